@@ -1,0 +1,10 @@
+pub mod Columns
+pub mod Cuts
+pub mod IntOrder
+pub mod KeyOrder
+pub mod Keys
+pub mod Reading
+pub mod SpellingOrder
+pub mod Utf8
+pub mod Vectors
+pub mod Zeros

@@ -1,0 +1,47 @@
+//! Keys of rows: their values, their order, and their bytes, whose order is the keys'.
+#![tactic(auto)]
+
+mod copies;
+mod decoding;
+mod encoding;
+mod laws;
+mod order;
+mod text;
+
+pub use decoding::{KeyError, decode};
+pub use encoding::encode;
+pub use laws::{orders_bytes_as_keys, reads_back, reads_spellings, spells_once};
+use mesa_list::Items;
+pub use order::{compare, short};
+pub use text::KeyText;
+
+/// A value of a column.
+pub type Amount = i64;
+
+/// The values of a row, one for each value column.
+pub type Values = Items<Amount>;
+
+/// The type of a key column.
+#[derive(Clone, Copy, Debug, PartialEq, Eq)]
+pub enum KeyType {
+    /// A number of 64 bits.
+    Int,
+    /// UTF-8 of 0 to 255 bytes, without U+0000.
+    Text,
+}
+
+/// The bytes of a key: the spellings of its columns, one after the other.
+pub type KeyBytes = Items<u8>;
+
+/// A key column's value.
+#[derive(Drop)]
+pub enum KeyValue {
+    Int(i64),
+    Text(KeyText),
+}
+
+/// A key, column by column.
+pub type Key = Items<KeyValue>;
+
+#[cfg(test)]
+mod tests;
