@@ -1,0 +1,10 @@
+pub mod Names
+pub mod Numbers
+pub mod Columns
+pub mod Schema
+pub mod Folded
+pub mod Changes
+pub mod Views
+pub mod Lineages
+pub mod Rows
+pub mod Laws

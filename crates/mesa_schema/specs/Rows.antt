@@ -1,0 +1,16 @@
+-- Rows of a table or a view.
+use Rattle.std.specs.Prelude.{◌≡◌, List, length}
+use Rattle.std.specs.List.{AllByRecursion}
+use Rattle.mesa_key.specs.Spelling.{IsKey, key_of, key_spelling}
+use Rattle.mesa_schema.specs.declared.rows.Row.{Row}
+use Rattle.mesa_schema.specs.Columns.{Columns, kinds_of}
+
+-- A row has the form of these columns: its key spells a key of their types, and it has one value for each value column.
+pub record IsRowOf (s : Columns) (row : Row) : Type 0 where
+  pub key : IsKey (kinds_of s) (key_of (kinds_of s) row.key)
+  pub spelled : key_spelling (key_of (kinds_of s) row.key) ≡ row.key
+  pub values : length row.values ≡ length s.values
+
+-- each of the rows has
+abbrev pub AreRowsOf : Columns → List Row → Type 0
+AreRowsOf s rows = AllByRecursion (IsRowOf s) rows

@@ -1,0 +1,37 @@
+// Linked changes of a schema.
+use crate::{KeyColumn, Name, ValueColumn};
+use mesa_key::KeyValue;
+
+/// A linked change of a table's schema; each raises the table's epoch by 1.
+#[derive(Drop)]
+pub enum Change {
+    /// A value column more, which rows from before have with the default.
+    AddValue {
+        column: ValueColumn,
+        default: i64,
+    },
+    DropValue {
+        name: Name,
+    },
+    /// A key column more, behind the others, which rows from before have with the default.
+    AddKey {
+        column: KeyColumn,
+        default: KeyValue,
+    },
+}
+
+/// Why a change is refused, the first reason that applies.
+#[derive(Drop)]
+pub enum ChangeError {
+    NameTwice,
+    NoColumn,
+    /// A default other than 0 for a sum, or one that is not of its key column's type.
+    BadDefault,
+    LastValue,
+    /// The first view that uses the column.
+    InView { view: Name },
+    TooManyColumns,
+    /// The table has had 1,000 changes.
+    EpochsFull,
+    Memory,
+}

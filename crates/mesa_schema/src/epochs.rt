@@ -1,0 +1,33 @@
+// The columns of an epoch.
+ghost use Rattle.std.specs.Prelude.{◌≡◌, OnOk};
+ghost use Rattle.mesa_schema.specs.Changes.{changed};
+
+use crate::{Change, KeyColumn, ValueColumn, place_of};
+use mesa_list::TryCopy;
+use std::alloc::AllocError;
+
+// Changes columns: one is appended, or a value column goes.
+pub(crate) fn change_columns(
+    keys: &mut Vec<KeyColumn>,
+    values: &mut Vec<ValueColumn>,
+    change: &Change,
+) -> Result<(), AllocError>
+    ensures { OnOk result (record { keys = keys.new.items; values = values.new.items } ≡ changed (record { keys = keys.old.items; values = values.old.items }) change.now) }
+{
+    match change {
+        Change::AddValue { column, .. } => {
+            values.push(column.copy()?)?;
+            Ok(())
+        }
+        Change::DropValue { name } => {
+            if let Some(place) = place_of(name.bytes(), values) {
+                values.remove(place);
+            }
+            Ok(())
+        }
+        Change::AddKey { column, .. } => {
+            keys.push(column.copy()?)?;
+            Ok(())
+        }
+    }
+}

@@ -1,0 +1,221 @@
+// A table's columns through its life.
+ghost use Rattle.std.specs.Prelude.{◌≡◌, IsTrue, IfOk, OnOk, OnErr, IfErr, ◌<◌, ◌≤◌, length, [], is_ok, map, slice_get, ◌≢◌, IfSome};
+ghost use Rattle.mesa_schema.specs.declared.views.View.{View as Chosen};
+ghost use Rattle.mesa_schema.specs.Changes.{change_checked, columns_at, columns_of, epoch_of, rule_checked};
+ghost use Rattle.mesa_schema.specs.Views.{view_checked, view_columns, with_view};
+ghost use Rattle.mesa_schema.specs.Lineages.{IsLineage};
+
+use crate::allowing::{is_default, is_new, is_of_kind, is_used, may_go};
+use crate::choosing::{check_chosen, chosen_columns, replace_place};
+use crate::epochs::change_columns;
+use crate::{Change, Name, Schema, View, ViewError};
+use mesa_list::{Items, TryCopy};
+use std::alloc::{AllocError, Global};
+use std::marker::Model;
+
+/// How many changes a table may have.
+pub const MAX_CHANGES: usize = 1000;
+
+/// How many views a table may have.
+pub const MAX_VIEWS: usize = 8;
+
+/// A table's columns through its life: those that it was made with, the linked changes since, and its views. Its epoch is the number of its changes.
+#[derive(Drop)]
+pub struct Evolving {
+    first: Schema,
+    changes: Items<Change>,
+    // None while the columns are still the first.
+    present: Option<Schema>,
+    views: Items<View>,
+}
+
+impl Model for Evolving {
+    ghost use Rattle.mesa_schema.specs.Changes.{Lineage};
+    ghost use Rattle.mesa_schema.specs.Lineages.{IsKept};
+
+    ghost Value = { Lineage };
+
+    ghost view = { λ e. record { first = e.first; changes = e.changes; views = e.views } };
+
+    ghost invariant = { λ e. IsKept (record { first = e.first; changes = e.changes; views = e.views }) e.present };
+}
+
+impl Evolving {
+    /// A table with these columns, which has no views and no changes yet.
+    pub fn new(alloc: Global, first: Schema) -> Self
+        ensures { result ≡ record { first = first; changes = []; views = [] } }
+    {
+        let _ = first.keys();
+        Evolving {
+            first,
+            changes: Items::new(alloc),
+            present: None,
+            views: Items::new(alloc),
+        }
+    }
+
+    /// How many changes there were.
+    pub fn epoch(&self) -> u32
+        ensures { result ≡ epoch_of self.now }
+    {
+        self.changes.len() as u32
+    }
+
+    /// The columns of epoch 0.
+    pub fn first(&self) -> &Schema
+        ensures { result.now ≡ self.now.first }
+    {
+        &self.first
+    }
+
+    /// The changes, in order.
+    pub fn changes(&self) -> &[Change]
+        ensures { result.now ≡ self.now.changes }
+    {
+        self.changes.as_slice()
+    }
+
+    /// The columns of the present epoch.
+    pub fn present(&self) -> &Schema
+        ensures columns { result.now ≡ columns_of self.now }
+        ensures rules { IsLineage self.now }
+    {
+        match &self.present {
+            Some(present) => present,
+            None => &self.first,
+        }
+    }
+}
+
+impl Evolving {
+    /// The columns of an epoch.
+    pub fn schema_at(&self, epoch: u32) -> Result<Schema, AllocError>
+        requires { epoch ≤ epoch_of self.now }
+        ensures { IfOk result (λ s. s ≡ columns_at self.now epoch) }
+    {
+        let (mut keys, mut values) = self.first.columns()?;
+        for change in &self.changes.as_slice()[..epoch as usize] {
+            change_columns(&mut keys, &mut values, change)?;
+        }
+        Ok(Schema::of(keys, values))
+    }
+}
+
+impl Evolving {
+    /// How many views the table has.
+    pub fn views(&self) -> u8
+        ensures { result ≡ length self.now.views }
+    {
+        self.views.len() as u8
+    }
+
+    /// The view of a number; views are numbered from 0, in the order in which they were added.
+    pub fn view(&self, view: u8) -> &View
+        requires { view < length self.now.views }
+        ensures { slice_get self.now.views view ≡ Some result.now }
+    {
+        &self.views.as_slice()[view as usize]
+    }
+
+    /// The name of the view of a number.
+    pub fn view_name(&self, view: u8) -> &Name
+        requires { view < length self.now.views }
+        ensures { slice_get (map (λ (v : Chosen). v.name) self.now.views) view ≡ Some result.now }
+    {
+        &self.view(view).name
+    }
+
+    /// The columns of the view of a number.
+    pub fn view_schema(&self, view: u8) -> Result<Schema, AllocError>
+        requires { view < length self.now.views }
+        ensures { IfOk result (λ s. IfSome (slice_get self.now.views view) (λ v. s ≡ view_columns (columns_of self.now) v)) }
+    {
+        let alloc = self.changes.allocator();
+        let present = self.present();
+        let view = self.view(view);
+        let keys = chosen_columns(alloc, present.keys(), view.keys.as_slice())?;
+        let values = chosen_columns(alloc, present.values(), view.values.as_slice())?;
+        Ok(Schema::of(keys, values))
+    }
+
+    /// Whether `change` would make this change, but for want of memory.
+    pub fn allows(&self, change: &Change) -> bool
+        ensures { result ≡ is_ok (change_checked self.now change.now) }
+    {
+        self.changes.len() < MAX_CHANGES && self.keeps_rule(change)
+    }
+
+    fn keeps_rule(&self, change: &Change) -> bool
+        ensures { result ≡ is_ok (rule_checked self.now change.now) }
+    {
+        let present = self.present();
+        match change {
+            Change::AddValue { column, default } => {
+                is_new(&column.name, present.values()) && is_default(column.agg, *default)
+            }
+            Change::DropValue { name } => {
+                may_go(name, present.values()) && !is_used(name, self.views.as_slice())
+            }
+            Change::AddKey { column, default } => {
+                is_new(&column.name, present.keys()) && is_of_kind(column.kind, default)
+            }
+        }
+    }
+
+    /// Whether `add_view` would add this view, but for want of memory.
+    pub fn allows_view(&self, _name: &Name, keys: &[Name], values: &[Name]) -> bool
+        ensures { result ≡ is_ok (view_checked (columns_of self.now) keys.now values.now) }
+    {
+        let present = self.present();
+        check_chosen(keys, present.keys(), ViewError::NoKey).is_ok()
+            && check_chosen(values, present.values(), ViewError::NoValue).is_ok()
+            && replace_place(values, present.values()).is_none()
+    }
+
+    /// Adds a view of these key columns and value columns, in this order.
+    pub fn add_view(
+        &mut self,
+        name: Name,
+        keys: Vec<Name>,
+        mut values: Vec<Name>,
+    ) -> Result<(), ViewError>
+        requires { length self.old.views < MAX_VIEWS }
+        ensures added { OnOk result (self.new ≡ with_view self.old (record { name = name; keys = keys.items; values = values.items })) }
+        ensures allowed { OnOk result (IsTrue (is_ok (view_checked (columns_of self.old) keys.items values.items))) }
+        ensures refused { IfErr result (λ e. e ≢ ViewError.Memory → view_checked (columns_of self.old) keys.items values.items ≡ Err e) }
+        ensures err { OnErr result (self.new ≡ self.old) }
+    {
+        let present = self.present();
+        check_chosen(&keys, present.keys(), ViewError::NoKey)?;
+        check_chosen(&values, present.values(), ViewError::NoValue)?;
+        if let Some(place) = replace_place(&values, present.values()) {
+            let column = values.swap_remove(place);
+            return Err(ViewError::ReplaceInView { column });
+        }
+        let view = View {
+            name,
+            keys: Items::from_vec(keys),
+            values: Items::from_vec(values),
+        };
+        self.views.push(view)?;
+        Ok(())
+    }
+}
+
+impl TryCopy for Evolving {
+    fn copy(&self) -> Result<Self, AllocError> {
+        let first = self.first.copy()?;
+        let changes = self.changes.copy()?;
+        let present = match &self.present {
+            Some(present) => Some(present.copy()?),
+            None => None,
+        };
+        let views = self.views.copy()?;
+        Ok(Evolving {
+            first,
+            changes,
+            present,
+            views,
+        })
+    }
+}

@@ -1,0 +1,28 @@
+//! Names, columns, schemas and their linked changes, views, and rows.
+#![tactic(auto)]
+
+mod allowing;
+mod changes;
+mod choosing;
+mod columns;
+mod copies;
+mod epochs;
+mod evolving;
+mod laws;
+mod named;
+mod names;
+mod numbers;
+mod rows;
+mod schema;
+mod views;
+
+pub use changes::{Change, ChangeError};
+pub use columns::{KeyColumn, ValueColumn};
+pub use evolving::{Evolving, MAX_CHANGES, MAX_VIEWS};
+pub use laws::{folds_again, groups_folds, lifts_folds};
+pub use named::{Named, has_name, has_names, place_of, repeated_place};
+pub use names::{Name, NameError};
+pub use numbers::{key_value, signed};
+pub use rows::{Fields, KeyList, Row, RowList, Totals, Words};
+pub use schema::{MAX_COLUMNS, Schema, SchemaError};
+pub use views::{View, ViewError};

@@ -1,0 +1,31 @@
+// Numbers and key values, as the bytes of a script spell them.
+ghost use Rattle.std.specs.Prelude.{◌≡◌, IfOk};
+ghost use Rattle.mesa_schema.specs.Numbers.{key_value_of, signed_of};
+
+use mesa_key::{KeyText, KeyType, KeyValue};
+use mesa_list::Items;
+use std::alloc::{AllocError, Global};
+
+/// The signed number that the bytes spell: an optional `+` or `-` and decimal digits, with a value of 64 bits.
+pub fn signed(bytes: &[u8]) -> Option<i64>
+    ensures { result ≡ signed_of bytes.now }
+{
+    match str::from_utf8(bytes) {
+        Ok(text) => text.parse().ok(),
+        Err(_) => None,
+    }
+}
+
+/// The value of a key column that the bytes spell: a signed number, or the bytes of a text.
+pub fn key_value(alloc: Global, kind: KeyType, bytes: &[u8]) -> Result<Option<KeyValue>, AllocError>
+    ensures { IfOk result (λ value. value ≡ key_value_of kind bytes.now) }
+{
+    match kind {
+        KeyType::Int => Ok(signed(bytes).map(KeyValue::Int)),
+        KeyType::Text if KeyText::allows(bytes) => {
+            let text = KeyText::new(Items::from_bytes(alloc, bytes)?);
+            Ok(Some(KeyValue::Text(text)))
+        }
+        KeyType::Text => Ok(None),
+    }
+}
