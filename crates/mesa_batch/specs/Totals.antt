@@ -1,0 +1,36 @@
+-- Absolute totals: what keeps every sum within its type.
+use Rattle.std.specs.Prelude.{ℕ, ◌+◌, ◌^◌, pos, nat_abs, List, [], ◌∷◌, map, zip, sum_by, slice_index_or, nat_le, Bool, true, false, Option, position}
+use Rattle.mesa_value.specs.declared.Agg.{Agg}
+use Rattle.mesa_value.specs.declared.Agg.TheVariants as agg
+use Rattle.mesa_schema.specs.declared.rows.Row.{Row}
+use Rattle.mesa_schema.specs.Columns.{Columns, aggs_of}
+
+abbrev pub is_sum : Agg → Bool
+is_sum agg.Sum = true
+is_sum agg.Min = false
+is_sum agg.Max = false
+is_sum agg.Replace = false
+
+-- the absolute values of a column, added up
+abbrev pub abs_total : ℕ → List Row → ℕ
+abs_total column rows = sum_by (λ (row : Row). nat_abs (slice_index_or row.values column (pos 0))) rows
+
+-- the places of the sum columns, from place i on
+abbrev pub sum_places : ℕ → List Agg → List ℕ
+sum_places i [] = []
+sum_places i (agg.Sum ∷ aggs) = i ∷ sum_places (i + 1) aggs
+sum_places i (agg.Min ∷ aggs) = sum_places (i + 1) aggs
+sum_places i (agg.Max ∷ aggs) = sum_places (i + 1) aggs
+sum_places i (agg.Replace ∷ aggs) = sum_places (i + 1) aggs
+
+-- Abs: for each sum column the absolute values of its rows, added up.
+abbrev pub abs_totals : Columns → List Row → List ℕ
+abs_totals s rows = map (λ column. abs_total column rows) (sum_places 0 (aggs_of s))
+
+-- the totals with more
+abbrev pub totals_with : List ℕ → List ℕ → List ℕ
+totals_with totals more = map (λ (p : ℕ × ℕ). p.0 + p.1) (zip totals more)
+
+-- The first sum column whose total would pass 2^63 - 1.
+abbrev pub over_bound : List ℕ → List ℕ → Option ℕ
+over_bound totals more = position (λ total. nat_le (2 ^ 63) total) (totals_with totals more)
