@@ -1,0 +1,58 @@
+-- Literals: their bytes without escapes, and each of several.
+use Rattle.std.proofs.Common.{◌≡◌, ℕ, ◌+◌, ◌*◌, ◌≤◌, List, [], ◌∷◌, ◌++◌, length, drop, get_or, Bool, true, false, cond, refl, sym, ◌∙◌, ap, arith, Option, Some, None, append_assoc}
+use Rattle.std.specs.Prelude.{◌==◌, option_map}
+use Rattle.mesa_list.specs.Split.{split_at}
+use Rattle.mesa_filter.specs.Hex.{hex_value, with_byte}
+use Rattle.mesa_filter.specs.Filter.{each_some, unescaped}
+
+-- what was found goes before what is to come
+abbrev pub after : {A : Type 0} → List A → Option (List A) → Option (List A)
+after found more = option_map (λ xs. found ++ xs) more
+
+-- one more was found
+pub after_more : {A : Type 0} (found : List A) (x : A) (more : Option (List A)) → after (found ++ x ∷ []) more ≡ after found (option_map (λ xs. x ∷ xs) more)
+after_more found x None = refl
+after_more found x (Some xs) = ap Some (append_assoc found (x ∷ []) xs)
+
+-- the first of a list, and then the others
+pub each_first : {A B : Type 0} (f : A → Option B) (x : A) (xs : List A) (y : B) → f x ≡ Some y → each_some f (x ∷ xs) ≡ option_map (λ ys. y ∷ ys) (each_some f xs)
+each_first {B = B} f x xs y e = ap (λ o. elim o as (λ _. Option (List B)) [ None ↦ None | Some z ↦ option_map (λ ys. z ∷ ys) (each_some f xs) ]) e
+
+-- a byte that is no `%` stands for itself
+pub plain_byte : (b : ℕ) (rest : List ℕ) → (b == 37) ≡ false → unescaped (b ∷ rest) ≡ option_map (λ text. b ∷ text) (unescaped rest)
+plain_byte b [] h = rw h refl
+plain_byte b (c ∷ []) h = rw h (elim (c == 37) as (λ t. cond t None (Some (b ∷ c ∷ [])) ≡ option_map (λ text. b ∷ text) (cond t None (Some (c ∷ [])))) [ true ↦ refl | false ↦ refl ])
+plain_byte b (c ∷ d ∷ rest) h = rw h refl
+
+-- an escaped byte
+pub escaped_byte : (high low : Option ℕ) (byte : ℕ) (rest : Option (List ℕ)) → with_byte high low (Some []) ≡ Some (byte ∷ []) → with_byte high low rest ≡ option_map (λ text. byte ∷ text) rest
+escaped_byte None low byte rest h = cc
+escaped_byte (Some a) None byte rest h = cc
+escaped_byte (Some a) (Some b) byte None h = refl
+escaped_byte (Some a) (Some b) byte (Some text) h = let same : 16 * a + b ≡ byte = cc in ap (λ x. Some (x ∷ text)) same
+
+-- The last of a term's literals.
+pub part_last : (rest : List ℕ) (text : List ℕ) (found : List (List ℕ)) (all : Option (List (List ℕ))) → split_at 124 rest ≡ rest ∷ [] → unescaped rest ≡ Some text
+    → after found (each_some unescaped (split_at 124 rest)) ≡ all → all ≡ Some (found ++ text ∷ [])
+part_last rest text found all e u before =
+    sym before ∙ ap (λ xs. after found (each_some unescaped xs)) e ∙ ap (after found) (each_first unescaped rest [] text u)
+
+-- what comes of too many
+pub refused : {A : Type 0} (t : Bool) (o : Option A) → t ≡ true → None ≡ cond t None o
+refused t o e = ap (λ b. cond b None o) (sym e)
+
+pub kept : {A : Type 0} (t : Bool) (o p : Option A) → t ≡ false → o ≡ p → p ≡ cond t None o
+kept t o p e f = sym f ∙ ap (λ b. cond b None o) (sym e)
+
+-- A byte more of a literal.
+pub byte_more : (bytes rest behind more text new : List ℕ) (first byte : ℕ) → rest ≡ first ∷ behind → unescaped (first ∷ behind) ≡ option_map (λ t. byte ∷ t) (unescaped more) → new ≡ text ++ byte ∷ []
+    → after text (unescaped rest) ≡ unescaped bytes → after new (unescaped more) ≡ unescaped bytes
+byte_more bytes rest behind more text new first byte e u n before =
+    ap (λ found. after found (unescaped more)) n ∙ after_more text byte (unescaped more) ∙ ap (after text) (sym u) ∙ ap (λ xs. after text (unescaped xs)) (sym e) ∙ before
+
+-- An escape is read.
+pub escape_read : (first : ℕ) (rest : List ℕ) (byte : ℕ) → first ≡ 37 → 2 ≤ length rest → with_byte (hex_value (get_or rest 0 0)) (hex_value (get_or rest 1 0)) (Some []) ≡ Some (byte ∷ [])
+    → unescaped (first ∷ rest) ≡ option_map (λ text. byte ∷ text) (unescaped (drop 2 rest))
+escape_read first [] byte e l h = absurd (omega arith)
+escape_read first (a ∷ []) byte e l h = absurd (omega arith)
+escape_read first (a ∷ b ∷ rest) byte e l h = ap (λ f. unescaped (f ∷ a ∷ b ∷ rest)) e ∙ escaped_byte (hex_value a) (hex_value b) byte (unescaped rest) h

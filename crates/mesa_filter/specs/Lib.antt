@@ -1,0 +1,6 @@
+pub mod Hex
+pub mod Filter
+pub mod Asked
+pub mod Resume
+pub mod Walk
+pub mod Seen

@@ -1,0 +1,10 @@
+-- Columns of encoded keys, as code looks at them.
+use Rattle.mesa_key.specs.declared.KeyValue.{KeyValue}
+use Rattle.mesa_key.specs.declared.KeyValue.TheVariants as value
+use Rattle.mesa_filter.specs.declared.columns.Column.{Column}
+use Rattle.mesa_filter.specs.declared.columns.Column.TheVariants.{Int, Text}
+
+-- the value of a column, whose text the key lends
+abbrev pub seen : Column → KeyValue
+seen (Int z) = value.Int z
+seen (Text bytes) = value.Text bytes.now

@@ -1,0 +1,78 @@
+// Filters.
+ghost use Rattle.std.specs.Prelude.{◌≡◌, ◌≢◌, IfOk, IfErr, IsTrue, take};
+ghost use Rattle.mesa_key.specs.Spelling.{is_spelling, key_of};
+ghost use Rattle.mesa_schema.specs.Columns.{kinds_of};
+ghost use Rattle.mesa_filter.specs.Filter.{filter_of, meets};
+ghost use Rattle.mesa_filter.specs.Walk.{may_meet_from};
+
+use crate::matching::{columns_may_meet, columns_meet};
+use crate::parsing::terms;
+use crate::{FilterError, Term};
+use mesa_key::KeyType;
+use mesa_list::Items;
+use mesa_schema::Schema;
+use std::alloc::{AllocError, Global};
+use std::marker::Model;
+
+/// A filter of rows by their keys: a key meets it where it meets each of its terms. It knows the types of the key columns, so that it can look at encoded keys.
+#[derive(Drop)]
+pub struct Filter {
+    kinds: Items<KeyType>,
+    terms: Items<Term>,
+}
+
+impl Model for Filter {
+    ghost use Rattle.mesa_filter.specs.Filter.{KeyFilter, are_within};
+    ghost use Rattle.std.specs.Prelude.{IsTrue};
+
+    ghost Value = { KeyFilter };
+
+    ghost view = { λ f. record { kinds = f.kinds; terms = f.terms } };
+
+    ghost invariant = { λ f. IsTrue (are_within f.kinds f.terms) };
+}
+
+impl Filter {
+    /// The filter that a text spells, over the key columns of a schema: empty, or terms `name operator literal` separated by `&`, of which there are at most 64. In a literal `%` and two lower case hexadecimal digits stand for one byte; behind `=` there may be up to 64 literals, separated by `|`.
+    pub fn parse(alloc: Global, schema: &Schema, text: &[u8]) -> Result<Self, FilterError>
+        ensures kinds { IfOk result (λ f. f.kinds ≡ kinds_of schema.now) }
+        ensures read { IfOk result (λ f. filter_of schema.now text.now ≡ Ok f.terms) }
+        ensures refused { IfErr result (λ e. e ≢ FilterError.Memory → filter_of schema.now text.now ≡ Err e) }
+    {
+        let terms = terms(alloc, schema, text)?;
+        let kinds = key_kinds(alloc, schema)?;
+        Ok(Filter { kinds, terms })
+    }
+
+    /// Whether a key meets the filter: an encoded key of the columns that the filter was read for. Nothing of it is copied.
+    pub fn matches(&self, key: &[u8]) -> bool
+        requires { IsTrue (is_spelling self.now.kinds key.now) }
+        ensures { result ≡ meets (key_of self.now.kinds key.now) self.now.terms }
+    {
+        columns_meet(self.kinds.as_slice(), self.terms.as_slice(), key)
+    }
+
+    /// Whether a key may meet the filter that has the first `columns` key columns, where the short key of these lies from `low` to `high`, both included.
+    pub fn may_meet(&self, columns: u8, low: &[u8; 16], high: &[u8; 16]) -> bool
+        ensures { result ≡ may_meet_from (take columns self.now.kinds) 0 self.now.terms low.now high.now }
+    {
+        let count = self.kinds.len().min(columns as usize);
+        columns_may_meet(
+            &self.kinds.as_slice()[..count],
+            self.terms.as_slice(),
+            low,
+            high,
+        )
+    }
+}
+
+// The types of the key columns.
+pub(crate) fn key_kinds(alloc: Global, schema: &Schema) -> Result<Items<KeyType>, AllocError>
+    ensures { IfOk result (λ kinds. kinds ≡ kinds_of schema.now) }
+{
+    let mut kinds = Items::new(alloc);
+    for column in schema.keys() {
+        kinds.push(column.kind)?;
+    }
+    Ok(kinds)
+}
