@@ -1,0 +1,7 @@
+pub mod Columns
+pub mod Folding
+pub mod Folds
+pub mod Kept
+pub mod Keys
+pub mod Place
+pub mod Sums
