@@ -1,0 +1,5 @@
+pub mod Least
+pub mod Longest
+pub mod Missing
+pub mod Reachable
+mod Rows
