@@ -1,0 +1,9 @@
+pub mod Lists
+pub mod Names
+pub mod Views
+pub mod Change
+pub mod Taking
+pub mod Sharing
+pub mod Parted
+pub mod Ends
+pub mod Laws
