@@ -1,0 +1,5 @@
+pub mod Run
+pub mod Rounds
+mod Maps
+mod Noted
+mod Picks

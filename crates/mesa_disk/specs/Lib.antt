@@ -1,0 +1,9 @@
+pub mod Image
+pub mod Story
+pub mod Files
+pub mod Untold
+pub mod Recorded
+pub mod Picked
+pub mod Memory
+pub mod Benches
+pub mod MemoryLaws

@@ -1,0 +1,58 @@
+-- What is known of a disk in memory.
+use Rattle.std.specs.Prelude.{◌≡◌, ℕ, ◌+◌, min, ◌∷◌, [], ◌++◌, length, Some, Result, IsErr}
+use Rattle.std.specs.List.{Contains}
+use Rattle.mesa_fault.specs.Causes.{last}
+use Rattle.mesa_disk.specs.Image.{Image, area_of}
+use Rattle.mesa_disk.specs.Story.{Story}
+use Rattle.mesa_disk.specs.Recorded.{start_image, now_image, seen_step, MayLeave, MayHaveLeft}
+use Rattle.mesa_disk.specs.Picked.{picked_image, calls_before}
+use Rattle.mesa_disk.specs.declared.memory.calls.Done.{Done}
+use Rattle.mesa_disk.specs.declared.memory.calls.CallLog.{CallLog}
+use Rattle.mesa_disk.specs.declared.memory.disk.MemDisk.{MemDisk}
+
+-- what it was made from
+abbrev pub start_of : CallLog → Image
+start_of log = start_image log.start
+
+-- what a read gives
+abbrev pub seen_of : CallLog → Image
+seen_of log = now_image log.start log.held
+
+-- One call more is noted, and done to what a read gives.
+pub record Notes (d : Done) (old new : CallLog) : Type 0 where
+  pub calls : new.calls.items ≡ old.calls.items ++ d ∷ []
+  pub start : start_of new ≡ start_of old
+  pub seen : seen_of new ≡ seen_step d.call (seen_of old)
+
+-- No call more.
+pub record Keeps (old new : CallLog) : Type 0 where
+  pub calls : new.calls.items ≡ old.calls.items
+  pub start : start_of new ≡ start_of old
+  pub seen : seen_of new ≡ seen_of old
+
+-- a disk in memory tells all
+abbrev pub story_of : MemDisk → Story
+story_of d = record {
+  told = Some (seen_of d.log);
+  len = λ a. length (area_of a (seen_of d.log));
+  moment = d.clock;
+  may_leave = MayLeave (start_of d.log) d.log.calls.items;
+  may_have_left = MayHaveLeft (start_of d.log) d.log.calls.items;
+  faults = d.faults;
+  read_faults = d.read_faults;
+}
+
+-- The next call that can fail is one of those that fail.
+abbrev pub IsDue : MemDisk → Type 0
+IsDue d = Contains d.fails.items d.counted
+
+-- A call that can fail is counted. One that is to fail does, and changes no area and no file.
+pub record FailsIfDue {T E : Type 0} (old new : MemDisk) (result : Result T E) : Type 0 where
+  pub fails : IsDue old → IsErr result
+  pub still : IsDue old → Keeps old.log new.log
+  pub counted : new.counted ≡ min (old.counted + 1) last
+  pub same : new.fails ≡ old.fails
+
+-- one image that a crash at a moment may have left, by the pick
+abbrev pub image_at : MemDisk → ℕ → ℕ → Image
+image_at d moment pick = picked_image pick (start_of d.log) (calls_before moment d.log.calls.items)

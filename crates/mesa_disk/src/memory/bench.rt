@@ -1,0 +1,178 @@
+//! Drafts in memory, of which chosen calls fail.
+ghost use Rattle.std.specs.Prelude.{◌≡◌, ◌↔◌, ◌+◌, ◌≤◌, min, ℕ, List, [], ◌++◌, IfOk, IfErr, IsErr, IsTrue, OnOk, Some, Err, option_map};
+ghost use Rattle.std.specs.Arc.{arc_value};
+ghost use Rattle.mesa_fault.specs.Causes.{last, Rose, HasFaultCause};
+ghost use Rattle.mesa_disk.specs.declared.failures.DraftError.TheVariants.{Failed as DraftFailed};
+
+use crate::memory::file::MemMade;
+use crate::{Bench, ByteList, Draft, DraftError, FileId};
+use mesa_fault::FaultCount;
+use std::alloc::{AllocError, AllocFailed, Global};
+use std::sync::Arc;
+
+/// A draft in memory.
+#[derive(Drop)]
+pub struct MemDraft {
+    alloc: Global,
+    id: FileId,
+    bytes: Vec<u8>,
+    fails: Vec<u64>,
+    calls: u64,
+    faults: FaultCount,
+}
+
+impl Draft<MemMade> for MemDraft {
+    ghost use Rattle.mesa_disk.specs.Benches.{CallIsDue, CountsCall};
+
+    ghost id_of = { λ d. d.id };
+
+    ghost bytes = { λ d. Some d.bytes.items };
+
+    ghost faults = { λ d. d.faults };
+
+    fn append(&mut self, piece: &[u8]) -> Result<(), DraftError>
+        ensures appended { OnOk result (Some self.new.bytes.items ≡ option_map (λ b. b ++ piece.now) (Some self.old.bytes.items)) }
+        ensures id { self.new.id ≡ self.old.id }
+        ensures cause { HasFaultCause (λ e. e ≡ DraftFailed) self.old.faults self.new.faults result }
+        ensures due { (result ≡ Err DraftFailed) ↔ CallIsDue self.old }
+        ensures counted { CountsCall self.old self.new }
+    {
+        if self.is_due() {
+            self.faults.rise();
+            return Err(DraftError::Failed);
+        }
+        if self.bytes.extend_from_slice(piece).is_err() {
+            return Err(DraftError::Memory);
+        }
+        Ok(())
+    }
+
+    fn finish(mut self) -> Result<MemMade, (DraftError, Self)>
+        ensures bytes { IfOk result (λ m. Some (arc_value m.bytes) ≡ Some self.bytes.items) }
+        ensures id { IfOk result (λ m. m.id ≡ self.id) }
+        ensures given_back { IfErr result (λ e. (Some e.1.bytes.items ≡ Some self.bytes.items) × (e.1.id ≡ self.id)) }
+        ensures cause { IfErr result (λ e. (self.faults ≤ e.1.faults) × (e.0 ≡ DraftFailed → Rose self.faults e.1.faults)) }
+        ensures due { IfErr result (λ e. e.0 ≡ DraftFailed → CallIsDue self) }
+        ensures fails { CallIsDue self → IsErr result }
+    {
+        if self.is_due() {
+            self.faults.rise();
+            return Err((DraftError::Failed, self));
+        }
+        let MemDraft {
+            alloc,
+            id,
+            bytes,
+            fails,
+            calls,
+            faults,
+        } = self;
+        match Arc::new(alloc, ByteList::from_vec(bytes)) {
+            Ok(bytes) => Ok(MemMade { id, bytes }),
+            Err(AllocFailed { value }) => {
+                let draft = MemDraft {
+                    alloc,
+                    id,
+                    bytes: value.into_vec(),
+                    fails,
+                    calls,
+                    faults,
+                };
+                Err((DraftError::Memory, draft))
+            }
+        }
+    }
+}
+
+impl MemDraft {
+    ghost use Rattle.mesa_disk.specs.Benches.{CallIsDue};
+
+    // Counts a call, and says whether it is one of those that fail.
+    fn is_due(&mut self) -> bool
+        ensures due { IsTrue result ↔ CallIsDue self.old }
+        ensures same { self.new ≡ record self.old { calls = min (self.old.calls + 1) last } }
+    {
+        self.calls = self.calls.saturating_add(1);
+        self.fails.contains(&self.calls)
+    }
+}
+
+/// Where drafts in memory are made.
+#[derive(Drop)]
+pub struct MemBench {
+    alloc: Global,
+    fails: Vec<(u64, u64)>,
+    drafts: u64,
+    faults: FaultCount,
+}
+
+impl MemBench {
+    ghost use Rattle.mesa_disk.specs.Benches.{calls_of};
+
+    /// A bench of which chosen calls fail, and no others: `draft` call d, counted from 0, where (d, 0)
+    /// stands in `fails`, and call c, counted from 1, on the draft that it gave, where (d, c) does.
+    pub fn new(alloc: Global, fails: Vec<(u64, u64)>) -> MemBench {
+        MemBench {
+            alloc,
+            fails,
+            drafts: 0,
+            faults: FaultCount::new(),
+        }
+    }
+
+    // The numbers of the calls on the draft of this number that fail.
+    fn fails_of(&self, draft: u64) -> Result<Vec<u64>, AllocError>
+        ensures { IfOk result (λ calls. calls.items ≡ calls_of draft self.now.fails.items) }
+    {
+        let mut fails = Vec::new(self.alloc);
+        for (number, call) in &self.fails {
+            if *number == draft {
+                fails.push(*call)?;
+            }
+        }
+        Ok(fails)
+    }
+}
+
+impl Bench<MemMade> for MemBench {
+    ghost use Rattle.mesa_disk.specs.Benches.{DraftIsDue, IsFresh};
+
+    type Draft = MemDraft;
+
+    ghost faults = { λ b. b.faults };
+
+    fn draft(&mut self, id: FileId) -> Result<MemDraft, DraftError>
+        ensures id { IfOk result (λ d. d.id ≡ id) }
+        ensures empty { IfOk result (λ d. (b : List ℕ) → Some d.bytes.items ≡ Some b → b ≡ []) }
+        ensures fresh { IfOk result (λ d. d.faults ≡ 0) }
+        ensures cause { HasFaultCause (λ e. e ≡ DraftFailed) self.old.faults self.new.faults result }
+        ensures due { (result ≡ Err DraftFailed) ↔ DraftIsDue self.old }
+        ensures begun { IfOk result (IsFresh self.old) }
+        ensures counted { self.new.drafts ≡ min (self.old.drafts + 1) last }
+        ensures same { self.new.fails ≡ self.old.fails }
+    {
+        let number = self.drafts;
+        self.drafts = number.saturating_add(1);
+        if self.fails.contains(&(number, 0)) {
+            self.faults.rise();
+            return Err(DraftError::Failed);
+        }
+        let Ok(fails) = self.fails_of(number) else {
+            return Err(DraftError::Memory);
+        };
+        Ok(MemDraft {
+            alloc: self.alloc,
+            id,
+            bytes: Vec::new(self.alloc),
+            fails,
+            calls: 0,
+            faults: FaultCount::new(),
+        })
+    }
+
+    fn spoil(&mut self, failed: MemDraft) {
+        if failed.faults.get() > 0 {
+            self.faults.rise();
+        }
+    }
+}
