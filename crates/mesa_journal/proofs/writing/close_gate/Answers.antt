@@ -1,0 +1,40 @@
+use Rattle.std.proofs.Common.{inl, ◌≤◌, ℕ, [], List, length, refl, sym, subst, arith}
+use Rattle.mesa_disk.specs.Image.{Image, area_of, Torn, InArea, AnyChange}
+use Rattle.mesa_disk.specs.Story.{Story, Steps, After, Follows}
+use Rattle.mesa_disk.specs.declared.area.Area.{Area}
+use Rattle.mesa_disk.proofs.Run.{starts, goes_on, told_changed}
+use Rattle.mesa_journal.specs.Journal.{IsJournal}
+use Rattle.mesa_journal.proofs.writing.close_gate.Goals as goal
+
+first_gate : (old new : List ℕ) → length old ≤ 1 → Torn 0 1 old new → IsJournal new [] 0
+first_gate old new short torn = inl (record { short = omega (arith, torn.no_longer); none = refl; ends = refl })
+
+torn_first : (start : Story) (new : Image → Type 0) (area : Area) → ((c : Image) → start.may_leave c → length (area_of area c) ≤ 1)
+    → Follows (InArea area (Torn 0 1)) start.may_leave new → (c : Image) → new c → After (InArea area (λ o n. IsJournal n [] 0)) start.may_leave c
+torn_first start new area short crash c left =
+    let from = crash c left in
+    (from.0, from.1, record { bytes = from.2.bytes; stepped = first_gate _ _ (short from.0 from.1) from.2.stepped; same = from.2.same })
+
+pub returns-in_err-journal_write-clause-any_moment : goal.returns-in_err-journal_write-clause-any_moment
+returns-in_err-journal_write-clause-any_moment g c short =
+    let story = g.D.Disk.story in
+    let start = story c.args.disk.now in
+    let left = torn_first start (story c.journal_write.new.self).may_leave c.args.area short c.journal_write.ensures.crash in
+    goes_on _ _ start start (story c.journal_write.new.self) (starts _ start) c.journal_write.ensures.time left
+
+pub returns-clause-any_moment : goal.returns-clause-any_moment
+returns-clause-any_moment g c short =
+    let story = g.D.Disk.story in
+    let start = story c.args.disk.now in
+    let left = torn_first start (story c.journal_write.new.self).may_leave c.args.area short c.journal_write.ensures.crash in
+    let run = goes_on _ _ start start (story c.journal_write.new.self) (starts _ start) c.journal_write.ensures.time left in
+    goes_on _ _ start (story c.journal_write.new.self) (story c.journal_sync.new.self) run c.journal_sync.ensures.time (λ x now. left x (c.journal_sync.ensures.crash x now))
+
+pub returns-in_err-journal_write-clause-told : goal.returns-in_err-journal_write-clause-told
+returns-in_err-journal_write-clause-told g c = told_changed c.args.area _ _ _ c.journal_write.ensures.torn
+
+pub returns-clause-told : goal.returns-clause-told
+returns-clause-told g c =
+    let story = g.D.Disk.story in
+    let first = told_changed c.args.area _ _ (story c.journal_write.new.self).told c.journal_write.ensures.torn in
+    subst (λ t. Steps (AnyChange c.args.area) (story c.args.disk.now).told t) (sym c.journal_sync.ensures.told) first

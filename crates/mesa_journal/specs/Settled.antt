@@ -1,0 +1,19 @@
+-- What a journal on a disk stands for, over each image that a crash may leave.
+use Rattle.std.specs.Prelude.{◌≡◌, ◌⊎◌, ℕ, ◌+◌, List, [], ◌∷◌, ◌++◌, length, Some}
+use Rattle.mesa_disk.specs.Image.{Image, area_of, InArea}
+use Rattle.mesa_disk.specs.Story.{Story, After}
+use Rattle.mesa_disk.specs.declared.area.Area.{Area}
+use Rattle.mesa_journal.specs.Journal.{Closed}
+
+-- What a read gives, and each image that a crash now may leave, has these bodies and this end.
+pub record IsSettled (story : Story) (area : Area) (bodies : List (List ℕ)) (end : ℕ) : Type 0 where
+  pub read : (i : Image) → story.told ≡ Some i → Closed (area_of area i) bodies end
+  pub left : (c : Image) → story.may_leave c → Closed (area_of area c) bodies end
+
+-- An area has the bodies, with one more or without it.
+abbrev pub WithOrWithout : List (List ℕ) → ℕ → List ℕ → List ℕ → List ℕ → Type 0
+WithOrWithout bodies end body old new = Closed new bodies end ⊎ Closed new (bodies ++ body ∷ []) (end + length body + 5)
+
+-- An image from the start, whose area has the bodies with one more or without it.
+abbrev pub IsWithinAppend : Story → Area → List (List ℕ) → ℕ → List ℕ → Image → Type 0
+IsWithinAppend start area bodies end body = After (InArea area (WithOrWithout bodies end body)) start.may_leave
