@@ -1,0 +1,12 @@
+pub mod Entry
+pub mod Warehouse
+pub mod Relations
+pub mod Refusals
+pub mod Tables
+pub mod Load
+pub mod Versions
+pub mod Pins
+pub mod Page
+pub mod Query
+pub mod Step
+pub mod WellFormed

@@ -1,0 +1,92 @@
+// What a script asks.
+use mesa_batch::RowWords;
+use mesa_filter::{QueryWords, VersionWord};
+use mesa_key::KeyType;
+use mesa_list::Items;
+use mesa_schema::{Fields, Words};
+use mesa_value::Agg;
+
+/// A key column as a script has it: its name may be any bytes without a space.
+#[derive(Drop)]
+pub struct KeyWords {
+    pub name: Words,
+    pub kind: KeyType,
+}
+
+/// A value column as a script has it: its name may be any bytes without a space.
+#[derive(Drop)]
+pub struct ValueWords {
+    pub name: Words,
+    pub agg: Agg,
+}
+
+/// A table that is to be made.
+#[derive(Drop)]
+pub struct TableWords {
+    pub table: Words,
+    pub keys: Items<KeyWords>,
+    pub values: Items<ValueWords>,
+}
+
+/// A view that is to be made of a table, by the names of its columns.
+#[derive(Drop)]
+pub struct ViewWords {
+    pub view: Words,
+    pub table: Words,
+    pub keys: Fields,
+    pub values: Fields,
+}
+
+/// A change of a table's schema. A default is read once the column it belongs to is known to be
+/// allowed.
+#[derive(Drop)]
+pub enum ChangeWords {
+    AddValue { column: ValueWords, default: Words },
+    DropValue { name: Words },
+    AddKey { column: KeyWords, default: Words },
+}
+
+/// A table whose schema is to change.
+#[derive(Drop)]
+pub struct AlterWords {
+    pub table: Words,
+    pub change: ChangeWords,
+}
+
+/// A table or view of which the deltas that a query would read are asked.
+#[derive(Drop)]
+pub struct ExplainWords {
+    pub relation: Words,
+    pub version: VersionWord,
+}
+
+/// A command of a script.
+#[derive(Drop)]
+pub enum Command {
+    Table(TableWords),
+    View(ViewWords),
+    Alter(AlterWords),
+    /// A batch of rows, perhaps of none.
+    Load(Items<RowWords>),
+    Query(QueryWords),
+    Explain(ExplainWords),
+    /// A version that the session is to keep.
+    Pin(VersionWord),
+    /// The token of a pin that the session gives back.
+    Release(u32),
+    /// The version below which none is to be asked for any more.
+    Expire(u32),
+    /// The table of which deltas are to be merged.
+    Work(Words),
+}
+
+/// A session's commands, which are numbered from 1.
+pub type Session = Items<Command>;
+
+/// A script: the turns that a lease lasts, and each session's commands. The first session is the
+/// prologue, which runs alone before the others.
+#[derive(Drop)]
+pub struct Script {
+    pub lease: u32,
+    pub sessions: Items<Session>,
+}

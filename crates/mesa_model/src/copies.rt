@@ -1,0 +1,191 @@
+// Copies of commands' words and of replies.
+use crate::{
+    AlterWords, ChangeWords, ExplainWords, KeyWords, Page, Refusal, Reply, TableWords, ValueWords,
+    ViewWords,
+};
+use mesa_list::TryCopy;
+use std::alloc::AllocError;
+
+impl TryCopy for KeyWords {
+    fn copy(&self) -> Result<Self, AllocError> {
+        Ok(KeyWords {
+            name: self.name.copy()?,
+            kind: self.kind,
+        })
+    }
+}
+
+impl TryCopy for ValueWords {
+    fn copy(&self) -> Result<Self, AllocError> {
+        Ok(ValueWords {
+            name: self.name.copy()?,
+            agg: self.agg,
+        })
+    }
+}
+
+impl TryCopy for TableWords {
+    fn copy(&self) -> Result<Self, AllocError> {
+        Ok(TableWords {
+            table: self.table.copy()?,
+            keys: self.keys.copy()?,
+            values: self.values.copy()?,
+        })
+    }
+}
+
+impl TryCopy for ViewWords {
+    fn copy(&self) -> Result<Self, AllocError> {
+        Ok(ViewWords {
+            view: self.view.copy()?,
+            table: self.table.copy()?,
+            keys: self.keys.copy()?,
+            values: self.values.copy()?,
+        })
+    }
+}
+
+impl TryCopy for ChangeWords {
+    fn copy(&self) -> Result<Self, AllocError> {
+        match self {
+            ChangeWords::AddValue { column, default } => Ok(ChangeWords::AddValue {
+                column: column.copy()?,
+                default: default.copy()?,
+            }),
+            ChangeWords::DropValue { name } => Ok(ChangeWords::DropValue { name: name.copy()? }),
+            ChangeWords::AddKey { column, default } => Ok(ChangeWords::AddKey {
+                column: column.copy()?,
+                default: default.copy()?,
+            }),
+        }
+    }
+}
+
+impl TryCopy for AlterWords {
+    fn copy(&self) -> Result<Self, AllocError> {
+        Ok(AlterWords {
+            table: self.table.copy()?,
+            change: self.change.copy()?,
+        })
+    }
+}
+
+impl TryCopy for ExplainWords {
+    fn copy(&self) -> Result<Self, AllocError> {
+        Ok(ExplainWords {
+            relation: self.relation.copy()?,
+            version: self.version,
+        })
+    }
+}
+
+impl TryCopy for Page {
+    fn copy(&self) -> Result<Self, AllocError> {
+        let resume = match &self.resume {
+            None => None,
+            Some(key) => Some(key.copy()?),
+        };
+        Ok(Page {
+            version: self.version,
+            rows: self.rows.copy()?,
+            resume,
+        })
+    }
+}
+
+impl TryCopy for Refusal {
+    fn copy(&self) -> Result<Self, AllocError> {
+        Ok(match self {
+            Refusal::NoTable { row } => Refusal::NoTable { row: *row },
+            Refusal::TableExists => Refusal::TableExists,
+            Refusal::BadSchema { reason } => Refusal::BadSchema { reason: *reason },
+            Refusal::BadRow { row, column } => Refusal::BadRow {
+                row: *row,
+                column: *column,
+            },
+            Refusal::DuplicateKey { first, second } => Refusal::DuplicateKey {
+                first: *first,
+                second: *second,
+            },
+            Refusal::SumBound { table, column } => Refusal::SumBound {
+                table: table.copy()?,
+                column: column.copy()?,
+            },
+            Refusal::Stale { asked, oldest } => Refusal::Stale {
+                asked: *asked,
+                oldest: *oldest,
+            },
+            Refusal::Future { asked, newest } => Refusal::Future {
+                asked: *asked,
+                newest: *newest,
+            },
+            Refusal::NoColumn => Refusal::NoColumn,
+            Refusal::ReplaceGroup { column } => Refusal::ReplaceGroup {
+                column: column.copy()?,
+            },
+            Refusal::BadDefault { column } => Refusal::BadDefault {
+                column: column.copy()?,
+            },
+            Refusal::InView { view } => Refusal::InView { view: view.copy()? },
+            Refusal::BadFilter { term } => Refusal::BadFilter { term: *term },
+            Refusal::BadResume => Refusal::BadResume,
+            Refusal::NoPin { token } => Refusal::NoPin { token: *token },
+            Refusal::PinsFull { limit } => Refusal::PinsFull { limit: *limit },
+            Refusal::TablesFull { limit } => Refusal::TablesFull { limit: *limit },
+            Refusal::VersionsFull { limit } => Refusal::VersionsFull { limit: *limit },
+            Refusal::ReadFault => Refusal::ReadFault,
+            Refusal::WriteFault => Refusal::WriteFault,
+            Refusal::Closed { position } => Refusal::Closed {
+                position: *position,
+            },
+            Refusal::Damaged(damage) => Refusal::Damaged(*damage),
+            Refusal::Lost { lease, holder } => Refusal::Lost {
+                lease: *lease,
+                holder: *holder,
+            },
+            Refusal::Memory => Refusal::Memory,
+            Refusal::EpochsFull { limit } => Refusal::EpochsFull { limit: *limit },
+        })
+    }
+}
+
+impl TryCopy for Reply {
+    fn copy(&self) -> Result<Self, AllocError> {
+        Ok(match self {
+            Reply::Table { name } => Reply::Table { name: name.copy()? },
+            Reply::View { name } => Reply::View { name: name.copy()? },
+            Reply::Altered { table, epoch } => Reply::Altered {
+                table: table.copy()?,
+                epoch: *epoch,
+            },
+            Reply::Loaded { version, rows } => Reply::Loaded {
+                version: *version,
+                rows: *rows,
+            },
+            Reply::Page(page) => Reply::Page(page.copy()?),
+            Reply::Rows {
+                rows,
+                version,
+                more,
+            } => Reply::Rows {
+                rows: *rows,
+                version: *version,
+                more: *more,
+            },
+            Reply::Spans(spans) => Reply::Spans(spans.copy()?),
+            Reply::Pinned { token, version } => Reply::Pinned {
+                token: *token,
+                version: *version,
+            },
+            Reply::Released { token } => Reply::Released { token: *token },
+            Reply::Expired { oldest } => Reply::Expired { oldest: *oldest },
+            Reply::Swapped { from, to } => Reply::Swapped {
+                from: *from,
+                to: *to,
+            },
+            Reply::Idle => Reply::Idle,
+            Reply::Busy { lease } => Reply::Busy { lease: *lease },
+            Reply::Refused(refusal) => Reply::Refused(refusal.copy()?),
+        })
+    }
+}
