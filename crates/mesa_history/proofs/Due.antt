@@ -1,0 +1,26 @@
+-- What is known of an entry whose turn is due.
+use Rattle.std.proofs.Common.{◌≡◌, ◌==◌, ◌&&◌, Bool, true, false, IsTrue, refl, Option, Some, None}
+use Rattle.mesa_model.specs.declared.commands.Command.{Command}
+use Rattle.mesa_model.specs.declared.commands.Script.{Script}
+use Rattle.mesa_model.specs.declared.entries.Entry.{Entry}
+use Rattle.mesa_history.specs.Run.{Place, Run, place_of, command_of}
+use Rattle.mesa_history.specs.Legal.{is_due, is_due_of, is_due_at}
+
+-- an entry that is due is a turn of a command, which is the one that its session is at
+pub record IsDueTurn (o : Option Command) (place : Place) (e : Entry) : Type 0 where
+  pub command : Command
+  pub known : o ≡ Some command
+  pub number : IsTrue (e.command == place.number)
+  pub due : IsTrue (is_due_at command place.stage e.kind)
+
+both : (a b : Bool) → IsTrue (a && b) → IsTrue a × IsTrue b
+both true true is = (refl, refl)
+both true false is = absurd cc
+both false b is = absurd cc
+
+due_of : (o : Option Command) (place : Place) (e : Entry) → IsTrue (is_due_of o place e) → IsDueTurn o place e
+due_of None place e is = absurd cc
+due_of (Some c) place e is = let parts = both (e.command == place.number) (is_due_at c place.stage e.kind) is in record { command = c; known = refl; number = parts.0; due = parts.1 }
+
+pub due_turn : (script : Script) (r : Run) (e : Entry) → IsTrue (is_due script r e) → IsDueTurn (command_of script e) (place_of r e.session) e
+due_turn script r e is = due_of (command_of script e) (place_of r e.session) e is

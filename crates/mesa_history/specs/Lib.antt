@@ -1,0 +1,7 @@
+pub mod Machine
+pub mod Run
+pub mod Replay
+pub mod Legal
+pub mod Found
+pub mod Alone
+pub mod Law

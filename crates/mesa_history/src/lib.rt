@@ -1,0 +1,7 @@
+//! The history of a run: what each turn makes of what stands before it, which histories a run may
+//! have, and what a store that is reopened after a crash holds.
+#![tactic(auto)]
+
+mod laws;
+
+pub use laws::{closed_runs_refuse_what_comes, moments_never_fall, unrenewed_works_are_refused};
