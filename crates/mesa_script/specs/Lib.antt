@@ -1,0 +1,9 @@
+pub mod Records
+pub mod Words
+pub mod Items
+pub mod Script
+pub mod Errors
+pub mod Replies
+pub mod Rows
+pub mod Output
+pub mod Generated
