@@ -1,0 +1,77 @@
+-- The fold law at a script whose batches lie in three epochs, with three kinds of change, an expiry and a later table.
+use Rattle.std.proofs.Common.{◌≡◌, ℕ, List, [], ◌∷◌, refl}
+use Rattle.std.specs.Prelude.{codes, map, length, Result, Ok, Err, Option, Some, None, slice_get}
+use Rattle.mesa_schema.specs.declared.rows.Row.{Row}
+use Rattle.mesa_model.specs.declared.commands.Script.{Script}
+use Rattle.mesa_model.specs.declared.entries.Entry.{Entry}
+use Rattle.mesa_model.specs.Warehouse.{Table, Warehouse, empty_warehouse, content_at}
+use Rattle.mesa_history.specs.Run.{begins}
+use Rattle.mesa_history.specs.Replay.{runs}
+use Rattle.mesa_history.specs.Alone.{history_alone}
+use Rattle.mesa_history.specs.Law.{Accepted, accepted_in, law_content}
+use Rattle.mesa_script.specs.declared.script.ScriptError.{ScriptError}
+use Rattle.mesa_script.specs.Script.{script_of}
+use Rattle.mesa_rows.specs.Rows.{lines, nothing_there}
+use Rattle.mesa_rows.proofs.OnLiterals.{on_literals}
+
+abbrev versions : List ℕ
+versions = 2 ∷ 3 ∷ 4 ∷ []
+
+abbrev contents_of : Warehouse → Option Table → List (List Row)
+contents_of w None = []
+contents_of w (Some t) = map (content_at w.store t) versions
+
+abbrev law_of : ℕ → List Accepted → Option Table → List (List Row)
+law_of number accepted None = []
+law_of number accepted (Some t) = map (law_content empty_warehouse number t accepted) versions
+
+-- what stands after a script that runs alone
+abbrev after_alone : Script → List Entry → Warehouse
+after_alone script h = (runs script (begins (nothing_there script)) h).state.warehouse
+
+abbrev contents_after : ℕ → Result Script ScriptError → List (List Row)
+contents_after number (Err e) = []
+contents_after number (Ok script) =
+    let w = after_alone script (history_alone (nothing_there script) script) in contents_of w (slice_get w.store.tables number)
+
+abbrev law_after : ℕ → Result Script ScriptError → List (List Row)
+law_after number (Err e) = []
+law_after number (Ok script) =
+    let h = history_alone (nothing_there script) script in
+    law_of number (accepted_in script (begins (nothing_there script)) h) (slice_get (after_alone script h).store.tables number)
+
+abbrev script : List ℕ
+script = lines (
+    codes "table,t,k int,v sum"
+    ∷ codes "row,t,1,5"
+    ∷ codes "commit"
+    ∷ codes "row,t,1,6"
+    ∷ codes "row,t,2,9"
+    ∷ codes "commit"
+    ∷ codes "alter,t,add_key,c text,US"
+    ∷ codes "row,t,1,UK,-4"
+    ∷ codes "commit"
+    ∷ codes "table,u,k int,v max"
+    ∷ codes "alter,t,add_value,m min,7"
+    ∷ codes "alter,t,add_value,s sum,0"
+    ∷ codes "row,t,1,US,0,9,2"
+    ∷ codes "row,u,3,4"
+    ∷ codes "commit"
+    ∷ codes "row,t,1,US,0,3,0"
+    ∷ codes "commit"
+    ∷ codes "alter,t,drop_value,v"
+    ∷ codes "expire,2"
+    ∷ [])
+
+holds : contents_after 0 (script_of script) ≡ law_after 0 (script_of script)
+unfolding on_literals
+holds = refl
+
+holds_of_later_table : contents_after 1 (script_of script) ≡ law_after 1 (script_of script)
+unfolding on_literals
+holds_of_later_table = refl
+
+-- the contents are there: a row count for each version
+there : map (λ (rows : List Row). length rows) (contents_after 0 (script_of script)) ≡ 3 ∷ 3 ∷ 3 ∷ []
+unfolding on_literals
+there = refl

@@ -1,0 +1,12 @@
+mod OnLiterals
+mod Loads
+mod Queries
+mod Schemas
+mod Works
+mod Limits
+mod Generator
+mod Scripts
+mod Sessions
+mod Faults
+mod Histories
+mod FoldLaw

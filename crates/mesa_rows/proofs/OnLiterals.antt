@@ -1,0 +1,17 @@
+-- What an answer unfolds to compute a script on a literal.
+use Rattle.std.specs.Prelude.{⊤}
+use Rattle.std.specs.Fmt.{digits}
+use Rattle.std.specs.Str.{is_utf8, chars}
+use lib.Utf8.{encode}
+use Rattle.csv.proofs.OnLiterals.{csv_on_literals}
+use Rattle.csv.specs.Writing.{fields_text, is_blank, escaped}
+use Rattle.mesa_key.specs.Spelling.{before_zero}
+use Rattle.mesa_history.specs.Run.{place_of}
+use Rattle.mesa_history.specs.Replay.{turned, go, runs}
+use Rattle.mesa_history.specs.Legal.{are_fit}
+use Rattle.mesa_history.specs.Law.{accepted_in}
+use Rattle.mesa_script.specs.Output.{block, output}
+
+unfoldable pub on_literals : ⊤
+unfolding csv_on_literals fields_text is_blank escaped digits is_utf8 chars encode before_zero place_of turned go runs are_fit accepted_in block output
+on_literals = tt
