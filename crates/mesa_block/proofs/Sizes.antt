@@ -1,0 +1,120 @@
+-- How long a block is: as long as its rows' keys and values, and three bytes.
+use Rattle.std.proofs.Common.{◌≡◌, ℕ, ◌+◌, ◌*◌, ◌<◌, ◌≤◌, List, [], ◌∷◌, ◌++◌, length, map, get_or, refl, sym, ap, ◌∙◌, arith, Bool, true, false, leb}
+use Rattle.std.specs.Prelude.{IsTrue, ◌&&◌, flat_map, pos}
+use Rattle.std.specs.List.{AllByRecursion, concat, range_with_len}
+use Rattle.std.proofs.lemmas.List.{map-append, length-append}
+use Rattle.std.proofs.lemmas.List.Concat.{flat_map-cons}
+use Rattle.std.proofs.lemmas.List.FromFn.{length-range_with_len}
+use Rattle.std.proofs.lemmas.Bool.{eqb-true, le-leb, lt-leb}
+use Rattle.mesa_key.specs.declared.KeyType.{KeyType}
+use Rattle.mesa_key.specs.declared.KeyType.TheVariants as kind
+use Rattle.mesa_key.specs.Spelling.{is_spelling}
+use Rattle.mesa_schema.specs.declared.rows.Row.{Row}
+use Rattle.mesa_schema.specs.Columns.{Columns, kinds_of}
+use Rattle.mesa_block.specs.Spelling.{front, rest, column, columns, key_of, value, value_column, block}
+use Rattle.mesa_block.specs.Rows.{IsRow, Rise, most_rows, most_bytes}
+use Rattle.mesa_block.proofs.Forms.{IsRead, Passes, all_read, is_read}
+use Rattle.mesa_block.specs.Fill.{fit, IsBuilt}
+use Rattle.mesa_block.proofs.Laying.{has_front, each_so, each_mapped}
+
+abbrev pub total : List (List ℕ) → ℕ
+total [] = 0
+total (x ∷ xs) = length x + total xs
+
+int_length : (cells : List (List ℕ)) → length (concat cells) ≡ total cells
+int_length [] = refl
+int_length (c ∷ cells) = length-append c (concat cells) ∙ ap (λ (n : ℕ). length c + n) (int_length cells)
+
+column_parts : (k : KeyType) (kinds : List KeyType) (keys : List (List ℕ)) → AllByRecursion (λ key. IsTrue (is_spelling (k ∷ kinds) key)) keys
+    → length (column k (map (front k) keys)) + total (map (rest k) keys) ≡ total keys
+column_parts kind.Int kinds [] all = refl
+column_parts kind.Text kinds [] all = refl
+column_parts kind.Int kinds (key ∷ keys) all =
+    let h = has_front kind.Int kinds key all.0 in
+    omega (arith, h.parts, column_parts kind.Int kinds keys all.1, length-append (front kind.Int key) (concat (map (front kind.Int) keys)))
+column_parts kind.Text kinds (key ∷ keys) all =
+    let h = has_front kind.Text kinds key all.0 in
+    let cells = map (front kind.Text) keys in
+    omega (
+      arith,
+      h.parts,
+      column_parts kind.Text kinds keys all.1,
+      length-append (front kind.Text key) (concat cells),
+      length-append (map length cells) (concat cells),
+      length-append (length (front kind.Text key) ∷ map length cells) (front kind.Text key ++ concat cells),
+    )
+
+no_columns : (keys : List (List ℕ)) → AllByRecursion (λ key. IsTrue (is_spelling [] key)) keys → 0 ≡ total keys
+no_columns [] all = refl
+no_columns (key ∷ keys) all = omega (arith, eqb-true (length key) 0 all.0, no_columns keys all.1)
+
+pub columns_length : (kinds : List KeyType) (keys : List (List ℕ)) → AllByRecursion (λ key. IsTrue (is_spelling kinds key)) keys → length (columns kinds keys) ≡ total keys
+columns_length [] keys all = no_columns keys all
+columns_length (k ∷ kinds) keys all =
+    let others = each_mapped (λ key. IsTrue (is_spelling (k ∷ kinds) key)) (λ key. IsTrue (is_spelling kinds key)) (rest k) keys (λ key h. (has_front k kinds key h).others) all in
+    omega (arith, length-append (column k (map (front k) keys)) (columns kinds (map (rest k) keys)), columns_length kinds (map (rest k) keys) others, column_parts k kinds keys all)
+
+even : {X : Type 0} (f : X → List ℕ) (n : ℕ) (xs : List X) → ((x : X) → length (f x) ≡ n) → length (flat_map f xs) ≡ length xs * n
+even f n [] each = omega arith
+even f n (x ∷ xs) each = rw flat_map-cons (omega (arith, length-append (f x) (flat_map f xs), each x, even f n xs each))
+
+total-append : (xs ys : List (List ℕ)) → total (xs ++ ys) ≡ total xs + total ys
+total-append [] ys = omega arith
+total-append (x ∷ xs) ys = omega (arith, total-append xs ys)
+
+pub block_length : (f : Columns) (rows : List Row) → AllByRecursion (IsRead f) rows → length (block f rows) ≡ 3 + total (map key_of rows) + (length f.values) * (length rows * 8)
+unfolding block
+block_length f rows all =
+    let keys = columns_length (kinds_of f) (map key_of rows) (each_mapped (IsRead f) (λ key. IsTrue (is_spelling (kinds_of f) key)) key_of rows (λ row h. h.key) all) in
+    let column_each = λ (j : ℕ). even (λ (row : Row). value (get_or row.values j (pos 0))) 8 rows (λ row. refl) in
+    let values = even (value_column rows) (length rows * 8) (range_with_len 0 (length f.values)) column_each in
+    omega (arith, keys, rw length-range_with_len at values, length-append (columns (kinds_of f) (map key_of rows)) (flat_map (value_column rows) (range_with_len 0 (length f.values))))
+
+each_append : {X : Type 0} (P : X → Type 0) (xs : List X) (x : X) → AllByRecursion P xs → P x → AllByRecursion P (xs ++ x ∷ [])
+each_append P [] x all h = (h, tt)
+each_append P (y ∷ xs) x all h = (all.0, each_append P xs x all.1 h)
+
+pub rows_more : (f : Columns) (rows : List Row) (row : Row) → AllByRecursion (IsRead f) rows → IsRead f row → AllByRecursion (IsRead f) (rows ++ row ∷ [])
+rows_more f rows row all h = each_append (IsRead f) rows row all h
+
+pub block_more : (f : Columns) (rows : List Row) (row : Row) → AllByRecursion (IsRead f) rows → IsRead f row
+    → length (block f (rows ++ row ∷ [])) ≡ length (block f rows) + (length row.key + 8 * (length f.values))
+block_more f rows row all h =
+    let one = block_length f rows all in
+    let two = rw length-append at (block_length f (rows ++ row ∷ []) (rows_more f rows row all h)) in
+    let keys : total (map key_of (rows ++ row ∷ [])) ≡ total (map key_of rows) + length row.key = rw map-append (omega (arith, total-append (map key_of rows) (row.key ∷ []))) in
+    omega (arith, one, two, keys)
+
+and_false : (b : Bool) → b && false ≡ false
+and_false true = refl
+and_false false = refl
+
+pub fits_not : (f : Columns) (rows : List Row) (row : Row) → AllByRecursion (IsRead f) rows → IsRead f row → most_bytes < length (block f rows) + (length row.key + 8 * (length f.values)) → false ≡ fit f (rows ++ row ∷ [])
+fits_not f rows row all h more =
+    let long : leb (length (block f (rows ++ row ∷ []))) most_bytes ≡ false = lt-leb _ _ (omega (arith, block_more f rows row all h)) in
+    rw long (sym (and_false (leb (length (rows ++ row ∷ [])) most_rows)))
+
+pub fits_so : (f : Columns) (rows : List Row) (row : Row) → AllByRecursion (IsRead f) rows → IsRead f row → length rows < most_rows → length (block f rows) + (length row.key + 8 * (length f.values)) ≤ most_bytes → true ≡ fit f (rows ++ row ∷ [])
+fits_so f rows row all h few short =
+    let a : leb (length (rows ++ row ∷ [])) most_rows ≡ true = le-leb _ _ (omega (arith, length-append rows (row ∷ []))) in
+    let b : leb (length (block f (rows ++ row ∷ []))) most_bytes ≡ true = le-leb _ _ (omega (arith, block_more f rows row all h)) in
+    rw (a, b) refl
+
+pub built_none : (f : Columns) → IsBuilt f [] 3
+built_none f = record { size = omega (arith, block_length f [] tt); few = omega arith; short = omega arith; good = tt; rise = tt }
+
+pub built_more : Passes → (f : Columns) (rows : List Row) (row : Row) (len more : ℕ) → IsBuilt f rows len → IsRow f row → Rise (map key_of (rows ++ row ∷ [])) → length rows < most_rows → more ≡ length row.key + 8 * (length f.values) → len + more ≤ most_bytes
+    → IsBuilt f (rows ++ row ∷ []) (len + more)
+built_more passes f rows row len more b h rise few is short = record {
+  size = omega (arith, block_more f rows row (all_read passes f rows b.good) (is_read passes f row h), b.size);
+  few = omega (arith, length-append rows (row ∷ []));
+  short = short;
+  good = each_append (IsRow f) rows row b.good h;
+  rise = rise;
+}
+
+pub keys_good : (f : Columns) (rows : List Row) → AllByRecursion (IsRead f) rows → AllByRecursion (λ key. IsTrue (is_spelling (kinds_of f) key)) (map key_of rows)
+keys_good f rows all = each_mapped (IsRead f) (λ key. IsTrue (is_spelling (kinds_of f) key)) key_of rows (λ row h. h.key) all
+
+pub values_good : (f : Columns) (rows : List Row) → AllByRecursion (IsRead f) rows → AllByRecursion (λ (row : Row). (length f.values) ≤ length row.values) rows
+values_good f rows all = each_so (IsRead f) (λ (row : Row). (length f.values) ≤ length row.values) rows (λ row h. omega (arith, h.count)) all

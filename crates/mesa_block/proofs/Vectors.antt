@@ -1,0 +1,36 @@
+-- The vector of the format, computed.
+use Rattle.std.proofs.Common.{◌≡◌, ℕ, List, [], ◌∷◌, refl, length}
+use Rattle.std.specs.Prelude.{pos, negsuc, codes}
+use Rattle.mesa_key.specs.declared.KeyValue.TheVariants.{Int, Text}
+use Rattle.mesa_key.specs.declared.KeyType.TheVariants as kind
+use Rattle.mesa_value.specs.declared.Agg.TheVariants.{Sum}
+use Rattle.mesa_key.specs.Spelling.{key_spelling, before_zero}
+use Rattle.mesa_schema.specs.declared.rows.Row.{Row}
+use Rattle.mesa_schema.specs.Columns.{Columns}
+use Rattle.mesa_block.specs.Spelling.{block}
+
+abbrev pub one_schema : Columns
+one_schema = record { keys = record { name = codes "k"; kind = kind.Int } ∷ []; values = record { name = codes "v"; agg = Sum } ∷ [] }
+
+abbrev pub one_row : List Row
+one_row = record { key = key_spelling (Int (pos 1) ∷ []); values = pos 5 ∷ [] } ∷ []
+
+abbrev pub one_block : List ℕ
+one_block = 0 ∷ 0 ∷ 1 ∷ 0x80 ∷ 0 ∷ 0 ∷ 0 ∷ 0 ∷ 0 ∷ 0 ∷ 1 ∷ 0 ∷ 0 ∷ 0 ∷ 0 ∷ 0 ∷ 0 ∷ 0 ∷ 5 ∷ []
+
+pub one : block one_schema one_row ≡ one_block
+unfolding block
+one = refl
+
+one_long : length one_block ≡ 19
+one_long = refl
+
+abbrev two_schema : Columns
+two_schema = record { keys = record { name = codes "t"; kind = kind.Text } ∷ record { name = codes "u"; kind = kind.Text } ∷ []; values = record { name = codes "v"; agg = Sum } ∷ [] }
+
+abbrev two_rows : List Row
+two_rows = record { key = key_spelling (Text (codes "ab") ∷ Text (codes "x") ∷ []); values = negsuc 0 ∷ [] } ∷ record { key = key_spelling (Text (codes "b") ∷ Text [] ∷ []); values = pos 2 ∷ [] } ∷ []
+
+two : block two_schema two_rows ≡ 0 ∷ 0 ∷ 2 ∷ 2 ∷ 1 ∷ 97 ∷ 98 ∷ 98 ∷ 1 ∷ 0 ∷ 120 ∷ 255 ∷ 255 ∷ 255 ∷ 255 ∷ 255 ∷ 255 ∷ 255 ∷ 255 ∷ 0 ∷ 0 ∷ 0 ∷ 0 ∷ 0 ∷ 0 ∷ 0 ∷ 2 ∷ []
+unfolding block before_zero
+two = refl

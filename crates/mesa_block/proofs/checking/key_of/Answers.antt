@@ -1,0 +1,14 @@
+use Rattle.std.proofs.Common.{map}
+use Rattle.mesa_block.proofs.Rows.{key_step, key_end, key_end_kinds}
+use Rattle.mesa_block.proofs.checking.key_of.Goals as goal
+
+pub returns-then-j-columns : goal.returns-then-j-columns
+returns-then-j-columns c = key_end _ c.args.kinds.now c.args.columns.now c.args.i c.loop-j.j _ _ c.if-j-columns.true c.loop-j.invariant
+
+pub returns : goal.returns
+returns c = key_end_kinds c.args.kinds.now _ c.args.i c.loop-j.j _ _ c.loop-j-test.false c.loop-j.invariant
+
+pub loop-j-preserved : goal.loop-j-preserved
+loop-j-preserved c =
+    key_step (λ column. map (λ k. k.now) column.items) c.args.kinds.now c.args.columns.now c.args.i c.loop-j.j _ c.index-columns-j.result c.loop-j.key.items _ c.cell_of.result.now _ c.loop-j-test.true c.if-j-columns.false c.index-columns-j.is c.loop-j.invariant
+    (rw c.deref.ensures.value at c.cell_of.ensures) c.in_ok-put_sealed.ensures

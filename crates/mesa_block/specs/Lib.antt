@@ -1,0 +1,4 @@
+pub mod Spelling
+pub mod Rows
+pub mod Fill
+pub mod Reading

@@ -1,0 +1,44 @@
+-- The bytes of a block of rows: each list of rows that makes a block has one spelling.
+use Rattle.std.specs.Prelude.{ℕ, ◌+◌, ℤ, pos, List, [], ◌∷◌, ◌++◌, length, map, take, drop, flat_map, get_or}
+use Rattle.std.specs.Int.{w16, w64, to_be_bytes, cast_unsigned}
+use Rattle.std.specs.List.{concat, range_with_len}
+use Rattle.mesa_key.specs.declared.KeyType.{KeyType}
+use Rattle.mesa_key.specs.declared.KeyType.TheVariants as kind
+use Rattle.mesa_key.specs.Spelling.{before_zero}
+use Rattle.mesa_schema.specs.declared.rows.Row.{Row}
+use Rattle.mesa_schema.specs.Columns.{Columns, kinds_of}
+
+-- The bytes of a key's first column, a text's without its zero byte.
+abbrev pub front : KeyType → List ℕ → List ℕ
+front kind.Int key = take 8 key
+front kind.Text key = before_zero key
+
+-- the bytes of a key's other columns
+abbrev pub rest : KeyType → List ℕ → List ℕ
+rest kind.Int key = drop 8 key
+rest kind.Text key = drop (length (before_zero key) + 1) key
+
+-- A key column of all rows: ints one after the other; of texts first the lengths, a byte each, then the texts.
+abbrev pub column : KeyType → List (List ℕ) → List ℕ
+column kind.Int cells = concat cells
+column kind.Text cells = map length cells ++ concat cells
+
+-- The key columns of all rows, one after the other.
+abbrev pub columns : List KeyType → List (List ℕ) → List ℕ
+columns [] keys = []
+columns (kind ∷ kinds) keys = column kind (map (front kind) keys) ++ columns kinds (map (rest kind) keys)
+
+-- A value is eight bytes, its two's complement, the highest first.
+abbrev pub value : ℤ → List ℕ
+value z = to_be_bytes w64 (cast_unsigned w64 z)
+
+abbrev pub key_of : Row → List ℕ
+key_of row = row.key
+
+-- A value column of all rows is their values one after the other.
+abbrev pub value_column : List Row → ℕ → List ℕ
+value_column rows j = flat_map (λ (row : Row). value (get_or row.values j (pos 0))) rows
+
+-- A block is the flag 0, the row count in two bytes, the key columns, the value columns.
+unfoldable pub block : Columns → List Row → List ℕ
+block s rows = 0 ∷ (to_be_bytes w16 (length rows) ++ (columns (kinds_of s) (map key_of rows) ++ flat_map (value_column rows) (range_with_len 0 (length s.values))))

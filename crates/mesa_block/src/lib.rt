@@ -1,0 +1,21 @@
+//! Blocks of rows as bytes: each list of rows that makes a block has one spelling.
+#![tactic(auto)]
+
+mod builder;
+mod checking;
+mod error;
+mod reading;
+mod writing;
+
+pub use builder::BlockBuilder;
+pub use error::BlockError;
+pub use reading::{Block, read_block};
+
+/// How many rows a block has at most.
+pub const MOST_ROWS: usize = 1024;
+
+/// How many bytes a block has at most.
+pub const MOST_BYTES: usize = 65536;
+
+#[cfg(test)]
+mod tests;
