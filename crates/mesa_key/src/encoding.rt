@@ -1,5 +1,6 @@
 // Writing keys.
 ghost use Rattle.std.specs.Prelude.{◌≡◌, ◌++◌, length, take, OnOk, OnErr};
+ghost use Rattle.mesa_key.specs.declared.KeyValue.TheVariants as Value;
 ghost use Rattle.mesa_key.specs.Spelling.{int_spelling, value_spelling, key_spelling};
 
 use crate::{Key, KeyValue};
@@ -26,13 +27,27 @@ fn push_value(value: &KeyValue, out: &mut Vec<u8>) -> Result<(), AllocError>
     ensures kept { take (length out.old.items) out.new.items ≡ out.old.items }
 {
     match value {
-        KeyValue::Int(number) => out.extend_from_slice(&int_bytes(*number)),
-        KeyValue::Text(text) => {
-            out.extend_from_slice(text.as_bytes())?;
-            out.push(0)?;
-            Ok(())
-        }
+        KeyValue::Int(number) => encode_int(*number, out),
+        KeyValue::Text(text) => encode_text(text.as_bytes(), out),
     }
+}
+
+/// Appends the bytes of an int column's value.
+pub fn encode_int(number: i64, out: &mut Vec<u8>) -> Result<(), AllocError>
+    ensures ok { OnOk result (out.new.items ≡ out.old.items ++ value_spelling (Value.Int number)) }
+    ensures kept { take (length out.old.items) out.new.items ≡ out.old.items }
+{
+    out.extend_from_slice(&int_bytes(number))
+}
+
+/// Appends the bytes of a text column's value, which `KeyText` allows; without memory a part of them may stand there.
+pub fn encode_text(text: &[u8], out: &mut Vec<u8>) -> Result<(), AllocError>
+    ensures ok { OnOk result (out.new.items ≡ out.old.items ++ value_spelling (Value.Text text.now)) }
+    ensures kept { take (length out.old.items) out.new.items ≡ out.old.items }
+{
+    out.extend_from_slice(text)?;
+    out.push(0)?;
+    Ok(())
 }
 
 // The two's complement of a number with its sign bit flipped, the highest byte first.

@@ -9,7 +9,7 @@ mod order;
 mod text;
 
 pub use decoding::{KeyError, decode};
-pub use encoding::encode;
+pub use encoding::{encode, encode_int, encode_text};
 pub use laws::{orders_bytes_as_keys, reads_back, reads_spellings, spells_once};
 use mesa_list::Items;
 pub use order::{compare, short};
