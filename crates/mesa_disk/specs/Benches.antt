@@ -5,24 +5,52 @@ use Rattle.mesa_fault.specs.Causes.{last}
 use Rattle.mesa_disk.specs.declared.memory.bench.MemBench.{MemBench}
 use Rattle.mesa_disk.specs.declared.memory.bench.MemDraft.{MemDraft}
 
+-- the calls that fail, each by its draft's number and its own, which is 0 for the making of the draft
+abbrev pub failing_calls : MemBench → List (ℕ × ℕ)
+failing_calls b = b.fails.items
+
+-- how many drafts were asked for
+abbrev pub drafts_made : MemBench → ℕ
+drafts_made b = b.drafts
+
+-- how often a bench has failed
+abbrev pub bench_faults : MemBench → ℕ
+bench_faults b = b.faults
+
+-- a draft's id, its bytes, how often it has failed, which of its calls fail, and how many were made
+abbrev pub draft_id : MemDraft → ℕ
+draft_id d = d.id
+
+abbrev pub draft_bytes : MemDraft → List ℕ
+draft_bytes d = d.bytes.items
+
+abbrev pub draft_faults : MemDraft → ℕ
+draft_faults d = d.faults
+
+abbrev pub draft_fails : MemDraft → List ℕ
+draft_fails d = d.fails.items
+
+abbrev pub draft_calls : MemDraft → ℕ
+draft_calls d = d.calls
+
 -- the calls on a draft of this number that fail
 abbrev pub calls_of : ℕ → List (ℕ × ℕ) → List ℕ
 calls_of draft fails = map (λ f. f.1) (filter (λ f. f.0 == draft) fails)
 
 -- The next draft of a bench fails.
 abbrev pub DraftIsDue : MemBench → Type 0
-DraftIsDue b = Contains b.fails.items (b.drafts, 0)
+DraftIsDue b = Contains (failing_calls b) (drafts_made b, 0)
 
 -- The next call on a draft fails; they are counted from 1.
 abbrev pub CallIsDue : MemDraft → Type 0
-CallIsDue d = Contains d.fails.items (min (d.calls + 1) last)
+CallIsDue d = Contains (draft_fails d) (min (draft_calls d + 1) last)
 
 -- A draft that no call was made on yet, and of which those calls fail that its bench names for its number.
 pub record IsFresh (b : MemBench) (d : MemDraft) : Type 0 where
-  pub fails : d.fails.items ≡ calls_of b.drafts b.fails.items
-  pub calls : d.calls ≡ 0
+  pub fails : draft_fails d ≡ calls_of (drafts_made b) (failing_calls b)
+  pub calls : draft_calls d ≡ 0
 
 -- A call on a draft is counted.
 pub record CountsCall (old new : MemDraft) : Type 0 where
-  pub calls : new.calls ≡ min (old.calls + 1) last
-  pub fails : new.fails ≡ old.fails
+  pub calls : draft_calls new ≡ min (draft_calls old + 1) last
+  pub fails : draft_fails new ≡ draft_fails old

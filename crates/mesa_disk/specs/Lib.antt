@@ -7,3 +7,5 @@ pub mod Picked
 pub mod Memory
 pub mod Benches
 pub mod MemoryLaws
+pub mod Spoiled
+pub mod MemFiles

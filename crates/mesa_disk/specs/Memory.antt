@@ -1,5 +1,5 @@
 -- What is known of a disk in memory.
-use Rattle.std.specs.Prelude.{◌≡◌, ℕ, ◌+◌, min, ◌∷◌, [], ◌++◌, length, Some, Result, IsErr}
+use Rattle.std.specs.Prelude.{◌≡◌, ℕ, ◌+◌, min, List, ◌∷◌, [], ◌++◌, length, Option, Some, Result, IsErr}
 use Rattle.std.specs.List.{Contains}
 use Rattle.mesa_fault.specs.Causes.{last}
 use Rattle.mesa_disk.specs.Image.{Image, area_of}
@@ -42,16 +42,28 @@ story_of d = record {
   read_faults = d.read_faults;
 }
 
+-- the numbers of the calls that fail, of those that can
+abbrev pub failing_calls : MemDisk → List ℕ
+failing_calls d = d.fails.items
+
+-- how many of the calls that can fail were made
+abbrev pub calls_made : MemDisk → ℕ
+calls_made d = d.counted
+
+-- the file of which the next reader has a read that fails, and the number of that read
+abbrev pub spoiled_read : MemDisk → Option (ℕ × ℕ)
+spoiled_read d = d.spoiled
+
 -- The next call that can fail is one of those that fail.
 abbrev pub IsDue : MemDisk → Type 0
-IsDue d = Contains d.fails.items d.counted
+IsDue d = Contains (failing_calls d) (calls_made d)
 
 -- A call that can fail is counted. One that is to fail does, and changes no area and no file.
 pub record FailsIfDue {T E : Type 0} (old new : MemDisk) (result : Result T E) : Type 0 where
   pub fails : IsDue old → IsErr result
   pub still : IsDue old → Keeps old.log new.log
-  pub counted : new.counted ≡ min (old.counted + 1) last
-  pub same : new.fails ≡ old.fails
+  pub counted : calls_made new ≡ min (calls_made old + 1) last
+  pub same : failing_calls new ≡ failing_calls old
 
 -- one image that a crash at a moment may have left, by the pick
 abbrev pub image_at : MemDisk → ℕ → ℕ → Image

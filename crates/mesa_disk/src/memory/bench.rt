@@ -1,6 +1,5 @@
 //! Drafts in memory, of which chosen calls fail.
 ghost use Rattle.std.specs.Prelude.{◌≡◌, ◌↔◌, ◌+◌, ◌≤◌, min, ℕ, List, [], ◌++◌, IfOk, IfErr, IsErr, IsTrue, OnOk, Some, Err, option_map};
-ghost use Rattle.std.specs.Arc.{arc_value};
 ghost use Rattle.mesa_fault.specs.Causes.{last, Rose, HasFaultCause};
 ghost use Rattle.mesa_disk.specs.declared.failures.DraftError.TheVariants.{Failed as DraftFailed};
 
@@ -22,18 +21,19 @@ pub struct MemDraft {
 }
 
 impl Draft<MemMade> for MemDraft {
-    ghost use Rattle.mesa_disk.specs.Benches.{CallIsDue, CountsCall};
+    ghost use Rattle.mesa_disk.specs.Benches.{CallIsDue, CountsCall, draft_bytes, draft_faults, draft_id};
+    ghost use Rattle.mesa_disk.specs.MemFiles.{made_bytes, made_id};
 
-    ghost id_of = { λ d. d.id };
+    ghost id_of = { draft_id };
 
-    ghost bytes = { λ d. Some d.bytes.items };
+    ghost bytes = { λ d. Some (draft_bytes d) };
 
-    ghost faults = { λ d. d.faults };
+    ghost faults = { draft_faults };
 
     fn append(&mut self, piece: &[u8]) -> Result<(), DraftError>
-        ensures appended { OnOk result (Some self.new.bytes.items ≡ option_map (λ b. b ++ piece.now) (Some self.old.bytes.items)) }
-        ensures id { self.new.id ≡ self.old.id }
-        ensures cause { HasFaultCause (λ e. e ≡ DraftFailed) self.old.faults self.new.faults result }
+        ensures appended { OnOk result (Some (draft_bytes self.new) ≡ option_map (λ b. b ++ piece.now) (Some (draft_bytes self.old))) }
+        ensures id { draft_id self.new ≡ draft_id self.old }
+        ensures cause { HasFaultCause (λ e. e ≡ DraftFailed) (draft_faults self.old) (draft_faults self.new) result }
         ensures due { (result ≡ Err DraftFailed) ↔ CallIsDue self.old }
         ensures counted { CountsCall self.old self.new }
     {
@@ -48,10 +48,10 @@ impl Draft<MemMade> for MemDraft {
     }
 
     fn finish(mut self) -> Result<MemMade, (DraftError, Self)>
-        ensures bytes { IfOk result (λ m. Some (arc_value m.bytes) ≡ Some self.bytes.items) }
-        ensures id { IfOk result (λ m. m.id ≡ self.id) }
-        ensures given_back { IfErr result (λ e. (Some e.1.bytes.items ≡ Some self.bytes.items) × (e.1.id ≡ self.id)) }
-        ensures cause { IfErr result (λ e. (self.faults ≤ e.1.faults) × (e.0 ≡ DraftFailed → Rose self.faults e.1.faults)) }
+        ensures bytes { IfOk result (λ m. Some (made_bytes m) ≡ Some (draft_bytes self)) }
+        ensures id { IfOk result (λ m. made_id m ≡ draft_id self) }
+        ensures given_back { IfErr result (λ e. (Some (draft_bytes e.1) ≡ Some (draft_bytes self)) × (draft_id e.1 ≡ draft_id self)) }
+        ensures cause { IfErr result (λ e. (draft_faults self ≤ draft_faults e.1) × (e.0 ≡ DraftFailed → Rose (draft_faults self) (draft_faults e.1))) }
         ensures due { IfErr result (λ e. e.0 ≡ DraftFailed → CallIsDue self) }
         ensures fails { CallIsDue self → IsErr result }
     {
@@ -107,11 +107,15 @@ pub struct MemBench {
 }
 
 impl MemBench {
-    ghost use Rattle.mesa_disk.specs.Benches.{calls_of};
+    ghost use Rattle.mesa_disk.specs.Benches.{bench_faults, calls_of, drafts_made, failing_calls};
 
     /// A bench of which chosen calls fail, and no others: `draft` call d, counted from 0, where (d, 0)
     /// stands in `fails`, and call c, counted from 1, on the draft that it gave, where (d, c) does.
-    pub fn new(alloc: Global, fails: Vec<(u64, u64)>) -> MemBench {
+    pub fn new(alloc: Global, fails: Vec<(u64, u64)>) -> MemBench
+        ensures fails { failing_calls result ≡ fails.items }
+        ensures counted { drafts_made result ≡ 0 }
+        ensures faults { bench_faults result ≡ 0 }
+    {
         MemBench {
             alloc,
             fails,
@@ -135,21 +139,21 @@ impl MemBench {
 }
 
 impl Bench<MemMade> for MemBench {
-    ghost use Rattle.mesa_disk.specs.Benches.{DraftIsDue, IsFresh};
+    ghost use Rattle.mesa_disk.specs.Benches.{DraftIsDue, IsFresh, bench_faults, draft_bytes, draft_faults, draft_id, drafts_made, failing_calls};
 
     type Draft = MemDraft;
 
-    ghost faults = { λ b. b.faults };
+    ghost faults = { bench_faults };
 
     fn draft(&mut self, id: FileId) -> Result<MemDraft, DraftError>
-        ensures id { IfOk result (λ d. d.id ≡ id) }
-        ensures empty { IfOk result (λ d. (b : List ℕ) → Some d.bytes.items ≡ Some b → b ≡ []) }
-        ensures fresh { IfOk result (λ d. d.faults ≡ 0) }
-        ensures cause { HasFaultCause (λ e. e ≡ DraftFailed) self.old.faults self.new.faults result }
+        ensures id { IfOk result (λ d. draft_id d ≡ id) }
+        ensures empty { IfOk result (λ d. (b : List ℕ) → Some (draft_bytes d) ≡ Some b → b ≡ []) }
+        ensures fresh { IfOk result (λ d. draft_faults d ≡ 0) }
+        ensures cause { HasFaultCause (λ e. e ≡ DraftFailed) (bench_faults self.old) (bench_faults self.new) result }
         ensures due { (result ≡ Err DraftFailed) ↔ DraftIsDue self.old }
         ensures begun { IfOk result (IsFresh self.old) }
-        ensures counted { self.new.drafts ≡ min (self.old.drafts + 1) last }
-        ensures same { self.new.fails ≡ self.old.fails }
+        ensures counted { drafts_made self.new ≡ min (drafts_made self.old + 1) last }
+        ensures same { failing_calls self.new ≡ failing_calls self.old }
     {
         let number = self.drafts;
         self.drafts = number.saturating_add(1);

@@ -1,6 +1,5 @@
 //! A disk in memory, of which chosen calls fail.
-ghost use Rattle.std.specs.Prelude.{◌≡◌, ◌↔◌, ◌+◌, ◌^◌, ◌<◌, ◌≤◌, min, max, ℕ, List, length, take, drop, IfOk, IfErr, IfSome, IsErr, IsTrue, OnOk, None, Some};
-ghost use Rattle.std.specs.Arc.{arc_value};
+ghost use Rattle.std.specs.Prelude.{◌≡◌, ◌↔◌, ◌+◌, ◌^◌, ◌<◌, ◌≤◌, min, max, ℕ, List, [], length, take, drop, IfOk, IfErr, IfSome, IsErr, IsTrue, OnOk, None, Some};
 ghost use Rattle.std.specs.List.{Contains};
 ghost use Rattle.std.specs.FinMap.{from_entries, keys};
 ghost use Rattle.std.proofs.Common.{inl};
@@ -9,6 +8,7 @@ ghost use Rattle.mesa_disk.specs.declared.area.Area.{Area};
 ghost use Rattle.mesa_disk.specs.declared.failures.OpenFault.TheVariants.{Failed as OpenFailed, Absent};
 ghost use Rattle.mesa_disk.specs.declared.failures.ListFault.TheVariants.{Failed as ListFailed};
 ghost use Rattle.mesa_disk.specs.Image.{area_of, file_of, Overwrites, Tears, Adopts, Loses, May};
+ghost use Rattle.mesa_disk.specs.Spoiled.{read_spoiled_for};
 ghost use Rattle.mesa_disk.specs.Story.{Steps, Follows, Elapses, Unmoved};
 ghost use Rattle.mesa_disk.specs.Recorded.{AllBefore, AllBefore-prop, start_image};
 
@@ -37,7 +37,7 @@ pub struct MemDisk {
 
 impl MemDisk {
     ghost use Rattle.mesa_disk.specs.Image.{Image};
-    ghost use Rattle.mesa_disk.specs.Memory.{story_of, image_at};
+    ghost use Rattle.mesa_disk.specs.Memory.{calls_made, failing_calls, image_at, spoiled_read, story_of};
 
     /// A disk with these areas and files, all synced. Its calls that can fail are counted from 0; those
     /// whose numbers stand in `fails` fail, and change no area and no file.
@@ -53,6 +53,9 @@ impl MemDisk {
         ensures moment { (story_of result).moment ≡ 0 }
         ensures faults { (story_of result).faults ≡ 0 }
         ensures read_faults { (story_of result).read_faults ≡ 0 }
+        ensures fails { failing_calls result ≡ fails.items }
+        ensures counted { calls_made result ≡ 0 }
+        ensures unspoiled { spoiled_read result ≡ None }
     {
         let start = Start::AsGiven(Given { zero, one, files });
         MemDisk::starting(alloc, start, fails)
@@ -64,6 +67,10 @@ impl MemDisk {
         ensures picked { IfOk result (λ d. (story_of d).told ≡ Some (image_at self.now moment pick)) }
         ensures left { IfOk result (λ d. (c : Image) → (story_of d).told ≡ Some c → (story_of self.now).may_have_left moment c) }
         ensures synced { IfOk result (λ d. (c : Image) → (story_of d).may_leave c → (story_of d).told ≡ Some c) }
+
+        // No call of it is to fail.
+        ensures fails { IfOk result (λ d. failing_calls d ≡ []) }
+        ensures unspoiled { IfOk result (λ d. spoiled_read d ≡ None) }
     {
         let held = self.log.image(self.alloc, moment, pick)?;
         Ok(MemDisk::starting(self.alloc, Start::Shared(held), Vec::new(self.alloc)))
@@ -72,6 +79,9 @@ impl MemDisk {
     /// Lets a read, counted from 0, of the next reader of a file fail. It takes the place of one that
     /// was named before and that no reader has taken.
     pub fn spoil_read(&mut self, id: FileId, nth: u64)
+        ensures spoiled { spoiled_read self.new ≡ Some (id, nth) }
+        ensures fails { failing_calls self.new ≡ failing_calls self.old }
+        ensures counted { calls_made self.new ≡ calls_made self.old }
         ensures unmoved { Unmoved (story_of self.old) (story_of self.new) }
         ensures faults { (story_of self.new).faults ≡ (story_of self.old).faults }
         ensures read_faults { (story_of self.new).read_faults ≡ (story_of self.old).read_faults }
@@ -85,6 +95,9 @@ impl MemDisk {
         ensures moment { (story_of result).moment ≡ 0 }
         ensures faults { (story_of result).faults ≡ 0 }
         ensures read_faults { (story_of result).read_faults ≡ 0 }
+        ensures fails { failing_calls result ≡ fails.items }
+        ensures counted { calls_made result ≡ 0 }
+        ensures unspoiled { spoiled_read result ≡ None }
     {
         MemDisk {
             alloc,
@@ -115,8 +128,8 @@ fn is_due(counted: &mut u64, fails: &[u64]) -> bool
 
 // The read that was named for a file, which is named no longer.
 fn take_spoiled(spoiled: &mut Option<(FileId, u64)>, id: FileId) -> Option<u64>
-    ensures taken { IfSome result (λ nth. spoiled.old ≡ Some (id, nth)) }
-    ensures other { (nth : ℕ) → spoiled.old ≡ Some (id, nth) → result ≡ Some nth }
+    ensures taken { result ≡ read_spoiled_for id spoiled.old }
+    ensures left { read_spoiled_for id spoiled.new ≡ None }
 {
     if let Some((file, nth)) = *spoiled {
         if file == id {
@@ -131,7 +144,8 @@ impl Disk<MemMade> for MemDisk {
     type Reader = MemReader;
 
     ghost use Rattle.mesa_disk.specs.Image.{Image};
-    ghost use Rattle.mesa_disk.specs.Memory.{start_of, seen_of, story_of, IsDue, FailsIfDue};
+    ghost use Rattle.mesa_disk.specs.MemFiles.{failing_read, made_bytes, reader_bytes, reader_faults};
+    ghost use Rattle.mesa_disk.specs.Memory.{spoiled_read, start_of, seen_of, story_of, IsDue, FailsIfDue};
     ghost use Rattle.mesa_disk.specs.MemoryLaws.{area_small, told_is_left, told_len, left_earlier, only_present};
 
     ghost story = { story_of };
@@ -233,12 +247,12 @@ impl Disk<MemMade> for MemDisk {
 
     fn adopt(&mut self, made: MemMade, id: FileId) -> Result<(), DiskFailed>
         requires { (i : Image) → (story_of self.old).told ≡ Some i → file_of i id ≡ None }
-        ensures adopted { OnOk result (Steps (Adopts (id, Some (arc_value made.bytes))) (story_of self.old).told (story_of self.new).told) }
-        ensures whole { Steps (May Adopts (id, Some (arc_value made.bytes))) (story_of self.old).told (story_of self.new).told }
+        ensures adopted { OnOk result (Steps (Adopts (id, Some (made_bytes made))) (story_of self.old).told (story_of self.new).told) }
+        ensures whole { Steps (May Adopts (id, Some (made_bytes made))) (story_of self.old).told (story_of self.new).told }
 
         // Once it has answered Ok, each image has the file.
-        ensures stays { OnOk result (Follows (Adopts (id, Some (arc_value made.bytes))) (story_of self.old).may_leave (story_of self.new).may_leave) }
-        ensures crash { Follows (May Adopts (id, Some (arc_value made.bytes))) (story_of self.old).may_leave (story_of self.new).may_leave }
+        ensures stays { OnOk result (Follows (Adopts (id, Some (made_bytes made))) (story_of self.old).may_leave (story_of self.new).may_leave) }
+        ensures crash { Follows (May Adopts (id, Some (made_bytes made))) (story_of self.old).may_leave (story_of self.new).may_leave }
 
         ensures len { (a : Area) → (story_of self.new).len a ≡ (story_of self.old).len a }
         ensures time { Elapses (story_of self.new).may_leave (story_of self.old) (story_of self.new) }
@@ -290,14 +304,18 @@ impl Disk<MemMade> for MemDisk {
 
     fn reader(&mut self, id: FileId) -> Result<MemReader, OpenFault>
         ensures opened { IfOk result (λ r. (i : Image) → (story_of self.old).told ≡ Some i
-            → (b : List ℕ) × (file_of i id ≡ Some b) × (Some (arc_value r.bytes) ≡ Some b)) }
-        ensures fresh { IfOk result (λ r. r.faults ≡ 0) }
+            → (b : List ℕ) × (file_of i id ≡ Some b) × (Some (reader_bytes r) ≡ Some b)) }
+        ensures fresh { IfOk result (λ r. reader_faults r ≡ 0) }
         ensures absent { IfErr result (λ e. e ≡ Absent → (i : Image) → (story_of self.old).told ≡ Some i → file_of i id ≡ None) }
         ensures unmoved { Unmoved (story_of self.old) (story_of self.new) }
         ensures cause { HasFaultCause (λ e. e ≡ OpenFailed) (story_of self.old).faults (story_of self.new).faults result }
         ensures read_cause { (story_of self.new).read_faults ≡ (story_of self.old).read_faults }
         ensures due { FailsIfDue self.old self.new result }
         ensures only { IfErr result (λ e. e ≡ OpenFailed → IsDue self.old) }
+
+        // The read that `spoil_read` named for the file fails of this reader, and of no later one.
+        ensures spoiled { IfOk result (λ r. failing_read r ≡ read_spoiled_for id (spoiled_read self.old)) }
+        ensures healed { OnOk result (read_spoiled_for id (spoiled_read self.new) ≡ None) }
     {
         if is_due(&mut self.counted, &self.fails) {
             self.faults.rise();

@@ -1,6 +1,6 @@
 //! Files in memory.
-ghost use Rattle.std.specs.Prelude.{◌≡◌, ℕ, List, [], Some, length};
-ghost use Rattle.std.specs.Arc.{arc_value};
+ghost use Rattle.std.specs.Prelude.{◌≡◌, ◌↔◌, ◌+◌, ◌≤◌, min, ℕ, List, [], Some, length, take, drop, IsErr, OnOk};
+ghost use Rattle.mesa_fault.specs.Causes.{last, HasCause};
 ghost use Rattle.mesa_disk.specs.MemoryLaws.{same_size};
 
 use crate::memory::held::SharedBytes;
@@ -15,13 +15,15 @@ pub struct MemMade {
 }
 
 impl Made for MemMade {
-    ghost id_of = { λ m. m.id };
+    ghost use Rattle.mesa_disk.specs.MemFiles.{made_bytes, made_id};
 
-    ghost bytes = { λ m. Some (arc_value m.bytes) };
+    ghost id_of = { made_id };
 
-    ghost size = { λ m. length (arc_value m.bytes) };
+    ghost bytes = { λ m. Some (made_bytes m) };
 
-    ghost sized = { λ m b is. same_size (arc_value m.bytes) b is };
+    ghost size = { λ m. length (made_bytes m) };
+
+    ghost sized = { λ m b is. same_size (made_bytes m) b is };
 
     fn id(&self) -> FileId {
         self.id
@@ -42,21 +44,32 @@ pub struct MemReader {
 }
 
 impl FileReader for MemReader {
-    ghost bytes = { λ r. Some (arc_value r.bytes) };
+    ghost use Rattle.mesa_disk.specs.MemFiles.{failing_read, reader_bytes, reader_faults, reader_reads};
 
-    ghost size = { λ r. length (arc_value r.bytes) };
+    ghost bytes = { λ r. Some (reader_bytes r) };
 
-    ghost faults = { λ r. r.faults };
+    ghost size = { λ r. length (reader_bytes r) };
 
-    ghost reads = { λ r. r.reads };
+    ghost faults = { reader_faults };
 
-    ghost sized = { λ r b is. same_size (arc_value r.bytes) b is };
+    ghost reads = { reader_reads };
+
+    ghost sized = { λ r b is. same_size (reader_bytes r) b is };
 
     fn len(&self) -> u64 {
         self.bytes.len() as u64
     }
 
-    fn read_at(&mut self, at: u64, buf: &mut [u8]) -> Result<(), ReadFailed> {
+    fn read_at(&mut self, at: u64, buf: &mut [u8]) -> Result<(), ReadFailed>
+        requires { at + length buf.old ≤ length (reader_bytes self.old) }
+        ensures read { OnOk result ((b : List ℕ) → Some (reader_bytes self.old) ≡ Some b → buf.new ≡ take (length buf.old) (drop at b)) }
+        ensures bytes { Some (reader_bytes self.new) ≡ Some (reader_bytes self.old) }
+        ensures size { length (reader_bytes self.new) ≡ length (reader_bytes self.old) }
+        ensures reads { reader_reads self.new ≡ min (reader_reads self.old + 1) last }
+        ensures cause { HasCause (reader_faults self.old) (reader_faults self.new) result }
+        ensures due { IsErr result ↔ (failing_read self.old ≡ Some (reader_reads self.old)) }
+        ensures same { failing_read self.new ≡ failing_read self.old }
+    {
         let number = self.reads;
         self.reads = number.saturating_add(1);
         if self.fails == Some(number) {
