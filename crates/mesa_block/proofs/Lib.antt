@@ -18,3 +18,4 @@ pub mod FoundAll
 pub mod Small
 pub mod OnlyValues
 pub mod OnlyBlock
+pub mod Alone

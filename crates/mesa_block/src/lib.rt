@@ -4,11 +4,13 @@
 mod builder;
 mod checking;
 mod error;
+mod laws;
 mod reading;
 mod writing;
 
 pub use builder::BlockBuilder;
 pub use error::BlockError;
+pub use laws::{fits_alone, reads_blocks};
 pub use reading::{Block, read_block};
 
 /// How many rows a block has at most.

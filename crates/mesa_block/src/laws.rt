@@ -1,0 +1,25 @@
+// What holds of every block, whichever function wrote or read it.
+ghost use Rattle.std.specs.Prelude.{◌≡◌, List, [], ◌∷◌, Ok, IsTrue, true};
+ghost use Rattle.mesa_schema.specs.declared.rows.Row.{Row as AnyRow};
+ghost use Rattle.mesa_schema.specs.Columns.{Columns};
+ghost use Rattle.mesa_schema.specs.Schema.{is_schema};
+ghost use Rattle.mesa_block.specs.Fill.{fit};
+ghost use Rattle.mesa_block.specs.Reading.{block_at};
+ghost use Rattle.mesa_block.specs.Rows.{AreRows, IsRow};
+ghost use Rattle.mesa_block.specs.Spelling.{block};
+
+use mesa_key::reads_back;
+
+/// The rows of a block are read again from its bytes.
+pub fn reads_blocks()
+    ensures { (s : Columns) (rows : List AnyRow) → AreRows s rows → block_at s (block s rows) ≡ Ok rows }
+{
+    reads_back();
+}
+
+/// A row fits in an empty block, so every list of rows makes blocks: under a schema no key is longer than 16 texts, and no row has more than 16 values.
+pub fn fits_alone()
+    ensures { (s : Columns) (row : AnyRow) → IsTrue (is_schema s) → IsRow s row → fit s (row ∷ []) ≡ true }
+{
+    reads_back();
+}
