@@ -1,8 +1,13 @@
 pub mod Forms
 pub mod Fronts
+pub mod HexDigits
+pub mod Joins
+pub mod Lists
+pub mod PlacesAsked
+pub mod Refusals
+pub mod ResumeKeys
 pub mod Splits
 pub mod Steps
-pub mod TermLists
 pub mod TextEnds
 pub mod Texts
 pub mod Walks

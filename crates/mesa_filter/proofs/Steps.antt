@@ -9,6 +9,8 @@ use Rattle.mesa_key.specs.Order.{value_cmp}
 use Rattle.mesa_key.specs.Spelling.{column_length, is_column, is_spelling}
 use Rattle.mesa_filter.specs.declared.terms.Term.{Term}
 use Rattle.mesa_filter.specs.Walk.{all_meet, behind_first, column_meets, column_reaches, first_value, is_whole, may_meet_from}
+use Rattle.mesa_filter.specs.Seen.{is_value}
+use Rattle.mesa_filter.proofs.TextEnds.{whole_value}
 use Rattle.mesa_filter.proofs.Walks.{both, whole_column}
 
 -- the columns from i on: the one at i and the others
@@ -26,6 +28,16 @@ spelled_on kinds i d rest more l e h =
     let kind = get_or kinds i d in
     ap (is_spelling (drop (i + 1) kinds)) e
     ∙ (both (is_column kind (take (column_length kind rest) rest)) (is_spelling (drop (i + 1) kinds) (drop (column_length kind rest) rest)) (ap (λ ks. is_spelling ks rest) (sym (from kinds i d l)) ∙ h)).1
+
+-- The columns from one on are spelled where it stands there whole, is a value, and the others are spelled.
+pub column_spelled : (kinds : List KeyType) (i : ℕ) (d : KeyType) (rest more : List ℕ) (value : KeyValue) (whole allowed all : Bool) → i < length kinds → whole ≡ is_whole (get_or kinds i d) rest → value ≡ first_value (get_or kinds i d) rest → more ≡ behind_first (get_or kinds i d) rest → is_value value ≡ allowed
+    → is_spelling (drop i kinds) rest ≡ all → ((whole && allowed) && is_spelling (drop (i + 1) kinds) more) ≡ all
+column_spelled kinds i d rest more value whole allowed all l w v m a before =
+    ap (λ t. (t && allowed) && is_spelling (drop (i + 1) kinds) more) w
+    ∙ ap (λ t. (is_whole (get_or kinds i d) rest && t) && is_spelling (drop (i + 1) kinds) more) (sym a ∙ ap is_value v)
+    ∙ ap (λ t. t && is_spelling (drop (i + 1) kinds) more) (sym (whole_value (get_or kinds i d) rest))
+    ∙ ap (λ bytes. is_column (get_or kinds i d) (take (column_length (get_or kinds i d) rest) rest) && is_spelling (drop (i + 1) kinds) bytes) m
+    ∙ ap (λ ks. is_spelling ks rest) (sym (from kinds i d l)) ∙ before
 
 -- a column's value and what is left, in the code's words
 one_met : (kinds : List KeyType) (i : ℕ) (d : KeyType) (terms : List Term) (rest : List ℕ) (value : KeyValue) (met all : Bool) → i < length kinds → value ≡ first_value (get_or kinds i d) rest → column_meets i value terms ≡ met

@@ -48,11 +48,11 @@ lists_all_keys s columns = list_all (λ place. list_any (λ c. c == place) colum
 abbrev pub replace_asked : Columns → List ℕ → List ℕ → Option ValueColumn
 replace_asked s columns values = if lists_all_keys s columns then None else find is_replace (chosen values s.values)
 
-abbrev refuse_replace : Option ValueColumn → Result (Unit {0}) QueryError
+abbrev pub refuse_replace : Option ValueColumn → Result (Unit {0}) QueryError
 refuse_replace None = Ok tt
 refuse_replace (Some column) = Err (ReplaceGroup column.name)
 
-abbrev filter_refusal : FilterError → QueryError
+abbrev pub filter_refusal : FilterError → QueryError
 filter_refusal (fault.NoColumn term) = NoColumn
 filter_refusal (fault.BadLiteral term) = BadFilter term
 filter_refusal (fault.BadForm term) = BadFilter term

@@ -4,3 +4,4 @@ pub mod Asked
 pub mod Resume
 pub mod Walk
 pub mod Seen
+pub mod Query

@@ -3,6 +3,7 @@ use Rattle.std.specs.Prelude.{ℕ, List, [], ◌∷◌, ◌++◌, length, drop, 
 use Rattle.std.specs.List.{join_with_byte, starts_with}
 use Rattle.std.specs.Option.{ok_or}
 use Rattle.mesa_list.specs.Checks.{◌>>=◌, ◌>>◌, refuse_unless}
+use Rattle.mesa_key.specs.declared.KeyType.{KeyType}
 use Rattle.mesa_key.specs.Spelling.{is_spelling}
 use Rattle.mesa_schema.specs.Columns.{Columns, key_names, kinds_of, chosen}
 use Rattle.mesa_filter.specs.declared.words.QueryError.{QueryError}
@@ -14,16 +15,19 @@ abbrev pub resume_prefix : Columns → List ℕ → ℕ → ℕ → List ℕ →
 resume_prefix s relation version epoch columns =
     relation ++ 47 ∷ decimal version ++ 47 ∷ decimal epoch ++ 47 ∷ join_with_byte 59 (chosen columns (key_names s)) ++ 47 ∷ []
 
-abbrev group_key_of : Columns → List ℕ → Option (List ℕ) → Option (List ℕ)
-group_key_of s columns None = None
-group_key_of s columns (Some key) = if is_spelling (chosen columns (kinds_of s)) key then Some key else None
+-- the bytes, where they spell a key of these types
+abbrev group_key_of : List KeyType → Option (List ℕ) → Option (List ℕ)
+group_key_of kinds None = None
+group_key_of kinds (Some key) = if is_spelling kinds key then Some key else None
+
+-- the key of these types whose hexadecimal stands behind a prefix, none where no resume key is asked
+abbrev pub resume_behind : List KeyType → List ℕ → List ℕ → Result (Option (List ℕ)) QueryError
+resume_behind kinds prefix [] = Ok None
+resume_behind kinds prefix (b ∷ words) = do
+  refuse_unless (starts_with nat_eq (b ∷ words) prefix) BadResume
+  key ← ok_or (group_key_of kinds (bytes_of_hex (drop (length prefix) (b ∷ words)))) BadResume
+  Ok (Some key)
 
 -- The group key after which a page begins, none where no resume key is asked: the first four parts are this query's own, the last is the hexadecimal of a group key.
 abbrev pub resume_of : Columns → List ℕ → ℕ → ℕ → List ℕ → List ℕ → Result (Option (List ℕ)) QueryError
-resume_of s relation version epoch columns [] = Ok None
-resume_of s relation version epoch columns (b ∷ words) =
-    let prefix = resume_prefix s relation version epoch columns in
-    do
-      refuse_unless (starts_with nat_eq (b ∷ words) prefix) BadResume
-      key ← ok_or (group_key_of s columns (bytes_of_hex (drop (length prefix) (b ∷ words)))) BadResume
-      Ok (Some key)
+resume_of s relation version epoch columns words = resume_behind (chosen columns (kinds_of s)) (resume_prefix s relation version epoch columns) words

@@ -3,11 +3,12 @@ ghost use Rattle.std.specs.Prelude.{◌≡◌, IfSome, is_some};
 ghost use Rattle.std.specs.Ordering.{is_eq};
 ghost use Rattle.mesa_key.specs.Order.{value_cmp};
 ghost use Rattle.mesa_key.specs.declared.KeyType.TheVariants as types;
-ghost use Rattle.mesa_filter.specs.Seen.{seen};
+ghost use Rattle.mesa_key.specs.Spelling.{is_spelling};
+ghost use Rattle.mesa_filter.specs.Seen.{is_value, seen};
 ghost use Rattle.mesa_filter.specs.Walk.{behind_first, first_value, is_whole};
 
 use crate::literals::place_of_byte;
-use mesa_key::{KeyType, KeyValue};
+use mesa_key::{KeyText, KeyType, KeyValue};
 use std::cmp::Ordering;
 
 /// The value of a column of an encoded key; a text is lent by the key.
@@ -27,6 +28,16 @@ impl<'a> Column<'a> {
             (Column::Text(a), KeyValue::Text(b)) => a.cmp(b.as_bytes()),
             (Column::Int(_), KeyValue::Text(_)) => Ordering::Less,
             (Column::Text(_), KeyValue::Int(_)) => Ordering::Greater,
+        }
+    }
+
+    // Whether this is a value of its type: a text may be too long, or no text.
+    fn is_allowed(self) -> bool
+        ensures { result ≡ is_value (seen self.entry) }
+    {
+        match self {
+            Column::Int(_) => true,
+            Column::Text(bytes) => KeyText::allows(bytes),
         }
     }
 
@@ -78,4 +89,21 @@ fn first_text(bytes: &[u8]) -> Option<(Column, &[u8])>
         return None;
     };
     Some((Column::Text(&bytes[..end]), &bytes[end + 1..]))
+}
+
+// Whether the bytes spell a key of these types, with nothing left over.
+pub(crate) fn spells_key(kinds: &[KeyType], bytes: &[u8]) -> bool
+    ensures { result ≡ is_spelling kinds.now bytes.now }
+{
+    let mut rest = bytes;
+    for kind in kinds {
+        let Some((column, after)) = first_column(*kind, rest) else {
+            return false;
+        };
+        if !column.is_allowed() {
+            return false;
+        }
+        rest = after;
+    }
+    rest.is_empty()
 }

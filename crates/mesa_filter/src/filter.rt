@@ -9,7 +9,7 @@ use crate::matching::{columns_may_meet, columns_meet};
 use crate::parsing::terms;
 use crate::{FilterError, Term};
 use mesa_key::KeyType;
-use mesa_list::Items;
+use mesa_list::{Items, TryCopy};
 use mesa_schema::Schema;
 use std::alloc::{AllocError, Global};
 use std::marker::Model;
@@ -44,6 +44,13 @@ impl Filter {
         Ok(Filter { kinds, terms })
     }
 
+    /// The types of the key columns that the filter was read for.
+    pub(crate) fn kinds(&self) -> &[KeyType]
+        ensures { result.now ≡ self.now.kinds }
+    {
+        self.kinds.as_slice()
+    }
+
     /// Whether a key meets the filter: an encoded key of the columns that the filter was read for. Nothing of it is copied.
     pub fn matches(&self, key: &[u8]) -> bool
         requires { IsTrue (is_spelling self.now.kinds key.now) }
@@ -63,6 +70,15 @@ impl Filter {
             low,
             high,
         )
+    }
+}
+
+impl TryCopy for Filter {
+    fn copy(&self) -> Result<Self, AllocError> {
+        Ok(Filter {
+            kinds: self.kinds.copy()?,
+            terms: self.terms.copy()?,
+        })
     }
 }
 

@@ -1,14 +1,20 @@
 //! What a query asks: filters, columns, versions and resume keys.
 #![tactic(auto)]
 
+mod asking;
 mod columns;
+mod columns_asked;
+mod copies;
 mod filter;
 mod literals;
 mod matching;
 mod parsing;
+mod query;
+mod resuming;
 mod terms;
 mod words;
 
 pub use filter::Filter;
+pub use query::Query;
 pub use terms::{Comparison, FilterError, Term};
 pub use words::{QueryError, QueryWords, VersionWord};

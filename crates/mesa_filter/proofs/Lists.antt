@@ -1,0 +1,31 @@
+-- Lists that are read one element after the other.
+use Rattle.std.proofs.Common.{◌≡◌, ℕ, ◌+◌, ◌<◌, List, [], ◌∷◌, ◌++◌, length, drop, map, get_or, suc, Bool, true, refl, sym, ◌∙◌, ap, append_assoc, drop-cons, add-one, Option, Some, None, Result, Ok, Err}
+use Rattle.std.specs.Prelude.{◌&&◌, nat_lt, slice_get}
+use Rattle.std.specs.List.{cons_option, list_all}
+use Rattle.std.proofs.lemmas.List.Folds.{list_all-append}
+use Rattle.mesa_list.specs.Checks.{◌>>=◌, each_of}
+use Rattle.mesa_schema.specs.Columns.{chosen}
+
+-- what was read goes before what is to come
+abbrev pub ahead : {A E : Type 0} → List A → Result (List A) E → Result (List A) E
+ahead found more = more >>= (λ xs. Ok (found ++ xs))
+
+-- one more was read
+pub ahead_more : {A E : Type 0} (found : List A) (x : A) (more : Result (List A) E) → ahead (found ++ x ∷ []) more ≡ ahead found (more >>= (λ xs. Ok (x ∷ xs)))
+ahead_more found x (Ok xs) = ap Ok (append_assoc found (x ∷ []) xs)
+ahead_more found x (Err e) = refl
+
+-- the first of a list is read, and then the others, or is refused
+pub each_read : {A B E : Type 0} (f : A → Result B E) (x : A) (xs : List A) (y : B) → f x ≡ Ok y → each_of f (x ∷ xs) ≡ (each_of f xs >>= (λ ys. Ok (y ∷ ys)))
+each_read f x xs y e = rw e refl
+
+pub each_refused : {A B E : Type 0} (f : A → Result B E) (x : A) (xs : List A) (e : E) → f x ≡ Err e → each_of f (x ∷ xs) ≡ Err e
+each_refused f x xs e r = rw r refl
+
+-- a test that each passes, and one more does
+pub all_pass_more : {A : Type 0} (test : A → Bool) (found : List A) (x : A) → list_all test found ≡ true → test x ≡ true → list_all test (found ++ x ∷ []) ≡ true
+all_pass_more test found x h t = list_all-append test found (x ∷ []) ∙ rw (h, t) refl
+
+-- the element at i and those behind it
+pub from_place : {A : Type 0} (xs : List A) (i : ℕ) (x : A) → i < length xs → x ≡ get_or xs i x → drop i xs ≡ x ∷ drop (i + 1) xs
+from_place xs i x l e = drop-cons xs i x l ∙ ap (λ y. y ∷ drop (suc i) xs) (sym e) ∙ ap (λ k. x ∷ drop k xs) (sym (add-one i))
