@@ -1,10 +1,8 @@
 -- Lists that are read one element after the other.
-use Rattle.std.proofs.Common.{◌≡◌, ℕ, ◌+◌, ◌<◌, List, [], ◌∷◌, ◌++◌, length, drop, map, get_or, suc, Bool, true, refl, sym, ◌∙◌, ap, append_assoc, drop-cons, add-one, Option, Some, None, Result, Ok, Err}
-use Rattle.std.specs.Prelude.{◌&&◌, nat_lt, slice_get}
-use Rattle.std.specs.List.{cons_option, list_all}
+use Rattle.std.proofs.Common.{◌≡◌, ℕ, ◌+◌, ◌<◌, List, [], ◌∷◌, ◌++◌, length, drop, get_or, suc, Bool, true, refl, sym, ◌∙◌, ap, append_assoc, drop-cons, add-one, Result, Ok, Err}
+use Rattle.std.specs.List.{list_all}
 use Rattle.std.proofs.lemmas.List.Folds.{list_all-append}
 use Rattle.mesa_list.specs.Checks.{◌>>=◌, each_of}
-use Rattle.mesa_schema.specs.Columns.{chosen}
 
 -- what was read goes before what is to come
 abbrev pub ahead : {A E : Type 0} → List A → Result (List A) E → Result (List A) E

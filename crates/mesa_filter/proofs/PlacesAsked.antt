@@ -1,7 +1,7 @@
 -- Columns that are asked by their names or places, one after the other.
-use Rattle.std.proofs.Common.{◌≡◌, ℕ, zero, suc, ◌+◌, ◌<◌, ◌≤◌, List, [], ◌∷◌, ◌++◌, length, drop, map, get_or, Bool, true, false, cond, refl, sym, ◌∙◌, ap, append_assoc, add-one, drop-cons, arith, Option, Some, None, Result, Ok, Err}
+use Rattle.std.proofs.Common.{◌≡◌, ℕ, zero, suc, ◌+◌, ◌<◌, ◌≤◌, List, [], ◌∷◌, ◌++◌, length, drop, map, get_or, Bool, true, false, cond, refl, sym, ◌∙◌, ap, append_assoc, add-one, drop-cons, arith, Option, Some, None}
 use Rattle.std.specs.Prelude.{◌&&◌, ◌==◌, find, nat_lt, option_map, slice_get}
-use Rattle.std.specs.List.{cons_option, enumerate_from, list_all, list_any}
+use Rattle.std.specs.List.{cons_option, enumerate_from, list_all}
 use Rattle.std.proofs.Math.ListN.{drop_of_length-le}
 use Rattle.std.proofs.lemmas.Bool.{ltb-false, ltb-true}
 use Rattle.std.proofs.lemmas.List.Sums.{AllPass-from_list_all}

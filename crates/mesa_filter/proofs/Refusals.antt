@@ -1,9 +1,8 @@
 -- Checks of a query never refuse its resume key.
-use Rattle.std.proofs.Common.{◌≡◌, ◌≢◌, ℕ, List, [], ◌∷◌, Bool, true, false, cond, refl, sym, ◌∙◌, ap, subst, Option, Some, None, Result, Ok, Err}
-use Rattle.std.specs.Prelude.{◌==◌}
+use Rattle.std.proofs.Common.{◌≡◌, ◌≢◌, ℕ, List, [], ◌∷◌, true, false, cond, sym, ◌∙◌, subst, Option, Some, None, Result, Ok, Err}
 use Rattle.std.specs.Option.{ok_or}
 use Rattle.mesa_list.specs.Bytes.{same_bytes}
-use Rattle.mesa_list.specs.Checks.{◌>>=◌, ◌>>◌, each_of, refused_as}
+use Rattle.mesa_list.specs.Checks.{◌>>=◌, ◌>>◌, refused_as}
 use Rattle.mesa_list.specs.Split.{entries_of}
 use Rattle.mesa_schema.specs.declared.columns.ValueColumn.{ValueColumn}
 use Rattle.mesa_schema.specs.Columns.{Columns, key_names, value_names, place_of}
@@ -13,7 +12,7 @@ use Rattle.mesa_filter.specs.declared.words.QueryWords.{QueryWords}
 use Rattle.mesa_filter.specs.declared.words.QueryError.{QueryError}
 use Rattle.mesa_filter.specs.declared.words.QueryError.TheVariants.{NoColumn, BadResume, Memory}
 use Rattle.mesa_filter.specs.Filter.{filter_of}
-use Rattle.mesa_filter.specs.Asked.{Asked, asked_of, filter_refusal, group_columns, places_of, refuse_replace, replace_asked, value_columns}
+use Rattle.mesa_filter.specs.Asked.{asked_of, filter_refusal, group_columns, places_of, refuse_replace, replace_asked, value_columns}
 
 -- no refusal of the resume key
 abbrev Other : {A : Type 0} → Result A QueryError → Type 0

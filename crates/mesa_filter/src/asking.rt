@@ -7,7 +7,7 @@ ghost use Rattle.mesa_schema.specs.Views.{is_replace as replaces};
 ghost use Rattle.mesa_filter.specs.Asked.{asked_of, filter_refusal, lists_all_keys as lists_keys, replace_asked as replace_among};
 ghost use Rattle.mesa_filter.specs.Query.{are_places};
 
-use crate::columns_asked::{Places, copy_of, group_columns, value_columns};
+use crate::places::{Places, copy_of, group_places, value_places};
 use crate::{Filter, FilterError, QueryError, QueryWords};
 use mesa_list::TryCopy;
 use mesa_schema::{Schema, ValueColumn};
@@ -71,8 +71,8 @@ pub(crate) fn what_is_asked(
     ensures replace { IfOk result (λ a. replace_among schema.now a.columns a.values ≡ None) }
     ensures refused { IfErr result (λ e. e ≢ QueryError.Memory → asked_of schema.now words.now ≡ Err e) }
 {
-    let columns = group_columns(alloc, schema, words.group.as_slice())?;
-    let values = value_columns(alloc, schema, words.values.as_slice())?;
+    let columns = group_places(alloc, schema, words.group.as_slice())?;
+    let values = value_places(alloc, schema, words.values.as_slice())?;
     if let Some(column) = replace_asked(schema, columns.as_slice(), values.as_slice()) {
         let column = column.name.copy()?;
         return Err(QueryError::ReplaceGroup { column });

@@ -3,12 +3,12 @@
 
 mod asking;
 mod columns;
-mod columns_asked;
 mod copies;
 mod filter;
 mod literals;
 mod matching;
 mod parsing;
+mod places;
 mod query;
 mod resuming;
 mod terms;

@@ -1,9 +1,9 @@
 // Queries.
 ghost use Rattle.std.specs.Prelude.{◌≡◌, ◌≢◌, IsTrue, IfOk, IfErr, OnOk, IsOk, Ok, Err, None, Some, MatchOption};
 ghost use Rattle.mesa_schema.specs.Columns.{chosen};
-ghost use Rattle.mesa_filter.specs.Asked.{asked_of, replace_asked};
+ghost use Rattle.mesa_filter.specs.Asked.{asked_of};
 ghost use Rattle.mesa_filter.specs.Resume.{resume_of};
-ghost use Rattle.mesa_filter.specs.Query.{are_places, built, group_kinds as kinds_grouped, query_of};
+ghost use Rattle.mesa_filter.specs.Query.{IsQueryOf, built, group_kinds as kinds_grouped, query_of};
 
 use crate::asking::{Asking, what_is_asked};
 use crate::resuming::{prefix, resume_key};
@@ -60,11 +60,7 @@ impl Query {
         ensures asked { IfOk result (λ q. asked_of schema.now words.now ≡ Ok q.asked) }
         ensures resume { IfOk result (λ q. resume_of schema.now relation.now version epoch q.asked.columns words.now.resume ≡ Ok q.resume) }
         ensures built { IfOk result (λ q. q ≡ built schema.now relation.now version epoch words.now q.asked q.resume) }
-
-        // The places are those of columns, and no replace column is asked without every key column.
-        ensures columns { IfOk result (λ q. IsTrue (are_places schema.now.keys q.asked.columns)) }
-        ensures values { IfOk result (λ q. IsTrue (are_places schema.now.values q.asked.values)) }
-        ensures replace { IfOk result (λ q. replace_asked schema.now q.asked.columns q.asked.values ≡ None) }
+        ensures sound { IfOk result (λ q. IsQueryOf schema.now q) }
         ensures refused { IfErr result (λ e. e ≢ QueryError.Memory → query_of schema.now relation.now version epoch words.now ≡ Err e) }
     {
         let asking = what_is_asked(alloc, schema, words)?;

@@ -1,4 +1,4 @@
-use Rattle.std.proofs.Common.{◌∙◌, ◌<◌, sym, ap, arith, length, refl}
+use Rattle.std.proofs.Common.{◌∙◌, sym, ap, arith, length, refl}
 use Rattle.std.specs.Prelude.{◌==◌}
 use Rattle.std.specs.List.{list_any}
 use Rattle.mesa_filter.proofs.PlacesAsked.{all_listed, key_listed}

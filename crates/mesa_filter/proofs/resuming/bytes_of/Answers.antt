@@ -1,4 +1,4 @@
-use Rattle.std.proofs.Common.{◌≡◌, ◌∙◌, sym, ap, inl, inr, Some, true}
+use Rattle.std.proofs.Common.{◌∙◌, sym, ap, inl, inr, Some}
 use Rattle.mesa_filter.proofs.HexDigits.{bytes_read, none_read, not_lower}
 use Rattle.mesa_filter.proofs.resuming.bytes_of.Goals as goal
 

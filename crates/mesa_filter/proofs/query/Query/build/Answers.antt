@@ -1,4 +1,3 @@
-use Rattle.std.proofs.Common.{◌∙◌, sym, ap}
 use Rattle.std.proofs.lemmas.Result.{err_from_is_err_and}
 use Rattle.mesa_filter.proofs.ResumeKeys.{own_resume, resume_refused}
 use Rattle.mesa_filter.proofs.query.Query.build.Goals as goal

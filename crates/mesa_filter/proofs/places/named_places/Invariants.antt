@@ -3,7 +3,7 @@ use Rattle.mesa_list.specs.Split.{split_at}
 use Rattle.mesa_filter.specs.Asked.{places_of}
 use Rattle.mesa_filter.specs.Query.{are_places}
 use Rattle.mesa_filter.proofs.Lists.{ahead}
-use Rattle.mesa_filter.proofs.columns_asked.places.Given as goal
+use Rattle.mesa_filter.proofs.places.named_places.Given as goal
 
 -- the places so far and those of the names that are left are all
 abbrev pub invariant-names : goal.invariant-names

@@ -2,7 +2,7 @@ use Rattle.std.proofs.Common.{◌≡◌, ◌++◌, drop, map, true}
 use Rattle.std.specs.List.{enumerate_from}
 use Rattle.mesa_filter.specs.Asked.{places_below}
 use Rattle.mesa_filter.specs.Query.{are_places}
-use Rattle.mesa_filter.proofs.columns_asked.all_places.Given as goal
+use Rattle.mesa_filter.proofs.places.all_places.Given as goal
 
 -- the places so far and those of the columns that are left are all
 abbrev pub invariant-loop-place : goal.invariant-loop-place

@@ -1,11 +1,11 @@
-use Rattle.std.proofs.Common.{◌∙◌, ◌++◌, ◌∷◌, [], ap, map, drop, ◌+◌, length}
+use Rattle.std.proofs.Common.{◌∙◌, ◌++◌, ap, map, drop, ◌+◌, length}
 use Rattle.std.specs.Prelude.{nat_lt}
 use Rattle.std.specs.List.{enumerate_from}
 use Rattle.std.proofs.lemmas.Bool.{lt-ltb}
 use Rattle.mesa_filter.specs.Query.{are_places}
 use Rattle.mesa_filter.proofs.Lists.{all_pass_more}
 use Rattle.mesa_filter.proofs.PlacesAsked.{one_place}
-use Rattle.mesa_filter.proofs.columns_asked.all_places.Goals as goal
+use Rattle.mesa_filter.proofs.places.all_places.Goals as goal
 
 pub loop-place-preserved : goal.loop-place-preserved
 loop-place-preserved g c = record {

@@ -1,9 +1,9 @@
-// The columns that a query asks, by their names.
+// The places of the columns that a query asks.
 ghost use Rattle.std.specs.Prelude.{◌≡◌, ◌≢◌, ◌≤◌, ◌<◌, IsTrue, IfOk, IfErr, length, map, Ok, Err};
 ghost use Rattle.std.specs.Option.{ok_or};
 ghost use Rattle.mesa_list.specs.Split.{split_at};
 ghost use Rattle.mesa_schema.specs.Columns.{place_of as place_among};
-ghost use Rattle.mesa_filter.specs.Asked.{group_columns as group_places, places_below, places_of, value_columns as value_places};
+ghost use Rattle.mesa_filter.specs.Asked.{group_columns, places_below, places_of, value_columns};
 ghost use Rattle.mesa_filter.specs.Query.{are_places};
 
 use crate::QueryError;
@@ -16,14 +16,14 @@ use std::alloc::{AllocError, Global};
 pub(crate) type Places = Items<u16>;
 
 // The places of the group columns: no words ask for all key columns, and `-` for none.
-pub(crate) fn group_columns(
+pub(crate) fn group_places(
     alloc: Global,
     schema: &Schema,
     words: &[u8],
 ) -> Result<Places, QueryError>
-    ensures read { IfOk result (λ places. group_places schema.now words.now ≡ Ok places) }
+    ensures read { IfOk result (λ places. group_columns schema.now words.now ≡ Ok places) }
     ensures within { IfOk result (λ places. IsTrue (are_places schema.now.keys places)) }
-    ensures refused { IfErr result (λ e. e ≢ QueryError.Memory → group_places schema.now words.now ≡ Err e) }
+    ensures refused { IfErr result (λ e. e ≢ QueryError.Memory → group_columns schema.now words.now ≡ Err e) }
 {
     let columns = schema.keys();
     if words.is_empty() {
@@ -32,24 +32,24 @@ pub(crate) fn group_columns(
     if words == b"-".as_slice() {
         return Ok(Items::new(alloc));
     }
-    places(alloc, columns, words)
+    named_places(alloc, columns, words)
 }
 
 // The places of the value columns: no words ask for all.
-pub(crate) fn value_columns(
+pub(crate) fn value_places(
     alloc: Global,
     schema: &Schema,
     words: &[u8],
 ) -> Result<Places, QueryError>
-    ensures read { IfOk result (λ places. value_places schema.now words.now ≡ Ok places) }
+    ensures read { IfOk result (λ places. value_columns schema.now words.now ≡ Ok places) }
     ensures within { IfOk result (λ places. IsTrue (are_places schema.now.values places)) }
-    ensures refused { IfErr result (λ e. e ≢ QueryError.Memory → value_places schema.now words.now ≡ Err e) }
+    ensures refused { IfErr result (λ e. e ≢ QueryError.Memory → value_columns schema.now words.now ≡ Err e) }
 {
     let columns = schema.values();
     if words.is_empty() {
         return Ok(all_places(alloc, columns)?);
     }
-    places(alloc, columns, words)
+    named_places(alloc, columns, words)
 }
 
 // A copy of places.
@@ -73,7 +73,7 @@ fn all_places<N: Drop>(alloc: Global, columns: &[N]) -> Result<Places, AllocErro
 }
 
 // The places of the columns that a list of names, separated by `;`, asks.
-fn places<N: Named>(alloc: Global, columns: &[N], words: &[u8]) -> Result<Places, QueryError>
+fn named_places<N: Named>(alloc: Global, columns: &[N], words: &[u8]) -> Result<Places, QueryError>
     requires { length columns.now ≤ 16 }
     ensures read { IfOk result (λ places. places_of (map N.name_of columns.now) (split_at 59 words.now) ≡ Ok places) }
     ensures within { IfOk result (λ places. IsTrue (are_places columns.now places)) }
@@ -82,15 +82,15 @@ fn places<N: Named>(alloc: Global, columns: &[N], words: &[u8]) -> Result<Places
     let mut places = Items::new(alloc);
     let mut rest = words;
     'names: while let Some((name, after)) = first_part(b';', rest) {
-        places.push(place(columns, name)?)?;
+        places.push(named_place(columns, name)?)?;
         rest = after;
     }
-    places.push(place(columns, rest)?)?;
+    places.push(named_place(columns, rest)?)?;
     Ok(places)
 }
 
 // The place of the column of a name.
-fn place<N: Named>(columns: &[N], name: &[u8]) -> Result<u16, QueryError>
+fn named_place<N: Named>(columns: &[N], name: &[u8]) -> Result<u16, QueryError>
     requires { length columns.now ≤ 16 }
     ensures found { result ≡ ok_or (place_among name.now (map N.name_of columns.now)) QueryError.NoColumn }
     ensures within { IfOk result (λ place. place < length columns.now) }
