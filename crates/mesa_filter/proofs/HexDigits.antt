@@ -61,7 +61,7 @@ pairs_read i (a ∷ b ∷ rest) h =
     rw (same_digit a first.0, same_digit b second.0) (pair_read a b i (hex_value a) (hex_value b) (decode_pairs (i + 2) rest) (bytes_of_hex rest) first.0 second.0 (pairs_read (i + 2) rest second.1))
 
 -- Lower case digits are read by the crate.
-pub lower_read : (digits : List ℕ) → list_all is_lower_digit digits ≡ true → bytes_of_hex digits ≡ read (decode_of digits)
+lower_read : (digits : List ℕ) → list_all is_lower_digit digits ≡ true → bytes_of_hex digits ≡ read (decode_of digits)
 lower_read digits h =
     elim (length digits % 2 == 1) as (λ t. (length digits % 2 == 1) ≡ t → bytes_of_hex digits ≡ read (cond t (Err OddLength) (decode_pairs 0 digits))) [
       | true ↦ λ odd. odd_none digits (eqb-true (length digits % 2) 1 odd)

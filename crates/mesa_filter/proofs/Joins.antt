@@ -7,7 +7,7 @@ abbrev pub behind : List (List ℕ) → List ℕ
 behind [] = []
 behind (name ∷ names) = 59 ∷ (name ++ behind names)
 
-pub join-first : (name : List ℕ) (names : List (List ℕ)) → join_with_byte 59 (name ∷ names) ≡ name ++ behind names
+join-first : (name : List ℕ) (names : List (List ℕ)) → join_with_byte 59 (name ∷ names) ≡ name ++ behind names
 join-first name [] = sym (append-nil name)
 join-first name (next ∷ names) = ap (λ xs. name ++ (59 ∷ xs)) (join-first next names)
 
@@ -17,11 +17,11 @@ rest_from zero names = join_with_byte 59 names
 rest_from (suc i) names = behind names
 
 -- The first name,
-pub first_name : (text name : List ℕ) (names : List (List ℕ)) → (text ++ name) ++ rest_from (0 + 1) names ≡ text ++ rest_from 0 (name ∷ names)
+first_name : (text name : List ℕ) (names : List (List ℕ)) → (text ++ name) ++ rest_from (0 + 1) names ≡ text ++ rest_from 0 (name ∷ names)
 first_name text name names = append_assoc text name (behind names) ∙ ap (λ xs. text ++ xs) (sym (join-first name names))
 
 -- and a later one.
-pub later_name : (i : ℕ) (text name : List ℕ) (names : List (List ℕ)) → 0 < i → ((text ++ 59 ∷ []) ++ name) ++ rest_from (i + 1) names ≡ text ++ rest_from i (name ∷ names)
+later_name : (i : ℕ) (text name : List ℕ) (names : List (List ℕ)) → 0 < i → ((text ++ 59 ∷ []) ++ name) ++ rest_from (i + 1) names ≡ text ++ rest_from i (name ∷ names)
 later_name zero text name names l = absurd (omega arith)
 later_name (suc i) text name names l =
     ap (λ k. ((text ++ 59 ∷ []) ++ name) ++ rest_from k names) (add-one (suc i))

@@ -1,24 +1,12 @@
 -- Lists that are read one element after the other.
-use Rattle.std.proofs.Common.{◌≡◌, ℕ, ◌+◌, ◌<◌, List, [], ◌∷◌, ◌++◌, length, drop, get_or, suc, Bool, true, refl, sym, ◌∙◌, ap, append_assoc, drop-cons, add-one, Result, Ok, Err}
+use Rattle.std.proofs.Common.{◌≡◌, ℕ, ◌+◌, ◌<◌, List, [], ◌∷◌, ◌++◌, length, drop, get_or, suc, Bool, true, refl, sym, ◌∙◌, ap, drop-cons, add-one, Result, Ok}
 use Rattle.std.specs.List.{list_all}
 use Rattle.std.proofs.lemmas.List.Folds.{list_all-append}
-use Rattle.mesa_list.specs.Checks.{◌>>=◌, each_of}
+use Rattle.mesa_list.specs.Checks.{◌>>=◌}
 
 -- what was read goes before what is to come
 abbrev pub ahead : {A E : Type 0} → List A → Result (List A) E → Result (List A) E
 ahead found more = more >>= (λ xs. Ok (found ++ xs))
-
--- one more was read
-pub ahead_more : {A E : Type 0} (found : List A) (x : A) (more : Result (List A) E) → ahead (found ++ x ∷ []) more ≡ ahead found (more >>= (λ xs. Ok (x ∷ xs)))
-ahead_more found x (Ok xs) = ap Ok (append_assoc found (x ∷ []) xs)
-ahead_more found x (Err e) = refl
-
--- the first of a list is read, and then the others, or is refused
-pub each_read : {A B E : Type 0} (f : A → Result B E) (x : A) (xs : List A) (y : B) → f x ≡ Ok y → each_of f (x ∷ xs) ≡ (each_of f xs >>= (λ ys. Ok (y ∷ ys)))
-each_read f x xs y e = rw e refl
-
-pub each_refused : {A B E : Type 0} (f : A → Result B E) (x : A) (xs : List A) (e : E) → f x ≡ Err e → each_of f (x ∷ xs) ≡ Err e
-each_refused f x xs e r = rw r refl
 
 -- a test that each passes, and one more does
 pub all_pass_more : {A : Type 0} (test : A → Bool) (found : List A) (x : A) → list_all test found ≡ true → test x ≡ true → list_all test (found ++ x ∷ []) ≡ true

@@ -10,19 +10,15 @@ use Rattle.mesa_list.specs.Bytes.{same_bytes}
 use Rattle.mesa_list.specs.Split.{split_at}
 use Rattle.mesa_schema.specs.declared.columns.KeyColumn.{KeyColumn}
 use Rattle.mesa_schema.specs.declared.columns.ValueColumn.{ValueColumn}
-use Rattle.mesa_schema.specs.Columns.{Columns, chosen, key_names, value_names}
+use Rattle.mesa_schema.specs.Columns.{Columns, chosen, key_names}
 use Rattle.mesa_schema.specs.Views.{is_replace}
-use Rattle.mesa_filter.specs.Asked.{group_columns, places_of, value_columns}
+use Rattle.mesa_filter.specs.Asked.{group_columns, places_of}
 use Rattle.mesa_filter.specs.Query.{are_places}
 
 -- names that are asked, and not `-`
 pub group_named : (s : Columns) (words : List ℕ) → (length words == 0) ≡ false → same_bytes words (45 ∷ []) ≡ false → group_columns s words ≡ places_of (key_names s) (split_at 59 words)
 group_named s [] h n = cc
 group_named s (b ∷ words) h n = rw n refl
-
-pub values_named : (s : Columns) (words : List ℕ) → (length words == 0) ≡ false → value_columns s words ≡ places_of (value_names s) (split_at 59 words)
-values_named s [] h = cc
-values_named s (b ∷ words) h = refl
 
 later : (i : ℕ) → suc (i + 1) ≡ suc i + 1
 later i = omega arith

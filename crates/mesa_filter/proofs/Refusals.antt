@@ -63,7 +63,7 @@ asks s words =
     next (refuse_replace (replace_asked s columns places)) _ (replaces (replace_asked s columns places)) (then (refused_as filter_refusal (filter_of s words.filter)) _ (filters (filter_of s words.filter)) (λ terms. tt))))
 
 -- What is asked is never refused for its resume key.
-pub never_resume : (s : Columns) (words : QueryWords) (e : QueryError) → asked_of s words ≡ Err e → e ≢ BadResume
+never_resume : (s : Columns) (words : QueryWords) (e : QueryError) → asked_of s words ≡ Err e → e ≢ BadResume
 never_resume s words e h = subst (λ r. Other r) h (asks s words)
 
 pub other_refusal : (s : Columns) (words : QueryWords) (e : QueryError) → (e ≢ Memory → asked_of s words ≡ Err e) → e ≢ BadResume

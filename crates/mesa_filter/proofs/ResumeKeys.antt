@@ -1,16 +1,14 @@
 -- Resume keys: their prefix, and the key behind it.
-use Rattle.std.proofs.Common.{◌≡◌, ℕ, List, [], ◌∷◌, length, take, drop, Bool, true, false, refl, sym, ◌∙◌, ap, Option, Some, None, Ok, Err}
+use Rattle.std.proofs.Common.{◌≡◌, ℕ, List, [], ◌∷◌, length, take, Bool, false, refl, sym, ◌∙◌, ap, Option, Ok, Err}
 use Rattle.std.specs.Prelude.{◌==◌, nat_eq}
 use Rattle.std.specs.List.{starts_with}
 use Rattle.std.proofs.lemmas.Cmp.{nat_list_eq_equiv}
 use lib.Pointwise.{pointwise}
 use Rattle.mesa_key.specs.declared.KeyType.{KeyType}
-use Rattle.mesa_key.specs.Spelling.{is_spelling}
 use Rattle.mesa_schema.specs.Columns.{Columns, chosen, kinds_of}
 use Rattle.mesa_filter.specs.declared.words.QueryWords.{QueryWords}
 use Rattle.mesa_filter.specs.declared.words.QueryError.{QueryError}
 use Rattle.mesa_filter.specs.declared.words.QueryError.TheVariants.{BadResume}
-use Rattle.mesa_filter.specs.Hex.{bytes_of_hex}
 use Rattle.mesa_filter.specs.Asked.{Asked, asked_of}
 use Rattle.mesa_filter.specs.Resume.{resume_behind, resume_of, resume_prefix}
 use Rattle.mesa_filter.specs.Query.{query_of}
@@ -18,27 +16,10 @@ use Rattle.mesa_filter.specs.Query.{query_of}
 begins : (prefix words : List ℕ) (t : Bool) → pointwise nat_eq (take (length prefix) words) prefix ≡ t → starts_with nat_eq words prefix ≡ t
 begins prefix words t e = nat_list_eq_equiv.symm prefix (take (length prefix) words) ∙ e
 
--- Another query's resume key,
+-- Another query's resume key.
 pub other_prefix : (kinds : List KeyType) (prefix words : List ℕ) → (length words == 0) ≡ false → pointwise nat_eq (take (length prefix) words) prefix ≡ false → resume_behind kinds prefix words ≡ Err BadResume
 other_prefix kinds prefix [] h e = cc
 other_prefix kinds prefix (b ∷ words) h e = rw (begins prefix (b ∷ words) false e) refl
-
--- one that is no lower case hexadecimal,
-pub no_hex : (kinds : List KeyType) (prefix words digits : List ℕ) → (length words == 0) ≡ false → pointwise nat_eq (take (length prefix) words) prefix ≡ true → digits ≡ drop (length prefix) words → bytes_of_hex digits ≡ None → resume_behind kinds prefix words ≡ Err BadResume
-no_hex kinds prefix [] digits h e d n = cc
-no_hex kinds prefix (b ∷ words) digits h e d n = let none = ap bytes_of_hex (sym d) ∙ n in rw (begins prefix (b ∷ words) true e, none) refl
-
--- one of another key,
-pub no_key : (kinds : List KeyType) (prefix words digits key : List ℕ) → (length words == 0) ≡ false → pointwise nat_eq (take (length prefix) words) prefix ≡ true → digits ≡ drop (length prefix) words → bytes_of_hex digits ≡ Some key → is_spelling kinds key ≡ false
-    → resume_behind kinds prefix words ≡ Err BadResume
-no_key kinds prefix [] digits key h e d k s = cc
-no_key kinds prefix (b ∷ words) digits key h e d k s = let found = ap bytes_of_hex (sym d) ∙ k in rw (begins prefix (b ∷ words) true e, found, s) refl
-
--- and one that is this query's own.
-pub own_key : (kinds : List KeyType) (prefix words digits key : List ℕ) → (length words == 0) ≡ false → pointwise nat_eq (take (length prefix) words) prefix ≡ true → digits ≡ drop (length prefix) words → bytes_of_hex digits ≡ Some key → is_spelling kinds key ≡ true
-    → resume_behind kinds prefix words ≡ Ok (Some key)
-own_key kinds prefix [] digits key h e d k s = cc
-own_key kinds prefix (b ∷ words) digits key h e d k s = let found = ap bytes_of_hex (sym d) ∙ k in rw (begins prefix (b ∷ words) true e, found, s) refl
 
 -- A resume key that is this query's own, in the code's words,
 pub own_resume : (s : Columns) (relation : List ℕ) (version epoch : ℕ) (words : QueryWords) (columns : List ℕ) (kinds : List KeyType) (prefix resume : List ℕ) (key : Option (List ℕ))
