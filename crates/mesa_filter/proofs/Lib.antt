@@ -4,10 +4,13 @@ pub mod HexDigits
 pub mod Joins
 pub mod Lists
 pub mod PlacesAsked
+pub mod Pruning
 pub mod Refusals
 pub mod ResumeKeys
+pub mod ShortColumns
 pub mod Splits
 pub mod Steps
 pub mod TextEnds
 pub mod Texts
+pub mod ValueOrder
 pub mod Walks

@@ -3,7 +3,9 @@ ghost use Rattle.std.specs.Prelude.{◌≡◌, ◌≢◌, IfOk, IfErr, IsTrue, t
 ghost use Rattle.mesa_key.specs.Spelling.{is_spelling, key_of};
 ghost use Rattle.mesa_schema.specs.Columns.{kinds_of};
 ghost use Rattle.mesa_filter.specs.Filter.{filter_of, meets};
+ghost use Rattle.std.specs.Bool.{OnFalse};
 ghost use Rattle.mesa_filter.specs.Walk.{may_meet_from};
+ghost use Rattle.mesa_filter.specs.Pruning.{NoneMeets};
 
 use crate::matching::{columns_may_meet, columns_meet};
 use crate::parsing::terms;
@@ -61,7 +63,8 @@ impl Filter {
 
     /// Whether a key may meet the filter that has the first `columns` key columns, where the short key of these lies from `low` to `high`, both included.
     pub fn may_meet(&self, columns: u8, low: &[u8; 16], high: &[u8; 16]) -> bool
-        ensures { result ≡ may_meet_from (take columns self.now.kinds) 0 self.now.terms low.now high.now }
+        ensures walk { result ≡ may_meet_from (take columns self.now.kinds) 0 self.now.terms low.now high.now }
+        ensures no_key_lost { OnFalse result (NoneMeets self.now.kinds columns self.now.terms low.now high.now) }
     {
         let count = self.kinds.len().min(columns as usize);
         columns_may_meet(
