@@ -1,0 +1,282 @@
+-- Reading a record: its fields from the left, each first for being whole and then for its meaning.
+use Rattle.std.specs.Prelude.{◌≡◌, ◌≢◌, ℕ, zero, suc, ◌+◌, ℤ, List, [], ◌∷◌, ◌++◌, length, take, drop, get_or, Bool, true, false, ◌==◌, nat_le, nat_lt, if◌then◌else◌, Option, None, Some, Result, Ok, Err}
+use Rattle.std.specs.Int.{w16, w32, w64, from_be_bytes, cast_signed}
+use Rattle.mesa_list.specs.Checks.{◌>>=◌}
+use Rattle.mesa_value.specs.declared.Agg.{Agg}
+use Rattle.mesa_value.specs.declared.Agg.TheVariants as agg
+use Rattle.mesa_key.specs.declared.KeyType.{KeyType}
+use Rattle.mesa_key.specs.declared.KeyType.TheVariants as kind
+use Rattle.mesa_key.specs.declared.KeyValue.{KeyValue}
+use Rattle.mesa_key.specs.declared.KeyValue.TheVariants as value
+use Rattle.mesa_key.specs.Text.{is_key_text}
+use Rattle.mesa_schema.specs.declared.columns.KeyColumn.{KeyColumn}
+use Rattle.mesa_schema.specs.declared.columns.ValueColumn.{ValueColumn}
+use Rattle.mesa_schema.specs.declared.changes.Change.{Change}
+use Rattle.mesa_schema.specs.declared.changes.Change.TheVariants.{AddValue, DropValue, AddKey}
+use Rattle.mesa_schema.specs.Names.{is_name}
+use Rattle.mesa_disk.specs.declared.file_ref.FileRef.{FileRef}
+use Rattle.mesa_record.specs.declared.error.RecordError.{RecordError}
+use Rattle.mesa_record.specs.declared.error.RecordError.TheVariants as fault
+use Rattle.mesa_record.specs.declared.record.Record.{Record}
+use Rattle.mesa_record.specs.declared.record.Record.TheVariants as record_of
+use Rattle.mesa_record.specs.declared.record.ViewRef.{ViewRef}
+use Rattle.mesa_record.specs.declared.record.Files.{Files}
+use Rattle.mesa_record.specs.declared.record.Part.{Part}
+use Rattle.mesa_record.specs.Rules.{is_count_of_columns}
+
+-- What is left of a record's bytes, and the place where it begins.
+pub record Left : Type 0 where
+  pub at : ℕ
+  pub bytes : List ℕ
+
+-- what reading a field gives: the field and what is left behind it, or a fault
+abbrev pub Read : Type 0 → Type 0
+Read A = Result (A × Left) RecordError
+
+-- What a function returned, seen by view, with what it left, is what reading gives, unless memory ran out.
+abbrev pub GivesAs : {X A : Type 0} → (X → A) → Result X RecordError → Left → Read A → Type 0
+GivesAs view (Ok x) left read = read ≡ Ok (view x, left)
+GivesAs view (Err e) left read = e ≢ fault.Memory → read ≡ Err e
+
+-- the same where nothing hides what was returned
+abbrev pub Gives : {A : Type 0} → Result A RecordError → Left → Read A → Type 0
+Gives (Ok x) left read = read ≡ Ok (x, left)
+Gives (Err e) left read = e ≢ fault.Memory → read ≡ Err e
+
+-- what is left behind n bytes
+abbrev pub behind : ℕ → Left → Left
+behind n l = record { at = l.at + n; bytes = drop n l.bytes }
+
+-- ---- numbers
+
+-- a field of n bytes
+abbrev pub piece_at : ℕ → Left → Read (List ℕ)
+piece_at n l = if nat_lt (length l.bytes) n then Err (fault.Truncated l.at) else Ok (take n l.bytes, behind n l)
+
+abbrev pub byte_at : Left → Read ℕ
+byte_at l = piece_at 1 l >>= λ x. Ok (get_or x.0 0 0, x.1)
+
+abbrev pub half_at : Left → Read ℕ
+half_at l = piece_at 2 l >>= λ x. Ok (from_be_bytes w16 x.0, x.1)
+
+abbrev pub word_at : Left → Read ℕ
+word_at l = piece_at 4 l >>= λ x. Ok (from_be_bytes w32 x.0, x.1)
+
+abbrev pub long_at : Left → Read ℕ
+long_at l = piece_at 8 l >>= λ x. Ok (from_be_bytes w64 x.0, x.1)
+
+abbrev pub amount_at : Left → Read ℤ
+amount_at l = piece_at 8 l >>= λ x. Ok (cast_signed w64 (from_be_bytes w64 x.0), x.1)
+
+-- ---- fields with a rule
+
+-- a field that keeps a rule, or a fault at its place
+abbrev pub ruled : {A : Type 0} → (A → Bool) → (Left → Read A) → Left → Read A
+ruled rule read l = read l >>= λ x. if rule x.0 then Ok x else Err (fault.BadField l.at)
+
+-- a byte with a meaning, or a fault at its place
+abbrev pub meaning : {A : Type 0} → (ℕ → Option A) → Left → Read A
+meaning mean l = byte_at l >>= λ x. elim (mean x.0) [ None ↦ Err (fault.BadKind l.at) | Some y ↦ Ok (y, x.1) ]
+
+-- a text: its length and its bytes are one field
+abbrev pub text_at : Left → Read (List ℕ)
+text_at l = piece_at (get_or l.bytes 0 0 + 1) l >>= λ x. Ok (drop 1 x.0, x.1)
+
+abbrev pub name_at : Left → Read (List ℕ)
+name_at = ruled is_name text_at
+
+-- an encoded key: its length and its bytes are one field
+abbrev pub key_at : Left → Read (List ℕ)
+key_at l = piece_at (from_be_bytes w16 (get_or l.bytes 0 0 ∷ get_or l.bytes 1 0 ∷ []) + 2) l >>= λ x. Ok (drop 2 x.0, x.1)
+
+-- a count of columns, of sum columns, of view files
+abbrev pub columns_at : Left → Read ℕ
+columns_at = ruled is_count_of_columns byte_at
+
+abbrev pub count_at : ℕ → Left → Read ℕ
+count_at most = ruled (λ n. nat_le n most) byte_at
+
+-- ---- lists
+
+-- n fields whose numbers rise, each read with the least number that it may have
+unfoldable pub rising : {A : Type 0} → (A → ℕ) → (ℕ → Left → Read A) → ℕ → ℕ → Left → Read (List A)
+rising number read least zero l = Ok ([], l)
+rising number read least (suc n) l = read least l >>= λ x. rising number read (number x.0 + 1) n x.1 >>= λ xs. Ok (x.0 ∷ xs.0, xs.1)
+
+-- n fields without numbers
+abbrev pub many : {A : Type 0} → (Left → Read A) → ℕ → Left → Read (List A)
+many read n l = rising (λ x. 0) (λ least. read) 1 n l
+
+-- what was read before, and what is still read
+abbrev pub with_front : {A : Type 0} → List A → Read (List A) → Read (List A)
+with_front front read = read >>= λ xs. Ok (front ++ xs.0, xs.1)
+
+-- ---- columns
+
+abbrev pub kind_of : ℕ → Option KeyType
+kind_of b = if b == 0 then Some kind.Int else if b == 1 then Some kind.Text else None
+
+abbrev pub agg_of : ℕ → Option Agg
+agg_of b = if b == 0 then Some agg.Sum else if b == 1 then Some agg.Min else if b == 2 then Some agg.Max else if b == 3 then Some agg.Replace else None
+
+abbrev pub flag_of : ℕ → Option Bool
+flag_of b = if b == 0 then Some false else if b == 1 then Some true else None
+
+abbrev pub key_column_at : Left → Read KeyColumn
+key_column_at l = name_at l >>= λ name. meaning kind_of name.1 >>= λ k. Ok (record { name = name.0; kind = k.0 }, k.1)
+
+abbrev pub value_column_at : Left → Read ValueColumn
+value_column_at l = name_at l >>= λ name. meaning agg_of name.1 >>= λ a. Ok (record { name = name.0; agg = a.0 }, a.1)
+
+-- a default of a key column of a type
+abbrev pub key_default_at : KeyType → Left → Read KeyValue
+key_default_at kind.Int l = amount_at l >>= λ z. Ok (value.Int z.0, z.1)
+key_default_at kind.Text l = ruled is_key_text text_at l >>= λ t. Ok (value.Text t.0, t.1)
+
+-- ---- changes
+
+abbrev pub add_value_at : Left → Read Change
+add_value_at l = value_column_at l >>= λ c. amount_at c.1 >>= λ default. Ok (AddValue c.0 default.0, default.1)
+
+abbrev pub drop_value_at : Left → Read Change
+drop_value_at l = name_at l >>= λ name. Ok (DropValue name.0, name.1)
+
+abbrev pub add_key_at : Left → Read Change
+add_key_at l = key_column_at l >>= λ c. key_default_at c.0.kind c.1 >>= λ default. Ok (AddKey c.0 default.0, default.1)
+
+-- the fields of a change, by its number, which stood at a place
+abbrev pub change_of : ℕ → ℕ → Left → Read Change
+change_of at b l = if b == 1 then add_value_at l else if b == 2 then drop_value_at l else if b == 3 then add_key_at l else Err (fault.BadKind at)
+
+abbrev pub change_at : Left → Read Change
+change_at l = byte_at l >>= λ b. change_of l.at b.0 b.1
+
+-- ---- files
+
+abbrev pub not_zero : ℕ → Bool
+not_zero n = nat_le 1 n
+
+abbrev pub aggregates_at : Left → Read (List ℤ)
+aggregates_at l = columns_at l >>= λ n. many amount_at n.0 n.1
+
+-- a reference to a file
+unfoldable pub file_ref_at : Left → Read FileRef
+file_ref_at l = do
+  id ← long_at l
+  len ← long_at id.1
+  rows ← ruled not_zero long_at len.1
+  blocks ← ruled not_zero word_at rows.1
+  first ← key_at blocks.1
+  last ← key_at first.1
+  aggregates ← aggregates_at last.1
+  digest ← piece_at 32 aggregates.1
+  Ok (record { id = id.0; len = len.0; rows = rows.0; blocks = blocks.0; first = first.0; last = last.0; aggregates = aggregates.0; digest = digest.0 }, digest.1)
+
+-- a view's file, its number at least this one
+abbrev pub view_ref_at : ℕ → Left → Read ViewRef
+view_ref_at least l = ruled (nat_le least) byte_at l >>= λ view. file_ref_at view.1 >>= λ f. Ok (record { view = view.0; file = f.0 }, f.1)
+
+abbrev pub view_number : ViewRef → ℕ
+view_number v = v.view
+
+abbrev pub view_refs_at : Left → Read (List ViewRef)
+view_refs_at l = count_at 8 l >>= λ n. rising view_number view_ref_at 0 n.0 n.1
+
+-- a table's file, and those of its views
+unfoldable pub files_at : Left → Read Files
+files_at l = file_ref_at l >>= λ f. view_refs_at f.1 >>= λ views. Ok (record { file = f.0; views = views.0 }, views.1)
+
+abbrev pub totals_at : Left → Read (List ℕ)
+totals_at l = count_at 16 l >>= λ n. many long_at n.0 n.1
+
+-- what a table has of a batch, its number at least this one
+abbrev pub part_at : ℕ → Left → Read Part
+part_at least l = do
+  table ← ruled (nat_le least) half_at l
+  epoch ← word_at table.1
+  files ← files_at epoch.1
+  totals ← totals_at files.1
+  Ok (record { table = table.0; epoch = epoch.0; files = files.0; totals = totals.0 }, totals.1)
+
+abbrev pub part_number : Part → ℕ
+part_number p = p.table
+
+-- files, if there are any
+abbrev pub files_if : Bool → Left → Read (Option Files)
+files_if false l = Ok (None, l)
+files_if true l = files_at l >>= λ f. Ok (Some f.0, f.1)
+
+abbrev pub files_if_any_at : Left → Read (Option Files)
+files_if_any_at l = meaning flag_of l >>= λ some. files_if some.0 some.1
+
+-- ---- records
+
+abbrev pub run_at : Left → Read Record
+run_at l = word_at l >>= λ number. Ok (record_of.Run number.0, number.1)
+
+abbrev pub key_columns_at : Left → Read (List KeyColumn)
+key_columns_at l = columns_at l >>= λ n. many key_column_at n.0 n.1
+
+abbrev pub value_columns_at : Left → Read (List ValueColumn)
+value_columns_at l = columns_at l >>= λ n. many value_column_at n.0 n.1
+
+abbrev pub table_at : Left → Read Record
+table_at l = do
+  name ← name_at l
+  keys ← key_columns_at name.1
+  values ← value_columns_at keys.1
+  Ok (record_of.Table name.0 keys.0 values.0, values.1)
+
+abbrev pub names_at : Left → Read (List (List ℕ))
+names_at l = columns_at l >>= λ n. many name_at n.0 n.1
+
+abbrev pub view_at : Left → Read Record
+view_at l = do
+  table ← half_at l
+  name ← name_at table.1
+  keys ← names_at name.1
+  values ← names_at keys.1
+  Ok (record_of.View table.0 name.0 keys.0 values.0, values.1)
+
+abbrev pub alter_at : Left → Read Record
+alter_at l = half_at l >>= λ table. change_at table.1 >>= λ c. Ok (record_of.Alter table.0 c.0, c.1)
+
+abbrev pub publish_at : Left → Read Record
+publish_at l = do
+  version ← word_at l
+  count ← half_at version.1
+  parts ← rising part_number part_at 0 count.0 count.1
+  Ok (record_of.Publish version.0 parts.0, parts.1)
+
+abbrev pub swap_at : Left → Read Record
+swap_at l = do
+  table ← half_at l
+  base ← meaning flag_of table.1
+  from ← word_at base.1
+  to ← word_at from.1
+  epoch ← word_at to.1
+  files ← files_if_any_at epoch.1
+  Ok (record_of.Swap table.0 base.0 from.0 to.0 epoch.0 files.0, files.1)
+
+abbrev pub expire_at : Left → Read Record
+expire_at l = word_at l >>= λ version. Ok (record_of.Expire version.0, version.1)
+
+-- the fields of a record, by its kind, which stood at a place
+unfoldable pub fields_of : ℕ → ℕ → Left → Read Record
+fields_of at b l =
+    if b == 1 then run_at l
+    else if b == 2 then table_at l
+    else if b == 3 then view_at l
+    else if b == 4 then alter_at l
+    else if b == 5 then publish_at l
+    else if b == 6 then swap_at l
+    else if b == 7 then expire_at l
+    else Err (fault.BadKind at)
+
+-- a record that nothing may follow
+abbrev pub ended : Record × Left → Result Record RecordError
+ended x = if length x.1.bytes == 0 then Ok x.0 else Err (fault.Trailing x.1.at)
+
+-- The record that bytes spell, or the first fault from the left.
+abbrev pub record_at : List ℕ → Result Record RecordError
+record_at bytes = byte_at (record { at = 0; bytes = bytes }) >>= λ kind. fields_of 0 kind.0 kind.1 >>= ended

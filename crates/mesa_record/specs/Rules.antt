@@ -1,0 +1,135 @@
+-- Which records there are.
+use Rattle.std.specs.Prelude.{◌≡◌, ℕ, ◌+◌, ◌^◌, ◌<◌, List, [], ◌∷◌, length, map, IsTrue, Bool, true, ◌&&◌, nat_le, nat_lt, Option, None, Some}
+use Rattle.std.specs.List.{AllByRecursion, list_all}
+use Rattle.mesa_value.specs.Agg.{IsAmount}
+use Rattle.mesa_key.specs.declared.KeyValue.{KeyValue}
+use Rattle.mesa_key.specs.declared.KeyValue.TheVariants as value
+use Rattle.mesa_key.specs.Text.{is_key_text}
+use Rattle.mesa_schema.specs.declared.columns.KeyColumn.{KeyColumn}
+use Rattle.mesa_schema.specs.declared.columns.ValueColumn.{ValueColumn}
+use Rattle.mesa_schema.specs.declared.changes.Change.{Change}
+use Rattle.mesa_schema.specs.declared.changes.Change.TheVariants.{AddValue, DropValue, AddKey}
+use Rattle.mesa_schema.specs.Changes.{is_of_kind}
+use Rattle.mesa_schema.specs.Names.{is_name}
+use Rattle.mesa_disk.specs.declared.file_ref.FileRef.{FileRef}
+use Rattle.mesa_record.specs.declared.record.Record.{Record}
+use Rattle.mesa_record.specs.declared.record.Record.TheVariants as record_of
+use Rattle.mesa_record.specs.declared.record.ViewRef.{ViewRef}
+use Rattle.mesa_record.specs.declared.record.Files.{Files}
+use Rattle.mesa_record.specs.declared.record.Part.{Part}
+
+-- ---- the rules that a record's fields keep
+
+-- a table or a view has 1 to 16 columns of each sort
+abbrev pub is_count_of_columns : ℕ → Bool
+is_count_of_columns n = nat_le 1 n && nat_le n 16
+
+-- a key's length stands in two bytes
+abbrev pub is_key_length : ℕ → Bool
+is_key_length n = nat_lt n (2 ^ 16)
+
+-- a file has rows and blocks
+abbrev pub is_file_ref : FileRef → Bool
+is_file_ref f = nat_le 1 f.rows && nat_le 1 f.blocks && is_key_length (length f.first) && is_key_length (length f.last) && is_count_of_columns (length f.aggregates)
+
+-- each number is at least the first one, and greater than the one before
+abbrev pub rise_from : ℕ → List ℕ → Bool
+rise_from least [] = true
+rise_from least (n ∷ ns) = nat_le least n && rise_from (n + 1) ns
+
+-- a table has at most 8 views
+abbrev pub are_view_refs : List ViewRef → Bool
+are_view_refs views = nat_le (length views) 8 && rise_from 0 (map (λ (v : ViewRef). v.view) views) && list_all (λ (v : ViewRef). is_file_ref v.file) views
+
+abbrev pub are_files : Files → Bool
+are_files f = is_file_ref f.file && are_view_refs f.views
+
+abbrev pub is_part : Part → Bool
+is_part p = are_files p.files && nat_le (length p.totals) 16
+
+abbrev pub are_parts : List Part → Bool
+are_parts parts = nat_lt (length parts) (2 ^ 16) && rise_from 0 (map (λ (p : Part). p.table) parts) && list_all is_part parts
+
+-- a new key column's default is of its type
+abbrev pub is_change : Change → Bool
+is_change (AddValue column default) = true
+is_change (DropValue name) = true
+is_change (AddKey column default) = is_of_kind column.kind default
+
+abbrev pub are_files_if_any : Option Files → Bool
+are_files_if_any None = true
+are_files_if_any (Some f) = are_files f
+
+-- The rules of a record.
+abbrev pub keeps_rules : Record → Bool
+keeps_rules (record_of.Run number) = true
+keeps_rules (record_of.Table name keys values) = is_count_of_columns (length keys) && is_count_of_columns (length values)
+keeps_rules (record_of.View table name keys values) = is_count_of_columns (length keys) && is_count_of_columns (length values)
+keeps_rules (record_of.Alter table c) = is_change c
+keeps_rules (record_of.Publish version parts) = are_parts parts
+keeps_rules (record_of.Swap table base from to epoch f) = are_files_if_any f
+keeps_rules (record_of.Expire version) = true
+
+-- ---- what the types of the fields say of them
+
+abbrev pub IsHalf : ℕ → Type 0
+IsHalf n = n < 2 ^ 16
+
+abbrev pub IsWord : ℕ → Type 0
+IsWord n = n < 2 ^ 32
+
+abbrev pub IsLong : ℕ → Type 0
+IsLong n = n < 2 ^ 64
+
+abbrev pub IsNamed : List ℕ → Type 0
+IsNamed name = IsTrue (is_name name)
+
+abbrev pub IsKeyValue : KeyValue → Type 0
+IsKeyValue (value.Int z) = IsAmount z
+IsKeyValue (value.Text bytes) = IsTrue (is_key_text bytes)
+
+abbrev pub IsTypedChange : Change → Type 0
+IsTypedChange (AddValue column default) = IsNamed column.name × IsAmount default
+IsTypedChange (DropValue name) = IsNamed name
+IsTypedChange (AddKey column default) = IsNamed column.name × IsKeyValue default
+
+pub record IsTypedRef (f : FileRef) : Type 0 where
+  pub id : IsLong f.id
+  pub len : IsLong f.len
+  pub rows : IsLong f.rows
+  pub blocks : IsWord f.blocks
+  pub aggregates : AllByRecursion IsAmount f.aggregates
+  pub digest : length f.digest ≡ 32
+
+pub record IsTypedView (v : ViewRef) : Type 0 where
+  pub view : v.view < 2 ^ 8
+  pub file : IsTypedRef v.file
+
+pub record IsTypedFiles (f : Files) : Type 0 where
+  pub file : IsTypedRef f.file
+  pub views : AllByRecursion IsTypedView f.views
+
+pub record IsTypedPart (p : Part) : Type 0 where
+  pub table : IsHalf p.table
+  pub epoch : IsWord p.epoch
+  pub files : IsTypedFiles p.files
+  pub totals : AllByRecursion IsLong p.totals
+
+abbrev pub AreTypedFiles : Option Files → Type 0
+AreTypedFiles None = Unit {0}
+AreTypedFiles (Some f) = IsTypedFiles f
+
+-- Each field is within its type.
+abbrev pub IsTyped : Record → Type 0
+IsTyped (record_of.Run number) = IsWord number
+IsTyped (record_of.Table name keys values) = IsNamed name × AllByRecursion (λ (c : KeyColumn). IsNamed c.name) keys × AllByRecursion (λ (c : ValueColumn). IsNamed c.name) values
+IsTyped (record_of.View table name keys values) = IsHalf table × IsNamed name × AllByRecursion IsNamed keys × AllByRecursion IsNamed values
+IsTyped (record_of.Alter table c) = IsHalf table × IsTypedChange c
+IsTyped (record_of.Publish version parts) = IsWord version × AllByRecursion IsTypedPart parts
+IsTyped (record_of.Swap table base from to epoch f) = IsHalf table × IsWord from × IsWord to × IsWord epoch × AreTypedFiles f
+IsTyped (record_of.Expire version) = IsWord version
+
+-- A record: its fields are within their types and keep the rules.
+pub record IsRecord (r : Record) : Type 0 where
+  pub typed : IsTyped r
+  pub rules : IsTrue (keeps_rules r)

@@ -1,0 +1,121 @@
+-- The bytes of a record: each record has one spelling.
+use Rattle.std.specs.Prelude.{ℕ, ℤ, List, [], ◌∷◌, ◌++◌, length, flat_map, Bool, true, false, Option, None, Some}
+use Rattle.std.specs.Int.{w16, w32, w64, to_be_bytes, cast_unsigned}
+use Rattle.mesa_value.specs.declared.Agg.{Agg}
+use Rattle.mesa_value.specs.declared.Agg.TheVariants as agg
+use Rattle.mesa_key.specs.declared.KeyType.{KeyType}
+use Rattle.mesa_key.specs.declared.KeyType.TheVariants as kind
+use Rattle.mesa_key.specs.declared.KeyValue.{KeyValue}
+use Rattle.mesa_key.specs.declared.KeyValue.TheVariants as value
+use Rattle.mesa_schema.specs.declared.columns.KeyColumn.{KeyColumn}
+use Rattle.mesa_schema.specs.declared.columns.ValueColumn.{ValueColumn}
+use Rattle.mesa_schema.specs.declared.changes.Change.{Change}
+use Rattle.mesa_schema.specs.declared.changes.Change.TheVariants.{AddValue, DropValue, AddKey}
+use Rattle.mesa_disk.specs.declared.file_ref.FileRef.{FileRef}
+use Rattle.mesa_record.specs.declared.record.Record.{Record}
+use Rattle.mesa_record.specs.declared.record.Record.TheVariants as record_of
+use Rattle.mesa_record.specs.declared.record.ViewRef.{ViewRef}
+use Rattle.mesa_record.specs.declared.record.Files.{Files}
+use Rattle.mesa_record.specs.declared.record.Part.{Part}
+
+-- ---- numbers, the highest byte first
+
+unfoldable pub half : ℕ → List ℕ
+half n = to_be_bytes w16 n
+
+unfoldable pub word : ℕ → List ℕ
+word n = to_be_bytes w32 n
+
+unfoldable pub long : ℕ → List ℕ
+long n = to_be_bytes w64 n
+
+-- an amount is its two's complement
+abbrev pub amount : ℤ → List ℕ
+amount z = long (cast_unsigned w64 z)
+
+-- ---- texts and lists
+
+-- a text of at most 255 bytes: its length and its bytes
+abbrev pub text : List ℕ → List ℕ
+text bytes = length bytes ∷ bytes
+
+-- an encoded key: its length in two bytes and its bytes
+abbrev pub key : List ℕ → List ℕ
+key bytes = half (length bytes) ++ bytes
+
+-- a list of at most 255: their number, then one after the other
+abbrev pub counted : {A : Type 0} → (A → List ℕ) → List A → List ℕ
+counted spell xs = length xs ∷ flat_map spell xs
+
+-- ---- columns
+
+abbrev pub kind_byte : KeyType → ℕ
+kind_byte kind.Int = 0
+kind_byte kind.Text = 1
+
+abbrev pub agg_byte : Agg → ℕ
+agg_byte agg.Sum = 0
+agg_byte agg.Min = 1
+agg_byte agg.Max = 2
+agg_byte agg.Replace = 3
+
+abbrev pub key_column : KeyColumn → List ℕ
+key_column c = text c.name ++ kind_byte c.kind ∷ []
+
+abbrev pub value_column : ValueColumn → List ℕ
+value_column c = text c.name ++ agg_byte c.agg ∷ []
+
+-- a default of a key column: an int's two's complement, or a text
+abbrev pub key_default : KeyValue → List ℕ
+key_default (value.Int z) = amount z
+key_default (value.Text bytes) = text bytes
+
+-- a change: its number, and what it adds or drops
+abbrev pub change : Change → List ℕ
+change (AddValue column default) = 1 ∷ (value_column column ++ amount default)
+change (DropValue name) = 2 ∷ text name
+change (AddKey column default) = 3 ∷ (key_column column ++ key_default default)
+
+-- ---- files
+
+-- a reference to a file: its id, length, rows and blocks; its first and its last key; the aggregates and the digest
+unfoldable pub file_sizes : FileRef → List ℕ
+file_sizes f = long f.id ++ (long f.len ++ (long f.rows ++ word f.blocks))
+
+unfoldable pub file_keys : FileRef → List ℕ
+file_keys f = key f.first ++ key f.last
+
+unfoldable pub file_ref : FileRef → List ℕ
+file_ref f = file_sizes f ++ (file_keys f ++ (counted amount f.aggregates ++ f.digest))
+
+abbrev pub view_ref : ViewRef → List ℕ
+view_ref v = v.view ∷ file_ref v.file
+
+-- a table's file, and those of its views
+unfoldable pub files : Files → List ℕ
+files f = file_ref f.file ++ counted view_ref f.views
+
+-- what a table has of a batch
+abbrev pub part : Part → List ℕ
+part p = half p.table ++ (word p.epoch ++ (files p.files ++ counted long p.totals))
+
+-- files, if there are any
+abbrev pub files_if_any : Option Files → List ℕ
+files_if_any None = 0 ∷ []
+files_if_any (Some f) = 1 ∷ files f
+
+abbrev pub flag : Bool → ℕ
+flag false = 0
+flag true = 1
+
+-- ---- records
+
+-- A record is its kind, then its fields.
+unfoldable pub spelled : Record → List ℕ
+spelled (record_of.Run number) = 1 ∷ word number
+spelled (record_of.Table name keys values) = 2 ∷ (text name ++ (counted key_column keys ++ counted value_column values))
+spelled (record_of.View table name keys values) = 3 ∷ (half table ++ (text name ++ (counted text keys ++ counted text values)))
+spelled (record_of.Alter table c) = 4 ∷ (half table ++ change c)
+spelled (record_of.Publish version parts) = 5 ∷ (word version ++ (half (length parts) ++ flat_map part parts))
+spelled (record_of.Swap table base from to epoch f) = 6 ∷ (half table ++ (flag base ∷ (word from ++ (word to ++ (word epoch ++ files_if_any f)))))
+spelled (record_of.Expire version) = 7 ∷ word version

@@ -1,0 +1,200 @@
+// Fields that stand in lists: how each is read and written.
+ghost use Rattle.std.specs.Prelude.{◌≡◌, ◌++◌, List, ℕ, flat_map, OnOk};
+ghost use Rattle.mesa_record.specs.Reading.{Gives, amount_at, key_column_at, long_at, many, name_at, value_column_at};
+ghost use Rattle.mesa_record.specs.Spelling.{agg_byte as byte_of_agg, amount, key_column, half, kind_byte as byte_of_kind, long, text, value_column, word};
+ghost use Rattle.std.specs.List.{AllByRecursion};
+ghost use Rattle.mesa_value.specs.Agg.{IsAmount};
+ghost use Rattle.mesa_schema.specs.declared.columns.KeyColumn.{KeyColumn as Column};
+ghost use Rattle.mesa_schema.specs.declared.columns.ValueColumn.{ValueColumn as Measure};
+ghost use Rattle.mesa_record.specs.Rules.{IsHalf, IsLong, IsNamed, IsWord};
+
+use crate::RecordError;
+use crate::cursor::Cursor;
+use mesa_key::KeyType;
+use mesa_list::Items;
+use mesa_schema::{KeyColumn, Name, ValueColumn};
+use mesa_value::Agg;
+use std::alloc::{AllocError, Global};
+
+/// A field that stands in lists.
+pub(crate) trait Field: Sized + Drop {
+    ghost use Rattle.std.specs.Prelude.{List, ℕ};
+    ghost use Rattle.mesa_record.specs.Reading.{Left, Read};
+
+    ghost read_at: { Left → Read Self };
+
+    ghost spelling: { Self → List ℕ };
+
+    /// What its type says of it.
+    ghost Is: { Self → Type 0 };
+
+    fn read(alloc: Global, cursor: &mut Cursor<'_>) -> Result<Self, RecordError>
+        ensures { Gives result cursor.new (read_at cursor.old) };
+
+    fn write(&self, out: &mut Vec<u8>) -> Result<(), AllocError>
+        ensures bytes { OnOk result (out.new.items ≡ out.old.items ++ spelling self.now) }
+        ensures typed { OnOk result (Is self.now) };
+}
+
+// So many fields, one after the other.
+pub(crate) fn read_fields<T: Field>(
+    alloc: Global,
+    cursor: &mut Cursor<'_>,
+    count: u8,
+) -> Result<Items<T>, RecordError>
+    ensures { Gives result cursor.new (many T.read_at count cursor.old) }
+{
+    let mut fields = Items::new(alloc);
+    for _ in 0..count {
+        fields.push(T::read(alloc, cursor)?)?;
+    }
+    Ok(fields)
+}
+
+// Appends fields, one after the other.
+pub(crate) fn write_fields<T: Field>(fields: &[T], out: &mut Vec<u8>) -> Result<(), AllocError>
+    ensures bytes { OnOk result (out.new.items ≡ out.old.items ++ flat_map T.spelling fields.now) }
+    ensures typed { OnOk result (AllByRecursion T.Is fields.now) }
+{
+    for field in fields {
+        field.write(out)?;
+    }
+    Ok(())
+}
+
+impl Field for Name {
+    ghost read_at = { name_at };
+
+    ghost spelling = { text };
+
+    ghost Is = { IsNamed };
+
+    fn read(alloc: Global, cursor: &mut Cursor<'_>) -> Result<Self, RecordError> {
+        cursor.name(alloc)
+    }
+
+    fn write(&self, out: &mut Vec<u8>) -> Result<(), AllocError> {
+        out.push(self.bytes().len() as u8)?;
+        out.extend_from_slice(self.bytes())
+    }
+}
+
+impl Field for KeyColumn {
+    ghost read_at = { key_column_at };
+
+    ghost spelling = { key_column };
+
+    ghost Is = { λ (c : Column). IsNamed c.name };
+
+    fn read(alloc: Global, cursor: &mut Cursor<'_>) -> Result<Self, RecordError> {
+        let name = cursor.name(alloc)?;
+        let kind = cursor.kind()?;
+        Ok(KeyColumn { name, kind })
+    }
+
+    fn write(&self, out: &mut Vec<u8>) -> Result<(), AllocError> {
+        self.name.write(out)?;
+        out.push(kind_byte(self.kind))?;
+        Ok(())
+    }
+}
+
+impl Field for ValueColumn {
+    ghost read_at = { value_column_at };
+
+    ghost spelling = { value_column };
+
+    ghost Is = { λ (c : Measure). IsNamed c.name };
+
+    fn read(alloc: Global, cursor: &mut Cursor<'_>) -> Result<Self, RecordError> {
+        let name = cursor.name(alloc)?;
+        let agg = cursor.agg()?;
+        Ok(ValueColumn { name, agg })
+    }
+
+    fn write(&self, out: &mut Vec<u8>) -> Result<(), AllocError> {
+        self.name.write(out)?;
+        out.push(agg_byte(self.agg))?;
+        Ok(())
+    }
+}
+
+impl Field for u64 {
+    ghost read_at = { long_at };
+
+    ghost spelling = { long };
+
+    ghost Is = { IsLong };
+
+    fn read(_: Global, cursor: &mut Cursor<'_>) -> Result<Self, RecordError> {
+        cursor.long()
+    }
+
+    fn write(&self, out: &mut Vec<u8>) -> Result<(), AllocError> {
+        put_long(*self, out)
+    }
+}
+
+impl Field for i64 {
+    ghost read_at = { amount_at };
+
+    ghost spelling = { amount };
+
+    ghost Is = { IsAmount };
+
+    fn read(_: Global, cursor: &mut Cursor<'_>) -> Result<Self, RecordError> {
+        cursor.amount()
+    }
+
+    #[tactic(auto, unfolding(crate::specs::Spelling::long))]
+    fn write(&self, out: &mut Vec<u8>) -> Result<(), AllocError> {
+        out.extend_from_slice(&self.to_be_bytes())
+    }
+}
+
+// Appends a number of two bytes.
+#[tactic(auto, unfolding(crate::specs::Spelling::half))]
+pub(crate) fn put_half(number: u16, out: &mut Vec<u8>) -> Result<(), AllocError>
+    ensures bytes { OnOk result (out.new.items ≡ out.old.items ++ half number) }
+    ensures typed { IsHalf number }
+{
+    out.extend_from_slice(&number.to_be_bytes())
+}
+
+// Appends a number of four bytes.
+#[tactic(auto, unfolding(crate::specs::Spelling::word))]
+pub(crate) fn put_word(number: u32, out: &mut Vec<u8>) -> Result<(), AllocError>
+    ensures bytes { OnOk result (out.new.items ≡ out.old.items ++ word number) }
+    ensures typed { IsWord number }
+{
+    out.extend_from_slice(&number.to_be_bytes())
+}
+
+// Appends a number of eight bytes.
+#[tactic(auto, unfolding(crate::specs::Spelling::long))]
+pub(crate) fn put_long(number: u64, out: &mut Vec<u8>) -> Result<(), AllocError>
+    ensures bytes { OnOk result (out.new.items ≡ out.old.items ++ long number) }
+    ensures typed { IsLong number }
+{
+    out.extend_from_slice(&number.to_be_bytes())
+}
+
+pub(crate) fn kind_byte(kind: KeyType) -> u8
+    ensures { result ≡ byte_of_kind kind }
+{
+    match kind {
+        KeyType::Int => 0,
+        KeyType::Text => 1,
+    }
+}
+
+pub(crate) fn agg_byte(agg: Agg) -> u8
+    ensures { result ≡ byte_of_agg agg }
+{
+    match agg {
+        Agg::Sum => 0,
+        Agg::Min => 1,
+        Agg::Max => 2,
+        Agg::Replace => 3,
+    }
+}

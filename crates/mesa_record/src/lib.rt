@@ -1,0 +1,19 @@
+//! Records of the journal and their bytes: each record has one spelling.
+#![tactic(auto)]
+
+mod copies;
+mod cursor;
+mod error;
+mod field;
+mod files;
+mod laws;
+mod numbered;
+mod reading;
+mod record;
+mod writing;
+
+pub use error::RecordError;
+pub use laws::{reads_records, spells_records};
+pub use reading::decode;
+pub use record::{Files, Part, Record, ViewRef};
+pub use writing::encode;

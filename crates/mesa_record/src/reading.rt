@@ -1,0 +1,202 @@
+// Reading records.
+ghost use Rattle.std.specs.Prelude.{◌≡◌, ◌≢◌, Ok, Err, IfOk, IfErr};
+ghost use Rattle.mesa_record.specs.Reading.{Gives, alter_at, change_at, fields_of, add_key_at, add_value_at, key_columns_at, key_default_at, names_at, publish_at, record_at, swap_at, table_at, value_columns_at, view_at};
+ghost use Rattle.mesa_record.specs.declared.record.Record.{Record as AnyRecord};
+ghost use Rattle.mesa_record.specs.Rules.{IsRecord};
+ghost use Rattle.mesa_record.specs.Spelling.{spelled};
+
+use crate::cursor::Cursor;
+use crate::field::{Field, read_fields};
+use crate::files::read_files_if_any;
+use crate::numbered::read_rising;
+use crate::{Record, RecordError, reads_records, spells_records};
+use mesa_key::{KeyText, KeyType, KeyValue};
+use mesa_list::Items;
+use mesa_schema::{Change, KeyColumn, Name, ValueColumn};
+use std::alloc::Global;
+
+/// The record that the bytes spell.
+pub fn decode(alloc: Global, bytes: &[u8]) -> Result<Record, RecordError>
+    ensures read { IfOk result (λ r. record_at bytes.now ≡ Ok r) }
+    ensures fault { IfErr result (λ e. e ≢ RecordError.Memory → record_at bytes.now ≡ Err e) }
+
+    // What is read is a record, and spelled so.
+    ensures sound { IfOk result IsRecord }
+    ensures spelled { IfOk result (λ r. spelled r ≡ bytes.now) }
+
+    // What is refused spells no record.
+    ensures refused { IfErr result (λ e. e ≢ RecordError.Memory → (r : AnyRecord) → IsRecord r → bytes.now ≢ spelled r) }
+{
+    reads_records();
+    spells_records();
+    whole_record(alloc, bytes)
+}
+
+// The record that the bytes spell, with nothing behind it.
+fn whole_record(alloc: Global, bytes: &[u8]) -> Result<Record, RecordError>
+    ensures read { IfOk result (λ r. record_at bytes.now ≡ Ok r) }
+    ensures fault { IfErr result (λ e. e ≢ RecordError.Memory → record_at bytes.now ≡ Err e) }
+{
+    let mut cursor = Cursor::new(bytes);
+    let kind = cursor.byte()?;
+    let record = fields(alloc, kind, 0, &mut cursor)?;
+    if !cursor.left().is_empty() {
+        return Err(RecordError::Trailing { at: cursor.at() });
+    }
+    Ok(record)
+}
+
+// The fields of a record, by its kind, which stood at this place.
+#[tactic(auto, unfolding(crate::specs::Reading::fields_of))]
+fn fields(alloc: Global, kind: u8, at: u64, cursor: &mut Cursor<'_>) -> Result<Record, RecordError>
+    ensures { Gives result cursor.new (fields_of at kind cursor.old) }
+{
+    match kind {
+        1 => Ok(Record::Run {
+            number: cursor.word()?,
+        }),
+        2 => table(alloc, cursor),
+        3 => view(alloc, cursor),
+        4 => alter(alloc, cursor),
+        5 => publish(alloc, cursor),
+        6 => swap(alloc, cursor),
+        7 => Ok(Record::Expire {
+            version: cursor.word()?,
+        }),
+        _ => Err(RecordError::BadKind { at }),
+    }
+}
+
+fn table(alloc: Global, cursor: &mut Cursor<'_>) -> Result<Record, RecordError>
+    ensures { Gives result cursor.new (table_at cursor.old) }
+{
+    let name = cursor.name(alloc)?;
+    let keys = key_columns(alloc, cursor)?;
+    let values = value_columns(alloc, cursor)?;
+    Ok(Record::Table { name, keys, values })
+}
+
+fn key_columns(alloc: Global, cursor: &mut Cursor<'_>) -> Result<Items<KeyColumn>, RecordError>
+    ensures { Gives result cursor.new (key_columns_at cursor.old) }
+{
+    let count = cursor.columns()?;
+    read_fields(alloc, cursor, count)
+}
+
+fn value_columns(alloc: Global, cursor: &mut Cursor<'_>) -> Result<Items<ValueColumn>, RecordError>
+    ensures { Gives result cursor.new (value_columns_at cursor.old) }
+{
+    let count = cursor.columns()?;
+    read_fields(alloc, cursor, count)
+}
+
+fn view(alloc: Global, cursor: &mut Cursor<'_>) -> Result<Record, RecordError>
+    ensures { Gives result cursor.new (view_at cursor.old) }
+{
+    let table = cursor.half()?;
+    let name = cursor.name(alloc)?;
+    let keys = names(alloc, cursor)?;
+    let values = names(alloc, cursor)?;
+    Ok(Record::View {
+        table,
+        name,
+        keys,
+        values,
+    })
+}
+
+// The names of columns.
+fn names(alloc: Global, cursor: &mut Cursor<'_>) -> Result<Items<Name>, RecordError>
+    ensures { Gives result cursor.new (names_at cursor.old) }
+{
+    let count = cursor.columns()?;
+    read_fields(alloc, cursor, count)
+}
+
+fn alter(alloc: Global, cursor: &mut Cursor<'_>) -> Result<Record, RecordError>
+    ensures { Gives result cursor.new (alter_at cursor.old) }
+{
+    let table = cursor.half()?;
+    let change = change(alloc, cursor)?;
+    Ok(Record::Alter { table, change })
+}
+
+fn change(alloc: Global, cursor: &mut Cursor<'_>) -> Result<Change, RecordError>
+    ensures { Gives result cursor.new (change_at cursor.old) }
+{
+    let at = cursor.at();
+    match cursor.byte()? {
+        1 => add_value(alloc, cursor),
+        2 => Ok(Change::DropValue {
+            name: cursor.name(alloc)?,
+        }),
+        3 => add_key(alloc, cursor),
+        _ => Err(RecordError::BadKind { at }),
+    }
+}
+
+fn add_value(alloc: Global, cursor: &mut Cursor<'_>) -> Result<Change, RecordError>
+    ensures { Gives result cursor.new (add_value_at cursor.old) }
+{
+    let column = ValueColumn::read(alloc, cursor)?;
+    let default = cursor.amount()?;
+    Ok(Change::AddValue { column, default })
+}
+
+fn add_key(alloc: Global, cursor: &mut Cursor<'_>) -> Result<Change, RecordError>
+    ensures { Gives result cursor.new (add_key_at cursor.old) }
+{
+    let column = KeyColumn::read(alloc, cursor)?;
+    let default = key_default(alloc, column.kind, cursor)?;
+    Ok(Change::AddKey { column, default })
+}
+
+// A default of a key column of a type.
+fn key_default(
+    alloc: Global,
+    kind: KeyType,
+    cursor: &mut Cursor<'_>,
+) -> Result<KeyValue, RecordError>
+    ensures { Gives result cursor.new (key_default_at kind cursor.old) }
+{
+    match kind {
+        KeyType::Int => Ok(KeyValue::Int(cursor.amount()?)),
+        KeyType::Text => {
+            let at = cursor.at();
+            let text = cursor.text()?;
+            if !KeyText::allows(text) {
+                return Err(RecordError::BadField { at });
+            }
+            let text = KeyText::new(Items::from_bytes(alloc, text)?);
+            Ok(KeyValue::Text(text))
+        }
+    }
+}
+
+fn publish(alloc: Global, cursor: &mut Cursor<'_>) -> Result<Record, RecordError>
+    ensures { Gives result cursor.new (publish_at cursor.old) }
+{
+    let version = cursor.word()?;
+    let count = cursor.half()?;
+    let parts = read_rising(alloc, cursor, count)?;
+    Ok(Record::Publish { version, parts })
+}
+
+fn swap(alloc: Global, cursor: &mut Cursor<'_>) -> Result<Record, RecordError>
+    ensures { Gives result cursor.new (swap_at cursor.old) }
+{
+    let table = cursor.half()?;
+    let base = cursor.flag()?;
+    let from = cursor.word()?;
+    let to = cursor.word()?;
+    let epoch = cursor.word()?;
+    let files = read_files_if_any(alloc, cursor)?;
+    Ok(Record::Swap {
+        table,
+        base,
+        from,
+        to,
+        epoch,
+        files,
+    })
+}

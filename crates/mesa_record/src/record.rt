@@ -1,0 +1,74 @@
+// Records of the journal: what changed the warehouse.
+use mesa_disk::FileRef;
+use mesa_list::Items;
+use mesa_schema::{Change, KeyColumn, Name, Totals, ValueColumn};
+
+/// A view's file of a delta. A table's views are numbered from 0 in the order in which they were made.
+#[derive(Drop)]
+pub struct ViewRef {
+    pub view: u8,
+    pub file: FileRef,
+}
+
+/// The files of a delta of a table: its own, and those of its views, by rising numbers.
+#[derive(Drop)]
+pub struct Files {
+    pub file: FileRef,
+    pub views: Items<ViewRef>,
+}
+
+/// What a batch brings to a table. Tables are numbered from 0 in the order in which they were made.
+#[derive(Drop)]
+pub struct Part {
+    pub table: u16,
+    /// The epoch of the table's schema that the rows have.
+    pub epoch: u32,
+    pub files: Files,
+    /// For each sum column the absolute values of the batch's rows, added up.
+    pub totals: Totals,
+}
+
+/// A record of the journal.
+#[derive(Drop)]
+pub enum Record {
+    /// A run of the program begins.
+    Run {
+        number: u32,
+    },
+    /// A table is made.
+    Table {
+        name: Name,
+        keys: Items<KeyColumn>,
+        values: Items<ValueColumn>,
+    },
+    /// A view of a table is made, of these of its columns.
+    View {
+        table: u16,
+        name: Name,
+        keys: Items<Name>,
+        values: Items<Name>,
+    },
+    /// A table's schema is changed.
+    Alter {
+        table: u16,
+        change: Change,
+    },
+    /// A version is made. It has a part for each table with rows in its batch, by rising numbers.
+    Publish {
+        version: u32,
+        parts: Items<Part>,
+    },
+    /// The deltas from one version to another are merged into one, a new base or a cumulative one. It has no files where they have no rows.
+    Swap {
+        table: u16,
+        base: bool,
+        from: u32,
+        to: u32,
+        epoch: u32,
+        files: Option<Files>,
+    },
+    /// Versions below this one aren't kept any more.
+    Expire {
+        version: u32,
+    },
+}
