@@ -1,2 +1,5 @@
 pub mod Batch
+pub mod Gathered
+pub mod Glance
+pub mod Reading
 pub mod Totals
