@@ -1,2 +1,4 @@
+pub mod Inserted
+pub mod NameNumbers
 pub mod Fields
 pub mod SumColumns

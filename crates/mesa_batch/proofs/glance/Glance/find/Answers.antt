@@ -1,0 +1,10 @@
+use Rattle.std.proofs.Common.{◌∙◌, ap}
+use Rattle.mesa_schema.specs.Columns.{place_of}
+use Rattle.mesa_batch.specs.Glance.{Sight, names_in}
+use Rattle.mesa_batch.proofs.NameNumbers.{names_known}
+use Rattle.mesa_batch.proofs.glance.Glance.find.Goals as goal
+
+pub returns : goal.returns
+returns c =
+    c.copied.ensures ∙ c.get.ensures.value ∙ c.self.invariant.numbers c.args.name.now
+    ∙ ap (place_of c.args.name.now) (names_known c.self.inside.tables.items) ∙ ap (λ (sight : Sight). place_of c.args.name.now (names_in sight)) c.self.view_is
