@@ -1,3 +1,6 @@
+pub mod Entries
+pub mod Filtered
+pub mod InOrder
 pub mod Inserted
 pub mod NameNumbers
 pub mod Fields

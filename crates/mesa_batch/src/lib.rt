@@ -2,6 +2,7 @@
 #![tactic(auto)]
 
 mod glance;
+mod keeping;
 mod reading;
 mod totals;
 mod words;
