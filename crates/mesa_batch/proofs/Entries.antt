@@ -90,7 +90,7 @@ filter_agree p q same (x ∷ xs) = λ i. cond (same x i) (x ∷ filter_agree p q
 pub stands_filtered : (place : Place) (es : Entries) → filter (of_placed (stands_at place)) (numbered es) ≡ map numbered_of (filter (λ (e : Place × Kept). is_at (place_cmp place) e.0) es)
 stands_filtered place es = filter_map numbered_of (of_placed (stands_at place)) es ∙ ap (map numbered_of) (filter_agree (λ e. of_placed (stands_at place) (numbered_of e)) (λ (e : Place × Kept). is_at (place_cmp place) e.0) (stands_tied place) es)
 
-All-head : {X : Type 0} (P : X → Type 0) (p : X → Bool) (xs : List X) (y : X) → AllByRecursion P xs → filter p xs ≡ y ∷ [] → P y
+pub All-head : {X : Type 0} (P : X → Type 0) (p : X → Bool) (xs : List X) (y : X) → AllByRecursion P xs → filter p xs ≡ y ∷ [] → P y
 All-head P p [] y all e = absurd (cc)
 All-head P p (x ∷ xs) y all e =
     elim (p x) as (λ b. cond b (x ∷ filter p xs) (filter p xs) ≡ y ∷ [] → P y) [

@@ -1,3 +1,8 @@
+pub mod Gathering
+pub mod SharedColumns
+pub mod ReadWords
+pub mod FoldedRows
+pub mod KeptRows
 pub mod Entries
 pub mod Filtered
 pub mod InOrder

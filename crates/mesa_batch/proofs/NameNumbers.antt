@@ -1,9 +1,9 @@
 -- Tables' numbers by their names.
-use Rattle.std.proofs.Common.{◌≡◌, ℕ, ◌+◌, ◌<◌, List, [], ◌∷◌, ◌++◌, length, take, map, get_or, refl, sym, ◌∙◌, ap, subst, arith, add-one, suc, Option, Some, None}
+use Rattle.std.proofs.Common.{◌≡◌, ℕ, ◌+◌, ◌<◌, ◌≤◌, List, [], ◌∷◌, ◌++◌, length, take, map, get_or, refl, sym, ◌∙◌, ap, subst, arith, add-one, suc, Option, Some, None}
 use Rattle.std.specs.Prelude.{Bool, true, false, cond, position, Vec}
 use Rattle.std.specs.Bool.{then_some}
 use Rattle.std.specs.List.{position_from}
-use Rattle.std.specs.Option.{option_or, is_some}
+use Rattle.std.specs.Option.{IfSome, option_or, is_some}
 use Rattle.std.specs.declared.alloc.Global.{Global}
 use Rattle.std.specs.declared.cmp.Ordering.TheVariants.{Equal}
 use Rattle.std.specs.Ordering.{is_eq, eq_by_cmp, nat_cmp}
@@ -19,7 +19,7 @@ use Rattle.std.proofs.lemmas.List.{get_or-map, length-map, length-take-le}
 use Rattle.std.proofs.Math.Seq.{take-suc}
 use Rattle.mesa_schema.specs.Columns.{place_of}
 use Rattle.mesa_batch.specs.declared.glance.Glanced.{Glanced}
-use Rattle.mesa_batch.specs.Glance.{Known}
+use Rattle.mesa_batch.specs.Glance.{Known, Sight, names_in}
 use Rattle.mesa_batch.specs.Numbers.{known_of, number_at}
 use Rattle.mesa_batch.proofs.Inserted.{lookup-inserted}
 
@@ -35,7 +35,7 @@ position_from-push p i (y ∷ ys) x =
 pub position-push : {X : Type 0} (p : X → Bool) (xs : List X) (x : X) → position p (xs ++ x ∷ []) ≡ option_or (position p xs) (then_some (p x) (length xs))
 position-push p xs x = position_from-zero p (xs ++ x ∷ []) ∙ position_from-push p 0 xs x ∙ ap (λ o. option_or o (then_some (p x) (0 + length xs))) (sym (position_from-zero p xs)) ∙ ap (λ n. option_or (position p xs) (then_some (p x) n)) (omega arith)
 
-same_name : (q name : List ℕ) → same_bytes q name ≡ true → q ≡ name
+pub same_name : (q name : List ℕ) → same_bytes q name ≡ true → q ≡ name
 same_name q name e = slice_cmp-IsAntisymmetric nat_cmp-IsAntisymmetric q name (is_equal _ (sym (texts_ties q name) ∙ e))
 
 or_none : (o : Option ℕ) → o ≡ option_or o None
@@ -83,12 +83,35 @@ pub names_known : (tables : List Glanced) → map (λ (t : Glanced). t.name) tab
 names_known [] = refl
 names_known (t ∷ tables) = ap (λ l. t.name ∷ l) (names_known tables)
 
+position_from-within : {X : Type 0} (p : X → Bool) (i : ℕ) (xs : List X) (n : ℕ) → position_from p i xs ≡ Some n → n < i + length xs
+position_from-within p i [] n e = absurd (cc)
+position_from-within p i (x ∷ xs) n e =
+    elim (p x) as (λ b. cond b (Some i) (position_from p (i + 1) xs) ≡ Some n → n < i + length (x ∷ xs)) [
+      | true ↦ λ f. let same : i ≡ n = (cc) in omega arith
+      | false ↦ λ f. let rest : n < i + 1 + length xs = position_from-within p (i + 1) xs n f in omega arith
+    ] e
+
+-- what is found is there
+pub position-within : {X : Type 0} (p : X → Bool) (xs : List X) (n : ℕ) → position p xs ≡ Some n → n < length xs
+position-within p xs n e = let within : n < 0 + length xs = position_from-within p 0 xs n (sym (position_from-zero p xs) ∙ e) in omega arith
+
+-- a mapped list's first, with one more
+pub take_next : {X Y : Type 0} (f : X → Y) (xs : List X) (i : ℕ) (x : X) → i < length xs → x ≡ get_or xs i x → take (i + 1) (map f xs) ≡ take i (map f xs) ++ f x ∷ []
+take_next f xs i x h e =
+    let within : i < length (map f xs) = subst (λ n. i < n) (sym (length-map xs f)) h in
+    let at : get_or (map f xs) i (f x) ≡ f x = get_or-map f xs i x (f x) h ∙ ap f (sym e) in
+    rw add-one (take-suc (map f xs) i (f x) within ∙ ap (λ y. take i (map f xs) ++ y ∷ []) at)
+
 -- the names with one more
 pub names_next : (tables : List Glanced) (i : ℕ) (table : Glanced) → i < length tables → table ≡ get_or tables i table → (q : List ℕ)
     → place_of q (take (i + 1) (map (λ (t : Glanced). t.name) tables)) ≡ option_or (place_of q (take i (map (λ (t : Glanced). t.name) tables))) (then_some (same_bytes q table.name) i)
 names_next tables i table h e q =
     let names = map (λ (t : Glanced). t.name) tables in
-    let within : i < length names = subst (λ n. i < n) (sym (length-map tables (λ (t : Glanced). t.name))) h in
-    let at : get_or names i table.name ≡ table.name = get_or-map (λ (t : Glanced). t.name) tables i table table.name h ∙ ap (λ (t : Glanced). t.name) (sym e) in
-    let more : take (i + 1) names ≡ take i names ++ table.name ∷ [] = rw add-one (take-suc names i table.name within ∙ ap (λ x. take i names ++ x ∷ []) at) in
-    ap (place_of q) more ∙ position-push (same_bytes q) (take i names) table.name ∙ ap (λ n. option_or (place_of q (take i names)) (then_some (same_bytes q table.name) n)) (length-take-le i names (omega arith))
+    let within : i ≤ length names = omega (arith, length-map tables (λ (t : Glanced). t.name)) in
+    ap (place_of q) (take_next (λ (t : Glanced). t.name) tables i table h e) ∙ position-push (same_bytes q) (take i names) table.name
+    ∙ ap (λ n. option_or (place_of q (take i names)) (then_some (same_bytes q table.name) n)) (length-take-le i names within)
+
+-- a table that is found is there
+pub found_there : (name : List ℕ) (sight : Sight) (found : Option ℕ) → found ≡ place_of name (names_in sight) → IfSome found (λ table. table < length sight.tables)
+found_there name sight None e = tt
+found_there name sight (Some table) e = subst (λ n. table < n) (length-map sight.tables (λ (t : Known). t.name)) (position-within (same_bytes name) (names_in sight) table (sym e))

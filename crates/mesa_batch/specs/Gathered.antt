@@ -1,5 +1,5 @@
 -- Rows of a load, gathered one after another, and then by table and key.
-use Rattle.std.specs.Prelude.{◌≡◌, ◌≢◌, ℕ, ◌+◌, List, [], ◌∷◌, ◌++◌, sum_by, length, slice_index_or, Result, Ok}
+use Rattle.std.specs.Prelude.{◌≡◌, ◌≢◌, ℕ, List, [], ◌∷◌, ◌++◌, slice_index_or, Result, Ok}
 use Rattle.mesa_list.specs.Checks.{◌>>=◌}
 use Rattle.mesa_schema.specs.declared.rows.Row.{Row}
 use Rattle.mesa_schema.specs.Columns.{Columns}
@@ -21,10 +21,11 @@ with_row tables before words = placed_of tables before words >>= (λ placed. Ok 
 abbrev pub IsReadBy : Sight → Gathered → Type 0
 IsReadBy sight gathered = gathered.columns ≢ [] → gathered.columns ≡ columns_in sight
 
--- A batch's rows by their table's number, each table's in the order of their keys, and the columns of the tables.
+-- A batch's rows by their table's number, each table's in the order of their keys, the columns of the tables, and how many rows there are over all tables.
 pub record Batched : Type 0 where
   pub columns : List Columns
   pub tables : List (List Row)
+  pub count : ℕ
 
 -- the rows of the table of a number
 abbrev pub rows_at : ℕ → Batched → List Row
@@ -33,7 +34,3 @@ rows_at table batch = slice_index_or batch.tables table []
 -- the columns of the table of a number
 abbrev pub columns_for : ℕ → Batched → Columns
 columns_for table batch = slice_index_or batch.columns table (record { keys = []; values = [] })
-
--- how many rows there are over all tables
-abbrev pub row_count : Batched → ℕ
-row_count batch = sum_by length batch.tables

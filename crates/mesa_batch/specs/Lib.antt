@@ -3,6 +3,7 @@ pub mod Gathered
 pub mod Glance
 pub mod Kept
 pub mod Numbers
-pub mod Put
+pub mod Taken
 pub mod Reading
+pub mod Shared
 pub mod Totals

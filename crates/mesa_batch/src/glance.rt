@@ -4,11 +4,11 @@ ghost use Rattle.std.specs.Bool.{then_some};
 ghost use Rattle.std.specs.Option.{option_or};
 ghost use Rattle.mesa_list.specs.Bytes.{same_bytes};
 ghost use Rattle.mesa_schema.specs.Columns.{place_of};
-ghost use Rattle.mesa_batch.specs.Batch.{Named as TableNamed};
-ghost use Rattle.mesa_batch.specs.Glance.{Known, Sight, names_in};
+ghost use Rattle.mesa_batch.specs.Glance.{Known, columns_in, names_in};
+ghost use Rattle.mesa_batch.specs.Shared.{shared_columns};
 ghost use Rattle.mesa_batch.specs.Numbers.{known_of, number_at};
 
-use mesa_list::TryCopy;
+use mesa_list::Items;
 use mesa_schema::{Evolving, Name};
 use std::alloc::{AllocError, Global};
 use std::collections::BTreeMap;
@@ -74,7 +74,8 @@ impl Glance {
 
     /// The number of the table of this name.
     pub fn find(&self, name: &[u8]) -> Option<u16>
-        ensures { result ≡ place_of name.now (names_in self.now) }
+        ensures place { result ≡ place_of name.now (names_in self.now) }
+        ensures there { IfSome result (λ table. table < length self.now.tables) }
     {
         self.numbers.get(name).copied()
     }
@@ -93,6 +94,19 @@ impl Glance {
         ensures { IfSome (slice_get self.now.tables table) (λ (t : Known). result.now.value ≡ t.lineage) }
     {
         &self.tables[table as usize].evolving
+    }
+}
+
+impl Glance {
+    // The columns of the tables, by their numbers; none is copied.
+    pub(crate) fn columns(&self) -> Result<Items<Arc<Evolving>>, AllocError>
+        ensures { IfOk result (λ columns. shared_columns columns ≡ columns_in self.now) }
+    {
+        let mut columns = Items::new(*self.tables.allocator());
+        'tables: for table in &self.tables {
+            columns.push(table.evolving.clone()?)?;
+        }
+        Ok(columns)
     }
 }
 

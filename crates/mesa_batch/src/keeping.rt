@@ -2,8 +2,9 @@
 ghost use Rattle.std.specs.Prelude.{◌≡◌, ℕ, ◌+◌, length, None, Some, Ok, Err, OnOk, OnErr, IfErr};
 ghost use Rattle.std.specs.BTreeMap.{get, insert_entry, IsOrdered};
 ghost use Rattle.mesa_batch.specs.Kept.{place_cmp};
-ghost use Rattle.mesa_batch.specs.Put.{IsPutError};
+ghost use Rattle.mesa_batch.specs.Taken.{IsTaken};
 
+use crate::BatchError;
 use mesa_key::Values;
 use std::collections::BTreeMap;
 use std::collections::btree_map::Entry;
@@ -22,33 +23,28 @@ pub(crate) struct Kept {
     pub(crate) values: Values,
 }
 
-/// Why a row isn't kept.
-#[derive(Drop)]
-pub(crate) enum PutError {
-    /// The row of this number stands at its place.
-    Taken(u64),
-    Memory,
-}
-
 // Keeps one row more, whose number comes after theirs.
 pub(crate) fn put(
     rows: &mut BTreeMap<Place, Kept>,
     place: Place,
     values: Values,
-) -> Result<(), PutError>
+) -> Result<(), BatchError>
     ensures free { OnOk result (get place_cmp rows.old place ≡ None) }
     ensures put { OnOk result (rows.new.entries ≡ insert_entry place_cmp rows.old.entries place (record { number = length rows.old.entries + 1; values = values })) }
-    ensures refused { IfErr result (IsPutError rows.old place) }
+    ensures refused { IfErr result (IsTaken rows.old place) }
     ensures kept { OnErr result (rows.new.entries ≡ rows.old.entries) }
     ensures ordered { IsOrdered place_cmp rows.old }
 {
     let number = rows.len() as u64 + 1;
     match rows.entry(place) {
-        Ok(Entry::Occupied(entry)) => Err(PutError::Taken(entry.get().number)),
+        Ok(Entry::Occupied(entry)) => Err(BatchError::DuplicateKey {
+            first: entry.get().number,
+            second: number,
+        }),
         Ok(Entry::Vacant(entry)) => {
             let _ = entry.insert(Kept { number, values });
             Ok(())
         }
-        Err(_) => Err(PutError::Memory),
+        Err(_) => Err(BatchError::Memory),
     }
 }

@@ -1,12 +1,16 @@
 //! Batches: the rows of a load, checked and in order.
 #![tactic(auto)]
 
+mod batch;
+mod builder;
 mod glance;
 mod keeping;
 mod reading;
 mod totals;
 mod words;
 
+pub use batch::Batch;
+pub use builder::BatchBuilder;
 pub use glance::{Glance, Glanced};
 pub use totals::{OVER_BOUND, fits};
 pub use words::{BatchError, RowWords};

@@ -31,6 +31,7 @@ impl From<AllocError> for FieldError {
 }
 
 /// The bytes of a row's key, and its values.
+#[derive(Drop)]
 pub(crate) struct ReadRow {
     pub(crate) key: Vec<u8>,
     pub(crate) values: Values,

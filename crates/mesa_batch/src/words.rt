@@ -1,5 +1,7 @@
 // A load's rows as a script has them, and why they make no batch.
+use mesa_list::TryCopy;
 use mesa_schema::{Fields, Words};
+use std::alloc::AllocError;
 
 /// A row as the script has it: key fields, then value fields.
 #[derive(Drop)]
@@ -17,4 +19,24 @@ pub enum BatchError {
     /// The row `second` has the table and the key of the earlier row `first`.
     DuplicateKey { first: u64, second: u64 },
     Memory,
+}
+
+impl From<AllocError> for BatchError {
+    ghost use Rattle.std.specs.Prelude.{◌≡◌};
+    ghost use Rattle.mesa_batch.specs.declared.words.BatchError.TheVariants.{Memory};
+
+    ghost from_gives = { λ _ e. e ≡ Memory };
+
+    fn from(_: AllocError) -> Self {
+        BatchError::Memory
+    }
+}
+
+impl TryCopy for RowWords {
+    fn copy(&self) -> Result<Self, AllocError> {
+        Ok(RowWords {
+            table: self.table.copy()?,
+            fields: self.fields.copy()?,
+        })
+    }
 }
