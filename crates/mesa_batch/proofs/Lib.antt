@@ -1,3 +1,5 @@
+pub mod Finished
+pub mod TableLists
 pub mod Gathering
 pub mod SharedColumns
 pub mod ReadWords

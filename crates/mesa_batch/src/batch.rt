@@ -4,6 +4,7 @@ ghost use Rattle.mesa_batch.specs.Gathered.{columns_for, rows_at};
 ghost use Rattle.mesa_batch.specs.Shared.{shared_columns};
 ghost use Rattle.mesa_batch.specs.Totals.{abs_totals, capped};
 
+use crate::shared::shared_again;
 use crate::totals::absolute_totals;
 use mesa_list::{Items, TryCopy};
 use mesa_schema::{Evolving, Row, RowList, Totals};
@@ -74,12 +75,8 @@ impl Batch {
 
 impl TryCopy for Batch {
     fn copy(&self) -> Result<Self, AllocError> {
-        let mut columns = Items::new(self.columns.allocator());
-        'tables: for evolving in self.columns.as_slice() {
-            columns.push(evolving.clone()?)?;
-        }
         Ok(Batch {
-            columns,
+            columns: shared_again(&self.columns)?,
             tables: self.tables.copy()?,
             count: self.count,
         })

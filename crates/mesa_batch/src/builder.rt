@@ -1,12 +1,15 @@
 // Gathering a load's rows, one after another.
-ghost use Rattle.std.specs.Prelude.{◌≡◌, ◌≢◌, ◌<◌, ℕ, List, [], ◌∷◌, length, map, replicate, Ok, Err, IfOk, IfErr, OnErr, OnOk};
+ghost use Rattle.std.specs.Prelude.{◌≡◌, ◌≢◌, ◌<◌, ℕ, ◌==◌, List, [], ◌∷◌, ◌++◌, cond, length, slice_index_or, Ok, Err, IfOk, IfErr, OnErr, OnOk};
+ghost use Rattle.std.specs.List.{AllByRecursion};
 ghost use Rattle.mesa_value.specs.declared.Agg.{Agg as Aggregation};
 ghost use Rattle.mesa_schema.specs.Columns.{Columns};
 ghost use Rattle.mesa_schema.specs.Folded.{folded};
 ghost use Rattle.mesa_batch.specs.Batch.{Placed as PlacedRow, rows_for};
 ghost use Rattle.mesa_batch.specs.Gathered.{IsReadBy, rows_at, with_row};
 ghost use Rattle.mesa_batch.specs.Glance.{columns_in, tables_of};
-ghost use Rattle.mesa_batch.specs.Kept.{read_of};
+ghost use Rattle.mesa_batch.specs.declared.keeping.Place.{Place as Standing};
+ghost use Rattle.mesa_batch.specs.declared.keeping.Kept.{Kept as Keeping};
+ghost use Rattle.mesa_batch.specs.Kept.{kept_rows, read_of};
 ghost use Rattle.mesa_batch.specs.Shared.{shared_columns};
 ghost use Rattle.mesa_batch.specs.Totals.{abs_totals};
 
@@ -82,24 +85,38 @@ impl BatchBuilder {
     {
         let BatchBuilder { columns, rows } = self;
         let count = rows.len();
-        let mut tables = empty_tables(columns.allocator(), columns.len())?;
-        'rows: for (place, kept) in rows {
-            let row = Row {
-                key: Items::from_vec(place.key),
-                values: kept.values,
-            };
-            tables.at_mut(place.table as usize).push(row)?;
-        }
+        let tables = parted(columns.allocator(), columns.len(), rows)?;
         Ok(Batch::of(columns, tables, count))
     }
 }
 
+// The rows of each table in the order of their keys.
+fn parted(
+    alloc: Global,
+    count: usize,
+    rows: BTreeMap<Place, Kept>,
+) -> Result<Items<RowList>, AllocError>
+    requires { AllByRecursion (λ (e : Standing × Keeping). e.0.table < count) rows.entries }
+    ensures { IfOk result (λ tables. (table : ℕ) → slice_index_or tables table [] ≡ kept_rows table rows.entries) }
+{
+    let mut tables = empty_tables(alloc, count)?;
+    'rows: for (place, kept) in rows {
+        let row = Row {
+            key: Items::from_vec(place.key),
+            values: kept.values,
+        };
+        push_row(&mut tables, place.table, row)?;
+    }
+    Ok(tables)
+}
+
 // As many tables without rows.
 fn empty_tables(alloc: Global, count: usize) -> Result<Items<RowList>, AllocError>
-    ensures { IfOk result (λ tables. tables ≡ replicate count []) }
+    ensures count { IfOk result (λ tables. length tables ≡ count) }
+    ensures empty { IfOk result (λ tables. (table : ℕ) → slice_index_or tables table [] ≡ []) }
 {
     let mut tables = Items::new(alloc);
-    for _ in 0..count {
+    'tables: for _ in 0..count {
         tables.push(RowList::new(alloc))?;
     }
     Ok(tables)
@@ -115,6 +132,15 @@ fn share(columns: &mut Items<Arc<Evolving>>, glance: &Glance) -> Result<(), Allo
         *columns = glance.columns()?;
     }
     Ok(())
+}
+
+// Adds a row to its table's.
+fn push_row(tables: &mut Items<RowList>, table: u16, row: Row) -> Result<(), AllocError>
+    requires { table < length tables.old }
+    ensures count { length tables.new ≡ length tables.old }
+    ensures rows { OnOk result ((t : ℕ) → slice_index_or tables.new t [] ≡ slice_index_or tables.old t [] ++ cond (table == t) (row ∷ []) []) }
+{
+    tables.at_mut(table as usize).push(row)
 }
 
 // The table's number and the row that these words make, before its key is compared with others.

@@ -6,6 +6,7 @@ mod builder;
 mod glance;
 mod keeping;
 mod reading;
+mod shared;
 mod totals;
 mod words;
 
