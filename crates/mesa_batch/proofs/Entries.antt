@@ -1,11 +1,11 @@
 -- Kept rows, before and after one more.
-use Rattle.std.proofs.Common.{◌≡◌, ℕ, zero, suc, ◌+◌, ◌-◌, ◌<◌, ◌≤◌, List, [], ◌∷◌, ◌++◌, length, map, refl, sym, ◌∙◌, ap, subst, arith, inl, inr, add-one, Option, Some, None}
+use Rattle.std.proofs.Common.{◌≡◌, ℕ, suc, ◌+◌, ◌-◌, ◌<◌, ◌≤◌, List, [], ◌∷◌, ◌++◌, length, map, refl, sym, ◌∙◌, ap, subst, arith, inl, inr, add-one, Some, None}
 use Rattle.std.specs.Prelude.{Bool, true, false, ◌&&◌, ◌==◌, cond, filter, position, nat_le, ℤ}
 use Rattle.std.specs.Bool.{then_some}
 use Rattle.std.specs.List.{AllByRecursion}
 use Rattle.std.specs.Cmp.{IsTotalOrder, nat_cmp_total, then_total, on_total, unsigned_ties, tied_then, eq_by_cmp_equiv}
 use Rattle.std.specs.Cmp.Lexicographic.{nat_list_cmp_total, texts_ties}
-use Rattle.std.specs.Ordering.{is_eq, nat_cmp, eq_by_cmp}
+use Rattle.std.specs.Ordering.{is_eq, nat_cmp}
 use Rattle.std.specs.Map.{lookup, keys_of}
 use Rattle.std.specs.BTreeMap.{insert_entry, is_at}
 use Rattle.std.specs.List.Sorted.{IsStrictlySortedBy}
@@ -177,7 +177,7 @@ counted-more tables es place values counted h none =
     record {
       one = λ n low high. one_more tables es place values counted none n low (omega arith);
       within = subst (λ k. AllByRecursion (λ (e : Place × Kept). (1 ≤ e.1.number) × (e.1.number ≤ k)) (with_entry es place values)) (sym longer)
-      (All-inserted place_cmp place (new_kept es values) (λ (e : Place × Kept). (1 ≤ e.1.number) × (e.1.number ≤ length es + 1)) (omega arith, omega arith) es none
-      (All-weaker _ _ (λ (e : Place × Kept) both. (both.0, le_more e.1.number (length es) both.1)) es counted.within));
+          (All-inserted place_cmp place (new_kept es values) (λ (e : Place × Kept). (1 ≤ e.1.number) × (e.1.number ≤ length es + 1)) (omega arith, omega arith) es none
+          (All-weaker _ _ (λ (e : Place × Kept) both. (both.0, le_more e.1.number (length es) both.1)) es counted.within));
       there = All-inserted place_cmp place (new_kept es values) (λ (e : Place × Kept). e.0.table < tables) h es none counted.there;
     }

@@ -1,6 +1,6 @@
 -- A batch of gathered rows.
-use Rattle.std.proofs.Common.{◌≡◌, ℕ, List, [], ◌∷◌, length, map, refl, sym, ◌∙◌, ap}
-use Rattle.std.specs.Prelude.{slice_index_or, nat_abs, pos, sum_by}
+use Rattle.std.proofs.Common.{◌≡◌, ℕ, List, [], ◌∷◌, length, map, sym, ◌∙◌, ap}
+use Rattle.std.specs.Prelude.{slice_index_or, nat_abs, pos}
 use Rattle.std.specs.Map.{keys_of}
 use Rattle.std.specs.List.Sorted.{IsStrictlySortedBy}
 use Rattle.mesa_value.specs.declared.Agg.{Agg}
@@ -8,7 +8,7 @@ use Rattle.mesa_schema.specs.declared.rows.Row.{Row}
 use Rattle.mesa_schema.specs.Columns.{Columns, aggs_of}
 use Rattle.mesa_schema.specs.Folded.{folded}
 use Rattle.mesa_batch.specs.Batch.{Placed, rows_for}
-use Rattle.mesa_batch.specs.Gathered.{Batched, Gathered, rows_at}
+use Rattle.mesa_batch.specs.Gathered.{Batched, rows_at}
 use Rattle.mesa_batch.specs.Kept.{AreCounted, gathered_rows, kept_rows, place_cmp}
 use Rattle.mesa_batch.specs.Totals.{abs_total, abs_totals, sum_places}
 use Rattle.mesa_batch.proofs.InOrder.{length-in_order}

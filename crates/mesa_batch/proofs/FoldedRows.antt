@@ -1,11 +1,11 @@
 -- Rows of which no two have one key fold to themselves, in the order of their keys.
-use Rattle.std.proofs.Common.{◌≡◌, ℕ, List, [], ◌∷◌, ◌++◌, refl, sym, ◌∙◌, ap, subst}
+use Rattle.std.proofs.Common.{◌≡◌, ℕ, List, [], ◌∷◌, refl, sym, ◌∙◌, ap}
 use Rattle.std.proofs.lemmas.List.{append-nil}
-use Rattle.std.specs.Prelude.{ℤ, Bool, true, false, ◌&&◌, cond, T, map, filter}
+use Rattle.std.specs.Prelude.{true, false, cond, T, map, filter}
 use Rattle.std.specs.List.{AllByRecursion}
 use Rattle.std.specs.declared.cmp.Ordering.{Ordering}
 use Rattle.std.specs.declared.cmp.Ordering.TheVariants.{Less, Equal, Greater}
-use Rattle.std.specs.Ordering.{eq_by_cmp, is_eq, is_lt}
+use Rattle.std.specs.Ordering.{is_eq, is_lt}
 use Rattle.std.specs.Cmp.{eq_by_cmp_equiv}
 use Rattle.std.specs.Cmp.Lexicographic.{nat_list_cmp_total, texts_ties}
 use Rattle.std.specs.FinMap.Entries.{below_all}
@@ -51,13 +51,13 @@ same_there : (q : List ℕ) (xs ys : List Row) → values_at q xs ≡ values_at 
 same_there q xs ys same =
     elim (has q (keys xs)) as (λ a. has q (keys xs) ≡ a → a ≡ has q (keys ys)) [
       | true ↦ λ e. elim (has q (keys ys)) as (λ b. has q (keys ys) ≡ b → true ≡ b) [
-          | true ↦ λ f. refl
-          | false ↦ λ f. let some = values_at_some q xs e in let none : values_at q ys ≡ [] = values_at_none q ys f in let both : some.0 ∷ some.1 ≡ [] = sym some.2 ∙ same ∙ none in cc
-        ] refl
+        | true ↦ λ f. refl
+        | false ↦ λ f. let some = values_at_some q xs e in let none : values_at q ys ≡ [] = values_at_none q ys f in let both : some.0 ∷ some.1 ≡ [] = sym some.2 ∙ same ∙ none in cc
+      ] refl
       | false ↦ λ e. elim (has q (keys ys)) as (λ b. has q (keys ys) ≡ b → false ≡ b) [
-          | true ↦ λ f. let some = values_at_some q ys f in let none : values_at q xs ≡ [] = values_at_none q xs e in let both : some.0 ∷ some.1 ≡ [] = sym some.2 ∙ sym same ∙ none in cc
-          | false ↦ λ f. refl
-        ] refl
+        | true ↦ λ f. let some = values_at_some q ys f in let none : values_at q xs ≡ [] = values_at_none q xs e in let both : some.0 ∷ some.1 ≡ [] = sym some.2 ∙ sym same ∙ none in cc
+        | false ↦ λ f. refl
+      ] refl
     ] refl
 
 AreAlone-same : (xs ys rows : List Row) → ((q : List ℕ) → values_at q xs ≡ values_at q ys) → AreAlone ys rows → AreAlone xs rows

@@ -1,7 +1,6 @@
 -- A row more for a builder.
-use Rattle.std.proofs.Common.{◌≡◌, ◌≢◌, ℕ, ◌+◌, ◌-◌, ◌<◌, ◌≤◌, List, [], ◌∷◌, ◌++◌, length, map, refl, sym, ◌∙◌, ap, subst, arith, Option, Some, None, Result, Ok, Err}
-use Rattle.std.specs.Prelude.{ℤ, OnOk, OnErr, IfErr, position}
-use Rattle.std.specs.List.{AllByRecursion}
+use Rattle.std.proofs.Common.{◌≡◌, ◌≢◌, ℕ, ◌+◌, ◌-◌, ◌<◌, ◌≤◌, List, [], ◌∷◌, length, refl, sym, ◌∙◌, ap, subst, arith, None, Result, Ok, Err}
+use Rattle.std.specs.Prelude.{ℤ, OnOk, OnErr, IfErr}
 use Rattle.std.specs.declared.alloc.Global.{Global}
 use Rattle.std.specs.declared.sync.Arc.{Arc}
 use Rattle.std.specs.Map.{lookup, keys_of}

@@ -1,11 +1,11 @@
 -- Numbered rows in the order of their numbers.
-use Rattle.std.proofs.Common.{◌≡◌, ℕ, zero, suc, ◌+◌, ◌-◌, ◌<◌, ◌≤◌, List, [], ◌∷◌, ◌++◌, length, map, refl, sym, ◌∙◌, ap, subst, arith, inl, inr, Option, Some, None, length-append}
-use Rattle.std.specs.Prelude.{Bool, true, false, ◌&&◌, ◌==◌, nat_le, cond, filter, position, sum_by, ◌⊎◌}
+use Rattle.std.proofs.Common.{◌≡◌, ℕ, zero, suc, ◌+◌, ◌-◌, ◌<◌, ◌≤◌, List, [], ◌∷◌, ◌++◌, length, map, refl, sym, ◌∙◌, ap, arith, Some, None, length-append}
+use Rattle.std.specs.Prelude.{Bool, true, false, ◌==◌, nat_le, cond, filter, position, sum_by}
 use Rattle.std.specs.List.{AllByRecursion, position_from}
 use Rattle.std.proofs.lemmas.Iterator.Adapters.{position_from-zero}
 use Rattle.std.specs.Bool.{then_some}
 use Rattle.std.specs.Option.{option_or}
-use Rattle.std.proofs.lemmas.List.{map-append, length-map}
+use Rattle.std.proofs.lemmas.List.{length-map}
 use Rattle.std.proofs.lemmas.List.Elements.{filter-append}
 use Rattle.std.proofs.lemmas.List.Sums.{sum_by-append, sum_by-cons}
 use Rattle.std.proofs.lemmas.Bool.Decides.{nat_tests}
@@ -35,13 +35,13 @@ filter_swap {X} p q (x ∷ xs) =
     let qs : List X = filter q xs in
     elim (q x) as (λ b. q x ≡ b → filter p (cond b (x ∷ qs) qs) ≡ filter q (cond (p x) (x ∷ ps) ps)) [
       | true ↦ λ e. elim (p x) as (λ a. cond a (x ∷ filter p qs) (filter p qs) ≡ filter q (cond a (x ∷ ps) ps)) [
-          | true ↦ ap (λ l. x ∷ l) rest ∙ sym (ap (λ b. cond b (x ∷ filter q ps) (filter q ps)) e)
-          | false ↦ rest
-        ]
+        | true ↦ ap (λ l. x ∷ l) rest ∙ sym (ap (λ b. cond b (x ∷ filter q ps) (filter q ps)) e)
+        | false ↦ rest
+      ]
       | false ↦ λ e. elim (p x) as (λ a. filter p qs ≡ filter q (cond a (x ∷ ps) ps)) [
-          | true ↦ rest ∙ sym (ap (λ b. cond b (x ∷ filter q ps) (filter q ps)) e)
-          | false ↦ rest
-        ]
+        | true ↦ rest ∙ sym (ap (λ b. cond b (x ∷ filter q ps) (filter q ps)) e)
+        | false ↦ rest
+      ]
     ] refl
 
 -- Those that pass, in order, are what passes of all in order.
@@ -131,13 +131,13 @@ or_next k n =
     elim (nat_le k n) as (λ b. nat_le k n ≡ b → option_or (then_some b (k - 1)) (then_some (k == suc n) n) ≡ then_some (nat_le k (suc n)) (k - 1)) [
       | true ↦ λ e. let there : nat_le k (suc n) ≡ true = grind (arith, nat_tests) in ap (λ b. then_some b (k - 1)) (sym there)
       | false ↦ λ e. elim (k == suc n) as (λ a. (k == suc n) ≡ a → then_some a n ≡ then_some (nat_le k (suc n)) (k - 1)) [
-          | true ↦ λ f.
-              let here : k ≡ suc n = eqb_true k (suc n) f in
-              let there : nat_le k (suc n) ≡ true = grind (arith, nat_tests) in
-              let same : n ≡ k - 1 = omega arith in
-              ap Some same ∙ ap (λ b. then_some b (k - 1)) (sym there)
-          | false ↦ λ f. let later : nat_le k (suc n) ≡ false = grind (arith, nat_tests) in ap (λ b. then_some b (k - 1)) (sym later)
-        ] refl
+        | true ↦ λ f.
+            let here : k ≡ suc n = eqb_true k (suc n) f in
+            let there : nat_le k (suc n) ≡ true = grind (arith, nat_tests) in
+            let same : n ≡ k - 1 = omega arith in
+            ap Some same ∙ ap (λ b. then_some b (k - 1)) (sym there)
+        | false ↦ λ f. let later : nat_le k (suc n) ≡ false = grind (arith, nat_tests) in ap (λ b. then_some b (k - 1)) (sym later)
+      ] refl
     ] refl
 
 -- Where r alone passes, it stands at its number's place.

@@ -1,3 +1,4 @@
+pub mod RowForms
 pub mod Finished
 pub mod TableLists
 pub mod Gathering

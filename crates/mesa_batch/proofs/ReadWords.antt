@@ -1,8 +1,8 @@
 -- A row's words, read by the tables of a glance.
-use Rattle.std.proofs.Common.{◌≡◌, ◌≢◌, ℕ, ◌+◌, ◌<◌, ◌≤◌, List, [], ◌∷◌, ◌++◌, length, map, get_or, refl, sym, ◌∙◌, ap, subst, arith, inl, inr, Option, Some, None, Result, Ok, Err}
+use Rattle.std.proofs.Common.{◌≡◌, ℕ, ◌+◌, ◌<◌, List, [], ◌∷◌, ◌++◌, length, map, refl, sym, ◌∙◌, ap, subst, arith, inl, inr, Some, None, Result, Ok, Err}
 use Rattle.std.specs.Prelude.{slice_get, slice_index_or, position}
 use Rattle.std.specs.Option.{IfSome, ok_or}
-use Rattle.std.proofs.lemmas.List.{get_or-map, length-map}
+use Rattle.std.proofs.lemmas.List.{get_or-map}
 use Rattle.std.proofs.lemmas.Option.{slice_get_cases}
 use Rattle.mesa_list.specs.Checks.{◌>>=◌, ◌>>◌, refused_as}
 use Rattle.mesa_schema.specs.declared.rows.Row.{Row}

@@ -1,5 +1,5 @@
 -- Why a row isn't kept.
-use Rattle.std.specs.Prelude.{◌≡◌, ℕ, ◌+◌, Some, length, ⊤}
+use Rattle.std.specs.Prelude.{◌≡◌, ◌+◌, Some, length, ⊤}
 use Rattle.std.specs.BTreeMap.{BTreeMap, get}
 use Rattle.mesa_batch.specs.declared.words.BatchError.{BatchError}
 use Rattle.mesa_batch.specs.declared.words.BatchError.TheVariants.{NoTable, BadRow, DuplicateKey, Memory}

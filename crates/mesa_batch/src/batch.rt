@@ -30,11 +30,7 @@ impl Model for Batch {
 }
 
 impl Batch {
-    pub(crate) fn of(
-        columns: Items<Arc<Evolving>>,
-        tables: Items<RowList>,
-        count: usize,
-    ) -> Self
+    pub(crate) fn of(columns: Items<Arc<Evolving>>, tables: Items<RowList>, count: usize) -> Self
         ensures { result ≡ record { columns = shared_columns columns; tables = tables; count = count } }
     {
         Batch {

@@ -61,6 +61,7 @@ impl BatchBuilder {
         ensures ok { OnOk result (with_row (tables_of glance.now) self.old.rows words.now ≡ Ok self.new.rows) }
         ensures refused { IfErr result (λ e. e ≢ BatchError.Memory → with_row (tables_of glance.now) self.old.rows words.now ≡ Err e) }
         ensures kept { OnErr result (self.new.rows ≡ self.old.rows) }
+        ensures columns { OnOk result (self.new.columns ≡ columns_in glance.now) }
         ensures one_glance { IsReadBy glance.now self.new }
     {
         let number = self.rows.len() as u64 + 1;

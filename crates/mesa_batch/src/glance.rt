@@ -8,7 +8,7 @@ ghost use Rattle.mesa_batch.specs.Glance.{Known, columns_in, names_in};
 ghost use Rattle.mesa_batch.specs.Shared.{shared_columns};
 ghost use Rattle.mesa_batch.specs.Numbers.{known_of, number_at};
 
-use mesa_list::Items;
+use mesa_list::{Items, TryCopy};
 use mesa_schema::{Evolving, Name};
 use std::alloc::{AllocError, Global};
 use std::collections::BTreeMap;
@@ -108,6 +108,28 @@ impl Glance {
         }
         Ok(columns)
     }
+}
+
+impl TryCopy for Glance {
+    fn copy(&self) -> Result<Self, AllocError> {
+        let alloc = *self.tables.allocator();
+        Glance::new(alloc, self.generation, tables_again(alloc, &self.tables)?)
+    }
+}
+
+// The same tables once more; their columns are shared.
+fn tables_again(alloc: Global, tables: &[Glanced]) -> Result<Vec<Glanced>, AllocError>
+    ensures known { IfOk result (λ again. map known_of again.items ≡ map known_of tables.now) }
+    ensures len { IfOk result (λ again. length again.items ≡ length tables.now) }
+{
+    let mut again = Vec::new(alloc);
+    'tables: for table in tables {
+        again.push(Glanced {
+            name: table.name.copy()?,
+            evolving: table.evolving.clone()?,
+        })?;
+    }
+    Ok(again)
 }
 
 // The tables' numbers by their names; where a name stood twice, the first one's.

@@ -56,12 +56,7 @@ pub(crate) fn absolute_totals(
 }
 
 // Adds the total of a column, where it is a sum.
-fn push_total(
-    totals: &mut Totals,
-    place: usize,
-    agg: Agg,
-    rows: &[Row],
-) -> Result<(), AllocError>
+fn push_total(totals: &mut Totals, place: usize, agg: Agg, rows: &[Row]) -> Result<(), AllocError>
     ensures { OnOk result (totals.new ≡ totals.old ++ capped (cond (is_sum agg) (abs_total place rows.now ∷ []) [])) }
 {
     match agg {

@@ -1,4 +1,4 @@
-use Rattle.std.proofs.Common.{◌≡◌, ◌++◌, [], ◌∷◌, subst, sym, arith, ap, ◌∙◌, length-append, length, ◌+◌, List}
+use Rattle.std.proofs.Common.{◌++◌, [], ◌∷◌, ap, ◌∙◌, length-append, length, ◌+◌, List}
 use Rattle.std.specs.Prelude.{slice_index_or}
 use Rattle.mesa_schema.specs.declared.rows.Row.{Row}
 use Rattle.mesa_batch.proofs.TableLists.{empty-more}

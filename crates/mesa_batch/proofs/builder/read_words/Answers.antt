@@ -1,4 +1,4 @@
-use Rattle.std.proofs.Common.{◌≡◌, ◌∙◌, ap, sym, Some, None}
+use Rattle.std.proofs.Common.{◌∙◌, ap, sym}
 use Rattle.mesa_schema.specs.Columns.{place_of}
 use Rattle.mesa_schema.specs.Changes.{columns_of}
 use Rattle.mesa_batch.specs.Glance.{names_in}

@@ -1,5 +1,5 @@
-use Rattle.std.proofs.Common.{◌∙◌, ap, sym, subst, List, ℕ, ◌≡◌}
-use Rattle.std.specs.Prelude.{Bool, false}
+use Rattle.std.proofs.Common.{◌∙◌, ap, sym, ◌≡◌}
+use Rattle.std.specs.Prelude.{false}
 use Rattle.std.specs.Option.{is_some, option_or}
 use Rattle.std.specs.Bool.{then_some}
 use Rattle.mesa_list.specs.Bytes.{same_bytes}

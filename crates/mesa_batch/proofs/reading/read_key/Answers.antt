@@ -19,6 +19,6 @@ columns-preserved c =
     record {
       enough = omega (arith, found.3.0);
       spelled = subst (IsSpelled c.args.columns.now c.args.fields.now (c.columns.place + 1)) (sym value.2) (
-      key_next c.args.columns.now c.args.fields.now c.columns.place c.index-columns-place.result c.as_slice.result.now c.columns.bytes.items value.0 c.columns-test.true c.index-columns-place.is
-      found.3.0 (c.as_slice.ensures ∙ found.3.1 c.as_slice.result.now) value.1 c.columns.invariant.spelled);
+          key_next c.args.columns.now c.args.fields.now c.columns.place c.index-columns-place.result c.as_slice.result.now c.columns.bytes.items value.0 c.columns-test.true c.index-columns-place.is
+          found.3.0 (c.as_slice.ensures ∙ found.3.1 c.as_slice.result.now) value.1 c.columns.invariant.spelled);
     }

@@ -1,4 +1,4 @@
-use Rattle.std.proofs.Common.{◌+◌, ◌++◌, [], ◌∷◌, arith, subst, sym, ◌∙◌, rules}
+use Rattle.std.proofs.Common.{◌+◌, subst, sym, ◌∙◌, rules}
 use mir.Val.{SFits}
 use mir.Syntax.{w64}
 use Rattle.std.proofs.lemmas.Int.{to_z-of_z}

@@ -1,4 +1,3 @@
-use Rattle.std.proofs.Common.{◌≤◌, length}
 use Rattle.mesa_batch.proofs.Fields.{AreRead}
 use Rattle.mesa_batch.proofs.reading.read_values.Given as goal
 

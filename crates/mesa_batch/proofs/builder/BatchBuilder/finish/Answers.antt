@@ -1,4 +1,4 @@
-use Rattle.std.proofs.Common.{◌∙◌, ap, sym, length}
+use Rattle.std.proofs.Common.{◌∙◌, ap, length}
 use Rattle.mesa_batch.specs.Gathered.{Batched, Gathered, rows_at}
 use Rattle.mesa_batch.proofs.Finished.{finished-count, finished-fold, finished-rows, finished-totals}
 use Rattle.mesa_batch.proofs.builder.BatchBuilder.finish.Goals as goal

@@ -1,9 +1,6 @@
-use Rattle.std.proofs.Common.{◌≡◌, ◌<◌, ◌∙◌, ap, arith, length, map, Option, ℕ, Some, sym, subst}
-use Rattle.std.specs.Option.{IfSome}
-use Rattle.std.proofs.lemmas.List.{length-map}
-use Rattle.mesa_list.specs.Bytes.{same_bytes}
+use Rattle.std.proofs.Common.{◌∙◌, ap}
 use Rattle.mesa_schema.specs.Columns.{place_of}
-use Rattle.mesa_batch.specs.Glance.{Known, Sight, names_in}
+use Rattle.mesa_batch.specs.Glance.{Sight, names_in}
 use Rattle.mesa_batch.proofs.NameNumbers.{names_known, found_there}
 use Rattle.mesa_batch.proofs.glance.Glance.find.Goals as goal
 

@@ -1,0 +1,18 @@
+-- Laws of batches.
+use Rattle.std.specs.Prelude.{◌≡◌, ℕ, List, [], ◌∷◌, Ok}
+use Rattle.mesa_list.specs.Checks.{◌>>=◌}
+use Rattle.mesa_schema.specs.Columns.{aggs_of}
+use Rattle.mesa_schema.specs.Folded.{folded}
+use Rattle.mesa_schema.specs.Rows.{AreRowsOf}
+use Rattle.mesa_batch.specs.declared.words.RowWords.{RowWords}
+use Rattle.mesa_batch.specs.Batch.{Named, Placed, batch_from, batch_of, columns_at, rows_for}
+use Rattle.mesa_batch.specs.Gathered.{with_row}
+
+-- A table's rows of a batch have the form of its columns, and so has their fold.
+abbrev pub KeepsForms : Type 0
+KeepsForms = (tables : List Named) (words : List RowWords) (batch : List Placed) (table : ℕ) → batch_of tables words ≡ Ok batch
+    → AreRowsOf (columns_at table tables) (rows_for table batch) × AreRowsOf (columns_at table tables) (folded (aggs_of (columns_at table tables)) (rows_for table batch ∷ []))
+
+-- Rows and then others give what the others give after the next row.
+abbrev pub GoesRowByRow : Type 0
+GoesRowByRow = (tables : List Named) (before : List Placed) (words : RowWords) (rest : List RowWords) → batch_from tables before (words ∷ rest) ≡ (with_row tables before words >>= (λ rows. batch_from tables rows rest))

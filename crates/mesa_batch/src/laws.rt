@@ -1,0 +1,12 @@
+// What holds of every batch, whichever function made it.
+ghost use Rattle.mesa_batch.specs.Laws.{GoesRowByRow, KeepsForms};
+
+/// The rows of a batch have the form of their tables' columns, as a load gives them and by their keys.
+pub fn keeps_forms()
+    ensures { KeepsForms }
+{}
+
+/// A load's rows may be read one after another.
+pub fn goes_row_by_row()
+    ensures { GoesRowByRow }
+{}
