@@ -1,7 +1,7 @@
-// Copies of commands' words and of replies.
+// Copies of commands, scripts and replies.
 use crate::{
-    AlterWords, ChangeWords, ExplainWords, KeyWords, Page, Refusal, Reply, TableWords, ValueWords,
-    ViewWords,
+    AlterWords, ChangeWords, Command, ExplainWords, KeyWords, Page, Refusal, Reply, Script,
+    TableWords, ValueWords, ViewWords,
 };
 use mesa_list::TryCopy;
 use std::alloc::AllocError;
@@ -75,6 +75,32 @@ impl TryCopy for ExplainWords {
         Ok(ExplainWords {
             relation: self.relation.copy()?,
             version: self.version,
+        })
+    }
+}
+
+impl TryCopy for Command {
+    fn copy(&self) -> Result<Self, AllocError> {
+        Ok(match self {
+            Command::Table(words) => Command::Table(words.copy()?),
+            Command::View(words) => Command::View(words.copy()?),
+            Command::Alter(words) => Command::Alter(words.copy()?),
+            Command::Load(rows) => Command::Load(rows.copy()?),
+            Command::Query(words) => Command::Query(words.copy()?),
+            Command::Explain(words) => Command::Explain(words.copy()?),
+            Command::Pin(version) => Command::Pin(*version),
+            Command::Release(token) => Command::Release(*token),
+            Command::Expire(version) => Command::Expire(*version),
+            Command::Work(table) => Command::Work(table.copy()?),
+        })
+    }
+}
+
+impl TryCopy for Script {
+    fn copy(&self) -> Result<Self, AllocError> {
+        Ok(Script {
+            lease: self.lease,
+            sessions: self.sessions.copy()?,
         })
     }
 }
