@@ -110,12 +110,24 @@ flag true = 1
 
 -- ---- records
 
+-- a table's name and columns
+abbrev pub table_fields : List ℕ → List KeyColumn → List ValueColumn → List ℕ
+table_fields name keys values = text name ++ (counted key_column keys ++ counted value_column values)
+
+-- a view's name and the names of its columns
+abbrev pub view_fields : List ℕ → List (List ℕ) → List (List ℕ) → List ℕ
+view_fields name keys values = text name ++ (counted text keys ++ counted text values)
+
+-- the parts of a batch, behind their number in two bytes
+abbrev pub parts_fields : List Part → List ℕ
+parts_fields parts = half (length parts) ++ flat_map part parts
+
 -- A record is its kind, then its fields.
 unfoldable pub spelled : Record → List ℕ
 spelled (record_of.Run number) = 1 ∷ word number
-spelled (record_of.Table name keys values) = 2 ∷ (text name ++ (counted key_column keys ++ counted value_column values))
-spelled (record_of.View table name keys values) = 3 ∷ (half table ++ (text name ++ (counted text keys ++ counted text values)))
+spelled (record_of.Table name keys values) = 2 ∷ table_fields name keys values
+spelled (record_of.View table name keys values) = 3 ∷ (half table ++ view_fields name keys values)
 spelled (record_of.Alter table c) = 4 ∷ (half table ++ change c)
-spelled (record_of.Publish version parts) = 5 ∷ (word version ++ (half (length parts) ++ flat_map part parts))
+spelled (record_of.Publish version parts) = 5 ∷ (word version ++ parts_fields parts)
 spelled (record_of.Swap table base from to epoch f) = 6 ∷ (half table ++ (flag base ∷ (word from ++ (word to ++ (word epoch ++ files_if_any f)))))
 spelled (record_of.Expire version) = 7 ∷ word version

@@ -1,15 +1,17 @@
 // Writing records.
+ghost use Rattle.std.specs.List.{AllByRecursion};
 ghost use Rattle.std.specs.Prelude.{◌≡◌, ◌++◌, IfOk, IsTrue, Ok, OnOk};
 ghost use Rattle.mesa_record.specs.Reading.{record_at};
-ghost use Rattle.mesa_record.specs.Rules.{IsKeyValue, IsTyped, IsTypedChange, keeps_rules};
-ghost use Rattle.mesa_record.specs.Spelling.{change as change_bytes, key_default, spelled};
+ghost use Rattle.mesa_record.specs.declared.record.Record.TheVariants as record_of;
+ghost use Rattle.mesa_record.specs.Rules.{IsKeyValue, IsTyped, IsTypedChange, IsTypedPart, IsWord, are_parts, keeps_rules};
+ghost use Rattle.mesa_record.specs.Spelling.{change as change_bytes, key_default, parts_fields, spelled, table_fields, view_fields, word};
 
 use crate::field::{Field, put_half, put_word, write_fields};
 use crate::files::write_files_if_any;
 use crate::numbered::write_rising;
-use crate::{Record, reads_records};
+use crate::{Part, Record, reads_records};
 use mesa_key::KeyValue;
-use mesa_schema::Change;
+use mesa_schema::{Change, KeyColumn, Name, ValueColumn};
 use std::alloc::{AllocError, Global};
 
 /// The bytes of a record.
@@ -40,11 +42,7 @@ fn write(record: &Record, out: &mut Vec<u8>) -> Result<(), AllocError>
         }
         Record::Table { name, keys, values } => {
             out.push(2)?;
-            name.write(out)?;
-            out.push(keys.len() as u8)?;
-            write_fields(keys.as_slice(), out)?;
-            out.push(values.len() as u8)?;
-            write_fields(values.as_slice(), out)
+            write_table(name, keys.as_slice(), values.as_slice(), out)
         }
         Record::View {
             table,
@@ -54,11 +52,7 @@ fn write(record: &Record, out: &mut Vec<u8>) -> Result<(), AllocError>
         } => {
             out.push(3)?;
             put_half(*table, out)?;
-            name.write(out)?;
-            out.push(keys.len() as u8)?;
-            write_fields(keys.as_slice(), out)?;
-            out.push(values.len() as u8)?;
-            write_fields(values.as_slice(), out)
+            write_view(name, keys.as_slice(), values.as_slice(), out)
         }
         Record::Alter { table, change } => {
             out.push(4)?;
@@ -68,8 +62,7 @@ fn write(record: &Record, out: &mut Vec<u8>) -> Result<(), AllocError>
         Record::Publish { version, parts } => {
             out.push(5)?;
             put_word(*version, out)?;
-            put_half(parts.len() as u16, out)?;
-            write_rising(parts.as_slice(), out)
+            write_parts(parts.as_slice(), out)
         }
         Record::Swap {
             table,
@@ -82,9 +75,7 @@ fn write(record: &Record, out: &mut Vec<u8>) -> Result<(), AllocError>
             out.push(6)?;
             put_half(*table, out)?;
             out.push(*base as u8)?;
-            put_word(*from, out)?;
-            put_word(*to, out)?;
-            put_word(*epoch, out)?;
+            write_range(*from, *to, *epoch, out)?;
             write_files_if_any(files, out)
         }
         Record::Expire { version } => {
@@ -92,6 +83,59 @@ fn write(record: &Record, out: &mut Vec<u8>) -> Result<(), AllocError>
             put_word(*version, out)
         }
     }
+}
+
+fn write_table(
+    name: &Name,
+    keys: &[KeyColumn],
+    values: &[ValueColumn],
+    out: &mut Vec<u8>,
+) -> Result<(), AllocError>
+    requires { IsTrue (keeps_rules (record_of.Table name.now keys.now values.now)) }
+    ensures bytes { OnOk result (out.new.items ≡ out.old.items ++ table_fields name.now keys.now values.now) }
+    ensures typed { OnOk result (IsTyped (record_of.Table name.now keys.now values.now)) }
+{
+    name.write(out)?;
+    out.push(keys.len() as u8)?;
+    write_fields(keys, out)?;
+    out.push(values.len() as u8)?;
+    write_fields(values, out)
+}
+
+fn write_view(
+    name: &Name,
+    keys: &[Name],
+    values: &[Name],
+    out: &mut Vec<u8>,
+) -> Result<(), AllocError>
+    requires { IsTrue (keeps_rules (record_of.View 0 name.now keys.now values.now)) }
+    ensures bytes { OnOk result (out.new.items ≡ out.old.items ++ view_fields name.now keys.now values.now) }
+    ensures typed { OnOk result (IsTyped (record_of.View 0 name.now keys.now values.now)) }
+{
+    name.write(out)?;
+    out.push(keys.len() as u8)?;
+    write_fields(keys, out)?;
+    out.push(values.len() as u8)?;
+    write_fields(values, out)
+}
+
+fn write_parts(parts: &[Part], out: &mut Vec<u8>) -> Result<(), AllocError>
+    requires { IsTrue (are_parts parts.now) }
+    ensures bytes { OnOk result (out.new.items ≡ out.old.items ++ parts_fields parts.now) }
+    ensures typed { OnOk result (AllByRecursion IsTypedPart parts.now) }
+{
+    put_half(parts.len() as u16, out)?;
+    write_rising(parts, out)
+}
+
+// Appends the versions from and to which deltas are merged, and their epoch.
+fn write_range(from: u32, to: u32, epoch: u32, out: &mut Vec<u8>) -> Result<(), AllocError>
+    ensures bytes { OnOk result (out.new.items ≡ out.old.items ++ (word from ++ (word to ++ word epoch))) }
+    ensures typed { OnOk result (IsWord from × IsWord to × IsWord epoch) }
+{
+    put_word(from, out)?;
+    put_word(to, out)?;
+    put_word(epoch, out)
 }
 
 fn write_change(change: &Change, out: &mut Vec<u8>) -> Result<(), AllocError>
