@@ -4,9 +4,9 @@ use Rattle.mesa_model.specs.declared.commands.Command.{Command}
 use Rattle.mesa_model.specs.declared.commands.Script.{Script}
 use Rattle.mesa_model.specs.declared.entries.Entry.{Entry}
 use Rattle.mesa_model.specs.declared.replies.Reply.{Reply}
-use Rattle.mesa_model.specs.Warehouse.{Warehouse}
+use Rattle.mesa_model.specs.Warehouse.{Warehouse, empty_warehouse}
 use Rattle.mesa_model.specs.Query.{Answer, Heading}
-use Rattle.mesa_history.specs.Machine.{Machine, Claim}
+use Rattle.mesa_history.specs.Machine.{Machine, Claim, machine_of}
 
 -- The reference warehouse and the range machine.
 pub record State : Type 0 where
@@ -69,6 +69,10 @@ abbrev pub command_of : Script → Entry → Option Command
 command_of script e = command_at script e.session e.command
 
 -- ---- the start
+
+-- an empty store
+abbrev pub nothing_there : Script → State
+nothing_there script = record { warehouse = empty_warehouse; machine = machine_of script [] }
 
 -- a session before its first turn
 abbrev pub first_place : Place

@@ -5,13 +5,13 @@ use Rattle.mesa_schema.specs.declared.rows.Row.{Row}
 use Rattle.mesa_model.specs.declared.commands.Script.{Script}
 use Rattle.mesa_model.specs.declared.entries.Entry.{Entry}
 use Rattle.mesa_model.specs.Warehouse.{Table, Warehouse, empty_warehouse, content_at}
-use Rattle.mesa_history.specs.Run.{begins}
+use Rattle.mesa_history.specs.Run.{begins, nothing_there}
 use Rattle.mesa_history.specs.Replay.{runs}
 use Rattle.mesa_history.specs.Alone.{history_alone}
 use Rattle.mesa_history.specs.Law.{Accepted, accepted_in, law_content}
 use Rattle.mesa_script.specs.declared.script.ScriptError.{ScriptError}
 use Rattle.mesa_script.specs.Script.{script_of}
-use Rattle.mesa_rows.specs.Rows.{lines, nothing_there}
+use Rattle.mesa_rows.specs.Rows.{lines}
 use Rattle.mesa_rows.proofs.OnLiterals.{on_literals}
 
 abbrev versions : List ℕ

@@ -5,9 +5,7 @@ use Rattle.mesa_model.specs.declared.entries.Entry.{Entry}
 use Rattle.mesa_model.specs.declared.entries.Kind.{Kind}
 use Rattle.mesa_model.specs.declared.entries.Outcome.{Outcome}
 use Rattle.mesa_model.specs.declared.entries.Outcome.TheVariants as outcome
-use Rattle.mesa_model.specs.Warehouse.{empty_warehouse}
-use Rattle.mesa_history.specs.Machine.{machine_of}
-use Rattle.mesa_history.specs.Run.{State, Run, begins}
+use Rattle.mesa_history.specs.Run.{Run, begins, nothing_there}
 use Rattle.mesa_history.specs.Replay.{told_by, is_skipped, go}
 use Rattle.mesa_history.specs.Legal.{fits_prologue, is_due, fits_renewal, fits_sink, fits_moment, fits_outcome, fits_closed, ends_well, is_legal}
 use Rattle.mesa_history.specs.Alone.{history_alone}
@@ -19,10 +17,6 @@ use Rattle.mesa_script.specs.Output.{output}
 abbrev pub lines : List (List ℕ) → List ℕ
 lines [] = []
 lines (line ∷ rest) = line ++ 10 ∷ lines rest
-
--- an empty store
-abbrev pub nothing_there : Script → State
-nothing_there script = record { warehouse = empty_warehouse; machine = machine_of script [] }
 
 -- what a script prints, or why it is refused
 abbrev printed_as : Result Script ScriptError → Result (List ℕ) ScriptError
