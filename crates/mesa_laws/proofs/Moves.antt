@@ -1,0 +1,159 @@
+-- What a turn makes of the tables and the number of versions: nothing, or what one of five commands makes of them.
+use Rattle.std.proofs.Common.{◌≡◌, ℕ, ◌+◌, List, [], ◌∷◌, ◌++◌, map, length, true, false, subst, sym, Option, Some, None, Result, Ok, Err, is_none, is_ok, nat_le}
+use Rattle.mesa_schema.specs.declared.changes.Change.{Change}
+use Rattle.mesa_schema.specs.Changes.{change_checked, columns_of, epoch_of}
+use Rattle.mesa_schema.specs.Names.{is_name}
+use Rattle.mesa_schema.specs.Schema.{schema_checked}
+use Rattle.mesa_batch.specs.declared.words.RowWords.{RowWords}
+use Rattle.mesa_batch.specs.declared.words.BatchError.{BatchError}
+use Rattle.mesa_batch.specs.Batch.{Placed, batch_of}
+use Rattle.mesa_filter.specs.declared.words.QueryWords.{QueryWords}
+use Rattle.mesa_filter.specs.declared.words.VersionWord.{VersionWord}
+use Rattle.mesa_list.specs.Checks.{◌>>◌}
+use Rattle.mesa_model.specs.declared.commands.AlterWords.{AlterWords}
+use Rattle.mesa_model.specs.declared.commands.Command.{Command}
+use Rattle.mesa_model.specs.declared.commands.Command.TheVariants as command
+use Rattle.mesa_model.specs.declared.commands.TableWords.{TableWords}
+use Rattle.mesa_model.specs.declared.commands.ViewWords.{ViewWords}
+use Rattle.mesa_model.specs.declared.replies.Refusal.{Refusal}
+use Rattle.mesa_model.specs.declared.replies.Reply.{Reply}
+use Rattle.mesa_model.specs.declared.replies.Reply.TheVariants as reply
+use Rattle.mesa_model.specs.Warehouse.{Store, Table, Warehouse, max_pins, max_tables, max_versions, table_at, with_table, with_tables}
+use Rattle.mesa_model.specs.Load.{bounds_checked, load_batch, tables_named, with_batch}
+use Rattle.mesa_model.specs.Relations.{is_taken, table_number}
+use Rattle.mesa_model.specs.Step.{done_or_refused, reply_to_query, step}
+use Rattle.mesa_model.specs.Tables.{alter_table, change_asked, columns_asked, make_table, make_view, names_are_good, new_table, table_changed, view_of_table_checked}
+use Rattle.mesa_model.specs.Versions.{expire_to, store_from, version_asked, version_checked}
+use Rattle.mesa_model.specs.Pins.{make_pin, pin_of, release_pin}
+use Rattle.mesa_model.specs.Query.{Answer, query_answer}
+use Rattle.mesa_model.specs.Refusals.{refuse_closed}
+use Rattle.mesa_history.specs.Law.{Accepted}
+use Rattle.mesa_history.specs.Run.{Told}
+use Rattle.mesa_laws.proofs.Checks.{after_value, after_check, after_refuse_if, after_refuse_unless, after_some, after_other, after_other_check}
+
+-- ---- the batch that a reply says was accepted
+
+-- a batch, and no rows where it is refused
+abbrev batch_or_none : Result (List Placed) BatchError → List Placed
+batch_or_none (Ok batch) = batch
+batch_or_none (Err refusal) = []
+
+-- the batch of a load's rows
+abbrev loaded_rows : Store → Command → List Placed
+loaded_rows s (command.Load rows) = batch_or_none (batch_of (tables_named s) rows)
+loaded_rows s c = []
+
+-- a batch as it is accepted: its version, and the epoch of each table
+abbrev pub accepted : Store → ℕ → List Placed → Accepted
+accepted s version batch = record { version = version; batch = batch; epochs = map (λ (t : Table). epoch_of t.lineage) s.tables }
+
+-- the batch that a command's reply says was accepted
+abbrev pub accepted_as : Store → Command → Reply → List Accepted
+accepted_as s c (reply.Loaded version rows) = accepted s version (loaded_rows s c) ∷ []
+accepted_as s c r = []
+
+-- the same of a command and a reply that may not be there
+abbrev pub accepted_if_told : Store → Option Command → Option Told → List Accepted
+accepted_if_told s None told = []
+accepted_if_told s (Some c) None = []
+accepted_if_told s (Some c) (Some told) = accepted_as s c told.reply
+
+-- ---- what a command makes
+
+-- a table with a view more
+abbrev pub viewed : Table → ViewWords → Table
+viewed t words = record t { lineage = record t.lineage { views = t.lineage.views ++ record { name = words.view; keys = words.keys; values = words.values } ∷ [] } }
+
+-- Something that holds of the tables, of the number of versions and of what was accepted, whatever a turn makes of a warehouse.
+pub record Moves (w : Warehouse) (P : Store → ℕ → List Accepted → Type 0) : Type 0 where
+  pub same : P w.store w.next []
+  pub loads : (rows : List RowWords) (batch : List Placed) → batch_of (tables_named w.store) rows ≡ Ok batch
+      → P (with_batch w batch).store (w.next + 1) (accepted w.store w.next batch ∷ [])
+  pub makes : (words : TableWords) → is_taken w.store words.table ≡ false → is_ok (schema_checked (columns_asked words)) ≡ true
+      → P (with_tables w (w.store.tables ++ new_table w words.table (columns_asked words) ∷ [])).store w.next []
+  pub views : (words : ViewWords) (number : ℕ) → is_taken w.store words.view ≡ false → table_number w.store words.table ≡ Some number
+      → is_ok (view_of_table_checked (table_at w.store number) words) ≡ true
+      → P (with_table w number (viewed (table_at w.store number) words)).store w.next []
+  pub alters : (words : AlterWords) (number : ℕ) (c : Change) → table_number w.store words.table ≡ Some number
+      → change_asked (columns_of (table_at w.store number).lineage) words.change ≡ Ok c → is_ok (change_checked (table_at w.store number).lineage c) ≡ true
+      → P (with_table w number (table_changed (table_at w.store number) c)).store w.next []
+  pub expires : (version : ℕ) → is_ok (version_checked w version) ≡ true → P (store_from w.store version) w.next []
+
+-- It holds once a command was done or refused.
+record Done (w : Warehouse) (P : Store → ℕ → List Accepted → Type 0) (c : Command) (r : Result (Warehouse × Reply) Refusal) : Type 0 where
+  holds : P (done_or_refused w r).0.store (done_or_refused w r).0.next (accepted_as w.store c (done_or_refused w r).1)
+
+module _ (w : Warehouse) (P : Store → ℕ → List Accepted → Type 0) (moves : Moves w P) where
+  refused : (c : Command) (e : Refusal) → Done w P c (Err e)
+  refused c e = record { holds = moves.same }
+
+  load_moves : (rows : List RowWords) → Done w P (command.Load rows) (load_batch w rows)
+  load_moves rows =
+      let D = Done w P (command.Load rows) in
+      let no = refused (command.Load rows) in
+      after_check D no (refuse_closed w.closed) _ (λ open'. after_other D no _ (batch_of (tables_named w.store) rows) _ (λ batch is. after_refuse_if D no (nat_le max_versions w.next) _ _ (λ room. after_check D no (bounds_checked batch 0 w.store.tables) _ (λ bound.
+      record { holds = subst (λ (r : Result (List Placed) BatchError). P (with_batch w batch).store (w.next + 1) (accepted w.store w.next (batch_or_none r) ∷ [])) (sym is) (moves.loads rows batch is) }))))
+
+  table_moves : (words : TableWords) → Done w P (command.Table words) (make_table w words)
+  table_moves words =
+      let D = Done w P (command.Table words) in
+      let no = refused (command.Table words) in
+      after_check D no (refuse_closed w.closed) _ (λ open'. after_refuse_unless D no (is_name words.table) _ _ (λ name. after_refuse_if D no (is_taken w.store words.table) _ _ (λ free.
+      after_refuse_unless D no (names_are_good (columns_asked words)) _ _ (λ names. after_other_check D no _ (schema_checked (columns_asked words)) _ (λ schema. after_refuse_if D no (nat_le max_tables (length w.store.tables)) _ _ (λ room.
+      record { holds = moves.makes words free schema }))))))
+
+  view_moves : (words : ViewWords) → Done w P (command.View words) (make_view w words)
+  view_moves words =
+      let D = Done w P (command.View words) in
+      let no = refused (command.View words) in
+      after_check D no (refuse_closed w.closed) _ (λ open'. after_refuse_unless D no (is_name words.view) _ _ (λ name. after_refuse_if D no (is_taken w.store words.view) _ _ (λ free.
+      after_some D no (table_number w.store words.table) _ _ (λ number is. after_check D no (view_of_table_checked (table_at w.store number) words) _ (λ rules.
+      record { holds = moves.views words number free is rules })))))
+
+  alter_moves : (words : AlterWords) → Done w P (command.Alter words) (alter_table w words)
+  alter_moves words =
+      let D = Done w P (command.Alter words) in
+      let no = refused (command.Alter words) in
+      after_check D no (refuse_closed w.closed) _ (λ open'. after_some D no (table_number w.store words.table) _ _ (λ number is. after_value D no (change_asked (columns_of (table_at w.store number).lineage) words.change) _ (λ c asked.
+      after_other_check D no _ (change_checked (table_at w.store number).lineage c) _ (λ rules.
+      record { holds = moves.alters words number c is asked rules }))))
+
+  expire_moves : (version : ℕ) → Done w P (command.Expire version) (expire_to w version)
+  expire_moves version =
+      let D = Done w P (command.Expire version) in
+      let no = refused (command.Expire version) in
+      after_check D no (refuse_closed w.closed) _ (λ open'. after_check D no (version_checked w version) _ (λ there. record { holds = moves.expires version there }))
+
+  pin_moves : (session : ℕ) (asked : VersionWord) → Done w P (command.Pin asked) (make_pin w session asked)
+  pin_moves session asked =
+      let D = Done w P (command.Pin asked) in
+      let no = refused (command.Pin asked) in
+      after_check D no (refuse_closed w.closed) _ (λ open'. after_value D no (version_asked w asked) _ (λ version is. after_refuse_if D no (nat_le max_pins (length w.pins)) _ _ (λ room. record { holds = moves.same })))
+
+  release_moves : (session token : ℕ) → Done w P (command.Release token) (release_pin w session token)
+  release_moves session token =
+      let D = Done w P (command.Release token) in
+      let no = refused (command.Release token) in
+      after_check D no (refuse_closed w.closed) _ (λ open'. after_refuse_if D no (is_none (pin_of w session token)) _ _ (λ held. record { holds = moves.same }))
+
+  -- a command that asks nothing of the rows
+  nothing_moves : (c : Command) → Done w P c (refuse_closed w.closed >> Ok (w, reply.Idle))
+  nothing_moves c =
+      after_check (Done w P c) (refused c) (refuse_closed w.closed) _ (λ open'. record { holds = moves.same })
+
+  -- what a query is told, is no batch
+  query_moves : (session : ℕ) (words : QueryWords) → P w.store w.next (accepted_as w.store (command.Query words) (reply_to_query (query_answer w session words)))
+  query_moves session words = elim (query_answer w session words) as (λ (r : Result Answer Refusal). P w.store w.next (accepted_as w.store (command.Query words) (reply_to_query r))) [ Ok answer ↦ moves.same | Err refusal ↦ moves.same ]
+
+  -- What Step makes of a warehouse.
+  pub step_moves : (session : ℕ) (c : Command) → P (step w session c).0.store (step w session c).0.next (accepted_as w.store c (step w session c).1)
+  step_moves session (command.Table words) = (table_moves words).holds
+  step_moves session (command.View words) = (view_moves words).holds
+  step_moves session (command.Alter words) = (alter_moves words).holds
+  step_moves session (command.Load rows) = (load_moves rows).holds
+  step_moves session (command.Query words) = query_moves session words
+  step_moves session (command.Explain words) = (nothing_moves (command.Explain words)).holds
+  step_moves session (command.Pin asked) = (pin_moves session asked).holds
+  step_moves session (command.Release token) = (release_moves session token).holds
+  step_moves session (command.Expire version) = (expire_moves version).holds
+  step_moves session (command.Work name) = (nothing_moves (command.Work name)).holds

@@ -1,0 +1,84 @@
+-- Answers at any version, also by a pin, are pages of what the fold law gives, and so is whatever is printed.
+use Rattle.std.proofs.Common.{◌≡◌, ℕ, ◌-◌, List, [], ◌∷◌, refl, sym, ◌∙◌, ap, subst, arith, Some, Ok, get_or}
+use Rattle.mesa_list.specs.Checks.{◌>>=◌}
+use Rattle.mesa_filter.specs.declared.words.QueryWords.{QueryWords}
+use Rattle.mesa_filter.specs.declared.words.VersionWord.{VersionWord}
+use Rattle.mesa_filter.specs.declared.words.VersionWord.TheVariants as asks
+use Rattle.mesa_model.specs.declared.commands.Script.{Script}
+use Rattle.mesa_model.specs.declared.entries.Entry.{Entry}
+use Rattle.mesa_model.specs.declared.replies.Page.{Page}
+use Rattle.mesa_model.specs.declared.replies.Refusal.TheVariants as no
+use Rattle.mesa_model.specs.declared.replies.Reply.TheVariants as reply
+use Rattle.mesa_model.specs.Versions.{version_asked}
+use Rattle.mesa_model.specs.Warehouse.{Pin, Store, Warehouse, content_at}
+use Rattle.mesa_model.specs.WellFormed.{IsWellFormed}
+use Rattle.mesa_model.specs.Pins.{is_pin, pin_of, store_at}
+use Rattle.mesa_model.specs.Refusals.{refuse_closed}
+use Rattle.mesa_model.specs.Query.{Answer, query_answer, store_asked}
+use Rattle.mesa_history.specs.Law.{accepted_in}
+use Rattle.mesa_history.specs.Run.{State, Told, begins}
+use Rattle.mesa_history.specs.Replay.{runs, told_by}
+use Rattle.mesa_laws.specs.Answers.{IsFromItsPin, IsFromItsVersion}
+use Rattle.mesa_laws.specs.Given.{WasGiven, warehouse_after}
+use Rattle.mesa_laws.specs.Printed.{IsPrintedFromTheFold}
+use Rattle.mesa_laws.proofs.AnswersOver.{answer_at, answer_in, answers_same}
+use Rattle.mesa_laws.proofs.Checks.{bound, bound_some, passed}
+use Rattle.mesa_laws.proofs.FoldLaw.{law_holds}
+use Rattle.mesa_laws.proofs.FromTheFold.{answer_folds, present_folds}
+use Rattle.mesa_laws.proofs.Lists.{all_found}
+use Rattle.mesa_laws.proofs.Pinning.{pins_given}
+use Rattle.mesa_laws.proofs.Printing.{pages_answered}
+
+-- an answer over tables pinned at a version is the answer over the tables at that version
+unpinned : (s : Store) (words : QueryWords) (version : ℕ) → answer_in (store_at s version) words (Ok version) ≡ answer_in s words (Ok version)
+unpinned s words version = answers_same s (store_at s version) (λ t. content_at s t version ∷ []) refl words (Ok version) (λ t seen told.
+    let same : version ≡ seen = cc in
+    let place : seen - version ≡ 0 = omega (arith, same) in
+    ap (λ i. get_or (content_at s t version ∷ []) i []) place ∙ ap (content_at s t) same)
+
+-- the pin that a query names, and the answer over it
+pin_named : (w : Warehouse) (session token : ℕ) (words : QueryWords) (answer : Answer) → answer_at w session words (asks.Pin token) ≡ Ok answer
+    → (pin : Pin) × (pin_of w session token ≡ Some pin) × (answer_in pin.store words (Ok pin.store.oldest) ≡ Ok answer)
+pin_named w session token words answer e =
+    let open' = passed (refuse_closed w.closed) (store_asked w session (asks.Pin token) >>= (λ store. answer_in store words (Ok store.oldest))) answer e in
+    let store = bound (store_asked w session (asks.Pin token)) (λ (store : Store). answer_in store words (Ok store.oldest)) answer open' in
+    let pin = bound_some (pin_of w session token) (no.NoPin token) (λ (pin : Pin). Ok pin.store) store.0 store.1 in
+    let of = pin.2 in
+    let same : store.0 ≡ pin.0.store = cc in
+    (pin.0, pin.1, subst (λ (s : Store). answer_in s words (Ok s.oldest) ≡ Ok answer) same store.2)
+
+module _ (script : Script) (start : State) (is : IsWellFormed start.warehouse) (none : start.warehouse.pins ≡ []) where
+  pinned_folds : (h : List Entry) (session token : ℕ) (words : QueryWords) (answer : Answer) → answer_at (warehouse_after script start h) session words (asks.Pin token) ≡ Ok answer → IsFromItsPin script start h session token words answer
+  pinned_folds h session token words answer e =
+      let now : Warehouse = warehouse_after script start h in
+      let named = pin_named now session token words answer e in
+      let pin : Pin = named.0 in
+      let given : WasGiven script start h pin = all_found (WasGiven script start h) (is_pin session token) now.pins pin named.1 (pins_given script start is none h) in
+      let then : Warehouse = warehouse_after script start given.before in
+      let over : answer_in (store_at then.store pin.version) words (Ok pin.version) ≡ Ok answer = subst (λ (s : Store). answer_in s words (Ok s.oldest) ≡ Ok answer) given.store named.2 in
+      record {
+        pin = pin;
+        held = named.1;
+        given = given;
+        fold = answer_folds start.warehouse (accepted_in script (begins start) given.before) then (law_holds script start given.before is) words pin.version (given.above, given.below) answer (sym (unpinned then.store words pin.version) ∙ over);
+      }
+
+  version_folds : (h : List Entry) (session : ℕ) (words : QueryWords) (answer : Answer) (version : VersionWord) → words.version ≡ version → answer_at (warehouse_after script start h) session words version ≡ Ok answer
+      → IsFromItsVersion script start h session words answer version
+  version_folds h session words answer asks.Latest at e =
+      let now : Warehouse = warehouse_after script start h in
+      present_folds script start h words answer is (subst (λ v. answer_in now.store words (version_asked now v) ≡ Ok answer) (sym at) (passed (refuse_closed now.closed) (answer_in now.store words (version_asked now asks.Latest)) answer e))
+  version_folds h session words answer (asks.At version) at e =
+      let now : Warehouse = warehouse_after script start h in
+      present_folds script start h words answer is (subst (λ v. answer_in now.store words (version_asked now v) ≡ Ok answer) (sym at) (passed (refuse_closed now.closed) (answer_in now.store words (version_asked now (asks.At version))) answer e))
+  version_folds h session words answer (asks.Pin token) at e = pinned_folds h session token words answer e
+
+  -- The answer to a query, after any history, is from the fold at its version.
+  pub answers_fold : (h : List Entry) (session : ℕ) (words : QueryWords) (answer : Answer) → query_answer (warehouse_after script start h) session words ≡ Ok answer → IsFromItsVersion script start h session words answer words.version
+  answers_fold h session words answer e = version_folds h session words answer words.version refl e
+
+  -- Every page that is printed is from the fold, at the position with which it is printed.
+  pub pages_fold : (h : List Entry) (e : Entry) (told : Told) (page : Page) → told_by script (runs script (begins start) h) e ≡ Some told → told.reply ≡ reply.Page page → IsPrintedFromTheFold script start h e.session told
+  pages_fold h e told page tells reads =
+      let was = pages_answered script start h e told page tells reads in
+      record { was = was; fold = answers_fold was.before e.session was.words was.answer was.answers }

@@ -1,0 +1,27 @@
+// Laws of histories.
+ghost use Rattle.std.specs.Prelude.{ℕ, List};
+ghost use Rattle.mesa_history.specs.Law.{FoldLaw};
+ghost use Rattle.mesa_history.specs.Replay.{go, runs};
+ghost use Rattle.mesa_history.specs.Run.{Run};
+ghost use Rattle.mesa_model.specs.declared.commands.Command.{Command};
+ghost use Rattle.mesa_model.specs.declared.commands.Script.{Script};
+ghost use Rattle.mesa_model.specs.declared.entries.Entry.{Entry};
+ghost use Rattle.mesa_model.specs.Step.{step};
+ghost use Rattle.mesa_model.specs.Warehouse.{Warehouse, empty_warehouse};
+ghost use Rattle.mesa_model.specs.WellFormed.{IsWellFormed};
+
+/// From a well-formed start every history leaves each content as the fold of what stood at the
+/// start and of the batches accepted since.
+pub fn fold_law()
+    ensures { FoldLaw }
+{}
+
+/// A warehouse in which nothing was done yet is well formed, and one that is stays so through every
+/// command, every turn and every history: what the fold law asks of a start holds of whatever a run
+/// reaches.
+pub fn keeps_well_formed()
+    ensures empty { IsWellFormed empty_warehouse }
+    ensures command { (w : Warehouse) (session : ℕ) (c : Command) → IsWellFormed w → IsWellFormed (step w session c).0 }
+    ensures turn { (script : Script) (r : Run) (e : Entry) → IsWellFormed r.state.warehouse → IsWellFormed (go script r e).state.warehouse }
+    ensures history { (script : Script) (r : Run) (h : List Entry) → IsWellFormed r.state.warehouse → IsWellFormed (runs script r h).state.warehouse }
+{}

@@ -1,0 +1,14 @@
+//! Laws of the warehouse: what its definitions say together, over whole histories.
+#![tactic(auto)]
+
+mod answering;
+mod laws;
+mod loading;
+mod paging;
+mod versions;
+
+pub use answering::answers_from_the_fold;
+pub use laws::{fold_law, keeps_well_formed};
+pub use loading::batch_is_whole;
+pub use paging::{pages_chain, queries_go_on};
+pub use versions::{expire_keeps_answers, versions_stay};
