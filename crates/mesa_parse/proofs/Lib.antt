@@ -1,0 +1,5 @@
+pub mod RecordsLeft
+pub mod Taking
+pub mod Digits
+pub mod Steps
+pub mod FieldAt

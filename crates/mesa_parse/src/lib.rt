@@ -1,0 +1,15 @@
+//! Reading scripts: what their records say, as csv reads them.
+#![tactic(auto)]
+
+mod columns;
+mod entries;
+mod failed;
+mod items;
+mod kinds;
+mod numbers;
+mod reading;
+mod records;
+mod scripts;
+mod versions;
+
+pub use scripts::parse;
