@@ -1,0 +1,9 @@
+//! Scripts that are read, and replies and pages that are printed, against texts written by hand.
+#![tactic(auto)]
+
+#[cfg(test)]
+mod heads;
+#[cfg(test)]
+mod pages;
+#[cfg(test)]
+mod scripts;

@@ -1,0 +1,91 @@
+// The lines of pages.
+ghost use Rattle.std.specs.Prelude.{[], ◌∷◌, IfOk, IfSome, IsTrue};
+ghost use Rattle.std.specs.List.{AllByRecursion};
+ghost use Rattle.mesa_key.specs.Spelling.{IsKey, is_spelling};
+ghost use Rattle.mesa_key.specs.Text.{is_key_text};
+ghost use Rattle.mesa_schema.specs.declared.rows.Row.{Row as AnyRow};
+
+use mesa_key::{Key, KeyBytes, KeyText, KeyType, KeyValue, encode, reads_back};
+use mesa_list::Items;
+use mesa_model::Page;
+use mesa_print::render;
+use mesa_schema::{Row, RowList};
+use std::alloc::{AllocError, Global};
+use std::test::Fail;
+
+// The types of a number and a text.
+const TYPES: [KeyType; 2] = [KeyType::Int, KeyType::Text];
+
+// The bytes of a key of these types.
+fn key_bytes(alloc: Global, types: &[KeyType], key: &Key) -> Result<KeyBytes, AllocError>
+    requires { IsKey types.now key.now }
+    ensures { IfOk result (λ bytes. IsTrue (is_spelling types.now bytes)) }
+{
+    reads_back();
+    let mut bytes = Vec::new(alloc);
+    encode(key, &mut bytes)?;
+    Ok(Items::from_vec(bytes))
+}
+
+// A row of a number and a text, with one value.
+fn row(alloc: Global, number: i64, text: &[u8], value: i64) -> Result<Row, AllocError>
+    requires { IsTrue (is_key_text text.now) }
+    ensures { IfOk result (λ row. IsTrue (is_spelling (KeyType.Int ∷ KeyType.Text ∷ []) row.key)) }
+{
+    let mut key = Items::new(alloc);
+    key.push(KeyValue::Int(number))?;
+    key.push(KeyValue::Text(KeyText::new(Items::from_bytes(alloc, text)?)))?;
+    let key = key_bytes(alloc, &TYPES, &key)?;
+    Ok(Row {
+        key,
+        values: Items::from_vec(vec![in alloc; value]?),
+    })
+}
+
+// Rows of a day and a country.
+fn rows(alloc: Global) -> Result<Option<RowList>, AllocError>
+    ensures { IfOk result (λ o. IfSome o (λ rows. AllByRecursion (λ (row : AnyRow). IsTrue (is_spelling (KeyType.Int ∷ KeyType.Text ∷ []) row.key)) rows)) }
+{
+    let (first, second) = (b"US".as_slice(), b"a,\"b\"".as_slice());
+    if !KeyText::allows(first) || !KeyText::allows(second) {
+        return Ok(None);
+    }
+    let mut rows = Items::new(alloc);
+    rows.push(row(alloc, 20131231, first, 10)?)?;
+    rows.push(row(alloc, -5, second, -1)?)?;
+    Ok(Some(rows))
+}
+
+#[test]
+fn prints_pages(rt: HostRuntime) -> Result<(), Fail> {
+    let alloc = rt.alloc();
+    let rows = rows(alloc)?.ok_or("not a text")?;
+    let last = b"\x7f\xff\xff\xff\xff\xff\xff\xfba,\"b\"\0";
+    let page = Page {
+        version: 1,
+        rows,
+        resume: Some(Items::from_bytes(alloc, last)?),
+    };
+    let printed = render(alloc, &page, &TYPES, b"a/1/0/day;country/")?;
+    assert_eq!(rt; printed.rows, 2);
+    assert!(rt; printed.more);
+    let lines =
+        "20131231,US,10\n-5,\"a,\"\"b\"\"\",-1\nresume a/1/0/day;country/7ffffffffffffffb612c22622200\n";
+    assert_eq!(rt; printed.body.as_slice(), lines.as_bytes());
+    Ok(())
+}
+
+#[test]
+fn prints_empty_pages(rt: HostRuntime) -> Result<(), Fail> {
+    let alloc = rt.alloc();
+    let page = Page {
+        version: 0,
+        rows: Items::new(alloc),
+        resume: None,
+    };
+    let printed = render(alloc, &page, &TYPES, b"a/0/0/day;country/")?;
+    assert_eq!(rt; printed.rows, 0);
+    assert!(rt; !printed.more);
+    assert!(rt; printed.body.is_empty());
+    Ok(())
+}

@@ -1,0 +1,139 @@
+// Scripts that are read, and scripts that are refused.
+use mesa_model::Command;
+use mesa_parse::parse;
+use mesa_schema::Words;
+use mesa_script::{Reason, ScriptError};
+use std::alloc::{AllocError, Global};
+use std::test::Fail;
+
+// Lists of bytes, each behind a comma.
+fn push_all(out: &mut Vec<u8>, lists: &[Words]) -> Result<(), AllocError> {
+    for list in lists {
+        out.push(b',')?;
+        out.extend_from_slice(list.as_slice())?;
+    }
+    Ok(())
+}
+
+// The words of a command, without its columns' types and its numbers.
+fn outline(alloc: Global, command: &Command) -> Result<Vec<u8>, AllocError> {
+    let mut out = Vec::new(alloc);
+    match command {
+        Command::Table(words) => {
+            out.extend_from_slice(b"table ")?;
+            out.extend_from_slice(words.table.as_slice())?;
+            for column in words.keys.as_slice() {
+                out.push(b' ')?;
+                out.extend_from_slice(column.name.as_slice())?;
+            }
+            for column in words.values.as_slice() {
+                out.push(b':')?;
+                out.extend_from_slice(column.name.as_slice())?;
+            }
+        }
+        Command::View(words) => {
+            out.extend_from_slice(b"view ")?;
+            out.extend_from_slice(words.table.as_slice())?;
+            push_all(&mut out, words.keys.as_slice())?;
+            push_all(&mut out, words.values.as_slice())?;
+        }
+        Command::Load(rows) => {
+            out.extend_from_slice(b"load")?;
+            for row in rows.as_slice() {
+                out.push(b' ')?;
+                out.extend_from_slice(row.table.as_slice())?;
+                push_all(&mut out, row.fields.as_slice())?;
+            }
+        }
+        Command::Query(words) => {
+            out.extend_from_slice(b"query ")?;
+            out.extend_from_slice(words.relation.as_slice())?;
+            for part in [&words.filter, &words.group, &words.values, &words.resume] {
+                out.push(b',')?;
+                out.extend_from_slice(part.as_slice())?;
+            }
+        }
+        _ => out.extend_from_slice(b"other")?,
+    }
+    Ok(out)
+}
+
+#[test]
+fn reads_a_script(rt: HostRuntime) -> Result<(), Fail> {
+    let alloc = rt.alloc();
+    let text =
+        "table,a,day int;country text,clicks sum;low min\nrow,a,1,US,10,2\nrow,b,2,\"U,K\",-3\ncommit\ncommit\nview,c,a,country,clicks\nquery,c,007,country=US,-,clicks\nquery,c\nexpire,1\n";
+    let script = parse(alloc, text.as_bytes().to_vec(alloc)?)?;
+    assert_eq!(rt; script.lease, 4096);
+    assert_eq!(rt; script.sessions.len(), 1);
+    let commands = script.sessions.as_slice()[0].as_slice();
+    let wants = [
+        "table a day country:clicks:low",
+        "load a,1,US,10,2 b,2,U,K,-3",
+        "load",
+        "view a,country,clicks",
+        "query c,country=US,-,clicks,",
+        "query c,,,,",
+        "other",
+    ];
+    assert_eq!(rt; commands.len(), wants.len());
+    for (command, want) in commands.iter().zip(wants) {
+        let words = outline(alloc, command)?;
+        assert_eq!(rt; words.as_slice(), want.as_bytes());
+    }
+    Ok(())
+}
+
+// Why a text is refused, if it is.
+fn refusal(alloc: Global, text: &str) -> Result<Option<ScriptError>, Fail> {
+    Ok(parse(alloc, text.as_bytes().to_vec(alloc)?).err())
+}
+
+#[test]
+fn tells_the_first_bad_record(rt: HostRuntime) -> Result<(), Fail> {
+    for (text, place, reason) in [
+        ("tabel,t\npin\n", 1, Reason::Unknown),
+        ("\u{feff}tabel,t\n", 1, Reason::Unknown),
+        ("table,t,k int,v sum\npin\n", 2, Reason::Unbuilt),
+        ("lease,5\n", 1, Reason::Unbuilt),
+        ("session\n", 1, Reason::Unbuilt),
+        ("query,t,,,,,5\n", 1, Reason::Unbuilt),
+        ("query,t,,,,,,,9\n", 1, Reason::Unbuilt),
+        ("query,t,pin:x\n", 1, Reason::Unbuilt),
+        ("table,t,k int\n", 1, Reason::Fields),
+        ("\n\nrow,t,1,5\ncommit,1\n", 2, Reason::Fields),
+        ("query\n", 1, Reason::Fields),
+        ("row,t,1,5\nquery,t\n", 2, Reason::Order),
+        ("row,t,1,5\n", 2, Reason::Order),
+        ("row,t,1,5\ntable,t\n", 2, Reason::Fields),
+        ("table,t,k  int,v sum\n", 1, Reason::Word),
+        ("table,t,k int;,v sum\n", 1, Reason::Word),
+        ("table,t,k int,v avg\n", 1, Reason::Word),
+        ("query,t,x\n", 1, Reason::Word),
+        ("query,t,-1\n", 1, Reason::Word),
+        ("query,t,4294967296\n", 1, Reason::Number),
+        ("expire,\n", 1, Reason::Number),
+        ("expire,4294967295\nexpire,+1\n", 2, Reason::Number),
+    ] {
+        let refused = refusal(rt.alloc(), text)?;
+        let want = ScriptError::BadRecord { place, reason };
+        assert_eq!(rt; refused, Some(want), "at {text}");
+    }
+    Ok(())
+}
+
+#[test]
+fn counts_commands(rt: HostRuntime) -> Result<(), Fail> {
+    let alloc = rt.alloc();
+    let mut text = Vec::new(alloc);
+    for _ in 0..200_000 {
+        text.extend_from_slice(b"commit\n")?;
+    }
+    let most = parse(alloc, text.as_slice().to_vec(alloc)?)?;
+    assert_eq!(rt; most.sessions.len(), 1);
+    text.extend_from_slice(b"row,t,1,5\ncommit\n")?;
+    let refused = parse(alloc, text).err();
+    let want = ScriptError::TooManyCommands { place: 200_002 };
+    assert_eq!(rt; refused, Some(want));
+    Ok(())
+}
