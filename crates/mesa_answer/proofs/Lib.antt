@@ -1,0 +1,10 @@
+pub mod Asked
+pub mod Bounds
+pub mod ColumnCuts
+pub mod Picked
+pub mod Forms
+pub mod Groups
+pub mod Paging
+pub mod Resumes
+pub mod SameOrder
+pub mod ViewColumns

@@ -1,0 +1,39 @@
+// Grouping rows.
+ghost use Rattle.std.specs.Prelude.{◌≡◌, IsTrue, IfOk};
+ghost use Rattle.mesa_schema.specs.Rows.{AreRowsOf};
+ghost use Rattle.mesa_schema.specs.Folded.{grouped};
+ghost use Rattle.mesa_filter.specs.Query.{are_places};
+ghost use Rattle.mesa_answer.specs.Answering.{KeepsSums, grouped_columns};
+
+use crate::folding::{chosen_aggs, fold_rows};
+use crate::regrouping::regrouped;
+use mesa_list::Items;
+use mesa_schema::{Row, RowList, Schema};
+use std::alloc::{AllocError, Global};
+
+/// Groups rows by the key columns at these places: a row for each group key that occurs, in the
+/// order of the group keys, with the value columns at those places combined in the rows' order.
+/// Where there are no key columns all rows are one group, whose key is empty.
+pub fn group(
+    alloc: Global,
+    schema: &Schema,
+    columns: &[u16],
+    values: &[u16],
+    rows: &[Row],
+) -> Result<RowList, AllocError>
+    requires columns_there { IsTrue (are_places schema.now.keys columns.now) }
+    requires values_there { IsTrue (are_places schema.now.values values.now) }
+    requires of_schema { AreRowsOf schema.now rows.now }
+    requires bounded { KeepsSums schema.now rows.now }
+    ensures grouped { IfOk result (λ found. found ≡ grouped schema.now columns.now values.now rows.now) }
+    ensures form { IfOk result (λ found. AreRowsOf (grouped_columns schema.now columns.now values.now) found) }
+    ensures bounded { IfOk result (λ found. KeepsSums (grouped_columns schema.now columns.now values.now) found) }
+{
+    let mut regrouped_rows = Vec::new(alloc);
+    for row in rows {
+        regrouped_rows.push(regrouped(alloc, schema, columns, values, row)?)?;
+    }
+    let aggs = chosen_aggs(alloc, schema, values)?;
+    let found = fold_rows(alloc, &aggs, regrouped_rows)?;
+    Ok(Items::from_vec(found))
+}
