@@ -1,0 +1,12 @@
+pub mod Spread
+pub mod File
+pub mod Tail
+pub mod Summary
+pub mod Totals
+pub mod Tallies
+pub mod Seeking
+pub mod Beginning
+pub mod Faults
+pub mod Begun
+pub mod Laying
+pub mod Writing

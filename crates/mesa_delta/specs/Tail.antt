@@ -1,0 +1,50 @@
+-- The bytes of a file behind its blocks.
+use Rattle.std.specs.Prelude.{ℕ, ◌+◌, List, [], ◌∷◌, ◌++◌, length, map}
+use Rattle.std.specs.Int.{w32, w64, to_be_bytes}
+use Rattle.sha2.specs.Sha256.{sha256}
+use Rattle.mesa_value.specs.declared.Agg.{Agg}
+use Rattle.mesa_value.specs.declared.Agg.TheVariants as agg
+use Rattle.mesa_key.specs.declared.KeyType.{KeyType}
+use Rattle.mesa_key.specs.declared.KeyType.TheVariants as kind
+use Rattle.mesa_key.specs.Order.{short_key}
+use Rattle.mesa_schema.specs.declared.rows.Row.{Row}
+use Rattle.mesa_schema.specs.Columns.{Columns, kinds_of, aggs_of}
+use Rattle.mesa_block.specs.Spelling.{block}
+
+-- the key of the first of the rows
+abbrev pub first_key : List Row → List ℕ
+first_key [] = []
+first_key (row ∷ rows) = row.key
+
+-- A block's entry is the short key of its first key, its offset, its length and the SHA-256 of its bytes.
+abbrev pub entry : List ℕ → ℕ → List ℕ → List ℕ
+entry short offset bytes = short ++ (to_be_bytes w64 offset ++ (to_be_bytes w32 (length bytes) ++ sha256 bytes))
+
+-- The entries of blocks that stand one after the other from an offset on.
+abbrev pub entries : Columns → ℕ → List (List Row) → List ℕ
+entries s offset [] = []
+entries s offset (rows ∷ blocks) = entry (short_key (first_key rows)) offset (block s rows) ++ entries s (offset + length (block s rows)) blocks
+
+-- A key column's byte.
+abbrev pub kind_byte : KeyType → ℕ
+kind_byte kind.Int = 0
+kind_byte kind.Text = 1
+
+-- A value column's byte.
+abbrev pub agg_byte : Agg → ℕ
+agg_byte agg.Sum = 0
+agg_byte agg.Min = 1
+agg_byte agg.Max = 2
+agg_byte agg.Replace = 3
+
+-- The last eight bytes of a file are `MESADLT1`.
+abbrev pub magic : List ℕ
+magic = 0x4d ∷ 0x45 ∷ 0x53 ∷ 0x41 ∷ 0x44 ∷ 0x4c ∷ 0x54 ∷ 0x31 ∷ []
+
+-- A tail ends with a byte for each column, the counts of rows, blocks, key columns and value columns, and the magic.
+abbrev pub foot : Columns → ℕ → ℕ → List ℕ
+foot s rows blocks = map kind_byte (kinds_of s) ++ (map agg_byte (aggs_of s) ++ (to_be_bytes w64 rows ++ (to_be_bytes w32 blocks ++ (length s.keys ∷ length s.values ∷ magic))))
+
+-- The tail of a file of these blocks and as many rows.
+abbrev pub tail_of : Columns → ℕ → List (List Row) → List ℕ
+tail_of s rows blocks = entries s 0 blocks ++ foot s rows (length blocks)

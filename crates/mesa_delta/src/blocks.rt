@@ -1,0 +1,149 @@
+// Blocks that are written through a draft.
+ghost use Rattle.std.specs.Prelude.{◌≡◌, IsTrue, ◌<◌, ◌≤◌, ◌^◌, ℕ, List, [], ◌∷◌, ◌++◌, length, map, IfOk, OnOk, IfErr, None};
+ghost use Rattle.mesa_fault.specs.Causes.{HasFaultCause};
+ghost use Rattle.mesa_schema.specs.Columns.{Columns};
+ghost use Rattle.mesa_block.specs.Fill.{after, fit};
+ghost use Rattle.mesa_block.specs.Rows.{IsRow, Rise};
+ghost use Rattle.mesa_block.specs.Spelling.{key_of};
+ghost use Rattle.mesa_delta.specs.declared.error.WriteError.TheVariants.{Draft as DraftFault};
+ghost use Rattle.mesa_delta.specs.Begun.{begun};
+ghost use Rattle.mesa_delta.specs.Laying.{IsSealed, Lays};
+ghost use Rattle.mesa_delta.specs.Spread.{Filling, with_more};
+
+use crate::WriteError;
+use crate::tail::{put_entry, put_foot};
+use mesa_block::{BlockBuilder, fits_alone};
+use mesa_disk::{Draft, Made};
+use mesa_key::short;
+use mesa_schema::{Row, Schema};
+use sha2::{Digest, Sha256};
+use std::alloc::AllocError;
+use std::marker::PhantomData;
+
+/// What is known of a file once its tail is written.
+#[derive(Drop)]
+pub struct Sealed {
+    pub len: u64,
+    pub blocks: u32,
+    pub digest: [u8; 32],
+}
+
+/// The blocks of a file: the full ones are on the draft, and the open one is in memory.
+pub struct BlockWriter<M, T> {
+    pub draft: T,
+    pub builder: BlockBuilder,
+    /// The entries of the full blocks, as the tail has them.
+    pub entries: Vec<u8>,
+    /// The length of the full blocks.
+    pub offset: u64,
+    /// How many are full.
+    pub blocks: u32,
+    /// The short key of the open block's first row, once there is one.
+    pub short: Option<[u8; 16]>,
+    pub made: PhantomData<M>,
+}
+
+impl<M: Made, T: Draft<M>> BlockWriter<M, T> {
+    /// One row more, in the open block where it fits there, else in the next one.
+    pub fn push(&mut self, schema: &Schema, row: &Row) -> Result<(), WriteError>
+        requires columns { self.old.builder.columns ≡ schema.now }
+        requires form { IsRow schema.now row.now }
+        requires greater { Rise (map key_of (self.old.builder.rows ++ row.now ∷ [])) }
+        requires short { self.old.short ≡ begun self.old.builder.rows }
+        ensures laid { OnOk result ((f : Filling) → Lays T.bytes schema.now self.old f → Lays T.bytes schema.now self.new (with_more schema.now f row.now)) }
+        ensures id { T.id_of self.new.draft ≡ T.id_of self.old.draft }
+        ensures cause { HasFaultCause (λ e. e ≡ DraftFault) (T.faults self.old.draft) (T.faults self.new.draft) result }
+    {
+        fits_alone();
+        let _columns = schema.keys();
+        if self.offer(row)? {
+            return Ok(());
+        }
+        self.close()?;
+        self.offer(row)?;
+        Ok(())
+    }
+
+    /// The draft as it is.
+    pub fn into_draft(self) -> T
+        ensures { result ≡ self.draft }
+    {
+        let BlockWriter {
+            draft,
+            builder: _builder,
+            entries: _entries,
+            offset: _offset,
+            blocks: _blocks,
+            short: _short,
+            made: _made,
+        } = self;
+        draft
+    }
+
+    // Whether the row fits in the open block, and then it is there.
+    fn offer(&mut self, row: &Row) -> Result<bool, AllocError>
+        requires form { IsRow self.old.builder.columns row.now }
+        requires greater { Rise (map key_of (self.old.builder.rows ++ row.now ∷ [])) }
+        requires short { self.old.short ≡ begun self.old.builder.rows }
+        ensures fits { IfOk result (λ b. b ≡ fit self.old.builder.columns (self.old.builder.rows ++ row.now ∷ [])) }
+        ensures ok { IfOk result (λ b. self.new.builder ≡ after b self.old.builder row.now) }
+        ensures short { OnOk result (self.new.short ≡ begun self.new.builder.rows) }
+        ensures same { self.new ≡ record self.old { builder = self.new.builder; short = self.new.short } }
+    {
+        let fits = self.builder.push(row)?;
+        if fits && self.short.is_none() {
+            self.short = Some(short(row.key.as_slice()));
+        }
+        Ok(fits)
+    }
+
+    /// Puts the open block on the draft, and the next one is empty.
+    pub fn close(&mut self) -> Result<(), WriteError>
+        requires some { 0 < length self.old.builder.rows }
+        requires short { self.old.short ≡ begun self.old.builder.rows }
+        ensures laid { OnOk result ((s : Columns) (f : Filling) → Lays T.bytes s self.old f → Lays T.bytes s self.new (record { done = f.done ++ f.last ∷ []; last = [] })) }
+        ensures empty { OnOk result (self.new.builder ≡ record self.old.builder { rows = [] }) }
+        ensures short { OnOk result (self.new.short ≡ None) }
+        ensures id { T.id_of self.new.draft ≡ T.id_of self.old.draft }
+        ensures cause { HasFaultCause (λ e. e ≡ DraftFault) (T.faults self.old.draft) (T.faults self.new.draft) result }
+    {
+        let Some(short) = self.short else {
+            return Err(WriteError::Memory);
+        };
+        let bytes = self.builder.take()?;
+        put_entry(&mut self.entries, &short, self.offset, &bytes)?;
+        let Some(offset) = self.offset.checked_add(bytes.len() as u64) else {
+            return Err(WriteError::Memory);
+        };
+        let Some(blocks) = self.blocks.checked_add(1) else {
+            return Err(WriteError::Memory);
+        };
+        self.draft.append(&bytes)?;
+        self.offset = offset;
+        self.blocks = blocks;
+        self.short = None;
+        Ok(())
+    }
+
+    /// Puts the open block and the tail on the draft.
+    pub fn seal(&mut self, schema: &Schema, rows: u64) -> Result<Sealed, WriteError>
+        requires some { 0 < length self.old.builder.rows }
+        requires short { self.old.short ≡ begun self.old.builder.rows }
+        ensures sealed { IfOk result (λ x. (f : Filling) → Lays T.bytes schema.now self.old f → IsSealed T.bytes schema.now self.new.draft rows (f.done ++ f.last ∷ []) x) }
+        ensures id { T.id_of self.new.draft ≡ T.id_of self.old.draft }
+        ensures cause { HasFaultCause (λ e. e ≡ DraftFault) (T.faults self.old.draft) (T.faults self.new.draft) result }
+    {
+        self.close()?;
+        put_foot(&mut self.entries, schema, rows, self.blocks)?;
+        let Some(len) = self.offset.checked_add(self.entries.len() as u64) else {
+            return Err(WriteError::Memory);
+        };
+        self.draft.append(&self.entries)?;
+        let digest = Sha256::digest(self.entries.as_slice());
+        Ok(Sealed {
+            len,
+            blocks: self.blocks,
+            digest,
+        })
+    }
+}

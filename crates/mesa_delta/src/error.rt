@@ -1,0 +1,43 @@
+// Why a file isn't written.
+ghost use Rattle.std.specs.Prelude.{◌≡◌};
+ghost use Rattle.mesa_delta.specs.declared.error.WriteError.TheVariants.{Draft as DraftFault, Memory as WantOfMemory};
+ghost use Rattle.mesa_delta.specs.Faults.{write_error};
+
+use mesa_disk::DraftError;
+use std::alloc::{AllocError, AllocFailed};
+
+/// Why a file isn't written. Its draft may then only be given back to its bench.
+#[derive(Clone, Copy, Debug, PartialEq, Eq)]
+pub enum WriteError {
+    /// A call of the draft failed, and its count of faults rose.
+    Draft,
+    /// Want of memory, or more rows or blocks than a file can count.
+    Memory,
+}
+
+impl From<AllocError> for WriteError {
+    ghost from_gives = { λ _ e. e ≡ WantOfMemory };
+
+    fn from(_: AllocError) -> Self {
+        WriteError::Memory
+    }
+}
+
+impl<T: Drop> From<AllocFailed<T>> for WriteError {
+    ghost from_gives = { λ _ e. e ≡ WantOfMemory };
+
+    fn from(_: AllocFailed<T>) -> Self {
+        WriteError::Memory
+    }
+}
+
+impl From<DraftError> for WriteError {
+    ghost from_gives = { λ d e. e ≡ write_error d };
+
+    fn from(error: DraftError) -> Self {
+        match error {
+            DraftError::Failed => WriteError::Draft,
+            DraftError::Memory => WriteError::Memory,
+        }
+    }
+}

@@ -1,0 +1,107 @@
+// The bytes of a file's tail.
+ghost use Rattle.std.specs.Prelude.{◌≡◌, ◌<◌, ◌^◌, ◌++◌, length, map, OnOk};
+ghost use Rattle.std.specs.Int.{w32, w64, to_be_bytes};
+ghost use Rattle.mesa_delta.specs.Tail.{entry, foot, kind_byte, agg_byte};
+
+use byteorder::{BigEndian, ByteOrder};
+use mesa_key::KeyType;
+use mesa_schema::{KeyColumn, Schema, ValueColumn};
+use mesa_value::Agg;
+use sha2::{Digest, Sha256};
+use std::alloc::AllocError;
+
+// Appends a number of eight bytes.
+fn put_u64(out: &mut Vec<u8>, number: u64) -> Result<(), AllocError>
+    ensures { OnOk result (out.new.items ≡ out.old.items ++ to_be_bytes w64 number) }
+{
+    let mut bytes = [0; 8];
+    BigEndian::write_u64(&mut bytes, number);
+    out.extend_from_slice(&bytes)?;
+    Ok(())
+}
+
+// Appends a number of four bytes.
+fn put_u32(out: &mut Vec<u8>, number: u32) -> Result<(), AllocError>
+    ensures { OnOk result (out.new.items ≡ out.old.items ++ to_be_bytes w32 number) }
+{
+    let mut bytes = [0; 4];
+    BigEndian::write_u32(&mut bytes, number);
+    out.extend_from_slice(&bytes)?;
+    Ok(())
+}
+
+/// Appends a block's entry: its first key's short key, its offset, its length, and the SHA-256 of its bytes.
+pub fn put_entry(
+    out: &mut Vec<u8>,
+    short: &[u8; 16],
+    offset: u64,
+    bytes: &[u8],
+) -> Result<(), AllocError>
+    requires { length bytes.now < 2 ^ 32 }
+    ensures { OnOk result (out.new.items ≡ out.old.items ++ entry short.now offset bytes.now) }
+{
+    out.extend_from_slice(short)?;
+    put_u64(out, offset)?;
+    put_u32(out, bytes.len() as u32)?;
+    out.extend_from_slice(&Sha256::digest(bytes))?;
+    Ok(())
+}
+
+fn kind_of(kind: KeyType) -> u8
+    ensures { result ≡ kind_byte kind }
+{
+    match kind {
+        KeyType::Int => 0,
+        KeyType::Text => 1,
+    }
+}
+
+fn agg_of(agg: Agg) -> u8
+    ensures { result ≡ agg_byte agg }
+{
+    match agg {
+        Agg::Sum => 0,
+        Agg::Min => 1,
+        Agg::Max => 2,
+        Agg::Replace => 3,
+    }
+}
+
+// Appends a byte for each key column.
+fn put_kinds(out: &mut Vec<u8>, columns: &[KeyColumn]) -> Result<(), AllocError>
+    ensures { OnOk result (out.new.items ≡ out.old.items ++ map kind_byte (map (λ c. c.kind) columns.now)) }
+{
+    for column in columns {
+        out.push(kind_of(column.kind))?;
+    }
+    Ok(())
+}
+
+// Appends a byte for each value column.
+fn put_aggs(out: &mut Vec<u8>, columns: &[ValueColumn]) -> Result<(), AllocError>
+    ensures { OnOk result (out.new.items ≡ out.old.items ++ map agg_byte (map (λ c. c.agg) columns.now)) }
+{
+    for column in columns {
+        out.push(agg_of(column.agg))?;
+    }
+    Ok(())
+}
+
+/// Appends the end of a tail, behind the entries.
+pub fn put_foot(
+    out: &mut Vec<u8>,
+    schema: &Schema,
+    rows: u64,
+    blocks: u32,
+) -> Result<(), AllocError>
+    ensures { OnOk result (out.new.items ≡ out.old.items ++ foot schema.now rows blocks) }
+{
+    put_kinds(out, schema.keys())?;
+    put_aggs(out, schema.values())?;
+    put_u64(out, rows)?;
+    put_u32(out, blocks)?;
+    out.push(schema.keys().len() as u8)?;
+    out.push(schema.values().len() as u8)?;
+    out.extend_from_slice(b"MESADLT1")?;
+    Ok(())
+}

@@ -1,0 +1,130 @@
+// What is known of the rows that were written, beside their bytes.
+ghost use Rattle.std.specs.Prelude.{◌≡◌, ◌<◌, List, [], ◌∷◌, ◌++◌, length, map, OnOk};
+ghost use Rattle.mesa_schema.specs.declared.rows.Row.{Row as AnyRow};
+ghost use Rattle.mesa_schema.specs.Columns.{aggs_of};
+ghost use Rattle.mesa_delta.specs.Summary.{AllCombine, all_noted, noted as noted_value};
+ghost use Rattle.mesa_delta.specs.Totals.{added};
+ghost use Rattle.mesa_delta.specs.Tallies.{Tallies};
+
+use mesa_schema::{Row, Schema, ValueColumn};
+use mesa_value::{Agg, Amount, combine};
+use std::alloc::{AllocError, Global};
+
+/// How many rows there are, their first and last key, and for each value column its aggregate.
+#[derive(Drop)]
+pub struct Tally {
+    pub rows: u64,
+    pub first: Vec<u8>,
+    pub last: Vec<u8>,
+    pub totals: Vec<Amount>,
+}
+
+impl Tally {
+    /// Of no rows.
+    pub fn new(alloc: Global) -> Self
+        ensures rows { result.rows ≡ 0 }
+        ensures first { result.first.items ≡ [] }
+        ensures last { result.last.items ≡ [] }
+        ensures totals { result.totals.items ≡ [] }
+    {
+        Tally {
+            rows: 0,
+            first: Vec::new(alloc),
+            last: Vec::new(alloc),
+            totals: Vec::new(alloc),
+        }
+    }
+
+    /// One row more. More rows than can be counted are answered as want of memory.
+    pub fn add(&mut self, schema: &Schema, row: &Row) -> Result<(), AllocError>
+        requires values { length row.now.values ≡ length schema.now.values }
+        requires sums { 0 < self.old.rows → AllCombine (aggs_of schema.now) self.old.totals.items row.now.values }
+        ensures { OnOk result ((rows : List AnyRow) → Tallies schema.now self.old rows → Tallies schema.now self.new (rows ++ row.now ∷ [])) }
+    {
+        if self.rows == 0 {
+            self.begin(schema, row)
+        } else {
+            self.go_on(schema, row)
+        }
+    }
+
+    // The first row.
+    fn begin(&mut self, schema: &Schema, row: &Row) -> Result<(), AllocError>
+        requires values { length row.now.values ≡ length schema.now.values }
+        requires first { self.old.rows ≡ 0 }
+        ensures { OnOk result ((rows : List AnyRow) → Tallies schema.now self.old rows → Tallies schema.now self.new (rows ++ row.now ∷ [])) }
+    {
+        put_noted(&mut self.totals, schema.values(), row.values.as_slice())?;
+        put_bytes(&mut self.first, row.key.as_slice())?;
+        put_bytes(&mut self.last, row.key.as_slice())?;
+        self.rows = 1;
+        Ok(())
+    }
+
+    // A row behind others.
+    fn go_on(&mut self, schema: &Schema, row: &Row) -> Result<(), AllocError>
+        requires values { length row.now.values ≡ length schema.now.values }
+        requires later { 0 < self.old.rows }
+        requires sums { AllCombine (aggs_of schema.now) self.old.totals.items row.now.values }
+        ensures { OnOk result ((rows : List AnyRow) → Tallies schema.now self.old rows → Tallies schema.now self.new (rows ++ row.now ∷ [])) }
+    {
+        let Some(rows) = self.rows.checked_add(1) else {
+            return Err(AllocError);
+        };
+        put_bytes(&mut self.last, row.key.as_slice())?;
+        add_values(&mut self.totals, schema.values(), row.values.as_slice());
+        self.rows = rows;
+        Ok(())
+    }
+}
+
+// These bytes and no others.
+fn put_bytes(out: &mut Vec<u8>, bytes: &[u8]) -> Result<(), AllocError>
+    ensures { OnOk result (out.new.items ≡ bytes.now) }
+{
+    out.clear();
+    out.extend_from_slice(bytes)?;
+    Ok(())
+}
+
+// A column's aggregate of one value.
+fn noted(agg: Agg, value: Amount) -> Amount
+    ensures { result ≡ noted_value agg value }
+{
+    match agg {
+        Agg::Replace => 0,
+        Agg::Sum => value,
+        Agg::Min => value,
+        Agg::Max => value,
+    }
+}
+
+// The aggregates of one row.
+fn put_noted(
+    totals: &mut Vec<Amount>,
+    columns: &[ValueColumn],
+    values: &[Amount],
+) -> Result<(), AllocError>
+    requires { length values.now ≡ length columns.now }
+    ensures { OnOk result (totals.new.items ≡ all_noted (map (λ c. c.agg) columns.now) values.now) }
+{
+    totals.clear();
+    for i in 0..columns.len() {
+        totals.push(noted(columns[i].agg, values[i]))?;
+    }
+    Ok(())
+}
+
+// The aggregates of one row more.
+fn add_values(totals: &mut [Amount], columns: &[ValueColumn], values: &[Amount])
+    requires sums { AllCombine (map (λ c. c.agg) columns.now) totals.old values.now }
+    requires values { length values.now ≡ length columns.now }
+    ensures values { totals.new ≡ added (map (λ c. c.agg) columns.now) totals.old values.now }
+    ensures len { length totals.new ≡ length totals.old }
+{
+    let count = columns.len().min(totals.len());
+    for i in 0..count {
+        let agg = columns[i].agg;
+        totals[i] = noted(agg, combine(agg, totals[i], values[i]));
+    }
+}

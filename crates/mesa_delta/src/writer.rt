@@ -1,0 +1,143 @@
+// Writing a file.
+ghost use Rattle.std.specs.Prelude.{◌≡◌, ◌<◌, ◌≤◌, ◌+◌, ℕ, List, [], ◌∷◌, ◌++◌, length, map, IfOk, OnOk, IfErr, Some};
+ghost use Rattle.mesa_fault.specs.Causes.{HasFaultCause, Rose};
+ghost use Rattle.mesa_schema.specs.declared.rows.Row.{Row as AnyRow};
+ghost use Rattle.mesa_delta.specs.declared.error.WriteError.TheVariants.{Draft as DraftFault};
+ghost use Rattle.mesa_delta.specs.File.{IsFile};
+ghost use Rattle.mesa_delta.specs.Summary.{IsReferenceOf};
+ghost use Rattle.mesa_delta.specs.Writing.{HasTaken, IsNext, columns_of, id_of, draft_of};
+
+use crate::WriteError;
+use crate::blocks::{BlockWriter, Sealed};
+use crate::tally::Tally;
+use mesa_block::BlockBuilder;
+use mesa_disk::{Draft, FileId, FileRef, Made};
+use mesa_list::{Items, TryCopy};
+use mesa_schema::{Row, Schema};
+use std::alloc::{AllocError, Global};
+use std::marker::PhantomData;
+
+/// A file that is being written through a draft: full blocks are appended whole, and one is kept in memory.
+///
+/// After an `Err` of `push` the writer may only be abandoned.
+pub struct DeltaWriter<M, T> {
+    pub(crate) id: FileId,
+    pub(crate) schema: Schema,
+    pub(crate) blocks: BlockWriter<M, T>,
+    pub(crate) tally: Tally,
+}
+
+impl<M: Made, T: Draft<M>> DeltaWriter<M, T> {
+    /// A file of no rows yet, through an empty draft; the reference will have this id.
+    pub fn new(
+        alloc: Global,
+        draft: T,
+        id: FileId,
+        schema: &Schema,
+    ) -> Result<Self, (AllocError, T)>
+        requires { (bytes : List ℕ) → T.bytes draft ≡ Some bytes → bytes ≡ [] }
+        ensures taken { IfOk result (λ w. HasTaken T.bytes w []) }
+        ensures columns { IfOk result (λ w. columns_of w ≡ schema.now) }
+        ensures id { IfOk result (λ w. id_of w ≡ id) }
+        ensures draft { IfOk result (λ w. draft_of w ≡ draft) }
+        ensures given_back { IfErr result (λ e. e.1 ≡ draft) }
+    {
+        let Ok(copy) = schema.copy() else {
+            return Err((AllocError, draft));
+        };
+        let Ok(builder) = BlockBuilder::new(alloc, schema) else {
+            return Err((AllocError, draft));
+        };
+        let blocks = BlockWriter {
+            draft,
+            builder,
+            entries: Vec::new(alloc),
+            offset: 0,
+            blocks: 0,
+            short: None,
+            made: PhantomData,
+        };
+        Ok(DeltaWriter {
+            id,
+            schema: copy,
+            blocks,
+            tally: Tally::new(alloc),
+        })
+    }
+
+    /// One row more.
+    pub fn push(&mut self, row: &Row) -> Result<(), WriteError>
+        requires { IsNext T.bytes self.old row.now }
+        ensures taken { OnOk result ((rows : List AnyRow) → HasTaken T.bytes self.old rows → HasTaken T.bytes self.new (rows ++ row.now ∷ [])) }
+        ensures columns { columns_of self.new ≡ columns_of self.old }
+        ensures id { id_of self.new ≡ id_of self.old }
+        ensures draft { T.id_of (draft_of self.new) ≡ T.id_of (draft_of self.old) }
+        ensures cause { HasFaultCause (λ e. e ≡ DraftFault) (T.faults (draft_of self.old)) (T.faults (draft_of self.new)) result }
+    {
+        self.tally.add(&self.schema, row)?;
+        self.blocks.push(&self.schema, row)?;
+        Ok(())
+    }
+
+    /// The finished file, and the reference that is true of it.
+    pub fn finish(self) -> Result<(M, FileRef), (WriteError, T)>
+        requires { (rows : List AnyRow) × (0 < length rows) × HasTaken T.bytes self rows }
+        ensures file { IfOk result (λ x. (rows : List AnyRow) → HasTaken T.bytes self rows → (bytes : List ℕ) → M.bytes x.0 ≡ Some bytes → IsFile (columns_of self) rows bytes) }
+        ensures reference { IfOk result (λ x. (rows : List AnyRow) → HasTaken T.bytes self rows → IsReferenceOf (columns_of self) (id_of self) rows x.1) }
+        ensures id { IfOk result (λ x. M.id_of x.0 ≡ T.id_of (draft_of self)) }
+        ensures given_back { IfErr result (λ e. T.id_of e.1 ≡ T.id_of (draft_of self)) }
+        ensures cause { IfErr result (λ e. (T.faults (draft_of self) ≤ T.faults e.1) × (e.0 ≡ DraftFault → Rose (T.faults (draft_of self)) (T.faults e.1))) }
+    {
+        let DeltaWriter {
+            mut blocks,
+            id,
+            schema,
+            tally,
+        } = self;
+        let sealed = match blocks.seal(&schema, tally.rows) {
+            Ok(sealed) => sealed,
+            Err(error) => return Err((error, blocks.into_draft())),
+        };
+        let file = reference(id, &sealed, tally);
+        match blocks.into_draft().finish() {
+            Ok(made) => Ok((made, file)),
+            Err((error, draft)) => Err((WriteError::from(error), draft)),
+        }
+    }
+
+    /// The draft as it is.
+    pub fn abandon(self) -> T
+        ensures { result ≡ draft_of self }
+    {
+        let DeltaWriter {
+            blocks,
+            id: _id,
+            schema: _schema,
+            tally: _tally,
+        } = self;
+        blocks.into_draft()
+    }
+}
+
+// The reference of a file with these rows.
+fn reference(id: FileId, sealed: &Sealed, tally: Tally) -> FileRef
+    ensures id { result.id ≡ id }
+    ensures len { result.len ≡ sealed.now.len }
+    ensures rows { result.rows ≡ tally.rows }
+    ensures blocks { result.blocks ≡ sealed.now.blocks }
+    ensures first { result.first ≡ tally.first.items }
+    ensures last { result.last ≡ tally.last.items }
+    ensures aggregates { result.aggregates ≡ tally.totals.items }
+    ensures digest { result.digest ≡ sealed.now.digest }
+{
+    FileRef {
+        id,
+        len: sealed.len,
+        rows: tally.rows,
+        blocks: sealed.blocks,
+        first: Items::from_vec(tally.first),
+        last: Items::from_vec(tally.last),
+        aggregates: Items::from_vec(tally.totals),
+        digest: sealed.digest,
+    }
+}

@@ -1,0 +1,5 @@
+//! Tests of delta files that cross crates.
+#![tactic(auto)]
+
+#[cfg(test)]
+mod seeking;
