@@ -10,10 +10,10 @@ use Rattle.mesa_fold.proofs.Keys.{is_rising}
 use Rattle.mesa_fold.proofs.Folds.{keys, folded-folded, keys-folded_at, rising-keys_of}
 use Rattle.mesa_fold.proofs.Folding.{of_rows, put_all, put_one}
 
-of_rows-same : (aggs : List Agg) (rows : List Row) → IsFold aggs rows → of_rows aggs rows ≡ rows
+pub of_rows-same : (aggs : List Agg) (rows : List Row) → IsFold aggs rows → of_rows aggs rows ≡ rows
 of_rows-same aggs rows fold = ap (of_rows aggs) (sym (append-nil rows)) ∙ fold
 
-IsFold-of_rows : (aggs : List Agg) (rows : List Row) → IsFold aggs (of_rows aggs rows)
+pub IsFold-of_rows : (aggs : List Agg) (rows : List Row) → IsFold aggs (of_rows aggs rows)
 IsFold-of_rows aggs rows =
     let same : folded aggs (rows ∷ []) ≡ of_rows aggs rows = ap (of_rows aggs) (append-nil rows) in
     subst (λ xs. folded aggs (xs ∷ []) ≡ of_rows aggs rows) same (folded-folded aggs (rows ∷ []) [] ∙ same)

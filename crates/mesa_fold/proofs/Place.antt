@@ -19,7 +19,7 @@ use Rattle.mesa_fold.proofs.Keys.{is_rising, pairs}
 use Rattle.mesa_fold.proofs.Folds.{keys, both_false}
 use Rattle.mesa_fold.proofs.Folding.{is_less}
 
-flipped : (a b : List ℕ) (o : Ordering) → byte_cmp b a ≡ o → byte_cmp a b ≡ ordering_reverse o
+pub flipped : (a b : List ℕ) (o : Ordering) → byte_cmp b a ≡ o → byte_cmp a b ≡ ordering_reverse o
 flipped a b o e = nat_list_cmp_total.antisymm a b ∙ ap ordering_reverse e
 
 -- what is below the keys of rows is below the key at a place
@@ -29,7 +29,7 @@ below-at k (x ∷ xs) zero d p lt = is_less _ (both_false _ _ p).0
 below-at k (x ∷ xs) (suc i) d p lt = below-at k xs i d (both_false _ _ p).1 (omega arith)
 
 -- an earlier key of rising keys is the lesser
-rising-at : (rows : List Row) (i j : ℕ) (d : Row) → T (is_rising (keys rows)) → i < j → j < length rows → byte_cmp (get_or rows i d).key (get_or rows j d).key ≡ Less
+pub rising-at : (rows : List Row) (i j : ℕ) (d : Row) → T (is_rising (keys rows)) → i < j → j < length rows → byte_cmp (get_or rows i d).key (get_or rows j d).key ≡ Less
 rising-at [] i j d p lt in_range = absurd (omega arith)
 rising-at (x ∷ xs) i zero d p lt in_range = absurd (omega arith)
 rising-at (x ∷ xs) zero (suc j) d p lt in_range = below-at x.key xs j d (both_false _ _ p).0 (omega arith)

@@ -14,7 +14,7 @@ use mesa_value::{Agg, Amount, combine};
 use std::alloc::AllocError;
 
 // Combines a newer row's values into an older one's, column by column.
-fn combine_into(aggs: &[Agg], old: &mut Values, new: &[Amount])
+pub(crate) fn combine_into(aggs: &[Agg], old: &mut Values, new: &[Amount])
     requires old_full { length old.old ≡ length aggs.now }
     requires new_full { length new.now ≡ length aggs.now }
     requires fits { AllCombine aggs.now old.old new.now }
@@ -27,7 +27,7 @@ fn combine_into(aggs: &[Agg], old: &mut Values, new: &[Amount])
 }
 
 // Where a key stands among rows, or else where it would stand.
-fn place_of(rows: &[Row], key: &[u8]) -> Result<usize, usize>
+pub(crate) fn place_of(rows: &[Row], key: &[u8]) -> Result<usize, usize>
     ensures within { IsSearchInRange result (length rows.now) }
     ensures place { IsBinarySearchResult (λ (row : RowOf). byte_cmp row.key key.now) rows.now result }
 {

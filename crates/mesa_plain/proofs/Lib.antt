@@ -1,0 +1,10 @@
+pub mod Bounds
+pub mod Commands
+pub mod Gathers
+pub mod Items
+pub mod Newest
+pub mod Pinnings
+pub mod Relations
+pub mod Stores
+pub mod SumNames
+pub mod Tables

@@ -1,0 +1,53 @@
+-- How the plain warehouse keeps its tables and their contents.
+use Rattle.std.specs.Prelude.{ℕ, ◌+◌, List, [], ◌∷◌, map, slice_index_or}
+use Rattle.std.specs.declared.alloc.Global.{Global}
+use Rattle.std.specs.declared.sync.Arc.{Arc}
+use Rattle.mesa_schema.specs.declared.rows.Row.{Row}
+use Rattle.mesa_batch.specs.Batch.{Placed}
+use Rattle.mesa_batch.specs.Glance.{Known}
+use Rattle.mesa_model.specs.Load.{tables_loaded}
+use Rattle.mesa_model.specs.Warehouse.{Table, Store}
+
+-- The tables at their versions, and how many versions there were by then.
+pub record Versioned : Type 0 where
+  pub store : Store
+  pub next : ℕ
+
+-- the contents of the tables at one version, by the tables' numbers
+abbrev pub Contents : Type 0
+Contents = List (Arc (List Row) Global)
+
+-- their rows
+abbrev pub shared : Contents → List (List Row)
+shared contents = map (λ (content : Arc (List Row) Global). content.value) contents
+
+-- the content of the table of a number; a table that was made later has no rows
+abbrev pub content_in : ℕ → Contents → List Row
+content_in number contents = slice_index_or (shared contents) number []
+
+-- its content at each version
+abbrev pub contents_in : ℕ → List Contents → List (List Row)
+contents_in number versions = map (content_in number) versions
+
+-- its absolute totals
+abbrev pub totals_in : ℕ → List (List ℕ) → List ℕ
+totals_in number totals = slice_index_or totals number []
+
+-- the table of a number
+abbrev pub table_in : ℕ → List (List ℕ) → List Contents → Known → Table
+table_in number totals versions known = record { name = known.name; lineage = known.lineage; totals = totals_in number totals; contents = contents_in number versions }
+
+-- The tables from a number on, of which the totals and the contents are kept in lists of their own.
+abbrev pub tables_in : ℕ → List (List ℕ) → List Contents → List Known → List Table
+tables_in number totals versions [] = []
+tables_in number totals versions (known ∷ tables) = table_in number totals versions known ∷ tables_in (number + 1) totals versions tables
+
+-- ---- as callers see it
+
+-- the tables' names, and their columns through their life
+abbrev pub known_in : Store → List Known
+known_in store = map (λ (t : Table). record { name = t.name; lineage = t.lineage }) store.tables
+
+-- the tables with a version more
+abbrev pub with_batch : List Placed → Versioned → Versioned
+with_batch placed s = record { store = record s.store { tables = tables_loaded placed 0 s.store.tables }; next = s.next + 1 }

@@ -1,0 +1,24 @@
+-- What the plain warehouse does.
+use Rattle.std.specs.Prelude.{Bool, true, false, Result, Ok, Err}
+use Rattle.mesa_filter.specs.Query.{BuiltQuery, group_kinds}
+use Rattle.mesa_model.specs.declared.commands.Command.{Command}
+use Rattle.mesa_model.specs.declared.commands.Command.TheVariants as command
+use Rattle.mesa_model.specs.declared.replies.Page.{Page}
+use Rattle.mesa_model.specs.declared.replies.Refusal.{Refusal}
+use Rattle.mesa_model.specs.Query.{Answer}
+
+-- whether the plain warehouse does a command
+abbrev pub is_plain : Command → Bool
+is_plain (command.Work name) = false
+is_plain (command.Explain words) = false
+is_plain (command.Alter words) = false
+is_plain c = true
+
+-- a page and its query as an answer
+abbrev pub answer_of : Page × BuiltQuery → Answer
+answer_of found = record { page = found.0; heading = record { kinds = group_kinds found.1; prefix = found.1.prefix } }
+
+-- the same where it may be refused
+abbrev pub answer_as : Result (Page × BuiltQuery) Refusal → Result Answer Refusal
+answer_as (Ok found) = Ok (answer_of found)
+answer_as (Err refusal) = Err refusal

@@ -1,0 +1,48 @@
+-- What holds of the tables of a plain warehouse, whatever was done to it.
+use Rattle.std.specs.Prelude.{◌≡◌, ℕ, ◌+◌, ◌^◌, ◌<◌, ◌≤◌, List, [], ◌∷◌, length, slice_get, Some, ⊤}
+use Rattle.std.specs.List.{AllByRecursion}
+use Rattle.mesa_schema.specs.declared.rows.Row.{Row}
+use Rattle.mesa_schema.specs.Columns.{Columns, aggs_of}
+use Rattle.mesa_schema.specs.Rows.{AreRowsOf}
+use Rattle.mesa_schema.specs.Changes.{columns_of}
+use Rattle.mesa_batch.specs.Glance.{Known}
+use Rattle.mesa_batch.specs.Totals.{abs_totals, sum_places}
+use Rattle.mesa_fold.specs.Put.{IsFold}
+use Rattle.mesa_model.specs.Warehouse.{max_tables, max_versions}
+use Rattle.mesa_plain.specs.Kept.{Contents, contents_in, totals_in}
+
+-- as many numbers, each at most the one at its place
+abbrev pub AreAtMost : List ℕ → List ℕ → Type 0
+AreAtMost [] [] = ⊤
+AreAtMost [] (y ∷ ys) = ⊥
+AreAtMost (x ∷ xs) [] = ⊥
+AreAtMost (x ∷ xs) (y ∷ ys) = (x ≤ y) × AreAtMost xs ys
+
+-- A table's content: rows of the form of its columns in the order of their keys, whose absolute values add up to at most its totals.
+pub record IsHeld (s : Columns) (totals : List ℕ) (rows : List Row) : Type 0 where
+  pub forms : AreRowsOf s rows
+  pub fold : IsFold (aggs_of s) rows
+  pub sums : AreAtMost (abs_totals s rows) totals
+
+-- A table has a total for each sum column, at most 2^63 - 1.
+pub record HasTotals (s : Columns) (totals : List ℕ) : Type 0 where
+  pub count : length totals ≡ length (sum_places 0 (aggs_of s))
+  pub bound : AllByRecursion (λ total. total < 2 ^ 63) totals
+
+-- each table has
+abbrev pub HaveTotals : List Known → List (List ℕ) → Type 0
+HaveTotals tables totals = (number : ℕ) (known : Known) → slice_get tables number ≡ Some known → HasTotals (columns_of known.lineage) (totals_in number totals)
+
+-- No content of a table passes its totals.
+abbrev pub AreHeld : List Known → List (List ℕ) → List Contents → Type 0
+AreHeld tables totals versions = (number : ℕ) (known : Known) → slice_get tables number ≡ Some known → AllByRecursion (IsHeld (columns_of known.lineage) (totals_in number totals)) (contents_in number versions)
+
+-- What is kept of tables fits together: each table has totals, no version has a content for a table that isn't there, and the versions are those from the oldest to the newest.
+pub record AreKept (tables : List Known) (totals : List (List ℕ)) (versions : List Contents) (oldest next : ℕ) : Type 0 where
+  pub few : length tables ≤ max_tables
+  pub count : length totals ≡ length tables
+  pub widths : AllByRecursion (λ (contents : Contents). length contents ≤ length tables) versions
+  pub numbers : oldest + length versions ≡ next
+  pub most : next ≤ max_versions
+  pub have : HaveTotals tables totals
+  pub held : AreHeld tables totals versions
