@@ -1,9 +1,0 @@
-//! What the words of filters and queries give, which keys filters take, and which short keys may hold such.
-#![tactic(auto)]
-
-#[cfg(test)]
-mod filters;
-#[cfg(test)]
-mod places;
-#[cfg(test)]
-mod queries;
