@@ -35,12 +35,17 @@ choice_checked names none chosen = do
   refuse_if (length chosen == 0) none
   refuse_if (is_some (repeated chosen)) no.NameTwice
 
+-- the value columns that a view chooses are a choice of its table's, and none is a replace column
+abbrev pub chosen_values_checked : Columns → List (List ℕ) → Result (Unit {0}) ViewError
+chosen_values_checked s values = do
+  choice_checked (value_names s) no.NoValue values
+  refuse_replace (find is_replace (values_named s values))
+
 -- The rules of a view of these columns in their order: its key columns are a choice of the key columns, its value columns one of the value columns, and none of these is a replace column.
 abbrev pub view_checked : Columns → List (List ℕ) → List (List ℕ) → Result (Unit {0}) ViewError
 view_checked s keys values = do
   choice_checked (key_names s) no.NoKey keys
-  choice_checked (value_names s) no.NoValue values
-  refuse_replace (find is_replace (values_named s values))
+  chosen_values_checked s values
 
 -- the places of a view's columns among its table's
 abbrev pub view_key_places : Columns → View → List ℕ

@@ -1,8 +1,9 @@
 // A table's columns through its life.
-ghost use Rattle.std.specs.Prelude.{◌≡◌, IsTrue, IfOk, OnOk, OnErr, IfErr, ◌<◌, ◌≤◌, length, [], is_ok, map, slice_get, ◌≢◌, IfSome};
+ghost use Rattle.std.specs.Prelude.{◌≡◌, IsTrue, IfOk, OnOk, OnErr, IfErr, Ok, ◌<◌, ◌≤◌, length, [], is_ok, map, slice_get, ◌≢◌, IfSome};
 ghost use Rattle.mesa_schema.specs.declared.views.View.{View as Chosen};
 ghost use Rattle.mesa_schema.specs.Changes.{change_checked, columns_at, columns_of, epoch_of, rule_checked};
-ghost use Rattle.mesa_schema.specs.Views.{view_checked, view_columns, with_view};
+ghost use Rattle.mesa_schema.specs.Columns.{key_names};
+ghost use Rattle.mesa_schema.specs.Views.{choice_checked, chosen_values_checked, view_checked, view_columns, with_view};
 ghost use Rattle.mesa_schema.specs.Lineages.{IsLineage};
 
 use crate::allowing::{is_default, is_new, is_of_kind, is_used, may_go};
@@ -172,12 +173,34 @@ impl Evolving {
             && replace_place(values, present.values()).is_none()
     }
 
+    /// Whether a view may choose these key columns.
+    pub fn check_view_keys(&self, keys: &[Name]) -> Result<(), ViewError>
+        ensures { result ≡ choice_checked (key_names (columns_of self.now)) ViewError.NoKey keys.now }
+    {
+        check_chosen(keys, self.present().keys(), ViewError::NoKey)
+    }
+
+    /// Whether a view may choose these value columns.
+    pub fn check_view_values(&self, values: &[Name]) -> Result<(), ViewError>
+        ensures passes { OnOk result (chosen_values_checked (columns_of self.now) values.now ≡ Ok tt) }
+        ensures refused { IfErr result (λ e. e ≢ ViewError.Memory → chosen_values_checked (columns_of self.now) values.now ≡ Err e) }
+    {
+        let columns = self.present().values();
+        check_chosen(values, columns, ViewError::NoValue)?;
+        match replace_place(values, columns) {
+            Some(place) => Err(ViewError::ReplaceInView {
+                column: values[place].copy()?,
+            }),
+            None => Ok(()),
+        }
+    }
+
     /// Adds a view of these key columns and value columns, in this order.
     pub fn add_view(
         &mut self,
         name: Name,
         keys: Vec<Name>,
-        mut values: Vec<Name>,
+        values: Vec<Name>,
     ) -> Result<(), ViewError>
         requires { length self.old.views < MAX_VIEWS }
         ensures added { OnOk result (self.new ≡ with_view self.old (record { name = name; keys = keys.items; values = values.items })) }
@@ -185,13 +208,8 @@ impl Evolving {
         ensures refused { IfErr result (λ e. e ≢ ViewError.Memory → view_checked (columns_of self.old) keys.items values.items ≡ Err e) }
         ensures err { OnErr result (self.new ≡ self.old) }
     {
-        let present = self.present();
-        check_chosen(&keys, present.keys(), ViewError::NoKey)?;
-        check_chosen(&values, present.values(), ViewError::NoValue)?;
-        if let Some(place) = replace_place(&values, present.values()) {
-            let column = values.swap_remove(place);
-            return Err(ViewError::ReplaceInView { column });
-        }
+        self.check_view_keys(&keys)?;
+        self.check_view_values(&values)?;
         let view = View {
             name,
             keys: Items::from_vec(keys),
