@@ -1,10 +1,17 @@
+pub mod Adding
 pub mod Bounds
 pub mod Commands
 pub mod Gathers
 pub mod Items
+pub mod Makings
 pub mod Newest
 pub mod Pinnings
 pub mod Relations
 pub mod Stores
 pub mod SumNames
 pub mod Tables
+pub mod Seen
+pub mod Viewed
+pub mod Queries
+pub mod Lineages
+pub mod Viewings

@@ -1,6 +1,6 @@
 -- Pins, their counts, and tables at one version alone.
 use Rattle.std.proofs.Common.{◌≡◌, ◌<◌, ◌≤◌, ◌+◌, ◌-◌, ℕ, zero, suc, List, [], ◌∷◌, ◌++◌, length, map, get_or, set, replicate, Bool, true, false, cond, Some, refl, sym, ◌∙◌, ap, subst, arith}
-use Rattle.std.specs.Prelude.{◌||◌, filter, find, is_some}
+use Rattle.std.specs.Prelude.{◌||◌, filter, find, is_some, option_map}
 use Rattle.std.specs.List.{AllByRecursion, list_any}
 use Rattle.std.proofs.lemmas.List.{append-nil, length-map}
 use Rattle.mesa_schema.specs.Changes.{columns_of}
@@ -18,7 +18,7 @@ get_or-mapped f [] i d = refl
 get_or-mapped f (x ∷ xs) zero d = refl
 get_or-mapped f (x ∷ xs) (suc i) d = get_or-mapped f xs i d
 
-all_at : {X : Type 0} (P : X → Type 0) (xs : List X) (i : ℕ) (d : X) → AllByRecursion P xs → P d → P (get_or xs i d)
+pub all_at : {X : Type 0} (P : X → Type 0) (xs : List X) (i : ℕ) (d : X) → AllByRecursion P xs → P d → P (get_or xs i d)
 all_at P [] i d all own = own
 all_at P (x ∷ xs) zero d all own = all.0
 all_at P (x ∷ xs) (suc i) d all own = all_at P xs i d all.1 own
@@ -71,6 +71,10 @@ found_any p (x ∷ xs) = elim (p x) as (λ b. is_some (cond b (Some x) (find p x
 pub any-mapped : {X Y : Type 0} (f : X → Y) (p : Y → Bool) (xs : List X) → list_any (λ x. p (f x)) xs ≡ list_any p (map f xs)
 any-mapped f p [] = refl
 any-mapped f p (x ∷ xs) = ap (λ b. p (f x) || b) (any-mapped f p xs)
+
+pub find-mapped : {X Y : Type 0} (f : X → Y) (p : Y → Bool) (xs : List X) → find p (map f xs) ≡ option_map f (find (λ x. p (f x)) xs)
+find-mapped f p [] = refl
+find-mapped f p (x ∷ xs) = elim (p (f x)) as (λ b. cond b (Some (f x)) (find p (map f xs)) ≡ option_map f (cond b (Some x) (find (λ x. p (f x)) xs))) [ true ↦ refl | false ↦ find-mapped f p xs ]
 
 pub filter-mapped : {X Y : Type 0} (f : X → Y) (p : Y → Bool) (xs : List X) → map f (filter (λ x. p (f x)) xs) ≡ filter p (map f xs)
 filter-mapped f p [] = refl

@@ -1,9 +1,10 @@
 -- Where relations stand.
-use Rattle.std.specs.Prelude.{ℕ, List, [], find, slice_get, slice_index_or, Option, option_and_then}
+use Rattle.std.specs.Prelude.{ℕ, ◌<◌, List, [], find, length, slice_get, slice_index_or, Option, IfSome, option_and_then}
 use Rattle.mesa_list.specs.Bytes.{same_bytes}
 use Rattle.mesa_schema.specs.declared.views.View.{View}
 use Rattle.mesa_batch.specs.Glance.{Known}
 use Rattle.mesa_model.specs.Relations.{Relation}
+use Rattle.mesa_model.specs.Warehouse.{Store, table_at}
 use Rattle.mesa_plain.specs.declared.names.Place.{Place}
 use Rattle.mesa_plain.specs.Kept.{Contents, table_in}
 
@@ -26,3 +27,16 @@ relation_at totals versions tables place = record {
   table = table_in place.table totals versions (known_at place.table tables);
   view = option_and_then (slice_get (known_at place.table tables).lineage.views) place.view;
 }
+
+-- the relation at a place of a store
+abbrev pub relation_seen : Store → Place → Relation
+relation_seen store place = record {
+  number = place.table;
+  table = table_at store place.table;
+  view = option_and_then (slice_get (table_at store place.table).lineage.views) place.view;
+}
+
+-- a place is one of a store's tables, or one of their views
+pub record IsThere (store : Store) (place : Place) : Type 0 where
+  pub table : place.table < length store.tables
+  pub view : IfSome place.view (λ view. view < length (table_at store place.table).lineage.views)

@@ -1,12 +1,15 @@
 -- How the plain warehouse keeps its tables and their contents.
-use Rattle.std.specs.Prelude.{ℕ, ◌+◌, List, [], ◌∷◌, map, slice_index_or}
+use Rattle.std.specs.Prelude.{ℕ, ◌+◌, List, [], ◌∷◌, ◌++◌, None, map, slice_index_or, slice_set}
 use Rattle.std.specs.declared.alloc.Global.{Global}
 use Rattle.std.specs.declared.sync.Arc.{Arc}
 use Rattle.mesa_schema.specs.declared.rows.Row.{Row}
+use Rattle.mesa_schema.specs.Columns.{Columns}
+use Rattle.mesa_schema.specs.Changes.{Lineage}
 use Rattle.mesa_batch.specs.Batch.{Placed}
 use Rattle.mesa_batch.specs.Glance.{Known}
+use Rattle.mesa_model.specs.Tables.{new_table}
 use Rattle.mesa_model.specs.Load.{tables_loaded}
-use Rattle.mesa_model.specs.Warehouse.{Table, Store}
+use Rattle.mesa_model.specs.Warehouse.{Table, Store, Warehouse, table_at}
 
 -- The tables at their versions, and how many versions there were by then.
 pub record Versioned : Type 0 where
@@ -51,3 +54,13 @@ known_in store = map (λ (t : Table). record { name = t.name; lineage = t.lineag
 -- the tables with a version more
 abbrev pub with_batch : List Placed → Versioned → Versioned
 with_batch placed s = record { store = record s.store { tables = tables_loaded placed 0 s.store.tables }; next = s.next + 1 }
+
+-- the tables with one more, which has no rows
+abbrev pub with_table_more : Versioned → List ℕ → Columns → Versioned
+with_table_more s name columns =
+    let w : Warehouse = record { store = s.store; next = s.next; given = []; pins = []; closed = None } in
+    record s { store = record s.store { tables = s.store.tables ++ new_table w name columns ∷ [] } }
+
+-- the tables where the one of a number has these columns and views
+abbrev pub with_lineage : Versioned → ℕ → Lineage → Versioned
+with_lineage s number l = record s { store = record s.store { tables = slice_set s.store.tables number (record (table_at s.store number) { lineage = l }) } }

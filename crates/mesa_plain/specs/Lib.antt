@@ -5,3 +5,5 @@ pub mod Grown
 pub mod Found
 pub mod Told
 pub mod Pinned
+pub mod Asked
+pub mod Built

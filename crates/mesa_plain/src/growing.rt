@@ -1,5 +1,5 @@
 // What a batch makes of tables: their totals and their newest contents.
-ghost use Rattle.std.specs.Prelude.{◌≡◌, ◌≤◌, ◌<◌, ◌^◌, ◌+◌, ◌-◌, ℕ, List, [], ◌∷◌, length, map, min, zip, None, Some, IfOk, IfErr, OnOk, MatchOption, slice_get, slice_index_or};
+ghost use Rattle.std.specs.Prelude.{◌≡◌, ◌≤◌, ◌<◌, ◌^◌, ◌+◌, ◌-◌, ℕ, List, [], ◌∷◌, ◌++◌, cond, replicate, length, map, min, zip, None, Some, IfOk, IfErr, OnOk, MatchOption, slice_get, slice_index_or};
 ghost use Rattle.std.specs.List.{AllByRecursion};
 ghost use Rattle.mesa_schema.specs.declared.columns.ValueColumn.{ValueColumn as Column};
 ghost use Rattle.mesa_schema.specs.Columns.{aggs_of};
@@ -14,6 +14,7 @@ ghost use Rattle.mesa_batch.specs.Totals.{is_sum as adds};
 ghost use Rattle.mesa_fold.specs.Bound.{KeepsBound};
 ghost use Rattle.mesa_fold.specs.Put.{IsFold};
 ghost use Rattle.mesa_model.specs.Load.{bound_checked, bounds_checked, newest_content, sum_name};
+ghost use Rattle.mesa_model.specs.Tables.{sums_in};
 ghost use Rattle.mesa_plain.specs.Kept.{content_in, contents_in, tables_in};
 ghost use Rattle.mesa_plain.specs.Grown.{AreContentsWith, AreTotalsWith, CanTake, HasRows, IsBatchOf, with_totals};
 ghost use Rattle.mesa_plain.specs.Sound.{HaveTotals, HasTotals};
@@ -209,4 +210,24 @@ fn aggs_in(alloc: Global, columns: &[ValueColumn]) -> Result<Vec<Agg>, AllocErro
     ensures { IfOk result (λ aggs. aggs.items ≡ map (λ (c : Column). c.agg) columns.now) }
 {
     columns.iter().map(|column| column.agg).collect(alloc)
+}
+
+// As many zeros as there are sum columns.
+pub(crate) fn zeros(alloc: Global, schema: &Schema) -> Result<Totals, AllocError>
+    ensures { IfOk result (λ totals. totals ≡ replicate (sums_in (aggs_of schema.now)) 0) }
+{
+    let mut totals = Totals::new(alloc);
+    'columns: for column in schema.values() {
+        push_zero(&mut totals, column.agg)?;
+    }
+    Ok(totals)
+}
+
+fn push_zero(totals: &mut Totals, agg: Agg) -> Result<(), AllocError>
+    ensures { OnOk result (totals.new ≡ totals.old ++ cond (adds agg) (0 ∷ []) []) }
+{
+    match agg {
+        Agg::Sum => totals.push(0),
+        _ => Ok(()),
+    }
 }

@@ -1,4 +1,4 @@
-//! The plain warehouse: the reference warehouse over whole lists in memory. So far it loads batches, lets versions expire, and keeps pins; it makes no tables yet.
+//! The plain warehouse: a slow program that is the reference warehouse, over whole lists in memory.
 #![tactic(auto)]
 
 mod failure;

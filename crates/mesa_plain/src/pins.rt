@@ -1,5 +1,5 @@
 // Pins that are held.
-ghost use Rattle.std.specs.Prelude.{◌≡◌, ◌<◌, ◌^◌, ◌+◌, [], ◌∷◌, ◌++◌, filter, length, not, IfOk, OnOk, OnErr};
+ghost use Rattle.std.specs.Prelude.{◌≡◌, ◌<◌, ◌^◌, ◌+◌, [], ◌∷◌, ◌++◌, filter, find, length, not, option_map, IfOk, OnOk, OnErr};
 ghost use Rattle.std.specs.List.{list_any};
 ghost use Rattle.mesa_model.specs.Pins.{count_at, counted_at, is_pin};
 ghost use Rattle.mesa_plain.specs.Pinned.{pin_seen};
@@ -39,6 +39,13 @@ pub(crate) fn is_held(pins: &[PlainPin], session: u16, token: u32) -> bool
     ensures { result ≡ list_any (λ (p : Held). is_pin session token (pin_seen p)) pins.now }
 {
     pins.iter().any(|pin| is_of(pin, session, token))
+}
+
+// The pin of a session with this token.
+pub(crate) fn find_pin(pins: &[PlainPin], session: u16, token: u32) -> Option<&PlainPin>
+    ensures { option_map (λ p. p.now) result ≡ find (λ (p : Held). is_pin session token (pin_seen p)) pins.now }
+{
+    pins.iter().find(|pin| is_of(pin, session, token))
 }
 
 // Lets a session's pin with this token go.

@@ -1,20 +1,29 @@
 // Tables, and their contents at each version.
-ghost use Rattle.std.specs.Prelude.{◌≡◌, ◌<◌, ◌≤◌, ◌^◌, ◌+◌, ◌-◌, ℕ, List, [], ◌∷◌, ◌++◌, drop, length, map, replicate, slice_set, slice_get, slice_index_or, option_map, Ok, IfOk, IfErr, IfSome, OnOk, OnErr};
+ghost use Rattle.std.specs.Prelude.{◌≡◌, ◌<◌, ◌≤◌, ◌^◌, ◌+◌, ◌-◌, ℕ, List, [], ◌∷◌, ◌++◌, drop, length, map, replicate, slice_set, slice_get, slice_index_or, option_map, Ok, IfOk, IfErr, IfSome, OnOk, OnErr, vec_len, vec_capacity};
 ghost use Rattle.mesa_batch.specs.Batch.{Placed as PlacedRow};
 ghost use Rattle.mesa_batch.specs.Numbers.{known_of};
 ghost use Rattle.mesa_model.specs.Load.{bounds_checked, tables_loaded};
-ghost use Rattle.mesa_model.specs.Warehouse.{max_versions};
+ghost use Rattle.mesa_model.specs.Warehouse.{max_tables, max_versions};
+ghost use Rattle.mesa_model.specs.Relations.{is_taken as taken};
 ghost use Rattle.mesa_model.specs.Versions.{store_from};
 ghost use Rattle.mesa_model.specs.Pins.{store_at};
-ghost use Rattle.mesa_plain.specs.Kept.{Versioned, known_in, shared, with_batch};
+ghost use Rattle.mesa_plain.specs.Kept.{known_in, shared, with_batch, with_lineage, with_table_more};
 ghost use Rattle.mesa_plain.specs.Grown.{HasRows, IsBatchOf};
 ghost use Rattle.mesa_plain.specs.Told.{IsDue};
+ghost use Rattle.mesa_schema.specs.Rows.{AreRowsOf};
+ghost use Rattle.mesa_schema.specs.Changes.{columns_of};
+ghost use Rattle.mesa_answer.specs.Answering.{KeepsSums};
+ghost use Rattle.mesa_model.specs.Relations.{relation_of, table_number};
+ghost use Rattle.mesa_model.specs.Warehouse.{content_at, table_at};
+ghost use Rattle.mesa_plain.specs.Found.{IsThere, relation_seen};
+ghost use Rattle.mesa_plain.specs.Kept.{contents_in};
 
 use crate::failure::Failure;
-use crate::growing::{contents_with_batch, totals_with_batch};
+use crate::growing::{contents_with_batch, totals_with_batch, zeros};
+use crate::names::{Place, relation_place, table_place};
 use mesa_batch::{Batch, Glance, Glanced};
 use mesa_list::{Items, TryCopy};
-use mesa_schema::{RowList, Totals};
+use mesa_schema::{Evolving, Name, Row, RowList, Schema, Totals};
 use std::alloc::{AllocError, Global};
 use std::collections::VecDeque;
 use std::marker::Model;
@@ -133,6 +142,118 @@ impl PlainStore {
             next: version + 1,
         })
     }
+}
+
+impl PlainStore {
+    // Where the relation of a name stands.
+    pub(crate) fn find(&self, name: &[u8]) -> Option<Place>
+        ensures found { relation_of self.now.store name.now ≡ option_map (relation_seen self.now.store) result }
+        ensures there { IfSome result (IsThere self.now.store) }
+    {
+        relation_place(name, &self.tables)
+    }
+
+    // A table's columns through its life, and its views.
+    pub(crate) fn evolving(&self, table: usize) -> &Evolving
+        requires { table < length self.now.store.tables }
+        ensures { result.now ≡ (table_at self.now.store table).lineage }
+    {
+        evolving_of(&self.tables, table)
+    }
+
+    // A table's rows at a version; none where the version isn't there.
+    pub(crate) fn content(&self, table: usize, version: u32) -> &[Row]
+        requires { table < length self.now.store.tables }
+        ensures rows { result.now ≡ content_at self.now.store (table_at self.now.store table) version }
+        ensures forms { AreRowsOf (columns_of (table_at self.now.store table).lineage) result.now }
+        ensures sums { KeepsSums (columns_of (table_at self.now.store table).lineage) result.now }
+    {
+        let behind = version.saturating_sub(self.oldest);
+        content_of(&self.versions, behind as usize, table)
+    }
+}
+
+fn evolving_of(tables: &[Glanced], table: usize) -> &Evolving
+    requires { table < length tables.now }
+    ensures { IfSome (slice_get tables.now table) (λ t. result.now ≡ t.evolving.value) }
+{
+    &tables[table].evolving
+}
+
+// The content of a table at the version of a place; none behind the end.
+fn content_of(versions: &VecDeque<Contents>, place: usize, table: usize) -> &[Row]
+    ensures { result.now ≡ slice_index_or (contents_in table versions.now.items) place [] }
+{
+    let Some(contents) = versions.get(place) else {
+        return &[];
+    };
+    match contents.as_slice().get(table) {
+        Some(content) => content.as_slice(),
+        None => &[],
+    }
+}
+
+impl PlainStore {
+    // Whether a table or a view has this name.
+    pub(crate) fn is_taken(&self, name: &[u8]) -> bool
+        ensures { result ≡ taken self.now.store name.now }
+    {
+        relation_place(name, &self.tables).is_some()
+    }
+
+    // Adds a table without rows.
+    pub(crate) fn add_table(
+        &mut self,
+        alloc: Global,
+        name: Name,
+        schema: Schema,
+    ) -> Result<(), AllocError>
+        requires few { length self.old.store.tables < max_tables }
+        ensures added { OnOk result (self.new ≡ with_table_more self.old name schema) }
+        ensures kept { OnErr result (self.new ≡ self.old) }
+    {
+        let totals = zeros(alloc, &schema)?;
+        let evolving = Arc::new(alloc, Evolving::new(alloc, schema))?;
+        self.tables.reserve(1)?;
+        self.totals.push(totals)?;
+        push_table(&mut self.tables, Glanced { name, evolving });
+        Ok(())
+    }
+}
+
+impl PlainStore {
+    // The number of the table of a name; a view is no table.
+    pub(crate) fn number(&self, name: &[u8]) -> Option<usize>
+        ensures number { result ≡ table_number self.now.store name.now }
+        ensures there { IfSome result (λ table. table < length self.now.store.tables) }
+    {
+        table_place(name, &self.tables)
+    }
+
+    // Gives a table other views; its columns stay, and so do its contents.
+    pub(crate) fn set_evolving(&mut self, table: usize, evolving: Arc<Evolving>)
+        requires there { table < length self.old.store.tables }
+        requires columns { columns_of evolving.value ≡ columns_of (table_at self.old.store table).lineage }
+        ensures { self.new ≡ with_lineage self.old table evolving.value }
+    {
+        put_evolving(&mut self.tables, table, evolving);
+    }
+}
+
+// Puts a table's columns and views in the place of those before. Others that share those keep them.
+fn put_evolving(tables: &mut Vec<Glanced>, table: usize, evolving: Arc<Evolving>)
+    requires { table < length tables.old.items }
+    ensures { IfSome (slice_get tables.old.items table) (λ t. tables.new.items ≡ slice_set tables.old.items table (record t { evolving = evolving })) }
+{
+    tables[table].evolving = evolving;
+}
+
+// Adds a table, for which there is room.
+fn push_table(tables: &mut Vec<Glanced>, table: Glanced)
+    requires { vec_len tables.old < vec_capacity tables.old }
+    ensures { tables.new.items ≡ tables.old.items ++ table ∷ [] }
+{
+    let _ = tables.push(table);
 }
 
 // The contents at a place once more, which share their rows; none behind the end.

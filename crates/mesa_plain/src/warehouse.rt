@@ -7,6 +7,11 @@ ghost use Rattle.mesa_model.specs.Pins.{make_pin, next_token, release_pin};
 ghost use Rattle.mesa_model.specs.Warehouse.{empty_warehouse};
 ghost use Rattle.mesa_plain.specs.Told.{IsDue};
 
+mod applying;
+mod making;
+mod querying;
+mod viewing;
+
 use crate::failure::Failure;
 use crate::gathering::gather;
 use crate::pins::{PlainPin, counted, is_held, let_go, push_pin};
@@ -24,7 +29,7 @@ pub const MAX_VERSIONS: u32 = 0xffff_ffff;
 /// How many pins all sessions together may hold.
 pub const MAX_PINS: usize = 64;
 
-/// The reference warehouse over whole lists in memory: what it does it does as the definition has it, and no command closes it.
+/// The reference warehouse over whole lists in memory. It does each command as the definition has it, and no command closes it.
 #[derive(Drop)]
 pub struct PlainWarehouse {
     alloc: Global,

@@ -1,0 +1,134 @@
+-- Views that are made.
+use Rattle.std.proofs.Common.{◌≡◌, ◌<◌, arith, ℕ, List, length, map, get_or, Bool, true, false, Option, Some, None, Result, Ok, Err, refl, sym, ◌∙◌, ap}
+use Rattle.std.specs.Prelude.{◌==◌, nat_le, is_some, ◌≢◌}
+use Rattle.std.specs.List.{list_all}
+use Rattle.std.specs.Option.{ok_or}
+use Rattle.std.proofs.Math.ListN.{get_or-map}
+use Rattle.std.proofs.lemmas.Bool.{leb-true}
+use Rattle.std.proofs.lemmas.List.Folds.{list_all_at}
+use Rattle.mesa_list.specs.Bytes.{same_bytes}
+use Rattle.mesa_list.specs.Checks.{◌>>=◌, ◌>>◌, refuse_if, refuse_unless, refused_as}
+use Rattle.mesa_schema.specs.declared.views.ViewError.{ViewError}
+use Rattle.mesa_schema.specs.declared.views.ViewError.TheVariants as view
+use Rattle.mesa_schema.specs.Changes.{Lineage, columns_of}
+use Rattle.mesa_schema.specs.Columns.{Columns, place_of, value_names}
+use Rattle.mesa_schema.specs.Names.{has_name, is_name, repeated}
+use Rattle.mesa_schema.specs.Views.{choice_checked, chosen_values_checked, max_views, view_checked, with_view}
+use Rattle.mesa_schema.proofs.Maps.{is_some_position}
+use Rattle.mesa_schema.proofs.Places.{place_named}
+use Rattle.mesa_model.specs.declared.commands.ViewWords.{ViewWords}
+use Rattle.mesa_model.specs.declared.replies.Refusal.{Refusal}
+use Rattle.mesa_model.specs.declared.replies.Refusal.TheVariants as no
+use Rattle.mesa_model.specs.declared.replies.SchemaFault.TheVariants as fault
+use Rattle.mesa_model.specs.declared.replies.Reply.{Reply}
+use Rattle.mesa_model.specs.declared.replies.Reply.TheVariants as reply
+use Rattle.mesa_model.specs.Refusals.{bad_schema, no_such_table, view_refusal}
+use Rattle.mesa_model.specs.Relations.{is_taken, table_number}
+use Rattle.mesa_model.specs.Tables.{make_view}
+use Rattle.mesa_model.specs.Warehouse.{Pin, Store, Warehouse, table_at}
+use Rattle.mesa_plain.specs.declared.failure.Failure.{Failure}
+use Rattle.mesa_plain.specs.declared.failure.Failure.TheVariants.{Memory, Refused}
+use Rattle.mesa_plain.specs.Asked.{more_views_checked}
+use Rattle.mesa_plain.specs.Kept.{Versioned, with_lineage}
+use Rattle.mesa_plain.specs.Pinned.{warehouse_of}
+use Rattle.mesa_plain.specs.Told.{IsDue, view_failure}
+
+-- ---- the view that is made
+
+-- the lineage of a table with the view that is asked
+abbrev pub lineage_with : Store → ℕ → ViewWords → Lineage
+lineage_with s number words = with_view (table_at s number).lineage (record { name = words.view; keys = words.keys; values = words.values })
+
+-- what making a view comes to, by each of its checks
+decided : (s : Versioned) (given : List ℕ) (pins : List Pin) (words : ViewWords) → Bool → Bool → Option ℕ → Result (Warehouse × Reply) Refusal
+decided s given pins words named taken found =
+    refuse_unless named (bad_schema fault.BadName)
+    >> (refuse_if taken no.TableExists
+    >> (ok_or found no_such_table >>= (λ number. more_views_checked (table_at s.store number).lineage words >> Ok (warehouse_of (with_lineage s number (lineage_with s.store number words)) given pins, reply.View words.view))))
+
+made_by : (s : Versioned) (given : List ℕ) (pins : List Pin) (words : ViewWords) → make_view (warehouse_of s given pins) words ≡ decided s given pins words (is_name words.view) (is_taken s.store words.view) (table_number s.store words.table)
+unfolding decided
+made_by s given pins words = refl
+
+pub view_unnamed : (s : Versioned) (given : List ℕ) (pins : List Pin) (words : ViewWords) (failure : Failure) → IsDue (refuse_unless (is_name words.view) (bad_schema fault.BadName)) failure → IsDue (make_view (warehouse_of s given pins) words) failure
+unfolding decided
+view_unnamed s given pins words Memory due = tt
+view_unnamed s given pins words (Refused r) due =
+    made_by s given pins words
+    ∙ ap (λ c. c >> (refuse_if (is_taken s.store words.view) no.TableExists >> (ok_or (table_number s.store words.table) no_such_table >>= (λ number. more_views_checked (table_at s.store number).lineage words >> Ok (warehouse_of (with_lineage s number (lineage_with s.store number words)) given pins, reply.View words.view))))) due
+
+pub view_taken : (s : Versioned) (given : List ℕ) (pins : List Pin) (words : ViewWords) → is_name words.view ≡ true → is_taken s.store words.view ≡ true → make_view (warehouse_of s given pins) words ≡ Err no.TableExists
+unfolding decided
+view_taken s given pins words named taken = made_by s given pins words ∙ (λ j. decided s given pins words (named j) (taken j) (table_number s.store words.table))
+
+pub view_nowhere : (s : Versioned) (given : List ℕ) (pins : List Pin) (words : ViewWords) → is_name words.view ≡ true → is_taken s.store words.view ≡ false → table_number s.store words.table ≡ None → make_view (warehouse_of s given pins) words ≡ Err no_such_table
+unfolding decided
+view_nowhere s given pins words named taken found = made_by s given pins words ∙ (λ j. decided s given pins words (named j) (taken j) (found j))
+
+pub view_bad : (s : Versioned) (given : List ℕ) (pins : List Pin) (words : ViewWords) (number : ℕ) (failure : Failure) → is_name words.view ≡ true → is_taken s.store words.view ≡ false → table_number s.store words.table ≡ Some number
+    → IsDue (more_views_checked (table_at s.store number).lineage words) failure → IsDue (make_view (warehouse_of s given pins) words) failure
+unfolding decided
+view_bad s given pins words number Memory named taken found due = tt
+view_bad s given pins words number (Refused r) named taken found due =
+    made_by s given pins words ∙ (λ j. decided s given pins words (named j) (taken j) (found j))
+    ∙ ap (λ c. c >> Ok (warehouse_of (with_lineage s number (lineage_with s.store number words)) given pins, reply.View words.view)) due
+
+pub view_done : (s : Versioned) (given : List ℕ) (pins : List Pin) (words : ViewWords) (number : ℕ) → is_name words.view ≡ true → is_taken s.store words.view ≡ false → table_number s.store words.table ≡ Some number
+    → more_views_checked (table_at s.store number).lineage words ≡ Ok tt
+    → make_view (warehouse_of s given pins) words ≡ Ok (warehouse_of (with_lineage s number (lineage_with s.store number words)) given pins, reply.View words.view)
+unfolding decided
+view_done s given pins words number named taken found checked =
+    made_by s given pins words ∙ (λ j. decided s given pins words (named j) (taken j) (found j))
+    ∙ ap (λ c. c >> Ok (warehouse_of (with_lineage s number (lineage_with s.store number words)) given pins, reply.View words.view)) checked
+
+-- ---- the columns that it chooses
+
+-- a column that is found by a word has it as its name
+pub column_named : {C : Type 0} (name_of : C → List ℕ) (columns : List C) (word : List ℕ) (place : ℕ) (column : C) → place_of word (map name_of columns) ≡ Some place → column ≡ get_or columns place column → name_of column ≡ word
+column_named name_of columns word place column found is = ap name_of is ∙ sym (get_or-map name_of columns place column) ∙ (place_named word (map name_of columns) place (name_of column) found).1
+
+-- a word that is no column
+pub word_missing : (names words : List (List ℕ)) (i : ℕ) (word : List ℕ) → i < length words → get_or words i word ≡ word → place_of word names ≡ None → list_all (λ w. has_name w names) words ≡ false
+word_missing names words i word lt is none = list_all_at (λ w. has_name w names) words i word lt (ap (λ w. has_name w names) is ∙ sym (is_some_position (same_bytes word) names) ∙ ap is_some none)
+
+missing : (all : Bool) (rest : Result (Unit {0}) ViewError) (r : Refusal) → refuse_unless all no.NoColumn ≡ Err r → refused_as view_refusal (refuse_unless all view.NoColumn >> rest) ≡ Err r
+missing true rest r e = absurd (cc)
+missing false rest r e = e
+
+-- the first rule of a choice
+pub choice_missing : (names : List (List ℕ)) (none : ViewError) (words : List (List ℕ)) (failure : Failure) → IsDue (refuse_unless (list_all (λ w. has_name w names) words) no.NoColumn) failure → IsDue (refused_as view_refusal (choice_checked names none words)) failure
+choice_missing names none words Memory due = tt
+choice_missing names none words (Refused r) due = missing (list_all (λ w. has_name w names) words) (refuse_if (length words == 0) none >> refuse_if (is_some (repeated words)) view.NameTwice) r due
+
+pub view_due : (checked : Result (Unit {0}) ViewError) (error : ViewError) → (error ≢ view.Memory → checked ≡ Err error) → IsDue (refused_as view_refusal checked) (view_failure error)
+view_due checked view.Memory is = tt
+view_due checked view.NoColumn is = ap (refused_as view_refusal) (is (λ e. cc))
+view_due checked view.NoKey is = ap (refused_as view_refusal) (is (λ e. cc))
+view_due checked view.NoValue is = ap (refused_as view_refusal) (is (λ e. cc))
+view_due checked view.NameTwice is = ap (refused_as view_refusal) (is (λ e. cc))
+view_due checked (view.ReplaceInView column) is = ap (refused_as view_refusal) (is (λ e. cc))
+
+-- a check that is refused refuses what comes after it
+pub first_due : {D : Type 0} (why : D → Refusal) (checked next : Result (Unit {0}) D) (failure : Failure) → IsDue (refused_as why checked) failure → IsDue (refused_as why (checked >> next)) failure
+first_due why checked next Memory due = tt
+first_due why (Ok x) next (Refused r) due = absurd (cc)
+first_due why (Err e) next (Refused r) due = due
+
+pub next_due : {D : Type 0} (why : D → Refusal) (checked next : Result (Unit {0}) D) (failure : Failure) → checked ≡ Ok tt → IsDue (refused_as why next) failure → IsDue (refused_as why (checked >> next)) failure
+next_due why checked next Memory passed due = tt
+next_due why checked next (Refused r) passed due = ap (λ c. refused_as why (c >> next)) passed ∙ due
+
+pub values_missing : (s : Columns) (words : List (List ℕ)) (failure : Failure) → IsDue (refuse_unless (list_all (λ w. has_name w (value_names s)) words) no.NoColumn) failure → IsDue (refused_as view_refusal (chosen_values_checked s words)) failure
+values_missing s words failure due = first_due view_refusal (choice_checked (value_names s) view.NoValue words) _ failure (choice_missing (value_names s) view.NoValue words failure due)
+
+-- ---- the number of views last
+
+pub choice_due : (l : Lineage) (words : ViewWords) (failure : Failure) → IsDue (refused_as view_refusal (view_checked (columns_of l) words.keys words.values)) failure → IsDue (more_views_checked l words) failure
+choice_due l words Memory due = tt
+choice_due l words (Refused r) due = ap (λ c. c >> refuse_if (nat_le max_views (length l.views)) (no.TablesFull max_views)) due
+
+pub views_by : (l : Lineage) (words : ViewWords) (full : Bool) → view_checked (columns_of l) words.keys words.values ≡ Ok tt → nat_le max_views (length l.views) ≡ full → more_views_checked l words ≡ refuse_if full (no.TablesFull max_views)
+views_by l words full checked is = (λ j. refused_as view_refusal (checked j) >> refuse_if (is j) (no.TablesFull max_views))
+
+pub view_room : (count : ℕ) → count < max_views → nat_le max_views count ≡ false
+view_room count below = elim (nat_le max_views count) as (λ b. nat_le max_views count ≡ b → b ≡ false) [ true ↦ λ e. absurd (omega (arith, leb-true max_views count e, below)) | false ↦ λ e. refl ] refl
