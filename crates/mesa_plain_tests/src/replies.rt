@@ -1,0 +1,65 @@
+// What replies say.
+use mesa_key::{KeyType, KeyValue, decode};
+use mesa_model::{Page, Reply};
+use mesa_print::{HEAD_ROOM, head};
+use mesa_schema::Row;
+use std::alloc::{AllocError, Global};
+use std::test::Fail;
+
+fn push_number(alloc: Global, number: i64, text: &mut Vec<u8>) -> Result<(), AllocError> {
+    text.extend_from_slice(format!(in alloc; "{number}")?.as_bytes())
+}
+
+fn push_value(alloc: Global, value: &KeyValue, text: &mut Vec<u8>) -> Result<(), AllocError> {
+    match value {
+        KeyValue::Int(number) => push_number(alloc, *number, text),
+        KeyValue::Text(word) => text.extend_from_slice(word.as_bytes()),
+    }
+}
+
+// A row as a line, with commas between its fields.
+fn push_row(alloc: Global, kinds: &[KeyType], row: &Row, text: &mut Vec<u8>) -> Result<(), Fail> {
+    let Ok((key, _)) = decode(alloc, kinds, row.key.as_slice()) else {
+        return Err("no key")?;
+    };
+    for value in key.as_slice() {
+        push_value(alloc, value, text)?;
+        text.push(b',')?;
+    }
+    for (place, number) in row.values.as_slice().iter().enumerate() {
+        if place > 0 {
+            text.push(b',')?;
+        }
+        push_number(alloc, *number, text)?;
+    }
+    Ok(text.push(b'\n')?)
+}
+
+fn push_page(
+    alloc: Global,
+    kinds: &[KeyType],
+    page: &Page,
+    text: &mut Vec<u8>,
+) -> Result<(), Fail> {
+    for row in page.rows.as_slice() {
+        push_row(alloc, kinds, row, text)?;
+    }
+    Ok(())
+}
+
+/// Adds a reply's head line, and a page's rows.
+pub fn push_reply(
+    alloc: Global,
+    number: u32,
+    reply: &Reply,
+    kinds: &[KeyType],
+    text: &mut Vec<u8>,
+) -> Result<(), Fail> {
+    let mut line = [0; HEAD_ROOM];
+    let length = head(0, number, 0, reply, &mut line);
+    text.extend_from_slice(&line[..length])?;
+    match reply {
+        Reply::Page(page) => push_page(alloc, kinds, page, text),
+        _ => Ok(()),
+    }
+}

@@ -1,0 +1,219 @@
+// Rows of a load, and why they make no batch.
+ghost use Rattle.mesa_batch.specs.Gathered.{IsReadBy};
+
+use crate::views::table;
+use mesa_batch::{Batch, BatchBuilder, BatchError, Glance, Glanced, RowWords, fits};
+use mesa_list::{Items, TryCopy};
+use mesa_schema::{Fields, Name, Words};
+use std::alloc::{AllocError, Global};
+use std::sync::Arc;
+use std::test::Fail;
+
+// What a load sees where the table `t` is there.
+fn glance(alloc: Global) -> Result<Glance, Fail> {
+    let mut tables = Vec::new(alloc);
+    tables.push(Glanced {
+        name: Name::read(alloc, b"t")?,
+        evolving: Arc::new(alloc, table(alloc)?)?,
+    })?;
+    Ok(Glance::new(alloc, 1, tables)?)
+}
+
+fn words_of(alloc: Global, bytes: &[u8]) -> Result<Words, AllocError> {
+    Items::from_bytes(alloc, bytes)
+}
+
+// The fields that stand between semicolons; none in an empty text.
+fn fields_of(alloc: Global, text: &[u8]) -> Result<Fields, AllocError> {
+    let mut fields: Fields = Items::new(alloc);
+    if text.is_empty() {
+        return Ok(fields);
+    }
+    for field in text.split(|b| *b == b';') {
+        fields.push(words_of(alloc, field)?)?;
+    }
+    Ok(fields)
+}
+
+// A row of a table's name and its fields.
+fn row(alloc: Global, name: &[u8], fields: &[u8]) -> Result<RowWords, AllocError> {
+    let row = RowWords {
+        table: words_of(alloc, name)?,
+        fields: fields_of(alloc, fields)?,
+    };
+    row.copy()
+}
+
+// Why a load of one row makes no batch.
+fn fault_of(alloc: Global, name: &[u8], fields: &[u8]) -> Result<Option<BatchError>, Fail> {
+    let glance = glance(alloc)?;
+    let row = row(alloc, name, fields)?;
+    let mut builder = BatchBuilder::new(alloc);
+    Ok(builder.row(&glance, &row).err())
+}
+
+const NO_TABLE: Option<BatchError> = Some(BatchError::NoTable { row: 1 });
+
+const BAD_1: Option<BatchError> = Some(BatchError::BadRow { row: 1, column: 1 });
+
+const BAD_2: Option<BatchError> = Some(BatchError::BadRow { row: 1, column: 2 });
+
+const BAD_3: Option<BatchError> = Some(BatchError::BadRow { row: 1, column: 3 });
+
+const BAD_4: Option<BatchError> = Some(BatchError::BadRow { row: 1, column: 4 });
+
+const BAD_5: Option<BatchError> = Some(BatchError::BadRow { row: 1, column: 5 });
+
+// A table's name, a row's fields, and why a load of that row makes no batch.
+type Load = (&'static [u8], &'static [u8], Option<BatchError>);
+
+static ROWS: [Load; 17] = [
+    (b"t", b"1;x;5;7", None),
+    (b"t", b"+1;;-5;007", None),
+    (b"t", b"9223372036854775807;x;-9223372036854775808;0", None),
+    (b"u", b"1;x;5;7", NO_TABLE),
+    (b"", b"1;x;5;7", NO_TABLE),
+    (b"t", b";x;5;7", BAD_1),
+    (b"t", b"x;x;5;7", BAD_1),
+    (b"t", b"1.0;x;5;7", BAD_1),
+    (b"t", b" 1;x;5;7", BAD_1),
+    (b"t", b"+-1;x;5;7", BAD_1),
+    (b"t", b"9223372036854775808;x;5;7", BAD_1),
+    (b"t", b"-9223372036854775809;x;5;7", BAD_1),
+    (b"t", b"1;a\x00b;5;7", BAD_2),
+    (b"t", b"1;\xff;5;7", BAD_2),
+    (b"t", b"1;x;9223372036854775808;7", BAD_3),
+    (b"t", b"1;x;5;", BAD_4),
+    // The first bad column is told.
+    (b"t", b";\xff;;", BAD_1),
+];
+
+// Too few fields, and too many.
+static COUNTS: [Load; 5] = [
+    (b"t", b"", BAD_1),
+    (b"t", b"1", BAD_2),
+    (b"t", b"1;1;1", BAD_4),
+    (b"t", b"1;1;1;1", None),
+    (b"t", b"1;1;1;1;1", BAD_5),
+];
+
+#[test]
+fn rows_of_one_load(rt: HostRuntime) -> Result<(), Fail> {
+    for (name, fields, fault) in &ROWS {
+        assert_eq!(rt; fault_of(rt.alloc(), name, fields)?, *fault);
+    }
+    Ok(())
+}
+
+#[test]
+fn rows_with_too_few_and_too_many_fields(rt: HostRuntime) -> Result<(), Fail> {
+    for (name, fields, fault) in &COUNTS {
+        assert_eq!(rt; fault_of(rt.alloc(), name, fields)?, *fault);
+    }
+    Ok(())
+}
+
+// Why a load makes no batch whose one row has a text of so many bytes.
+fn fault_of_length(alloc: Global, length: usize) -> Result<Option<BatchError>, Fail> {
+    let mut text = Vec::new(alloc);
+    text.resize(length, b'x')?;
+    let mut fields = Vec::from_slice(alloc, b"1;")?;
+    fields.extend_from_slice(&text)?;
+    fields.extend_from_slice(b";5;7")?;
+    fault_of(alloc, b"t", &fields)
+}
+
+#[test]
+fn texts_of_255_bytes_at_most(rt: HostRuntime) -> Result<(), Fail> {
+    let alloc = rt.alloc();
+    assert_eq!(rt; fault_of_length(alloc, 255)?, None);
+    assert_eq!(rt; fault_of_length(alloc, 256)?, BAD_2);
+    Ok(())
+}
+
+const TWICE: Option<BatchError> = Some(BatchError::DuplicateKey {
+    first: 1,
+    second: 3,
+});
+
+// Why the next row of a load makes no batch with those before it.
+fn next_fault(
+    alloc: Global,
+    glance: &Glance,
+    builder: &mut BatchBuilder,
+    fields: &[u8],
+) -> Result<Option<BatchError>, AllocError>
+    requires { IsReadBy glance.now builder.old }
+    ensures { IsReadBy glance.now builder.new }
+{
+    let row = row(alloc, b"t", fields)?;
+    Ok(builder.row(glance, &row).err())
+}
+
+// Whether two rows are taken, and a third is refused that has the key of the first.
+fn refuses_a_key_twice(
+    alloc: Global,
+    glance: &Glance,
+    builder: &mut BatchBuilder,
+) -> Result<bool, AllocError>
+    requires { IsReadBy glance.now builder.old }
+{
+    let first = next_fault(alloc, glance, builder, b"2;x;5;7")?;
+    let second = next_fault(alloc, glance, builder, b"1;x;-6;8")?;
+    let again = next_fault(alloc, glance, builder, b"02;x;0;0")?;
+    Ok(first.is_none() && second.is_none() && again == TWICE)
+}
+
+// Whether a batch has so many rows of a table, with this sum of absolute values in its one sum column.
+fn has_rows(batch: &Batch, table: u16, rows: usize, total: u64) -> Result<bool, AllocError> {
+    let totals = batch.abs_totals(table)?;
+    let sum = totals.as_slice().first().copied();
+    Ok(batch.rows(table).len() == rows && totals.len() == 1 && sum == Some(total))
+}
+
+// Whether a batch has the two rows that were taken, and none of a second table.
+fn is_taken(batch: &Batch) -> Result<bool, AllocError> {
+    let rows = has_rows(batch, 0, 2, 11)?;
+    Ok(rows && batch.len() == 2 && batch.rows(1).is_empty())
+}
+
+fn is_copied(batch: &Batch) -> Result<bool, AllocError> {
+    let copy = batch.copy()?;
+    is_taken(&copy)
+}
+
+fn is_finished(builder: BatchBuilder) -> Result<bool, AllocError> {
+    let batch = builder.finish()?;
+    is_copied(&batch)
+}
+
+#[test]
+fn a_key_comes_once(rt: HostRuntime) -> Result<(), Fail> {
+    let alloc = rt.alloc();
+    let glance = glance(alloc)?;
+    let mut builder = BatchBuilder::new(alloc);
+    assert!(rt; refuses_a_key_twice(alloc, &glance, &mut builder)?);
+    assert!(rt; is_finished(builder)?);
+    Ok(())
+}
+
+// A total, one more, and whether both keep the bound.
+static BOUNDS: [(u64, u64, Result<(), u16>); 2] = [
+    (9_223_372_036_854_775_800, 7, Ok(())),
+    (9_223_372_036_854_775_800, 8, Err(1)),
+];
+
+// Whether totals of two columns, of which the first stays the same, keep the bound.
+fn fit(alloc: Global, total: u64, more: u64) -> Result<Result<(), u16>, AllocError> {
+    let totals = Items::from_vec(vec![in alloc; 1, total]?);
+    let others = Items::from_vec(vec![in alloc; 1, more]?);
+    Ok(fits(&totals, &others))
+}
+
+#[test]
+fn totals_within_the_bound(rt: HostRuntime) -> Result<(), Fail> {
+    for (total, more, answer) in &BOUNDS {
+        assert_eq!(rt; fit(rt.alloc(), *total, *more)?, *answer);
+    }
+    Ok(())
+}

@@ -1,0 +1,11 @@
+//! What names, schemas, views and batches take and refuse.
+#![tactic(auto)]
+
+#[cfg(test)]
+mod batches;
+#[cfg(test)]
+mod columns;
+#[cfg(test)]
+mod schemas;
+#[cfg(test)]
+mod views;
