@@ -1,9 +1,1 @@
-pub mod Duplicates
-pub mod Fitting
-pub mod Histories
-pub mod IntKeys
-pub mod Printing
-pub mod Reading
-pub mod Running
-pub mod Taking
-pub mod Totals
+pub mod Telling

@@ -1,13 +1,17 @@
 -- How a call of the program may end.
-use Rattle.std.specs.Prelude.{◌≡◌, ◌≢◌, ◌⊎◌, ◌<◌, ◌≤◌, if◌then◌else◌, ℕ, true, false, List, [], ◌∷◌, ◌++◌, length, take, Option, IfSome, Ok, Err, codes, decimal}
+use Rattle.std.specs.Prelude.{◌≡◌, ◌≢◌, ◌⊎◌, ◌<◌, ◌≤◌, if◌then◌else◌, ℕ, true, false, List, [], ◌∷◌, ◌++◌, length, take, Option, IfSome, Ok, Err, codes}
 use Rattle.std.specs.Io.KnownBytes.{Appends}
 use Rattle.mesa_fault.specs.Causes.{Rose}
-use Rattle.mesa_shell.specs.declared.types.Script.{Script}
-use Rattle.mesa_shell.specs.declared.run.history.Entry.{Entry}
+use Rattle.mesa_model.specs.declared.commands.Script.{Script}
+use Rattle.mesa_model.specs.declared.entries.Entry.{Entry}
+use Rattle.mesa_history.specs.Run.{begins, nothing_there}
+use Rattle.mesa_script.specs.declared.script.ScriptError.{ScriptError}
+use Rattle.mesa_script.specs.Errors.{error_text}
+use Rattle.mesa_script.specs.Output.{IsOutput}
+use Rattle.mesa_script.specs.Script.{built_script_of}
+use Rattle.mesa_run.specs.Legal.{IsLegalInMemory}
+use Rattle.mesa_run.specs.Refused.{some_refused}
 use Rattle.mesa_shell.specs.declared.shell.Done.{Done}
-use Rattle.mesa_shell.specs.Script.{script_of}
-use Rattle.mesa_shell.specs.Turns.{output_of}
-use Rattle.mesa_shell.specs.Legal.{Legal, has_refusal}
 
 -- the longest input, in bytes
 abbrev pub max_input : ℕ
@@ -29,9 +33,9 @@ length_line = codes "mesa: input over 67108864 bytes\n"
 abbrev pub memory_line : List ℕ
 memory_line = codes "mesa: memory\n"
 
--- the line of a script whose record at this place is the first outside the form
-abbrev pub script_line : ℕ → List ℕ
-script_line place = codes "mesa: script place=" ++ (decimal place ++ codes " reason=unbuilt\n")
+-- the line of a script that is refused
+abbrev pub script_line : ScriptError → List ℕ
+script_line error = codes "mesa: script " ++ error_text error ++ codes "\n"
 
 -- The sink has the text and the status is this; or the status is 5, the sink's count of faults rose and it has a front of the text.
 abbrev pub Prints : {K : Type 0} → (K → Option (List ℕ)) → (K → ℕ) → K → Done K → ℕ → List ℕ → Type 0
@@ -43,25 +47,33 @@ Prints held faults out done status text =
 abbrev pub Ended : {K : Type 0} → (K → Option (List ℕ)) → (K → ℕ) → K → Done K → ℕ → List ℕ → Type 0
 Ended held faults out done status line = (done.history.items ≡ []) × Prints held faults out done status line
 
--- 1 where some reply is a refusal, and else 0
+-- 1 where some printed reply is a refusal, and else 0
 abbrev pub status_of : Script → List Entry → ℕ
-status_of script history = if has_refusal script history then 1 else 0
+status_of script history = if some_refused script (begins (nothing_there script)) history then 1 else 0
 
--- The script was run: the history is legal for it, and the sink has its output; or the sink failed, and it has a front of that.
+-- the sink was given the output of this history
+abbrev pub HasOutput : {K : Type 0} → (K → Option (List ℕ)) → K → Done K → Script → Type 0
+HasOutput held out done script = (text : List ℕ) × IsOutput script (begins (nothing_there script)) done.history.items text × Appends (held out) (held done.out) text
+
+-- the sink was given a front of it
+abbrev pub HasFront : {K : Type 0} → (K → Option (List ℕ)) → K → Done K → Script → Type 0
+HasFront held out done script = (text : List ℕ) × IsOutput script (begins (nothing_there script)) done.history.items text × ((n : ℕ) × Appends (held out) (held done.out) (take n text))
+
+-- The script was run from an empty store: the history is legal for it, the status tells whether some reply is a refusal, and the sink has the history's output; or the sink failed, and it has a front of that.
 abbrev pub HasRun : {K : Type 0} → (K → Option (List ℕ)) → (K → ℕ) → K → Done K → Script → Type 0
 HasRun held faults out done script =
-    (Legal script done.history.items false × (done.status ≡ status_of script done.history.items) × Appends (held out) (held done.out) (output_of script done.history.items))
-    ⊎ (Legal script done.history.items true × (done.status ≡ 5) × Rose (faults out) (faults done.out) × (n : ℕ) × Appends (held out) (held done.out) (take n (output_of script done.history.items)))
+    (IsLegalInMemory (nothing_there script) script done.history.items false × (done.status ≡ status_of script done.history.items) × HasOutput held out done script)
+    ⊎ (IsLegalInMemory (nothing_there script) script done.history.items true × (done.status ≡ 5) × Rose (faults out) (faults done.out) × HasFront held out done script)
 
 -- nothing was run, for want of memory
 abbrev pub LacksMemory : {K : Type 0} → (K → Option (List ℕ)) → (K → ℕ) → K → Done K → Type 0
 LacksMemory held faults out done = Ended held faults out done 8 memory_line
 
--- How a call ends that has read its input: the bytes are no script of the form, or they are one and it was run; or memory was short.
+-- How a call ends that has read its input: the bytes are no script that the program runs, or they are one and it was run; or memory was short.
 abbrev pub EndsText : {K : Type 0} → (K → Option (List ℕ)) → (K → ℕ) → List ℕ → K → Done K → Type 0
 EndsText held faults bytes out done =
-    ((place : ℕ) × (script_of bytes ≡ Err place) × Ended held faults out done 3 (script_line place))
-    ⊎ ((script : Script) × (script_of bytes ≡ Ok script) × HasRun held faults out done script)
+    ((error : ScriptError) × (built_script_of bytes ≡ Err error) × Ended held faults out done 3 (script_line error))
+    ⊎ ((script : Script) × (built_script_of bytes ≡ Ok script) × HasRun held faults out done script)
     ⊎ LacksMemory held faults out done
 
 -- How a call ends whose word is `run` alone: the source's count of faults rose, or its bytes are too many, or they were read; or memory was short.

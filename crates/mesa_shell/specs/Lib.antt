@@ -1,14 +1,3 @@
-pub mod Words
-pub mod Tables
-pub mod Records
-pub mod Lines
-pub mod Script
-pub mod Reading
-pub mod State
-pub mod Warehouse
-pub mod Text
-pub mod Kept
-pub mod Printed
-pub mod Turns
-pub mod Legal
+pub mod Answers
 pub mod Ending
+pub mod Statuses

@@ -1,16 +1,7 @@
-//! The top call: a script of one table, read, run over lists in memory, and printed.
+//! The top call: a script in, answers out, and how a call ends.
 #![tactic(auto)]
 
-mod print;
-mod replies;
-mod run;
-mod script;
+mod errors;
 mod shell;
-mod types;
-mod warehouse;
 
-pub use replies::Reply;
-pub use run::{Entry, Kind, Outcome};
 pub use shell::{Done, MAX_INPUT, mesa};
-pub use types::{Command, Script, Table, ValueColumns};
-pub use warehouse::Warehouse;

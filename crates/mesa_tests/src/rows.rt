@@ -1,20 +1,84 @@
 // Scripts that run.
-use crate::trial::try_script;
+use crate::trial::{Trial, try_script};
 use std::test::Fail;
+
+// Whether a run ended with this status and this output, after so many turns.
+fn gave(trial: &Trial, status: u8, output: &str, turns: usize) -> bool {
+    trial.gave(status, output) && trial.turns == turns
+}
+
+#[test]
+fn sales_and_view(rt: HostRuntime) -> Result<(), Fail> {
+    let trial = try_script(
+        rt.alloc(),
+        "table,a,day int;pub int;country text,clicks sum;cost sum\n\
+         table,b,day int;adv int;country text,clicks sum;cost sum\n\
+         view,c,b,adv;country,clicks;cost\n\
+         row,a,20131231,100,US,10,32\n\
+         row,a,20140101,100,US,40,20\n\
+         row,b,20131231,1,US,10,32\n\
+         row,b,20140101,2,US,40,20\n\
+         commit\n\
+         row,a,20140101,100,US,150,80\n\
+         row,a,20140101,200,UK,40,20\n\
+         row,b,20140101,2,US,150,80\n\
+         row,b,20140101,2,UK,40,20\n\
+         commit\n\
+         query,a,0\n\
+         query,a\n\
+         query,c,latest\n\
+         query,a,1,pub=100&day>=20140101,country,clicks\n",
+    )?;
+    assert!(rt;
+        gave(
+            &trial,
+            0,
+            "0.1@0 table a\n\
+         0.2@1 table b\n\
+         0.3@2 view c\n\
+         0.4@4 loaded version=0 rows=4\n\
+         0.5@6 loaded version=1 rows=4\n\
+         0.6@7 rows 2 version=0\n\
+         20131231,100,US,10,32\n\
+         20140101,100,US,40,20\n\
+         0.7@9 rows 3 version=1\n\
+         20131231,100,US,10,32\n\
+         20140101,100,US,190,100\n\
+         20140101,200,UK,40,20\n\
+         0.8@11 rows 3 version=1\n\
+         1,US,10,32\n\
+         2,UK,40,20\n\
+         2,US,190,100\n\
+         0.9@13 rows 1 version=1\n\
+         US,190\n",
+            15
+        )
+    );
+    Ok(())
+}
 
 #[test]
 fn one_row(rt: HostRuntime) -> Result<(), Fail> {
     let trial = try_script(
         rt.alloc(),
-        "table,t,k int,v sum\nrow,t,1,5\ncommit\ncommit\nquery,t\n",
+        "table,t,k int,v sum\n\
+         row,t,1,5\n\
+         commit\n\
+         commit\n\
+         query,t\n",
     )?;
     assert!(rt;
-        trial.gave(
+        gave(
+            &trial,
             0,
-            "0.1@0 table t\n0.2@2 loaded version=0 rows=1\n0.3@4 loaded version=1 rows=0\n0.4@5 rows 1 version=1\n1,5\n"
+            "0.1@0 table t\n\
+         0.2@2 loaded version=0 rows=1\n\
+         0.3@4 loaded version=1 rows=0\n\
+         0.4@5 rows 1 version=1\n\
+         1,5\n",
+            7
         )
     );
-    assert_eq!(rt; trial.turns, 7);
     Ok(())
 }
 
@@ -22,12 +86,23 @@ fn one_row(rt: HostRuntime) -> Result<(), Fail> {
 fn zero_sum_stays(rt: HostRuntime) -> Result<(), Fail> {
     let trial = try_script(
         rt.alloc(),
-        "table,t,k int,v sum\nrow,t,7,10\ncommit\nrow,t,7,-10\ncommit\nquery,t\n",
+        "table,t,k int,v sum\n\
+         row,t,7,10\n\
+         commit\n\
+         row,t,7,-10\n\
+         commit\n\
+         query,t\n",
     )?;
     assert!(rt;
-        trial.gave(
+        gave(
+            &trial,
             0,
-            "0.1@0 table t\n0.2@2 loaded version=0 rows=1\n0.3@4 loaded version=1 rows=1\n0.4@5 rows 1 version=1\n7,0\n"
+            "0.1@0 table t\n\
+         0.2@2 loaded version=0 rows=1\n\
+         0.3@4 loaded version=1 rows=1\n\
+         0.4@5 rows 1 version=1\n\
+         7,0\n",
+            7
         )
     );
     Ok(())
@@ -37,12 +112,22 @@ fn zero_sum_stays(rt: HostRuntime) -> Result<(), Fail> {
 fn duplicate_key(rt: HostRuntime) -> Result<(), Fail> {
     let trial = try_script(
         rt.alloc(),
-        "table,t,k int,v sum\nrow,t,1,5\nrow,t,2,6\nrow,t,1,7\ncommit\nrow,t,1,7\ncommit\n",
+        "table,t,k int,v sum\n\
+         row,t,1,5\n\
+         row,t,2,6\n\
+         row,t,1,7\n\
+         commit\n\
+         row,t,1,7\n\
+         commit\n",
     )?;
     assert!(rt;
-        trial.gave(
+        gave(
+            &trial,
             1,
-            "0.1@0 table t\n0.2@2 refused duplicate_key first=1 second=3\n0.3@4 loaded version=0 rows=1\n"
+            "0.1@0 table t\n\
+         0.2@2 refused duplicate_key first=1 second=3\n\
+         0.3@4 loaded version=0 rows=1\n",
+            5
         )
     );
     Ok(())
@@ -52,22 +137,154 @@ fn duplicate_key(rt: HostRuntime) -> Result<(), Fail> {
 fn sum_bound(rt: HostRuntime) -> Result<(), Fail> {
     let trial = try_script(
         rt.alloc(),
-        "table,t,k int,v sum\nrow,t,1,9223372036854775807\ncommit\nrow,t,1,-1\ncommit\nquery,t\n",
+        "table,t,k int,v sum\n\
+         row,t,1,9223372036854775807\n\
+         commit\n\
+         row,t,1,-1\n\
+         commit\n\
+         query,t\n",
     )?;
     assert!(rt;
-        trial.gave(
+        gave(
+            &trial,
             1,
-            "0.1@0 table t\n0.2@2 loaded version=0 rows=1\n0.3@4 refused sum_bound table=t column=v\n0.4@5 rows 1 version=0\n1,9223372036854775807\n"
+            "0.1@0 table t\n\
+         0.2@2 loaded version=0 rows=1\n\
+         0.3@4 refused sum_bound table=t column=v\n\
+         0.4@5 rows 1 version=0\n\
+         1,9223372036854775807\n",
+            7
         )
     );
     let trial = try_script(
         rt.alloc(),
-        "table,t,k int,v sum\nrow,t,1,-9223372036854775808\ncommit\n",
+        "table,t,k int,v sum\n\
+         row,t,1,-9223372036854775808\n\
+         commit\n",
     )?;
     assert!(rt;
-        trial.gave(
+        gave(
+            &trial,
             1,
-            "0.1@0 table t\n0.2@2 refused sum_bound table=t column=v\n"
+            "0.1@0 table t\n\
+         0.2@2 refused sum_bound table=t column=v\n",
+            3
+        )
+    );
+    Ok(())
+}
+
+#[test]
+fn stale_and_future(rt: HostRuntime) -> Result<(), Fail> {
+    let trial = try_script(
+        rt.alloc(),
+        "table,t,k int,v sum\n\
+         query,t\n\
+         commit\n\
+         commit\n\
+         commit\n\
+         expire,1\n\
+         query,t,0\n\
+         query,t,3\n\
+         expire,0\n",
+    )?;
+    assert!(rt;
+        gave(
+            &trial,
+            1,
+            "0.1@0 table t\n\
+         0.2@1 refused future asked=latest newest=none\n\
+         0.3@3 loaded version=0 rows=0\n\
+         0.4@5 loaded version=1 rows=0\n\
+         0.5@7 loaded version=2 rows=0\n\
+         0.6@8 expired oldest=1\n\
+         0.7@9 refused stale asked=0 oldest=1\n\
+         0.8@10 refused future asked=3 newest=2\n\
+         0.9@11 refused stale asked=0 oldest=1\n",
+            12
+        )
+    );
+    Ok(())
+}
+
+#[test]
+fn refusals_by_name(rt: HostRuntime) -> Result<(), Fail> {
+    let trial = try_script(
+        rt.alloc(),
+        "table,t,k int;name text,v sum\n\
+         row,t,1,x,5\n\
+         row,u,1,x,5\n\
+         commit\n\
+         row,t,1,x\n\
+         commit\n\
+         row,t,1,x,9223372036854775808\n\
+         commit\n\
+         table,t,k int,v sum\n\
+         table,s,k int;k int,v sum\n\
+         query,t,,kk=1\n\
+         query,t,,k=x\n",
+    )?;
+    assert!(rt;
+        gave(
+            &trial,
+            1,
+            "0.1@0 table t\n\
+         0.2@2 refused no_table row=2\n\
+         0.3@4 refused bad_row row=1 column=3\n\
+         0.4@6 refused bad_row row=1 column=3\n\
+         0.5@7 refused table_exists\n\
+         0.6@8 refused bad_schema reason=name_twice\n\
+         0.7@9 refused no_column\n\
+         0.8@10 refused bad_filter term=1\n",
+            11
+        )
+    );
+    Ok(())
+}
+
+#[test]
+fn views_guard_columns(rt: HostRuntime) -> Result<(), Fail> {
+    let trial = try_script(
+        rt.alloc(),
+        "table,t,k int;c text,v sum;r replace\n\
+         view,w,t,c,v\n\
+         view,x,t,c,r\n\
+         view,t,t,c,v\n",
+    )?;
+    assert!(rt;
+        gave(
+            &trial,
+            1,
+            "0.1@0 table t\n\
+         0.2@1 view w\n\
+         0.3@2 refused replace_group column=r\n\
+         0.4@3 refused table_exists\n",
+            4
+        )
+    );
+    Ok(())
+}
+
+#[test]
+fn escaped_filter(rt: HostRuntime) -> Result<(), Fail> {
+    let trial = try_script(
+        rt.alloc(),
+        "table,t,name text,v sum\n\
+         row,t,\"x,y\",5\n\
+         row,t,a&b,6\n\
+         commit\n\
+         query,t,,name=a%26b|x%2cy\n",
+    )?;
+    assert!(rt;
+        gave(
+            &trial,
+            0,
+            "0.1@0 table t\n\
+         0.2@2 loaded version=0 rows=2\n\
+         0.3@3 rows 2 version=0\n\
+         a&b,6\n\
+         \"x,y\",5\n",
+            5
         )
     );
     Ok(())

@@ -1,0 +1,232 @@
+-- One turn more of a run in memory.
+use Rattle.std.proofs.Common.{◌≡◌, ◌+◌, ◌≤◌, ◌<◌, ◌==◌, ◌&&◌, ◌||◌, ℕ, zero, suc, List, [], ◌∷◌, ◌++◌, length, get_or, Bool, true, false, IsTrue, refl, sym, ap, ◌∙◌, subst, arith, add-one, Option, Some, None}
+use Rattle.std.specs.Prelude.{not, is_some, is_none, slice_get}
+use Rattle.std.specs.List.{AllByRecursion, list_all, range_with_len}
+use Rattle.mesa_model.specs.declared.commands.Command.{Command}
+use Rattle.mesa_model.specs.declared.commands.Script.{Script}
+use Rattle.mesa_model.specs.declared.entries.Entry.{Entry}
+use Rattle.mesa_model.specs.declared.entries.Kind.{Kind}
+use Rattle.mesa_model.specs.declared.entries.Kind.TheVariants as kind
+use Rattle.mesa_model.specs.declared.entries.Outcome.{Outcome}
+use Rattle.mesa_model.specs.declared.entries.Outcome.TheVariants as outcome
+use Rattle.mesa_model.specs.Warehouse.{Warehouse, empty_warehouse}
+use Rattle.mesa_history.specs.Run.{State, Stage, First, Looked, Answered, Granted, Renewed, Finished, CutOff, Place, Told, Last, Silent, Printed, Skipped, Run, place_of, command_at, command_of, nothing_there}
+use Rattle.mesa_history.specs.Replay.{Turned, turned, told_by, is_skip, is_skipped, place_after, last_of, go, runs}
+use Rattle.mesa_history.specs.Legal.{is_due_of, is_due_at, is_unrenewed, is_stands, is_answered, is_complete, fits_sink, fits_outcome, outcome_fits, same_kind, first_kind, sessions_of, is_cut_off, ends_well}
+use Rattle.mesa_history.proofs.More.{turned_is, runs_more, state_after, last_after, position_is}
+use Rattle.mesa_history.proofs.Places.{place_of-go, same_is}
+use Rattle.mesa_run.specs.Built.{prologue_of}
+use Rattle.mesa_run.specs.Legal.{FitsInMemory, AllFitInMemory, IsLegalInMemory}
+use Rattle.mesa_run.specs.Places.{turn_entry, run_begins, run_after, is_fixed, IsAt}
+
+-- ---- histories with one entry more
+
+-- each entry fits, with one that fits at the end
+pub fit_more : (script : Script) (r : Run) (h : List Entry) (e : Entry) → AllFitInMemory script r h → FitsInMemory script (runs script r h) e → AllFitInMemory script r (h ++ e ∷ [])
+unfolding runs AllFitInMemory
+fit_more script r [] e all fits = (fits, tt)
+fit_more script r (x ∷ h) e all fits = (all.0, fit_more script (go script r x) h e all.1 fits)
+
+pub fixed_more : (h : List Entry) (e : Entry) → AllByRecursion (λ e. IsTrue (is_fixed e.outcome)) h → IsTrue (is_fixed e.outcome) → AllByRecursion (λ e. IsTrue (is_fixed e.outcome)) (h ++ e ∷ [])
+fixed_more [] e all one = (one, tt)
+fixed_more (x ∷ h) e all one = (all.0, fixed_more h e all.1 one)
+
+alone_after : (script : Script) (r : Run) (e : Entry) → (go script r e).prologue_over ≡ (r.prologue_over || not (e.session == 0))
+unfolding go
+alone_after script r e = refl
+
+-- ---- the turn that is due
+
+-- what a turn makes of the warehouse, what it tells, and how far its command has come behind it
+pub record Makes (script : Script) (r : Run) (e : Entry) (new : Warehouse) (told : Option Told) (next : Stage) : Type 0 where
+  pub warehouse : (turned script r e).state.warehouse ≡ new
+  pub tells : told_by script r e ≡ told
+  pub stage : (turned script r e).stage ≡ next
+
+outcome_of : (script : Script) (e : Entry) (c : Command) → command_of script e ≡ Some c → IsTrue (outcome_fits c e.kind e.outcome) → IsTrue (fits_outcome script e)
+outcome_of script e c known fits = rw known fits
+
+-- what the last turn did to the sink
+pub last_next : (script : Script) (h : List Entry) (e : Entry) (new : Warehouse) (told : Option Told) (next : Stage) → Makes script (run_after script h) e new told next
+    → (run_after script (h ++ e ∷ [])).last ≡ last_of (is_skipped e) told
+last_next script h e new told next makes =
+    ap (λ (x : Run). x.last) (runs_more script (run_begins script) h e) ∙ last_after script (run_after script h) e ∙ ap (λ (t : Option Told). last_of (is_skipped e) t) makes.tells
+
+unskipped : (told : Option Told) → IsTrue (fits_sink (last_of false told) false)
+unskipped None = refl
+unskipped (Some told) = refl
+
+module _ (script : Script) (h : List Entry) (number : ℕ) (stage : Stage) (w : Warehouse) (at : IsAt script h number stage w) (c : Command) (known : command_at script 0 number ≡ Some c) (k : Kind) (o : Outcome) where
+  abbrev r : Run
+  r = run_after script h
+
+  abbrev e : Entry
+  e = turn_entry number k o
+
+  -- it fits
+  pub fits_next : IsTrue (is_due_at c stage k) → is_unrenewed stage ≡ false → IsTrue (fits_sink r.last (is_skip o)) → IsTrue (outcome_fits c k o) → FitsInMemory script r e
+  fits_next due unrenewed sink fits = record {
+    prologue = ap (λ (b : Bool). not (b && (0 == 0))) at.alone;
+    due =
+        ap (λ (x : Option Command). is_due_of x (place_of r 0) e) known
+        ∙ ap (λ (p : Place). is_due_of (Some c) p e) at.place
+        ∙ ap (λ (b : Bool). b && is_due_at c stage k) (same_is number)
+        ∙ due;
+    renewal =
+        ap (λ (p : Place). not (is_unrenewed p.stage && same_kind kind.Close k && is_stands o) || is_some r.state.warehouse.closed) at.place
+        ∙ ap (λ (b : Bool). not (b && same_kind kind.Close k && is_stands o) || is_some r.state.warehouse.closed) unrenewed;
+    sink = sink;
+    moment = refl;
+    outcome = outcome_of script e c known fits;
+    closed = ap (λ (x : Option ℕ). is_none x || is_stands o || is_skip o || same_kind kind.Look k || is_answered (place_of r 0).stage) (ap (λ (x : Warehouse). x.closed) at.state ∙ at.opened);
+  }
+
+  -- and takes the run on
+  pub at_next : IsTrue (is_due_at c stage k) → is_unrenewed stage ≡ false → IsTrue (outcome_fits c k o) → is_skip o ≡ false → IsTrue (is_fixed o)
+      → (new : Warehouse) (told : Option Told) (next : Stage) → Makes script r e new told next → new.closed ≡ None
+      → IsAt script (h ++ e ∷ []) (place_after number next).number (place_after number next).stage new
+  at_next due unrenewed fits done fixed new told next makes opened =
+      let more = runs_more script (run_begins script) h e in
+      record {
+        fits = fit_more script (run_begins script) h e at.fits (fits_next due unrenewed (subst (λ (b : Bool). IsTrue (fits_sink r.last b)) (sym done) at.sink) fits);
+        fixed = fixed_more h e at.fixed fixed;
+        place =
+            ap (λ (x : Run). place_of x 0) more
+            ∙ place_of-go script r e
+            ∙ ap (λ (p : Place). place_after p.number (turned script r e).stage) at.place
+            ∙ ap (λ (s : Stage). place_after number s) makes.stage;
+        state = ap (λ (x : Run). x.state.warehouse) more ∙ ap (λ (s : State). s.warehouse) (state_after script r e) ∙ makes.warehouse;
+        alone = ap (λ (x : Run). x.prologue_over) more ∙ alone_after script r e ∙ ap (λ (b : Bool). b || not (0 == 0)) at.alone;
+        sink = subst (λ (l : Last). IsTrue (fits_sink l false)) (sym (last_next script h e new told next makes ∙ ap (λ (b : Bool). last_of b told) done)) (unskipped told);
+        opened = opened;
+      }
+
+-- ---- where a run begins
+
+pub at_begin : (script : Script) → IsAt script [] 1 First empty_warehouse
+unfolding runs AllFitInMemory place_of
+at_begin script = record { fits = tt; fixed = tt; place = refl; state = refl; alone = refl; sink = refl; opened = refl }
+
+-- a run's position is the number of its turns
+pub position_at : (script : Script) (h : List Entry) → (run_after script h).position ≡ length h
+position_at script h = let is = position_is script (run_begins script) h in omega (arith, is)
+
+-- ---- where a run ends
+
+none_behind : (cs : List Command) (i : ℕ) → length cs ≤ i → slice_get cs i ≡ None
+none_behind [] i le = refl
+none_behind (c ∷ cs) zero le = absurd (omega arith)
+none_behind (c ∷ cs) (suc i) le = none_behind cs i (omega arith)
+
+some_there : (cs : List Command) (i : ℕ) (c : Command) → i < length cs → c ≡ get_or cs i c → slice_get cs i ≡ Some c
+some_there [] i c lt is = absurd (omega arith)
+some_there (x ∷ xs) zero c lt is = ap (λ (y : Command). Some y) (sym is)
+some_there (x ∷ xs) (suc i) c lt is = some_there xs i c (omega arith) is
+
+command_is : (script : Script) (i : ℕ) → command_at script 0 (i + 1) ≡ slice_get (prologue_of script) i
+command_is script i = rw add-one refl
+
+-- the command of an index
+pub command_there : (script : Script) (i : ℕ) (c : Command) → i < length (prologue_of script) → c ≡ get_or (prologue_of script) i c → command_at script 0 (i + 1) ≡ Some c
+command_there script i c lt is = command_is script i ∙ some_there (prologue_of script) i c lt is
+
+-- there is none behind the last
+pub command_behind : (script : Script) (i : ℕ) → length (prologue_of script) ≤ i → command_at script 0 (i + 1) ≡ None
+command_behind script i le = command_is script i ∙ none_behind (prologue_of script) i le
+
+complete_is : (script : Script) (r : Run) (p : Place) → place_of r 0 ≡ p → command_at script 0 p.number ≡ None → is_complete script r 0 ≡ true
+complete_is script r p place none = ap (λ (x : Place). is_none (command_at script 0 x.number)) place ∙ ap (λ (x : Option Command). is_none x) none
+
+abbrev is_cut_off_at : Stage → Bool
+is_cut_off_at First = false
+is_cut_off_at Looked = false
+is_cut_off_at (Answered at answer) = false
+is_cut_off_at (Granted claim) = false
+is_cut_off_at (Renewed claim) = false
+is_cut_off_at Finished = false
+is_cut_off_at CutOff = true
+
+same_kind_is : (k : Kind) → same_kind k k ≡ true
+same_kind_is kind.Look = refl
+same_kind_is kind.Decide = refl
+same_kind_is kind.Close = refl
+same_kind_is kind.Grant = refl
+same_kind_is kind.Renew = refl
+
+or_true : (a b : Bool) → b ≡ true → (a || b) ≡ true
+or_true true b is = refl
+or_true false b is = is
+
+skip_fits : (c : Command) (k : Kind) → IsTrue (outcome_fits c k outcome.Skipped)
+skip_fits c k = refl
+
+sessions_one : (script : Script) → length script.sessions ≡ 1 → sessions_of script ≡ 0 ∷ []
+sessions_one script one = ap (λ (n : ℕ). range_with_len 0 n) one
+
+-- the one session passes a test
+passes_one : (script : Script) (f : ℕ → Bool) → length script.sessions ≡ 1 → f 0 ≡ true → list_all f (sessions_of script) ≡ true
+passes_one script f one passes = ap (λ (l : List ℕ). list_all f l) (sessions_one script one) ∙ ap (λ (b : Bool). b && true) passes
+
+abbrev was_skipped : Last → Bool
+was_skipped Silent = false
+was_skipped Printed = false
+was_skipped Skipped = true
+
+not_skipped : (l : Last) → IsTrue (fits_sink l false) → not (was_skipped l) ≡ true
+not_skipped Silent fits = refl
+not_skipped Printed fits = refl
+not_skipped Skipped fits = absurd cc
+
+abbrev was_silent : Last → Bool
+was_silent Silent = true
+was_silent Printed = false
+was_silent Skipped = false
+
+ends_whole : (script : Script) (r : Run) → length script.sessions ≡ 1 → is_complete script r 0 ≡ true → IsTrue (fits_sink r.last false) → IsTrue (ends_well false script r)
+ends_whole script r one complete sink =
+    ap (λ (b : Bool). b && list_all (is_complete script r) (sessions_of script)) (not_skipped r.last sink) ∙ passes_one script (is_complete script r) one complete
+
+-- a run whose sink failed ends well where the one session is complete or cut off, and its last turn printed or was skipped
+ends_broken : (script : Script) (r : Run) → length script.sessions ≡ 1 → (is_complete script r 0 || is_cut_off r 0) ≡ true → not (was_silent r.last) ≡ true → IsTrue (ends_well true script r)
+ends_broken script r one ended last =
+    ap (λ (b : Bool). b && list_all (λ session. is_complete script r session || is_cut_off r session) (sessions_of script)) last
+    ∙ passes_one script (λ session. is_complete script r session || is_cut_off r session) one ended
+
+module _ (script : Script) (one : length script.sessions ≡ 1) (h : List Entry) (number : ℕ) (w : Warehouse) (at : IsAt script h number First w) where
+  -- a run in which every command had its turns is legal
+  pub legal_whole : command_at script 0 number ≡ None → IsLegalInMemory (nothing_there script) script h false
+  legal_whole none = record {
+    each = at.fits;
+    ends = ends_whole script (run_after script h) one (complete_is script (run_after script h) _ at.place none) at.sink;
+  }
+
+  -- also where the sink failed in its last turn
+  pub legal_broken : command_at script 0 number ≡ None → (run_after script h).last ≡ Printed → IsLegalInMemory (nothing_there script) script h true
+  legal_broken none last = record {
+    each = at.fits;
+    ends = ends_broken script (run_after script h) one (ap (λ (b : Bool). b || is_cut_off (run_after script h) 0) (complete_is script (run_after script h) _ at.place none)) (ap (λ (l : Last). not (was_silent l)) last);
+  }
+
+  module _ (c : Command) (known : command_at script 0 number ≡ Some c) (last : (run_after script h).last ≡ Printed) where
+    abbrev skip : Entry
+    skip = turn_entry number (first_kind c) outcome.Skipped
+
+    -- a turn that isn't done, since the sink failed in the one before it
+    pub skip_makes : Makes script (run_after script h) skip (run_after script h).state.warehouse None CutOff
+    skip_makes = let is = turned_is script (run_after script h) skip c known in record {
+      warehouse = ap (λ (t : Turned). t.state.warehouse) is;
+      tells = ap (λ (t : Turned). t.told) is;
+      stage = ap (λ (t : Turned). t.stage) is;
+    }
+
+    cut_off : is_cut_off (run_after script (h ++ skip ∷ [])) 0 ≡ true
+    cut_off = ap (λ (p : Place). is_cut_off_at p.stage)
+        (ap (λ (x : Run). place_of x 0) (runs_more script (run_begins script) h skip) ∙ place_of-go script (run_after script h) skip
+        ∙ ap (λ (s : Stage). place_after (place_of (run_after script h) 0).number s) skip_makes.stage)
+
+    pub legal_skipped : IsLegalInMemory (nothing_there script) script (h ++ skip ∷ []) true
+    legal_skipped = record {
+      each = fit_more script (run_begins script) h skip at.fits (fits_next script h number First w at c known (first_kind c) outcome.Skipped (same_kind_is (first_kind c)) refl (ap (λ (l : Last). fits_sink l true) last) (skip_fits c (first_kind c)));
+      ends = ends_broken script (run_after script (h ++ skip ∷ [])) one (or_true (is_complete script (run_after script (h ++ skip ∷ [])) 0) _ cut_off)
+          (ap (λ (l : Last). not (was_silent l)) (last_next script h skip _ None CutOff skip_makes));
+    }
