@@ -1,5 +1,6 @@
 // What holds of every block, whichever function wrote or read it.
-ghost use Rattle.std.specs.Prelude.{◌≡◌, List, [], ◌∷◌, Ok, IsTrue, true};
+ghost use Rattle.std.specs.Prelude.{◌≡◌, ◌+◌, ◌*◌, List, [], ◌∷◌, ◌++◌, length, Ok, IsTrue, true};
+ghost use Rattle.std.specs.List.{AllByRecursion};
 ghost use Rattle.mesa_schema.specs.declared.rows.Row.{Row as AnyRow};
 ghost use Rattle.mesa_schema.specs.Columns.{Columns};
 ghost use Rattle.mesa_schema.specs.Schema.{is_schema};
@@ -20,6 +21,14 @@ pub fn reads_blocks()
 /// A row fits in an empty block, so every list of rows makes blocks: under a schema no key is longer than 16 texts, and no row has more than 16 values.
 pub fn fits_alone()
     ensures { (s : Columns) (row : AnyRow) → IsTrue (is_schema s) → IsRow s row → fit s (row ∷ []) ≡ true }
+{
+    reads_back();
+}
+
+/// With one row more a block is longer by the row's key and its values: a cell takes as many bytes in a block as in its key.
+pub fn grows_by_rows()
+    ensures { (s : Columns) (rows : List AnyRow) (row : AnyRow) → AllByRecursion (IsRow s) rows → IsRow s row
+        → length (block s (rows ++ row ∷ [])) ≡ length (block s rows) + (length row.key + 8 * length s.values) }
 {
     reads_back();
 }

@@ -10,7 +10,7 @@ mod writing;
 
 pub use builder::BlockBuilder;
 pub use error::BlockError;
-pub use laws::{fits_alone, reads_blocks};
+pub use laws::{fits_alone, grows_by_rows, reads_blocks};
 pub use reading::{Block, read_block};
 
 /// How many rows a block has at most.
