@@ -6,3 +6,13 @@ pub mod Searching
 pub mod Vectors
 pub mod Shorts
 pub mod Beginning
+pub mod Entering
+pub mod Tailing
+pub mod Packing
+pub mod Placed
+pub mod Over
+pub mod Indexing
+pub mod Going
+pub mod Steps
+pub mod Accepting
+pub mod Following

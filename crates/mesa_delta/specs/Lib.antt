@@ -10,3 +10,8 @@ pub mod Faults
 pub mod Begun
 pub mod Laying
 pub mod Writing
+pub mod Places
+pub mod Indexed
+pub mod Damages
+pub mod Packing
+pub mod Reading

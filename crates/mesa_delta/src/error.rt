@@ -1,10 +1,12 @@
-// Why a file isn't written.
+// Why a file isn't written or read.
 ghost use Rattle.std.specs.Prelude.{◌≡◌};
+ghost use Rattle.mesa_delta.specs.declared.error.FileError.TheVariants as file_error;
 ghost use Rattle.mesa_delta.specs.declared.error.WriteError.TheVariants.{Draft as DraftFault, Memory as WantOfMemory};
 ghost use Rattle.mesa_delta.specs.Faults.{write_error};
 
-use mesa_disk::DraftError;
+use mesa_disk::{Damage, DraftError, ReadFailed};
 use std::alloc::{AllocError, AllocFailed};
+use thiserror::Error;
 
 /// Why a file isn't written. Its draft may then only be given back to its bench.
 #[derive(Clone, Copy, Debug, PartialEq, Eq)]
@@ -39,5 +41,42 @@ impl From<DraftError> for WriteError {
             DraftError::Failed => WriteError::Draft,
             DraftError::Memory => WriteError::Memory,
         }
+    }
+}
+
+/// Why a file isn't read.
+#[derive(Clone, Copy, Debug, PartialEq, Eq, Error)]
+pub enum FileError {
+    /// A call of the reader failed, and its count of faults rose.
+    #[error("the file could not be read")]
+    Read,
+    /// The file isn't the one that was recorded.
+    #[error("the file is damaged")]
+    Damaged(Damage),
+    #[error("no memory")]
+    Memory,
+}
+
+impl From<AllocError> for FileError {
+    ghost from_gives = { λ _ e. e ≡ file_error.Memory };
+
+    fn from(_: AllocError) -> Self {
+        FileError::Memory
+    }
+}
+
+impl<T: Drop> From<AllocFailed<T>> for FileError {
+    ghost from_gives = { λ _ e. e ≡ file_error.Memory };
+
+    fn from(_: AllocFailed<T>) -> Self {
+        FileError::Memory
+    }
+}
+
+impl From<ReadFailed> for FileError {
+    ghost from_gives = { λ _ e. e ≡ file_error.Read };
+
+    fn from(_: ReadFailed) -> Self {
+        FileError::Read
     }
 }

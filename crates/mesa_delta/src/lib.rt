@@ -3,13 +3,21 @@
 
 mod blocks;
 mod error;
+mod index;
+mod input;
 mod laws;
+mod piece;
+mod place;
+mod reader;
+mod run;
 mod seeking;
 mod tail;
 mod tally;
 mod writer;
 
-pub use error::WriteError;
+pub use error::{FileError, WriteError};
+pub use index::Index;
+pub use input::Input;
 pub use laws::begins_before;
-pub use seeking::seek;
+pub use reader::DeltaReader;
 pub use writer::DeltaWriter;

@@ -2,4 +2,10 @@
 #![tactic(auto)]
 
 #[cfg(test)]
-mod seeking;
+mod equal_keys;
+#[cfg(test)]
+mod files;
+#[cfg(test)]
+mod reading;
+#[cfg(test)]
+mod writing;

@@ -1,0 +1,88 @@
+-- No damage is told of the recorded bytes.
+use Rattle.std.proofs.Common.{◌≡◌, inl, inr, ℕ, ◌+◌, ◌-◌, ◌^◌, ◌<◌, ◌≤◌, List, [], ◌∷◌, ◌++◌, length, take, drop, get_or, refl, sym, ap, subst, ◌∙◌, arith, Option, Some, true}
+use Rattle.std.specs.Prelude.{IsTrue, map}
+use Rattle.std.specs.List.{AllByRecursion}
+use Rattle.std.specs.Ordering.{is_le}
+use Rattle.std.proofs.lemmas.List.{length-drop, take_all}
+use Rattle.sha2.specs.Sha256.{sha256}
+use Rattle.mesa_disk.specs.declared.damage.Damage.{Damage}
+use Rattle.mesa_disk.specs.declared.file_ref.FileRef.{FileRef}
+use Rattle.mesa_key.specs.Order.{byte_cmp, short_key}
+use Rattle.mesa_schema.specs.declared.rows.Row.{Row}
+use Rattle.mesa_schema.specs.Columns.{Columns}
+use Rattle.mesa_schema.specs.Schema.{is_schema}
+use Rattle.mesa_schema.specs.Folded.{rows_of}
+use Rattle.mesa_block.specs.Rows.{AreRows, Rise}
+use Rattle.mesa_block.specs.Spelling.{block, key_of}
+use Rattle.mesa_delta.specs.declared.place.Entry.{Entry}
+use Rattle.mesa_delta.specs.declared.reader.DeltaReader.{DeltaReader}
+use Rattle.mesa_delta.specs.Beginning.{BeginsBefore, IsSome, first_short}
+use Rattle.mesa_delta.specs.File.{IsFile, file_tail}
+use Rattle.mesa_delta.specs.Indexed.{Indexed, IsIndex, tail_length}
+use Rattle.mesa_delta.specs.Places.{places, shorts_of}
+use Rattle.mesa_delta.specs.Reading.{HasRead, IsBlock, IsBlockDamage, IsIndexed, IsTailDamage, tail_place, piece_of}
+use Rattle.mesa_delta.specs.Seeking.{seek_in}
+use Rattle.mesa_delta.specs.Spread.{blocks_of}
+use Rattle.mesa_delta.specs.Summary.{IsReferenceOf}
+use Rattle.mesa_delta.proofs.Indexing.{is_same, is_at}
+use Rattle.mesa_delta.proofs.Packing.{FitsAlone, blocks_rows}
+use Rattle.mesa_delta.proofs.Placed.{laid, tail_is, tail_of_file}
+use Rattle.mesa_delta.proofs.Steps.{Reads, blocks_once}
+
+pub tail_accepts : FitsAlone → (content : Option (List ℕ)) (size : ℕ) (s : Columns) (file : FileRef) (d : Damage) (b : List ℕ) (rows : List Row) → IsTrue (is_schema s) → file.len < 2 ^ 64 → content ≡ Some b → length b ≡ size → IsFile s rows b → IsReferenceOf s file.id rows file
+    → IsTailDamage content size s file d → ⊥
+tail_accepts law content size s file d b rows schema fits at sized h ref (inl wrong) = wrong.1 (sym sized ∙ ap length h.spelled ∙ sym ref.len)
+tail_accepts law content size s file d b rows schema fits at sized h ref (inr (piece, read, why)) =
+    let len : length b ≡ file.len = ap length h.spelled ∙ sym ref.len in
+    let t = tail_of_file law s rows b schema h (omega (arith, len, fits)) in
+    let parts = blocks_of s rows in
+    let long : tail_length s (length parts) ≡ tail_length s file.blocks = ap (tail_length s) (sym ref.blocks) in
+    let place : length (laid s parts) ≡ tail_place s file = omega (arith, t.place, len, long) in
+    let rest : take (file.len - tail_place s file) (drop (tail_place s file) b) ≡ drop (tail_place s file) b = take_all (file.len - tail_place s file) (drop (tail_place s file) b) (omega (arith, length-drop (tail_place s file) b, len)) in
+    let is : piece ≡ drop (tail_place s file) b = read.told b at ∙ rest in
+    let tail : drop (tail_place s file) b ≡ file_tail s rows = ap (λ (n : ℕ). drop n b) (sym place) ∙ t.behind ∙ sym (tail_is s (length rows) parts) in
+    elim why as (λ _. ⊥) [
+      | inl wrong ↦ wrong.1 (ap sha256 (is ∙ tail) ∙ sym ref.digest)
+      | inr misfit ↦ misfit.1 rows b h len (sym ref.blocks) (sym is)
+    ]
+
+pub block_accepts : FitsAlone → {R : Type 0} (bytes : R → Option (List ℕ)) (r : DeltaReader R) (size i : ℕ) (parts : List (List Row)) (d : Damage) (b : List ℕ) (rows : List Row) → IsIndex r.index → i < length r.index.entries → bytes r.reader ≡ Some b → length b ≡ size → IsIndexed r.index rows b → HasRead bytes r parts
+    → IsBlockDamage (bytes r.reader) size r.index i parts d → ⊥
+block_accepts law bytes r size i parts d b rows index lt at sized f h (inl wrong) = wrong.1 (sym sized ∙ f.over.len)
+block_accepts law bytes r size i parts d b rows index lt at sized f h (inr (piece, read, why)) =
+    let x = r.index in
+    let here = is_at law x rows b i index f lt in
+    let is : piece ≡ piece_of x i b = read.told b at in
+    elim why as (λ _. ⊥) [
+      | inl wrong ↦ wrong.1 (ap sha256 (is ∙ here.piece) ∙ sym (ap (λ (e : Entry). e.digest) here.entry))
+      | inr misfit ↦ misfit.1 rows b f (h.told b at) (sym is)
+    ]
+
+-- what was written is read again
+pub read_again : FitsAlone → Reads → (x : Indexed) (i : ℕ) (part rows : List Row) (b : List ℕ) → IsIndex x → i < length x.entries → IsBlock x i part → IsIndexed x rows b → piece_of x i b ≡ block x.columns part → part ≡ get_or (blocks_of x.columns rows) i []
+read_again law reads x i part rows b index lt is f piece =
+    let here = is_at law x rows b i index f lt in
+    blocks_once reads x.columns part (get_or (blocks_of x.columns rows) i []) is.rows here.good (sym piece ∙ here.piece)
+
+shorts_are : (s : Columns) (at : ℕ) (parts : List (List Row)) → shorts_of (places s at parts) ≡ map first_short parts
+shorts_are s at [] = refl
+shorts_are s at (p ∷ parts) = ap (λ (l : List (List ℕ)). first_short p ∷ l) (shorts_are s (at + length (block s p)) parts)
+
+some_all : (s : Columns) (parts : List (List Row)) → AllByRecursion (AreRows s) parts → AllByRecursion IsSome parts
+some_all s [] all = tt
+some_all s (p ∷ parts) all = (all.0.some, some_all s parts all.1)
+
+parts_behind : (s : Columns) (before : List (List Row)) (part : List Row) (behind : List (List Row)) → AllByRecursion (AreRows s) (before ++ part ∷ behind) → AllByRecursion IsSome behind
+parts_behind s [] part behind all = some_all s behind all.1
+parts_behind s (p ∷ before) part behind all = parts_behind s before part behind all.1
+
+-- a search begins at or before the first block that holds a key at least the one looked for
+pub begins_so : FitsAlone → BeginsBefore → (x : Indexed) (key : List ℕ) (rows : List Row) (b : List ℕ) (before : List (List Row)) (front : List Row) (row : Row) (back : List Row) (behind : List (List Row)) → IsIndex x → IsIndexed x rows b
+    → blocks_of x.columns rows ≡ before ++ (front ++ row ∷ back) ∷ behind → is_le (byte_cmp key row.key) ≡ true → seek_in (short_key key) (shorts_of x.entries) ≤ length before
+begins_so law begins x key rows b before front row back behind index f is le =
+    let s = x.columns in
+    let same = is_same law x rows b index f in
+    let shorts : shorts_of x.entries ≡ map first_short (before ++ (front ++ row ∷ back) ∷ behind) = ap shorts_of same.entries ∙ shorts_are s 0 (blocks_of s rows) ∙ ap (map first_short) is in
+    let rise = subst (λ (l : List Row). Rise (map key_of l)) (sym (blocks_rows s rows) ∙ ap rows_of is) f.file.rise in
+    let some = parts_behind s before (front ++ row ∷ back) behind (subst (AllByRecursion (AreRows s)) is same.of_file.each) in
+    subst (λ (l : List (List ℕ)). seek_in (short_key key) l ≤ length before) (sym shorts) (begins key before front row back behind rise some le)

@@ -1,0 +1,25 @@
+use Rattle.std.proofs.Common.{◌≡◌, ◌∙◌, rules, sym, ap, true, false}
+use Rattle.mesa_schema.specs.Columns.{Columns}
+use Rattle.mesa_delta.specs.declared.place.Entry.{Entry}
+use Rattle.mesa_delta.specs.Packing.{goes_on}
+use Rattle.mesa_delta.proofs.Going.{never_allowed, never_counted, one_more_of}
+use Rattle.mesa_delta.proofs.reader.go_on.Goals as goal
+
+pub returns-then-not-allows-clause-never : goal.returns-then-not-allows-clause-never
+returns-then-not-allows-clause-never c = λ d is.
+    let x = c.args.index.now in
+    let off : goes_on x.columns c.args.run.now c.index-rows-0.result ≡ false = ap (λ (s : Columns). goes_on s c.args.run.now c.index-rows-0.result) (sym c.schema.ensures) ∙ sym c.allows.ensures ∙ c.if-not-allows.true in
+    never_allowed c.fits_alone.ensures c.grows_by_rows.ensures x c.args.run.now c.args.rows.now c.index-rows-0.result c.entry-entry.ensures.index c.requires.some c.index-rows-0.is off
+
+pub returns-then-after-rows-clause-never : goal.returns-then-after-rows-clause-never
+returns-then-after-rows-clause-never c = λ d is.
+    let after = c.in_ok-after.after in
+    never_counted c.fits_alone.ensures c.args.index.now c.args.run.now after c.args.rows.now c.entry-entry.ensures.index c.in_ok-after.ensures.next c.in_ok-after.ensures.rows (search rules) (search rules)
+
+pub returns-clause-more : goal.returns-clause-more
+returns-clause-more c = λ parts h b.
+    let x = c.args.index.now in
+    let after = c.in_ok-after.after in
+    let e : goes_on x.columns c.args.run.now c.index-rows-0.result ≡ true = ap (λ (s : Columns). goes_on s c.args.run.now c.index-rows-0.result) (sym c.schema.ensures) ∙ sym c.allows.ensures ∙ c.if-not-allows.false in
+    let p = c.in_ok-after.ensures in
+    one_more_of c.grows_by_rows.ensures x c.args.run.now after parts c.args.rows.now c.index-rows-0.result h b c.index-rows-0.is e p.next p.rows p.last p.count (p.len ∙ ap (λ (e : Entry). e.len) c.entry-entry.ensures.entry)

@@ -1,0 +1,18 @@
+use Rattle.std.proofs.Common.{◌≡◌, ◌<◌, ◌-◌, ◌+◌, ◌∙◌, ℕ, List, [], ◌∷◌, length, get_or, arith, refl, ap, sym, add-one}
+use Rattle.mesa_schema.specs.declared.rows.Row.{Row}
+use Rattle.mesa_delta.specs.Summary.{last_key}
+use Rattle.mesa_delta.proofs.run.Run.after.Goals as goal
+
+at_next : (a : Row) (rows : List Row) (d : Row) (n : ℕ) → (get_or (a ∷ rows) (n + 1) d).key ≡ (get_or rows n d).key
+at_next a rows d n = rw add-one refl
+
+last_at : (rows : List Row) (d : Row) → 0 < length rows → (get_or rows (length rows - 1) d).key ≡ last_key rows
+last_at [] d some = absurd (omega arith)
+last_at (row ∷ []) d some = refl
+last_at (a ∷ b ∷ rows) d some =
+    let i : length (a ∷ b ∷ rows) - 1 ≡ length rows + 1 = omega arith in
+    let j : length (b ∷ rows) - 1 ≡ length rows = omega arith in
+    ap (λ (n : ℕ). (get_or (a ∷ b ∷ rows) n d).key) i ∙ at_next a (b ∷ rows) d (length rows) ∙ ap (λ (n : ℕ). (get_or (b ∷ rows) n d).key) (sym j) ∙ last_at (b ∷ rows) d (omega arith)
+
+pub returns-clause-last : goal.returns-clause-last
+returns-clause-last c = c.in_ok-copy.ensures ∙ last_at c.args.rows.now _ c.requires.some

@@ -1,0 +1,38 @@
+-- What is known of a file once its tail was read.
+use Rattle.std.specs.Prelude.{◌≡◌, ℕ, ◌+◌, ◌*◌, ◌^◌, ◌<◌, List, length, IsTrue}
+use Rattle.mesa_schema.specs.Columns.{Columns}
+use Rattle.mesa_schema.specs.Schema.{is_schema}
+use Rattle.mesa_disk.specs.declared.file_ref.FileRef.{FileRef}
+use Rattle.mesa_delta.specs.declared.place.Entry.{Entry}
+use Rattle.mesa_delta.specs.Places.{IsTail, tail_spelled}
+
+-- A file's id, its rows' columns, how long it is, where its tail begins, how many rows it has, and its blocks' entries.
+pub record Indexed : Type 0 where
+  pub file : ℕ
+  pub columns : Columns
+  pub len : ℕ
+  pub tail : ℕ
+  pub rows : ℕ
+  pub entries : List Entry
+
+-- how long a tail is, by the count of blocks
+abbrev pub tail_length : Columns → ℕ → ℕ
+tail_length s blocks = 60 * blocks + (length s.keys + length s.values) + 22
+
+-- The entries and the count of rows stand in a tail at the end of a file of this length.
+pub record IsIndex (x : Indexed) : Type 0 where
+  pub schema : IsTrue (is_schema x.columns)
+  pub tail : IsTail x.columns x.tail x.rows x.entries
+  pub few : length x.entries < 2 ^ 32
+  pub counted : x.rows < 2 ^ 64
+  pub fits : x.len < 2 ^ 64
+  pub whole : x.tail + tail_length x.columns (length x.entries) ≡ x.len
+
+-- An index is of the file of this reference, whose tail has these bytes.
+pub record IsIndexOf (file : FileRef) (s : Columns) (bytes : List ℕ) (x : Indexed) : Type 0 where
+  pub id : x.file ≡ file.id
+  pub columns : x.columns ≡ s
+  pub len : x.len ≡ file.len
+  pub blocks : length x.entries ≡ file.blocks
+  pub spelled : bytes ≡ tail_spelled x.columns x.rows x.entries
+  pub index : IsIndex x

@@ -1,0 +1,61 @@
+// A piece of a file, read at once.
+ghost use Rattle.std.specs.Prelude.{◌≡◌, ◌≢◌, ◌+◌, ◌≤◌, IfOk, IfErr, OnOk};
+ghost use Rattle.sha2.specs.Sha256.{sha256};
+ghost use Rattle.mesa_fault.specs.Causes.{HasFaultCause};
+ghost use Rattle.mesa_disk.specs.declared.damage.Damage.{Damage as AnyDamage};
+ghost use Rattle.mesa_delta.specs.declared.error.FileError.TheVariants as file_error;
+ghost use Rattle.mesa_delta.specs.Damages.{IsPiece, IsWrongDigest};
+
+use crate::FileError;
+use mesa_disk::{Damage, FileId, FileReader, Seen};
+use sha2::{Digest, Sha256};
+use std::alloc::Global;
+
+/// The bytes from a place on, by one read.
+pub fn read_piece<R: FileReader>(
+    alloc: Global,
+    reader: &mut R,
+    at: u64,
+    len: u64,
+) -> Result<Vec<u8>, FileError>
+    requires { at + len ≤ R.size reader.old }
+    ensures piece { IfOk result (λ v. IsPiece (R.bytes reader.old) at len v.items) }
+    ensures bytes { R.bytes reader.new ≡ R.bytes reader.old }
+    ensures size { R.size reader.new ≡ R.size reader.old }
+    ensures reads { R.reads reader.new ≤ R.reads reader.old + 1 }
+    ensures cause { HasFaultCause (λ e. e ≡ file_error.Read) (R.faults reader.old) (R.faults reader.new) result }
+    ensures whole { IfErr result (λ e. (d : AnyDamage) → e ≢ file_error.Damaged d) }
+{
+    let mut bytes = vec![in alloc; 0; len as usize]?;
+    reader.read_at(at, &mut bytes)?;
+    Ok(bytes)
+}
+
+/// Refuses bytes of another digest.
+pub fn check_digest(file: FileId, place: u64, digest: &[u8; 32], bytes: &[u8]) -> Result<(), Damage>
+    ensures ok { OnOk result (sha256 bytes.now ≡ digest.now) }
+    ensures err { IfErr result (λ d. IsWrongDigest file place digest.now bytes.now d) }
+{
+    let found = Sha256::digest(bytes);
+    if found == *digest {
+        return Ok(());
+    }
+    Err(Damage {
+        file,
+        place,
+        want: Seen::Digest(*digest),
+        found: Seen::Digest(found),
+    })
+}
+
+/// Bytes of the right digest that aren't in the grammar.
+pub fn misfit(file: FileId, place: u64) -> Damage
+    ensures { result ≡ record { file = file; place = place; want = Seen.Fits; found = Seen.Misfit 0 } }
+{
+    Damage {
+        file,
+        place,
+        want: Seen::Fits,
+        found: Seen::Misfit(0),
+    }
+}

@@ -1,0 +1,359 @@
+// Reading a file.
+ghost use Rattle.std.specs.Prelude.{◌≡◌, ◌≢◌, ◌⊎◌, ◌<◌, ◌≤◌, ◌+◌, ◌-◌, ◌^◌, ℕ, List, [], ◌∷◌, ◌++◌, length, map, take, drop, IfOk, OnOk, IfErr, OnErr, IfSome, IfNone, IsTrue, ◌↔◌, get_or, true, Some};
+ghost use Rattle.std.specs.Ordering.{is_le};
+ghost use Rattle.sha2.specs.Sha256.{sha256};
+ghost use Rattle.mesa_fault.specs.Causes.{HasFaultCause, Rose};
+ghost use Rattle.mesa_disk.specs.declared.damage.Damage.{Damage as AnyDamage};
+ghost use Rattle.mesa_key.specs.Order.{byte_cmp, short_key};
+ghost use Rattle.mesa_block.specs.Rows.{AreRows};
+ghost use Rattle.mesa_block.specs.Spelling.{block};
+ghost use Rattle.mesa_schema.specs.Folded.{rows_of};
+ghost use Rattle.mesa_schema.specs.declared.rows.Row.{Row as AnyRow};
+ghost use Rattle.mesa_delta.specs.declared.error.FileError.TheVariants as file_error;
+ghost use Rattle.mesa_delta.specs.Damages.{IsPieceDamage, IsWrongLength};
+ghost use Rattle.mesa_delta.specs.Indexed.{IsIndexOf, tail_length};
+ghost use Rattle.mesa_delta.specs.File.{IsFile};
+ghost use Rattle.mesa_delta.specs.Places.{entry_of, shorts_of};
+ghost use Rattle.mesa_delta.specs.Reading.{HasRead, IsBlock, IsBlockDamage, IsIndexed, IsNeverNext, IsNoBlock, IsNoTail, IsNoneIn, IsNotNext, IsOver, IsReaderOf, IsRun, IsTailDamage, IsWhole, index_of, piece_of, reader_of, tail_place};
+ghost use Rattle.mesa_delta.specs.Seeking.{seek_in};
+ghost use Rattle.mesa_delta.specs.Spread.{blocks_of};
+ghost use Rattle.mesa_delta.specs.Summary.{IsReferenceOf};
+ghost use Rattle.mesa_delta.specs.Tail.{first_key};
+
+use crate::piece::{check_digest, misfit, read_piece};
+use crate::run::Run;
+use crate::{FileError, Index, begins_before};
+use mesa_block::{Block, BlockError, fits_alone, grows_by_rows, read_block, reads_blocks};
+use mesa_disk::{Damage, FileId, FileReader, FileRef, Seen};
+use mesa_key::short;
+use mesa_schema::{Row, Schema};
+use std::alloc::{AllocError, Global};
+
+/// A file that is read block by block. The tail was read once, and a block is read by one read.
+pub struct DeltaReader<R> {
+    pub(crate) reader: R,
+    pub(crate) index: Index,
+    pub(crate) run: Run,
+}
+
+// How long a file's tail is.
+fn tail_len(schema: &Schema, blocks: u32) -> u64
+    ensures { result ≡ tail_length schema.now blocks }
+{
+    let columns = schema.keys().len() + schema.values().len();
+    60 * (blocks as u64) + columns as u64 + 22
+}
+
+// Refuses a file of another length.
+fn check_length<R: FileReader>(reader: &R, file: FileId, len: u64) -> Result<(), Damage>
+    ensures ok { OnOk result (R.size reader.now ≡ len) }
+    ensures err { IfErr result (λ d. IsWrongLength file len (R.size reader.now) d) }
+    ensures told { (b : List ℕ) → R.bytes reader.now ≡ Some b → length b ≡ R.size reader.now }
+{
+    let found = reader.len();
+    if found == len {
+        return Ok(());
+    }
+    Err(Damage {
+        file,
+        place: 0,
+        want: Seen::Length(len),
+        found: Seen::Length(found),
+    })
+}
+
+// The index of a file, by one read of its tail.
+fn read_index<R: FileReader>(
+    alloc: Global,
+    reader: &mut R,
+    file: &FileRef,
+    schema: &Schema,
+) -> Result<Index, FileError>
+    ensures index { IfOk result (λ x. (bytes : List ℕ) × IsIndexOf file.now schema.now bytes x × (sha256 bytes ≡ file.now.digest)) }
+    ensures over { IfOk result (λ x. (b : List ℕ) → R.bytes reader.old ≡ Some b → IsOver x b) }
+    ensures bytes { R.bytes reader.new ≡ R.bytes reader.old }
+    ensures size { R.size reader.new ≡ R.size reader.old }
+    ensures reads { R.reads reader.new ≤ R.reads reader.old + 1 }
+    ensures cause { HasFaultCause (λ e. e ≡ file_error.Read) (R.faults reader.old) (R.faults reader.new) result }
+    ensures damaged { IfErr result (λ e. (d : AnyDamage) → e ≡ file_error.Damaged d → IsTailDamage (R.bytes reader.old) (R.size reader.old) schema.now file.now d) }
+{
+    fits_alone();
+    let _columns = schema.keys();
+    if let Err(damage) = check_length(reader, file.id, file.len) {
+        return Err(FileError::Damaged(damage));
+    }
+    let place = file.len.saturating_sub(tail_len(schema, file.blocks));
+    let bytes = read_piece(alloc, reader, place, file.len - place)?;
+    if let Err(damage) = check_digest(file.id, place, &file.digest, &bytes) {
+        return Err(FileError::Damaged(damage));
+    }
+    match Index::read(alloc, file, schema, &bytes)? {
+        Some(index) => Ok(index),
+        None => Err(FileError::Damaged(misfit(file.id, place))),
+    }
+}
+
+// The block that these bytes spell, if it begins with a key of this short key.
+fn block_in(
+    alloc: Global,
+    schema: &Schema,
+    short: &[u8; 16],
+    bytes: &[u8],
+) -> Result<Option<Block>, AllocError>
+    ensures found { IfOk result (λ o. IfSome o (λ rows. AreRows schema.now rows × (block schema.now rows ≡ bytes.now) × (short_key (first_key rows) ≡ short.now))) }
+    ensures none { IfOk result (λ o. IfNone o (IsNoneIn schema.now short.now bytes.now)) }
+{
+    reads_blocks();
+    match read_block(alloc, schema, bytes) {
+        Ok(block) => {
+            if begins(block.rows(), short) {
+                Ok(Some(block))
+            } else {
+                Ok(None)
+            }
+        }
+        Err(error) => {
+            if error == BlockError::Memory {
+                Err(AllocError)
+            } else {
+                Ok(None)
+            }
+        }
+    }
+}
+
+// Whether the first row's key has this short key.
+fn begins(rows: &[Row], wanted: &[u8; 16]) -> bool
+    requires { 0 < length rows.now }
+    ensures { IsTrue result ↔ (short_key (first_key rows.now) ≡ wanted.now) }
+{
+    short(rows[0].key.as_slice()) == *wanted
+}
+
+// A block, tested by itself, by one read.
+fn fetch<R: FileReader>(
+    alloc: Global,
+    reader: &mut R,
+    index: &Index,
+    i: u32,
+) -> Result<Block, FileError>
+    requires { i < length index.now.entries }
+    ensures block { IfOk result (λ rows. IsBlock index.now i rows) }
+    ensures told { IfOk result (λ rows. (b : List ℕ) → R.bytes reader.old ≡ Some b → piece_of index.now i b ≡ block index.now.columns rows) }
+    ensures bytes { R.bytes reader.new ≡ R.bytes reader.old }
+    ensures size { R.size reader.new ≡ R.size reader.old }
+    ensures reads { R.reads reader.new ≤ R.reads reader.old + 1 }
+    ensures cause { HasFaultCause (λ e. e ≡ file_error.Read) (R.faults reader.old) (R.faults reader.new) result }
+    ensures damaged { IfErr result (λ e. (d : AnyDamage) → e ≡ file_error.Damaged d → IsWrongLength index.now.file index.now.len (R.size reader.old) d
+        ⊎ IsPieceDamage (R.bytes reader.old) index.now.file (entry_of index.now.entries i).offset (entry_of index.now.entries i).len (entry_of index.now.entries i).digest (IsNoBlock index.now i) d) }
+{
+    fits_alone();
+    let entry = index.entry(i);
+    if let Err(damage) = check_length(reader, index.file(), index.len()) {
+        return Err(FileError::Damaged(damage));
+    }
+    let bytes = read_piece(alloc, reader, entry.offset, entry.len as u64)?;
+    if let Err(damage) = check_digest(index.file(), entry.offset, &entry.digest, &bytes) {
+        return Err(FileError::Damaged(damage));
+    }
+    match block_in(alloc, index.schema(), &entry.short, &bytes)? {
+        Some(block) => Ok(block),
+        None => Err(FileError::Damaged(misfit(index.file(), entry.offset))),
+    }
+}
+
+// What is kept of the blocks that were read, with one more.
+fn go_on(index: &Index, run: &Run, rows: &[Row]) -> Result<Run, FileError>
+    requires some { 0 < length rows.now }
+    requires place { run.now.next < length index.now.entries }
+    ensures more { IfOk result (λ after. (parts : List (List AnyRow)) → IsRun index.now.columns run.now parts → IsBlock index.now run.now.next rows.now → IsRun index.now.columns after (parts ++ rows.now ∷ [])) }
+    ensures counted { IfOk result (λ after. after.next ≡ length index.now.entries → after.rows ≡ index.now.rows) }
+    ensures next { IfOk result (λ after. after.next ≡ run.now.next + 1) }
+    ensures err { IfErr result (λ e. (d : AnyDamage) → e ≡ file_error.Damaged d
+        → d ≡ record { file = index.now.file; place = (entry_of index.now.entries run.now.next).offset; want = Seen.Fits; found = Seen.Misfit 0 }) }
+    ensures never { IfErr result (λ e. (d : AnyDamage) → e ≡ file_error.Damaged d → IsNeverNext index.now run.now rows.now) }
+    ensures cause { IfErr result (λ e. e ≢ file_error.Read) }
+{
+    fits_alone();
+    grows_by_rows();
+    let entry = index.entry(run.next);
+    if !run.allows(index.schema(), &rows[0]) {
+        return Err(FileError::Damaged(misfit(index.file(), entry.offset)));
+    }
+    let after = run.after(rows, entry.len)?;
+    if after.next == index.blocks() {
+        if after.rows != index.rows() {
+            return Err(FileError::Damaged(misfit(index.file(), entry.offset)));
+        }
+    }
+    Ok(after)
+}
+
+impl<R: FileReader> DeltaReader<R> {
+    /// Reads the tail of a file of this reference, whose rows have these columns.
+    pub fn attach(
+        alloc: Global,
+        mut reader: R,
+        file: &FileRef,
+        schema: &Schema,
+    ) -> Result<Self, (FileError, R)>
+        // The index is what the tail tells.
+        ensures index { IfOk result (λ r. (bytes : List ℕ) × IsIndexOf file.now schema.now bytes (index_of r) × (sha256 bytes ≡ file.now.digest)) }
+        ensures over { IfOk result (λ r. IsReaderOf R.bytes (reader_of r) (index_of r)) }
+        ensures read { IfOk result (λ r. HasRead R.bytes r []) }
+
+        // It is one read.
+        ensures reads { IfOk result (λ r. R.reads (reader_of r) ≤ R.reads reader + 1) }
+        ensures bytes { IfOk result (λ r. R.bytes (reader_of r) ≡ R.bytes reader) }
+        ensures size { IfOk result (λ r. R.size (reader_of r) ≡ R.size reader) }
+        ensures faults { IfOk result (λ r. R.faults reader ≤ R.faults (reader_of r)) }
+        ensures given_back { IfErr result (λ e. (R.bytes e.1 ≡ R.bytes reader) × (R.size e.1 ≡ R.size reader) × (R.reads e.1 ≤ R.reads reader + 1)) }
+
+        // Read comes where the count of faults rose, and Damaged where the file isn't the recorded one.
+        ensures cause { IfErr result (λ e. (R.faults reader ≤ R.faults e.1) × (e.0 ≡ file_error.Read → Rose (R.faults reader) (R.faults e.1))) }
+        ensures damaged { IfErr result (λ e. (d : AnyDamage) → e.0 ≡ file_error.Damaged d → IsTailDamage (R.bytes reader) (R.size reader) schema.now file.now d) }
+        ensures accepts { IfErr result (λ e. (d : AnyDamage) → e.0 ≡ file_error.Damaged d → (b : List ℕ) (rows : List AnyRow) → R.bytes reader ≡ Some b → IsFile schema.now rows b
+            → IsReferenceOf schema.now file.now.id rows file.now → ⊥) }
+    {
+        told_sizes(&reader);
+        told_length(file);
+        fits_alone();
+        let _columns = schema.keys();
+        match read_index(alloc, &mut reader, file, schema) {
+            Ok(index) => Ok(DeltaReader {
+                reader,
+                index,
+                run: Run::start(alloc),
+            }),
+            Err(error) => Err((error, reader)),
+        }
+    }
+
+    /// How many blocks the file has.
+    pub fn blocks(&self) -> u32
+        ensures { result ≡ length (index_of self.now).entries }
+    {
+        self.index.blocks()
+    }
+
+    /// Reads a block, by one read.
+    ///
+    /// Blocks that are read one after the other from the first on are tested against those before: their keys
+    /// rise, no block but the last has room for the next one's first row, and their rows are as many as the
+    /// tail says. Any other block is tested by itself.
+    pub fn block(&mut self, i: u32) -> Result<Block, FileError>
+        requires { i < length (index_of self.old).entries }
+
+        // The block is the one that the entry tells, read from the bytes at its place.
+        ensures block { IfOk result (λ rows. IsBlock (index_of self.old) i rows) }
+        ensures told { IfOk result (λ rows. (b : List ℕ) → R.bytes (reader_of self.old) ≡ Some b → piece_of (index_of self.old) i b ≡ block (index_of self.old).columns rows) }
+
+        // What was written is read again.
+        ensures again { IfOk result (λ rows. (b : List ℕ) (all : List AnyRow) → R.bytes (reader_of self.old) ≡ Some b → IsIndexed (index_of self.old) all b
+            → rows ≡ get_or (blocks_of (index_of self.old).columns all) i []) }
+
+        // Which blocks were read one after the other from the first on.
+        ensures first { IfOk result (λ rows. i ≡ 0 → HasRead R.bytes self.new (rows ∷ [])) }
+        ensures next { IfOk result (λ rows. (parts : List (List AnyRow)) → HasRead R.bytes self.old parts → i ≡ length parts → HasRead R.bytes self.new (parts ++ rows ∷ [])) }
+        ensures other { OnOk result ((parts : List (List AnyRow)) → HasRead R.bytes self.old parts → 0 < i → i ≢ length parts → HasRead R.bytes self.new parts) }
+
+        // Once all were, they are those of a file.
+        ensures whole { OnOk result ((parts : List (List AnyRow)) → HasRead R.bytes self.new parts → length parts ≡ length (index_of self.new).entries
+            → IsReaderOf R.bytes (reader_of self.new) (index_of self.new) → IsWhole (index_of self.new) (rows_of parts) (R.bytes (reader_of self.new))) }
+        ensures index { index_of self.new ≡ index_of self.old }
+        ensures bytes { R.bytes (reader_of self.new) ≡ R.bytes (reader_of self.old) }
+        ensures size { R.size (reader_of self.new) ≡ R.size (reader_of self.old) }
+        ensures reads { R.reads (reader_of self.new) ≤ R.reads (reader_of self.old) + 1 }
+        ensures err { OnErr result (self.new ≡ record self.old { reader = reader_of self.new }) }
+
+        // Read comes where the count of faults rose, and Damaged where the file isn't the recorded one.
+        ensures cause { HasFaultCause (λ e. e ≡ file_error.Read) (R.faults (reader_of self.old)) (R.faults (reader_of self.new)) result }
+        ensures damaged { IfErr result (λ e. (d : AnyDamage) → e ≡ file_error.Damaged d → (parts : List (List AnyRow)) → HasRead R.bytes self.old parts → IsBlockDamage (R.bytes (reader_of self.old)) (R.size (reader_of self.old)) (index_of self.old) i parts d) }
+        ensures accepts { IfErr result (λ e. (d : AnyDamage) → e ≡ file_error.Damaged d → (parts : List (List AnyRow)) → HasRead R.bytes self.old parts
+            → (b : List ℕ) (all : List AnyRow) → R.bytes (reader_of self.old) ≡ Some b → IsIndexed (index_of self.old) all b → ⊥) }
+    {
+        told_sizes(&self.reader);
+        fits_alone();
+        grows_by_rows();
+        reads_blocks();
+        let _blocks = self.index.blocks();
+        let alloc = self.index.allocator();
+        let block = match fetch(alloc, &mut self.reader, &self.index, i) {
+            Ok(block) => block,
+            Err(error) => return Err(error),
+        };
+        if i == 0 {
+            let start = Run::start(alloc);
+            match go_on(&self.index, &start, block.rows()) {
+                Ok(run) => self.run = run,
+                Err(error) => return Err(error),
+            }
+            return Ok(block);
+        }
+        if i == self.run.next {
+            match go_on(&self.index, &self.run, block.rows()) {
+                Ok(run) => self.run = run,
+                Err(error) => return Err(error),
+            }
+            return Ok(block);
+        }
+        Ok(block)
+    }
+
+    /// The block at which to begin to look for a key: the least that is the last one, or whose next begins
+    /// with a short key at least this key's. It takes no memory.
+    pub fn seek(&self, key: &[u8]) -> u32
+        ensures seek { result ≡ seek_in (short_key key.now) (shorts_of (index_of self.now).entries) }
+        ensures begins { (rows : List AnyRow) (bytes : List ℕ) → IsIndexed (index_of self.now) rows bytes → (before : List (List AnyRow)) (front : List AnyRow) (row : AnyRow) (back : List AnyRow) (behind : List (List AnyRow))
+            → blocks_of (index_of self.now).columns rows ≡ before ++ (front ++ row ∷ back) ∷ behind → is_le (byte_cmp key.now row.key) ≡ true → result ≤ length before }
+    {
+        fits_alone();
+        begins_before();
+        let _blocks = self.index.blocks();
+        self.index.seek(key)
+    }
+
+    /// The reader as it is.
+    pub fn detach(self) -> R
+        ensures { result ≡ reader_of self }
+    {
+        self.part().0
+    }
+
+    /// The reader, and what is known of the file. It takes no memory.
+    pub fn part(self) -> (R, Index)
+        ensures reader { result.0 ≡ reader_of self }
+        ensures index { result.1 ≡ index_of self }
+    {
+        let DeltaReader {
+            reader,
+            index,
+            run: _run,
+        } = self;
+        (reader, index)
+    }
+
+    /// A reader of the file of this index, of which no block was read yet. It takes no memory.
+    pub fn whole(reader: R, index: Index) -> Self
+        requires { IsReaderOf R.bytes reader index }
+        ensures reader { reader_of result ≡ reader }
+        ensures index { index_of result ≡ index }
+        ensures read { HasRead R.bytes result [] }
+    {
+        let run = Run::start(index.allocator());
+        let _blocks = index.blocks();
+        DeltaReader { reader, index, run }
+    }
+}
+
+// What a reader tells is as long as it says.
+fn told_sizes<R: FileReader>(reader: &R)
+    ensures { (b : List ℕ) → R.bytes reader.now ≡ Some b → length b ≡ R.size reader.now }
+{}
+
+// A recorded length is a number of 64 bits.
+fn told_length(file: &FileRef)
+    ensures { file.now.len < 2 ^ 64 }
+{
+    let _len = file.len;
+}

@@ -1,0 +1,104 @@
+// Blocks that are read one after the other, from the first on.
+ghost use Rattle.std.specs.Prelude.{◌≡◌, ◌<◌, ◌+◌, [], length, IfOk};
+ghost use Rattle.mesa_key.specs.Order.{byte_cmp};
+ghost use Rattle.mesa_block.specs.Reading.{is_less};
+ghost use Rattle.mesa_delta.specs.Packing.{goes_on, is_full};
+ghost use Rattle.mesa_delta.specs.Summary.{last_key};
+
+use mesa_block::{MOST_BYTES, MOST_ROWS};
+use mesa_key::KeyBytes;
+use mesa_list::{Items, TryCopy};
+use mesa_schema::{Row, Schema};
+use std::alloc::{AllocError, Global};
+use std::cmp::Ordering;
+
+/// What is kept of the blocks that were read one after the other, so that the next one can be tested against them.
+#[derive(Drop)]
+pub struct Run {
+    /// How many blocks.
+    pub next: u32,
+    /// How many rows they have.
+    pub rows: u64,
+    /// The key of the last row.
+    pub last: KeyBytes,
+    /// How many rows the last block has.
+    pub count: usize,
+    /// How many bytes the last block has.
+    pub len: u32,
+}
+
+impl Run {
+    /// Of no blocks.
+    pub fn start(alloc: Global) -> Self
+        ensures next { result.next ≡ 0 }
+        ensures rows { result.rows ≡ 0 }
+        ensures last { result.last ≡ [] }
+        ensures count { result.count ≡ 0 }
+    {
+        Run {
+            next: 0,
+            rows: 0,
+            last: Items::new(alloc),
+            count: 0,
+            len: 0,
+        }
+    }
+
+    /// Whether a block that begins with this row may come next.
+    pub fn allows(&self, schema: &Schema, row: &Row) -> bool
+        ensures { result ≡ goes_on schema.now self.now row.now }
+    {
+        if self.next == 0 {
+            return true;
+        }
+        rises(self.last.as_slice(), row.key.as_slice()) && self.is_full(schema, row)
+    }
+
+    // Whether the last block has no room for the row.
+    fn is_full(&self, schema: &Schema, row: &Row) -> bool
+        ensures { result ≡ is_full schema.now self.now row.now }
+    {
+        if self.count >= MOST_ROWS {
+            return true;
+        }
+        let key_len = row.key.len();
+        if key_len > MOST_BYTES {
+            return true;
+        }
+        self.len as usize + (key_len + 8 * schema.values().len()) > MOST_BYTES
+    }
+
+    /// With a block of these rows more, of this many bytes. More rows than can be counted are answered as want of memory.
+    pub fn after(&self, rows: &[Row], len: u32) -> Result<Run, AllocError>
+        requires some { 0 < length rows.now }
+        ensures next { IfOk result (λ run. run.next ≡ self.now.next + 1) }
+        ensures rows { IfOk result (λ run. run.rows ≡ self.now.rows + length rows.now) }
+        ensures last { IfOk result (λ run. run.last ≡ last_key rows.now) }
+        ensures count { IfOk result (λ run. run.count ≡ length rows.now) }
+        ensures len { IfOk result (λ run. run.len ≡ len) }
+    {
+        let Some(next) = self.next.checked_add(1) else {
+            return Err(AllocError);
+        };
+        let Some(sum) = self.rows.checked_add(rows.len() as u64) else {
+            return Err(AllocError);
+        };
+        Ok(Run {
+            next,
+            rows: sum,
+            last: rows[rows.len() - 1].key.copy()?,
+            count: rows.len(),
+            len,
+        })
+    }
+}
+
+fn rises(before: &[u8], key: &[u8]) -> bool
+    ensures { result ≡ is_less (byte_cmp before.now key.now) }
+{
+    match before.cmp(key) {
+        Ordering::Less => true,
+        Ordering::Equal => false,
+        Ordering::Greater => false,
+    }
+}

@@ -1,0 +1,100 @@
+// A file of 1,025 rows whose keys have the same first sixteen bytes.
+use crate::files::{attach, count_rows, open_file, reference, schema};
+use mesa_key::KeyType;
+use sha2::{Digest, Sha256};
+use std::alloc::{AllocError, Global};
+use std::test::Fail;
+
+// The SHA-256 of the file's tail, by another program.
+const TAIL_DIGEST: [u8; 32] = [
+    48, 151, 83, 224, 191, 34, 201, 2, 124, 159, 24, 234, 29, 70, 74, 113, 145, 81, 88, 101, 237,
+    7, 94, 142, 113, 238, 133, 242, 214, 228, 22, 89,
+];
+
+// Sixteen letters and four digits.
+fn text(i: u16) -> [u8; 20] {
+    let mut text = [b'a'; 20];
+    text[16] = b'0' + (i / 1000 % 10) as u8;
+    text[17] = b'0' + (i / 100 % 10) as u8;
+    text[18] = b'0' + (i / 10 % 10) as u8;
+    text[19] = b'0' + (i % 10) as u8;
+    text
+}
+
+// The block of the texts from one on, each with the value 1.
+fn put_block(bytes: &mut Vec<u8>, first: u16, count: u16) -> Result<(), AllocError> {
+    bytes.push(0)?;
+    bytes.extend_from_slice(&count.to_be_bytes())?;
+    for _ in 0..count {
+        bytes.push(20)?;
+    }
+    for i in 0..count {
+        bytes.extend_from_slice(&text(first.saturating_add(i)))?;
+    }
+    for _ in 0..count {
+        bytes.extend_from_slice(&[0, 0, 0, 0, 0, 0, 0, 1])?;
+    }
+    Ok(())
+}
+
+// A block's entry.
+fn put_entry(
+    bytes: &mut Vec<u8>,
+    offset: u64,
+    len: u32,
+    digest: &[u8; 32],
+) -> Result<(), AllocError> {
+    bytes.extend_from_slice(&[b'a'; 16])?;
+    bytes.extend_from_slice(&offset.to_be_bytes())?;
+    bytes.extend_from_slice(&len.to_be_bytes())?;
+    bytes.extend_from_slice(digest)?;
+    Ok(())
+}
+
+// The first 1,024 rows fill a block of 29,699 bytes, and the last one stands in another.
+fn file(alloc: Global) -> Result<Vec<u8>, AllocError> {
+    let mut bytes = Vec::new(alloc);
+    put_block(&mut bytes, 0, 1024)?;
+    let first = Sha256::digest(bytes.as_slice());
+    let mut last = Vec::new(alloc);
+    put_block(&mut last, 1024, 1)?;
+    bytes.extend_from_slice(&last)?;
+    put_entry(&mut bytes, 0, 29_699, &first)?;
+    put_entry(&mut bytes, 29_699, 32, &Sha256::digest(last.as_slice()))?;
+    bytes.extend_from_slice(&[1, 0])?;
+    bytes.extend_from_slice(&1025u64.to_be_bytes())?;
+    bytes.extend_from_slice(&2u32.to_be_bytes())?;
+    bytes.extend_from_slice(&[1, 1])?;
+    bytes.extend_from_slice(b"MESADLT1")?;
+    Ok(bytes)
+}
+
+#[test]
+fn reads_two_blocks(rt: HostRuntime) -> Result<(), Fail> {
+    let alloc = rt.alloc();
+    let reader = open_file(alloc, file(alloc)?, None)?;
+    let file = reference(alloc, 29_875, 1025, 2, TAIL_DIGEST);
+    assert_eq!(rt;
+        count_rows(alloc, reader, &file, &schema(alloc, KeyType::Text)?),
+        Ok(1025)
+    );
+    Ok(())
+}
+
+#[test]
+fn begins_before_equal_short_keys(rt: HostRuntime) -> Result<(), Fail> {
+    let alloc = rt.alloc();
+    let reader = open_file(alloc, file(alloc)?, None)?;
+    let file = reference(alloc, 29_875, 1025, 2, TAIL_DIGEST);
+    let texts = schema(alloc, KeyType::Text)?;
+    match attach(alloc, reader, &file, &texts) {
+        Ok(reader) => {
+            assert_eq!(rt; reader.seek(b"aaaaaaaaaaaaaaaa1024\0"), 0);
+            assert_eq!(rt; reader.seek(b"aaaaaaaaaaaaaaaa0000\0"), 0);
+            assert_eq!(rt; reader.seek(b"b\0"), 1);
+            drop(reader.detach());
+        }
+        Err(_) => assert!(rt; false, "not attached"),
+    }
+    Ok(())
+}

@@ -1,0 +1,126 @@
+// Files that were written by hand, and how they are read.
+use mesa_delta::{DeltaReader, FileError};
+use mesa_disk::{ByteList, Disk, FileId, FileRef, MemDisk, MemReader};
+use mesa_key::KeyType;
+use mesa_list::Items;
+use mesa_schema::{KeyColumn, Name, Schema, ValueColumn};
+use mesa_value::Agg;
+use std::alloc::{AllocError, Global};
+use std::test::Fail;
+
+/// The file of the row with key 1 and value 5.
+pub const ONE_FILE: [u8; 103] = [
+    0, 0, 1, 128, 0, 0, 0, 0, 0, 0, 1, 0, 0, 0, 0, 0, 0, 0, 5, 128, 0, 0, 0, 0, 0, 0, 1, 0, 0, 0,
+    0, 0, 0, 0, 0, 0, 0, 0, 0, 0, 0, 0, 0, 0, 0, 0, 19, 203, 67, 254, 254, 55, 84, 230, 198, 84,
+    125, 181, 212, 239, 64, 215, 52, 100, 147, 35, 235, 84, 218, 181, 125, 32, 47, 24, 237, 180,
+    26, 30, 254, 0, 0, 0, 0, 0, 0, 0, 0, 0, 1, 0, 0, 0, 1, 1, 1, 77, 69, 83, 65, 68, 76, 84, 49,
+];
+
+/// The SHA-256 of its tail.
+pub const ONE_DIGEST: [u8; 32] = [
+    96, 132, 91, 33, 213, 96, 80, 188, 204, 191, 190, 245, 49, 59, 129, 144, 116, 74, 200, 187,
+    215, 95, 173, 114, 0, 217, 81, 254, 18, 104, 211, 147,
+];
+
+/// Its id.
+pub const ONE_ID: u64 = 1 << 40;
+
+// A name that is known to be one.
+fn name(alloc: Global, text: &str) -> Result<Name, AllocError> {
+    Name::read(alloc, text.as_bytes()).map_err(|_| AllocError)
+}
+
+/// One key column of this type, and one sum.
+pub fn schema(alloc: Global, kind: KeyType) -> Result<Schema, AllocError> {
+    let keys = vec![in alloc;
+        KeyColumn {
+            name: name(alloc, "k")?,
+            kind
+        },
+    ]?;
+    let values = vec![in alloc;
+        ValueColumn {
+            name: name(alloc, "v")?,
+            agg: Agg::Sum
+        },
+    ]?;
+    Schema::build(keys, values).map_err(|_| AllocError)
+}
+
+/// A reference with no keys and no aggregates, which no reader looks at.
+pub fn reference(alloc: Global, len: u64, rows: u64, blocks: u32, digest: [u8; 32]) -> FileRef {
+    FileRef {
+        id: FileId::of(ONE_ID),
+        len,
+        rows,
+        blocks,
+        first: Items::new(alloc),
+        last: Items::new(alloc),
+        aggregates: Items::new(alloc),
+        digest,
+    }
+}
+
+/// A reader of these bytes, of which this read fails, counted from 0.
+pub fn open_file(alloc: Global, bytes: Vec<u8>, fails: Option<u64>) -> Result<MemReader, Fail> {
+    let id = FileId::of(ONE_ID);
+    let mut files = Vec::new(alloc);
+    files.push((id, ByteList::from_vec(bytes)))?;
+    let mut disk = MemDisk::new(
+        alloc,
+        Vec::new(alloc),
+        Vec::new(alloc),
+        files,
+        Vec::new(alloc),
+    );
+    if let Some(nth) = fails {
+        disk.spoil_read(id, nth);
+    }
+    Ok(disk.reader(id).map_err(|_| "not opened")?)
+}
+
+/// The file of this reference, over these bytes.
+pub fn attach(
+    alloc: Global,
+    reader: MemReader,
+    file: &FileRef,
+    schema: &Schema,
+) -> Result<DeltaReader<MemReader>, FileError> {
+    match DeltaReader::attach(alloc, reader, file, schema) {
+        Ok(reader) => Ok(reader),
+        Err((error, reader)) => {
+            drop(reader);
+            Err(error)
+        }
+    }
+}
+
+/// How many rows the file's blocks have, read one after the other; at most four are.
+pub fn count_rows(
+    alloc: Global,
+    reader: MemReader,
+    file: &FileRef,
+    schema: &Schema,
+) -> Result<usize, FileError> {
+    match attach(alloc, reader, file, schema) {
+        Ok(mut reader) => {
+            let counted = count_blocks(&mut reader);
+            drop(reader.detach());
+            counted
+        }
+        Err(error) => Err(error),
+    }
+}
+
+fn count_blocks(reader: &mut DeltaReader<MemReader>) -> Result<usize, FileError> {
+    let mut rows: usize = 0;
+    for i in 0..4 {
+        if i < reader.blocks() {
+            match reader.block(i) {
+                Ok(block) => rows = rows.saturating_add(block.rows().len()),
+                Err(error) => return Err(error),
+            }
+        }
+    }
+    Ok(rows)
+}
