@@ -50,6 +50,11 @@ fn told<T: Drop>(answer: Result<T, QueryError>) -> Result<Told, AllocError> {
     })
 }
 
+// What checking a query answers.
+fn checked(alloc: Global, schema: &Schema, words: &QueryWords) -> Result<Told, AllocError> {
+    told(Query::check(alloc, schema, words))
+}
+
 // What building a query of `t` at version 1 and epoch 0 answers.
 fn built(alloc: Global, schema: &Schema, words: &QueryWords) -> Result<Told, Fail> {
     let t = Name::read(alloc, b"t")?;
@@ -85,8 +90,9 @@ static REFUSALS: [Asked; 16] = [
 fn is_answered(alloc: Global, schema: &Schema, case: &Asked) -> Result<bool, Fail> {
     let (group, values, filter, answer) = *case;
     let words = asks(alloc, group, values, filter, b"")?;
-    let checked = told(Query::check(alloc, schema, &words))?;
-    Ok(checked == answer && built(alloc, schema, &words)? == answer)
+    let found = checked(alloc, schema, &words)?;
+    let made = built(alloc, schema, &words)?;
+    Ok(found == answer && made == answer)
 }
 
 #[test]
@@ -133,8 +139,9 @@ static RESUMED: [Resumed; 20] = [
 fn resumes(alloc: Global, schema: &Schema, case: &Resumed) -> Result<bool, Fail> {
     let (group, resume, answer) = *case;
     let words = asks(alloc, group, b"v", b"", resume)?;
-    let checked = told(Query::check(alloc, schema, &words))?;
-    Ok(checked == PASSES && built(alloc, schema, &words)? == answer)
+    let found = checked(alloc, schema, &words)?;
+    let made = built(alloc, schema, &words)?;
+    Ok(found == PASSES && made == answer)
 }
 
 #[test]
@@ -173,16 +180,20 @@ fn goes_on(query: &Query) -> bool {
     }
 }
 
-// Whether a query and its copy are the one that is asked.
-fn is_asked(query: &Query) -> Result<bool, AllocError> {
-    let stands = is_of_columns(query) && goes_on(query);
-    Ok(stands && is_copied(query)?)
+// Whether a query is the one that is asked.
+fn is_whole(query: &Query) -> bool {
+    is_of_columns(query) && goes_on(query)
 }
 
 fn is_copied(query: &Query) -> Result<bool, AllocError> {
     let copy = query.copy()?;
-    let stands = goes_on(&copy);
+    let stands = is_whole(&copy);
     Ok(stands)
+}
+
+// Whether a query and its copy are the one that is asked.
+fn is_asked(query: &Query) -> Result<bool, AllocError> {
+    Ok(is_whole(query) && is_copied(query)?)
 }
 
 fn is_built(answer: Result<Query, QueryError>) -> Result<bool, AllocError> {
@@ -192,13 +203,18 @@ fn is_built(answer: Result<Query, QueryError>) -> Result<bool, AllocError> {
     }
 }
 
+// Whether building the query of `t` at a version and an epoch gives the one that is asked.
+fn is_built_at(alloc: Global, version: u32, epoch: u32, words: &QueryWords) -> Result<bool, Fail> {
+    let schema = schema(alloc)?;
+    let t = Name::read(alloc, b"t")?;
+    let answer = Query::build(alloc, &schema, &t, version, epoch, words);
+    Ok(is_built(answer)?)
+}
+
 #[test]
 fn parts_of_a_query(rt: HostRuntime) -> Result<(), Fail> {
     let alloc = rt.alloc();
-    let schema = schema(alloc)?;
-    let t = Name::read(alloc, b"t")?;
     let words = asks(alloc, b"name;k", b"r", b"", RESUME)?;
-    let answer = Query::build(alloc, &schema, &t, 7, 3, &words);
-    assert!(rt; is_built(answer)?);
+    assert!(rt; is_built_at(alloc, 7, 3, &words)?);
     Ok(())
 }

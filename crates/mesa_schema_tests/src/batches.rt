@@ -187,10 +187,15 @@ fn is_finished(builder: BatchBuilder) -> Result<bool, AllocError> {
     is_copied(&batch)
 }
 
+fn copied_glance(alloc: Global) -> Result<Glance, Fail> {
+    let glance = glance(alloc)?;
+    Ok(glance.copy()?)
+}
+
 #[test]
 fn a_key_comes_once(rt: HostRuntime) -> Result<(), Fail> {
     let alloc = rt.alloc();
-    let glance = glance(alloc)?;
+    let glance = copied_glance(alloc)?;
     let mut builder = BatchBuilder::new(alloc);
     assert!(rt; refuses_a_key_twice(alloc, &glance, &mut builder)?);
     assert!(rt; is_finished(builder)?);

@@ -70,12 +70,20 @@ static CHOICES: [Choice; 11] = [
 
 // What is wrong with the key columns of a view.
 fn key_fault(table: &Evolving, keys: &[Name]) -> &'static [u8] {
-    told(table.check_view_keys(keys))
+    told(checked_keys(table, keys))
+}
+
+fn checked_keys(table: &Evolving, keys: &[Name]) -> Result<(), ViewError> {
+    table.check_view_keys(keys)
 }
 
 // What is wrong with the value columns of a view.
 fn value_fault(table: &Evolving, values: &[Name]) -> &'static [u8] {
-    told(table.check_view_values(values))
+    told(checked_values(table, values))
+}
+
+fn checked_values(table: &Evolving, values: &[Name]) -> Result<(), ViewError> {
+    table.check_view_values(values)
 }
 
 // Whether looking at a view's columns answers so.
@@ -83,11 +91,18 @@ fn is_checked(table: &Evolving, keys: &[Name], values: &[Name], case: &Choice) -
     key_fault(table, keys) == case.2 && value_fault(table, values) == case.3
 }
 
-// What adding a view of these columns answers.
+// What adding a view answers.
+fn adding(table: &mut Evolving, name: Name, keys: Vec<Name>, values: Vec<Name>) -> &'static [u8]
+    requires { table.old.views ≡ [] }
+{
+    told(table.add_view(name, keys, values))
+}
+
+// What adding a view `w` of these columns to the table answers.
 fn added(alloc: Global, keys: Vec<Name>, values: Vec<Name>) -> Result<&'static [u8], Fail> {
     let mut table = table(alloc)?;
     let name = Name::read(alloc, b"w")?;
-    Ok(told(table.add_view(name, keys, values)))
+    Ok(adding(&mut table, name, keys, values))
 }
 
 // What is wrong with a view: with its key columns, else with its value columns.
@@ -106,16 +121,21 @@ fn is_allowed(
     table.allows_view(name, keys, values) == fault_of(case).is_empty()
 }
 
+// Whether looking at a view's columns, and asking whether it may be added, answer so.
+fn is_seen(alloc: Global, keys: &[Name], values: &[Name], case: &Choice) -> Result<bool, Fail> {
+    let table = table(alloc)?;
+    let name = Name::read(alloc, b"w")?;
+    let checked = is_checked(&table, keys, values, case);
+    Ok(checked && is_allowed(&table, &name, keys, values, case))
+}
+
 // Whether looking at a view and adding it answer so.
 fn is_answered(alloc: Global, case: &Choice) -> Result<bool, Fail> {
     let keys = names(alloc, case.0)?;
     let values = names(alloc, case.1)?;
-    let table = table(alloc)?;
-    let name = Name::read(alloc, b"w")?;
-    let checked = is_checked(&table, &keys, &values, case);
-    let allowed = is_allowed(&table, &name, &keys, &values, case);
+    let seen = is_seen(alloc, &keys, &values, case)?;
     let found = added(alloc, keys, values)?;
-    Ok(checked && allowed && found == fault_of(case))
+    Ok(seen && found == fault_of(case))
 }
 
 #[test]
@@ -126,13 +146,27 @@ fn views_of_a_table(rt: HostRuntime) -> Result<(), Fail> {
     Ok(())
 }
 
-// Adds a view `w` of these columns, and says whether it was added.
-fn adds(alloc: Global, table: &mut Evolving, keys: &[u8], values: &[u8]) -> Result<bool, Fail>
-    requires { table.old.views ≡ [] }
-{
+// The table with this view.
+fn with_view(
+    alloc: Global,
+    name: Name,
+    keys: Vec<Name>,
+    values: Vec<Name>,
+) -> Result<Evolving, Fail> {
+    let mut table = table(alloc)?;
+    if adding(&mut table, name, keys, values).is_empty() {
+        Ok(table)
+    } else {
+        Err("no view")?
+    }
+}
+
+// The table with a view `w` of these columns.
+fn viewed(alloc: Global, keys: &[u8], values: &[u8]) -> Result<Evolving, Fail> {
     let name = Name::read(alloc, b"w")?;
-    let (keys, values) = (names(alloc, keys)?, names(alloc, values)?);
-    Ok(table.add_view(name, keys, values).is_ok())
+    let keys = names(alloc, keys)?;
+    let values = names(alloc, values)?;
+    with_view(alloc, name, keys, values)
 }
 
 // Whether a table's one view is `w`, with two key columns and a value column.
@@ -151,30 +185,53 @@ fn is_unchanged(table: &Evolving) -> Result<bool, AllocError> {
     Ok(table.epoch() == 0 && first.values().len() == 2)
 }
 
+// Whether a copy of a table has the view, and the table's own columns as they were.
+fn is_copied(table: &Evolving) -> Result<bool, AllocError> {
+    let copy = table.copy()?;
+    let shows = has_view(&copy)?;
+    Ok(shows && is_unchanged(&copy)?)
+}
+
+// Whether a view of two key columns and a value column is there once it was added.
+fn view_is_there(alloc: Global) -> Result<bool, Fail> {
+    let table = viewed(alloc, b"c;k", b"v")?;
+    Ok(is_copied(&table)?)
+}
+
 #[test]
 fn a_view_has_its_columns_in_its_order(rt: HostRuntime) -> Result<(), Fail> {
-    let alloc = rt.alloc();
-    let mut table = table(alloc)?;
-    assert!(rt; adds(alloc, &mut table, b"c;k", b"v")?);
-    let copy = table.copy()?;
-    assert!(rt; has_view(&copy)?);
-    assert!(rt; is_unchanged(&copy)?);
+    assert!(rt; view_is_there(rt.alloc())?);
     Ok(())
+}
+
+// Whether a table allows a value column to be dropped.
+fn allows_drop(table: &Evolving, name: Name) -> bool {
+    table.allows(&Change::DropValue { name })
 }
 
 // Whether a table lets a value column of this name go.
 fn lets_go(alloc: Global, table: &Evolving, name: &[u8]) -> Result<bool, Fail> {
     let name = Name::read(alloc, name)?;
-    Ok(table.allows(&Change::DropValue { name }))
+    Ok(allows_drop(table, name))
+}
+
+// Whether the table without a view lets a value column of this name go.
+fn goes_without_view(alloc: Global, name: &[u8]) -> Result<bool, Fail> {
+    let table = table(alloc)?;
+    lets_go(alloc, &table, name)
+}
+
+// Whether the table with a view of the value column `v` lets a value column of this name go.
+fn goes_with_view(alloc: Global, name: &[u8]) -> Result<bool, Fail> {
+    let table = viewed(alloc, b"c", b"v")?;
+    lets_go(alloc, &table, name)
 }
 
 #[test]
 fn a_views_column_may_not_go(rt: HostRuntime) -> Result<(), Fail> {
     let alloc = rt.alloc();
-    let mut table = table(alloc)?;
-    assert!(rt; lets_go(alloc, &table, b"v")?);
-    assert!(rt; !lets_go(alloc, &table, b"z")?);
-    assert!(rt; adds(alloc, &mut table, b"c", b"v")?);
-    assert!(rt; !lets_go(alloc, &table, b"v")?);
+    assert!(rt; goes_without_view(alloc, b"v")?);
+    assert!(rt; !goes_without_view(alloc, b"z")?);
+    assert!(rt; !goes_with_view(alloc, b"v")?);
     Ok(())
 }
