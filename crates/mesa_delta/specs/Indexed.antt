@@ -2,7 +2,7 @@
 use Rattle.std.specs.Prelude.{◌≡◌, ℕ, ◌+◌, ◌*◌, ◌^◌, ◌<◌, List, length, IsTrue}
 use Rattle.mesa_schema.specs.Columns.{Columns}
 use Rattle.mesa_schema.specs.Schema.{is_schema}
-use Rattle.mesa_disk.specs.declared.file_ref.FileRef.{FileRef}
+use Rattle.mesa_file.specs.declared.file_ref.FileRef.{FileRef}
 use Rattle.mesa_delta.specs.declared.place.Entry.{Entry}
 use Rattle.mesa_delta.specs.Places.{IsTail, tail_spelled}
 

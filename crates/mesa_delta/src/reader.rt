@@ -3,7 +3,7 @@ ghost use Rattle.std.specs.Prelude.{◌≡◌, ◌≢◌, ◌⊎◌, ◌<◌, �
 ghost use Rattle.std.specs.Ordering.{is_le};
 ghost use Rattle.sha2.specs.Sha256.{sha256};
 ghost use Rattle.mesa_fault.specs.Causes.{HasFaultCause, Rose};
-ghost use Rattle.mesa_disk.specs.declared.damage.Damage.{Damage as AnyDamage};
+ghost use Rattle.mesa_file.specs.declared.damage.Damage.{Damage as AnyDamage};
 ghost use Rattle.mesa_key.specs.Order.{byte_cmp, short_key};
 ghost use Rattle.mesa_block.specs.Rows.{AreRows};
 ghost use Rattle.mesa_block.specs.Spelling.{block};

@@ -23,7 +23,7 @@ use Rattle.mesa_schema.specs.Columns.{Columns, kinds_of}
 use Rattle.mesa_schema.specs.Folded.{row_combined, combined_from, all_combined}
 use Rattle.mesa_block.specs.Rows.{IsRow, Rise}
 use Rattle.mesa_block.specs.Spelling.{key_of}
-use Rattle.mesa_disk.specs.declared.file_ref.FileRef.{FileRef}
+use Rattle.mesa_file.specs.declared.file_ref.FileRef.{FileRef}
 use Rattle.mesa_delta.specs.Summary.{IsReferenceOf, all_noted, aggregates, values_of, last_key, AllCombine}
 use Rattle.mesa_delta.specs.Writing.{HasTaken, IsNext, MayFollow, columns_of}
 use Rattle.mesa_delta.specs.declared.writer.DeltaWriter.{DeltaWriter}

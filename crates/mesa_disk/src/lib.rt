@@ -2,27 +2,22 @@
 #![tactic(auto)]
 
 mod area;
-mod damage;
 mod disk;
 mod draft;
 mod failures;
 mod file;
-mod file_id;
-mod file_ref;
 mod memory;
 mod moving;
 #[cfg(test)]
 mod tests;
 
 pub use area::Area;
-pub use damage::{Damage, Seen};
 pub use disk::Disk;
 pub use draft::{Bench, Draft};
 pub use failures::{DiskFailed, DraftError, ListFault, OpenFault, ReadFailed};
 pub use file::{FileReader, Made};
-pub use file_id::FileId;
-pub use file_ref::FileRef;
 pub use memory::{MemBench, MemDisk, MemDraft, MemMade, MemReader};
+pub use mesa_file::{Damage, FileId, FileRef, Seen};
 pub use moving::{Adoption, adopt_all, remove_all};
 
 /// A list of bytes.

@@ -1,5 +1,5 @@
 // What a command is answered.
-use mesa_disk::Damage;
+use mesa_file::Damage;
 use mesa_filter::VersionWord;
 use mesa_key::KeyBytes;
 use mesa_list::Items;

@@ -7,7 +7,7 @@ ghost use Rattle.mesa_model.specs.declared.replies.Refusal.TheVariants as no;
 ghost use Rattle.mesa_print.specs.Lines.{Puts};
 
 use crate::line::Line;
-use mesa_disk::{Damage, FileId, Seen};
+use mesa_file::{Damage, FileId, Seen};
 use mesa_filter::VersionWord;
 use mesa_model::{Refusal, SchemaFault};
 

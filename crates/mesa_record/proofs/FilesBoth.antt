@@ -3,7 +3,7 @@ use Rattle.std.proofs.Common.{◌≡◌, ℕ, ◌+◌, ◌<◌, ◌^◌, List, �
 use Rattle.std.specs.Prelude.{IsTrue, ◌&&◌, flat_map, nat_le}
 use Rattle.std.proofs.lemmas.Bool.{ltb-true, lt-ltb}
 use Rattle.mesa_value.specs.Agg.{IsAmount}
-use Rattle.mesa_disk.specs.declared.file_ref.FileRef.{FileRef}
+use Rattle.mesa_file.specs.declared.file_ref.FileRef.{FileRef}
 use Rattle.mesa_record.specs.declared.record.ViewRef.{ViewRef}
 use Rattle.mesa_record.specs.declared.record.Files.{Files}
 use Rattle.mesa_record.specs.declared.record.Part.{Part}

@@ -14,7 +14,7 @@ use Rattle.mesa_schema.specs.declared.columns.ValueColumn.{ValueColumn}
 use Rattle.mesa_schema.specs.declared.changes.Change.{Change}
 use Rattle.mesa_schema.specs.declared.changes.Change.TheVariants.{AddValue, DropValue, AddKey}
 use Rattle.mesa_schema.specs.Names.{is_name}
-use Rattle.mesa_disk.specs.declared.file_ref.FileRef.{FileRef}
+use Rattle.mesa_file.specs.declared.file_ref.FileRef.{FileRef}
 use Rattle.mesa_record.specs.declared.error.RecordError.{RecordError}
 use Rattle.mesa_record.specs.declared.error.RecordError.TheVariants as fault
 use Rattle.mesa_record.specs.declared.record.Record.{Record}

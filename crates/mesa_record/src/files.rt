@@ -8,7 +8,7 @@ use crate::cursor::Cursor;
 use crate::field::{put_half, put_long, put_word, read_fields, write_fields};
 use crate::numbered::{Numbered, read_rising, write_rising};
 use crate::{Files, Part, RecordError, ViewRef};
-use mesa_disk::{FileId, FileRef};
+use mesa_file::{FileId, FileRef};
 use mesa_key::Values;
 use mesa_list::Items;
 use mesa_schema::Totals;

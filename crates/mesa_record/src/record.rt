@@ -1,5 +1,5 @@
 // Records of the journal: what changed the warehouse.
-use mesa_disk::FileRef;
+use mesa_file::FileRef;
 use mesa_list::Items;
 use mesa_schema::{Change, KeyColumn, Name, Totals, ValueColumn};
 

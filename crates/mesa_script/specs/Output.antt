@@ -1,7 +1,7 @@
 -- Output: what a run prints.
 use Rattle.std.specs.Prelude.{◌≡◌, ◌≢◌, ℕ, List, [], ◌∷◌, ◌++◌, Option, Some, None, option_map}
 use Rattle.mesa_model.specs.declared.commands.Script.{Script}
-use Rattle.mesa_disk.specs.declared.damage.Damage.{Damage}
+use Rattle.mesa_file.specs.declared.damage.Damage.{Damage}
 use Rattle.mesa_model.specs.declared.entries.Entry.{Entry}
 use Rattle.mesa_model.specs.declared.entries.Outcome.{Outcome}
 use Rattle.mesa_model.specs.declared.entries.Outcome.TheVariants as outcome

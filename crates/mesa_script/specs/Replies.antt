@@ -4,9 +4,9 @@ use Rattle.std.specs.Int.{w64, to_be_bytes}
 use Rattle.mesa_filter.specs.declared.words.VersionWord.{VersionWord}
 use Rattle.mesa_filter.specs.declared.words.VersionWord.TheVariants as asks
 use Rattle.mesa_filter.specs.Hex.{hex_of}
-use Rattle.mesa_disk.specs.declared.damage.Seen.{Seen}
-use Rattle.mesa_disk.specs.declared.damage.Seen.TheVariants as seen
-use Rattle.mesa_disk.specs.declared.damage.Damage.{Damage}
+use Rattle.mesa_file.specs.declared.damage.Seen.{Seen}
+use Rattle.mesa_file.specs.declared.damage.Seen.TheVariants as seen
+use Rattle.mesa_file.specs.declared.damage.Damage.{Damage}
 use Rattle.mesa_model.specs.declared.replies.SchemaFault.{SchemaFault}
 use Rattle.mesa_model.specs.declared.replies.SchemaFault.TheVariants as fault
 use Rattle.mesa_model.specs.declared.replies.Refusal.{Refusal}

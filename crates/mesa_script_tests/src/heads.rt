@@ -1,5 +1,5 @@
 // Head lines.
-use mesa_disk::{Damage, FileId, Seen};
+use mesa_file::{Damage, FileId, Seen};
 use mesa_filter::VersionWord;
 use mesa_list::Items;
 use mesa_model::{Refusal, Reply, SchemaFault};
