@@ -2,7 +2,11 @@
 #![tactic(auto)]
 
 mod copies;
+mod fields;
 mod items;
+mod splitting;
 
 pub use copies::TryCopy;
+pub use fields::{Fields, FieldsView};
 pub use items::Items;
+pub use splitting::{Parts, place_of_byte};

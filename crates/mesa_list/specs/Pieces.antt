@@ -1,0 +1,17 @@
+-- Fields that stand one behind the other in one list of bytes.
+use Rattle.std.specs.Prelude.{ℕ, ◌≤◌, List, [], ◌∷◌, slice_range}
+
+-- the pieces of the bytes that end at these places, the first of which begins at start
+abbrev pub pieces : List ℕ → ℕ → List ℕ → List (List ℕ)
+pieces bytes start [] = []
+pieces bytes start (end ∷ ends) = slice_range bytes start end ∷ pieces bytes end ends
+
+-- no piece ends before it begins
+abbrev pub Rise : ℕ → List ℕ → Type 0
+Rise start [] = Unit {0}
+Rise start (end ∷ ends) = (start ≤ end) × Rise end ends
+
+-- where the last piece ends
+abbrev pub last_end : ℕ → List ℕ → ℕ
+last_end start [] = start
+last_end start (end ∷ ends) = last_end end ends
