@@ -12,14 +12,9 @@ pub use decoding::{KeyError, decode};
 pub use encoding::{encode, encode_int, encode_text};
 pub use laws::{orders_bytes_as_keys, reads_back, reads_spellings, spells_once};
 use mesa_list::Items;
+pub use mesa_value::{Amount, Values};
 pub use order::{compare, short};
 pub use text::KeyText;
-
-/// A value of a column.
-pub type Amount = i64;
-
-/// The values of a row, one for each value column.
-pub type Values = Items<Amount>;
 
 /// The type of a key column.
 #[derive(Clone, Copy, Debug, PartialEq, Eq)]

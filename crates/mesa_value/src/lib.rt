@@ -1,12 +1,17 @@
-//! The four aggregations of a value column.
+//! Values of columns, and the four aggregations that put them together.
 #![tactic(auto)]
 
 ghost use Rattle.std.specs.Prelude.{◌≡◌, ◌↔◌, IsTrue, ℤ};
 ghost use Rattle.mesa_value.specs.declared.Agg.{Agg as Aggs};
 ghost use Rattle.mesa_value.specs.Agg.{Combines, IsDefault, IsOrderless, combined};
 
+use mesa_list::Items;
+
 /// A value of a column.
 pub type Amount = i64;
+
+/// The values of a row, one for each value column.
+pub type Values = Items<Amount>;
 
 /// How the values of a key are put together, in the order of their versions.
 #[derive(Clone, Copy, Debug, PartialEq, Eq)]
