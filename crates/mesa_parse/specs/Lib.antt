@@ -1,5 +1,4 @@
 pub mod Failures
 pub mod Said
 pub mod Left
-pub mod Entries
 pub mod Ended

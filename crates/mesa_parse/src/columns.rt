@@ -6,10 +6,9 @@ ghost use Rattle.mesa_script.specs.Records.{named};
 ghost use Rattle.mesa_script.specs.Words.{key_words, value_words};
 ghost use Rattle.mesa_parse.specs.Failures.{Tells};
 
-use crate::entries::{Entries, first_part};
 use crate::failed::Failed;
 use mesa_key::KeyType;
-use mesa_list::Items;
+use mesa_list::{Items, Parts};
 use mesa_model::{KeyWords, ValueWords};
 use mesa_schema::Fields;
 use mesa_script::Reason;
@@ -20,10 +19,10 @@ use std::alloc::{AllocError, Global};
 fn two_parts(entry: &[u8]) -> Option<(&[u8], &[u8])>
     ensures { MatchOption result (length (split_at 32 entry.now) ≢ 2) (λ parts. split_at 32 entry.now ≡ parts.0.now ∷ parts.1.now ∷ []) }
 {
-    let Some((name, word)) = first_part(b' ', entry) else {
-        return None;
-    };
-    match first_part(b' ', word) {
+    let mut parts = Parts::of(b' ', entry);
+    let name = parts.take_next()?;
+    let word = parts.take_next()?;
+    match parts.take_next() {
         Some(_) => None,
         None => Some((name, word)),
     }
@@ -95,7 +94,7 @@ pub(crate) fn key_columns(alloc: Global, field: &[u8]) -> Result<Items<KeyWords>
     ensures refused { IfErr result (λ e. Tells e (each_of key_words (entries_of field.now))) }
 {
     let mut columns = Items::new(alloc);
-    let mut entries = Entries::of(field);
+    let mut entries = Parts::entries(field);
     'entries: while let Some(entry) = entries.take_next() {
         columns.push(key_column(alloc, entry)?)?;
     }
@@ -108,7 +107,7 @@ pub(crate) fn value_columns(alloc: Global, field: &[u8]) -> Result<Items<ValueWo
     ensures refused { IfErr result (λ e. Tells e (each_of value_words (entries_of field.now))) }
 {
     let mut columns = Items::new(alloc);
-    let mut entries = Entries::of(field);
+    let mut entries = Parts::entries(field);
     'entries: while let Some(entry) = entries.take_next() {
         columns.push(value_column(alloc, entry)?)?;
     }
@@ -120,7 +119,7 @@ pub(crate) fn names(alloc: Global, field: &[u8]) -> Result<Fields, AllocError>
     ensures { IfOk result (λ names. names ≡ entries_of field.now) }
 {
     let mut names = Items::new(alloc);
-    let mut entries = Entries::of(field);
+    let mut entries = Parts::entries(field);
     'entries: while let Some(entry) = entries.take_next() {
         names.push(Items::from_bytes(alloc, entry)?)?;
     }

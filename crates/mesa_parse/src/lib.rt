@@ -2,7 +2,6 @@
 #![tactic(auto)]
 
 mod columns;
-mod entries;
 mod failed;
 mod items;
 mod kinds;
