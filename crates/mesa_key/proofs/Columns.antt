@@ -8,6 +8,7 @@ use Rattle.std.proofs.Math.ListN.{drop_of_length-le}
 use Rattle.std.proofs.lemmas.Bool.{eqb-true, eq-eqb}
 use Rattle.std.proofs.lemmas.Nat.{from_be_bytes-to_be_bytes_8, be_bytes_8}
 use Rattle.std.proofs.lemmas.List.{take_at, drop_at}
+pub use Rattle.mesa_list.proofs.Whole.{both}
 use Rattle.mesa_key.specs.declared.KeyValue.{KeyValue}
 use Rattle.mesa_key.specs.declared.KeyValue.TheVariants as value
 use Rattle.mesa_key.specs.declared.KeyType.{KeyType}
@@ -22,12 +23,6 @@ raised-is (negsuc n) f =
     let e : negsuc n +ℤ pos (2 ^ 63) ≡ pos (2 ^ 63 - suc n) = omega (arith, ints) in
     let size : nat_abs (negsuc n +ℤ pos (2 ^ 63)) ≡ 2 ^ 63 - suc n = ap nat_abs e in
     (ap pos size ∙ sym e, omega (arith, size))
-
--- both parts of a conjunction
-pub both : (a b : Bool) → IsTrue (a && b) → IsTrue a × IsTrue b
-both true true t = (refl, refl)
-both true false t = cc
-both false b t = cc
 
 -- a test that is denied
 denied : (a : Bool) → IsTrue (not a) → a ≡ false
@@ -49,7 +44,7 @@ before_zero-text (b ∷ bytes) more h =
     ] h
 
 -- a list is what stands before its first zero, the zero, and what stands behind it
-at_zero : (xs : List ℕ) → length (before_zero xs) < length xs → take (length (before_zero xs)) xs ++ 0 ∷ drop (length (before_zero xs) + 1) xs ≡ xs
+pub at_zero : (xs : List ℕ) → length (before_zero xs) < length xs → take (length (before_zero xs)) xs ++ 0 ∷ drop (length (before_zero xs) + 1) xs ≡ xs
 unfolding before_zero
 at_zero [] h = absurd (omega arith)
 at_zero (x ∷ xs) h =

@@ -1,15 +1,16 @@
 -- Keys and their bytes, both ways.
-use Rattle.std.proofs.Common.{◌≡◌, ℕ, ◌+◌, ◌<◌, List, [], ◌∷◌, ◌++◌, length, take, drop, get_or, refl, sym, ◌∙◌, ap, arith, true, false, subst, append_assoc, append-nil, inl, inr, lit<, suc, ◌-◌, ◌≤◌, drop-cons, length-append}
-use Rattle.std.specs.Prelude.{◌&&◌}
+use Rattle.std.proofs.Common.{◌≡◌, ℕ, ◌+◌, List, [], ◌∷◌, ◌++◌, length, take, drop, refl, sym, ◌∙◌, ap, arith, true, false, subst, append_assoc, append-nil, inl, inr, lit<, ◌-◌, length-append}
+use Rattle.std.specs.Prelude.{◌&&◌, Some, None, slice_get}
 use Rattle.std.proofs.lemmas.Bool.{eqb-true}
 use Rattle.std.proofs.lemmas.Bool.{cases_lt}
 use Rattle.std.proofs.lemmas.List.{take-append-drop, get_or-take, get_or-drop, get_or_past, length-take, take_at}
-use Rattle.std.proofs.Math.ListN.{drop_of_length-le}
 use Rattle.mesa_key.specs.declared.KeyValue.{KeyValue}
 use Rattle.mesa_key.specs.declared.KeyType.{KeyType}
 use Rattle.mesa_key.specs.Spelling.{AreBytes, IsKey, column_length, column_value, is_column, is_spelling, key_of, key_spelling, value_spelling}
 use Rattle.mesa_key.proofs.Reading.{after_key, begins_with_key}
 use Rattle.mesa_key.proofs.Columns.{begins, both, spells}
+use Rattle.mesa_key.proofs.Zeros.{cut_column}
+use Rattle.mesa_key.specs.Columns.{has_column}
 
 -- the bytes of a value, the other values' and more
 regrouped : (value : KeyValue) (key : List KeyValue) (more : List ℕ) → key_spelling (value ∷ key) ++ more ≡ value_spelling value ++ (key_spelling key ++ more)
@@ -69,13 +70,13 @@ spelled_once types a b more others f g e = (
   sym (after_spelling types a more f) ∙ ap (after_key types) e ∙ after_spelling types b others g,
 )
 
-bytes-take : (n : ℕ) (bytes : List ℕ) → AreBytes bytes → AreBytes (take n bytes)
+pub bytes-take : (n : ℕ) (bytes : List ℕ) → AreBytes bytes → AreBytes (take n bytes)
 bytes-take n bytes h i = elim (cases_lt i n) [
   | inl lt ↦ rw (get_or-take n bytes i 0 lt) (h i)
   | inr ge ↦ rw (get_or_past (take n bytes) i 0 (omega (arith, length-take n bytes))) (lit< tt)
 ]
 
-bytes-drop : (n : ℕ) (bytes : List ℕ) → AreBytes bytes → AreBytes (drop n bytes)
+pub bytes-drop : (n : ℕ) (bytes : List ℕ) → AreBytes bytes → AreBytes (drop n bytes)
 bytes-drop n bytes h i = rw (get_or-drop n bytes i 0) (h (n + i))
 
 -- What the bytes begin with, where they begin with a key of these types.
@@ -120,21 +121,29 @@ spelling_spelled types bytes f h =
     sym (append-nil _) ∙ ap (λ rest. key_spelling (key_of types bytes) ++ rest) (sym whole.1) ∙ (begins_spelled types bytes f whole.0).spelled
 
 -- No key begins where its first column doesn't.
-pub no_column : (types : List KeyType) (i : ℕ) (d : KeyType) (rest : List ℕ) → i < length types → is_column (get_or types i d) (take (column_length (get_or types i d) rest) rest) ≡ false
-    → begins_with_key (drop i types) rest ≡ false
-no_column types i d rest l h =
-    ap (λ kinds. begins_with_key kinds rest) (drop-cons types i d l)
-    ∙ ap (λ t. t && begins_with_key (drop (suc i) types) (drop (column_length (get_or types i d) rest) rest)) h
+pub no_column : (kinds more : List KeyType) (type : KeyType) (bytes column : List ℕ) → kinds ≡ type ∷ more → column ≡ take (column_length type bytes) bytes → is_column type column ≡ false → begins_with_key kinds bytes ≡ false
+no_column kinds more type bytes column e f h =
+    ap (λ types. begins_with_key types bytes) e
+    ∙ ap (λ found. is_column type found && begins_with_key more (drop (column_length type bytes) bytes)) (sym f)
+    ∙ ap (λ t. t && begins_with_key more (drop (column_length type bytes) bytes)) h
+
+-- No key begins where its first column isn't whole.
+pub no_whole : (kinds : List KeyType) (type : KeyType) (bytes : List ℕ) → has_column kinds bytes ≡ false → Some type ≡ slice_get kinds 0 → begins_with_key kinds bytes ≡ false
+no_whole [] type bytes h e = cc
+no_whole (kind ∷ kinds) type bytes h e = ap (λ t. t && begins_with_key kinds (drop (column_length kind bytes) bytes)) (cut_column kind bytes h)
+
+pub no_kinds : (kinds : List KeyType) → None ≡ slice_get kinds 0 → kinds ≡ []
+no_kinds [] e = refl
+no_kinds (kind ∷ kinds) e = cc
 
 -- What was read once all types are through.
-pub read_key : (types : List KeyType) (i : ℕ) (bytes rest : List ℕ) (key : List KeyValue) → length types ≤ i → AreBytes bytes
-    → key_of types bytes ≡ key ++ key_of (drop i types) rest → begins_with_key types bytes ≡ begins_with_key (drop i types) rest → after_key types bytes ≡ after_key (drop i types) rest
+pub read_key : (types kinds : List KeyType) (bytes rest : List ℕ) (key : List KeyValue) → kinds ≡ [] → AreBytes bytes
+    → key_of types bytes ≡ key ++ key_of kinds rest → begins_with_key types bytes ≡ begins_with_key kinds rest → after_key types bytes ≡ after_key kinds rest
     → IsKey types key × (key_spelling key ++ rest ≡ bytes)
-read_key types i bytes rest key l f e g a =
-    let none : drop i types ≡ [] = drop_of_length-le types l in
-    let all : key_of types bytes ≡ key = e ∙ ap (λ kinds. key ++ key_of kinds rest) none ∙ append-nil key in
-    let whole = begins_spelled types bytes f (g ∙ ap (λ kinds. begins_with_key kinds rest) none) in
-    let left : after_key types bytes ≡ rest = a ∙ ap (λ kinds. after_key kinds rest) none in
+read_key types kinds bytes rest key none f e g a =
+    let all : key_of types bytes ≡ key = e ∙ ap (λ left. key ++ key_of left rest) none ∙ append-nil key in
+    let whole = begins_spelled types bytes f (g ∙ ap (λ left. begins_with_key left rest) none) in
+    let left : after_key types bytes ≡ rest = a ∙ ap (λ left. after_key left rest) none in
     (subst (IsKey types) all whole.key, ap (λ k. key_spelling k ++ rest) (sym all) ∙ ap (λ r. key_spelling (key_of types bytes) ++ r) (sym left) ∙ whole.spelled)
 
 -- The bytes before a key's rest spell it.

@@ -37,7 +37,7 @@ int_order a b f g =
     let same2 : n % 256 ^ 8 ≡ n = omega (arith, up2.1) in
     bytes_order 8 m n ∙ ap (λ x. nat_cmp x (n % 256 ^ 8)) same ∙ ap (λ x. nat_cmp m x) same2 ∙ sym (raised-cmp a b m n up.0 up2.0)
 
-no_zeros : (bytes : List ℕ) → list_any (λ b. b == 0) bytes ≡ false → NoZero bytes
+pub no_zeros : (bytes : List ℕ) → list_any (λ b. b == 0) bytes ≡ false → NoZero bytes
 no_zeros [] h = tt
 no_zeros (b ∷ bytes) h = elim (b == 0) as (λ t. (b == 0) ≡ t → (t || list_any (λ x. x == 0) bytes) ≡ false → NoZero (b ∷ bytes)) [
   | true ↦ λ e f. cc

@@ -1,15 +1,16 @@
 -- Where a text ends: at the first zero byte.
-use Rattle.std.proofs.Common.{◌≡◌, ℕ, zero, suc, ◌+◌, ◌-◌, ◌<◌, ◌≤◌, List, [], ◌∷◌, length, take, refl, ◌∙◌, ap, arith, Bool, true, false, cond}
-use Rattle.std.specs.Prelude.{◌==◌, Some, None, position}
+use Rattle.std.proofs.Common.{◌≡◌, ℕ, zero, suc, ◌+◌, ◌<◌, ◌≤◌, List, [], ◌∷◌, length, take, refl, sym, ◌∙◌, ap, arith, true, false, cond}
+use Rattle.std.specs.Prelude.{◌==◌, Some, None, position, nat_le}
 use Rattle.std.specs.List.{position_or_len}
 use Rattle.std.proofs.lemmas.List.Recursion.{is_position_or_len}
 use Rattle.std.proofs.lemmas.Option.{cond_some}
-use Rattle.std.proofs.lemmas.Bool.{ltb-true, ltb-false, eq-eqb, ne_eqb}
-use Rattle.std.proofs.lemmas.List.{take-take, take_all, length-take-le}
-use Rattle.std.proofs.Math.Bool.{and-true, and-false}
-use Rattle.mesa_key.specs.Spelling.{before_zero, column_length, column_value, is_column}
-use Rattle.mesa_key.specs.Text.{is_key_text}
-use Rattle.mesa_key.specs.declared.KeyValue.TheVariants as value
+use Rattle.std.proofs.lemmas.Bool.{ltb-true, ltb-false, le-leb, leb-false, leb-true, ne_eqb}
+use Rattle.std.proofs.lemmas.List.{take_all, length-take, length-take-le}
+use Rattle.std.proofs.Math.Bool.{and-false}
+use Rattle.mesa_key.specs.Spelling.{before_zero, column_length, is_column}
+use Rattle.mesa_list.proofs.Splits.{untrue}
+use Rattle.mesa_key.specs.Columns.{is_whole}
+use Rattle.mesa_key.specs.declared.KeyType.{KeyType}
 use Rattle.mesa_key.specs.declared.KeyType.TheVariants as kind
 
 -- the bytes before the first zero reach up to it
@@ -33,11 +34,6 @@ zero_at xs n e =
     let below : position_or_len (λ b. b == 0) xs < length xs = ltb-true _ _ found.0 in
     (length-before_zero xs ∙ found.1, omega (arith, found.1))
 
--- a test that failed
-untrue : (t : Bool) (n : ℕ) → cond t (Some n) None ≡ None → t ≡ false
-untrue true n e = cc
-untrue false n e = refl
-
 -- none was found
 pub zero_nowhere : (xs : List ℕ) → position (λ b. b == 0) xs ≡ None → length (before_zero xs) ≡ length xs
 zero_nowhere xs e =
@@ -45,28 +41,12 @@ zero_nowhere xs e =
     omega (arith, length-before_zero xs, before_zero-within xs)
 
 -- what lies behind the first zero doesn't matter
-before_zero-take : (k : ℕ) (xs : List ℕ) → length (before_zero xs) ≤ k → before_zero (take k xs) ≡ before_zero xs
+pub before_zero-take : (k : ℕ) (xs : List ℕ) → length (before_zero xs) ≤ k → before_zero (take k xs) ≡ before_zero xs
 unfolding before_zero
 before_zero-take zero [] h = refl
 before_zero-take (suc k) [] h = refl
 before_zero-take zero (x ∷ xs) h = elim (x == 0) as (λ t. length (cond t [] (x ∷ before_zero xs)) ≤ 0 → [] ≡ cond t [] (x ∷ before_zero xs)) [ true ↦ λ _. refl | false ↦ λ l. absurd (omega arith) ] h
 before_zero-take (suc k) (x ∷ xs) h = elim (x == 0) as (λ t. length (cond t [] (x ∷ before_zero xs)) ≤ suc k → cond t [] (x ∷ before_zero (take k xs)) ≡ cond t [] (x ∷ before_zero xs)) [ true ↦ λ _. refl | false ↦ λ l. ap (λ r. x ∷ r) (before_zero-take k xs (omega arith)) ] h
-
--- the column that ends with the first zero
-cut : (xs : List ℕ) (n : ℕ) → n < length xs → take (length (take (n + 1) xs) - 1) (take (n + 1) xs) ≡ take n xs
-cut xs n h =
-    let len : length (take (n + 1) xs) ≡ n + 1 = length-take-le (n + 1) xs (omega arith) in
-    let back : n + 1 - 1 ≡ n = omega arith in
-    rw (len, back) (take-take n (n + 1) xs (omega arith))
-
--- the text column that begins the bytes, where a zero stands at n
-pub text_column : (xs : List ℕ) (n : ℕ) → length (before_zero xs) ≡ n → n < length xs
-    → (is_column kind.Text (take (column_length kind.Text xs) xs) ≡ is_key_text (take n xs)) × (column_value kind.Text (take (column_length kind.Text xs) xs) ≡ value.Text (take n xs))
-text_column xs n e h =
-    let len : length (take (n + 1) xs) ≡ n + 1 = length-take-le (n + 1) xs (omega arith) in
-    let ends : (length (before_zero (take (n + 1) xs)) + 1 == length (take (n + 1) xs)) ≡ true =
-    eq-eqb _ _ (omega (arith, ap length (before_zero-take (n + 1) xs (omega arith)))) in
-    rw (e, ends, cut xs n h) (and-true _, refl)
 
 -- where no zero stands, there is no text column
 pub no_text_column : (xs : List ℕ) → length (before_zero xs) ≡ length xs → is_column kind.Text (take (column_length kind.Text xs) xs) ≡ false
@@ -74,3 +54,37 @@ no_text_column xs e =
     let all : take (length (before_zero xs) + 1) xs ≡ xs = take_all _ xs (omega arith) in
     let past : (length (before_zero xs) + 1 == length xs) ≡ false = ne_eqb _ _ (λ same. omega arith) in
     rw (all, past) (and-false _)
+
+not_within : (a b : ℕ) → b < a → nat_le a b ≡ false
+not_within a b h = elim (nat_le a b) as (λ t. nat_le a b ≡ t → t ≡ false) [ true ↦ λ e. absurd (omega (arith, leb-true a b e)) | false ↦ λ e. refl ] refl
+
+-- Where a zero stands, a text column ends there, and it is whole.
+pub record EndsAt (bytes : List ℕ) (end : ℕ) : Type 0 where
+  pub whole : true ≡ is_whole kind.Text bytes
+  pub length : end + 1 ≡ column_length kind.Text bytes
+
+pub text_ends : (bytes : List ℕ) (end : ℕ) → position (λ b. b == 0) bytes ≡ Some end → EndsAt bytes end
+text_ends bytes end e =
+    let zero = zero_at bytes end e in
+    record {
+      whole = sym (le-leb (length (before_zero bytes) + 1) (length bytes) (omega (arith, zero.0, zero.1)));
+      length = ap (λ n. n + 1) (sym zero.0);
+    }
+
+-- Without a zero there is none.
+pub no_text : (bytes : List ℕ) → position (λ b. b == 0) bytes ≡ None → false ≡ is_whole kind.Text bytes
+no_text bytes e = sym (not_within (length (before_zero bytes) + 1) (length bytes) (omega (arith, zero_nowhere bytes e)))
+
+-- A column that bytes hold whole is one by itself.
+pub alone : (type : KeyType) (bytes : List ℕ) (n : ℕ) → n ≡ column_length type bytes → n ≤ length bytes → column_length type (take n bytes) ≡ length (take n bytes)
+alone kind.Int bytes n e h = omega (arith, length-take-le n bytes h)
+alone kind.Text bytes n e h = omega (arith, length-take-le n bytes h, ap length (before_zero-take n bytes (omega arith)))
+
+-- A column that bytes don't hold whole is none.
+pub cut_column : (type : KeyType) (bytes : List ℕ) → is_whole type bytes ≡ false → is_column type (take (column_length type bytes) bytes) ≡ false
+cut_column kind.Int bytes h =
+    let past : length bytes < 8 = leb-false 8 (length bytes) h in
+    ne_eqb (length (take 8 bytes)) 8 (λ same. omega (arith, length-take 8 bytes))
+cut_column kind.Text bytes h =
+    let past : length bytes < length (before_zero bytes) + 1 = leb-false _ _ h in
+    no_text_column bytes (omega (arith, before_zero-within bytes))

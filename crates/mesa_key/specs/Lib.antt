@@ -1,3 +1,4 @@
+pub mod Columns
 pub mod Order
 pub mod Spelling
 pub mod Text

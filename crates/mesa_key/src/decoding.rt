@@ -1,9 +1,9 @@
 // Reading keys.
-ghost use Rattle.std.specs.Prelude.{◌≡◌, ◌≢◌, ◌≤◌, ℕ, List, ◌++◌, ◌<◌, length, take, drop, true, false, IfOk, IfErr, OnOk, position, ◌==◌};
+ghost use Rattle.std.specs.Prelude.{◌≡◌, ◌≢◌, ◌≤◌, ℕ, List, ◌++◌, length, take, true, false, IfOk, IfErr, OnOk};
 ghost use Rattle.mesa_key.specs.declared.KeyValue.{KeyValue as Value};
-ghost use Rattle.mesa_key.specs.Spelling.{IsKey, column_length, column_value, is_column, key_of, key_spelling};
+ghost use Rattle.mesa_key.specs.Spelling.{IsKey, column_value, is_column, key_of, key_spelling};
 
-use crate::{Key, KeyText, KeyType, KeyValue};
+use crate::{Column, ColumnValue, Key, KeyColumns, KeyText, KeyType, KeyValue};
 use mesa_list::Items;
 use std::alloc::{AllocError, AllocFailed, Global};
 
@@ -42,70 +42,42 @@ pub fn decode(alloc: Global, types: &[KeyType], bytes: &[u8]) -> Result<(Key, us
     ensures refused { IfErr result (λ e. e ≢ KeyError.Memory → (key : List Value) (more : List ℕ) → IsKey types.now key → bytes.now ≢ key_spelling key ++ more) }
 {
     let mut key = Items::new(alloc);
-    let mut rest = bytes;
-    for kind in types {
-        let (value, after) = first_value(alloc, *kind, rest)?;
-        key.push(value)?;
-        rest = after;
+    let mut columns = KeyColumns::of(types, bytes);
+    while let Some(column) = columns.take_next() {
+        key.push(value_of(alloc, column)?)?;
     }
-    Ok((key, bytes.len() - rest.len()))
+    if let Some(kind) = columns.kinds().first() {
+        return Err(cut_fault(*kind, columns.rest()));
+    }
+    Ok((key, bytes.len() - columns.rest().len()))
 }
 
-// The value that the bytes begin with, and the bytes behind it.
-fn first_value(alloc: Global, kind: KeyType, bytes: &[u8]) -> Result<(KeyValue, &[u8]), KeyError>
-    ensures value { IfOk result (λ found. found.0 ≡ column_value kind (take (column_length kind bytes.now) bytes.now)) }
-    ensures rest { IfOk result (λ found. found.1.now ≡ drop (column_length kind bytes.now) bytes.now) }
-    ensures found { OnOk result (is_column kind (take (column_length kind bytes.now) bytes.now) ≡ true) }
-    ensures refused { IfErr result (λ e. e ≢ KeyError.Memory → is_column kind (take (column_length kind bytes.now) bytes.now) ≡ false) }
+// The value that a column spells.
+fn value_of(alloc: Global, column: Column) -> Result<KeyValue, KeyError>
+    ensures value { IfOk result (λ value. value ≡ column_value column.entry.kind column.entry.bytes.now) }
+    ensures allowed { OnOk result (is_column column.entry.kind column.entry.bytes.now ≡ true) }
+    ensures refused { IfErr result (λ e. e ≢ KeyError.Memory → is_column column.entry.kind column.entry.bytes.now ≡ false) }
+{
+    match column.value() {
+        ColumnValue::Int(number) => Ok(KeyValue::Int(number)),
+        ColumnValue::Text(text) => {
+            if !KeyText::allows(text) {
+                return Err(text_fault(text, true));
+            }
+            let text = KeyText::new(Items::from_bytes(alloc, text)?);
+            Ok(KeyValue::Text(text))
+        }
+    }
+}
+
+// What is wrong with bytes that end within a column of this type.
+fn cut_fault(kind: KeyType, bytes: &[u8]) -> KeyError
+    ensures { result ≢ KeyError.Memory }
 {
     match kind {
-        KeyType::Int => first_int(bytes),
-        KeyType::Text => first_text(alloc, bytes),
+        KeyType::Int => KeyError::Truncated,
+        KeyType::Text => text_fault(bytes, false),
     }
-}
-
-// The number that the bytes begin with, and the bytes behind it.
-fn first_int(bytes: &[u8]) -> Result<(KeyValue, &[u8]), KeyError>
-    ensures value { IfOk result (λ found. found.0 ≡ column_value KeyType.Int (take 8 bytes.now)) }
-    ensures rest { IfOk result (λ found. found.1.now ≡ drop 8 bytes.now) }
-    ensures found { OnOk result (8 ≤ length bytes.now) }
-    ensures refused { IfErr result (λ e. e ≢ KeyError.Memory → length bytes.now < 8) }
-{
-    match bytes {
-        [a, b, c, d, e, f, g, h, rest @ ..] => {
-            let raised = u64::from_be_bytes([*a, *b, *c, *d, *e, *f, *g, *h]);
-            Ok((
-                KeyValue::Int((i128::from(raised) - 0x8000_0000_0000_0000) as i64),
-                rest,
-            ))
-        }
-        _ => Err(KeyError::Truncated),
-    }
-}
-
-// The text that the bytes begin with, and the bytes behind its zero byte.
-fn first_text(alloc: Global, bytes: &[u8]) -> Result<(KeyValue, &[u8]), KeyError>
-    ensures value { IfOk result (λ found. found.0 ≡ column_value KeyType.Text (take (column_length KeyType.Text bytes.now) bytes.now)) }
-    ensures rest { IfOk result (λ found. found.1.now ≡ drop (column_length KeyType.Text bytes.now) bytes.now) }
-    ensures found { OnOk result (is_column KeyType.Text (take (column_length KeyType.Text bytes.now) bytes.now) ≡ true) }
-    ensures refused { IfErr result (λ e. e ≢ KeyError.Memory → is_column KeyType.Text (take (column_length KeyType.Text bytes.now) bytes.now) ≡ false) }
-{
-    let Some(len) = first_zero(bytes) else {
-        return Err(text_fault(bytes, false));
-    };
-    let text = &bytes[..len];
-    if !KeyText::allows(text) {
-        return Err(text_fault(text, true));
-    }
-    let text = KeyText::new(Items::from_bytes(alloc, text)?);
-    Ok((KeyValue::Text(text), &bytes[len + 1..]))
-}
-
-// The place of the first zero byte.
-fn first_zero(bytes: &[u8]) -> Option<usize>
-    ensures { result ≡ position (λ b. b == 0) bytes.now }
-{
-    bytes.iter().position(|b| *b == 0)
 }
 
 // What is wrong with the bytes of a text, the first fault from the left; a zero byte may follow them.

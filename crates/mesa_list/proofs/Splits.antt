@@ -27,7 +27,8 @@ whole c (b ∷ bytes) f =
     let first : (b == c) ≡ false = f 0 (omega arith) in
     rw (first, whole c bytes (λ k below. f (suc k) (omega arith))) refl
 
-untrue : (t : Bool) (n : ℕ) → cond t (Some n) None ≡ None → t ≡ false
+-- a test that gave nothing failed
+pub untrue : (t : Bool) (n : ℕ) → cond t (Some n) None ≡ None → t ≡ false
 untrue true n e = cc
 untrue false n e = refl
 
