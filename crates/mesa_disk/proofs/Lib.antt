@@ -1,5 +1,6 @@
 pub mod Run
 pub mod Rounds
+pub mod Others
 mod Maps
 mod Noted
 mod Picks

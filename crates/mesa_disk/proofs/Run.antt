@@ -2,7 +2,7 @@
 use Rattle.std.proofs.Common.{◌⊎◌, ◌<◌, Option, ◌∙◌, ap, ◌≡◌, inl, inr, ⊎_elim, ℕ, ◌≤◌, List, refl, arith}
 use Rattle.mesa_disk.specs.Image.{Image, area_of, with_area, InArea, AnyChange}
 use Rattle.mesa_fault.specs.Causes.{last}
-use Rattle.mesa_disk.specs.Story.{Story, Steps, Elapses}
+use Rattle.mesa_disk.specs.Story.{Story, Steps, After, Elapses, Spans}
 use Rattle.mesa_disk.specs.declared.area.Area.{Area}
 use Rattle.mesa_disk.specs.declared.area.Area.TheVariants.{Zero, One}
 
@@ -63,3 +63,29 @@ pub left_now : (P : Image → Type 0) (old new : Story) → Elapses P old new �
     → (c : Image) → new.may_leave c → old.may_leave c ⊎ P c
 left_now P old new run below counts only c left =
     ⊎_elim (λ had. inl (only c below had)) (λ p. inr p) (run.nothing_else old.moment c (omega arith) (counts old.moment c run.later left))
+
+-- ---- runs that span
+
+-- before the first call
+pub spans_none : (P : Image → Type 0) (s : Story) → ((c : Image) → s.may_leave c → P c) → Spans P s s
+spans_none P s left = record { run = starts P s; left = left }
+
+-- one run more
+pub spans_on : (P Q : Image → Type 0) (a b d : Story) → Spans P a b → Spans Q b d → ((c : Image) → Q c → P c) → Spans P a d
+spans_on P Q a b d so_far next here = record { run = goes_on P Q a b d so_far.run next.run here; left = λ c left. here c (next.left c left) }
+
+-- one call more
+pub spans_further : (P : Image → Type 0) (a b d : Story) → Spans P a b → ((c : Image) → d.may_leave c → P c) → Elapses d.may_leave b d → Spans P a d
+spans_further P a b d so_far left time = spans_on P d.may_leave a b d so_far (record { run = time; left = λ c l. l }) left
+
+-- one sync more
+pub spans_synced : (P : Image → Type 0) (a b d : Story) → Spans P a b → ((c : Image) → d.may_leave c → b.may_leave c) → Elapses d.may_leave b d → Spans P a d
+spans_synced P a b d so_far crash time = spans_further P a b d so_far (λ c left. so_far.left c (crash c left)) time
+
+-- a weaker P
+pub spans_weaken : (P Q : Image → Type 0) (a b : Story) → Spans Q a b → ((c : Image) → Q c → P c) → Spans P a b
+spans_weaken P Q a b run here = record { run = weakens P Q a b run.run here; left = λ c left. here c (run.left c left) }
+
+-- a run whose images are earlier ones after a step, where P holds before and each step keeps it
+pub spans_kept : (P : Image → Type 0) (step : Image → Image → Type 0) (a b : Story) → Spans (After step a.may_leave) a b → ((c : Image) → a.may_leave c → P c) → ((i j : Image) → step i j → P i → P j) → Spans P a b
+spans_kept P step a b run had keeps = spans_weaken P (After step a.may_leave) a b run (λ c from. keeps from.0 c from.2 (had from.0 from.1))

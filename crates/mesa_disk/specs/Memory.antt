@@ -1,5 +1,5 @@
 -- What is known of a disk in memory.
-use Rattle.std.specs.Prelude.{◌≡◌, ℕ, ◌+◌, min, List, ◌∷◌, [], ◌++◌, length, Option, Some, Result, IsErr}
+use Rattle.std.specs.Prelude.{◌≡◌, ℕ, ◌+◌, min, List, ◌∷◌, [], ◌++◌, length, Option, Some, Result, IsErr, OnErr}
 use Rattle.std.specs.List.{Contains}
 use Rattle.mesa_fault.specs.Causes.{last}
 use Rattle.mesa_disk.specs.Image.{Image, area_of}
@@ -58,12 +58,18 @@ spoiled_read d = d.spoiled
 abbrev pub IsDue : MemDisk → Type 0
 IsDue d = Contains (failing_calls d) (calls_made d)
 
--- A call that can fail is counted. One that is to fail does, and changes no area and no file.
+-- A call that can fail is counted. One that is to fail does, and one that fails changes no area and no file.
 pub record FailsIfDue {T E : Type 0} (old new : MemDisk) (result : Result T E) : Type 0 where
   pub fails : IsDue old → IsErr result
-  pub still : IsDue old → Keeps old.log new.log
+  pub still : OnErr result (Keeps old.log new.log)
   pub counted : calls_made new ≡ min (calls_made old + 1) last
   pub same : failing_calls new ≡ failing_calls old
+
+-- What is to fail is the same as before.
+pub record KeepsFailures (old new : MemDisk) : Type 0 where
+  pub fails : failing_calls new ≡ failing_calls old
+  pub counted : calls_made new ≡ calls_made old
+  pub spoiled : spoiled_read new ≡ spoiled_read old
 
 -- one image that a crash at a moment may have left, by the pick
 abbrev pub image_at : MemDisk → ℕ → ℕ → Image

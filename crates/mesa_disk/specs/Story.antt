@@ -32,6 +32,11 @@ pub record Elapses (P : Image → Type 0) (old new : Story) : Type 0 where
   pub nothing_else : (t : ℕ) (c : Image) → t ≤ old.moment → new.may_have_left t c → old.may_have_left t c ⊎ P c
   pub keeps : (t : ℕ) (c : Image) → t ≤ old.moment → old.may_have_left t c → new.may_have_left t c
 
+-- A run of calls, of which a crash at any moment leaves what one before might have left, or an image that has P; a crash now leaves one that has P.
+pub record Spans (P : Image → Type 0) (old new : Story) : Type 0 where
+  pub run : Elapses P old new
+  pub left : (c : Image) → new.may_leave c → P c
+
 -- A call that moves no image.
 pub record Unmoved (old new : Story) : Type 0 where
   pub told : new.told ≡ old.told

@@ -109,10 +109,11 @@ pub trait Disk<M: Made>: Send {
         ensures cause { HasFaultCause (λ e. e ≡ OpenFailed) (story self.old).faults (story self.new).faults result }
         ensures read_cause { (story self.new).read_faults ≡ (story self.old).read_faults };
 
-    /// Takes a reader back. Where it has failed, the count of read faults rises.
+    /// Takes a reader back. Where it has failed, and only there, the count of read faults rises.
     fn retire(&mut self, reader: Self::Reader)
         ensures unmoved { Unmoved (story self.old) (story self.new) }
         ensures counted { 0 < Self.Reader.faults reader → Rose (story self.old).read_faults (story self.new).read_faults }
+        ensures quiet { Self.Reader.faults reader ≡ 0 → (story self.new).read_faults ≡ (story self.old).read_faults }
         ensures later { (story self.old).read_faults ≤ (story self.new).read_faults }
         ensures cause { (story self.new).faults ≡ (story self.old).faults };
 

@@ -26,7 +26,8 @@ pub trait Draft<M: Made>: Send + Sized {
         ensures bytes { IfOk result (λ m. M.bytes m ≡ bytes self) }
         ensures id { IfOk result (λ m. M.id_of m ≡ id_of self) }
         ensures given_back { IfErr result (λ e. (bytes e.1 ≡ bytes self) × (id_of e.1 ≡ id_of self)) }
-        ensures cause { IfErr result (λ e. (faults self ≤ faults e.1) × (e.0 ≡ Failed → Rose (faults self) (faults e.1))) };
+        ensures cause { IfErr result (λ e. (faults self ≤ faults e.1) × (e.0 ≡ Failed → Rose (faults self) (faults e.1))) }
+        ensures quiet { IfErr result (λ e. (e.0 ≡ Failed → ⊥) → faults e.1 ≡ faults self) };
 }
 
 /// Where drafts are made.
@@ -43,8 +44,9 @@ pub trait Bench<M: Made>: Send {
         ensures fresh { IfOk result (λ d. Self.Draft.faults d ≡ 0) }
         ensures cause { HasFaultCause (λ e. e ≡ Failed) (faults self.old) (faults self.new) result };
 
-    /// Takes back a draft that isn't finished. Where it has failed, the bench's count rises.
+    /// Takes back a draft that isn't finished. Where it has failed, and only there, the bench's count rises.
     fn spoil(&mut self, failed: Self::Draft)
         ensures counted { 0 < Self.Draft.faults failed → Rose (faults self.old) (faults self.new) }
+        ensures quiet { Self.Draft.faults failed ≡ 0 → faults self.new ≡ faults self.old }
         ensures later { faults self.old ≤ faults self.new };
 }

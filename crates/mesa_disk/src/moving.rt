@@ -1,7 +1,7 @@
 ghost use Rattle.std.specs.Prelude.{◌≡◌, ◌≤◌, ℕ, List, Some, OnOk};
 ghost use Rattle.mesa_disk.specs.declared.area.Area.{Area};
 ghost use Rattle.mesa_disk.specs.Image.{Image};
-ghost use Rattle.mesa_disk.specs.Files.{files_of, AddsAll, AddsSome, AreAbsent, HasDistinctIds, LosesAll, LosesSome};
+ghost use Rattle.mesa_disk.specs.Files.{files_of, AddsAll, AddsFirst, AreAbsent, AreGone, AreThere, HasDistinctIds, HasOtherIds, IsNoneOf, LosesAll, LosesFirst, LosesSome, OthersStay};
 ghost use Rattle.mesa_disk.specs.Story.{Steps, After, Follows, Elapses};
 ghost use Rattle.mesa_fault.specs.Causes.{HasCause};
 
@@ -26,11 +26,15 @@ pub fn adopt_all<M: Made, D: Disk<M>>(
     ensures adopted { OnOk result (Steps (AddsAll (files_of M.bytes made.items)) (D.story disk.old).told (D.story disk.new).told) }
     ensures stays { OnOk result (Follows (AddsAll (files_of M.bytes made.items)) (D.story disk.old).may_leave (D.story disk.new).may_leave) }
 
-    // Whatever it answers, a read gives none, some or all of them more.
-    ensures partly { Steps (AddsSome (files_of M.bytes made.items)) (D.story disk.old).told (D.story disk.new).told }
+    ensures all { OnOk result ((i : Image) → (D.story disk.new).told ≡ Some i → AreThere (files_of M.bytes made.items) i) }
 
-    // A crash at any moment leaves what one before would have left, with none, some or all of the files.
-    ensures any_moment { Elapses (After (AddsSome (files_of M.bytes made.items)) (D.story disk.old).may_leave) (D.story disk.old) (D.story disk.new) }
+    // Whatever it answers, a read gives the first few of them more, and else what it gave before.
+    ensures partly { Steps (AddsFirst (files_of M.bytes made.items)) (D.story disk.old).told (D.story disk.new).told }
+    ensures only { Steps (OthersStay (λ id. HasOtherIds id (files_of M.bytes made.items))) (D.story disk.old).told (D.story disk.new).told }
+
+    // A crash at any moment, and whatever it answers a crash now, leaves what one before would have left, with the first few of the files.
+    ensures any_moment { Elapses (After (AddsFirst (files_of M.bytes made.items)) (D.story disk.old).may_leave) (D.story disk.old) (D.story disk.new) }
+    ensures left { Follows (AddsFirst (files_of M.bytes made.items)) (D.story disk.old).may_leave (D.story disk.new).may_leave }
 
     ensures len { (a : Area) → (D.story disk.new).len a ≡ (D.story disk.old).len a }
     ensures cause { HasCause (D.story disk.old).faults (D.story disk.new).faults result }
@@ -46,11 +50,15 @@ pub fn adopt_all<M: Made, D: Disk<M>>(
 pub fn remove_all<M: Made, D: Disk<M>>(disk: &mut D, ids: &[FileId]) -> Result<(), DiskFailed>
     ensures removed { OnOk result (Steps (LosesAll ids.now) (D.story disk.old).told (D.story disk.new).told) }
 
-    // Whatever it answers, a read gives none, some or all of them less.
-    ensures partly { Steps (LosesSome ids.now) (D.story disk.old).told (D.story disk.new).told }
+    ensures all { OnOk result ((i : Image) → (D.story disk.new).told ≡ Some i → AreGone ids.now i) }
 
-    // A crash at any moment leaves what one before would have left, with none, some or all of the files missing.
+    // Whatever it answers, a read gives the first few of them no more, and else what it gave before.
+    ensures partly { Steps (LosesFirst ids.now) (D.story disk.old).told (D.story disk.new).told }
+    ensures only { Steps (OthersStay (IsNoneOf ids.now)) (D.story disk.old).told (D.story disk.new).told }
+
+    // A crash at any moment, and whatever it answers a crash now, leaves what one before would have left, with none, some or all of the files missing.
     ensures any_moment { Elapses (After (LosesSome ids.now) (D.story disk.old).may_leave) (D.story disk.old) (D.story disk.new) }
+    ensures left { Follows (LosesSome ids.now) (D.story disk.old).may_leave (D.story disk.new).may_leave }
 
     ensures len { (a : Area) → (D.story disk.new).len a ≡ (D.story disk.old).len a }
     ensures cause { HasCause (D.story disk.old).faults (D.story disk.new).faults result }

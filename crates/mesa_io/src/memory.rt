@@ -81,7 +81,6 @@ impl Source for MemSource {
         ensures full { IfOk result (λ k. k ≡ min (length self.old.left) (length buf.new)) }
         ensures same { self.new.fails ≡ self.old.fails }
         ensures calls { self.new.calls ≡ min (self.old.calls + 1) last }
-        ensures no_fault { OnOk result (self.new.faults ≡ self.old.faults) }
     {
         let number = self.calls;
         self.calls = number.saturating_add(1);
@@ -139,7 +138,6 @@ impl Sink for MemSink {
         ensures whole { IfOk result (λ k. k ≡ length piece.now) }
         ensures same { self.new.fails ≡ self.old.fails }
         ensures calls { self.new.calls ≡ min (self.old.calls + 1) last }
-        ensures no_fault { OnOk result (self.new.faults ≡ self.old.faults) }
     {
         let number = self.calls;
         self.calls = number.saturating_add(1);

@@ -53,7 +53,9 @@ impl<R: Read> Source for StdSource<R> {
 
 impl<W: Write> StdSink<W> {
     ghost use Rattle.mesa_io.specs.Standard.{sink_faults, sink_writer};
+    ghost use Rattle.mesa_fault.specs.Causes.{HasCause};
     ghost use Rattle.std.specs.Prelude.{◌≡◌};
+    ghost use Rattle.std.specs.Io.KnownBytes.{Keeps};
 
     /// A sink that writes to the writer.
     pub fn new(inner: W) -> Self
@@ -64,6 +66,18 @@ impl<W: Write> StdSink<W> {
             inner,
             faults: FaultCount::new(),
         }
+    }
+
+    /// Lets the writer hand on what it holds back. Where it can't, the sink has failed.
+    pub fn flush(&mut self) -> Result<(), SinkFailed>
+        ensures bytes { Keeps (W.contents (sink_writer self.old)) (W.contents (sink_writer self.new)) }
+        ensures cause { HasCause (sink_faults self.old) (sink_faults self.new) result }
+    {
+        if self.inner.flush().is_ok() {
+            return Ok(());
+        }
+        self.faults.rise();
+        Err(SinkFailed)
     }
 }
 

@@ -2,7 +2,7 @@
 ghost use Rattle.std.specs.Prelude.{◌≡◌, ◌<◌, ◌≤◌, ℕ, List, take, drop, length, vec_len, IfOk, IfErr, OnErr, OnOk, IfSome, Err};
 ghost use Rattle.std.specs.Io.{ReadsAtMost};
 ghost use Rattle.std.specs.Io.KnownBytes.{Appends, Consumes, IsAtEnd, ReadConsumes};
-ghost use Rattle.mesa_fault.specs.Causes.{HasCause, Rose};
+ghost use Rattle.mesa_fault.specs.Causes.{HasCause, HasFaultCause};
 ghost use Rattle.mesa_io.specs.Moves.{MovesOn};
 ghost use Rattle.mesa_io.specs.declared.whole.ReadError.TheVariants as read_error;
 
@@ -75,9 +75,8 @@ pub fn read_all<S: Source>(alloc: Global, src: &mut S, max: u64) -> Result<Vec<u
     ensures within { IfOk result (λ v. vec_len v ≤ max) }
     ensures limit { (m : ℕ) → result ≡ Err (read_error.TooLong m) → m ≡ max }
     ensures too_long { (m : ℕ) → result ≡ Err (read_error.TooLong m) → IfSome (S.left src.old) (λ xs. max < length xs) }
-    ensures fault { result ≡ Err read_error.Fault → Rose (S.faults src.old) (S.faults src.new) }
+    ensures cause { HasFaultCause (λ e. e ≡ read_error.Fault) (S.faults src.old) (S.faults src.new) result }
     ensures moves { OnErr result (MovesOn (S.left src.old) (S.left src.new)) }
-    ensures later { S.faults src.old ≤ S.faults src.new }
 {
     let mut bytes = Vec::new(alloc);
     let mut filled = 0;

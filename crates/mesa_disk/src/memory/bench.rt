@@ -1,5 +1,5 @@
 //! Drafts in memory, of which chosen calls fail.
-ghost use Rattle.std.specs.Prelude.{◌≡◌, ◌↔◌, ◌+◌, ◌≤◌, min, ℕ, List, [], ◌++◌, IfOk, IfErr, IsErr, IsTrue, OnOk, Some, Err, option_map};
+ghost use Rattle.std.specs.Prelude.{◌≡◌, ◌↔◌, ◌+◌, ◌<◌, ◌≤◌, min, ℕ, List, [], ◌++◌, IfOk, IfErr, IsErr, IsTrue, OnOk, Some, Err, option_map};
 ghost use Rattle.mesa_fault.specs.Causes.{last, Rose, HasFaultCause};
 ghost use Rattle.mesa_disk.specs.declared.failures.DraftError.TheVariants.{Failed as DraftFailed};
 
@@ -52,7 +52,9 @@ impl Draft<MemMade> for MemDraft {
         ensures id { IfOk result (λ m. made_id m ≡ draft_id self) }
         ensures given_back { IfErr result (λ e. (Some (draft_bytes e.1) ≡ Some (draft_bytes self)) × (draft_id e.1 ≡ draft_id self)) }
         ensures cause { IfErr result (λ e. (draft_faults self ≤ draft_faults e.1) × (e.0 ≡ DraftFailed → Rose (draft_faults self) (draft_faults e.1))) }
+        ensures quiet { IfErr result (λ e. (e.0 ≡ DraftFailed → ⊥) → draft_faults e.1 ≡ draft_faults self) }
         ensures due { IfErr result (λ e. e.0 ≡ DraftFailed → CallIsDue self) }
+        ensures counted { IfErr result (λ e. CountsCall self e.1) }
         ensures fails { CallIsDue self → IsErr result }
     {
         if self.is_due() {
@@ -174,7 +176,13 @@ impl Bench<MemMade> for MemBench {
         })
     }
 
-    fn spoil(&mut self, failed: MemDraft) {
+    fn spoil(&mut self, failed: MemDraft)
+        ensures counted { 0 < draft_faults failed → Rose (bench_faults self.old) (bench_faults self.new) }
+        ensures quiet { draft_faults failed ≡ 0 → bench_faults self.new ≡ bench_faults self.old }
+        ensures later { bench_faults self.old ≤ bench_faults self.new }
+        ensures drafts { drafts_made self.new ≡ drafts_made self.old }
+        ensures same { failing_calls self.new ≡ failing_calls self.old }
+    {
         if failed.faults.get() > 0 {
             self.faults.rise();
         }

@@ -1,5 +1,5 @@
 //! A disk in memory, of which chosen calls fail.
-ghost use Rattle.std.specs.Prelude.{◌≡◌, ◌↔◌, ◌+◌, ◌^◌, ◌<◌, ◌≤◌, min, max, ℕ, List, [], length, take, drop, IfOk, IfErr, IfSome, IsErr, IsTrue, OnOk, None, Some};
+ghost use Rattle.std.specs.Prelude.{◌≡◌, ◌↔◌, ◌+◌, ◌^◌, ◌<◌, ◌≤◌, min, max, ℕ, List, [], length, take, drop, IfOk, IfErr, IfSome, IsErr, IsTrue, OnErr, OnOk, None, Some};
 ghost use Rattle.std.specs.List.{Contains};
 ghost use Rattle.std.specs.FinMap.{from_entries, keys};
 ghost use Rattle.std.proofs.Common.{inl};
@@ -8,7 +8,7 @@ ghost use Rattle.mesa_disk.specs.declared.area.Area.{Area};
 ghost use Rattle.mesa_disk.specs.declared.failures.OpenFault.TheVariants.{Failed as OpenFailed, Absent};
 ghost use Rattle.mesa_disk.specs.declared.failures.ListFault.TheVariants.{Failed as ListFailed};
 ghost use Rattle.mesa_disk.specs.Image.{area_of, file_of, Overwrites, Tears, Adopts, Loses, May};
-ghost use Rattle.mesa_disk.specs.Spoiled.{read_spoiled_for};
+ghost use Rattle.mesa_disk.specs.Spoiled.{read_spoiled_for, read_spoiled_past};
 ghost use Rattle.mesa_disk.specs.Story.{Steps, Follows, Elapses, Unmoved};
 ghost use Rattle.mesa_disk.specs.Recorded.{AllBefore, AllBefore-prop, start_image};
 
@@ -68,8 +68,12 @@ impl MemDisk {
         ensures left { IfOk result (λ d. (c : Image) → (story_of d).told ≡ Some c → (story_of self.now).may_have_left moment c) }
         ensures synced { IfOk result (λ d. (c : Image) → (story_of d).may_leave c → (story_of d).told ≡ Some c) }
 
-        // No call of it is to fail.
+        // It begins anew, and no call of it is to fail.
+        ensures moment { IfOk result (λ d. (story_of d).moment ≡ 0) }
+        ensures faults { IfOk result (λ d. (story_of d).faults ≡ 0) }
+        ensures read_faults { IfOk result (λ d. (story_of d).read_faults ≡ 0) }
         ensures fails { IfOk result (λ d. failing_calls d ≡ []) }
+        ensures counted { IfOk result (λ d. calls_made d ≡ 0) }
         ensures unspoiled { IfOk result (λ d. spoiled_read d ≡ None) }
     {
         let held = self.log.image(self.alloc, moment, pick)?;
@@ -129,7 +133,7 @@ fn is_due(counted: &mut u64, fails: &[u64]) -> bool
 // The read that was named for a file, which is named no longer.
 fn take_spoiled(spoiled: &mut Option<(FileId, u64)>, id: FileId) -> Option<u64>
     ensures taken { result ≡ read_spoiled_for id spoiled.old }
-    ensures left { read_spoiled_for id spoiled.new ≡ None }
+    ensures left { spoiled.new ≡ read_spoiled_past id spoiled.old }
 {
     if let Some((file, nth)) = *spoiled {
         if file == id {
@@ -145,7 +149,7 @@ impl Disk<MemMade> for MemDisk {
 
     ghost use Rattle.mesa_disk.specs.Image.{Image};
     ghost use Rattle.mesa_disk.specs.MemFiles.{failing_read, made_bytes, reader_bytes, reader_faults};
-    ghost use Rattle.mesa_disk.specs.Memory.{spoiled_read, start_of, seen_of, story_of, IsDue, FailsIfDue};
+    ghost use Rattle.mesa_disk.specs.Memory.{spoiled_read, start_of, seen_of, story_of, IsDue, FailsIfDue, KeepsFailures};
     ghost use Rattle.mesa_disk.specs.MemoryLaws.{area_small, told_is_left, told_len, left_earlier, only_present};
 
     ghost story = { story_of };
@@ -179,6 +183,7 @@ impl Disk<MemMade> for MemDisk {
         ensures cause { HasCause (story_of self.old).faults (story_of self.new).faults result }
         ensures read_cause { (story_of self.new).read_faults ≡ (story_of self.old).read_faults }
         ensures due { FailsIfDue self.old self.new result }
+        ensures spoiled { spoiled_read self.new ≡ spoiled_read self.old }
         ensures only { IsErr result → IsDue self.old }
     {
         if is_due(&mut self.counted, &self.fails) {
@@ -206,6 +211,7 @@ impl Disk<MemMade> for MemDisk {
         ensures cause { HasCause (story_of self.old).faults (story_of self.new).faults result }
         ensures read_cause { (story_of self.new).read_faults ≡ (story_of self.old).read_faults }
         ensures due { FailsIfDue self.old self.new result }
+        ensures spoiled { spoiled_read self.new ≡ spoiled_read self.old }
     {
         let before = self.clock;
         self.clock = before.saturating_add(1);
@@ -231,6 +237,7 @@ impl Disk<MemMade> for MemDisk {
         ensures cause { HasCause (story_of self.old).faults (story_of self.new).faults result }
         ensures read_cause { (story_of self.new).read_faults ≡ (story_of self.old).read_faults }
         ensures due { FailsIfDue self.old self.new result }
+        ensures spoiled { spoiled_read self.new ≡ spoiled_read self.old }
     {
         let before = self.clock;
         self.clock = before.saturating_add(1);
@@ -260,6 +267,7 @@ impl Disk<MemMade> for MemDisk {
         ensures cause { HasCause (story_of self.old).faults (story_of self.new).faults result }
         ensures read_cause { (story_of self.new).read_faults ≡ (story_of self.old).read_faults }
         ensures due { FailsIfDue self.old self.new result }
+        ensures spoiled { spoiled_read self.new ≡ spoiled_read self.old }
     {
         let before = self.clock;
         self.clock = before.saturating_add(1);
@@ -288,6 +296,7 @@ impl Disk<MemMade> for MemDisk {
         ensures cause { HasCause (story_of self.old).faults (story_of self.new).faults result }
         ensures read_cause { (story_of self.new).read_faults ≡ (story_of self.old).read_faults }
         ensures due { FailsIfDue self.old self.new result }
+        ensures spoiled { spoiled_read self.new ≡ spoiled_read self.old }
     {
         let before = self.clock;
         self.clock = before.saturating_add(1);
@@ -315,7 +324,8 @@ impl Disk<MemMade> for MemDisk {
 
         // The read that `spoil_read` named for the file fails of this reader, and of no later one.
         ensures spoiled { IfOk result (λ r. failing_read r ≡ read_spoiled_for id (spoiled_read self.old)) }
-        ensures healed { OnOk result (read_spoiled_for id (spoiled_read self.new) ≡ None) }
+        ensures healed { OnOk result (spoiled_read self.new ≡ read_spoiled_past id (spoiled_read self.old)) }
+        ensures unhealed { OnErr result (spoiled_read self.new ≡ spoiled_read self.old) }
     {
         if is_due(&mut self.counted, &self.fails) {
             self.faults.rise();
@@ -338,7 +348,14 @@ impl Disk<MemMade> for MemDisk {
         })
     }
 
-    fn retire(&mut self, reader: MemReader) {
+    fn retire(&mut self, reader: MemReader)
+        ensures unmoved { Unmoved (story_of self.old) (story_of self.new) }
+        ensures counted { 0 < reader_faults reader → Rose (story_of self.old).read_faults (story_of self.new).read_faults }
+        ensures quiet { reader_faults reader ≡ 0 → (story_of self.new).read_faults ≡ (story_of self.old).read_faults }
+        ensures later { (story_of self.old).read_faults ≤ (story_of self.new).read_faults }
+        ensures cause { (story_of self.new).faults ≡ (story_of self.old).faults }
+        ensures failures { KeepsFailures self.old self.new }
+    {
         if reader.faults.get() > 0 {
             self.read_faults.rise();
         }
@@ -350,6 +367,7 @@ impl Disk<MemMade> for MemDisk {
         ensures cause { HasFaultCause (λ e. e ≡ ListFailed) (story_of self.old).faults (story_of self.new).faults result }
         ensures read_cause { (story_of self.new).read_faults ≡ (story_of self.old).read_faults }
         ensures due { FailsIfDue self.old self.new result }
+        ensures spoiled { spoiled_read self.new ≡ spoiled_read self.old }
         ensures only { IfErr result (λ e. e ≡ ListFailed → IsDue self.old) }
     {
         if is_due(&mut self.counted, &self.fails) {

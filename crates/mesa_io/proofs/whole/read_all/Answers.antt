@@ -12,5 +12,5 @@ pieces-preserved g c = record {
   taken = Consumes-behind _ _ _ c.pieces.filled c.in-Ok-take_behind.count _ c.take_behind.new.bytes.items c.pieces.invariant.taken (c.take_behind.ensures.same ∙ c.in-Ok.ensures.same) (c.in-Ok-take_behind.ensures.bytes.0);
   within = grind (arith, common_steps);
   few = omega (arith, c.if-filled-max.false);
-  later = omega arith;
+  quiet = omega (arith, c.in-Ok-take_behind.ensures.cause.quiet);
 }

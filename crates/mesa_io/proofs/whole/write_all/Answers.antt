@@ -7,5 +7,5 @@ pub pieces-preserved : goal.pieces-preserved
 pieces-preserved g c = record {
   put = Appends-behind _ _ _ c.pieces.at c.in-Ok.count c.args.bytes.now c.pieces.invariant.within c.pieces.invariant.put c.in-Ok.ensures.bytes;
   within = grind (arith, common_steps);
-  later = omega arith;
+  quiet = omega (arith, c.in-Ok.ensures.cause.quiet);
 }
