@@ -1,9 +1,9 @@
 -- What a crash leaves at each moment of an append.
 use Rattle.std.proofs.Common.{◌≡◌, ℕ, ◌+◌, ◌^◌, ◌<◌, List, [], ◌∷◌, ◌++◌, length, Option, Some, ◌∙◌, ap, subst, inl}
 use Rattle.mesa_disk.specs.Image.{Image, area_of, with_area, overwritten, Torn, InArea, Overwrites, Tears}
-use Rattle.mesa_disk.specs.Story.{Story, Steps, After, Follows, Elapses}
+use Rattle.mesa_disk.specs.Story.{Story, Steps, After, Follows, Elapses, Spans}
 use Rattle.mesa_disk.specs.declared.area.Area.{Area}
-use Rattle.mesa_disk.proofs.Run.{starts, goes_on, area_of-with_area, with_area-with_area}
+use Rattle.mesa_disk.proofs.Run.{spans_further, starts, goes_on, area_of-with_area, with_area-with_area}
 use Rattle.mesa_journal.specs.Journal.{Closed, record_bytes}
 use Rattle.mesa_journal.specs.Settled.{IsSettled, IsWithinAppend}
 use Rattle.mesa_journal.proofs.Bytes.{Staged, closed_torn, closed_written, staged_torn, staged_either, staged_written}
@@ -12,22 +12,9 @@ use Rattle.mesa_journal.proofs.Bytes.{Staged, closed_torn, closed_written, stage
 abbrev IsStaged : Story → Area → List (List ℕ) → ℕ → List ℕ → Image → Type 0
 IsStaged start area bodies end body = After (InArea area (λ old new. Staged new bodies end body)) start.may_leave
 
--- so far each image has P: at each moment, and now
-pub record SoFar (P : Image → Type 0) (start now : Story) : Type 0 where
-  pub run : Elapses P start now
-  pub left : (c : Image) → now.may_leave c → P c
-
--- one call more
-pub further : (P : Image → Type 0) (start mid now : Story) → SoFar P start mid → ((c : Image) → now.may_leave c → P c) → Elapses now.may_leave mid now → SoFar P start now
-further P start mid now so_far left time = record { run = goes_on P now.may_leave start mid now so_far.run time left; left = left }
-
--- one sync more
-pub synced : (P : Image → Type 0) (start mid now : Story) → SoFar P start mid → ((c : Image) → now.may_leave c → mid.may_leave c) → Elapses now.may_leave mid now → SoFar P start now
-synced P start mid now so_far crash time = further P start mid now so_far (λ c left. so_far.left c (crash c left)) time
-
 module _ (start : Story) (area : Area) (bodies : List (List ℕ)) (end : ℕ) (body : List ℕ) (small : length body < 2 ^ 32) (settled : IsSettled start area bodies end) where
   -- once the record was written, or not whole
-  pub written : (n : ℕ) (now : Story) → Follows (Tears area (end + 1) n) start.may_leave now.may_leave → Elapses now.may_leave start now → SoFar (IsWithinAppend start area bodies end body) start now
+  pub written : (n : ℕ) (now : Story) → Follows (Tears area (end + 1) n) start.may_leave now.may_leave → Elapses now.may_leave start now → Spans (IsWithinAppend start area bodies end body) start now
   written n now crash time =
       let left = λ (c : Image) (left : now.may_leave c). (
       let from = crash c left in
@@ -64,12 +51,12 @@ module _ (start : Story) (area : Area) (bodies : List (List ℕ)) (end : ℕ) (b
       )
 
   -- once the gate was written, or not
-  pub gated : (mid now : Story) → SoFar (IsWithinAppend start area bodies end body) start mid → ((c : Image) → mid.told ≡ Some c → IsStaged start area bodies end body c)
+  pub gated : (mid now : Story) → Spans (IsWithinAppend start area bodies end body) start mid → ((c : Image) → mid.told ≡ Some c → IsStaged start area bodies end body c)
       → ((c : Image) → mid.may_leave c → mid.told ≡ Some c) → (gate : List ℕ) → gate ≡ 1 ∷ [] → Follows (Tears area end (length gate)) mid.may_leave now.may_leave → Elapses now.may_leave mid now
-      → SoFar (IsWithinAppend start area bodies end body) start now
+      → Spans (IsWithinAppend start area bodies end body) start now
   gated mid now so_far is_staged only gate gate_is crash time =
       let torn = subst (λ (l : List ℕ). Follows (Tears area end (length l)) mid.may_leave now.may_leave) gate_is crash in
-      further _ start mid now so_far (λ c left. within c (torn_gate mid.told mid.may_leave now.may_leave is_staged only torn c left)) time
+      spans_further _ start mid now so_far (λ c left. within c (torn_gate mid.told mid.may_leave now.may_leave is_staged only torn c left)) time
 
   -- what a read gives once the gate is open
   pub opened : (told new : Option Image) → ((c : Image) → told ≡ Some c → IsStaged start area bodies end body c) → (gate : List ℕ) → gate ≡ 1 ∷ []

@@ -1,7 +1,10 @@
 -- The bytes behind an open gate.
-use Rattle.std.proofs.Common.{◌≡◌, ℕ, zero, suc, ◌+◌, ◌-◌, ◌^◌, ◌<◌, ◌≤◌, List, [], ◌∷◌, ◌++◌, length, get_or, take, drop, refl, sym, ◌∙◌, ap, arith, append_assoc, length-append, length-drop, take-append-drop}
-use Rattle.std.proofs.lemmas.List.{drop_at, length-take-le}
+use Rattle.std.proofs.Common.{◌≡◌, ℕ, zero, suc, ◌+◌, ◌-◌, ◌^◌, ◌<◌, ◌≤◌, List, [], ◌∷◌, ◌++◌, length, get_or, take, drop, refl, sym, ◌∙◌, ap, arith, append_assoc, length-append, length-drop, take-append-drop, inl, inr, lit<}
+use Rattle.std.specs.List.{AllByRecursion}
+use Rattle.std.proofs.lemmas.Bool.{cases_lt}
+use Rattle.std.proofs.lemmas.List.{drop_at, get_or-take, get_or_past, length-take, length-take-le}
 use Rattle.std.proofs.lemmas.Nat.{be_bytes_4}
+use Rattle.mesa_key.specs.Spelling.{AreBytes}
 use Rattle.mesa_journal.specs.Journal.{word, of_word, needed_of, frames, AllFit}
 use Rattle.mesa_journal.specs.Read.{placed_from}
 use Rattle.mesa_journal.specs.declared.reading.Body.{Body}
@@ -75,3 +78,15 @@ placed_from-push from (b ∷ bodies) body at is =
     let next : at ≡ from + length b + 5 + length (frames bodies) =
     omega (arith, is, length-append (word (length b) ++ b) (frames bodies), length-append (word (length b)) b, length-word (length b)) in
     ap (λ (l : List Body). record { at = from; bytes = b } ∷ l) (placed_from-push (from + length b + 5) bodies body at next)
+
+-- bytes from the front of bytes
+pub bytes_within : (n : ℕ) (l : List ℕ) → AreBytes l → AreBytes (take n l)
+bytes_within n l all i = elim (cases_lt i n) [
+  | inl lt ↦ rw (get_or-take n l i 0 lt) (all i)
+  | inr ge ↦ rw (get_or_past (take n l) i 0 (omega (arith, length-take n l))) (lit< tt)
+]
+
+-- one body of bytes more
+pub bytes_push : (bodies : List (List ℕ)) (body : List ℕ) → AllByRecursion AreBytes bodies → AreBytes body → AllByRecursion AreBytes (bodies ++ body ∷ [])
+bytes_push [] body all is = (is, tt)
+bytes_push (b ∷ bodies) body all is = (all.0, bytes_push bodies body all.1 is)

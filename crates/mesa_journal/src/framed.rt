@@ -1,4 +1,5 @@
 ghost use Rattle.std.specs.Prelude.{◌≡◌, ◌^◌, ◌<◌, [], ◌∷◌, length, IfOk};
+ghost use Rattle.mesa_key.specs.Spelling.{AreBytes};
 ghost use Rattle.mesa_journal.specs.Journal.{record_bytes};
 
 use mesa_list::TryCopy;
@@ -14,13 +15,14 @@ pub struct Framed {
 
 impl Model for Framed {
     ghost use Rattle.std.specs.Prelude.{◌≡◌, ◌-◌, ◌<◌, ◌^◌, ◌∷◌, ℕ, List, length, take, drop};
+    ghost use Rattle.mesa_key.specs.Spelling.{AreBytes};
     ghost use Rattle.mesa_journal.specs.Journal.{body_of_frame, record_bytes};
 
     ghost Value = { List ℕ };
 
     ghost view = { λ f. body_of_frame f.frame.items };
 
-    ghost invariant = { λ f. (f.frame.items ≡ 1 ∷ record_bytes (body_of_frame f.frame.items)) × (length (body_of_frame f.frame.items) < 2 ^ 32) };
+    ghost invariant = { λ f. (f.frame.items ≡ 1 ∷ record_bytes (body_of_frame f.frame.items)) × (length (body_of_frame f.frame.items) < 2 ^ 32) × AreBytes (body_of_frame f.frame.items) };
 }
 
 impl Framed {
@@ -50,6 +52,7 @@ impl Framed {
     pub(crate) fn behind_gate(&self) -> &[u8]
         ensures bytes { result.now ≡ record_bytes self.now }
         ensures fits { length self.now < 2 ^ 32 }
+        ensures body { AreBytes self.now }
     {
         &self.frame()[1..]
     }
@@ -58,6 +61,7 @@ impl Framed {
     pub(crate) fn frame(&self) -> &[u8]
         ensures bytes { result.now ≡ 1 ∷ record_bytes self.now }
         ensures fits { length self.now < 2 ^ 32 }
+        ensures body { AreBytes self.now }
     {
         &self.frame
     }

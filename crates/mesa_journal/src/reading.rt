@@ -1,9 +1,11 @@
-ghost use Rattle.std.specs.Prelude.{◌≡◌, ◌+◌, ◌^◌, ◌<◌, ◌++◌, ℕ, List, length, Some, IfErr, IfSome, IsNone};
+ghost use Rattle.std.specs.Prelude.{◌≡◌, ◌+◌, ◌^◌, ◌<◌, ◌++◌, ℕ, List, length, Some, IfOk, IfErr, IfSome, IsNone};
+ghost use Rattle.std.specs.List.{AllByRecursion};
 ghost use Rattle.mesa_fault.specs.Causes.{HasFaultCause};
 ghost use Rattle.mesa_disk.specs.Image.{Image, area_of};
 ghost use Rattle.mesa_disk.specs.Story.{Unmoved};
+ghost use Rattle.mesa_key.specs.Spelling.{AreBytes};
 ghost use Rattle.mesa_journal.specs.Journal.{IsJournal, IsDamaged, word, needed_of};
-ghost use Rattle.mesa_journal.specs.Read.{Finds, Agrees, AgreesOnDamage};
+ghost use Rattle.mesa_journal.specs.Read.{bodies_of, Finds, Agrees, AgreesOnDamage};
 ghost use Rattle.mesa_journal.specs.declared.reading.JournalError.TheVariants.{Fault, Memory as WantOfMemory};
 
 use mesa_disk::{Area, ByteList, Disk, Made};
@@ -86,6 +88,7 @@ pub fn read_journal<M: Made, D: Disk<M>>(
     ensures whole { (i : Image) (bodies : List (List ℕ)) (end : ℕ) → (D.story disk.old).told ≡ Some i → IsJournal (area_of area i) bodies end → Agrees bodies end result }
     ensures damaged { (i : Image) (at want : ℕ) → (D.story disk.old).told ≡ Some i → IsDamaged (area_of area i) at want → AgreesOnDamage (area_of area i) at want result }
 
+    ensures bytes { IfOk result (λ read. AllByRecursion AreBytes (bodies_of read.bodies)) }
     ensures unmoved { Unmoved (D.story disk.old) (D.story disk.new) }
     ensures cause { HasFaultCause (λ e. e ≡ Fault) (D.story disk.old).faults (D.story disk.new).faults result }
     ensures read_cause { (D.story disk.new).read_faults ≡ (D.story disk.old).read_faults }
@@ -101,6 +104,7 @@ fn parse(alloc: Global, area: &[u8]) -> Result<JournalRead, JournalError>
     ensures found { Finds area.now result }
     ensures whole { (bodies : List (List ℕ)) (end : ℕ) → IsJournal area.now bodies end → Agrees bodies end result }
     ensures damaged { (at want : ℕ) → IsDamaged area.now at want → AgreesOnDamage area.now at want result }
+    ensures bytes { IfOk result (λ read. AllByRecursion AreBytes (bodies_of read.bodies)) }
     ensures no_fault { IfErr result (λ e. e ≡ Fault → ⊥) }
 {
     parse_records(alloc, area)
@@ -108,6 +112,7 @@ fn parse(alloc: Global, area: &[u8]) -> Result<JournalRead, JournalError>
 
 fn parse_records(alloc: Global, area: &[u8]) -> Result<JournalRead, JournalError>
     ensures found { Finds area.now result }
+    ensures bytes { IfOk result (λ read. AllByRecursion AreBytes (bodies_of read.bodies)) }
     ensures no_fault { IfErr result (λ e. e ≡ Fault → ⊥) }
 {
     let mut bodies = Items::new(alloc);
@@ -150,6 +155,7 @@ fn needed(tail: &[u8]) -> u64
 // The body behind an open gate, where it and the next gate are whole.
 fn whole_body(tail: &[u8]) -> Option<&[u8]>
     ensures body { IfSome result (λ body. (length body.now < 2 ^ 32) × ((rest : List ℕ) × (0 < length rest) × (tail.now ≡ word (length body.now) ++ body.now ++ rest))) }
+    ensures bytes { IfSome result (λ body. AreBytes body.now) }
     ensures short { IsNone result → length tail.now + 1 < needed_of tail.now }
 {
     let [a, b, c, d, rest @ ..] = tail else {

@@ -1,8 +1,9 @@
 ghost use Rattle.std.specs.Prelude.{◌≡◌, ◌+◌, ◌<◌, ◌≤◌, ℕ, List, [], ◌∷◌, ◌++◌, length, IfOk, OnOk, Some};
 ghost use Rattle.mesa_fault.specs.Causes.{Rose, HasCause};
-ghost use Rattle.mesa_disk.specs.Story.{Steps, After, Elapses};
+ghost use Rattle.mesa_disk.specs.Story.{Steps, After, Follows, Elapses};
 ghost use Rattle.mesa_disk.specs.Image.{Image, area_of, InArea, AnyChange};
 ghost use Rattle.mesa_disk.specs.declared.area.Area.{Area};
+ghost use Rattle.mesa_key.specs.Spelling.{AreBytes};
 ghost use Rattle.mesa_journal.specs.Journal.{IsJournal};
 ghost use Rattle.mesa_journal.specs.Settled.{IsSettled, IsWithinAppend};
 
@@ -21,6 +22,7 @@ pub fn append<M: Made, D: Disk<M>>(
 ) -> Result<u64, DiskFailed>
     requires { end < (D.story disk.old).len area }
     ensures end { IfOk result (λ new_end. new_end ≡ end + length framed.now + 5) }
+    ensures bytes { AreBytes framed.now }
 
     // After it a read gives one body more, and each image has it.
     ensures acknowledged { OnOk result ((bodies : List (List ℕ)) → IsSettled (D.story disk.old) area bodies end
@@ -53,9 +55,11 @@ pub fn close_gate<M: Made, D: Disk<M>>(disk: &mut D, area: Area) -> Result<(), D
     requires { (D.story disk.old).len area ≤ 1 }
     ensures settled { OnOk result (IsSettled (D.story disk.new) area [] 0) }
 
-    // A crash at any moment leaves an area without a record, and all else as a crash before would have left it.
+    // A crash at any moment, and whatever it answers a crash now, leaves an area without a record, and all else as a crash before would have left it.
     ensures any_moment { ((c : Image) → (D.story disk.old).may_leave c → length (area_of area c) ≤ 1)
         → Elapses (After (InArea area (λ _ new. IsJournal new [] 0)) (D.story disk.old).may_leave) (D.story disk.old) (D.story disk.new) }
+    ensures left { ((c : Image) → (D.story disk.old).may_leave c → length (area_of area c) ≤ 1)
+        → Follows (InArea area (λ _ new. IsJournal new [] 0)) (D.story disk.old).may_leave (D.story disk.new).may_leave }
 
     ensures durable { OnOk result ((c : Image) → (D.story disk.new).may_leave c → (D.story disk.new).told ≡ Some c) }
     ensures told { Steps (AnyChange area) (D.story disk.old).told (D.story disk.new).told }

@@ -1,8 +1,10 @@
 use Rattle.std.proofs.Common.{◌≡◌, ℕ, List, [], ◌∷◌, ◌+◌, ◌++◌, length, take, drop, get_or, ◌-◌, subst, sym, ◌∙◌, ap, arith, rules}
 use Rattle.std.proofs.lemmas.List.{drop_more, take_rest, map-append}
+use Rattle.std.specs.List.{AllByRecursion}
+use Rattle.mesa_key.specs.Spelling.{AreBytes}
 use Rattle.mesa_journal.specs.Read.{bodies_of, placed_from}
 use Rattle.mesa_journal.specs.declared.reading.Body.{Body}
-use Rattle.mesa_journal.proofs.Tails.{Parsed, parsed_more, placed_from-push}
+use Rattle.mesa_journal.proofs.Tails.{Parsed, bytes_push, parsed_more, placed_from-push}
 use Rattle.mesa_journal.proofs.reading.parse_records.Goals as goal
 
 pub loop-at-preserved : goal.loop-at-preserved
@@ -26,4 +28,5 @@ loop-at-preserved c =
     record {
       parsed = subst (λ (n : ℕ). Parsed area (bodies_of c.push.new.self) n) end (subst (λ bs. Parsed area bs (at + length body + 5)) (sym now) more);
       places = pushed ∙ ap (λ l. l ++ b ∷ []) c.loop-at.invariant.places ∙ placed_from-push 0 bodies body at (omega (arith, was.place)) ∙ ap (placed_from 0) (sym now);
+      bytes = subst (λ bs. AllByRecursion AreBytes bs) (sym now) (bytes_push bodies body c.loop-at.invariant.bytes c.in-Some.ensures.bytes);
     }

@@ -1,10 +1,10 @@
 use Rattle.std.proofs.Common.{◌≡◌, length, subst, sym, ◌∙◌, ap, arith, Some}
 use Rattle.mesa_disk.specs.Image.{Image, AnyChange}
 use Rattle.mesa_disk.specs.Story.{Steps}
-use Rattle.mesa_disk.proofs.Run.{told_changed, told_twice}
+use Rattle.mesa_disk.proofs.Run.{spans_synced, told_changed, told_twice}
 use Rattle.mesa_journal.specs.Settled.{IsWithinAppend}
 use Rattle.mesa_journal.proofs.Bytes.{length-record_bytes}
-use Rattle.mesa_journal.proofs.Appending.{synced, written, staged, gated, opened}
+use Rattle.mesa_journal.proofs.Appending.{written, staged, gated, opened}
 use Rattle.mesa_journal.proofs.writing.append.Goals as goal
 
 pub returns-clause-end : goal.returns-clause-end
@@ -44,7 +44,7 @@ returns-in_err-journal_sync-clause-any_moment g c bodies settled =
     let small = c.behind_gate-bytes.ensures.fits in
     let P = IsWithinAppend start area bodies end body in
     let one = written start area bodies end body small settled _ (story c.journal_write.new.self) c.journal_write.ensures.crash c.journal_write.ensures.time in
-    let two = synced P start (story c.journal_write.new.self) (story c.journal_sync.new.self) one c.journal_sync.ensures.crash c.journal_sync.ensures.time in
+    let two = spans_synced P start (story c.journal_write.new.self) (story c.journal_sync.new.self) one c.journal_sync.ensures.crash c.journal_sync.ensures.time in
     two.run
 
 pub returns-in_err-journal_sync-clause-left : goal.returns-in_err-journal_sync-clause-left
@@ -57,7 +57,7 @@ returns-in_err-journal_sync-clause-left g c bodies settled =
     let small = c.behind_gate-bytes.ensures.fits in
     let P = IsWithinAppend start area bodies end body in
     let one = written start area bodies end body small settled _ (story c.journal_write.new.self) c.journal_write.ensures.crash c.journal_write.ensures.time in
-    let two = synced P start (story c.journal_write.new.self) (story c.journal_sync.new.self) one c.journal_sync.ensures.crash c.journal_sync.ensures.time in
+    let two = spans_synced P start (story c.journal_write.new.self) (story c.journal_sync.new.self) one c.journal_sync.ensures.crash c.journal_sync.ensures.time in
     two.left
 
 pub returns-in_err-journal_write-2-clause-any_moment : goal.returns-in_err-journal_write-2-clause-any_moment
@@ -70,7 +70,7 @@ returns-in_err-journal_write-2-clause-any_moment g c bodies settled =
     let small = c.behind_gate-bytes.ensures.fits in
     let P = IsWithinAppend start area bodies end body in
     let one = written start area bodies end body small settled _ (story c.journal_write.new.self) c.journal_write.ensures.crash c.journal_write.ensures.time in
-    let two = synced P start (story c.journal_write.new.self) (story c.journal_sync.new.self) one c.journal_sync.ensures.crash c.journal_sync.ensures.time in
+    let two = spans_synced P start (story c.journal_write.new.self) (story c.journal_sync.new.self) one c.journal_sync.ensures.crash c.journal_sync.ensures.time in
     let laws = g.met.D.Disk g.world.𝓛 g.world.𝓜 g.world.𝓡 ((λ s x. x), (λ x. x), (λ x. x), λ x. x) in
     let is_staged = λ (x : Image) (is : (story c.journal_sync.new.self).told ≡ Some x).
     staged start area bodies end body small settled (laws.read_is_left c.args.disk.now) _ c.behind_gate-bytes.ensures.bytes _ c.in_ok-journal_write.ensures.written x (sym c.journal_sync.ensures.told ∙ is) in
@@ -87,7 +87,7 @@ returns-in_err-journal_write-2-clause-left g c bodies settled =
     let small = c.behind_gate-bytes.ensures.fits in
     let P = IsWithinAppend start area bodies end body in
     let one = written start area bodies end body small settled _ (story c.journal_write.new.self) c.journal_write.ensures.crash c.journal_write.ensures.time in
-    let two = synced P start (story c.journal_write.new.self) (story c.journal_sync.new.self) one c.journal_sync.ensures.crash c.journal_sync.ensures.time in
+    let two = spans_synced P start (story c.journal_write.new.self) (story c.journal_sync.new.self) one c.journal_sync.ensures.crash c.journal_sync.ensures.time in
     let laws = g.met.D.Disk g.world.𝓛 g.world.𝓜 g.world.𝓡 ((λ s x. x), (λ x. x), (λ x. x), λ x. x) in
     let is_staged = λ (x : Image) (is : (story c.journal_sync.new.self).told ≡ Some x).
     staged start area bodies end body small settled (laws.read_is_left c.args.disk.now) _ c.behind_gate-bytes.ensures.bytes _ c.in_ok-journal_write.ensures.written x (sym c.journal_sync.ensures.told ∙ is) in
@@ -104,12 +104,12 @@ returns-in_err-journal_sync-2-clause-any_moment g c bodies settled =
     let small = c.behind_gate-bytes.ensures.fits in
     let P = IsWithinAppend start area bodies end body in
     let one = written start area bodies end body small settled _ (story c.journal_write.new.self) c.journal_write.ensures.crash c.journal_write.ensures.time in
-    let two = synced P start (story c.journal_write.new.self) (story c.journal_sync.new.self) one c.journal_sync.ensures.crash c.journal_sync.ensures.time in
+    let two = spans_synced P start (story c.journal_write.new.self) (story c.journal_sync.new.self) one c.journal_sync.ensures.crash c.journal_sync.ensures.time in
     let laws = g.met.D.Disk g.world.𝓛 g.world.𝓜 g.world.𝓡 ((λ s x. x), (λ x. x), (λ x. x), λ x. x) in
     let is_staged = λ (x : Image) (is : (story c.journal_sync.new.self).told ≡ Some x).
     staged start area bodies end body small settled (laws.read_is_left c.args.disk.now) _ c.behind_gate-bytes.ensures.bytes _ c.in_ok-journal_write.ensures.written x (sym c.journal_sync.ensures.told ∙ is) in
     let three = gated start area bodies end body small settled (story c.journal_sync.new.self) (story c.journal_write-2.new.self) two is_staged c.in_ok-journal_sync.ensures.durable _ c.gate.ensures c.journal_write-2.ensures.crash c.journal_write-2.ensures.time in
-    let four = synced P start (story c.journal_write-2.new.self) (story c.journal_sync-2.new.self) three c.journal_sync-2.ensures.crash c.journal_sync-2.ensures.time in
+    let four = spans_synced P start (story c.journal_write-2.new.self) (story c.journal_sync-2.new.self) three c.journal_sync-2.ensures.crash c.journal_sync-2.ensures.time in
     four.run
 
 pub returns-in_err-journal_sync-2-clause-left : goal.returns-in_err-journal_sync-2-clause-left
@@ -122,12 +122,12 @@ returns-in_err-journal_sync-2-clause-left g c bodies settled =
     let small = c.behind_gate-bytes.ensures.fits in
     let P = IsWithinAppend start area bodies end body in
     let one = written start area bodies end body small settled _ (story c.journal_write.new.self) c.journal_write.ensures.crash c.journal_write.ensures.time in
-    let two = synced P start (story c.journal_write.new.self) (story c.journal_sync.new.self) one c.journal_sync.ensures.crash c.journal_sync.ensures.time in
+    let two = spans_synced P start (story c.journal_write.new.self) (story c.journal_sync.new.self) one c.journal_sync.ensures.crash c.journal_sync.ensures.time in
     let laws = g.met.D.Disk g.world.𝓛 g.world.𝓜 g.world.𝓡 ((λ s x. x), (λ x. x), (λ x. x), λ x. x) in
     let is_staged = λ (x : Image) (is : (story c.journal_sync.new.self).told ≡ Some x).
     staged start area bodies end body small settled (laws.read_is_left c.args.disk.now) _ c.behind_gate-bytes.ensures.bytes _ c.in_ok-journal_write.ensures.written x (sym c.journal_sync.ensures.told ∙ is) in
     let three = gated start area bodies end body small settled (story c.journal_sync.new.self) (story c.journal_write-2.new.self) two is_staged c.in_ok-journal_sync.ensures.durable _ c.gate.ensures c.journal_write-2.ensures.crash c.journal_write-2.ensures.time in
-    let four = synced P start (story c.journal_write-2.new.self) (story c.journal_sync-2.new.self) three c.journal_sync-2.ensures.crash c.journal_sync-2.ensures.time in
+    let four = spans_synced P start (story c.journal_write-2.new.self) (story c.journal_sync-2.new.self) three c.journal_sync-2.ensures.crash c.journal_sync-2.ensures.time in
     four.left
 
 pub returns-clause-any_moment : goal.returns-clause-any_moment
@@ -140,12 +140,12 @@ returns-clause-any_moment g c bodies settled =
     let small = c.behind_gate-bytes.ensures.fits in
     let P = IsWithinAppend start area bodies end body in
     let one = written start area bodies end body small settled _ (story c.journal_write.new.self) c.journal_write.ensures.crash c.journal_write.ensures.time in
-    let two = synced P start (story c.journal_write.new.self) (story c.journal_sync.new.self) one c.journal_sync.ensures.crash c.journal_sync.ensures.time in
+    let two = spans_synced P start (story c.journal_write.new.self) (story c.journal_sync.new.self) one c.journal_sync.ensures.crash c.journal_sync.ensures.time in
     let laws = g.met.D.Disk g.world.𝓛 g.world.𝓜 g.world.𝓡 ((λ s x. x), (λ x. x), (λ x. x), λ x. x) in
     let is_staged = λ (x : Image) (is : (story c.journal_sync.new.self).told ≡ Some x).
     staged start area bodies end body small settled (laws.read_is_left c.args.disk.now) _ c.behind_gate-bytes.ensures.bytes _ c.in_ok-journal_write.ensures.written x (sym c.journal_sync.ensures.told ∙ is) in
     let three = gated start area bodies end body small settled (story c.journal_sync.new.self) (story c.journal_write-2.new.self) two is_staged c.in_ok-journal_sync.ensures.durable _ c.gate.ensures c.journal_write-2.ensures.crash c.journal_write-2.ensures.time in
-    let four = synced P start (story c.journal_write-2.new.self) (story c.journal_sync-2.new.self) three c.journal_sync-2.ensures.crash c.journal_sync-2.ensures.time in
+    let four = spans_synced P start (story c.journal_write-2.new.self) (story c.journal_sync-2.new.self) three c.journal_sync-2.ensures.crash c.journal_sync-2.ensures.time in
     four.run
 
 pub returns-clause-left : goal.returns-clause-left
@@ -158,12 +158,12 @@ returns-clause-left g c bodies settled =
     let small = c.behind_gate-bytes.ensures.fits in
     let P = IsWithinAppend start area bodies end body in
     let one = written start area bodies end body small settled _ (story c.journal_write.new.self) c.journal_write.ensures.crash c.journal_write.ensures.time in
-    let two = synced P start (story c.journal_write.new.self) (story c.journal_sync.new.self) one c.journal_sync.ensures.crash c.journal_sync.ensures.time in
+    let two = spans_synced P start (story c.journal_write.new.self) (story c.journal_sync.new.self) one c.journal_sync.ensures.crash c.journal_sync.ensures.time in
     let laws = g.met.D.Disk g.world.𝓛 g.world.𝓜 g.world.𝓡 ((λ s x. x), (λ x. x), (λ x. x), λ x. x) in
     let is_staged = λ (x : Image) (is : (story c.journal_sync.new.self).told ≡ Some x).
     staged start area bodies end body small settled (laws.read_is_left c.args.disk.now) _ c.behind_gate-bytes.ensures.bytes _ c.in_ok-journal_write.ensures.written x (sym c.journal_sync.ensures.told ∙ is) in
     let three = gated start area bodies end body small settled (story c.journal_sync.new.self) (story c.journal_write-2.new.self) two is_staged c.in_ok-journal_sync.ensures.durable _ c.gate.ensures c.journal_write-2.ensures.crash c.journal_write-2.ensures.time in
-    let four = synced P start (story c.journal_write-2.new.self) (story c.journal_sync-2.new.self) three c.journal_sync-2.ensures.crash c.journal_sync-2.ensures.time in
+    let four = spans_synced P start (story c.journal_write-2.new.self) (story c.journal_sync-2.new.self) three c.journal_sync-2.ensures.crash c.journal_sync-2.ensures.time in
     four.left
 
 pub returns-clause-acknowledged : goal.returns-clause-acknowledged

@@ -30,6 +30,16 @@ returns-clause-any_moment g c short =
     let run = goes_on _ _ start start (story c.journal_write.new.self) (starts _ start) c.journal_write.ensures.time left in
     goes_on _ _ start (story c.journal_write.new.self) (story c.journal_sync.new.self) run c.journal_sync.ensures.time (λ x now. left x (c.journal_sync.ensures.crash x now))
 
+pub returns-in_err-journal_write-clause-left : goal.returns-in_err-journal_write-clause-left
+returns-in_err-journal_write-clause-left g c short =
+    let story = g.D.Disk.story in
+    torn_first (story c.args.disk.now) (story c.journal_write.new.self).may_leave c.args.area short c.journal_write.ensures.crash
+
+pub returns-clause-left : goal.returns-clause-left
+returns-clause-left g c short x now =
+    let story = g.D.Disk.story in
+    torn_first (story c.args.disk.now) (story c.journal_write.new.self).may_leave c.args.area short c.journal_write.ensures.crash x (c.journal_sync.ensures.crash x now)
+
 pub returns-in_err-journal_write-clause-told : goal.returns-in_err-journal_write-clause-told
 returns-in_err-journal_write-clause-told g c = told_changed c.args.area _ _ _ c.journal_write.ensures.torn
 
