@@ -1,14 +1,13 @@
 // The fields of rows.
-ghost use Rattle.std.specs.Prelude.{◌≡◌, ◌≤◌, ◌<◌, ◌++◌, [], ◌∷◌, ◌==◌, IfOk, IfSome, IsTrue, OnOk, length, map, position};
+ghost use Rattle.std.specs.Prelude.{◌≡◌, ◌++◌, [], ◌∷◌, IsTrue, OnOk, map};
 ghost use Rattle.std.specs.Fmt.{signed_decimal};
 ghost use Rattle.csv.specs.Records.{fields_of, partial_of};
-ghost use Rattle.mesa_key.specs.Spelling.{is_spelling, key_of};
-ghost use Rattle.mesa_filter.specs.Walk.{behind_first, first_value, is_whole};
+ghost use Rattle.mesa_key.specs.Spelling.{column_value, is_spelling, key_of};
 ghost use Rattle.mesa_script.specs.Rows.{row_fields, value_text};
 
 use csv::ByteRecord;
 use itoa::Buffer;
-use mesa_key::{Amount, KeyType};
+use mesa_key::{Amount, Column, ColumnValue, KeyColumns, KeyType};
 use mesa_schema::Row;
 use std::alloc::AllocError;
 
@@ -22,64 +21,15 @@ fn push_number(fields: &mut ByteRecord, number: i64) -> Result<(), AllocError>
     fields.push_field(buffer.format(number).as_bytes())
 }
 
-// The number that an encoded key begins with, and the bytes behind it.
-fn first_int(bytes: &[u8]) -> (i64, &[u8])
-    requires { IsTrue (is_whole KeyType.Int bytes.now) }
-    ensures text { signed_decimal result.0 ≡ value_text (first_value KeyType.Int bytes.now) }
-    ensures rest { result.1.now ≡ behind_first KeyType.Int bytes.now }
-{
-    match bytes {
-        [a, b, c, d, e, f, g, h, rest @ ..] => {
-            let raised = u64::from_be_bytes([*a, *b, *c, *d, *e, *f, *g, *h]);
-            ((i128::from(raised) - 0x8000_0000_0000_0000) as i64, rest)
-        }
-        _ => unreachable!(),
-    }
-}
-
-// The text that an encoded key begins with, and the bytes behind its zero byte.
-fn first_text(bytes: &[u8]) -> (&[u8], &[u8])
-    requires { IsTrue (is_whole KeyType.Text bytes.now) }
-    ensures text { result.0.now ≡ value_text (first_value KeyType.Text bytes.now) }
-    ensures rest { result.1.now ≡ behind_first KeyType.Text bytes.now }
-{
-    match zero_place(bytes) {
-        Some(end) => (&bytes[..end], &bytes[end + 1..]),
-        None => unreachable!(),
-    }
-}
-
-// The place of the first zero byte.
-fn zero_place(bytes: &[u8]) -> Option<usize>
-    ensures within { IfSome result (λ end. end < length bytes.now) }
-    ensures place { result ≡ position (λ b. b == 0) bytes.now }
-{
-    bytes.iter().position(|b| *b == 0)
-}
-
-// The first column of an encoded key as a field more, and the bytes behind it.
-fn push_column<'a>(
-    fields: &mut ByteRecord,
-    kind: KeyType,
-    bytes: &'a [u8],
-) -> Result<&'a [u8], AllocError>
-    requires column { IsTrue (is_whole kind bytes.now) }
-    requires between { partial_of fields.old ≡ [] }
-    ensures fields { OnOk result (fields_of fields.new ≡ fields_of fields.old ++ value_text (first_value kind bytes.now) ∷ []) }
+// A column of a key as a field more.
+fn push_column(fields: &mut ByteRecord, column: Column) -> Result<(), AllocError>
+    requires { partial_of fields.old ≡ [] }
+    ensures fields { OnOk result (fields_of fields.new ≡ fields_of fields.old ++ value_text (column_value column.entry.kind column.entry.bytes.now) ∷ []) }
     ensures whole { OnOk result (partial_of fields.new ≡ []) }
-    ensures rest { IfOk result (λ rest. rest.now ≡ behind_first kind bytes.now) }
 {
-    match kind {
-        KeyType::Int => {
-            let (number, rest) = first_int(bytes);
-            push_number(fields, number)?;
-            Ok(rest)
-        }
-        KeyType::Text => {
-            let (text, rest) = first_text(bytes);
-            fields.push_field(text)?;
-            Ok(rest)
-        }
+    match column.value() {
+        ColumnValue::Int(number) => push_number(fields, number),
+        ColumnValue::Text(text) => fields.push_field(text),
     }
 }
 
@@ -90,9 +40,9 @@ fn push_key(fields: &mut ByteRecord, kinds: &[KeyType], key: &[u8]) -> Result<()
     ensures fields { OnOk result (fields_of fields.new ≡ fields_of fields.old ++ map value_text (key_of kinds.now key.now)) }
     ensures whole { OnOk result (partial_of fields.new ≡ []) }
 {
-    let mut rest = key;
-    'columns: for kind in kinds {
-        rest = push_column(fields, *kind, rest)?;
+    let mut columns = KeyColumns::of(kinds, key);
+    'columns: while let Some(column) = columns.take_next() {
+        push_column(fields, column)?;
     }
     Ok(())
 }
