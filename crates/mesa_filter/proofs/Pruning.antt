@@ -15,7 +15,8 @@ use Rattle.mesa_filter.specs.declared.terms.Term.{Term}
 use Rattle.mesa_filter.specs.Filter.{KeyFilter, meets, meets_term, value_meets}
 use Rattle.mesa_filter.specs.Walk.{behind_first, column_meets, column_reaches, first_value, is_whole, may_meet_from}
 use Rattle.mesa_filter.specs.Pruning.{NoneMeets}
-use Rattle.mesa_filter.proofs.ShortColumns.{bytes-drop, decides}
+use Rattle.mesa_key.proofs.Keys.{bytes-drop}
+use Rattle.mesa_filter.proofs.ShortColumns.{decides}
 use Rattle.mesa_filter.proofs.ValueOrder.{between_equal, column_reached, level, tied}
 
 -- what the first of two orders decides

@@ -15,9 +15,10 @@ use Rattle.mesa_key.specs.declared.KeyValue.{KeyValue}
 use Rattle.mesa_key.specs.declared.KeyValue.TheVariants as value
 use Rattle.mesa_key.specs.Order.{byte_cmp, value_cmp}
 use Rattle.mesa_key.specs.Spelling.{AreBytes, IsValue, before_zero, value_spelling}
-use Rattle.mesa_key.proofs.Columns.{spells, text_zeros}
+use Rattle.mesa_key.proofs.Columns.{at_zero, spells, text_zeros}
+use Rattle.mesa_key.proofs.Keys.{bytes-take}
 use Rattle.mesa_key.proofs.KeyOrder.{NoZero, byte_cmp-texts}
-use Rattle.mesa_key.proofs.SpellingOrder.{spelling_order_then}
+use Rattle.mesa_key.proofs.SpellingOrder.{no_zeros, spelling_order_then}
 use Rattle.mesa_filter.specs.Walk.{behind_first, first_value, is_whole}
 use Rattle.mesa_filter.proofs.ValueOrder.{tied}
 
@@ -27,28 +28,6 @@ pub record Decides (type : KeyType) (short : List ℕ) (x : KeyValue) (more : Li
   pub order : byte_cmp short (take n (value_spelling x ++ more)) ≡ ordering_then (value_cmp (first_value type short) x) behind
   pub tail : value_cmp (first_value type short) x ≡ Equal → (behind ≡ byte_cmp (behind_first type short) (take (n - length (value_spelling x)) more)) × (length (behind_first type short) ≡ n - length (value_spelling x))
 
-pub bytes-take : (n : ℕ) (bytes : List ℕ) → AreBytes bytes → AreBytes (take n bytes)
-bytes-take n bytes h i = elim (cases_lt i n) [
-  | inl lt ↦ rw (get_or-take n bytes i 0 lt) (h i)
-  | inr ge ↦ rw (get_or_past (take n bytes) i 0 (omega (arith, length-take n bytes))) (lit< tt)
-]
-
-pub bytes-drop : (n : ℕ) (bytes : List ℕ) → AreBytes bytes → AreBytes (drop n bytes)
-bytes-drop n bytes h i = rw (get_or-drop n bytes i 0) (h (n + i))
-
--- a list is what stands before its first zero, the zero, and what stands behind it
-at_zero : (xs : List ℕ) → length (before_zero xs) < length xs → take (length (before_zero xs)) xs ++ 0 ∷ drop (length (before_zero xs) + 1) xs ≡ xs
-unfolding before_zero
-at_zero [] h = absurd (omega arith)
-at_zero (x ∷ xs) h =
-    elim (x == 0) as (λ t. (x == 0) ≡ t → length (cond t [] (x ∷ before_zero xs)) < suc (length xs)
-    → take (length (cond t [] (x ∷ before_zero xs))) (x ∷ xs) ++ 0 ∷ drop (length (cond t [] (x ∷ before_zero xs)) + 1) (x ∷ xs) ≡ x ∷ xs) [
-      | true ↦ λ e l. ap (λ y. y ∷ xs) (sym (eqb-true x 0 e))
-      | false ↦ λ e l.
-          let next : suc (length (before_zero xs)) + 1 ≡ suc (length (before_zero xs) + 1) = omega arith in
-          ap (λ n. x ∷ (take (length (before_zero xs)) xs ++ 0 ∷ drop n (x ∷ xs))) next ∙ ap (λ rest. x ∷ rest) (at_zero xs (omega arith))
-    ] refl h
-
 above_zero : (x : ℕ) → (x == 0) ≡ false → 0 < x
 above_zero x e = let some : x ≡ 0 → ⊥ = eqb-false x 0 e in omega arith
 
@@ -56,13 +35,6 @@ no_zero_before : (xs : List ℕ) → NoZero (take (length (before_zero xs)) xs)
 unfolding before_zero
 no_zero_before [] = tt
 no_zero_before (x ∷ xs) = elim (x == 0) as (λ t. (x == 0) ≡ t → NoZero (take (length (cond t [] (x ∷ before_zero xs))) (x ∷ xs))) [ true ↦ λ e. tt | false ↦ λ e. (above_zero x e, no_zero_before xs) ] refl
-
-no_zeros : (bytes : List ℕ) → list_any (λ b. b == 0) bytes ≡ false → NoZero bytes
-no_zeros [] h = tt
-no_zeros (b ∷ bytes) h = elim (b == 0) as (λ t. (b == 0) ≡ t → (t || list_any (λ x. x == 0) bytes) ≡ false → NoZero (b ∷ bytes)) [
-  | true ↦ λ e f. cc
-  | false ↦ λ e f. (above_zero b e, no_zeros bytes f)
-] refl h
 
 -- a text that ends before a longer one is cut
 texts_cut : (u rest t : List ℕ) (n : ℕ) → length u < n → n ≤ length t → NoZero t → byte_cmp (u ++ 0 ∷ rest) (take n t) ≡ byte_cmp u t

@@ -11,7 +11,6 @@ use Rattle.mesa_key.specs.declared.KeyType.TheVariants as kind
 use Rattle.std.proofs.Math.Bool.{and-true, and-false}
 use Rattle.mesa_key.specs.declared.KeyType.{KeyType}
 use Rattle.mesa_key.specs.Spelling.{before_zero, column_length, is_column}
-use Rattle.mesa_filter.specs.Seen.{is_value}
 use Rattle.mesa_filter.specs.Walk.{behind_first, first_value, is_whole}
 
 -- the bytes before the first zero reach up to it
@@ -56,30 +55,3 @@ pub no_text : (bytes : List ℕ) → position (λ b. b == 0) bytes ≡ None → 
 no_text bytes e =
     let past : length bytes ≤ position_or_len (λ b. b == 0) bytes = ltb-false _ _ (untrue _ _ e) in
     sym (not_within (length (before_zero bytes) + 1) (length bytes) (omega (arith, length-before_zero bytes)))
-
--- what lies behind the first zero doesn't matter
-before_zero-take : (k : ℕ) (xs : List ℕ) → length (before_zero xs) ≤ k → before_zero (take k xs) ≡ before_zero xs
-unfolding before_zero
-before_zero-take zero [] h = refl
-before_zero-take (suc k) [] h = refl
-before_zero-take zero (x ∷ xs) h = elim (x == 0) as (λ t. length (cond t [] (x ∷ before_zero xs)) ≤ 0 → [] ≡ cond t [] (x ∷ before_zero xs)) [ true ↦ λ _. refl | false ↦ λ l. absurd (omega arith) ] h
-before_zero-take (suc k) (x ∷ xs) h = elim (x == 0) as (λ t. length (cond t [] (x ∷ before_zero xs)) ≤ suc k → cond t [] (x ∷ before_zero (take k xs)) ≡ cond t [] (x ∷ before_zero xs)) [ true ↦ λ _. refl | false ↦ λ l. ap (λ r. x ∷ r) (before_zero-take k xs (omega arith)) ] h
-
--- A column that stands there whole is one where its value is.
-pub whole_value : (type : KeyType) (bytes : List ℕ) → is_column type (take (column_length type bytes) bytes) ≡ (is_whole type bytes && is_value (first_value type bytes))
-whole_value kind.Int bytes = elim (cases_lt (length bytes) 8) [
-  | inl short ↦ rw (lt-leb 8 (length bytes) short) (ne_eqb (length (take 8 bytes)) 8 (λ e. omega (arith, length-take 8 bytes)))
-  | inr enough ↦ rw (le-leb 8 (length bytes) enough) (eq-eqb (length (take 8 bytes)) 8 (length-take-le 8 bytes enough))
-]
-whole_value kind.Text bytes =
-    let n : ℕ = length (before_zero bytes) + 1 in
-    elim (cases_lt (length bytes) n) [
-      | inl short ↦
-          let all : take n bytes ≡ bytes = take_all n bytes (omega arith) in
-          let ends : (n == length bytes) ≡ false = ne_eqb n (length bytes) (λ e. omega arith) in
-          rw (lt-leb n (length bytes) short, all, ends) (and-false _)
-      | inr enough ↦
-          let len : length (take n bytes) ≡ n = length-take-le n bytes enough in
-          let ends : (length (before_zero (take n bytes)) + 1 == length (take n bytes)) ≡ true = eq-eqb _ _ (omega (arith, ap length (before_zero-take n bytes (omega arith)))) in
-          rw (le-leb n (length bytes) enough, ends) (and-true _)
-    ]

@@ -85,25 +85,6 @@ all_terms key (term ∷ terms) = let none : nat_lt term.column 0 ≡ false = le-
 pub columns_meet : (kinds : List KeyType) (terms : List Term) (bytes : List ℕ) → are_within kinds terms ≡ true → all_meet kinds 0 terms bytes ≡ meets (key_of kinds bytes) terms
 columns_meet kinds terms bytes w = all_from kinds 0 (length kinds) terms bytes (key_of kinds bytes) (omega arith) w refl ∙ all_terms (key_of kinds bytes) terms
 
--- both parts of a conjunction
-pub both : (a b : Bool) → (a && b) ≡ true → (a ≡ true) × (b ≡ true)
-both true b h = (refl, h)
-both false b h = cc
-
--- A column that passes stands there whole.
-pub whole_column : (type : KeyType) (bytes : List ℕ) → is_column type (take (column_length type bytes) bytes) ≡ true → is_whole type bytes ≡ true
-whole_column kind.Int bytes h = let eight = eqb-true (length (take 8 bytes)) 8 h in lt-ltb 7 (length bytes) (omega (arith, length-take 8 bytes, eight))
-whole_column kind.Text bytes h =
-    let n : ℕ = length (before_zero bytes) + 1 in
-    let ends = eqb-true _ _ (both (is_key_text (take (length (take n bytes) - 1) (take n bytes))) (length (before_zero (take n bytes)) + 1 == length (take n bytes)) h).1 in
-    elim (cases_lt (length bytes) n) [
-      | inl short ↦
-          let all : take n bytes ≡ bytes = take_all n bytes (omega arith) in
-          let same : n ≡ length bytes = ap (λ xs. length (before_zero xs) + 1) (sym all) ∙ ends ∙ ap length all in
-          absurd (omega arith)
-      | inr enough ↦ le-leb n (length bytes) enough
-    ]
-
 -- The same of a filter, as code has it.
 pub filter_meets : (f : KeyFilter) (kinds ks : List KeyType) (terms ts : List Term) (key : List ℕ) (r : Bool) → f ≡ record { kinds = kinds; terms = terms } → are_within kinds terms ≡ true → r ≡ all_meet ks 0 ts key → ks ≡ kinds → ts ≡ terms → r ≡ meets (key_of f.kinds key) f.terms
 filter_meets f kinds ks terms ts key r e w a k t =

@@ -4,5 +4,4 @@ pub mod Asked
 pub mod Resume
 pub mod Walk
 pub mod Pruning
-pub mod Seen
 pub mod Query

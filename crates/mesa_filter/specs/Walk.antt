@@ -1,27 +1,21 @@
 -- Which short keys may belong to keys that meet a filter.
-use Rattle.std.specs.Prelude.{ℕ, ◌+◌, List, [], ◌∷◌, length, take, drop, Bool, true, ◌&&◌, ◌||◌, ◌==◌, not, nat_le, if◌then◌else◌, Some}
+use Rattle.std.specs.Prelude.{ℕ, ◌+◌, max, List, [], ◌∷◌, Bool, true, ◌&&◌, ◌||◌, ◌==◌, not, if◌then◌else◌, Some}
 use Rattle.std.specs.List.{list_all, list_any}
 use Rattle.std.specs.Ordering.{is_eq, is_le, is_ge, is_lt, is_gt}
 use Rattle.std.specs.declared.cmp.Ordering.{Ordering}
 use Rattle.mesa_key.specs.declared.KeyType.{KeyType}
 use Rattle.mesa_key.specs.declared.KeyValue.{KeyValue}
 use Rattle.mesa_key.specs.Order.{value_cmp}
-use Rattle.mesa_key.specs.Spelling.{column_length, column_value}
+pub use Rattle.mesa_key.specs.Columns.{is_whole, first_value, behind_first}
 use Rattle.mesa_filter.specs.declared.terms.Comparison.{Comparison}
 use Rattle.mesa_filter.specs.declared.terms.Comparison.TheVariants as op
 use Rattle.mesa_filter.specs.declared.terms.Term.{Term}
 use Rattle.mesa_filter.specs.Filter.{value_meets}
 
--- the bytes hold their first column whole
-abbrev pub is_whole : KeyType → List ℕ → Bool
-is_whole kind bytes = nat_le (column_length kind bytes) (length bytes)
-
--- the value of the first column, and the bytes behind it
-abbrev pub first_value : KeyType → List ℕ → KeyValue
-first_value kind bytes = column_value kind (take (column_length kind bytes) bytes)
-
-abbrev pub behind_first : KeyType → List ℕ → List ℕ
-behind_first kind bytes = drop (column_length kind bytes) bytes
+-- how many columns from the first on hold each that a term names
+abbrev pub columns_named : List Term → ℕ
+columns_named [] = 0
+columns_named (term ∷ terms) = max (term.column + 1) (columns_named terms)
 
 -- a value meets each term of its column, which stands at this place
 abbrev pub column_meets : ℕ → KeyValue → List Term → Bool

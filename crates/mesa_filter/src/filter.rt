@@ -7,7 +7,7 @@ ghost use Rattle.std.specs.Bool.{OnFalse};
 ghost use Rattle.mesa_filter.specs.Walk.{may_meet_from};
 ghost use Rattle.mesa_filter.specs.Pruning.{NoneMeets};
 
-use crate::matching::{columns_may_meet, columns_meet};
+use crate::matching::{columns_may_meet, columns_meet, last_named};
 use crate::parsing::terms;
 use crate::{FilterError, Term};
 use mesa_key::KeyType;
@@ -21,17 +21,20 @@ use std::marker::Model;
 pub struct Filter {
     kinds: Items<KeyType>,
     terms: Items<Term>,
+    // How many columns from the first on hold each that a term names.
+    named: usize,
 }
 
 impl Model for Filter {
     ghost use Rattle.mesa_filter.specs.Filter.{KeyFilter, are_within};
-    ghost use Rattle.std.specs.Prelude.{IsTrue};
+    ghost use Rattle.mesa_filter.specs.Walk.{columns_named};
+    ghost use Rattle.std.specs.Prelude.{◌≡◌, IsTrue};
 
     ghost Value = { KeyFilter };
 
     ghost view = { λ f. record { kinds = f.kinds; terms = f.terms } };
 
-    ghost invariant = { λ f. IsTrue (are_within f.kinds f.terms) };
+    ghost invariant = { λ f. IsTrue (are_within f.kinds f.terms) × (f.named ≡ columns_named f.terms) };
 }
 
 impl Filter {
@@ -43,7 +46,12 @@ impl Filter {
     {
         let terms = terms(alloc, schema, text)?;
         let kinds = key_kinds(alloc, schema)?;
-        Ok(Filter { kinds, terms })
+        let named = last_named(terms.as_slice());
+        Ok(Filter {
+            kinds,
+            terms,
+            named,
+        })
     }
 
     /// The types of the key columns that the filter was read for.
@@ -53,12 +61,17 @@ impl Filter {
         self.kinds.as_slice()
     }
 
-    /// Whether a key meets the filter: an encoded key of the columns that the filter was read for. Nothing of it is copied.
+    /// Whether a key meets the filter: an encoded key of the columns that the filter was read for. Nothing of it is copied, and no column behind the last one that a term names is looked at.
     pub fn matches(&self, key: &[u8]) -> bool
         requires { IsTrue (is_spelling self.now.kinds key.now) }
         ensures { result ≡ meets (key_of self.now.kinds key.now) self.now.terms }
     {
-        columns_meet(self.kinds.as_slice(), self.terms.as_slice(), key)
+        columns_meet(
+            self.kinds.as_slice(),
+            self.terms.as_slice(),
+            self.named,
+            key,
+        )
     }
 
     /// Whether a key may meet the filter that has the first `columns` key columns, where the short key of these lies from `low` to `high`, both included.
@@ -81,6 +94,7 @@ impl TryCopy for Filter {
         Ok(Filter {
             kinds: self.kinds.copy()?,
             terms: self.terms.copy()?,
+            named: self.named,
         })
     }
 }

@@ -2,7 +2,6 @@
 #![tactic(auto)]
 
 mod asking;
-mod columns;
 mod copies;
 mod filter;
 mod literals;

@@ -8,11 +8,10 @@ ghost use Rattle.mesa_filter.specs.Resume.{resume_behind, resume_prefix};
 ghost use Rattle.mesa_filter.specs.Query.{are_places};
 
 use crate::QueryError;
-use crate::columns::spells_key;
 use crate::literals::hex_value;
 use hex::FromHexError;
 use itoa::Buffer;
-use mesa_key::{KeyBytes, KeyType};
+use mesa_key::{KeyBytes, KeyType, spells_key};
 use mesa_list::Items;
 use mesa_schema::{KeyColumn, Name, Schema, Words};
 use std::alloc::{AllocError, Global};

@@ -1,4 +1,4 @@
-use Rattle.std.proofs.Common.{◌≡◌, drop, true}
+use Rattle.std.proofs.Common.{◌≡◌, true}
 use Rattle.mesa_key.specs.Spelling.{is_spelling}
 use Rattle.mesa_filter.specs.Walk.{all_meet}
 use Rattle.mesa_filter.proofs.matching.columns_meet.Given as goal
@@ -6,6 +6,6 @@ use Rattle.mesa_filter.proofs.matching.columns_meet.Given as goal
 -- the columns that are left decide, and spell the rest of a key
 abbrev pub invariant-loop-place : goal.invariant-loop-place
 invariant-loop-place l = record {
-  met : all_meet (drop l.place l.kinds) l.place l.terms l.rest ≡ all_meet l.kinds 0 l.terms l.key;
-  spelled : is_spelling (drop l.place l.kinds) l.rest ≡ true;
+  met : all_meet l.columns.kinds l.place l.terms l.columns.bytes ≡ all_meet l.kinds 0 l.terms l.key;
+  spelled : is_spelling l.columns.kinds l.columns.bytes ≡ true;
 }
