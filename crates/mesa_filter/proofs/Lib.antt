@@ -1,3 +1,4 @@
+pub mod Filtering
 pub mod Forms
 pub mod Fronts
 pub mod HexDigits
@@ -8,7 +9,6 @@ pub mod Pruning
 pub mod Refusals
 pub mod ResumeKeys
 pub mod ShortColumns
-pub mod Splits
 pub mod Steps
 pub mod TextEnds
 pub mod Texts

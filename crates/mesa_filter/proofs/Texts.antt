@@ -1,9 +1,8 @@
 -- Literals: their bytes without escapes, and each of several.
 use Rattle.std.proofs.Common.{◌≡◌, ℕ, ◌+◌, ◌*◌, ◌≤◌, List, [], ◌∷◌, ◌++◌, length, drop, get_or, Bool, true, false, cond, refl, sym, ◌∙◌, ap, arith, Option, Some, None, append_assoc}
 use Rattle.std.specs.Prelude.{◌==◌, option_map}
-use Rattle.mesa_list.specs.Split.{split_at}
 use Rattle.mesa_filter.specs.Hex.{hex_value, with_byte}
-use Rattle.mesa_filter.specs.Filter.{each_some, unescaped}
+use Rattle.mesa_filter.specs.Filter.{unescaped}
 
 -- what was found goes before what is to come
 abbrev pub after : {A : Type 0} → List A → Option (List A) → Option (List A)
@@ -13,10 +12,6 @@ after found more = option_map (λ xs. found ++ xs) more
 pub after_more : {A : Type 0} (found : List A) (x : A) (more : Option (List A)) → after (found ++ x ∷ []) more ≡ after found (option_map (λ xs. x ∷ xs) more)
 after_more found x None = refl
 after_more found x (Some xs) = ap Some (append_assoc found (x ∷ []) xs)
-
--- the first of a list, and then the others
-pub each_first : {A B : Type 0} (f : A → Option B) (x : A) (xs : List A) (y : B) → f x ≡ Some y → each_some f (x ∷ xs) ≡ option_map (λ ys. y ∷ ys) (each_some f xs)
-each_first {B = B} f x xs y e = ap (λ o. elim o as (λ _. Option (List B)) [ None ↦ None | Some z ↦ option_map (λ ys. z ∷ ys) (each_some f xs) ]) e
 
 -- a byte that is no `%` stands for itself
 pub plain_byte : (b : ℕ) (rest : List ℕ) → (b == 37) ≡ false → unescaped (b ∷ rest) ≡ option_map (λ text. b ∷ text) (unescaped rest)
@@ -30,19 +25,6 @@ escaped_byte None low byte rest h = cc
 escaped_byte (Some a) None byte rest h = cc
 escaped_byte (Some a) (Some b) byte None h = refl
 escaped_byte (Some a) (Some b) byte (Some text) h = let same : 16 * a + b ≡ byte = cc in ap (λ x. Some (x ∷ text)) same
-
--- The last of a term's literals.
-pub part_last : (rest : List ℕ) (text : List ℕ) (found : List (List ℕ)) (all : Option (List (List ℕ))) → split_at 124 rest ≡ rest ∷ [] → unescaped rest ≡ Some text
-    → after found (each_some unescaped (split_at 124 rest)) ≡ all → all ≡ Some (found ++ text ∷ [])
-part_last rest text found all e u before =
-    sym before ∙ ap (λ xs. after found (each_some unescaped xs)) e ∙ ap (after found) (each_first unescaped rest [] text u)
-
--- what comes of too many
-pub refused : {A : Type 0} (t : Bool) (o : Option A) → t ≡ true → None ≡ cond t None o
-refused t o e = ap (λ b. cond b None o) (sym e)
-
-pub kept : {A : Type 0} (t : Bool) (o p : Option A) → t ≡ false → o ≡ p → p ≡ cond t None o
-kept t o p e f = sym f ∙ ap (λ b. cond b None o) (sym e)
 
 -- A byte more of a literal.
 pub byte_more : (bytes rest behind more text new : List ℕ) (first byte : ℕ) → rest ≡ first ∷ behind → unescaped (first ∷ behind) ≡ option_map (λ t. byte ∷ t) (unescaped more) → new ≡ text ++ byte ∷ []

@@ -7,7 +7,7 @@ ghost use Rattle.mesa_schema.specs.Views.{is_replace as replaces};
 ghost use Rattle.mesa_filter.specs.Asked.{asked_of, filter_refusal, lists_all_keys as lists_keys, replace_asked as replace_among};
 ghost use Rattle.mesa_filter.specs.Query.{are_places};
 
-use crate::places::{Places, copy_of, group_places, value_places};
+use crate::places::{Places, group_places, value_places};
 use crate::{Filter, FilterError, QueryError, QueryWords};
 use mesa_list::TryCopy;
 use mesa_schema::{Schema, ValueColumn};
@@ -25,8 +25,8 @@ pub(crate) struct Asking {
 impl TryCopy for Asking {
     fn copy(&self) -> Result<Self, AllocError> {
         Ok(Asking {
-            columns: copy_of(&self.columns)?,
-            values: copy_of(&self.values)?,
+            columns: self.columns.copy()?,
+            values: self.values.copy()?,
             filter: self.filter.copy()?,
         })
     }

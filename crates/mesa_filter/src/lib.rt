@@ -4,6 +4,7 @@
 mod asking;
 mod copies;
 mod filter;
+mod laws;
 mod literals;
 mod matching;
 mod parsing;
@@ -14,6 +15,7 @@ mod terms;
 mod words;
 
 pub use filter::Filter;
+pub use laws::filters_folds;
 pub use query::Query;
 pub use terms::{Comparison, FilterError, Term};
 pub use words::{QueryError, QueryWords, VersionWord};

@@ -1,5 +1,5 @@
 // The literals of a term.
-ghost use Rattle.std.specs.Prelude.{◌≡◌, ◌<◌, ◌≤◌, length, position, ◌==◌, IfOk, IfSome, MatchOption, option_map, cond, nat_lt, None, Some, [], ◌∷◌};
+ghost use Rattle.std.specs.Prelude.{◌≡◌, ◌<◌, ◌≤◌, length, IfOk, IfSome, MatchOption, option_map, cond, nat_lt, None, Some, [], ◌∷◌};
 ghost use Rattle.mesa_schema.specs.Numbers.{key_value_of};
 ghost use Rattle.mesa_filter.specs.Hex.{hex_value as digit_value, with_byte};
 ghost use Rattle.mesa_filter.specs.Filter.{each_some, literal_parts, unescaped};
@@ -7,38 +7,19 @@ ghost use Rattle.mesa_list.specs.Split.{split_at};
 
 use crate::Comparison;
 use mesa_key::{KeyType, KeyValue};
-use mesa_list::Items;
-use mesa_schema::{Fields, Words, key_value};
+use mesa_list::{Items, Parts};
+use mesa_schema::{Words, key_value};
 use std::alloc::{AllocError, Global};
 
 /// How many literals a term may have.
 const MAX_LITERALS: usize = 64;
-
-// The part before the first separator, and what stands behind it.
-pub(crate) fn first_part(separator: u8, bytes: &[u8]) -> Option<(&[u8], &[u8])>
-    ensures parts { MatchOption result (split_at separator bytes.now ≡ bytes.now ∷ []) (λ found. split_at separator bytes.now ≡ found.0.now ∷ split_at separator found.1.now) }
-    ensures shorter { IfSome result (λ found. length found.1.now < length bytes.now) }
-{
-    let Some(end) = place_of_byte(separator, bytes) else {
-        return None;
-    };
-    Some((&bytes[..end], &bytes[end + 1..]))
-}
-
-// The place of the first byte that is the separator.
-pub(crate) fn place_of_byte(separator: u8, bytes: &[u8]) -> Option<usize>
-    ensures within { IfSome result (λ end. end < length bytes.now) }
-    ensures place { result ≡ position (λ b. b == separator) bytes.now }
-{
-    bytes.iter().position(|b| *b == separator)
-}
 
 // The bytes of the literals behind an operator, where they are well formed and not too many.
 pub(crate) fn literals(
     alloc: Global,
     comparison: Comparison,
     bytes: &[u8],
-) -> Result<Option<Fields>, AllocError>
+) -> Result<Option<Items<Words>>, AllocError>
     ensures { IfOk result (λ found. found ≡ cond (nat_lt 64 (length (literal_parts comparison bytes.now))) None (each_some unescaped (literal_parts comparison bytes.now))) }
 {
     match comparison {
@@ -48,7 +29,7 @@ pub(crate) fn literals(
 }
 
 // The bytes of one literal.
-fn one_literal(alloc: Global, bytes: &[u8]) -> Result<Option<Fields>, AllocError>
+fn one_literal(alloc: Global, bytes: &[u8]) -> Result<Option<Items<Words>>, AllocError>
     ensures { IfOk result (λ found. found ≡ each_some unescaped (bytes.now ∷ [])) }
 {
     let mut found = Items::new(alloc);
@@ -60,25 +41,20 @@ fn one_literal(alloc: Global, bytes: &[u8]) -> Result<Option<Fields>, AllocError
 }
 
 // The bytes of the literals between bars.
-fn alternatives(alloc: Global, bytes: &[u8]) -> Result<Option<Fields>, AllocError>
+fn alternatives(alloc: Global, bytes: &[u8]) -> Result<Option<Items<Words>>, AllocError>
     ensures { IfOk result (λ found. found ≡ cond (nat_lt 64 (length (split_at 124 bytes.now))) None (each_some unescaped (split_at 124 bytes.now))) }
 {
     let mut found = Items::new(alloc);
-    let mut rest = bytes;
-    'bars: while let Some((part, after)) = first_part(b'|', rest) {
-        if found.len() + 2 > MAX_LITERALS {
+    let mut parts = Parts::of(b'|', bytes);
+    'bars: while let Some(part) = parts.take_next() {
+        if found.len() == MAX_LITERALS {
             return Ok(None);
         }
         let Some(text) = literal(alloc, part)? else {
             return Ok(None);
         };
         found.push(text)?;
-        rest = after;
     }
-    let Some(text) = literal(alloc, rest)? else {
-        return Ok(None);
-    };
-    found.push(text)?;
     Ok(Some(found))
 }
 

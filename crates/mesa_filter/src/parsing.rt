@@ -4,9 +4,9 @@ ghost use Rattle.mesa_schema.specs.Columns.{kinds_of};
 ghost use Rattle.mesa_schema.specs.Names.{is_name_byte as name_byte};
 ghost use Rattle.mesa_filter.specs.Filter.{are_within, operator_of, term_of, filter_of};
 
-use crate::literals::{first_part, literals, values};
+use crate::literals::{literals, values};
 use crate::{Comparison, FilterError, Term};
-use mesa_list::Items;
+use mesa_list::{Items, Parts};
 use mesa_schema::{Schema, place_of};
 use std::alloc::{AllocError, Global};
 
@@ -34,15 +34,12 @@ pub(crate) fn terms(alloc: Global, schema: &Schema, text: &[u8]) -> Result<Items
         return Ok(terms);
     }
     let mut number = 1;
-    let mut rest = text;
-    'ands: while let Some((part, after)) = first_part(b'&', rest) {
+    let mut parts = Parts::of(b'&', text);
+    'ands: while let Some(part) = parts.take_next() {
         let next = term(alloc, schema, number, part)?;
         terms.push(next)?;
-        rest = after;
         number += 1;
     }
-    let last = term(alloc, schema, number, rest)?;
-    terms.push(last)?;
     Ok(terms)
 }
 

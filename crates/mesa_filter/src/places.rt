@@ -7,8 +7,7 @@ ghost use Rattle.mesa_filter.specs.Asked.{group_columns, places_below, places_of
 ghost use Rattle.mesa_filter.specs.Query.{are_places};
 
 use crate::QueryError;
-use crate::literals::first_part;
-use mesa_list::Items;
+use mesa_list::{Items, Parts};
 use mesa_schema::{Named, Schema, place_of};
 use std::alloc::{AllocError, Global};
 
@@ -52,13 +51,6 @@ pub(crate) fn value_places(
     named_places(alloc, columns, words)
 }
 
-// A copy of places.
-pub(crate) fn copy_of(places: &Places) -> Result<Places, AllocError>
-    ensures { IfOk result (λ other. other ≡ places.now) }
-{
-    Ok(Items::from_vec(Vec::from_slice(places.allocator(), places.as_slice())?))
-}
-
 // The places of all columns.
 fn all_places<N: Drop>(alloc: Global, columns: &[N]) -> Result<Places, AllocError>
     requires { length columns.now ≤ 16 }
@@ -80,12 +72,10 @@ fn named_places<N: Named>(alloc: Global, columns: &[N], words: &[u8]) -> Result<
     ensures refused { IfErr result (λ e. e ≢ QueryError.Memory → places_of (map N.name_of columns.now) (split_at 59 words.now) ≡ Err e) }
 {
     let mut places = Items::new(alloc);
-    let mut rest = words;
-    'names: while let Some((name, after)) = first_part(b';', rest) {
+    let mut names = Parts::of(b';', words);
+    'names: while let Some(name) = names.take_next() {
         places.push(named_place(columns, name)?)?;
-        rest = after;
     }
-    places.push(named_place(columns, rest)?)?;
     Ok(places)
 }
 

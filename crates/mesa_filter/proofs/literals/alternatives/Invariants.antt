@@ -7,10 +7,10 @@ use Rattle.mesa_filter.proofs.literals.alternatives.Given as goal
 -- the literals so far and those that are left are all
 abbrev pub invariant-bars : goal.invariant-bars
 invariant-bars l = record {
-  count : length l.found + length (split_at 124 l.rest) ≡ length (split_at 124 l.bytes);
-  room : length l.found ≤ 63;
-  read : after l.found (each_some unescaped (split_at 124 l.rest)) ≡ each_some unescaped (split_at 124 l.bytes);
+  count : length l.found + length l.parts ≡ length (split_at 124 l.bytes);
+  room : length l.found ≤ 64;
+  read : after l.found (each_some unescaped l.parts) ≡ each_some unescaped (split_at 124 l.bytes);
 }
 
 abbrev pub decreases-bars : goal.decreases-bars
-decreases-bars l = length l.rest
+decreases-bars l = length l.parts

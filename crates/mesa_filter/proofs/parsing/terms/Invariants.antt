@@ -1,5 +1,4 @@
 use Rattle.std.proofs.Common.{◌≡◌, ◌≤◌, length, true}
-use Rattle.mesa_list.specs.Split.{split_at}
 use Rattle.mesa_schema.specs.Columns.{kinds_of}
 use Rattle.mesa_filter.specs.Filter.{are_within, filter_of, terms_from}
 use Rattle.mesa_filter.proofs.Lists.{ahead}
@@ -8,10 +7,10 @@ use Rattle.mesa_filter.proofs.parsing.terms.Given as goal
 -- the terms so far and those that are left are all
 abbrev pub invariant-ands : goal.invariant-ands
 invariant-ands l = record {
-  read : ahead l.terms (terms_from l.schema l.number (split_at 38 l.rest)) ≡ filter_of l.schema l.text;
+  read : ahead l.terms (terms_from l.schema l.number l.parts) ≡ filter_of l.schema l.text;
   within : are_within (kinds_of l.schema) l.terms ≡ true;
   few : l.number ≤ 65;
 }
 
 abbrev pub decreases-ands : goal.decreases-ands
-decreases-ands l = length l.rest
+decreases-ands l = length l.parts
