@@ -18,7 +18,7 @@ abbrev Passes : (List ℕ → Bool) → Row → Bool
 Passes p row = p row.key
 
 has_filtered : (p : List ℕ → Bool) (q : List ℕ) (ks : Keys) → has q (filter p ks) ≡ (p q && has q ks)
-has_filtered p q [] = elim (p q) as (λ b. false ≡ (b && false)) [ | true ↦ refl | false ↦ refl ]
+has_filtered p q [] = elim (p q) as (λ b. false ≡ (b && false)) [ true ↦ refl | false ↦ refl ]
 has_filtered p q (k ∷ ks) =
     elim (eq_by_cmp byte_cmp q k) as (λ t. eq_by_cmp byte_cmp q k ≡ t → has q (cond (p k) (k ∷ filter p ks) (filter p ks)) ≡ (p q && (t || has q ks))) [
       | true ↦ λ t.

@@ -10,7 +10,6 @@ pub mod Refusals
 pub mod ResumeKeys
 pub mod ShortColumns
 pub mod Steps
-pub mod TextEnds
 pub mod Texts
 pub mod ValueOrder
 pub mod Walks

@@ -1,5 +1,5 @@
 -- Literals: their bytes without escapes, and each of several.
-use Rattle.std.proofs.Common.{◌≡◌, ℕ, ◌+◌, ◌*◌, ◌≤◌, List, [], ◌∷◌, ◌++◌, length, drop, get_or, Bool, true, false, cond, refl, sym, ◌∙◌, ap, arith, Option, Some, None, append_assoc}
+use Rattle.std.proofs.Common.{◌≡◌, ℕ, ◌+◌, ◌*◌, ◌≤◌, List, [], ◌∷◌, ◌++◌, length, drop, get_or, true, false, cond, refl, sym, ◌∙◌, ap, arith, Option, Some, None, append_assoc}
 use Rattle.std.specs.Prelude.{◌==◌, option_map}
 use Rattle.mesa_filter.specs.Hex.{hex_value, with_byte}
 use Rattle.mesa_filter.specs.Filter.{unescaped}

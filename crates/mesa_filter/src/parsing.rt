@@ -7,7 +7,7 @@ ghost use Rattle.mesa_filter.specs.Filter.{are_within, operator_of, term_of, fil
 use crate::literals::{literals, values};
 use crate::{Comparison, FilterError, Term};
 use mesa_list::{Items, Parts};
-use mesa_schema::{Schema, place_of};
+use mesa_schema::{Schema, is_name_byte, place_of};
 use std::alloc::{AllocError, Global};
 
 /// How many terms a filter may have.
@@ -94,12 +94,6 @@ fn name_end(bytes: &[u8]) -> Option<usize>
     ensures { result ≡ position (λ b. not (name_byte b)) bytes.now }
 {
     bytes.iter().position(|b| !is_name_byte(*b))
-}
-
-fn is_name_byte(byte: u8) -> bool
-    ensures { result ≡ name_byte byte }
-{
-    byte.is_ascii_lowercase() || byte.is_ascii_digit() || byte == b'_'
 }
 
 // The longest operator at the front, and what follows it.

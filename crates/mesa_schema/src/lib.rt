@@ -21,7 +21,7 @@ pub use columns::{KeyColumn, ValueColumn};
 pub use evolving::{Evolving, MAX_CHANGES, MAX_VIEWS};
 pub use laws::{folds_again, groups_folds, lifts_folds};
 pub use named::{Named, has_name, has_names, place_of, repeated_place};
-pub use names::{Name, NameError};
+pub use names::{Name, NameError, is_name_byte};
 pub use numbers::{key_value, signed};
 pub use rows::{Fields, KeyList, Row, RowList, Totals, Words};
 pub use schema::{MAX_COLUMNS, Schema, SchemaError};

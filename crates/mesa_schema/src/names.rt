@@ -82,7 +82,8 @@ fn are_name_bytes(bytes: &[u8]) -> bool
     bytes.iter().all(|byte| is_name_byte(*byte))
 }
 
-fn is_name_byte(byte: u8) -> bool
+/// Whether a byte may stand in a name behind its first one.
+pub fn is_name_byte(byte: u8) -> bool
     ensures { result ≡ name_byte byte }
 {
     byte.is_ascii_lowercase() || byte.is_ascii_digit() || byte == b'_'
