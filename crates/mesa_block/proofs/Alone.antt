@@ -1,5 +1,5 @@
 -- A row fits in an empty block.
-use Rattle.std.proofs.Common.{◌≡◌, ℕ, ◌+◌, ◌*◌, ◌≤◌, List, [], ◌∷◌, ◌++◌, length, refl, sym, ap, arith, Bool, true, false, Result, Ok, Err}
+use Rattle.std.proofs.Common.{◌≡◌, ◌*◌, ◌≤◌, List, [], ◌∷◌, length, refl, sym, ap, arith, Bool, true, false, Result}
 use Rattle.std.specs.Prelude.{IsTrue, ◌==◌, ◌||◌, ◌&&◌, is_ok, nat_le, nat_lt, not}
 use Rattle.std.specs.List.{list_any}
 use Rattle.std.specs.Str.{is_utf8}
@@ -12,13 +12,10 @@ use Rattle.mesa_key.specs.declared.KeyType.TheVariants as kind
 use Rattle.mesa_key.specs.declared.KeyValue.{KeyValue}
 use Rattle.mesa_key.specs.declared.KeyValue.TheVariants as value
 use Rattle.mesa_key.specs.Spelling.{IsKey, IsValue, key_of, key_spelling, value_spelling}
-use Rattle.mesa_key.specs.Text.{is_key_text}
 use Rattle.mesa_schema.specs.declared.columns.KeyColumn.{KeyColumn}
 use Rattle.mesa_schema.specs.declared.rows.Row.{Row}
-use Rattle.mesa_schema.specs.declared.schema.SchemaError.{SchemaError}
-use Rattle.mesa_schema.specs.declared.schema.SchemaError.TheVariants.{TooManyColumns}
 use Rattle.mesa_schema.specs.Columns.{Columns, kinds_of}
-use Rattle.mesa_schema.specs.Schema.{is_schema, max_columns, schema_checked}
+use Rattle.mesa_schema.specs.Schema.{is_schema, max_columns}
 use Rattle.mesa_block.specs.Fill.{fit}
 use Rattle.mesa_block.specs.Rows.{IsRow}
 use Rattle.mesa_block.proofs.Forms.{Passes, is_read}

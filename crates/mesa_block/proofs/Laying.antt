@@ -1,35 +1,21 @@
 -- Columns of rows, one row or one column more.
-use Rattle.std.proofs.Common.{◌≡◌, ℕ, zero, suc, ◌+◌, ◌-◌, ◌<◌, ◌≤◌, ◌^◌, List, [], ◌∷◌, ◌++◌, length, map, get_or, take, drop, refl, sym, ap, subst, ◌∙◌, arith, append_assoc, zero-add, Bool, true, false, inl, inr}
-use Rattle.std.specs.Prelude.{IsTrue, not, flat_map, pos, nat_le, ◌&&◌, ◌==◌}
+use Rattle.std.proofs.Common.{◌≡◌, ℕ, zero, suc, ◌+◌, ◌-◌, ◌<◌, ◌≤◌, ◌^◌, List, [], ◌∷◌, ◌++◌, length, map, get_or, take, drop, refl, sym, ap, ◌∙◌, arith, append_assoc, zero-add, Bool, true, false, inl, inr}
+use Rattle.std.specs.Prelude.{IsTrue, not, flat_map, nat_le, ◌&&◌, ◌==◌}
 use Rattle.std.specs.Str.{is_utf8}
-use Rattle.std.specs.List.{AllByRecursion, concat, list_any, range_with_len}
-use Rattle.std.proofs.lemmas.List.{take_more, drop_more, map-append, append-nil, length-take, length-drop, take_all}
-use Rattle.std.proofs.lemmas.List.Folds.{concat-append}
+use Rattle.std.specs.List.{AllByRecursion, list_any, range_with_len}
+use Rattle.std.proofs.lemmas.List.{append-nil, length-take, length-drop, take_all}
 use Rattle.std.proofs.lemmas.Grind.{flat_map-append}
 use Rattle.std.proofs.lemmas.List.FromFn.{map-range_with_len_more}
 use Rattle.std.proofs.lemmas.Bool.{eqb-true, leb-true, cases_lt}
 use Rattle.mesa_key.specs.declared.KeyType.{KeyType}
 use Rattle.mesa_key.specs.declared.KeyType.TheVariants as kind
 use Rattle.mesa_key.specs.Spelling.{before_zero, is_column, is_key_text, is_spelling}
-use Rattle.mesa_schema.specs.declared.rows.Row.{Row}
-use Rattle.mesa_block.specs.Spelling.{front, rest, column, columns, value, value_column}
+use Rattle.mesa_block.specs.Spelling.{front, rest}
 use Rattle.mesa_block.proofs.Zeros.{before_zero-le}
 
 map_same : (xs : List ℕ) → map (λ x. x) xs ≡ xs
 map_same [] = refl
 map_same (x ∷ xs) = ap (λ (l : List ℕ). x ∷ l) (map_same xs)
-
-pub cells_more : {X : Type 0} (f : List ℕ → List ℕ) (g : X → List ℕ) (xs : List X) (i : ℕ) (d : X) → i < length xs
-    → concat (map f (map g (take (i + 1) xs))) ≡ concat (map f (map g (take i xs))) ++ f (g (get_or xs i d))
-cells_more f g xs i d lt = rw (take_more xs i d lt, map-append, map-append, concat-append) (ap (λ (l : List ℕ). concat (map f (map g (take i xs))) ++ l) (append-nil (f (g (get_or xs i d)))))
-
--- one more row
-pub cells_step : {X : Type 0} (f : List ℕ → List ℕ) (g : X → List ℕ) (xs : List X) (i : ℕ) (d : X) (start now new cell : List ℕ) → i < length xs
-    → now ≡ start ++ concat (map f (map g (take i xs))) → cell ≡ f (g (get_or xs i d)) → new ≡ now ++ cell
-    → new ≡ start ++ concat (map f (map g (take (i + 1) xs)))
-cells_step f g xs i d start now new cell lt before is put =
-    put ∙ ap (λ (l : List ℕ). l ++ cell) before ∙ append_assoc start (concat (map f (map g (take i xs)))) cell
-    ∙ ap (λ (l : List ℕ). start ++ (concat (map f (map g (take i xs))) ++ l)) is ∙ ap (λ (l : List ℕ). start ++ l) (sym (cells_more f g xs i d lt))
 
 pub at_mapped : {X : Type 0} (P : List ℕ → Type 0) (g : X → List ℕ) (xs : List X) (i : ℕ) (d : X) → i < length xs → AllByRecursion P (map g xs) → P (g (get_or xs i d))
 at_mapped P g [] i d lt all = absurd (omega arith)
@@ -48,17 +34,6 @@ each_so P Q (x ∷ xs) f all = (f x all.0, each_so P Q xs f all.1)
 pub each_mapped : {X Y : Type 0} (P : X → Type 0) (Q : Y → Type 0) (g : X → Y) (xs : List X) → ((x : X) → P x → Q (g x)) → AllByRecursion P xs → AllByRecursion Q (map g xs)
 each_mapped P Q g [] f all = tt
 each_mapped P Q g (x ∷ xs) f all = (f x all.0, each_mapped P Q g xs f all.1)
-
-pub value_column-more : (rows : List Row) (i j : ℕ) (d : Row) → i < length rows → value_column (take (i + 1) rows) j ≡ value_column (take i rows) j ++ value_column (get_or rows i d ∷ []) j
-value_column-more rows i j d lt = rw (take_more rows i d lt, flat_map-append) refl
-
-pub value_column-step : (rows : List Row) (i j : ℕ) (row : Row) (start now new cell : List ℕ) → i < length rows
-    → now ≡ start ++ value_column (take i rows) j → row ≡ get_or rows i row → cell ≡ value (get_or row.values j (pos 0)) → new ≡ now ++ cell
-    → new ≡ start ++ value_column (take (i + 1) rows) j
-value_column-step rows i j row start now new cell lt before at is put =
-    let one : value_column (get_or rows i row ∷ []) j ≡ cell = ap (λ (r : Row). value_column (r ∷ []) j) (sym at) ∙ append-nil (value (get_or row.values j (pos 0))) ∙ sym is in
-    put ∙ ap (λ (l : List ℕ). l ++ cell) before ∙ append_assoc start (value_column (take i rows) j) cell
-    ∙ ap (λ (l : List ℕ). start ++ (value_column (take i rows) j ++ l)) (sym one) ∙ ap (λ (l : List ℕ). start ++ l) (sym (value_column-more rows i j row lt))
 
 pub range_more : (n : ℕ) → range_with_len 0 (n + 1) ≡ range_with_len 0 n ++ n ∷ []
 range_more n = sym (map_same (range_with_len 0 (n + 1))) ∙ map-range_with_len_more (λ x. x) 0 n n (zero-add n) ∙ ap (λ (l : List ℕ). l ++ n ∷ []) (map_same (range_with_len 0 n))
@@ -111,25 +86,3 @@ has_front kind.Text kinds key h =
     let p = both (is_column kind.Text (take (length (before_zero key) + 1) key)) (is_spelling kinds (drop (length (before_zero key) + 1) key)) h in
     let t = text_column key _ refl p.0 in
     record { small = t.0; others = p.1; parts = omega (arith, length-drop (length (before_zero key) + 1) key, t.1) }
-
-pub front_small : (kinds : List KeyType) (keys : List (List ℕ)) (i : ℕ) (d : KeyType) → i < length kinds → AllByRecursion (λ key. IsTrue (is_spelling (drop i kinds) key)) keys
-    → AllByRecursion (λ key. length (front (get_or kinds i d) key) < 2 ^ 8) keys
-front_small kinds keys i d lt all =
-    each_so (λ key. IsTrue (is_spelling (drop i kinds) key)) (λ key. length (front (get_or kinds i d) key) < 2 ^ 8) keys
-    (λ key h. (has_front (get_or kinds i d) (drop (i + 1) kinds) key (subst (λ (ks : List KeyType). IsTrue (is_spelling ks key)) (drop_more kinds i d lt) h)).small) all
-
-pub rest_good : (kinds : List KeyType) (keys others : List (List ℕ)) (i : ℕ) (d : KeyType) → i < length kinds → AllByRecursion (λ key. IsTrue (is_spelling (drop i kinds) key)) keys
-    → others ≡ map (rest (get_or kinds i d)) keys → AllByRecursion (λ key. IsTrue (is_spelling (drop (i + 1) kinds) key)) others
-rest_good kinds keys others i d lt all is =
-    subst (AllByRecursion (λ key. IsTrue (is_spelling (drop (i + 1) kinds) key))) (sym is) (each_mapped (λ key. IsTrue (is_spelling (drop i kinds) key)) (λ key. IsTrue (is_spelling (drop (i + 1) kinds) key)) (rest (get_or kinds i d)) keys
-    (λ key h. (has_front (get_or kinds i d) (drop (i + 1) kinds) key (subst (λ (ks : List KeyType). IsTrue (is_spelling ks key)) (drop_more kinds i d lt) h)).others) all)
-
--- one more column
-pub columns_step : (kinds : List KeyType) (keys others : List (List ℕ)) (i : ℕ) (d : KeyType) (now new whole : List ℕ) → i < length kinds
-    → now ++ columns (drop i kinds) keys ≡ whole → new ≡ now ++ column (get_or kinds i d) (map (front (get_or kinds i d)) keys) → others ≡ map (rest (get_or kinds i d)) keys
-    → new ++ columns (drop (i + 1) kinds) others ≡ whole
-columns_step kinds keys others i d now new whole lt before put is =
-    ap (λ (l : List ℕ). l ++ columns (drop (i + 1) kinds) others) put
-    ∙ ap (λ (ks : List (List ℕ)). (now ++ column (get_or kinds i d) (map (front (get_or kinds i d)) keys)) ++ columns (drop (i + 1) kinds) ks) is
-    ∙ append_assoc now (column (get_or kinds i d) (map (front (get_or kinds i d)) keys)) (columns (drop (i + 1) kinds) (map (rest (get_or kinds i d)) keys))
-    ∙ sym (ap (λ (ks : List KeyType). now ++ columns ks keys) (drop_more kinds i d lt)) ∙ before

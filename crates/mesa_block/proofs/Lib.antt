@@ -19,3 +19,5 @@ pub mod Small
 pub mod OnlyValues
 pub mod OnlyBlock
 pub mod Alone
+pub mod Held
+pub mod Putting

@@ -73,15 +73,21 @@ front_cut key n =
     let one : n + 1 ≡ suc n = omega arith in
     ap (λ m. take m (take (n + 1) key)) back ∙ ap (λ m. take n (take m key)) one ∙ cut key n
 
+-- the text of a key's first column, cut out of the column with its zero
+pub text_cell : (kinds : List KeyType) (key : List ℕ) → IsTrue (is_spelling (kind.Text ∷ kinds) key) → take (length (take (length (before_zero key) + 1) key) - 1) (take (length (before_zero key) + 1) key) ≡ before_zero key
+text_cell kinds key h =
+    let n = length (before_zero key) in
+    let p = both (is_column kind.Text (take (n + 1) key)) (is_spelling kinds (drop (n + 1) key)) h in
+    let t = text_column key _ refl p.0 in
+    ap (λ m. take (m - 1) (take (n + 1) key)) (omega (arith, length-take (n + 1) key, t.1)) ∙ front_cut key n ∙ before_zero-take key
+
 -- the text of a key's first column is a key text
 first_text : (kinds : List KeyType) (key : List ℕ) → IsTrue (is_spelling (kind.Text ∷ kinds) key) → is_key_text (before_zero key) ≡ true
 first_text kinds key h =
     let n = length (before_zero key) in
     let p = both (is_column kind.Text (take (n + 1) key)) (is_spelling kinds (drop (n + 1) key)) h in
-    let t = text_column key _ refl p.0 in
     let q = both (is_key_text (take (length (take (n + 1) key) - 1) (take (n + 1) key))) (length (before_zero (take (n + 1) key)) + 1 == length (take (n + 1) key)) p.0 in
-    let whole : take (length (take (n + 1) key) - 1) (take (n + 1) key) ≡ before_zero key = ap (λ m. take (m - 1) (take (n + 1) key)) (omega (arith, length-take (n + 1) key, t.1)) ∙ front_cut key n ∙ before_zero-take key in
-    ap is_key_text (sym whole) ∙ q.0
+    ap is_key_text (sym (text_cell kinds key h)) ∙ q.0
 
 -- where each element passes, there is no first that doesn't
 all_passed : {X : Type 0} (q : X → Bool) (xs : List X) → AllByRecursion (λ x. q x ≡ true) xs → prefix_len q xs ≡ length xs

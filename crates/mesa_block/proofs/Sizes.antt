@@ -1,11 +1,11 @@
 -- How long a block is: as long as its rows' keys and values, and three bytes.
-use Rattle.std.proofs.Common.{◌≡◌, ℕ, ◌+◌, ◌*◌, ◌<◌, ◌≤◌, List, [], ◌∷◌, ◌++◌, length, map, get_or, refl, sym, ap, ◌∙◌, arith, Bool, true, false, leb}
-use Rattle.std.specs.Prelude.{IsTrue, ◌&&◌, flat_map, pos}
+use Rattle.std.proofs.Common.{◌≡◌, ℕ, ◌+◌, ◌*◌, ◌<◌, ◌≤◌, List, [], ◌∷◌, ◌++◌, length, map, get_or, refl, sym, ap, ◌∙◌, arith, Bool, true, false, leb, ltb, ◌⊎◌, inl, inr}
+use Rattle.std.specs.Prelude.{IsTrue, ◌&&◌, ◌||◌, flat_map, pos}
 use Rattle.std.specs.List.{AllByRecursion, concat, range_with_len}
 use Rattle.std.proofs.lemmas.List.{map-append, length-append}
 use Rattle.std.proofs.lemmas.List.Concat.{flat_map-cons}
 use Rattle.std.proofs.lemmas.List.FromFn.{length-range_with_len}
-use Rattle.std.proofs.lemmas.Bool.{eqb-true, le-leb, lt-leb}
+use Rattle.std.proofs.lemmas.Bool.{eqb-true, le-leb, lt-leb, leb-true, leb-false, ltb-true, ltb-false}
 use Rattle.mesa_key.specs.declared.KeyType.{KeyType}
 use Rattle.mesa_key.specs.declared.KeyType.TheVariants as kind
 use Rattle.mesa_key.specs.Spelling.{is_spelling}
@@ -14,8 +14,8 @@ use Rattle.mesa_schema.specs.Columns.{Columns, kinds_of}
 use Rattle.mesa_block.specs.Spelling.{front, rest, column, columns, key_of, value, value_column, block}
 use Rattle.mesa_block.specs.Rows.{IsRow, Rise, most_rows, most_bytes}
 use Rattle.mesa_block.proofs.Forms.{IsRead, Passes, all_read, is_read}
-use Rattle.mesa_block.specs.Fill.{fit, IsBuilt}
-use Rattle.mesa_block.proofs.Laying.{has_front, each_so, each_mapped}
+use Rattle.mesa_block.specs.Fill.{fit, is_full, IsBuilt}
+use Rattle.mesa_block.proofs.Laying.{has_front, each_mapped}
 
 abbrev pub total : List (List ℕ) → ℕ
 total [] = 0
@@ -100,6 +100,38 @@ fits_so f rows row all h few short =
     let b : leb (length (block f (rows ++ row ∷ []))) most_bytes ≡ true = le-leb _ _ (omega (arith, block_more f rows row all h)) in
     rw (a, b) refl
 
+either : (b : Bool) → (b ≡ true) ⊎ (b ≡ false)
+either true = inl refl
+either false = inr refl
+
+or_false : (a b : Bool) → a || b ≡ false → (a ≡ false) × (b ≡ false)
+or_false true b e = absurd cc
+or_false false b e = (refl, e)
+
+-- A full block has no room for the row,
+pub no_room : Passes → (f : Columns) (rows : List Row) (row : Row) (len count : ℕ) → IsBuilt f rows len → IsRow f row → count ≡ length rows → is_full f count len row ≡ true → false ≡ fit f (rows ++ row ∷ [])
+no_room passes f rows row len count b h is full = elim (either (leb most_rows count)) [
+  | inl many ↦
+      let long : leb (length (rows ++ row ∷ [])) most_rows ≡ false = lt-leb _ _ (omega (arith, length-append rows (row ∷ []), leb-true most_rows count many)) in
+      rw long refl
+  | inr few ↦
+      let past : ltb most_bytes (len + (length row.key + 8 * length f.values)) ≡ true = sym (ap (λ (t : Bool). t || ltb most_bytes (len + (length row.key + 8 * length f.values))) few) ∙ full in
+      fits_not f rows row (all_read passes f rows b.good) (is_read passes f row h) (omega (arith, b.size, ltb-true most_bytes (len + (length row.key + 8 * length f.values)) past))
+]
+
+-- and another one has.
+pub record Room (f : Columns) (rows : List Row) (row : Row) (len : ℕ) : Type 0 where
+  pub few : length rows < most_rows
+  pub short : len + (length row.key + 8 * length f.values) ≤ most_bytes
+  pub fits : true ≡ fit f (rows ++ row ∷ [])
+
+pub has_room : Passes → (f : Columns) (rows : List Row) (row : Row) (len count : ℕ) → IsBuilt f rows len → IsRow f row → count ≡ length rows → is_full f count len row ≡ false → Room f rows row len
+has_room passes f rows row len count b h is full =
+    let p = or_false (leb most_rows count) (ltb most_bytes (len + (length row.key + 8 * length f.values))) full in
+    let few : length rows < most_rows = omega (arith, leb-false most_rows count p.0) in
+    let short : len + (length row.key + 8 * length f.values) ≤ most_bytes = ltb-false _ _ p.1 in
+    record { few = few; short = short; fits = fits_so f rows row (all_read passes f rows b.good) (is_read passes f row h) few (omega (arith, b.size)) }
+
 pub built_none : (f : Columns) → IsBuilt f [] 3
 built_none f = record { size = omega (arith, block_length f [] tt); few = omega arith; short = omega arith; good = tt; rise = tt }
 
@@ -115,6 +147,3 @@ built_more passes f rows row len more b h rise few is short = record {
 
 pub keys_good : (f : Columns) (rows : List Row) → AllByRecursion (IsRead f) rows → AllByRecursion (λ key. IsTrue (is_spelling (kinds_of f) key)) (map key_of rows)
 keys_good f rows all = each_mapped (IsRead f) (λ key. IsTrue (is_spelling (kinds_of f) key)) key_of rows (λ row h. h.key) all
-
-pub values_good : (f : Columns) (rows : List Row) → AllByRecursion (IsRead f) rows → AllByRecursion (λ (row : Row). (length f.values) ≤ length row.values) rows
-values_good f rows all = each_so (IsRead f) (λ (row : Row). (length f.values) ≤ length row.values) rows (λ row h. omega (arith, h.count)) all

@@ -1,5 +1,5 @@
 -- The bytes of a block of rows: each list of rows that makes a block has one spelling.
-use Rattle.std.specs.Prelude.{ℕ, ◌+◌, ℤ, pos, List, [], ◌∷◌, ◌++◌, length, map, take, drop, flat_map, get_or}
+use Rattle.std.specs.Prelude.{ℕ, ◌+◌, ◌-◌, ℤ, pos, List, [], ◌∷◌, ◌++◌, length, map, take, drop, flat_map, get_or}
 use Rattle.std.specs.Int.{w16, w64, to_be_bytes, cast_unsigned}
 use Rattle.std.specs.List.{concat, range_with_len}
 use Rattle.mesa_key.specs.declared.KeyType.{KeyType}
@@ -17,6 +17,16 @@ front kind.Text key = before_zero key
 abbrev pub rest : KeyType → List ℕ → List ℕ
 rest kind.Int key = drop 8 key
 rest kind.Text key = drop (length (before_zero key) + 1) key
+
+-- a column's bytes in a key, as a block has them: a text's without its zero byte
+abbrev pub cell : KeyType → List ℕ → List ℕ
+cell kind.Int bytes = bytes
+cell kind.Text bytes = take (length bytes - 1) bytes
+
+-- the lengths that stand before the cells of a column: those of texts
+abbrev pub lengths : KeyType → List (List ℕ) → List ℕ
+lengths kind.Int cells = []
+lengths kind.Text cells = map length cells
 
 -- A key column of all rows: ints one after the other; of texts first the lengths, a byte each, then the texts.
 abbrev pub column : KeyType → List (List ℕ) → List ℕ

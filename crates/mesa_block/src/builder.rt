@@ -4,11 +4,12 @@ ghost use Rattle.mesa_block.specs.Spelling.{block, key_of};
 ghost use Rattle.mesa_block.specs.Rows.{AreRows, IsRow, Rise};
 ghost use Rattle.mesa_block.specs.Fill.{after, fit};
 
-use crate::writing::{copy_row, spell};
-use crate::{MOST_BYTES, MOST_ROWS};
-use mesa_key::reads_back;
-use mesa_list::TryCopy;
+use crate::is_full;
+use crate::writing::{kinds, put_head, put_keys, put_values};
+use mesa_key::{KeyType, reads_back};
+use mesa_list::{Fields, TryCopy};
 use mesa_schema::{Row, Schema};
+use mesa_value::Amount;
 use std::alloc::{AllocError, Global};
 use std::marker::Model;
 
@@ -16,22 +17,28 @@ use std::marker::Model;
 const HEAD: usize = 3;
 
 /// A block that is being filled. It holds the rows, and spells them when the block is taken.
+///
+/// The keys stand one behind the other in one buffer, and so do the values, row by row. The buffers stay for the next block.
 #[derive(Drop)]
 pub struct BlockBuilder {
     alloc: Global,
     schema: Schema,
-    rows: Vec<Row>,
+    kinds: Vec<KeyType>,
+    keys: Fields,
+    values: Vec<Amount>,
     len: usize,
+    cells: Vec<u8>,
 }
 
 impl Model for BlockBuilder {
-    ghost use Rattle.mesa_block.specs.Fill.{Built, IsBuilt};
+    ghost use Rattle.std.specs.Prelude.{length};
+    ghost use Rattle.mesa_block.specs.Fill.{Built, IsHeld, rows_over};
 
     ghost Value = { Built };
 
-    ghost view = { λ b. record { columns = b.schema; rows = b.rows.items } };
+    ghost view = { λ b. record { columns = b.schema; rows = rows_over (length b.schema.values) b.keys b.values.items } };
 
-    ghost invariant = { λ b. IsBuilt b.schema b.rows.items b.len };
+    ghost invariant = { λ b. IsHeld b.schema b.kinds.items b.keys b.values.items b.len };
 }
 
 impl BlockBuilder {
@@ -42,8 +49,11 @@ impl BlockBuilder {
         Ok(BlockBuilder {
             alloc,
             schema: schema.copy()?,
-            rows: Vec::new(alloc),
+            kinds: kinds(alloc, schema)?,
+            keys: Fields::new(alloc),
+            values: Vec::new(alloc),
             len: HEAD,
+            cells: Vec::new(alloc),
         })
     }
 
@@ -56,34 +66,42 @@ impl BlockBuilder {
         ensures err { OnErr result (self.new ≡ self.old) }
     {
         reads_back();
-        let key_len = row.key.len();
-        if self.rows.len() >= MOST_ROWS {
+        let rows = self.keys.len();
+        if is_full(&self.schema, rows, self.len, row) {
             return Ok(false);
         }
-        if key_len > MOST_BYTES {
-            return Ok(false);
+        self.keys.push(row.key.as_slice())?;
+        if let Err(error) = self.values.extend_from_slice(row.values.as_slice()) {
+            self.keys.truncate(rows);
+            return Err(error);
         }
-        let more = key_len + 8 * self.schema.values().len();
-        if self.len + more > MOST_BYTES {
-            return Ok(false);
-        }
-        let copy = copy_row(row)?;
-        self.rows.push(copy)?;
-        self.len += more;
+        self.len += row.key.len() + 8 * self.schema.values().len();
         Ok(true)
     }
 
-    /// The bytes of the block, and the next block is empty.
-    pub fn take(&mut self) -> Result<Vec<u8>, AllocError>
+    /// Puts the bytes of the block into the buffer, in place of what is there, and the next block is empty.
+    pub fn take(&mut self, out: &mut Vec<u8>) -> Result<(), AllocError>
         requires { 0 < length self.old.rows }
-        ensures spelled { IfOk result (λ bytes. bytes.items ≡ block self.old.columns self.old.rows) }
+        ensures spelled { OnOk result (out.new.items ≡ block self.old.columns self.old.rows) }
         ensures rows { OnOk result (AreRows self.old.columns self.old.rows) }
         ensures empty { OnOk result (self.new ≡ record self.old { rows = [] }) }
         ensures err { OnErr result (self.new ≡ self.old) }
     {
-        let bytes = spell(self.alloc, &self.schema, &self.rows)?;
-        self.rows.clear();
+        reads_back();
+        out.clear();
+        put_head(out, self.keys.len())?;
+        put_keys(self.alloc, out, &mut self.cells, &self.kinds, &self.keys)?;
+        put_values(out, &self.values, self.schema.values().len())?;
+        self.clear();
+        Ok(())
+    }
+
+    /// Takes the rows out of the block.
+    pub fn clear(&mut self)
+        ensures { self.new ≡ record self.old { rows = [] } }
+    {
+        self.keys.truncate(0);
+        self.values.clear();
         self.len = HEAD;
-        Ok(bytes)
     }
 }

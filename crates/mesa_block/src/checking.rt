@@ -10,6 +10,7 @@ ghost use Rattle.mesa_block.specs.Reading.{bad_text, bad_column, key_at, values_
 use mesa_key::{KeyText, KeyType};
 use mesa_list::Items;
 use mesa_schema::Row;
+use mesa_value::Amount;
 use std::alloc::{AllocError, Global};
 use std::cmp::Ordering;
 
@@ -64,10 +65,10 @@ fn byte_of(cell: &[u8], k: usize) -> u8
 }
 
 // A value's number.
-fn number_of(cell: &[u8]) -> i64
+fn number_of(cell: &[u8]) -> Amount
     ensures { result ≡ cast_signed w64 (from_be_bytes w64 cell.now) }
 {
-    i64::from_be_bytes([
+    Amount::from_be_bytes([
         byte_of(cell, 0),
         byte_of(cell, 1),
         byte_of(cell, 2),
@@ -90,30 +91,30 @@ fn put_sealed(key: &mut Vec<u8>, kind: KeyType, cell: &[u8]) -> Result<(), Alloc
     Ok(())
 }
 
-// The key of the row i.
-fn key_of(
-    alloc: Global,
+// Puts the key of the row i into the buffer, in place of what is there.
+fn put_key(
+    key: &mut Vec<u8>,
     kinds: &[KeyType],
     columns: &[Vec<&[u8]>],
     i: usize,
-) -> Result<Vec<u8>, AllocError>
-    ensures { IfOk result (λ key. key.items ≡ key_at kinds.now (map (λ column. map (λ k. k.now) column.items) columns.now) i) }
+) -> Result<(), AllocError>
+    ensures { OnOk result (key.new.items ≡ key_at kinds.now (map (λ column. map (λ k. k.now) column.items) columns.now) i) }
 {
-    let mut key = Vec::new(alloc);
+    key.clear();
     for j in 0..kinds.len() {
         if j >= columns.len() {
-            return Ok(key);
+            return Ok(());
         }
-        put_sealed(&mut key, kinds[j], cell_of(&columns[j], i))?;
+        put_sealed(key, kinds[j], cell_of(&columns[j], i))?;
     }
-    Ok(key)
+    Ok(())
 }
 
 // The values of the row i.
-fn values_of(alloc: Global, columns: &[Vec<&[u8]>], i: usize) -> Result<Vec<i64>, AllocError>
+fn values_of(alloc: Global, columns: &[Vec<&[u8]>], i: usize) -> Result<Vec<Amount>, AllocError>
     ensures { IfOk result (λ values. values.items ≡ values_at (map (λ column. map (λ k. k.now) column.items) columns.now) i) }
 {
-    let mut values = Vec::new(alloc);
+    let mut values = Vec::with_capacity(alloc, columns.len())?;
     for column in columns {
         values.push(number_of(cell_of(column, i)))?;
     }
@@ -130,16 +131,19 @@ pub fn made_rows(
 ) -> Result<Vec<Row>, AllocError>
     ensures { IfOk result (λ rows. rows.items ≡ rows_of kinds.now (map (λ column. map (λ k. k.now) column.items) keys.now) (map (λ column. map (λ k. k.now) column.items) values.now) r) }
 {
-    let mut rows = Vec::new(alloc);
+    let mut rows = Vec::with_capacity(alloc, r)?;
+    let mut key = Vec::new(alloc);
     for i in 0..r {
-        let key = Items::from_vec(key_of(alloc, kinds, keys, i)?);
+        put_key(&mut key, kinds, keys, i)?;
+        let key = Items::from_bytes(alloc, &key)?;
         let values = Items::from_vec(values_of(alloc, values, i)?);
         rows.push(Row { key, values })?;
     }
     Ok(rows)
 }
 
-fn rises(before: &[u8], key: &[u8]) -> bool
+/// Whether a key is greater than the one before it.
+pub fn rises(before: &[u8], key: &[u8]) -> bool
     ensures { result ≡ is_less (byte_cmp before.now key.now) }
 {
     match before.cmp(key) {

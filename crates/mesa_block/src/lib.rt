@@ -6,12 +6,15 @@ mod checking;
 mod error;
 mod laws;
 mod reading;
+mod room;
 mod writing;
 
 pub use builder::BlockBuilder;
+pub use checking::rises;
 pub use error::BlockError;
 pub use laws::{fits_alone, grows_by_rows, reads_blocks};
 pub use reading::{Block, read_block};
+pub use room::is_full;
 
 /// How many rows a block has at most.
 pub const MOST_ROWS: usize = 1024;

@@ -29,7 +29,7 @@ fn piece_of(n: usize, bytes: &[u8]) -> Result<(&[u8], &[u8]), BlockError>
 fn ints_of(alloc: Global, r: usize, bytes: &[u8]) -> Result<(Vec<&[u8]>, &[u8]), BlockError>
     ensures { Gives (λ x. (map (λ k. k.now) x.0.items, x.1.now)) result (pieces_at (replicate r 8) bytes.now) }
 {
-    let mut pieces = Vec::new(alloc);
+    let mut pieces = Vec::with_capacity(alloc, r)?;
     let mut rest = bytes;
     for _ in 0..r {
         let (piece, after) = piece_of(8, rest)?;
@@ -47,7 +47,7 @@ fn pieces_of<'a>(
 ) -> Result<(Vec<&'a [u8]>, &'a [u8]), BlockError>
     ensures { Gives (λ x. (map (λ k. k.now) x.0.items, x.1.now)) result (pieces_at lengths.now bytes.now) }
 {
-    let mut pieces = Vec::new(alloc);
+    let mut pieces = Vec::with_capacity(alloc, lengths.len())?;
     let mut rest = bytes;
     for len in lengths {
         let (piece, after) = piece_of(*len as usize, rest)?;
@@ -89,7 +89,7 @@ fn columns_of<'a>(
 ) -> Result<(Vec<Vec<&'a [u8]>>, &'a [u8]), BlockError>
     ensures { Gives (λ x. (map (λ column. map (λ k. k.now) column.items) x.0.items, x.1.now)) result (columns_at kinds.now r bytes.now) }
 {
-    let mut columns = Vec::new(alloc);
+    let mut columns = Vec::with_capacity(alloc, kinds.len())?;
     let mut rest = bytes;
     for kind in kinds {
         let (column, after) = column_of(alloc, *kind, r, rest)?;
@@ -102,7 +102,7 @@ fn columns_of<'a>(
 fn int_kinds(alloc: Global, count: usize) -> Result<Vec<KeyType>, AllocError>
     ensures { IfOk result (λ v. v.items ≡ replicate count KeyType.Int) }
 {
-    let mut kinds = Vec::new(alloc);
+    let mut kinds = Vec::with_capacity(alloc, count)?;
     for _ in 0..count {
         kinds.push(KeyType::Int)?;
     }
@@ -195,6 +195,13 @@ impl Block {
         ensures { result.now ≡ self.now }
     {
         &self.rows
+    }
+
+    /// The rows; none is copied.
+    pub fn into_rows(self) -> Vec<Row>
+        ensures { result.items ≡ self }
+    {
+        self.rows
     }
 }
 

@@ -7,7 +7,7 @@ use Rattle.mesa_block.proofs.reading.columns_of.Goals as goal
 
 pub returns-in_err-column : goal.returns-in_err-column
 returns-in_err-column c =
-    let p = err_from_is_err_and c.from_residual.result c.from_residual.ensures.1 in
+    let p = err_from_is_err_and c.from_residual-in_err-column.result c.from_residual-in_err-column.ensures.1 in
     rw (p.1, p.2) (ends (λ kind. column_at kind c.args.r) c.in_err-column.field-0.0 (map (λ column. map (λ k. k.now) column.items) c.loop-kind.columns.items) _ _ _ c.loop-kind.rest.now _ (drop_more c.args.kinds.now c.loop-kind.kind-index _ c.loop-kind-test.true) c.in_err-column.ensures c.loop-kind.invariant)
 
 pub loop-kind-preserved : goal.loop-kind-preserved

@@ -7,7 +7,7 @@ use Rattle.mesa_block.proofs.reading.pieces_of.Goals as goal
 
 pub returns-in_err-piece : goal.returns-in_err-piece
 returns-in_err-piece c =
-    let p = err_from_is_err_and c.from_residual.result c.from_residual.ensures.1 in
+    let p = err_from_is_err_and c.from_residual-in_err-piece.result c.from_residual-in_err-piece.ensures.1 in
     rw (p.1, p.2) (ends piece_at c.in_err-piece.field-0.0 (map (λ k. k.now) c.loop-len.pieces.items) _ _ _ c.loop-len.rest.now _ (drop_more c.args.lengths.now c.loop-len.len-index 0 c.loop-len-test.true) c.in_err-piece.ensures c.loop-len.invariant)
 
 pub loop-len-preserved : goal.loop-len-preserved

@@ -1,12 +1,15 @@
-use Rattle.std.proofs.Common.{◌≡◌, ◌++◌, map, drop}
+use Rattle.std.proofs.Common.{◌≡◌, ◌++◌, map, length}
 use Rattle.std.specs.Prelude.{IsTrue}
 use Rattle.std.specs.List.{AllByRecursion}
 use Rattle.mesa_key.specs.Spelling.{is_spelling}
-use Rattle.mesa_block.specs.Spelling.{columns, key_of}
+use Rattle.mesa_block.specs.Spelling.{columns}
 use Rattle.mesa_block.proofs.writing.put_keys.Given as goal
 
-abbrev pub invariant-loop-kind : goal.invariant-loop-kind
-invariant-loop-kind l = record {
-  put : l.out.items ++ columns (drop l.kind-index l.kinds) (map (λ k. k.now) l.keys.items) ≡ l.fn.out.items ++ columns l.kinds (map key_of l.rows);
-  good : AllByRecursion (λ key. IsTrue (is_spelling (drop l.kind-index l.kinds) key)) (map (λ k. k.now) l.keys.items);
+abbrev pub invariant-loop-others : goal.invariant-loop-others
+invariant-loop-others l = record {
+  put : l.out.items ++ columns l.left (map (λ k. k.now) l.keys.items) ≡ l.fn.out.items ++ columns l.kinds l.fn.keys;
+  good : AllByRecursion (λ key. IsTrue (is_spelling l.left key)) (map (λ k. k.now) l.keys.items);
 }
+
+abbrev pub decreases-loop-others : goal.decreases-loop-others
+decreases-loop-others l = length l.left

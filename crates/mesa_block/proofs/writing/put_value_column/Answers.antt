@@ -1,7 +1,14 @@
-use Rattle.mesa_block.proofs.Laying.{value_column-step}
+use Rattle.std.proofs.Common.{◌∙◌, ◌++◌, ap}
+use Rattle.mesa_block.proofs.Held.{left_all, put_all, put_one}
 use Rattle.mesa_block.proofs.writing.put_value_column.Goals as goal
 
-pub loop-row-preserved : goal.loop-row-preserved
-loop-row-preserved c =
-    value_column-step c.args.rows.now c.loop-row.row-index c.args.j c.row-item.result c.args.out.now.items c.loop-row.out.items _ c.value_bytes-bytes.result c.loop-row-test.true c.loop-row.invariant c.row-item.is
-    (rw c.as_slice-values.ensures at c.value_bytes-bytes.ensures) c.in_ok-extend_from_slice.ensures.items
+pub loop-left-init : goal.loop-left-init
+loop-left-init c = λ keys over. left_all c.args.count c.args.j keys c.args.values.now c.args.out.now.items over
+
+pub loop-left-preserved : goal.loop-left-preserved
+loop-left-preserved c = λ keys over.
+    put_one c.args.count c.args.j c.loop-left.left.now c.split_at.result.0.now c.split_at.result.1.now c.loop-left.out.items c.extend_from_slice.new.self.items _ c.requires c.loop-left-test.true
+    (c.loop-left.invariant keys over) c.split_at.ensures.front c.split_at.ensures.back (c.in_ok-extend_from_slice.ensures.items ∙ ap (λ l. c.loop-left.out.items ++ l) c.value_bytes.ensures)
+
+pub returns : goal.returns
+returns c = λ keys over. put_all c.args.count c.args.j c.loop-left.left.now c.loop-left.out.items _ c.loop-left-test.false (c.loop-left.invariant keys over)

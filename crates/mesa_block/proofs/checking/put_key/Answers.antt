@@ -1,6 +1,6 @@
 use Rattle.std.proofs.Common.{map}
 use Rattle.mesa_block.proofs.Rows.{key_step, key_end, key_end_kinds}
-use Rattle.mesa_block.proofs.checking.key_of.Goals as goal
+use Rattle.mesa_block.proofs.checking.put_key.Goals as goal
 
 pub returns-then-j-columns : goal.returns-then-j-columns
 returns-then-j-columns c = key_end _ c.args.kinds.now c.args.columns.now c.args.i c.loop-j.j _ _ c.if-j-columns.true c.loop-j.invariant
