@@ -11,14 +11,14 @@ use Rattle.mesa_key.specs.Order.{byte_cmp}
 use Rattle.mesa_schema.specs.declared.rows.Row.{Row}
 use Rattle.mesa_schema.specs.Columns.{Columns}
 use Rattle.mesa_schema.specs.Folded.{rows_of}
-use Rattle.mesa_block.specs.Fill.{fit}
+use Rattle.mesa_block.specs.Fill.{fit, is_full}
 use Rattle.mesa_block.specs.Reading.{is_less}
 use Rattle.mesa_block.specs.Rows.{AreRows, IsRow, Rise, most_rows, most_bytes}
 use Rattle.mesa_block.specs.Spelling.{block, key_of}
 use Rattle.mesa_delta.specs.declared.run.Run.{Run}
 use Rattle.mesa_delta.specs.declared.place.Entry.{Entry}
 use Rattle.mesa_delta.specs.Indexed.{Indexed, IsIndex}
-use Rattle.mesa_delta.specs.Packing.{Packed, last_part, is_full, goes_on}
+use Rattle.mesa_delta.specs.Packing.{Packed, last_part, goes_on}
 use Rattle.mesa_delta.specs.Places.{entry_of}
 use Rattle.mesa_delta.specs.Reading.{IsBlock, IsNeverNext, IsRun}
 use Rattle.mesa_delta.specs.Spread.{blocks_of}
@@ -59,7 +59,7 @@ abbrev more_bytes : Columns → Row → ℕ
 more_bytes s row = length row.key + 8 * length s.values
 
 -- what is kept tells whether the last block has room
-full_is : Grows → (s : Columns) (run : Run) (last : List Row) (row : Row) → AllByRecursion (IsRow s) last → IsRow s row → run.count ≡ length last → run.len ≡ length (block s last) → fit s (last ++ row ∷ []) ≡ false → is_full s run row ≡ true
+full_is : Grows → (s : Columns) (run : Run) (last : List Row) (row : Row) → AllByRecursion (IsRow s) last → IsRow s row → run.count ≡ length last → run.len ≡ length (block s last) → fit s (last ++ row ∷ []) ≡ false → is_full s run.count run.len row ≡ true
 full_is law s run last row all h count len off =
     full_at (leb most_rows run.count) (ltb most_bytes (run.len + more_bytes s row))
     (λ a b.
@@ -68,7 +68,7 @@ full_is law s run last row all h count len off =
     let yes = fits s (last ++ row ∷ []) (omega (arith, few, count, length-append last (row ∷ []))) (omega (arith, short, len, law s last row all h)) in
     false≢true (sym off ∙ yes))
 
-full_so : Grows → (s : Columns) (run : Run) (last : List Row) (row : Row) → AllByRecursion (IsRow s) last → IsRow s row → run.count ≡ length last → run.len ≡ length (block s last) → is_full s run row ≡ true → fit s (last ++ row ∷ []) ≡ false
+full_so : Grows → (s : Columns) (run : Run) (last : List Row) (row : Row) → AllByRecursion (IsRow s) last → IsRow s row → run.count ≡ length last → run.len ≡ length (block s last) → is_full s run.count run.len row ≡ true → fit s (last ++ row ∷ []) ≡ false
 full_so law s run last row all h count len full =
     not_true (fit s (last ++ row ∷ []))
     (λ yes.
@@ -128,13 +128,13 @@ rows_some s p parts h = omega (arith, h.some, length-append p (rows_of parts))
 
 -- a block of a file that begins so may come next
 pub goes_holds : Grows → (s : Columns) (run : Run) (parts more : List (List Row)) (row : Row) (rest : List Row) → IsRun s run parts → IsRow s row → Packed s (parts ++ (row ∷ rest) ∷ more) → Rise (map key_of (rows_of (parts ++ (row ∷ rest) ∷ more))) → goes_on s run row ≡ true
-goes_holds law s run [] more row rest h is packed rise = or_left (run.next == 0) (is_less (byte_cmp run.last row.key) && is_full s run row) (ap (λ (n : ℕ). n == 0) h.next)
+goes_holds law s run [] more row rest h is packed rise = or_left (run.next == 0) (is_less (byte_cmp run.last row.key) && is_full s run.count run.len row) (ap (λ (n : ℕ). n == 0) h.next)
 goes_holds law s run (p ∷ parts) more row rest h is packed rise =
     let last = last_part_good s (p ∷ parts) (omega arith) h.each in
     let less = last_less (rows_of (p ∷ parts)) row (rest ++ rows_of more) (rows_some s p parts h.each.0) (subst (λ (l : List Row). Rise (map key_of l)) (rows_more (p ∷ parts) (row ∷ rest) more) rise) in
     let full = full_is law s run (last_part (p ∷ parts)) row last.good is h.count (h.len (omega arith)) (packed_at s p parts (row ∷ rest) more packed) in
-    or_right (run.next == 0) (is_less (byte_cmp run.last row.key) && is_full s run row)
-    (and_both (is_less (byte_cmp run.last row.key)) (is_full s run row) (ap is_less (ap (λ (k : List ℕ). byte_cmp k row.key) h.last ∙ less)) full)
+    or_right (run.next == 0) (is_less (byte_cmp run.last row.key) && is_full s run.count run.len row)
+    (and_both (is_less (byte_cmp run.last row.key)) (is_full s run.count run.len row) (ap is_less (ap (λ (k : List ℕ). byte_cmp k row.key) h.last ∙ less)) full)
 
 zero_so : (n : ℕ) → n == 0 ≡ true → n ≡ 0
 zero_so n e = eqb-true n 0 e
@@ -143,10 +143,10 @@ zero_so n e = eqb-true n 0 e
 passed : Grows → (s : Columns) (run : Run) (parts : List (List Row)) (row : Row) → IsRun s run parts → IsRow s row → goes_on s run row ≡ true → 0 < length parts → (byte_cmp (last_key (rows_of parts)) row.key ≡ Less) × (fit s (last_part parts ++ row ∷ []) ≡ false)
 passed law s run parts row h is e some =
     let last = last_part_good s parts some h.each in
-    elim (or_true (run.next == 0) (is_less (byte_cmp run.last row.key) && is_full s run row) e) as (λ _. (byte_cmp (last_key (rows_of parts)) row.key ≡ Less) × (fit s (last_part parts ++ row ∷ []) ≡ false)) [
+    elim (or_true (run.next == 0) (is_less (byte_cmp run.last row.key) && is_full s run.count run.len row) e) as (λ _. (byte_cmp (last_key (rows_of parts)) row.key ≡ Less) × (fit s (last_part parts ++ row ∷ []) ≡ false)) [
       | inl z ↦ absurd (omega (arith, zero_so run.next z, h.next, some))
       | inr f ↦ (
-          let both = and_true (is_less (byte_cmp run.last row.key)) (is_full s run row) f in
+          let both = and_true (is_less (byte_cmp run.last row.key)) (is_full s run.count run.len row) f in
           (ap (λ (k : List ℕ). byte_cmp k row.key) (sym h.last) ∙ less_is (byte_cmp run.last row.key) both.0, full_so law s run (last_part parts) row last.good is h.count (h.len some) both.1)
           )
     ]

@@ -1,11 +1,10 @@
 -- Blocks that are as full as they can be.
-use Rattle.std.specs.Prelude.{◌≡◌, ◌+◌, ◌*◌, List, [], ◌∷◌, ◌++◌, length, take, Bool, false, ◌||◌, ◌&&◌, ◌==◌, nat_le, nat_lt}
+use Rattle.std.specs.Prelude.{◌≡◌, List, [], ◌∷◌, ◌++◌, take, Bool, false, ◌||◌, ◌&&◌, ◌==◌}
 use Rattle.mesa_key.specs.Order.{byte_cmp}
 use Rattle.mesa_schema.specs.declared.rows.Row.{Row}
 use Rattle.mesa_schema.specs.Columns.{Columns}
-use Rattle.mesa_block.specs.Fill.{fit}
+use Rattle.mesa_block.specs.Fill.{fit, is_full}
 use Rattle.mesa_block.specs.Reading.{is_less}
-use Rattle.mesa_block.specs.Rows.{most_rows, most_bytes}
 use Rattle.mesa_delta.specs.declared.run.Run.{Run}
 
 -- No block but the last has room for the first row of the next.
@@ -20,10 +19,6 @@ last_part [] = []
 last_part (part ∷ []) = part
 last_part (part ∷ next ∷ parts) = last_part (next ∷ parts)
 
--- the last block has no room for a row
-abbrev pub is_full : Columns → Run → Row → Bool
-is_full s run row = nat_le most_rows run.count || nat_lt most_bytes (run.len + (length row.key + 8 * length s.values))
-
 -- A block that begins with a row may come next: it is the first, or its key is greater than the last one and there is no room for it in the last block.
 abbrev pub goes_on : Columns → Run → Row → Bool
-goes_on s run row = (run.next == 0) || (is_less (byte_cmp run.last row.key) && is_full s run row)
+goes_on s run row = (run.next == 0) || (is_less (byte_cmp run.last row.key) && is_full s run.count run.len row)

@@ -1,6 +1,7 @@
 -- Reading a file block by block.
-use Rattle.std.specs.Prelude.{◌≡◌, ◌≢◌, ◌⊎◌, ℕ, ◌-◌, ◌<◌, List, ◌∷◌, ◌++◌, length, map, take, drop, flat_map, Option, Some}
+use Rattle.std.specs.Prelude.{◌≡◌, ◌≢◌, ◌⊎◌, ℕ, ◌-◌, ◌<◌, List, ◌∷◌, ◌++◌, length, map, take, drop, flat_map, Option, Some, Vec}
 use Rattle.std.specs.List.{AllByRecursion}
+use Rattle.std.specs.declared.alloc.Global.{Global}
 use Rattle.mesa_key.specs.Order.{short_key}
 use Rattle.mesa_schema.specs.declared.rows.Row.{Row}
 use Rattle.mesa_schema.specs.Columns.{Columns}
@@ -26,6 +27,10 @@ reader_of r = r.reader
 
 abbrev pub index_of : {R : Type 0} → DeltaReader R → Indexed
 index_of r = r.index
+
+-- the buffer of the piece that was read last
+abbrev pub buffer_of : {R : Type 0} → DeltaReader R → Vec ℕ Global
+buffer_of r = r.bytes
 
 -- Bytes end with the tail of this index.
 pub record IsOver (x : Indexed) (bytes : List ℕ) : Type 0 where

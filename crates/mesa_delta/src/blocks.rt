@@ -40,6 +40,8 @@ pub struct BlockWriter<M, T> {
     pub blocks: u32,
     /// The short key of the open block's first row, once there is one.
     pub short: Option<[u8; 16]>,
+    /// The bytes of the block that was closed last. The buffer stays for the next one.
+    pub bytes: Vec<u8>,
     pub made: PhantomData<M>,
 }
 
@@ -75,6 +77,7 @@ impl<M: Made, T: Draft<M>> BlockWriter<M, T> {
             offset: _offset,
             blocks: _blocks,
             short: _short,
+            bytes: _bytes,
             made: _made,
         } = self;
         draft
@@ -110,15 +113,15 @@ impl<M: Made, T: Draft<M>> BlockWriter<M, T> {
         let Some(short) = self.short else {
             return Err(WriteError::Memory);
         };
-        let bytes = self.builder.take()?;
-        put_entry(&mut self.entries, &short, self.offset, &bytes)?;
-        let Some(offset) = self.offset.checked_add(bytes.len() as u64) else {
+        self.builder.take(&mut self.bytes)?;
+        put_entry(&mut self.entries, &short, self.offset, &self.bytes)?;
+        let Some(offset) = self.offset.checked_add(self.bytes.len() as u64) else {
             return Err(WriteError::Memory);
         };
         let Some(blocks) = self.blocks.checked_add(1) else {
             return Err(WriteError::Memory);
         };
-        self.draft.append(&bytes)?;
+        self.draft.append(&self.bytes)?;
         self.offset = offset;
         self.blocks = blocks;
         self.short = None;

@@ -1,5 +1,5 @@
 // A piece of a file, read at once.
-ghost use Rattle.std.specs.Prelude.{◌≡◌, ◌≢◌, ◌+◌, ◌≤◌, IfOk, IfErr, OnOk};
+ghost use Rattle.std.specs.Prelude.{◌≡◌, ◌≢◌, ◌+◌, ◌≤◌, IfErr, OnOk};
 ghost use Rattle.sha2.specs.Sha256.{sha256};
 ghost use Rattle.mesa_fault.specs.Causes.{HasFaultCause};
 ghost use Rattle.mesa_file.specs.declared.damage.Damage.{Damage as AnyDamage};
@@ -9,26 +9,25 @@ ghost use Rattle.mesa_delta.specs.Damages.{IsPiece, IsWrongDigest};
 use crate::FileError;
 use mesa_disk::{Damage, FileId, FileReader, Seen};
 use sha2::{Digest, Sha256};
-use std::alloc::Global;
 
-/// The bytes from a place on, by one read.
+/// Fills the buffer with the bytes from a place on, by one read, in place of what is there.
 pub fn read_piece<R: FileReader>(
-    alloc: Global,
     reader: &mut R,
     at: u64,
     len: u64,
-) -> Result<Vec<u8>, FileError>
+    bytes: &mut Vec<u8>,
+) -> Result<(), FileError>
     requires { at + len ≤ R.size reader.old }
-    ensures piece { IfOk result (λ v. IsPiece (R.bytes reader.old) at len v.items) }
+    ensures piece { OnOk result (IsPiece (R.bytes reader.old) at len bytes.new.items) }
     ensures bytes { R.bytes reader.new ≡ R.bytes reader.old }
     ensures size { R.size reader.new ≡ R.size reader.old }
     ensures reads { R.reads reader.new ≤ R.reads reader.old + 1 }
     ensures cause { HasFaultCause (λ e. e ≡ file_error.Read) (R.faults reader.old) (R.faults reader.new) result }
     ensures whole { IfErr result (λ e. (d : AnyDamage) → e ≢ file_error.Damaged d) }
 {
-    let mut bytes = vec![in alloc; 0; len as usize]?;
-    reader.read_at(at, &mut bytes)?;
-    Ok(bytes)
+    bytes.resize(len as usize, 0)?;
+    reader.read_at(at, bytes)?;
+    Ok(())
 }
 
 /// Refuses bytes of another digest.

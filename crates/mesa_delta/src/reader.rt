@@ -14,7 +14,7 @@ ghost use Rattle.mesa_delta.specs.Damages.{IsPieceDamage, IsWrongLength};
 ghost use Rattle.mesa_delta.specs.Indexed.{IsIndexOf, tail_length};
 ghost use Rattle.mesa_delta.specs.File.{IsFile};
 ghost use Rattle.mesa_delta.specs.Places.{entry_of, shorts_of};
-ghost use Rattle.mesa_delta.specs.Reading.{HasRead, IsBlock, IsBlockDamage, IsIndexed, IsNeverNext, IsNoBlock, IsNoTail, IsNoneIn, IsNotNext, IsOver, IsReaderOf, IsRun, IsTailDamage, IsWhole, index_of, piece_of, reader_of, tail_place};
+ghost use Rattle.mesa_delta.specs.Reading.{HasRead, IsBlock, IsBlockDamage, IsIndexed, IsNeverNext, IsNoBlock, IsNoTail, IsNoneIn, IsNotNext, IsOver, IsReaderOf, IsRun, IsTailDamage, IsWhole, buffer_of, index_of, piece_of, reader_of, tail_place};
 ghost use Rattle.mesa_delta.specs.Seeking.{seek_in};
 ghost use Rattle.mesa_delta.specs.Spread.{blocks_of};
 ghost use Rattle.mesa_delta.specs.Summary.{IsReferenceOf};
@@ -34,6 +34,8 @@ pub struct DeltaReader<R> {
     pub(crate) reader: R,
     pub(crate) index: Index,
     pub(crate) run: Run,
+    /// The bytes of the piece that was read last. The buffer stays for the next one.
+    pub(crate) bytes: Vec<u8>,
 }
 
 // How long a file's tail is.
@@ -68,6 +70,7 @@ fn read_index<R: FileReader>(
     reader: &mut R,
     file: &FileRef,
     schema: &Schema,
+    bytes: &mut Vec<u8>,
 ) -> Result<Index, FileError>
     ensures index { IfOk result (λ x. (bytes : List ℕ) × IsIndexOf file.now schema.now bytes x × (sha256 bytes ≡ file.now.digest)) }
     ensures over { IfOk result (λ x. (b : List ℕ) → R.bytes reader.old ≡ Some b → IsOver x b) }
@@ -83,11 +86,11 @@ fn read_index<R: FileReader>(
         return Err(FileError::Damaged(damage));
     }
     let place = file.len.saturating_sub(tail_len(schema, file.blocks));
-    let bytes = read_piece(alloc, reader, place, file.len - place)?;
-    if let Err(damage) = check_digest(file.id, place, &file.digest, &bytes) {
+    read_piece(reader, place, file.len - place, bytes)?;
+    if let Err(damage) = check_digest(file.id, place, &file.digest, bytes) {
         return Err(FileError::Damaged(damage));
     }
-    match Index::read(alloc, file, schema, &bytes)? {
+    match Index::read(alloc, file, schema, bytes)? {
         Some(index) => Ok(index),
         None => Err(FileError::Damaged(misfit(file.id, place))),
     }
@@ -136,6 +139,7 @@ fn fetch<R: FileReader>(
     reader: &mut R,
     index: &Index,
     i: u32,
+    bytes: &mut Vec<u8>,
 ) -> Result<Block, FileError>
     requires { i < length index.now.entries }
     ensures block { IfOk result (λ rows. IsBlock index.now i rows) }
@@ -152,11 +156,11 @@ fn fetch<R: FileReader>(
     if let Err(damage) = check_length(reader, index.file(), index.len()) {
         return Err(FileError::Damaged(damage));
     }
-    let bytes = read_piece(alloc, reader, entry.offset, entry.len as u64)?;
-    if let Err(damage) = check_digest(index.file(), entry.offset, &entry.digest, &bytes) {
+    read_piece(reader, entry.offset, entry.len as u64, bytes)?;
+    if let Err(damage) = check_digest(index.file(), entry.offset, &entry.digest, bytes) {
         return Err(FileError::Damaged(damage));
     }
-    match block_in(alloc, index.schema(), &entry.short, &bytes)? {
+    match block_in(alloc, index.schema(), &entry.short, bytes)? {
         Some(block) => Ok(block),
         None => Err(FileError::Damaged(misfit(index.file(), entry.offset))),
     }
@@ -219,11 +223,13 @@ impl<R: FileReader> DeltaReader<R> {
         told_length(file);
         fits_alone();
         let _columns = schema.keys();
-        match read_index(alloc, &mut reader, file, schema) {
+        let mut bytes = Vec::new(alloc);
+        match read_index(alloc, &mut reader, file, schema, &mut bytes) {
             Ok(index) => Ok(DeltaReader {
                 reader,
                 index,
                 run: Run::start(alloc),
+                bytes,
             }),
             Err(error) => Err((error, reader)),
         }
@@ -264,7 +270,7 @@ impl<R: FileReader> DeltaReader<R> {
         ensures bytes { R.bytes (reader_of self.new) ≡ R.bytes (reader_of self.old) }
         ensures size { R.size (reader_of self.new) ≡ R.size (reader_of self.old) }
         ensures reads { R.reads (reader_of self.new) ≤ R.reads (reader_of self.old) + 1 }
-        ensures err { OnErr result (self.new ≡ record self.old { reader = reader_of self.new }) }
+        ensures err { OnErr result (self.new ≡ record self.old { reader = reader_of self.new; bytes = buffer_of self.new }) }
 
         // Read comes where the count of faults rose, and Damaged where the file isn't the recorded one.
         ensures cause { HasFaultCause (λ e. e ≡ file_error.Read) (R.faults (reader_of self.old)) (R.faults (reader_of self.new)) result }
@@ -278,7 +284,7 @@ impl<R: FileReader> DeltaReader<R> {
         reads_blocks();
         let _blocks = self.index.blocks();
         let alloc = self.index.allocator();
-        let block = match fetch(alloc, &mut self.reader, &self.index, i) {
+        let block = match fetch(alloc, &mut self.reader, &self.index, i, &mut self.bytes) {
             Ok(block) => block,
             Err(error) => return Err(error),
         };
@@ -329,6 +335,7 @@ impl<R: FileReader> DeltaReader<R> {
             reader,
             index,
             run: _run,
+            bytes: _bytes,
         } = self;
         (reader, index)
     }
@@ -340,9 +347,14 @@ impl<R: FileReader> DeltaReader<R> {
         ensures index { index_of result ≡ index }
         ensures read { HasRead R.bytes result [] }
     {
-        let run = Run::start(index.allocator());
+        let alloc = index.allocator();
         let _blocks = index.blocks();
-        DeltaReader { reader, index, run }
+        DeltaReader {
+            reader,
+            index,
+            run: Run::start(alloc),
+            bytes: Vec::new(alloc),
+        }
     }
 }
 

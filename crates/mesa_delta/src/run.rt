@@ -1,16 +1,13 @@
 // Blocks that are read one after the other, from the first on.
 ghost use Rattle.std.specs.Prelude.{◌≡◌, ◌<◌, ◌+◌, [], length, IfOk};
-ghost use Rattle.mesa_key.specs.Order.{byte_cmp};
-ghost use Rattle.mesa_block.specs.Reading.{is_less};
-ghost use Rattle.mesa_delta.specs.Packing.{goes_on, is_full};
+ghost use Rattle.mesa_delta.specs.Packing.{goes_on};
 ghost use Rattle.mesa_delta.specs.Summary.{last_key};
 
-use mesa_block::{MOST_BYTES, MOST_ROWS};
+use mesa_block::{is_full, rises};
 use mesa_key::KeyBytes;
 use mesa_list::{Items, TryCopy};
 use mesa_schema::{Row, Schema};
 use std::alloc::{AllocError, Global};
-use std::cmp::Ordering;
 
 /// What is kept of the blocks that were read one after the other, so that the next one can be tested against them.
 #[derive(Drop)]
@@ -51,21 +48,8 @@ impl Run {
         if self.next == 0 {
             return true;
         }
-        rises(self.last.as_slice(), row.key.as_slice()) && self.is_full(schema, row)
-    }
-
-    // Whether the last block has no room for the row.
-    fn is_full(&self, schema: &Schema, row: &Row) -> bool
-        ensures { result ≡ is_full schema.now self.now row.now }
-    {
-        if self.count >= MOST_ROWS {
-            return true;
-        }
-        let key_len = row.key.len();
-        if key_len > MOST_BYTES {
-            return true;
-        }
-        self.len as usize + (key_len + 8 * schema.values().len()) > MOST_BYTES
+        rises(self.last.as_slice(), row.key.as_slice())
+            && is_full(schema, self.count, self.len as usize, row)
     }
 
     /// With a block of these rows more, of this many bytes. More rows than can be counted are answered as want of memory.
@@ -90,15 +74,5 @@ impl Run {
             count: rows.len(),
             len,
         })
-    }
-}
-
-fn rises(before: &[u8], key: &[u8]) -> bool
-    ensures { result ≡ is_less (byte_cmp before.now key.now) }
-{
-    match before.cmp(key) {
-        Ordering::Less => true,
-        Ordering::Equal => false,
-        Ordering::Greater => false,
     }
 }

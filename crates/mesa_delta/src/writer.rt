@@ -55,6 +55,7 @@ impl<M: Made, T: Draft<M>> DeltaWriter<M, T> {
             offset: 0,
             blocks: 0,
             short: None,
+            bytes: Vec::new(alloc),
             made: PhantomData,
         };
         Ok(DeltaWriter {
