@@ -5,10 +5,11 @@ use Rattle.std.proofs.lemmas.List.{append-nil}
 use Rattle.mesa_value.specs.declared.Agg.{Agg}
 use Rattle.mesa_schema.specs.declared.rows.Row.{Row}
 use Rattle.mesa_schema.specs.Folded.{folded, keys_of}
-use Rattle.mesa_fold.specs.Put.{IsFold, put_row, put_rows}
-use Rattle.mesa_fold.proofs.Keys.{is_rising}
-use Rattle.mesa_fold.proofs.Folds.{keys, folded-folded, keys-folded_at, rising-keys_of}
-use Rattle.mesa_fold.proofs.Folding.{of_rows, put_all, put_one}
+use Rattle.mesa_schema.specs.Put.{put_row, put_rows}
+use Rattle.mesa_fold.specs.Put.{IsFold}
+use Rattle.mesa_schema.proofs.Keys.{is_rising}
+use Rattle.mesa_schema.proofs.Folds.{keys, folded-folded, keys-folded_at, rising-keys_of}
+use Rattle.mesa_schema.proofs.Folding.{of_rows, put_all, put_one}
 
 pub of_rows-same : (aggs : List Agg) (rows : List Row) → IsFold aggs rows → of_rows aggs rows ≡ rows
 of_rows-same aggs rows fold = ap (of_rows aggs) (sym (append-nil rows)) ∙ fold

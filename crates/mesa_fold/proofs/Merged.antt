@@ -14,10 +14,11 @@ use Rattle.mesa_schema.specs.declared.rows.Row.{Row}
 use Rattle.mesa_schema.specs.Folded.{row_combined}
 use Rattle.mesa_schema.specs.Laws.{AreFull}
 use Rattle.mesa_batch.specs.Totals.{abs_total}
-use Rattle.mesa_fold.specs.Put.{AreRising, IsFold, put_row, put_rows}
-use Rattle.mesa_fold.proofs.Keys.{pairs}
-use Rattle.mesa_fold.proofs.Folds.{keys, both_false}
-use Rattle.mesa_fold.proofs.Folding.{below_less, is_less}
+use Rattle.mesa_schema.specs.Put.{put_row, put_rows}
+use Rattle.mesa_fold.specs.Put.{AreRising, IsFold}
+use Rattle.mesa_schema.proofs.Keys.{pairs}
+use Rattle.mesa_schema.proofs.Folds.{keys, both_false}
+use Rattle.mesa_schema.proofs.Folding.{below_less, is_less}
 use Rattle.mesa_fold.proofs.Kept.{IsFold-put_row}
 use Rattle.mesa_fold.proofs.Place.{flipped, rising-at}
 use Rattle.mesa_fold.proofs.Sums.{AreFull-put_row, abs_total-next, abs_total-put_row}

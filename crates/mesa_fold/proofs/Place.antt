@@ -14,10 +14,10 @@ use Rattle.mesa_value.specs.declared.Agg.{Agg}
 use Rattle.mesa_key.specs.Order.{byte_cmp}
 use Rattle.mesa_schema.specs.declared.rows.Row.{Row}
 use Rattle.mesa_schema.specs.Folded.{row_combined}
-use Rattle.mesa_fold.specs.Put.{put_row}
-use Rattle.mesa_fold.proofs.Keys.{is_rising, pairs}
-use Rattle.mesa_fold.proofs.Folds.{keys, both_false}
-use Rattle.mesa_fold.proofs.Folding.{is_less}
+use Rattle.mesa_schema.specs.Put.{put_row}
+use Rattle.mesa_schema.proofs.Keys.{is_rising, pairs}
+use Rattle.mesa_schema.proofs.Folds.{keys, both_false}
+use Rattle.mesa_schema.proofs.Folding.{is_less}
 
 pub flipped : (a b : List ℕ) (o : Ordering) → byte_cmp b a ≡ o → byte_cmp a b ≡ ordering_reverse o
 flipped a b o e = nat_list_cmp_total.antisymm a b ∙ ap ordering_reverse e

@@ -15,7 +15,7 @@ use Rattle.mesa_schema.specs.Folded.{row_combined}
 use Rattle.mesa_schema.specs.Laws.{AreFull}
 use Rattle.mesa_batch.specs.Totals.{abs_total}
 use Rattle.mesa_fold.specs.Bound.{AllCombine}
-use Rattle.mesa_fold.specs.Put.{put_row}
+use Rattle.mesa_schema.specs.Put.{put_row}
 
 sum-fits : (o n : ℤ) → nat_abs o + nat_abs n < 2 ^ 63 → Combines Sum o n
 sum-fits (pos a) (pos b) h = omega (arith, ints)

@@ -6,7 +6,8 @@ ghost use Rattle.mesa_schema.specs.declared.rows.Row.{Row as RowOf};
 ghost use Rattle.mesa_schema.specs.Folded.{folded, row_combined};
 ghost use Rattle.mesa_schema.specs.Laws.{AreFull};
 ghost use Rattle.mesa_fold.specs.Bound.{AddsAtMost, AllCombine, KeepsBound};
-ghost use Rattle.mesa_fold.specs.Put.{IsFold, put_row};
+ghost use Rattle.mesa_schema.specs.Put.{put_row};
+ghost use Rattle.mesa_fold.specs.Put.{IsFold};
 
 use mesa_key::Values;
 use mesa_schema::Row;

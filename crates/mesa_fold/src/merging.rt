@@ -4,7 +4,8 @@ ghost use Rattle.mesa_schema.specs.declared.rows.Row.{Row as RowOf};
 ghost use Rattle.mesa_schema.specs.Folded.{folded};
 ghost use Rattle.mesa_schema.specs.Laws.{AreFull};
 ghost use Rattle.mesa_fold.specs.Bound.{AddsAtMost, KeepsBound};
-ghost use Rattle.mesa_fold.specs.Put.{AreRising, IsFold, put_rows};
+ghost use Rattle.mesa_schema.specs.Put.{put_rows};
+ghost use Rattle.mesa_fold.specs.Put.{AreRising, IsFold};
 
 use crate::fold::{combine_into, place_of};
 use mesa_list::TryCopy;

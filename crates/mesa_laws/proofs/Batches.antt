@@ -28,7 +28,7 @@ use Rattle.mesa_batch.specs.Batch.{Named, Placed, batch_from, batch_of, columns_
 use Rattle.mesa_model.specs.Warehouse.{Store, Table}
 use Rattle.mesa_model.specs.Load.{tables_named}
 use Rattle.mesa_laws.proofs.Checks.{bound, bound_other, bound_some, passed}
-use Rattle.mesa_laws.proofs.Lists.{all_append}
+use Rattle.mesa_schema.proofs.Lists.{all_append}
 
 -- ---- values and keys
 

@@ -18,7 +18,7 @@ use Rattle.mesa_laws.proofs.LawLoads.{law_loads}
 use Rattle.mesa_laws.proofs.LawTables.{law_expires, law_makes, law_views}
 use Rattle.mesa_laws.proofs.Lifting.{present_now}
 use Rattle.mesa_laws.proofs.Lineages.{change_default}
-use Rattle.mesa_laws.proofs.Lists.{all_at, all_got}
+use Rattle.mesa_schema.proofs.Lists.{all_at, all_got}
 use Rattle.mesa_laws.proofs.Moves.{Moves}
 use Rattle.mesa_laws.proofs.Turns.{go_moves}
 use Rattle.mesa_laws.proofs.WellFormed.{go_well, oldest_there, table_there, version_there}

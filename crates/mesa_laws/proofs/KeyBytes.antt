@@ -12,7 +12,7 @@ use Rattle.mesa_key.specs.declared.KeyValue.TheVariants as value
 use Rattle.mesa_key.specs.Text.{is_key_text}
 use Rattle.mesa_key.specs.Spelling.{IsKey, IsValue, key_spelling, value_spelling}
 use Rattle.mesa_filter.specs.Hex.{bytes_of_hex, hex_digit, hex_of, hex_value, with_byte}
-use Rattle.mesa_laws.proofs.Lists.{all_append}
+use Rattle.mesa_schema.proofs.Lists.{all_append}
 
 -- all are bytes
 abbrev pub Bytes : List ℕ → Type 0

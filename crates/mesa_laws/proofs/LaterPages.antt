@@ -11,7 +11,7 @@ use Rattle.mesa_model.specs.Query.{Answer, query_answer, store_asked}
 use Rattle.mesa_history.specs.Run.{Run}
 use Rattle.mesa_laws.specs.Later.{IsLaterPlace, IsStillThere}
 use Rattle.mesa_laws.specs.Pages.{ArePagesOf, Asking, IsWholeAnswer, from_first, pages_asked_at}
-use Rattle.mesa_laws.proofs.Lists.{all_so}
+use Rattle.mesa_schema.proofs.Lists.{all_so}
 use Rattle.mesa_laws.proofs.QueryPages.{AsksAlike, pages_of_whole}
 use Rattle.mesa_laws.proofs.StayingAnswers.{answers_stay}
 use Rattle.mesa_laws.proofs.StoredRows.{IsStored, well_stored}

@@ -9,7 +9,7 @@ use Rattle.mesa_schema.specs.Names.{has_name, repeated}
 use Rattle.mesa_model.specs.Warehouse.{Store, Table}
 use Rattle.mesa_model.specs.WellFormed.{relation_names}
 use Rattle.mesa_model.specs.Relations.{Relation, relation_from, relation_of}
-use Rattle.mesa_laws.proofs.Apart.{Apart, apart, is_nothing, not_some}
+use Rattle.mesa_schema.proofs.Apart.{Apart, apart, is_nothing, not_some}
 use Rattle.mesa_laws.proofs.RelationNames.{first_of_both, in_table, names_in, names_of, relation_in, view_named}
 
 -- ---- names that stand apart

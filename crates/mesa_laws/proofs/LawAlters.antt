@@ -17,8 +17,9 @@ use Rattle.mesa_model.specs.Warehouse.{Store, Table, Warehouse, content_at}
 use Rattle.mesa_model.specs.Tables.{table_changed}
 use Rattle.mesa_history.specs.Law.{Accepted, accepted_rows, law_content, parts_to, start_rows}
 use Rattle.mesa_laws.proofs.Kept.{BatchAt, IsAccepted, Law, LawAt, law_early, law_late, rows_then}
-use Rattle.mesa_laws.proofs.Lifting.{columns_more, epoch_more, forms_more, present_more}
-use Rattle.mesa_laws.proofs.Lists.{all_append, all_filter, all_map, all_so, got_set, map_at, same_maps}
+use Rattle.mesa_laws.proofs.Lifting.{present_more}
+use Rattle.mesa_schema.proofs.PresentRows.{columns_more, epoch_more, forms_more}
+use Rattle.mesa_schema.proofs.Lists.{all_append, all_filter, all_map, all_so, got_set, map_at, same_maps}
 
 -- rows of parts that each have a form
 parts_form : (s : Columns) (parts : List (List Row)) → AllByRecursion (AreRowsOf s) parts → AreRowsOf s (rows_of parts)

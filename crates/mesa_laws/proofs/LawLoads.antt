@@ -21,7 +21,7 @@ use Rattle.mesa_history.specs.Law.{Accepted, accepted_rows, at_present, law_cont
 use Rattle.mesa_laws.proofs.Batches.{batch_forms, no_rows_for}
 use Rattle.mesa_laws.proofs.Kept.{BatchAt, IsAccepted, Law, LawAt, law_early, law_late}
 use Rattle.mesa_laws.proofs.Lifting.{present_now}
-use Rattle.mesa_laws.proofs.Lists.{all_append, all_pass, all_so}
+use Rattle.mesa_schema.proofs.Lists.{all_append, all_pass, all_so}
 use Rattle.mesa_laws.proofs.Moves.{accepted}
 
 -- ---- loaded tables

@@ -17,7 +17,7 @@ use Rattle.mesa_model.specs.Versions.{store_from}
 use Rattle.mesa_history.specs.Law.{Accepted, accepted_rows, at_present, law_content, parts_to, start_rows}
 use Rattle.mesa_laws.proofs.Kept.{BatchAt, IsAccepted, Law, LawAt, law_early, law_late, rows_then}
 use Rattle.mesa_laws.proofs.LawAlters.{law_set}
-use Rattle.mesa_laws.proofs.Lists.{all_filter, all_map, all_so, got_map, got_push}
+use Rattle.mesa_schema.proofs.Lists.{all_filter, all_map, all_so, got_map, got_push}
 use Rattle.mesa_laws.proofs.Moves.{viewed}
 
 -- ---- a table more

@@ -1,13 +1,10 @@
 pub mod AnswersOver
-pub mod Apart
 pub mod Batches
 pub mod Checks
-pub mod ChosenColumns
 pub mod Counting
 pub mod Expiry
 pub mod FoldLaw
 pub mod FromTheFold
-pub mod GroupKeys
 pub mod Kept
 pub mod KeyBytes
 pub mod LaterPages
@@ -17,10 +14,8 @@ pub mod LawLoads
 pub mod LawTables
 pub mod Lifting
 pub mod Lineages
-pub mod Lists
 pub mod Moves
 pub mod NoPages
-pub mod Orders
 pub mod Pages
 pub mod Pinning
 pub mod Printing
@@ -30,7 +25,6 @@ pub mod ReachedPages
 pub mod Refusing
 pub mod RelationNames
 pub mod Resuming
-pub mod Schemas
 pub mod Staying
 pub mod StayingAnswers
 pub mod StoredRows

@@ -16,10 +16,10 @@ use Rattle.mesa_filter.specs.Filter.{filtered}
 use Rattle.mesa_model.specs.declared.replies.Page.{Page}
 use Rattle.mesa_model.specs.Page.{last_key, page_from, page_of, rows_after}
 use Rattle.mesa_model.specs.Query.{answer_rows}
-use Rattle.mesa_model.specs.WellFormed.{keys_rise}
+use Rattle.mesa_schema.specs.Rows.{keys_rise}
 use Rattle.mesa_laws.specs.Pages.{pages_from, rows_left, rows_of_pages}
-use Rattle.mesa_laws.proofs.Lists.{all_filter, all_pass, all_so}
-use Rattle.mesa_laws.proofs.Orders.{folded_rise}
+use Rattle.mesa_schema.proofs.Lists.{all_filter, all_pass, all_so}
+use Rattle.mesa_schema.proofs.RisingRows.{folded_rise}
 
 -- ---- keys in order
 

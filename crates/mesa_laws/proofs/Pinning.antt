@@ -30,7 +30,7 @@ use Rattle.mesa_history.proofs.More.{runs_more}
 use Rattle.mesa_laws.specs.Given.{WasGiven, warehouse_after}
 use Rattle.mesa_laws.proofs.Checks.{after_check, after_other, after_other_check, after_refuse_if, after_refuse_unless, after_some, after_value}
 use Rattle.mesa_laws.proofs.FromTheFold.{asked_there}
-use Rattle.mesa_laws.proofs.Lists.{all_append, all_filter, all_so}
+use Rattle.mesa_schema.proofs.Lists.{all_append, all_filter, all_so}
 use Rattle.mesa_laws.proofs.TurnKinds.{Stays, Steps, turned_does}
 use Rattle.mesa_laws.proofs.WellFormed.{runs_well}
 

@@ -17,7 +17,7 @@ use Rattle.mesa_filter.specs.Resume.{resume_of, resume_prefix}
 use Rattle.mesa_model.specs.declared.replies.Page.{Page}
 use Rattle.mesa_model.specs.declared.replies.Refusal.{Refusal}
 use Rattle.mesa_model.specs.Warehouse.{Store, Warehouse}
-use Rattle.mesa_model.specs.WellFormed.{keys_rise}
+use Rattle.mesa_schema.specs.Rows.{keys_rise}
 use Rattle.mesa_model.specs.Page.{last_key, page_of, rows_after}
 use Rattle.mesa_model.specs.Relations.{Relation, relation_columns, relation_content, relation_of}
 use Rattle.mesa_model.specs.Refusals.{no_such_table, query_refusal, refuse_closed}
@@ -25,8 +25,8 @@ use Rattle.mesa_model.specs.Query.{Answer, answer_over, answer_rows, query_answe
 use Rattle.mesa_laws.specs.Pages.{ArePagesOf, Asking, IsWholeAnswer, asked_after, from_first, pages_asked, pages_asked_at, pages_from, rows_left, rows_of_pages}
 use Rattle.mesa_laws.proofs.AnswersOver.{answer_in}
 use Rattle.mesa_laws.proofs.Checks.{bound, bound_other, bound_some, passed}
-use Rattle.mesa_laws.proofs.GroupKeys.{AllSpell}
-use Rattle.mesa_laws.proofs.Lists.{all_filter, all_replicate, all_so}
+use Rattle.mesa_schema.proofs.GroupKeys.{AllSpell}
+use Rattle.mesa_schema.proofs.Lists.{all_filter, all_replicate, all_so}
 use Rattle.mesa_laws.proofs.Pages.{answers_rise, consecutive_each, once_each, tells, whole_each}
 use Rattle.mesa_laws.proofs.Resuming.{resume_again}
 use Rattle.mesa_laws.proofs.StoredRows.{IsStored, answer_spells}

@@ -25,7 +25,7 @@ use Rattle.mesa_laws.proofs.AnswersOver.{answer_at, answer_in, answers_same}
 use Rattle.mesa_laws.proofs.Checks.{bound, bound_some, passed}
 use Rattle.mesa_laws.proofs.FoldLaw.{law_holds}
 use Rattle.mesa_laws.proofs.FromTheFold.{answer_folds, present_folds}
-use Rattle.mesa_laws.proofs.Lists.{all_found}
+use Rattle.mesa_schema.proofs.Lists.{all_found}
 use Rattle.mesa_laws.proofs.Pinning.{pins_given}
 use Rattle.mesa_laws.proofs.Printing.{pages_answered}
 

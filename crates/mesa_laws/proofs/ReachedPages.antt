@@ -14,7 +14,7 @@ use Rattle.mesa_history.specs.Run.{State, begins}
 use Rattle.mesa_laws.specs.Given.{WasGiven, warehouse_after}
 use Rattle.mesa_laws.specs.Pages.{ArePagesOf, IsWholeAnswer, from_first, pages_asked}
 use Rattle.mesa_laws.proofs.Checks.{bound_some}
-use Rattle.mesa_laws.proofs.Lists.{all_found}
+use Rattle.mesa_schema.proofs.Lists.{all_found}
 use Rattle.mesa_laws.proofs.Pinning.{pins_given}
 use Rattle.mesa_laws.proofs.QueryPages.{pages_of_place}
 use Rattle.mesa_laws.proofs.StoredRows.{IsStored, pin_stored, well_stored}

@@ -14,7 +14,7 @@ use Rattle.mesa_model.specs.WellFormed.{relation_names}
 use Rattle.mesa_model.specs.Relations.{Relation, is_taken, relation_from}
 use Rattle.mesa_model.specs.Load.{tables_loaded}
 use Rattle.mesa_model.specs.Tables.{table_changed}
-use Rattle.mesa_laws.proofs.Apart.{apart, apart_insert, unrepeated}
+use Rattle.mesa_schema.proofs.Apart.{apart, apart_insert, unrepeated}
 use Rattle.mesa_laws.proofs.Moves.{viewed}
 
 -- a table's name and its views'

@@ -21,7 +21,7 @@ use Rattle.mesa_model.specs.Versions.{store_from}
 use Rattle.mesa_history.specs.Run.{Run}
 use Rattle.mesa_history.specs.Replay.{go, runs}
 use Rattle.mesa_laws.specs.Later.{IsLater}
-use Rattle.mesa_laws.proofs.Lists.{all_got}
+use Rattle.mesa_schema.proofs.Lists.{all_got}
 use Rattle.mesa_laws.proofs.Moves.{Moves, viewed}
 use Rattle.mesa_laws.proofs.Turns.{go_moves}
 use Rattle.mesa_laws.proofs.WellFormed.{go_well, version_there}

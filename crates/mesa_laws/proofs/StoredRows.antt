@@ -18,8 +18,8 @@ use Rattle.mesa_model.specs.Pins.{store_at}
 use Rattle.mesa_model.specs.Query.{answer_rows}
 use Rattle.mesa_laws.proofs.AnswersOver.{columns_seen, rows_seen}
 use Rattle.mesa_laws.proofs.LaterRelations.{relation_there}
-use Rattle.mesa_laws.proofs.GroupKeys.{AllSpell, chosen_mapped, grouped_spell, rows_spell}
-use Rattle.mesa_laws.proofs.Lists.{all_at, all_filter, all_got, all_map, all_so}
+use Rattle.mesa_schema.proofs.GroupKeys.{AllSpell, chosen_mapped, grouped_spell, rows_spell}
+use Rattle.mesa_schema.proofs.Lists.{all_at, all_filter, all_got, all_map, all_so}
 
 -- each content of each table has the form of its columns
 abbrev HasContents : Table → Type 0

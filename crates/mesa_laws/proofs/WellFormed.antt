@@ -34,11 +34,12 @@ use Rattle.mesa_history.specs.Run.{Run}
 use Rattle.mesa_history.specs.Replay.{go, runs}
 use Rattle.mesa_laws.proofs.Batches.{batch_forms}
 use Rattle.mesa_laws.proofs.LawLoads.{got_loaded}
-use Rattle.mesa_laws.proofs.Lifting.{columns_more, forms_more}
-use Rattle.mesa_laws.proofs.Lineages.{change_default, lineage_changed, lineage_new, lineage_viewed}
-use Rattle.mesa_laws.proofs.Lists.{all_append, all_drop, all_from_got, all_got, all_map, all_replicate, all_set, all_so}
+use Rattle.mesa_schema.proofs.PresentRows.{columns_more, forms_more}
+use Rattle.mesa_laws.proofs.Lineages.{change_default, lineage_viewed}
+use Rattle.mesa_schema.proofs.LineageChanges.{lineage_changed, lineage_new}
+use Rattle.mesa_schema.proofs.Lists.{all_append, all_drop, all_from_got, all_got, all_map, all_replicate, all_set, all_so}
 use Rattle.mesa_laws.proofs.Moves.{Moves, step_moves, viewed}
-use Rattle.mesa_laws.proofs.Orders.{folded_rise, lifted_rise}
+use Rattle.mesa_schema.proofs.RisingRows.{folded_rise, lifted_rise}
 use Rattle.mesa_laws.proofs.RelationNames.{names_changed, names_loaded, names_mapped, names_pushed, names_viewed}
 use Rattle.mesa_laws.proofs.Turns.{go_moves}
 

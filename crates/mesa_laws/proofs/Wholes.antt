@@ -22,7 +22,7 @@ use Rattle.mesa_model.specs.Refusals.{refuse_closed}
 use Rattle.mesa_laws.specs.Whole.{HasBatch, HasWhole, IsWholeOrNone}
 use Rattle.mesa_laws.proofs.Checks.{after_check, after_other, after_refuse_if}
 use Rattle.mesa_laws.proofs.LawLoads.{length_loaded, newest_last}
-use Rattle.mesa_laws.proofs.Lists.{all_got}
+use Rattle.mesa_schema.proofs.Lists.{all_got}
 use Rattle.mesa_laws.proofs.WellFormed.{oldest_there}
 
 -- the table of a number after a load

@@ -5,7 +5,7 @@ use Rattle.mesa_filter.specs.Hex.{hex_of}
 use Rattle.mesa_filter.specs.declared.words.QueryWords.{QueryWords}
 use Rattle.mesa_model.specs.declared.replies.Page.{Page}
 use Rattle.mesa_model.specs.Warehouse.{Warehouse}
-use Rattle.mesa_model.specs.WellFormed.{keys_rise}
+use Rattle.mesa_schema.specs.Rows.{keys_rise}
 use Rattle.mesa_model.specs.Query.{Answer, query_answer}
 use Rattle.mesa_model.specs.Page.{page_of, rows_after}
 

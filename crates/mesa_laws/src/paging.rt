@@ -13,7 +13,8 @@ ghost use Rattle.mesa_model.specs.declared.entries.Entry.{Entry};
 ghost use Rattle.mesa_model.specs.Page.{page_of, rows_after};
 ghost use Rattle.mesa_model.specs.Query.{Answer, answer_rows, query_answer};
 ghost use Rattle.mesa_model.specs.Warehouse.{Warehouse};
-ghost use Rattle.mesa_model.specs.WellFormed.{IsWellFormed, keys_rise};
+ghost use Rattle.mesa_schema.specs.Rows.{keys_rise};
+ghost use Rattle.mesa_model.specs.WellFormed.{IsWellFormed};
 ghost use Rattle.mesa_schema.specs.Columns.{Columns};
 ghost use Rattle.mesa_schema.specs.declared.rows.Row.{Row};
 

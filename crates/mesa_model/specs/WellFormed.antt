@@ -1,22 +1,14 @@
 -- What every warehouse keeps that a run may start from.
 use Rattle.std.specs.Prelude.{◌≡◌, ℕ, ◌-◌, List, [], ◌∷◌, map, length, flat_map, Bool, true, ◌&&◌, ◌||◌, ◌==◌, nat_lt, is_none, IsTrue}
 use Rattle.std.specs.List.{AllByRecursion}
-use Rattle.std.specs.Ordering.{is_lt}
-use Rattle.mesa_key.specs.Order.{byte_cmp}
 use Rattle.mesa_schema.specs.declared.rows.Row.{Row}
 use Rattle.mesa_schema.specs.declared.views.View.{View}
 use Rattle.mesa_schema.specs.Names.{repeated}
 use Rattle.mesa_schema.specs.Columns.{Columns}
-use Rattle.mesa_schema.specs.Rows.{AreRowsOf}
+use Rattle.mesa_schema.specs.Rows.{AreRowsOf, keys_rise}
 use Rattle.mesa_schema.specs.Changes.{columns_of}
 use Rattle.mesa_schema.specs.Lineages.{IsLineage}
 use Rattle.mesa_model.specs.Warehouse.{Table, Store, Warehouse}
-
--- the keys of the rows rise strictly
-abbrev pub keys_rise : List Row → Bool
-keys_rise [] = true
-keys_rise (row ∷ []) = true
-keys_rise (row ∷ next ∷ rows) = is_lt (byte_cmp row.key next.key) && keys_rise (next ∷ rows)
 
 -- A content: rows of the form of the columns, whose keys rise strictly.
 pub record IsContent (s : Columns) (rows : List Row) : Type 0 where

@@ -18,7 +18,7 @@ use Rattle.mesa_batch.specs.Gathered.{Batched, rows_at}
 use Rattle.mesa_batch.specs.Glance.{Known}
 use Rattle.mesa_batch.specs.Totals.{abs_total, abs_totals, over_bound, sum_places, totals_with}
 use Rattle.mesa_fold.specs.Bound.{KeepsBound}
-use Rattle.mesa_fold.proofs.Folds.{folded-folded}
+use Rattle.mesa_schema.proofs.Folds.{folded-folded}
 use Rattle.mesa_fold.proofs.Kept.{put_rows-fold}
 use Rattle.mesa_fold.proofs.Merged.{abs_total-put_rows}
 use Rattle.mesa_model.specs.Load.{bound_checked, bounds_checked, newest_content, tables_loaded}

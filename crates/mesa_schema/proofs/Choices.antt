@@ -1,5 +1,5 @@
 -- Columns that are chosen by name.
-use Rattle.std.proofs.Common.{◌≡◌, ℕ, ◌+◌, ◌<◌, List, [], ◌∷◌, ◌++◌, length, map, take, drop, get_or, Bool, true, false, cond, refl, sym, ◌∙◌, ap, arith, Option, Some, None, Result, Ok, Err, drop-cons, append_assoc, add-one, suc}
+use Rattle.std.proofs.Common.{◌≡◌, ℕ, ◌+◌, ◌<◌, List, [], ◌∷◌, ◌++◌, length, map, drop, get_or, Bool, true, false, cond, refl, sym, ◌∙◌, ap, Some, None, Ok, Err, drop-cons, append_assoc, add-one, suc}
 use Rattle.std.specs.Prelude.{◌==◌, is_some, find, option_map, slice_get}
 use Rattle.std.specs.List.{cons_option, list_all}
 use Rattle.std.proofs.Math.ListN.{get_or-map}

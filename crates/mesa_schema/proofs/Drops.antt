@@ -1,7 +1,6 @@
 -- A value column less.
-use Rattle.std.proofs.Common.{◌≡◌, ℕ, zero, suc, ◌+◌, ◌-◌, ◌<◌, ◌≤◌, List, [], ◌∷◌, ◌++◌, refl, sym, ◌∙◌, ap, length, take, drop, arith, map, add-one}
+use Rattle.std.proofs.Common.{◌≡◌, ℕ, zero, suc, ◌+◌, List, [], ◌∷◌, ◌++◌, refl, sym, ◌∙◌, ap, length, take, drop, arith, map, add-one}
 use Rattle.std.specs.Prelude.{ℤ}
-use Rattle.std.specs.List.{AllByRecursion}
 use Rattle.mesa_value.specs.declared.Agg.{Agg}
 use Rattle.mesa_value.specs.Agg.{combined}
 use Rattle.mesa_schema.specs.declared.rows.Row.{Row}
@@ -10,13 +9,13 @@ use Rattle.mesa_schema.specs.Folded.{folded, row_combined, rows_of}
 use Rattle.mesa_schema.proofs.Lifts.{Each, row_combined-length, with_values, with_values-folded}
 
 -- without what stands at a place behind the first
-without-suc : {A : Type 0} (i : ℕ) (x : A) (xs : List A) → without (suc i) (x ∷ xs) ≡ x ∷ without i xs
+pub without-suc : {A : Type 0} (i : ℕ) (x : A) (xs : List A) → without (suc i) (x ∷ xs) ≡ x ∷ without i xs
 without-suc i x xs = let next : suc i + 1 ≡ suc (i + 1) = omega arith in ap (λ n. x ∷ (take i xs ++ drop n (x ∷ xs))) next
 
 without-zero : {A : Type 0} (x : A) (xs : List A) → without zero (x ∷ xs) ≡ xs
 without-zero x xs = refl
 
-without-nil : {A : Type 0} (i : ℕ) → without {X = A} i [] ≡ []
+pub without-nil : {A : Type 0} (i : ℕ) → without {X = A} i [] ≡ []
 without-nil zero = refl
 without-nil (suc i) = ap (λ (n : ℕ). drop n []) (add-one (suc i))
 

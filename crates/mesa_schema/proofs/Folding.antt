@@ -1,24 +1,22 @@
 -- Putting rows one after another is folding them.
 use Rattle.std.proofs.Common.{◌≡◌, ℕ, List, [], ◌∷◌, ◌++◌, refl, sym, ◌∙◌, ap, subst, append_assoc}
 use Rattle.std.proofs.lemmas.List.{append-nil, map-append}
-use Rattle.std.specs.Prelude.{ℤ, Bool, true, false, ◌||◌, ◌&&◌, cond, T, map, filter}
-use Rattle.std.specs.List.{list_any}
+use Rattle.std.specs.Prelude.{ℤ, Bool, true, false, ◌||◌, ◌&&◌, cond, T, map}
 use Rattle.std.specs.declared.cmp.Ordering.{Ordering}
 use Rattle.std.specs.declared.cmp.Ordering.TheVariants.{Less, Equal, Greater}
 use Rattle.std.specs.Ordering.{eq_by_cmp, is_eq, is_lt}
 use Rattle.std.specs.Cmp.Lexicographic.{nat_list_cmp_total, texts_ties}
-use Rattle.std.specs.Cmp.{IsTotalOrder, eq_by_cmp_equiv}
+use Rattle.std.specs.Cmp.{eq_by_cmp_equiv}
 use Rattle.std.specs.FinMap.{slice_cmp-IsAntisymmetric, nat_cmp-IsAntisymmetric}
 use Rattle.std.specs.FinMap.Entries.{by_order, below_all, is_sorted, is_sorted-put}
 use Rattle.std.proofs.lemmas.List.Folds.{list_any-append}
 use Rattle.mesa_value.specs.declared.Agg.{Agg}
 use Rattle.mesa_key.specs.Order.{byte_cmp}
 use Rattle.mesa_schema.specs.declared.rows.Row.{Row}
-use Rattle.mesa_list.specs.Bytes.{same_bytes}
-use Rattle.mesa_schema.specs.Folded.{with_key, keys_of, values_at, row_combined, combined_from, all_combined, folded_at, folded}
-use Rattle.mesa_schema.proofs.Keys.{Keys, keys_in, has, is_rising, pairs, pairs-with_key, has-with_key, same_rising}
-use Rattle.mesa_schema.proofs.Folds.{keys, values_at-append, combined_from-append, values_at_none, values_at_some, has-keys_of, rising-keys_of, not_below, both_false, is_equal, has_tied}
-use Rattle.mesa_schema.proofs.Placed.{put_row, put_rows}
+use Rattle.mesa_schema.specs.Folded.{with_key, keys_of, values_at, row_combined, all_combined, folded_at, folded}
+use Rattle.mesa_schema.proofs.Keys.{Keys, has, is_rising, pairs, pairs-with_key, has-with_key, same_rising}
+use Rattle.mesa_schema.proofs.Folds.{keys, values_at-append, combined_from-append, values_at_none, values_at_some, has-keys_of, rising-keys_of, not_below, both_false, has_tied}
+use Rattle.mesa_schema.specs.Put.{put_row, put_rows}
 
 abbrev pub of_rows : List Agg → List Row → List Row
 of_rows aggs rows = map (folded_at aggs rows) (keys_of rows)
@@ -57,7 +55,7 @@ old_key aggs rows row e =
     ∙ combined_from-append aggs some.0 some.1 (row.values ∷ [])
     ∙ ap (λ vs. row_combined aggs (all_combined aggs vs) row.values) (sym some.2))
 
-is_less : (o : Ordering) → T (is_lt o) → o ≡ Less
+pub is_less : (o : Ordering) → T (is_lt o) → o ≡ Less
 is_less Less p = refl
 is_less Equal p = absurd p
 is_less Greater p = absurd p

@@ -1,5 +1,5 @@
 -- Rows keep their form through changes and folds, and folding goes along with changes.
-use Rattle.std.proofs.Common.{◌≡◌, ℕ, zero, suc, ◌+◌, List, [], ◌∷◌, ◌++◌, refl, sym, ◌∙◌, ap, subst, length, map, Bool, true, false, cond, arith}
+use Rattle.std.proofs.Common.{◌≡◌, ℕ, ◌+◌, List, [], ◌∷◌, ◌++◌, refl, sym, ◌∙◌, ap, subst, length, map, Bool, true, false, cond, arith}
 use Rattle.std.proofs.lemmas.List.{append-nil, length-append, length-map, map-append, map-id}
 use Rattle.std.proofs.lemmas.Simd.{map-map}
 use Rattle.std.proofs.lemmas.Grind.{flat_map-append}
@@ -24,7 +24,7 @@ use Rattle.mesa_schema.specs.declared.rows.Row.{Row}
 use Rattle.mesa_schema.specs.declared.changes.Change.{Change}
 use Rattle.mesa_schema.specs.declared.changes.Change.TheVariants.{AddKey, AddValue, DropValue}
 use Rattle.mesa_schema.specs.Columns.{Columns, aggs_of, kinds_of, place_of, value_names}
-use Rattle.mesa_schema.specs.Changes.{changed, columns_after, lifted_by, lifted_once, without}
+use Rattle.mesa_schema.specs.Changes.{changed, columns_after, lifted_by, lifted_once}
 use Rattle.mesa_schema.specs.Lineages.{HasDefault}
 use Rattle.mesa_schema.specs.Rows.{AreRowsOf, IsRowOf}
 use Rattle.mesa_schema.specs.Folded.{all_combined, combined_from, folded, folded_at, keys_of, row_combined, rows_of, values_at}
@@ -37,7 +37,7 @@ use Rattle.mesa_schema.proofs.Lifts.{Each, appended-folded, row_combined-length}
 -- ---- the form of rows
 
 -- bytes that are a key's spelling spell it
-spells_key : (types : List KeyType) (key : List KeyValue) (bytes : List ℕ) → IsKey types key → bytes ≡ key_spelling key → Spells types bytes
+pub spells_key : (types : List KeyType) (key : List KeyValue) (bytes : List ℕ) → IsKey types key → bytes ≡ key_spelling key → Spells types bytes
 spells_key types key bytes h e =
     let read : key_of types bytes ≡ key = ap (key_of types) (e ∙ sym (append-nil (key_spelling key))) ∙ key_again types key [] h in
     record { key = subst (IsKey types) (sym read) h; spelled = ap key_spelling read ∙ sym e }
@@ -120,6 +120,16 @@ forms_at s rows (k ∷ ks) all spell there =
 pub folded_form : (s : Columns) (parts : List (List Row)) → AreRowsOf s (rows_of parts) → AreRowsOf s (folded (aggs_of s) parts)
 folded_form s parts all =
     forms_at s (rows_of parts) (keys_of (rows_of parts)) all (keys_of-all (Spells (kinds_of s)) (rows_of parts) (rows-spell s (rows_of parts) all)) (λ k h. sym (has-keys_of k (rows_of parts)) ∙ h)
+
+-- A fold of rows that have a value for each column has such rows.
+pub folds_full : (aggs : List Agg) (parts : List (List Row)) → Each (λ vs. length vs ≡ length aggs) (rows_of parts) → Each (λ vs. length vs ≡ length aggs) (folded aggs parts)
+folds_full aggs parts all = full_at (keys_of (rows_of parts)) (λ k h. sym (has-keys_of k (rows_of parts)) ∙ h)
+  where
+    full_at : (ks : List (List ℕ)) → ((k : List ℕ) → has k ks ≡ true → has k (keys (rows_of parts)) ≡ true) → Each (λ vs. length vs ≡ length aggs) (map (folded_at aggs (rows_of parts)) ks)
+    full_at [] there = tt
+    full_at (k ∷ ks) there =
+        let some = values_at_some k (rows_of parts) (there k (ap (λ b. b || has k ks) ((eq_by_cmp_equiv nat_list_cmp_total).refl k))) in
+        (all-full aggs (values_at k (rows_of parts)) some.0 some.1 some.2 (values-full aggs k (rows_of parts) all), full_at ks (λ q h. there q (or-true (eq_by_cmp byte_cmp q k) (has q ks) h)))
 
 -- ---- folding and lifting
 

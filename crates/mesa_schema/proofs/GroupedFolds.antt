@@ -1,9 +1,9 @@
 -- Rows may be folded before grouping or after it.
-use Rattle.std.proofs.Common.{◌≡◌, ℕ, zero, suc, List, [], ◌∷◌, ◌++◌, refl, sym, ◌∙◌, ap, subst, length, map, arith, append_assoc, inl, inr, Option, Some, None}
+use Rattle.std.proofs.Common.{◌≡◌, ℕ, zero, suc, List, [], ◌∷◌, ◌++◌, refl, sym, ◌∙◌, ap, length, map, arith, append_assoc, inl, inr, Some, None}
 use Rattle.std.proofs.lemmas.List.{append-nil}
 use Rattle.std.proofs.lemmas.Simd.{map-map}
 use Rattle.std.proofs.lemmas.Int.{ints}
-use Rattle.std.specs.Prelude.{ℤ, ◌⊎◌, slice_get, filter_map}
+use Rattle.std.specs.Prelude.{ℤ, ◌⊎◌, slice_get}
 use Rattle.std.specs.List.{AllByRecursion, concat, cons_option}
 use Rattle.mesa_value.specs.declared.Agg.{Agg}
 use Rattle.mesa_value.specs.declared.Agg.TheVariants.{Sum, Min, Max, Replace}
@@ -14,7 +14,7 @@ use Rattle.mesa_schema.specs.Columns.{Columns, aggs_of, chosen, kinds_of}
 use Rattle.mesa_schema.specs.Rows.{AreRowsOf}
 use Rattle.mesa_schema.specs.Folded.{folded, folded_at, grouped, keys_of, regrouped, row_combined, rows_of}
 use Rattle.mesa_schema.proofs.Forms.{rows-full, rows_of-map}
-use Rattle.mesa_schema.proofs.Grouping.{AllCommute, Commutes, rekeyed-folded}
+use Rattle.mesa_schema.proofs.Grouping.{AllCommute, rekeyed-folded}
 use Rattle.mesa_schema.proofs.Lifts.{row_combined-length, with_values, with_values-folded}
 use Rattle.mesa_schema.proofs.Refolds.{combined-assoc, refolded}
 
@@ -42,7 +42,7 @@ cell (g ∷ aggs) (x ∷ a) (y ∷ b) zero e f = inr (g, x, y, refl, refl, refl,
 cell (g ∷ aggs) (x ∷ a) (y ∷ b) (suc p) e f = cell aggs a b p (omega arith) (omega arith)
 
 -- Values may be chosen before they are combined or after it.
-chosen-combined : (values : List ℕ) (aggs : List Agg) (a b : List ℤ) → length a ≡ length aggs → length b ≡ length aggs
+pub chosen-combined : (values : List ℕ) (aggs : List Agg) (a b : List ℤ) → length a ≡ length aggs → length b ≡ length aggs
     → chosen values (row_combined aggs a b) ≡ row_combined (chosen values aggs) (chosen values a) (chosen values b)
 chosen-combined [] aggs a b e f = refl
 chosen-combined (p ∷ values) aggs a b e f =

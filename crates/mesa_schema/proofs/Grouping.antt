@@ -1,9 +1,8 @@
 -- Rows under other keys: folding first changes nothing, where combining does not depend on the order.
 use Rattle.std.proofs.Common.{◌≡◌, ℕ, List, [], ◌∷◌, ◌++◌, refl, sym, ◌∙◌, ap, subst, append_assoc}
 use Rattle.std.proofs.lemmas.List.{append-nil, map-append}
-use Rattle.std.specs.Prelude.{ℤ, Bool, true, false, ◌||◌, cond, T, map, filter}
-use Rattle.std.specs.List.{list_any, AllByRecursion}
-use Rattle.std.specs.declared.cmp.Ordering.{Ordering}
+use Rattle.std.specs.Prelude.{ℤ, Bool, true, false, ◌||◌, cond, map, filter}
+use Rattle.std.specs.List.{AllByRecursion}
 use Rattle.std.specs.declared.cmp.Ordering.TheVariants.{Less, Equal, Greater}
 use Rattle.std.specs.Ordering.{eq_by_cmp}
 use Rattle.std.specs.FinMap.{slice_cmp-IsAntisymmetric, nat_cmp-IsAntisymmetric}
@@ -14,10 +13,10 @@ use Rattle.mesa_value.specs.Agg.{combined}
 use Rattle.mesa_key.specs.Order.{byte_cmp}
 use Rattle.mesa_schema.specs.declared.rows.Row.{Row}
 use Rattle.mesa_list.specs.Bytes.{same_bytes}
-use Rattle.mesa_schema.specs.Folded.{keys_of, values_at, row_combined, combined_from, all_combined, rows_of, folded_at, folded}
-use Rattle.mesa_schema.proofs.Keys.{Keys, keys_in, has, keys_in-same}
-use Rattle.mesa_schema.proofs.Folds.{keys, keys_of-keys_in, values_at-append, combined_from-append}
-use Rattle.mesa_schema.proofs.Placed.{put_row, put_rows}
+use Rattle.mesa_schema.specs.Folded.{keys_of, values_at, row_combined, combined_from, all_combined, rows_of, folded}
+use Rattle.mesa_schema.proofs.Keys.{has, keys_in-same}
+use Rattle.mesa_schema.proofs.Folds.{keys, keys_of-keys_in, values_at-append}
+use Rattle.mesa_schema.specs.Put.{put_row, put_rows}
 use Rattle.mesa_schema.proofs.Folding.{of_rows, put_one, put_all}
 
 -- what does not depend on the order

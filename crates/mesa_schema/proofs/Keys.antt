@@ -1,17 +1,14 @@
 -- Keys in order, each once: lists of keys with the same members have the same keys.
 use Rattle.std.proofs.Common.{◌≡◌, ℕ, List, [], ◌∷◌, ◌++◌, refl, sym, ◌∙◌, ap, subst}
-use Rattle.std.specs.Prelude.{Bool, true, false, ◌||◌, ◌&&◌, cond, T, map, Option, Some, None, is_some}
+use Rattle.std.specs.Prelude.{Bool, true, false, ◌||◌, cond, T, map, Option, Some, None, is_some}
 use Rattle.std.specs.List.{list_any}
-use Rattle.std.specs.declared.cmp.Ordering.{Ordering}
 use Rattle.std.specs.declared.cmp.Ordering.TheVariants.{Less, Equal, Greater}
-use Rattle.std.specs.Ordering.{eq_by_cmp, is_eq, is_lt}
-use Rattle.std.specs.Cmp.{IsTotalOrder}
-use Rattle.std.specs.Cmp.Lexicographic.{nat_list_cmp_total, texts_ties}
+use Rattle.std.specs.Ordering.{eq_by_cmp}
+use Rattle.std.specs.Cmp.Lexicographic.{nat_list_cmp_total}
 use Rattle.std.specs.FinMap.{slice_cmp-IsAntisymmetric, nat_cmp-IsAntisymmetric}
-use Rattle.std.specs.FinMap.Entries.{by_order, put, find, is_sorted, below_all, is_some-find, find-put, is_sorted-put, same_entries}
+use Rattle.std.specs.FinMap.Entries.{by_order, put, find, is_sorted, is_some-find, find-put, is_sorted-put, same_entries}
 use Rattle.std.proofs.lemmas.List.Folds.{list_any-append}
 use Rattle.mesa_key.specs.Order.{byte_cmp}
-use Rattle.mesa_list.specs.Bytes.{same_bytes}
 use Rattle.mesa_schema.specs.Folded.{with_key}
 
 abbrev pub Keys : Type 0

@@ -1,23 +1,21 @@
 -- What keeps a lineage within the rules.
-use Rattle.std.proofs.Common.{◌≡◌, ℕ, ◌+◌, ◌<◌, ◌≤◌, List, [], ◌∷◌, ◌++◌, length, map, Bool, true, false, cond, refl, sym, ◌∙◌, ap, subst, arith, Option, Some, None, Result, Ok, Err, length-append}
-use Rattle.std.specs.Prelude.{◌&&◌, IsTrue, is_ok, find, option_map, is_some, not, ◌==◌}
+use Rattle.std.proofs.Common.{◌≡◌, ℕ, ◌<◌, List, [], ◌∷◌, ◌++◌, length, map, Bool, true, false, refl, sym, ◌∙◌, ap, arith, Option, Some, None, Ok, length-append}
+use Rattle.std.specs.Prelude.{◌&&◌, is_ok, find, option_map, is_some, not, ◌==◌}
 use Rattle.std.specs.List.{list_all}
 use Rattle.std.proofs.lemmas.List.{length-map}
 use Rattle.mesa_list.specs.Checks.{◌>>◌, refuse_if, refuse_unless}
 use Rattle.mesa_schema.specs.declared.changes.ChangeError.TheVariants.{LastValue, NoColumn}
 use Rattle.mesa_schema.specs.Names.{has_name}
 use Rattle.std.proofs.lemmas.List.Folds.{list_all-append}
-use Rattle.std.proofs.Math.Bool.{and-true}
 use Rattle.mesa_schema.specs.declared.columns.KeyColumn.{KeyColumn}
 use Rattle.mesa_schema.specs.declared.columns.ValueColumn.{ValueColumn}
 use Rattle.mesa_schema.specs.declared.views.View.{View}
-use Rattle.mesa_schema.specs.declared.views.ViewError.{ViewError}
 use Rattle.mesa_schema.specs.declared.views.ViewError.TheVariants.{NoKey, NoValue}
 use Rattle.mesa_schema.specs.Columns.{Columns, chosen, key_names, places_in, value_names}
 use Rattle.std.proofs.Math.Seq.{take-length}
 use Rattle.mesa_schema.specs.Schema.{is_schema}
 use Rattle.mesa_schema.specs.Changes.{Lineage, columns_after, columns_of, drop_checked, refuse_used}
-use Rattle.mesa_schema.specs.Views.{choice_checked, is_replace, values_named, view_checked, with_view}
+use Rattle.mesa_schema.specs.Views.{choice_checked, is_replace, values_named, view_checked}
 use Rattle.mesa_schema.specs.Lineages.{IsKept, IsLineage, is_view_of}
 
 -- no replace column was found

@@ -1,12 +1,12 @@
 -- What std's parsing says in the words of signed numbers.
-use Rattle.std.proofs.Common.{◌≡◌, ℕ, zero, suc, ◌+◌, ◌-◌, ◌*◌, ◌<◌, ◌≤◌, ◌^◌, ℤ, pos, negsuc, neg_ℤ, List, [], ◌∷◌, length, drop, get_or, Bool, true, false, cond, refl, sym, ◌∙◌, ap, arith, subst, Option, Some, None, Result, Ok, Err, MatchOption, rules, lit<}
-use Rattle.std.specs.Prelude.{◌&&◌, ◌==◌, IsTrue, FitsSigned, int_le, int_lt, option_map, option_and_then, slice_index, nat_le}
+use Rattle.std.proofs.Common.{◌≡◌, ℕ, zero, suc, ◌+◌, ◌-◌, ◌*◌, ◌<◌, ℤ, pos, negsuc, neg_ℤ, List, [], ◌∷◌, drop, get_or, Bool, true, false, cond, refl, sym, ◌∙◌, ap, arith, subst, Option, Some, None, Result, Ok, Err, MatchOption, rules, lit<}
+use Rattle.std.specs.Prelude.{◌&&◌, ◌==◌, FitsSigned, option_map, option_and_then}
 use Rattle.std.specs.Bool.{then_some}
 use Rattle.std.specs.List.{list_all}
 use Rattle.std.specs.Int.{w64}
 use Rattle.std.specs.Result.{OkIff, result_ok}
 use Rattle.std.specs.Str.{IsUtf8, IsAscii}
-use Rattle.std.specs.Str.Parse.{AllDigits, IsNumeral, ParsesSigned, digits_value, signed_digits_value, starts_with_minus, without_leading_plus, without_leading_sign}
+use Rattle.std.specs.Str.Parse.{AllDigits, IsNumeral, ParsesSigned, digits_value, signed_digits_value, without_leading_sign}
 use Rattle.std.proofs.lemmas.Bool.{eqb-true}
 use Rattle.std.proofs.lemmas.Int.{ints}
 use Rattle.std.proofs.lemmas.Bool.Decides.{nat_tests}

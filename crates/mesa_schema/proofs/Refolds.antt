@@ -1,9 +1,8 @@
 -- Parts that stand one after the other may be folded first, wherever they stand.
-use Rattle.std.proofs.Common.{◌≡◌, ℕ, List, [], ◌∷◌, ◌++◌, refl, sym, ◌∙◌, ap, subst, append_assoc, arith}
-use Rattle.std.proofs.lemmas.List.{append-nil, map-append}
+use Rattle.std.proofs.Common.{◌≡◌, ℕ, List, [], ◌∷◌, ◌++◌, refl, sym, ◌∙◌, ap, append_assoc, arith}
+use Rattle.std.proofs.lemmas.List.{map-append}
 use Rattle.std.proofs.lemmas.Int.{ints}
 use Rattle.std.specs.Prelude.{ℤ, Bool, true, false, ◌||◌, cond, map}
-use Rattle.std.specs.List.{list_any}
 use Rattle.std.specs.Ordering.{eq_by_cmp}
 use Rattle.std.proofs.lemmas.List.Folds.{list_any-append}
 use Rattle.mesa_value.specs.declared.Agg.{Agg}
@@ -12,7 +11,7 @@ use Rattle.mesa_value.specs.Agg.{combined}
 use Rattle.mesa_key.specs.Order.{byte_cmp}
 use Rattle.mesa_schema.specs.declared.rows.Row.{Row}
 use Rattle.mesa_schema.specs.Folded.{all_combined, combined_from, folded, folded_at, keys_of, row_combined, rows_of, values_at}
-use Rattle.mesa_schema.proofs.Keys.{Keys, has, keys_in, keys_in-same}
+use Rattle.mesa_schema.proofs.Keys.{has, keys_in-same}
 use Rattle.mesa_schema.proofs.Folds.{combined_from-append, has-keys_of, keys, keys-folded_at, keys_of-keys_in, rising-keys_of, rows_of-append, values_at-append, values_at-folded_at, values_at_none, values_at_some}
 use Rattle.mesa_schema.proofs.Folding.{of_rows}
 

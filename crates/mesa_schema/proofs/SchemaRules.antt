@@ -1,6 +1,6 @@
 -- Columns that keep the rules of a schema.
-use Rattle.std.proofs.Common.{◌≡◌, ℕ, ◌≤◌, List, length, Bool, true, false, refl, sym, ◌∙◌, ap, arith, Option, Some, None, Result, Ok, Err, ◌<◌, map, get_or}
-use Rattle.std.specs.Prelude.{◌==◌, ◌||◌, IsTrue, is_ok, nat_lt, option_map, slice_get}
+use Rattle.std.proofs.Common.{◌≡◌, ℕ, ◌≤◌, List, length, false, refl, sym, ◌∙◌, ap, arith, Option, Some, None, Ok, Err, ◌<◌, map, get_or}
+use Rattle.std.specs.Prelude.{◌==◌, ◌||◌, nat_lt, option_map, slice_get}
 use Rattle.std.proofs.lemmas.Bool.{le-ltb}
 use Rattle.std.proofs.lemmas.Option.{slice_get-get_or, slice_get-map}
 use Rattle.mesa_schema.specs.declared.columns.KeyColumn.{KeyColumn}
@@ -8,7 +8,7 @@ use Rattle.mesa_schema.specs.declared.columns.ValueColumn.{ValueColumn}
 use Rattle.mesa_schema.specs.declared.schema.SchemaError.TheVariants.{NameTwice}
 use Rattle.mesa_schema.specs.Names.{repeated}
 use Rattle.mesa_schema.specs.Columns.{Columns, key_names, value_names}
-use Rattle.mesa_schema.specs.Schema.{is_schema, schema_checked}
+use Rattle.mesa_schema.specs.Schema.{schema_checked}
 
 -- Columns, some of each sort and not too many, without a repeated name among the key columns: the value columns' names decide.
 pub rules_left : (s : Columns) (o : Option (List ℕ)) → (length s.keys == 0) ≡ false → (length s.values == 0) ≡ false → length s.keys ≤ 16 → length s.values ≤ 16

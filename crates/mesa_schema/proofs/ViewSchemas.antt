@@ -1,11 +1,10 @@
 -- A view's columns make a schema.
-use Rattle.std.proofs.Common.{◌≡◌, ℕ, zero, suc, ◌+◌, ◌<◌, ◌≤◌, List, [], ◌∷◌, ◌++◌, length, map, get_or, Bool, true, false, cond, refl, sym, ◌∙◌, ap, subst, arith, Option, Some, None, Result, Ok, Err}
-use Rattle.std.specs.Prelude.{◌&&◌, ◌||◌, ◌==◌, IsTrue, is_ok, is_some, nat_lt, slice_get}
+use Rattle.std.proofs.Common.{◌≡◌, ℕ, zero, suc, ◌<◌, ◌≤◌, List, [], ◌∷◌, length, map, get_or, Bool, true, false, cond, refl, sym, ◌∙◌, ap, arith, Option, Some, None}
+use Rattle.std.specs.Prelude.{◌&&◌, ◌||◌, ◌==◌, is_ok, is_some, nat_lt, slice_get}
 use Rattle.std.specs.List.{AllByRecursion, IsDistinct, list_all, list_any}
-use Rattle.std.specs.Cmp.{IsEquivalence}
 use Rattle.std.proofs.lemmas.Cmp.{nat_list_eq_equiv}
 use Rattle.std.proofs.lemmas.Map.Made.{length-le_from_is_member}
-use Rattle.std.proofs.lemmas.Bool.{ltb-false, le-ltb}
+use Rattle.std.proofs.lemmas.Bool.{ltb-false}
 use Rattle.std.proofs.lemmas.Map.Steps.{list_any_congr}
 use Rattle.std.proofs.lemmas.Option.{slice_get-get_or}
 use Rattle.std.proofs.Math.ListN.{get_or-map}
@@ -19,7 +18,7 @@ use Rattle.mesa_schema.specs.declared.views.ViewError.TheVariants.{NoKey, NoValu
 use Rattle.mesa_schema.specs.Names.{has_name, repeated, repeated_after}
 use Rattle.mesa_schema.specs.Columns.{Columns, chosen, key_names, place_of, places_in, value_names}
 use Rattle.mesa_schema.specs.Schema.{is_schema}
-use Rattle.mesa_schema.specs.Views.{choice_checked, view_checked, view_columns}
+use Rattle.mesa_schema.specs.Views.{choice_checked, view_columns}
 use Rattle.mesa_schema.specs.Lineages.{is_view_of}
 use Rattle.mesa_schema.proofs.Choices.{chosen-slot}
 use Rattle.mesa_schema.proofs.Maps.{is_some_position}

@@ -1,7 +1,6 @@
 -- Linked changes of a schema: their rules, and what they do to columns and rows.
-use Rattle.std.specs.Prelude.{ℕ, ◌+◌, ◌-◌, ℤ, List, [], ◌∷◌, ◌++◌, map, take, drop, filter, find, length, unwrap_or, not, nat_le, ◌==◌, Bool, true, false, Option, None, Some, Result, Ok, Err, nat_abs, is_none}
-use Rattle.mesa_list.specs.Bytes.{same_bytes}
-use Rattle.mesa_list.specs.Checks.{◌>>=◌, ◌>>◌, refuse_if, refuse_unless}
+use Rattle.std.specs.Prelude.{ℕ, ◌+◌, ◌-◌, ℤ, List, [], ◌∷◌, ◌++◌, take, drop, find, length, unwrap_or, nat_le, ◌==◌, Bool, true, false, Option, None, Some, Result, Ok, Err, nat_abs}
+use Rattle.mesa_list.specs.Checks.{◌>>◌, refuse_if, refuse_unless}
 use Rattle.mesa_value.specs.declared.Agg.{Agg}
 use Rattle.mesa_value.specs.declared.Agg.TheVariants as agg
 use Rattle.mesa_key.specs.declared.KeyType.{KeyType}
@@ -40,6 +39,12 @@ abbrev pub lifted_once : Columns → Change → Row → Row
 lifted_once s (AddValue column default) row = record row { values = row.values ++ default ∷ [] }
 lifted_once s (DropValue name) row = record row { values = without (unwrap_or (place_of name (value_names s)) (length s.values)) row.values }
 lifted_once s (AddKey column default) row = record row { key = row.key ++ value_spelling default }
+
+-- whether a change adds a key column
+abbrev pub adds_key : Change → Bool
+adds_key (AddValue column default) = false
+adds_key (DropValue name) = false
+adds_key (AddKey column default) = true
 
 -- the columns after changes, in order
 abbrev pub columns_after : Columns → List Change → Columns
@@ -100,22 +105,34 @@ abbrev pub refuse_used : Option View → Result (Unit {0}) ChangeError
 refuse_used None = Ok tt
 refuse_used (Some view) = Err (no.InView view.name)
 
--- a value column that is there, that no view uses, and that isn't the last one
+-- a value column that is among these names, that none of the views uses, and that isn't the last one
+abbrev pub drop_rule : List (List ℕ) → List View → List ℕ → Result (Unit {0}) ChangeError
+drop_rule names views name = do
+  refuse_unless (has_name name names) no.NoColumn
+  refuse_used (find (λ (v : View). has_name name v.values) views)
+  refuse_if (length names == 1) no.LastValue
+
+-- a table's value column may go
 abbrev pub drop_checked : Lineage → List ℕ → Result (Unit {0}) ChangeError
-drop_checked l name = do
-  refuse_unless (has_name name (value_names (columns_of l))) no.NoColumn
-  refuse_used (find (λ (v : View). has_name name v.values) l.views)
-  refuse_if (length (value_names (columns_of l)) == 1) no.LastValue
+drop_checked l name = drop_rule (value_names (columns_of l)) l.views name
+
+-- a value column that may join those of these names, with its default
+abbrev pub added_value_checked : List (List ℕ) → ValueColumn → ℤ → Result (Unit {0}) ChangeError
+added_value_checked names column default = do
+  new_name_checked column.name names
+  refuse_unless (is_default column.agg default) no.BadDefault
+
+-- a key column that may join those of these names, with its default
+abbrev pub added_key_checked : List (List ℕ) → KeyColumn → KeyValue → Result (Unit {0}) ChangeError
+added_key_checked names column default = do
+  new_name_checked column.name names
+  refuse_unless (is_of_kind column.kind default) no.BadDefault
 
 -- The rules of a change in their order, but for the number of changes.
 abbrev pub rule_checked : Lineage → Change → Result (Unit {0}) ChangeError
-rule_checked l (AddValue column default) = do
-  new_name_checked column.name (value_names (columns_of l))
-  refuse_unless (is_default column.agg default) no.BadDefault
+rule_checked l (AddValue column default) = added_value_checked (value_names (columns_of l)) column default
 rule_checked l (DropValue name) = drop_checked l name
-rule_checked l (AddKey column default) = do
-  new_name_checked column.name (key_names (columns_of l))
-  refuse_unless (is_of_kind column.kind default) no.BadDefault
+rule_checked l (AddKey column default) = added_key_checked (key_names (columns_of l)) column default
 
 -- The rules of a change in their order, the number of changes last.
 abbrev pub change_checked : Lineage → Change → Result (Unit {0}) ChangeError

@@ -1,10 +1,9 @@
 -- Folding rows by key, and grouping them.
-use Rattle.std.specs.Prelude.{ℕ, ℤ, List, [], ◌∷◌, ◌++◌, map, filter, Bool, flat_map}
+use Rattle.std.specs.Prelude.{ℕ, ℤ, List, [], ◌∷◌, map, filter, flat_map}
 use Rattle.std.specs.List.{concat}
 use Rattle.std.specs.FinMap.Entries.{by_order}
 use Rattle.mesa_value.specs.declared.Agg.{Agg}
 use Rattle.mesa_value.specs.Agg.{combined}
-use Rattle.mesa_key.specs.declared.KeyType.{KeyType}
 use Rattle.mesa_key.specs.Order.{byte_cmp}
 use Rattle.mesa_key.specs.Spelling.{columns_of}
 use Rattle.mesa_schema.specs.declared.rows.Row.{Row}

@@ -1,15 +1,26 @@
 -- Laws of folding, lifting and grouping.
-use Rattle.std.specs.Prelude.{◌≡◌, ℕ, ℤ, List, [], ◌∷◌, ◌++◌, map, length, ⊤}
-use Rattle.std.specs.List.{AllByRecursion}
+use Rattle.std.specs.Prelude.{◌≡◌, ℕ, ◌<◌, ◌≤◌, List, [], ◌∷◌, ◌++◌, map, filter, take, length, Bool, ◌==◌, nat_lt, IsTrue, is_ok}
+use Rattle.std.specs.List.{AllByRecursion, list_all, list_any}
+use Rattle.std.specs.declared.cmp.Ordering.TheVariants.{Less}
 use Rattle.mesa_value.specs.declared.Agg.{Agg}
-use Rattle.mesa_value.specs.Agg.{IsOrderless, combined}
+use Rattle.mesa_value.specs.Agg.{IsOrderless}
+use Rattle.mesa_key.specs.Order.{byte_cmp}
+use Rattle.mesa_key.specs.Spelling.{key_of, key_spelling}
 use Rattle.mesa_schema.specs.declared.rows.Row.{Row}
 use Rattle.mesa_schema.specs.declared.changes.Change.{Change}
-use Rattle.mesa_schema.specs.Columns.{Columns, aggs_of, chosen}
-use Rattle.mesa_schema.specs.Rows.{AreRowsOf, IsRowOf}
-use Rattle.mesa_schema.specs.Changes.{changed, columns_after, lifted_by, lifted_once}
-use Rattle.mesa_schema.specs.Lineages.{HasDefault}
-use Rattle.mesa_schema.specs.Folded.{folded, grouped, rows_of}
+use Rattle.mesa_schema.specs.declared.views.View.{View}
+use Rattle.mesa_schema.specs.Columns.{Columns, aggs_of, chosen, kinds_of}
+use Rattle.mesa_schema.specs.Rows.{AreRowsOf, IsRowOf, keys_rise}
+use Rattle.mesa_schema.specs.Schema.{is_schema}
+use Rattle.mesa_schema.specs.Changes.{Lineage, change_checked, changed, columns_after, columns_at, columns_of, epoch_of, lifted, lifted_by, lifted_once, rule_checked, with_change}
+use Rattle.mesa_schema.specs.Lineages.{HasDefault, IsLineage, is_view_of}
+use Rattle.mesa_schema.specs.Views.{max_views, view_columns, view_rows, with_view}
+use Rattle.mesa_schema.specs.Folded.{folded, grouped, regrouped, row_combined, rows_of, values_at}
+use Rattle.mesa_schema.specs.Put.{put_row}
+
+-- each row has a value for each column
+abbrev pub AreFull : List Agg → List Row → Type 0
+AreFull aggs rows = AllByRecursion (λ (row : Row). length row.values ≡ length aggs) rows
 
 -- Parts that stand one after the other may be folded first.
 abbrev pub Refolds : Type 0
@@ -33,6 +44,124 @@ abbrev pub GroupsFolds : Type 0
 GroupsFolds = (s : Columns) (columns values : List ℕ) (parts : List (List Row)) → AllByRecursion IsOrderless (chosen values (aggs_of s)) → AreRowsOf s (rows_of parts)
     → grouped s columns values (folded (aggs_of s) parts) ≡ folded (chosen values (aggs_of s)) (map (grouped s columns values) parts)
 
--- each row has a value for each column
-abbrev pub AreFull : List Agg → List Row → Type 0
-AreFull aggs rows = AllByRecursion (λ (row : Row). length row.values ≡ length aggs) rows
+-- ---- folds
+
+-- Parts that have the same values at each key fold to the same.
+abbrev pub SameFolds : Type 0
+SameFolds = (aggs : List Agg) (xs ys : List (List Row)) → ((key : List ℕ) → values_at key (rows_of xs) ≡ values_at key (rows_of ys)) → folded aggs xs ≡ folded aggs ys
+
+-- The keys of folded rows rise.
+abbrev pub FoldsRise : Type 0
+FoldsRise = (aggs : List Agg) (parts : List (List Row)) → IsTrue (keys_rise (folded aggs parts))
+
+-- A fold of rows that have a value for each column has such rows.
+abbrev pub FoldsFull : Type 0
+FoldsFull = (aggs : List Agg) (parts : List (List Row)) → AreFull aggs (rows_of parts) → AreFull aggs (folded aggs parts)
+
+-- Rows may be filtered by their keys before folding or after it.
+abbrev pub FiltersFold : Type 0
+FiltersFold = (passes : List ℕ → Bool) (aggs : List Agg) (parts : List (List Row)) → filter (λ (row : Row). passes row.key) (folded aggs parts) ≡ folded aggs (map (filter (λ (row : Row). passes row.key)) parts)
+
+-- One row more is put among the folded rows.
+abbrev pub PutsOne : Type 0
+PutsOne = (aggs : List Agg) (rows : List Row) (row : Row) → folded aggs ((rows ++ row ∷ []) ∷ []) ≡ put_row aggs row (folded aggs (rows ∷ []))
+
+-- each row's key is below this one
+abbrev pub AreUnder : List ℕ → List Row → Type 0
+AreUnder key rows = AllByRecursion (λ (row : Row). byte_cmp row.key key ≡ Less) rows
+
+-- A part gets a row more, whose key is above all: it is the last of the fold.
+-- Or its key is the last one, which no later part has: it is combined with the last row.
+pub record PutsGiven : Type 0 where
+  pub next : (aggs : List Agg) (before after : List (List Row)) (part : List Row) (row : Row) → AreUnder row.key (rows_of (before ++ part ∷ after))
+      → folded aggs (before ++ (part ++ row ∷ []) ∷ after) ≡ folded aggs (before ++ part ∷ after) ++ row ∷ []
+  pub same : (aggs : List Agg) (before after : List (List Row)) (part front : List Row) (last row : Row) → AreUnder row.key (rows_of after)
+      → folded aggs (before ++ part ∷ after) ≡ front ++ last ∷ [] → last.key ≡ row.key → AreUnder row.key front
+      → folded aggs (before ++ (part ++ row ∷ []) ∷ after) ≡ front ++ record last { values = row_combined aggs last.values row.values } ∷ []
+  pub under : (aggs : List Agg) (parts : List (List Row)) (key : List ℕ) → AreUnder key (rows_of parts) → AreUnder key (folded aggs parts)
+
+-- ---- groups
+
+-- These are places of key columns, and every key column's is among them.
+pub record AreAllKeys (s : Columns) (columns : List ℕ) : Type 0 where
+  pub places : IsTrue (list_all (λ place. nat_lt place (length s.keys)) columns)
+  pub each : (place : ℕ) → place < length s.keys → IsTrue (list_any (λ c. c == place) columns)
+
+-- Where all key columns are group columns, rows of one group have one key.
+abbrev pub GroupsWhole : Type 0
+GroupsWhole = (s : Columns) (columns : List ℕ) (a b : Row) → AreAllKeys s columns → IsRowOf s a → IsRowOf s b → (regrouped s columns [] a).key ≡ (regrouped s columns [] b).key → a.key ≡ b.key
+
+-- Then rows may be folded before grouping or after it, replace columns included.
+abbrev pub GroupsWholeFolds : Type 0
+GroupsWholeFolds = (s : Columns) (columns values : List ℕ) (parts : List (List Row)) → AreAllKeys s columns → AreRowsOf s (rows_of parts)
+    → grouped s columns values (folded (aggs_of s) parts) ≡ grouped s columns values (rows_of parts)
+
+-- The keys of grouped rows rise.
+abbrev pub GroupsRise : Type 0
+GroupsRise = (s : Columns) (columns values : List ℕ) (rows : List Row) → IsTrue (keys_rise (grouped s columns values rows))
+
+-- Grouped rows have the form of the group columns and the chosen value columns.
+abbrev pub GroupsForm : Type 0
+GroupsForm = (s : Columns) (columns values : List ℕ) (rows : List Row) → AreRowsOf s rows
+    → AreRowsOf (record { keys = chosen columns s.keys; values = chosen values s.values }) (grouped s columns values rows)
+
+-- ---- rows of an epoch at present
+
+-- A lifted row has the form of the present columns.
+abbrev pub LiftedForms : Type 0
+LiftedForms = (l : Lineage) (epoch : ℕ) (row : Row) → IsLineage l → IsRowOf (columns_at l epoch) row → IsRowOf (columns_of l) (lifted l epoch (epoch_of l) row)
+
+-- The columns of a lifted key that were there before spell the row's key.
+abbrev pub LiftedKeys : Type 0
+LiftedKeys = (l : Lineage) (epoch : ℕ) (row : Row) → IsRowOf (columns_at l epoch) row
+    → key_spelling (take (length (columns_at l epoch).keys) (key_of (kinds_of (columns_of l)) (lifted l epoch (epoch_of l) row).key)) ≡ row.key
+
+-- A lifted key begins with the row's key.
+abbrev pub KeysGrow : Type 0
+KeysGrow = (l : Lineage) (epoch : ℕ) (row : Row) → (more : List ℕ) × ((lifted l epoch (epoch_of l) row).key ≡ row.key ++ more)
+
+-- Lifting leaves the order of rows.
+abbrev pub LiftedRise : Type 0
+LiftedRise = (l : Lineage) (epoch : ℕ) (rows : List Row) → IsLineage l → AreRowsOf (columns_at l epoch) rows → keys_rise (map (lifted l epoch (epoch_of l)) rows) ≡ keys_rise rows
+
+-- Rows of an epoch may be lifted to the present before folding or after it.
+abbrev pub LiftedFolds : Type 0
+LiftedFolds = (l : Lineage) (epoch : ℕ) (parts : List (List Row)) → IsLineage l → AreRowsOf (columns_at l epoch) (rows_of parts)
+    → map (lifted l epoch (epoch_of l)) (folded (aggs_of (columns_at l epoch)) parts) ≡ folded (aggs_of (columns_of l)) (map (map (lifted l epoch (epoch_of l))) parts)
+
+-- A row of the present epoch stays as it is.
+abbrev pub LiftedNow : Type 0
+LiftedNow = (l : Lineage) (row : Row) → lifted l (epoch_of l) (epoch_of l) row ≡ row
+
+-- After one change more a row goes through that change too.
+abbrev pub LiftedMore : Type 0
+LiftedMore = (l : Lineage) (change : Change) (epoch : ℕ) (row : Row) → epoch ≤ epoch_of l
+    → lifted (with_change l change) epoch (epoch_of (with_change l change)) row ≡ lifted_once (columns_of l) change (lifted l epoch (epoch_of l) row)
+
+-- ---- tables through their lives
+
+-- A view outlives a change of its table's columns: it is allowed after it, it has the same columns, and the lifted rows are grouped to what the rows were grouped to.
+pub record Outlives (s : Columns) (change : Change) (v : View) : Type 0 where
+  pub allowed : IsTrue (is_view_of (changed s change) v)
+  pub columns : view_columns (changed s change) v ≡ view_columns s v
+  pub rows : (rows : List Row) → AreRowsOf s rows → view_rows (changed s change) v (map (lifted_once s change) rows) ≡ view_rows s v rows
+
+-- Views outlive the changes that are allowed.
+abbrev pub ViewsOutlive : Type 0
+ViewsOutlive = (l : Lineage) (change : Change) → IsLineage l → IsTrue (is_ok (rule_checked l change)) → AllByRecursion (Outlives (columns_of l) change) l.views
+
+-- A new table followed the rules where its columns make a schema.
+abbrev pub NewLineages : Type 0
+NewLineages = (s : Columns) → IsTrue (is_schema s) → IsLineage (record { first = s; changes = []; views = [] })
+
+-- A table follows the rules through an allowed change whose default is one of its column.
+abbrev pub ChangedLineages : Type 0
+ChangedLineages = (l : Lineage) (change : Change) → IsLineage l → HasDefault change → IsTrue (is_ok (change_checked l change)) → IsLineage (with_change l change)
+
+-- And when a view is added that the columns allow.
+abbrev pub ViewedLineages : Type 0
+ViewedLineages = (l : Lineage) (v : View) → IsLineage l → length l.views < max_views → IsTrue (is_view_of (columns_of l) v) → IsLineage (with_view l v)
+
+-- A change more is made of the present columns.
+abbrev pub ChangedColumns : Type 0
+ChangedColumns = (l : Lineage) (change : Change) → columns_of (with_change l change) ≡ changed (columns_of l) change

@@ -1,10 +1,13 @@
 pub mod Names
 pub mod Numbers
 pub mod Columns
+pub mod Codes
 pub mod Schema
 pub mod Folded
 pub mod Changes
 pub mod Views
 pub mod Lineages
+pub mod Lifting
 pub mod Rows
+pub mod Put
 pub mod Laws

@@ -1,5 +1,5 @@
 -- Tables whose columns have followed the rules.
-use Rattle.std.specs.Prelude.{◌≡◌, ℕ, ◌≤◌, List, take, length, unwrap_or, IsTrue, Bool, is_ok, Option, ⊤}
+use Rattle.std.specs.Prelude.{◌≡◌, ℕ, ◌≤◌, length, unwrap_or, IsTrue, Bool, is_ok, Option, ⊤}
 use Rattle.std.specs.List.{AllByRecursion, list_all}
 use Rattle.mesa_value.specs.Agg.{IsDefault}
 use Rattle.mesa_key.specs.Spelling.{IsValue}

@@ -1,6 +1,8 @@
 -- Rows of a table or a view.
-use Rattle.std.specs.Prelude.{◌≡◌, List, length}
+use Rattle.std.specs.Prelude.{◌≡◌, List, [], ◌∷◌, length, Bool, true, ◌&&◌}
+use Rattle.std.specs.Ordering.{is_lt}
 use Rattle.std.specs.List.{AllByRecursion}
+use Rattle.mesa_key.specs.Order.{byte_cmp}
 use Rattle.mesa_key.specs.Spelling.{IsKey, key_of, key_spelling}
 use Rattle.mesa_schema.specs.declared.rows.Row.{Row}
 use Rattle.mesa_schema.specs.Columns.{Columns, kinds_of}
@@ -14,3 +16,9 @@ pub record IsRowOf (s : Columns) (row : Row) : Type 0 where
 -- each of the rows has
 abbrev pub AreRowsOf : Columns → List Row → Type 0
 AreRowsOf s rows = AllByRecursion (IsRowOf s) rows
+
+-- the keys of the rows rise strictly
+abbrev pub keys_rise : List Row → Bool
+keys_rise [] = true
+keys_rise (row ∷ []) = true
+keys_rise (row ∷ next ∷ rows) = is_lt (byte_cmp row.key next.key) && keys_rise (next ∷ rows)

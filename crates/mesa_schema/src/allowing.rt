@@ -1,25 +1,76 @@
 // Which changes are allowed.
-ghost use Rattle.std.specs.Prelude.{◌≡◌, find, is_ok, is_some, length, map, not, ◌&&◌, ◌==◌};
+ghost use Rattle.std.specs.Prelude.{◌≡◌, ◌≢◌, find, is_ok, is_some, length, map, not, ◌&&◌, ◌==◌, IfErr, IsTrue, OnOk};
+ghost use Rattle.std.specs.Option.{option_copied};
 ghost use Rattle.std.specs.List.{list_any};
 ghost use Rattle.mesa_schema.specs.declared.views.View.{View as Chosen};
 ghost use Rattle.mesa_schema.specs.declared.columns.ValueColumn.{ValueColumn as Column};
+ghost use Rattle.mesa_schema.specs.declared.columns.KeyColumn.{KeyColumn as Key};
 ghost use Rattle.mesa_schema.specs.Names.{has_name as is_among};
-ghost use Rattle.mesa_schema.specs.Changes.{is_default as has_default, is_of_kind as has_kind, new_name_checked};
+ghost use Rattle.mesa_value.specs.Agg.{IsDefault};
+ghost use Rattle.mesa_key.specs.Spelling.{IsValue};
+ghost use Rattle.mesa_schema.specs.Changes.{added_key_checked, added_value_checked, drop_rule, is_default as has_default, is_of_kind as has_kind, new_name_checked};
 
-use crate::{MAX_COLUMNS, Name, Named, ValueColumn, View, has_name};
+use crate::{ChangeError, KeyColumn, MAX_COLUMNS, Name, Named, ValueColumn, View, has_name};
 use mesa_key::{KeyType, KeyValue};
+use mesa_list::TryCopy;
 use mesa_value::Agg;
+
+// A column of this name may join these.
+pub(crate) fn check_new<N: Named>(name: &Name, among: &[N]) -> Result<(), ChangeError>
+    ensures { result ≡ new_name_checked name.now (map N.name_of among.now) }
+{
+    if has_name(name.bytes(), among) {
+        return Err(ChangeError::NameTwice);
+    }
+    if among.len() >= MAX_COLUMNS {
+        return Err(ChangeError::TooManyColumns);
+    }
+    Ok(())
+}
 
 // Whether a column of this name may join these.
 pub(crate) fn is_new<N: Named>(name: &Name, among: &[N]) -> bool
     ensures { result ≡ is_ok (new_name_checked name.now (map N.name_of among.now)) }
 {
-    !has_name(name.bytes(), among) && among.len() < MAX_COLUMNS
+    check_new(name, among).is_ok()
+}
+
+// A value column may join these, with its default.
+pub(crate) fn check_added_value(
+    column: &ValueColumn,
+    default: &i64,
+    among: &[ValueColumn],
+) -> Result<(), ChangeError>
+    ensures check { result ≡ added_value_checked (map (λ (c : Column). c.name) among.now) column.now default.now }
+    ensures stays { OnOk result (IsDefault column.now.agg default.now) }
+{
+    check_new(&column.name, among)?;
+    if !is_default(column.agg, *default) {
+        return Err(ChangeError::BadDefault);
+    }
+    Ok(())
+}
+
+// A key column may join these, with its default.
+pub(crate) fn check_added_key(
+    column: &KeyColumn,
+    default: &KeyValue,
+    among: &[KeyColumn],
+) -> Result<(), ChangeError>
+    ensures check { result ≡ added_key_checked (map (λ (c : Key). c.name) among.now) column.now default.now }
+    ensures value { OnOk result (IsValue column.now.kind default.now) }
+{
+    check_new(&column.name, among)?;
+    if !is_of_kind(column.kind, default) {
+        return Err(ChangeError::BadDefault);
+    }
+    Ok(())
 }
 
 // Whether a value column of this aggregation may have this default.
 pub(crate) fn is_default(agg: Agg, default: i64) -> bool
-    ensures { result ≡ has_default agg default }
+    ensures test { result ≡ has_default agg default }
+    ensures stays { IsTrue result → IsDefault agg default }
 {
     match agg {
         Agg::Sum => default == 0,
@@ -29,12 +80,50 @@ pub(crate) fn is_default(agg: Agg, default: i64) -> bool
 
 // Whether a key column of this type may have this default.
 pub(crate) fn is_of_kind(kind: KeyType, value: &KeyValue) -> bool
-    ensures { result ≡ has_kind kind value.now }
+    ensures test { result ≡ has_kind kind value.now }
+    ensures value { IsTrue result → IsValue kind value.now }
 {
-    matches!(
-        (kind, value),
-        (KeyType::Int, KeyValue::Int(_)) | (KeyType::Text, KeyValue::Text(_))
-    )
+    match (kind, value) {
+        (KeyType::Int, KeyValue::Int(number)) => {
+            let _number = *number;
+            true
+        }
+        (KeyType::Text, KeyValue::Text(text)) => {
+            let _bytes = text.as_bytes();
+            true
+        }
+        _ => false,
+    }
+}
+
+// The value column of this name may go: it is there, no view has it, and it isn't the last one.
+pub(crate) fn check_drop(
+    name: &Name,
+    among: &[ValueColumn],
+    views: &[View],
+) -> Result<(), ChangeError>
+    ensures passes { OnOk result (drop_rule (map (λ (c : Column). c.name) among.now) views.now name.now ≡ Ok tt) }
+    ensures refused { IfErr result (λ e. e ≢ ChangeError.Memory → drop_rule (map (λ (c : Column). c.name) among.now) views.now name.now ≡ Err e) }
+{
+    if !has_name(name.bytes(), among) {
+        return Err(ChangeError::NoColumn);
+    }
+    if let Some(view) = first_user(name, views) {
+        return Err(ChangeError::InView {
+            view: view.name.copy()?,
+        });
+    }
+    if among.len() == 1 {
+        return Err(ChangeError::LastValue);
+    }
+    Ok(())
+}
+
+// The first view that has the value column of this name.
+fn first_user<'a>(name: &Name, views: &'a [View]) -> Option<&'a View>
+    ensures { option_copied result ≡ find (λ (v : Chosen). is_among name.now v.values) views.now }
+{
+    views.iter().find(|view| uses(view, name))
 }
 
 // Whether the value column of this name is there, and another one.

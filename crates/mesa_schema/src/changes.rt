@@ -1,6 +1,7 @@
 // Linked changes of a schema.
 use crate::{KeyColumn, Name, ValueColumn};
 use mesa_key::KeyValue;
+use std::alloc::AllocError;
 
 /// A linked change of a table's schema; each raises the table's epoch by 1.
 #[derive(Drop)]
@@ -34,4 +35,15 @@ pub enum ChangeError {
     /// The table has had 1,000 changes.
     EpochsFull,
     Memory,
+}
+
+impl From<AllocError> for ChangeError {
+    ghost use Rattle.mesa_schema.specs.declared.changes.ChangeError.TheVariants.{Memory};
+    ghost use Rattle.std.specs.Prelude.{◌≡◌};
+
+    ghost from_gives = { λ _ e. e ≡ Memory };
+
+    fn from(_: AllocError) -> Self {
+        ChangeError::Memory
+    }
 }

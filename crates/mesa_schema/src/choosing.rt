@@ -6,7 +6,6 @@ ghost use Rattle.mesa_schema.specs.Views.{choice_checked, is_replace as replaces
 
 use crate::{Name, Named, ValueColumn, ViewError, has_names, place_of, repeated_place};
 use mesa_list::TryCopy;
-use mesa_value::Agg;
 use std::alloc::{AllocError, Global};
 
 // The columns of these names, in the names' order.
@@ -53,16 +52,10 @@ pub(crate) fn replace_place(names: &[Name], columns: &[ValueColumn]) -> Option<u
 {
     for (i, name) in names.iter().enumerate() {
         if let Some(place) = place_of(name.bytes(), columns) {
-            if is_replace(&columns[place]) {
+            if columns[place].is_replace() {
                 return Some(i);
             }
         }
     }
     None
-}
-
-fn is_replace(column: &ValueColumn) -> bool
-    ensures { result ≡ replaces column.now }
-{
-    matches!(column.agg, Agg::Replace)
 }

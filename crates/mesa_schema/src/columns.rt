@@ -1,4 +1,7 @@
 // The columns of tables and views.
+ghost use Rattle.std.specs.Prelude.{◌≡◌};
+ghost use Rattle.mesa_schema.specs.Views.{is_replace as replaces};
+
 use crate::Name;
 use mesa_key::KeyType;
 use mesa_value::Agg;
@@ -15,4 +18,13 @@ pub struct KeyColumn {
 pub struct ValueColumn {
     pub name: Name,
     pub agg: Agg,
+}
+
+impl ValueColumn {
+    /// Whether the newest of the values of a key counts.
+    pub fn is_replace(&self) -> bool
+        ensures { result ≡ replaces self.now }
+    {
+        matches!(self.agg, Agg::Replace)
+    }
 }

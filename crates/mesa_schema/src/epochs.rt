@@ -1,6 +1,6 @@
 // The columns of an epoch.
-ghost use Rattle.std.specs.Prelude.{◌≡◌, OnOk};
-ghost use Rattle.mesa_schema.specs.Changes.{changed};
+ghost use Rattle.std.specs.Prelude.{◌≡◌, ◌≤◌, OnOk, count_by, length};
+ghost use Rattle.mesa_schema.specs.Changes.{adds_key as adds, changed};
 
 use crate::{Change, KeyColumn, ValueColumn, place_of};
 use mesa_list::TryCopy;
@@ -30,4 +30,18 @@ pub(crate) fn change_columns(
             Ok(())
         }
     }
+}
+
+// How many of the changes add a key column.
+pub(crate) fn added_keys(changes: &[Change]) -> usize
+    ensures count { result ≡ count_by adds changes.now }
+    ensures most { result ≤ length changes.now }
+{
+    changes.iter().filter(|change| adds_key(change)).count()
+}
+
+fn adds_key(change: &Change) -> bool
+    ensures { result ≡ adds change.now }
+{
+    matches!(change, Change::AddKey { .. })
 }

@@ -1,15 +1,19 @@
 // A table's columns through its life.
 ghost use Rattle.std.specs.Prelude.{◌≡◌, IsTrue, IfOk, OnOk, OnErr, IfErr, Ok, ◌<◌, ◌≤◌, length, [], is_ok, map, slice_get, ◌≢◌, IfSome};
 ghost use Rattle.mesa_schema.specs.declared.views.View.{View as Chosen};
-ghost use Rattle.mesa_schema.specs.Changes.{change_checked, columns_at, columns_of, epoch_of, rule_checked};
+ghost use Rattle.mesa_schema.specs.Changes.{change_checked, changed, columns_at, columns_of, epoch_of, lifted, rule_checked, with_change};
 ghost use Rattle.mesa_schema.specs.Columns.{key_names};
 ghost use Rattle.mesa_schema.specs.Views.{choice_checked, chosen_values_checked, view_checked, view_columns, with_view};
-ghost use Rattle.mesa_schema.specs.Lineages.{IsLineage};
+ghost use Rattle.mesa_schema.specs.Lineages.{HasDefault, IsLineage};
+ghost use Rattle.mesa_schema.specs.Lifting.{Lifts};
+ghost use Rattle.mesa_schema.specs.Rows.{IsRowOf};
 
-use crate::allowing::{is_default, is_new, is_of_kind, is_used, may_go};
+use crate::allowing::{
+    check_added_key, check_added_value, check_drop, is_default, is_new, is_of_kind, is_used, may_go,
+};
 use crate::choosing::{check_chosen, chosen_columns, replace_place};
-use crate::epochs::change_columns;
-use crate::{Change, Name, Schema, View, ViewError};
+use crate::epochs::{added_keys, change_columns};
+use crate::{Change, ChangeError, Lift, Name, Row, Schema, View, ViewError};
 use mesa_list::{Items, TryCopy};
 use std::alloc::{AllocError, Global};
 use std::marker::Model;
@@ -57,9 +61,19 @@ impl Evolving {
 
     /// How many changes there were.
     pub fn epoch(&self) -> u32
-        ensures { result ≡ epoch_of self.now }
+        ensures count { result ≡ epoch_of self.now }
+        ensures rules { IsLineage self.now }
     {
         self.changes.len() as u32
+    }
+
+    /// How many key columns the table had at an epoch; changes only add some.
+    pub fn keys_at(&self, epoch: u32) -> usize
+        requires { epoch ≤ epoch_of self.now }
+        ensures { result ≡ length (columns_at self.now epoch).keys }
+    {
+        let since = &self.changes.as_slice()[..epoch as usize];
+        self.first.keys().len() + added_keys(since)
     }
 
     /// The columns of epoch 0.
@@ -99,6 +113,28 @@ impl Evolving {
             change_columns(&mut keys, &mut values, change)?;
         }
         Ok(Schema::of(keys, values))
+    }
+
+    /// How rows of an epoch are lifted to the present.
+    pub fn lift_from(&self, epoch: u32) -> Result<Lift, AllocError>
+        requires { epoch ≤ epoch_of self.now }
+        ensures { IfOk result (λ lift. Lifts lift self.now epoch) }
+    {
+        if epoch == self.epoch() {
+            return Ok(Lift::none(self.changes.allocator()));
+        }
+        let (keys, values) = self.schema_at(epoch)?.into_columns();
+        let since = &self.changes.as_slice()[epoch as usize..];
+        Lift::through(self.changes.allocator(), keys, values, since)
+    }
+
+    /// A row of an epoch at present. Many rows of one epoch are lifted by one `lift_from`.
+    pub fn lift_row(&self, from: u32, row: Row) -> Result<Row, AllocError>
+        requires epoch { from ≤ epoch_of self.now }
+        requires form { IsRowOf (columns_at self.now from) row }
+        ensures { IfOk result (λ now. now ≡ lifted self.now from (epoch_of self.now) row) }
+    {
+        self.lift_from(from)?.row(row)
     }
 }
 
@@ -161,6 +197,49 @@ impl Evolving {
                 is_new(&column.name, present.keys()) && is_of_kind(column.kind, default)
             }
         }
+    }
+
+    // The rules of a change but for the number of changes.
+    fn check_rule(&self, change: &Change) -> Result<(), ChangeError>
+        ensures passes { OnOk result (rule_checked self.now change.now ≡ Ok tt) }
+        ensures default { OnOk result (HasDefault change.now) }
+        ensures refused { IfErr result (λ e. e ≢ ChangeError.Memory → rule_checked self.now change.now ≡ Err e) }
+    {
+        let present = self.present();
+        match change {
+            Change::AddValue { column, default } => {
+                check_added_value(column, default, present.values())
+            }
+            Change::DropValue { name } => check_drop(name, present.values(), self.views.as_slice()),
+            Change::AddKey { column, default } => check_added_key(column, default, present.keys()),
+        }
+    }
+
+    /// Changes the columns. Views, and the columns of earlier epochs, stay as they are.
+    pub fn change(&mut self, change: Change) -> Result<(), ChangeError>
+        ensures changed { OnOk result (self.new ≡ with_change self.old change) }
+        ensures allowed { OnOk result (IsTrue (is_ok (change_checked self.old change))) }
+        ensures refused { IfErr result (λ e. e ≢ ChangeError.Memory → change_checked self.old change ≡ Err e) }
+        ensures err { OnErr result (self.new ≡ self.old) }
+    {
+        self.check_rule(&change)?;
+        if self.changes.len() >= MAX_CHANGES {
+            return Err(ChangeError::EpochsFull);
+        }
+        let present = self.present_after(&change)?;
+        self.changes.push(change)?;
+        self.present = Some(present);
+        Ok(())
+    }
+
+    // The present columns after a change that keeps the rules.
+    fn present_after(&self, change: &Change) -> Result<Schema, AllocError>
+        requires { rule_checked self.now change.now ≡ Ok tt }
+        ensures { IfOk result (λ s. s ≡ changed (columns_of self.now) change.now) }
+    {
+        let (mut keys, mut values) = self.present().columns()?;
+        change_columns(&mut keys, &mut values, change)?;
+        Ok(Schema::of(keys, values))
     }
 
     /// Whether `add_view` would add this view, but for want of memory.

@@ -4,11 +4,13 @@
 mod allowing;
 mod changes;
 mod choosing;
+mod codes;
 mod columns;
 mod copies;
 mod epochs;
 mod evolving;
 mod laws;
+mod lifting;
 mod named;
 mod names;
 mod numbers;
@@ -17,9 +19,14 @@ mod schema;
 mod views;
 
 pub use changes::{Change, ChangeError};
+pub use codes::{agg_byte, agg_of_byte, kind_byte, kind_of_byte};
 pub use columns::{KeyColumn, ValueColumn};
 pub use evolving::{Evolving, MAX_CHANGES, MAX_VIEWS};
-pub use laws::{folds_again, groups_folds, lifts_folds};
+pub use laws::{
+    folds_again, folds_by_key, folds_go_on, groups_folds, groups_rise, groups_whole, lifts_folds,
+    lifts_to_present, tables_keep_rules, views_outlive,
+};
+pub use lifting::Lift;
 pub use named::{Named, has_name, has_names, place_of, repeated_place};
 pub use names::{Name, NameError, is_name_byte};
 pub use numbers::{key_value, signed};

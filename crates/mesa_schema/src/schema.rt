@@ -108,6 +108,14 @@ impl Schema {
         Ok((keys.into_vec(), values.into_vec()))
     }
 
+    // The columns, to be changed; none is copied.
+    pub(crate) fn into_columns(self) -> (Vec<KeyColumn>, Vec<ValueColumn>)
+        ensures keys { result.0.items ≡ self.keys }
+        ensures values { result.1.items ≡ self.values }
+    {
+        (self.keys.into_vec(), self.values.into_vec())
+    }
+
     /// The key columns, in the order of the key.
     pub fn keys(&self) -> &[KeyColumn]
         ensures same { result.now ≡ self.now.keys }

@@ -4,7 +4,8 @@ use Rattle.std.specs.Vec.Iter.{into_iter_items, into_iter_len}
 use Rattle.mesa_value.specs.declared.Agg.TheVariants.{Sum}
 use Rattle.mesa_schema.specs.Laws.{AreFull}
 use Rattle.mesa_batch.specs.Totals.{abs_total}
-use Rattle.mesa_fold.specs.Put.{IsFold, put_rows}
+use Rattle.mesa_schema.specs.Put.{put_rows}
+use Rattle.mesa_fold.specs.Put.{IsFold}
 use Rattle.mesa_fold.proofs.fold.fold_in.Given as goal
 
 -- the rows put so far are a fold, into which the others can be put

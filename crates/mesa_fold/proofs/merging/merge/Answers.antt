@@ -2,8 +2,8 @@ use Rattle.std.proofs.Common.{◌≡◌, ◌≤◌, ◌+◌, suc, ◌++◌, [], 
 use Rattle.std.proofs.Math.Seq.{drop-cons}
 use Rattle.std.proofs.lemmas.List.{drop-drop, drop_all}
 use Rattle.mesa_schema.specs.declared.rows.Row.{Row}
-use Rattle.mesa_fold.specs.Put.{put_rows}
-use Rattle.mesa_fold.proofs.Folds.{both_false}
+use Rattle.mesa_schema.specs.Put.{put_rows}
+use Rattle.mesa_schema.proofs.Folds.{both_false}
 use Rattle.mesa_fold.proofs.Kept.{put_rows-fold, rising-IsFold}
 use Rattle.mesa_fold.proofs.Sums.{abs_total-next}
 use Rattle.mesa_fold.proofs.Merged.{AreFull-put_rows, IsFold-put_rows, abs_total-drop, abs_total-put_rows, drop-whole, full-drop, rising-drop}

@@ -1,7 +1,8 @@
 use Rattle.std.proofs.Common.{◌≡◌, ◌≤◌, ◌++◌, drop, length}
 use Rattle.mesa_schema.specs.Laws.{AreFull}
 use Rattle.mesa_fold.specs.Bound.{KeepsBound}
-use Rattle.mesa_fold.specs.Put.{AreRising, put_rows}
+use Rattle.mesa_schema.specs.Put.{put_rows}
+use Rattle.mesa_fold.specs.Put.{AreRising}
 use Rattle.mesa_fold.proofs.merging.merge.Given as goal
 
 -- what is merged so far, and then the rows that are left, put together

@@ -4,7 +4,7 @@ use Rattle.mesa_key.specs.Order.{byte_cmp}
 use Rattle.mesa_schema.specs.declared.rows.Row.{Row}
 use Rattle.mesa_schema.specs.Folded.{row_combined}
 use Rattle.mesa_fold.specs.Bound.{AllCombine}
-use Rattle.mesa_fold.specs.Put.{put_rows}
+use Rattle.mesa_schema.specs.Put.{put_rows}
 use Rattle.mesa_fold.proofs.Place.{comparisons-rise}
 use Rattle.mesa_fold.proofs.Sums.{AllCombine-at}
 use Rattle.mesa_fold.proofs.Merged.{added_behind, merged-found, merged-missing}

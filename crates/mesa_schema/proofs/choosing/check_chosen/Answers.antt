@@ -1,4 +1,4 @@
-use Rattle.std.proofs.Common.{◌≡◌, ◌∙◌, ap, sym, true, false, map}
+use Rattle.std.proofs.Common.{◌∙◌, ap, sym, true, false, map}
 use Rattle.std.specs.Prelude.{is_some}
 use Rattle.std.proofs.lemmas.List.{map-id}
 use Rattle.mesa_schema.specs.Names.{repeated}

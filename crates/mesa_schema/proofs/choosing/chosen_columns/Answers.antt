@@ -1,4 +1,4 @@
-use Rattle.std.proofs.Common.{◌≡◌, ◌∙◌, ◌++◌, ◌∷◌, [], sym, ap, map}
+use Rattle.std.proofs.Common.{◌∙◌, ◌++◌, ◌∷◌, [], sym, ap, map}
 use Rattle.mesa_schema.specs.Columns.{place_of}
 use Rattle.mesa_schema.proofs.Choices.{chosen_more, chosen_same}
 use Rattle.mesa_schema.proofs.choosing.chosen_columns.Goals as goal

@@ -1,4 +1,4 @@
-use Rattle.std.proofs.Common.{◌≡◌, ◌∙◌, sym}
+use Rattle.std.proofs.Common.{◌∙◌, sym}
 use Rattle.mesa_schema.proofs.Repeats.{goes_on, one_repeats, repeats}
 use Rattle.mesa_schema.proofs.named.repeated_place.Goals as goal
 

@@ -1,4 +1,4 @@
-use Rattle.std.proofs.Common.{◌≡◌, ◌∙◌, sym, ap}
+use Rattle.std.proofs.Common.{◌∙◌, sym, ap}
 use Rattle.mesa_schema.specs.Numbers.{signed_of}
 use Rattle.mesa_schema.proofs.NumberWords.{parsed, unreadable}
 use Rattle.mesa_schema.proofs.numbers.signed.Goals as goal

@@ -1,4 +1,4 @@
-use Rattle.std.proofs.Common.{◌≡◌, ◌∙◌, ap, sym, List, ℕ, map, length, true, Bool}
+use Rattle.std.proofs.Common.{◌∙◌, ap, sym, List, ℕ, map, length, Bool}
 use Rattle.std.specs.Prelude.{is_ok, is_some, find, not, ◌&&◌, ◌==◌}
 use Rattle.mesa_schema.specs.declared.columns.ValueColumn.{ValueColumn}
 use Rattle.mesa_schema.specs.declared.views.View.{View}

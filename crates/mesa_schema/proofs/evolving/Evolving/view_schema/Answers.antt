@@ -1,5 +1,4 @@
-use Rattle.std.proofs.Common.{◌≡◌, ◌∙◌, ap, subst}
-use Rattle.mesa_schema.specs.Lineages.{IsLineage}
+use Rattle.std.proofs.Common.{◌∙◌, ap}
 use Rattle.mesa_schema.specs.Columns.{Columns}
 use Rattle.mesa_schema.specs.Changes.{columns_of}
 use Rattle.mesa_schema.proofs.LineageRules.{present_schema}

@@ -1,6 +1,5 @@
-use Rattle.std.proofs.Common.{◌≡◌, ◌∙◌, sym, ap, None, Some, arith}
+use Rattle.std.proofs.Common.{◌∙◌, sym, ap, None, Some, arith}
 use Rattle.std.specs.Prelude.{is_ok}
-use Rattle.mesa_schema.specs.Schema.{is_schema}
 use Rattle.mesa_schema.proofs.SchemaRules.{decided, named_there}
 use Rattle.mesa_schema.proofs.schema.Schema.build.Goals as goal
 
