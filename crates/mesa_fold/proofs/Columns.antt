@@ -1,10 +1,10 @@
 -- Values combined column by column.
-use Rattle.std.proofs.Common.{◌≡◌, ◌<◌, ◌+◌, ℕ, zero, suc, ℤ, pos, List, [], ◌∷◌, ◌++◌, length, get_or, take, drop, set, sym, subst, refl, ap, arith, drop-cons, add-one, append_assoc}
+use Rattle.std.proofs.Common.{◌≡◌, ◌<◌, ◌≤◌, ◌+◌, ℕ, zero, suc, ℤ, pos, List, [], ◌∷◌, ◌++◌, length, get_or, take, drop, set, sym, subst, refl, ap, arith, drop-cons, add-one, append_assoc}
+use Rattle.std.proofs.lemmas.List.{drop_all}
 use Rattle.mesa_value.specs.declared.Agg.{Agg}
 use Rattle.mesa_value.specs.declared.Agg.TheVariants.{Sum}
 use Rattle.mesa_value.specs.Agg.{Combines, combined}
-use Rattle.mesa_schema.specs.Folded.{row_combined}
-use Rattle.mesa_fold.specs.Bound.{AllCombine}
+use Rattle.mesa_schema.specs.Folded.{AllCombine, row_combined}
 
 -- the values from a column on
 pub row_combined-next : (aggs : List Agg) (old new : List ℤ) (i : ℕ) → i < length aggs → i < length old → i < length new
@@ -49,3 +49,13 @@ pub length-set : (old : List ℤ) (i : ℕ) (v : ℤ) → length (set old i v) �
 length-set [] i v = refl
 length-set (o ∷ old) zero v = refl
 length-set (o ∷ old) (suc i) v = ap suc (length-set old i v)
+
+-- one column before those that combine
+pub AllCombine-back : (aggs : List Agg) (old new : List ℤ) (i : ℕ) → i < length aggs → i < length old → i < length new
+    → Combines (get_or aggs i Sum) (get_or old i (pos 0)) (get_or new i (pos 0)) → AllCombine (drop (i + 1) aggs) (drop (i + 1) old) (drop (i + 1) new) → AllCombine (drop i aggs) (drop i old) (drop i new)
+AllCombine-back aggs old new i a b c one all =
+    let rest = subst (λ n. AllCombine (drop n aggs) (drop n old) (drop n new)) (add-one i) all in
+    rw (drop-cons aggs i Sum, drop-cons old i (pos 0), drop-cons new i (pos 0)) (one, rest)
+
+pub AllCombine-none : (aggs : List Agg) (old new : List ℤ) (i : ℕ) → length aggs ≤ i → AllCombine (drop i aggs) (drop i old) (drop i new)
+AllCombine-none aggs old new i le = subst (λ gs. AllCombine gs (drop i old) (drop i new)) (sym (drop_all i aggs le)) tt

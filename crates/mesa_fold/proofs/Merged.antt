@@ -11,14 +11,14 @@ use Rattle.mesa_value.specs.declared.Agg.{Agg}
 use Rattle.mesa_value.specs.declared.Agg.TheVariants.{Sum}
 use Rattle.mesa_key.specs.Order.{byte_cmp}
 use Rattle.mesa_schema.specs.declared.rows.Row.{Row}
-use Rattle.mesa_schema.specs.Folded.{row_combined}
+use Rattle.mesa_schema.specs.Folded.{folded, row_combined, rows_of}
 use Rattle.mesa_schema.specs.Laws.{AreFull}
 use Rattle.mesa_batch.specs.Totals.{abs_total}
 use Rattle.mesa_schema.specs.Put.{put_row, put_rows}
 use Rattle.mesa_fold.specs.Put.{AreRising, IsFold}
 use Rattle.mesa_schema.proofs.Keys.{pairs}
 use Rattle.mesa_schema.proofs.Folds.{keys, both_false}
-use Rattle.mesa_schema.proofs.Folding.{below_less, is_less}
+use Rattle.mesa_schema.proofs.Folding.{below_less, is_less, put_all}
 use Rattle.mesa_fold.proofs.Kept.{IsFold-put_row}
 use Rattle.mesa_fold.proofs.Place.{flipped, rising-at}
 use Rattle.mesa_fold.proofs.Sums.{AreFull-put_row, abs_total-next, abs_total-put_row}
@@ -84,6 +84,13 @@ pub abs_total-put_rows : (aggs : List Agg) (content rows : List Row) (c : ℕ) �
 abs_total-put_rows aggs content [] c p full more = omega arith
 abs_total-put_rows aggs content (row ∷ rows) c p full more =
     omega (arith, abs_total-put_rows aggs (put_row aggs row content) rows c p (AreFull-put_row aggs row content more.0 full) more.1, abs_total-put_row aggs row content c p more.0 full, abs_total-next c row rows)
+
+-- The absolute totals of a fold are at most those of its rows.
+pub folds_totals : (aggs : List Agg) (parts : List (List Row)) (c : ℕ) → slice_get aggs c ≡ Some Sum → AreFull aggs (rows_of parts) → abs_total c (folded aggs parts) ≤ abs_total c (rows_of parts)
+folds_totals aggs parts c sum full =
+    let put : put_rows aggs [] (rows_of parts) ≡ folded aggs parts = put_all aggs [] (rows_of parts) in
+    let most : abs_total c (put_rows aggs [] (rows_of parts)) ≤ abs_total c (rows_of parts) = omega (arith, abs_total-put_rows aggs [] (rows_of parts) c sum tt full) in
+    subst (λ rows. abs_total c rows ≤ abs_total c (rows_of parts)) put most
 
 -- ---- a part of rows
 

@@ -11,10 +11,9 @@ use Rattle.mesa_value.specs.declared.Agg.TheVariants.{Sum, Min, Max, Replace}
 use Rattle.mesa_value.specs.Agg.{Combines}
 use Rattle.mesa_key.specs.Order.{byte_cmp}
 use Rattle.mesa_schema.specs.declared.rows.Row.{Row}
-use Rattle.mesa_schema.specs.Folded.{row_combined}
+use Rattle.mesa_schema.specs.Folded.{AllCombine, row_combined}
 use Rattle.mesa_schema.specs.Laws.{AreFull}
 use Rattle.mesa_batch.specs.Totals.{abs_total}
-use Rattle.mesa_fold.specs.Bound.{AllCombine}
 use Rattle.mesa_schema.specs.Put.{put_row}
 
 sum-fits : (o n : ℤ) → nat_abs o + nat_abs n < 2 ^ 63 → Combines Sum o n

@@ -1,21 +1,34 @@
 // A batch of rows folded into rows that stand in the order of their keys.
-ghost use Rattle.std.specs.Prelude.{◌≡◌, ◌+◌, ◌<◌, ◌≤◌, List, [], ◌∷◌, length, vec_len, vec_capacity, OnErr, OnOk};
+ghost use Rattle.std.specs.Prelude.{◌≡◌, ◌↔◌, ◌+◌, ◌<◌, ◌≤◌, List, [], ◌∷◌, length, vec_len, vec_capacity, IsTrue, OnErr, OnOk};
 ghost use Rattle.std.specs.List.Sorted.{IsBinarySearchResult, IsSearchInRange};
 ghost use Rattle.mesa_key.specs.Order.{byte_cmp};
 ghost use Rattle.mesa_schema.specs.declared.rows.Row.{Row as RowOf};
-ghost use Rattle.mesa_schema.specs.Folded.{folded, row_combined};
+ghost use Rattle.mesa_schema.specs.Folded.{AllCombine, folded, row_combined};
 ghost use Rattle.mesa_schema.specs.Laws.{AreFull};
-ghost use Rattle.mesa_fold.specs.Bound.{AddsAtMost, AllCombine, KeepsBound};
+ghost use Rattle.mesa_fold.specs.Bound.{AddsAtMost, KeepsBound};
 ghost use Rattle.mesa_schema.specs.Put.{put_row};
 ghost use Rattle.mesa_fold.specs.Put.{IsFold};
 
-use mesa_key::Values;
 use mesa_schema::Row;
-use mesa_value::{Agg, Amount, combine};
+use mesa_value::{Agg, Amount, Values, combine, combines};
 use std::alloc::AllocError;
 
-// Combines a newer row's values into an older one's, column by column.
-pub(crate) fn combine_into(aggs: &[Agg], old: &mut Values, new: &[Amount])
+/// Whether an older and a newer row's values have one together in each column: a sum may leave its type.
+pub fn combines_all(aggs: &[Agg], old: &[Amount], new: &[Amount]) -> bool
+    requires old_full { length old.now ≡ length aggs.now }
+    requires new_full { length new.now ≡ length aggs.now }
+    ensures { IsTrue result ↔ AllCombine aggs.now old.now new.now }
+{
+    'columns: for i in 0..aggs.len() {
+        if !combines(aggs[i], old[i], new[i]) {
+            return false;
+        }
+    }
+    true
+}
+
+/// Combines a newer row's values into an older one's, column by column.
+pub fn combine_into(aggs: &[Agg], old: &mut Values, new: &[Amount])
     requires old_full { length old.old ≡ length aggs.now }
     requires new_full { length new.now ≡ length aggs.now }
     requires fits { AllCombine aggs.now old.old new.now }

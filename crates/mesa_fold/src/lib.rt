@@ -2,7 +2,9 @@
 #![tactic(auto)]
 
 mod fold;
+mod laws;
 mod merging;
 
-pub use fold::fold_in;
+pub use fold::{combine_into, combines_all, fold_in};
+pub use laws::folds_totals;
 pub use merging::merge;

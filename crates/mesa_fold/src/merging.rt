@@ -31,7 +31,7 @@ pub fn merge(
     ensures full { IfOk result (λ rows. AreFull aggs.now rows) }
     ensures bounded { IfOk result (λ rows. AddsAtMost aggs.now content.now batch.now rows) }
 {
-    let mut merged = RowList::new(alloc);
+    let mut merged = RowList::from_vec(Vec::with_capacity(alloc, content.len() + batch.len())?);
     let mut used = 0;
     'rows: for row in batch {
         used += merge_row(aggs, &mut merged, &content[used..], row)?;

@@ -1,5 +1,5 @@
 -- What commands make of a table's columns keeps the rules.
-use Rattle.std.proofs.Common.{◌≡◌, ◌<◌, length, Bool, true, false, refl, Some, Result, Ok, Err, is_ok, nat_le, arith, ℤ, subst}
+use Rattle.std.proofs.Common.{◌≡◌, ◌<◌, length, Bool, true, false, refl, Result, Ok, Err, is_ok, nat_le, subst}
 use Rattle.std.proofs.lemmas.Bool.{leb-false}
 use Rattle.mesa_list.specs.Checks.{◌>>◌, refuse_unless, refused_as}
 use Rattle.mesa_schema.specs.declared.columns.KeyColumn.{KeyColumn}

@@ -1,5 +1,5 @@
 -- What every warehouse keeps that a run may start from.
-use Rattle.std.specs.Prelude.{◌≡◌, ℕ, ◌-◌, List, [], ◌∷◌, map, length, flat_map, Bool, true, ◌&&◌, ◌||◌, ◌==◌, nat_lt, is_none, IsTrue}
+use Rattle.std.specs.Prelude.{◌≡◌, ℕ, ◌-◌, List, ◌∷◌, map, length, flat_map, Bool, ◌&&◌, ◌||◌, ◌==◌, nat_lt, is_none, IsTrue}
 use Rattle.std.specs.List.{AllByRecursion}
 use Rattle.mesa_schema.specs.declared.rows.Row.{Row}
 use Rattle.mesa_schema.specs.declared.views.View.{View}

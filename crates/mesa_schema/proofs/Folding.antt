@@ -60,7 +60,7 @@ is_less Less p = refl
 is_less Equal p = absurd p
 is_less Greater p = absurd p
 
-below_less : (k x : List ℕ) (ys : Keys) → byte_cmp k x ≡ Less → T (below_all byte_cmp x (pairs ys)) → T (below_all byte_cmp k (pairs ys))
+pub below_less : (k x : List ℕ) (ys : Keys) → byte_cmp k x ≡ Less → T (below_all byte_cmp x (pairs ys)) → T (below_all byte_cmp k (pairs ys))
 below_less k x [] e p = tt
 below_less k x (y ∷ ys) e p =
     let parts : T (is_lt (byte_cmp x y)) × T (below_all byte_cmp x (pairs ys)) = both_false _ _ p in

@@ -1,9 +1,9 @@
 -- Folding rows by key, and grouping them.
-use Rattle.std.specs.Prelude.{ℕ, ℤ, List, [], ◌∷◌, map, filter, flat_map}
+use Rattle.std.specs.Prelude.{ℕ, ℤ, List, [], ◌∷◌, map, filter, flat_map, ⊤}
 use Rattle.std.specs.List.{concat}
 use Rattle.std.specs.FinMap.Entries.{by_order}
 use Rattle.mesa_value.specs.declared.Agg.{Agg}
-use Rattle.mesa_value.specs.Agg.{combined}
+use Rattle.mesa_value.specs.Agg.{Combines, combined}
 use Rattle.mesa_key.specs.Order.{byte_cmp}
 use Rattle.mesa_key.specs.Spelling.{columns_of}
 use Rattle.mesa_schema.specs.declared.rows.Row.{Row}
@@ -30,6 +30,13 @@ row_combined [] old new = []
 row_combined (agg ∷ aggs) [] new = []
 row_combined (agg ∷ aggs) (a ∷ old) [] = []
 row_combined (agg ∷ aggs) (a ∷ old) (b ∷ new) = combined agg a b ∷ row_combined aggs old new
+
+-- column by column, an older and a newer row's values have one together
+abbrev pub AllCombine : List Agg → List ℤ → List ℤ → Type 0
+AllCombine [] old new = ⊤
+AllCombine (agg ∷ aggs) [] new = ⊤
+AllCombine (agg ∷ aggs) (a ∷ old) [] = ⊤
+AllCombine (agg ∷ aggs) (a ∷ old) (b ∷ new) = Combines agg a b × AllCombine aggs old new
 
 -- values and then these, one after another
 abbrev pub combined_from : List Agg → List ℤ → List (List ℤ) → List ℤ

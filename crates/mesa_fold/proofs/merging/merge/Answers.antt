@@ -11,7 +11,7 @@ use Rattle.mesa_fold.proofs.merging.merge.Goals as goal
 
 pub rows-init : goal.rows-init
 rows-init c =
-    let none = c.new-merged.ensures in
+    let none = c.from_vec-merged.ensures ∙ c.in_ok-with_capacity.ensures.items in
     let aggs = c.args.aggs.now in
     record {
       within = omega arith;

@@ -2,8 +2,7 @@ use Rattle.std.proofs.Common.{◌≡◌, suc, ◌++◌, ◌∷◌, get_or, take,
 use Rattle.std.specs.declared.cmp.Ordering.TheVariants.{Equal}
 use Rattle.mesa_key.specs.Order.{byte_cmp}
 use Rattle.mesa_schema.specs.declared.rows.Row.{Row}
-use Rattle.mesa_schema.specs.Folded.{row_combined}
-use Rattle.mesa_fold.specs.Bound.{AllCombine}
+use Rattle.mesa_schema.specs.Folded.{AllCombine, row_combined}
 use Rattle.mesa_schema.specs.Put.{put_rows}
 use Rattle.mesa_fold.proofs.Place.{comparisons-rise}
 use Rattle.mesa_fold.proofs.Sums.{AllCombine-at}
