@@ -10,16 +10,17 @@ use Rattle.mesa_model.specs.declared.entries.Outcome.TheVariants as outcome
 use Rattle.mesa_model.specs.Warehouse.{Warehouse}
 use Rattle.mesa_history.specs.Run.{First, Told, command_at, nothing_there}
 use Rattle.mesa_history.specs.Legal.{first_kind}
-use Rattle.mesa_script.specs.Output.{block}
+use Rattle.mesa_output.specs.Output.{block}
 use Rattle.mesa_run.specs.Legal.{IsLegalInMemory}
 use Rattle.mesa_run.specs.Outputs.{PrintsOutput}
-use Rattle.mesa_run.specs.Places.{turn_entry, run_begins, printed_by, is_fixed, Logs}
+use Rattle.mesa_run.specs.Places.{turn_entry, run_begins, printed_by, Logs}
 use Rattle.mesa_run.specs.Printed.{Printed}
-use Rattle.mesa_run.specs.Refused.{tells_refusal, some_refused}
+use Rattle.mesa_output.specs.Refused.{tells_refusal, some_refused}
 use Rattle.mesa_run.specs.declared.printer.Printer.{Printer}
 use Rattle.mesa_run.specs.declared.log.Log.{Log}
-use Rattle.mesa_run.proofs.Places.{fixed_more, legal_whole, legal_broken, legal_skipped, skip_makes}
-use Rattle.mesa_run.proofs.Prints.{output_more, refused_more, same_or_none, output_is}
+use Rattle.mesa_run.proofs.Places.{legal_whole, legal_broken, legal_skipped, skip_makes}
+use Rattle.mesa_output.proofs.Printing.{computed_more, output_is}
+use Rattle.mesa_output.proofs.Refusing.{refused_more, or-false}
 
 pub drop_command : (cs : List Command) (i : ℕ) (c : Command) → i < length cs → c ≡ get_or cs i c → drop i cs ≡ c ∷ drop (i + 1) cs
 drop_command cs i c lt is = rw (add-one, drop-cons cs i c) (ap (λ (x : Command). x ∷ drop (suc i) cs) (sym is))
@@ -37,7 +38,7 @@ module _ {K : Type 0} (held : K → Option (List ℕ)) (faults : K → ℕ) (scr
   ]
 
   pub whole_printed : PrintsOutput held faults script out log
-  whole_printed = record { text = printed_by script h; output = output_is script (run_begins script) h was.at.fixed; printed = was.printed }
+  whole_printed = record { text = printed_by script h; output = output_is script (run_begins script) h; printed = was.printed }
 
   module _ (c : Command) (known : command_at script 0 number ≡ Some c) (broken : log.printer.broken ≡ true) (new : Log K) (items : new.history.items ≡ h ++ turn_entry number (first_kind c) outcome.Skipped ∷ []) (printer : new.printer ≡ log.printer) where
     abbrev skip : Entry
@@ -52,13 +53,13 @@ module _ {K : Type 0} (held : K → Option (List ℕ)) (faults : K → ℕ) (scr
     same_text : printed_by script (h ++ skip ∷ []) ≡ printed_by script h
     unfolding block
     same_text =
-        output_more script (run_begins script) h skip
+        computed_more script (run_begins script) h skip
         ∙ ap (λ (t : Option Told). printed_by script h ++ block skip t) (skip_makes script one h number w was.at c known (was.last broken)).tells ∙ append-nil (printed_by script h)
 
     pub skipped_printed : PrintsOutput held faults script out new
     skipped_printed = record {
       text = printed_by script new.history.items;
-      output = output_is script (run_begins script) new.history.items (subst (λ (l : List Entry). AllByRecursion (λ e. IsTrue (is_fixed e.outcome)) l) (sym items) (fixed_more h skip was.at.fixed refl));
+      output = output_is script (run_begins script) new.history.items;
       printed =
           subst (λ (l : List Entry). Printed held faults (record { sink = out; broken = false }) new.printer (printed_by script l)) (sym items)
           (subst (λ (t : List ℕ). Printed held faults (record { sink = out; broken = false }) new.printer t) (sym same_text)
@@ -67,6 +68,6 @@ module _ {K : Type 0} (held : K → Option (List ℕ)) (faults : K → ℕ) (scr
 
     pub skipped_refused : new.refused ≡ log.refused → new.refused ≡ some_refused script (run_begins script) new.history.items
     skipped_refused same =
-        same ∙ was.refused ∙ sym (same_or_none (some_refused script (run_begins script) h))
+        same ∙ was.refused ∙ sym (or-false (some_refused script (run_begins script) h))
         ∙ sym (ap (λ (t : Option Told). some_refused script (run_begins script) h || tells_refusal t) (skip_makes script one h number w was.at c known (was.last broken)).tells)
         ∙ sym (refused_more script (run_begins script) h skip) ∙ ap (λ (l : List Entry). some_refused script (run_begins script) l) (sym items)

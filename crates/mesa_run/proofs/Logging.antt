@@ -8,16 +8,17 @@ use Rattle.mesa_model.specs.declared.entries.Entry.{Entry}
 use Rattle.mesa_model.specs.Warehouse.{Warehouse, empty_warehouse}
 use Rattle.mesa_history.specs.Run.{Stage, First, Told}
 use Rattle.mesa_history.specs.Replay.{is_skip, last_of}
-use Rattle.mesa_script.specs.Output.{block, output}
+use Rattle.mesa_output.specs.Output.{block, output}
 use Rattle.mesa_script.specs.Replies.{head_line}
 use Rattle.mesa_script.specs.Rows.{body_of}
 use Rattle.mesa_run.specs.Places.{run_begins, run_after, printed_by, IsAt, Logs}
 use Rattle.mesa_run.specs.Printed.{Printed}
-use Rattle.mesa_run.specs.Refused.{is_refusal, tells_refusal, some_refused}
+use Rattle.mesa_output.specs.Refused.{is_refusal, tells_refusal, some_refused}
 use Rattle.mesa_run.specs.declared.printer.Printer.{Printer}
 use Rattle.mesa_run.specs.declared.log.Log.{Log}
 use Rattle.mesa_run.proofs.Printing.{printed_then}
-use Rattle.mesa_run.proofs.Prints.{output_more, refused_more, same_or_none}
+use Rattle.mesa_output.proofs.Printing.{computed_more}
+use Rattle.mesa_output.proofs.Refusing.{refused_more, or-false}
 use Rattle.mesa_run.proofs.Places.{Makes, last_next, at_begin}
 
 appends_none : (held : Option (List ℕ)) → Appends held held []
@@ -57,12 +58,12 @@ module _ {K : Type 0} (held : K → Option (List ℕ)) (faults : K → ℕ) (scr
   logs_silent makes at printer refused whole = record {
     at = subst (λ (l : List Entry). IsAt script l m then to) (sym items) at;
     printed =
-        let text : printed_by script (h ++ e ∷ []) ≡ printed_by script h = output_more script (run_begins script) h e ∙ ap (λ (t : Option Told). printed_by script h ++ block e t) makes.tells ∙ append-nil (printed_by script h) in
+        let text : printed_by script (h ++ e ∷ []) ≡ printed_by script h = computed_more script (run_begins script) h e ∙ ap (λ (t : Option Told). printed_by script h ++ block e t) makes.tells ∙ append-nil (printed_by script h) in
         subst (λ (l : List Entry). Printed held faults first new.printer (printed_by script l)) (sym items)
         (subst (λ (t : List ℕ). Printed held faults first new.printer t) (sym text)
         (subst (λ (p : Printer K). Printed held faults first p (printed_by script h)) (sym printer) was.printed));
     refused =
-        refused ∙ was.refused ∙ sym (same_or_none (some_refused script (run_begins script) h))
+        refused ∙ was.refused ∙ sym (or-false (some_refused script (run_begins script) h))
         ∙ sym (ap (λ (t : Option Told). some_refused script (run_begins script) h || tells_refusal t) makes.tells)
         ∙ sym (refused_more script (run_begins script) h e) ∙ ap (λ (l : List Entry). some_refused script (run_begins script) l) (sym items);
     last = λ broken. absurd (false≢true (sym whole ∙ ap (λ (p : Printer K). p.broken) (sym printer) ∙ broken));
@@ -76,7 +77,7 @@ module _ {K : Type 0} (held : K → Option (List ℕ)) (faults : K → ℕ) (scr
   logs_told told makes done at printed refused = record {
     at = subst (λ (l : List Entry). IsAt script l m then to) (sym items) at;
     printed =
-        let text : printed_by script (h ++ e ∷ []) ≡ printed_by script h ++ block e (Some told) = output_more script (run_begins script) h e ∙ ap (λ (t : Option Told). printed_by script h ++ block e t) makes.tells in
+        let text : printed_by script (h ++ e ∷ []) ≡ printed_by script h ++ block e (Some told) = computed_more script (run_begins script) h e ∙ ap (λ (t : Option Told). printed_by script h ++ block e t) makes.tells in
         subst (λ (l : List Entry). Printed held faults first new.printer (printed_by script l)) (sym items)
         (subst (λ (t : List ℕ). Printed held faults first new.printer t) (sym text)
         (printed_then held faults first old.printer new.printer (printed_by script h) (block e (Some told)) was.printed printed));

@@ -17,7 +17,7 @@ use Rattle.mesa_history.proofs.More.{turned_is, runs_more, state_after, last_aft
 use Rattle.mesa_history.proofs.Places.{place_of-go, same_is}
 use Rattle.mesa_run.specs.Built.{prologue_of}
 use Rattle.mesa_run.specs.Legal.{FitsInMemory, AllFitInMemory, IsLegalInMemory}
-use Rattle.mesa_run.specs.Places.{turn_entry, run_begins, run_after, is_fixed, IsAt}
+use Rattle.mesa_run.specs.Places.{turn_entry, run_begins, run_after, IsAt}
 
 -- ---- histories with one entry more
 
@@ -26,10 +26,6 @@ pub fit_more : (script : Script) (r : Run) (h : List Entry) (e : Entry) → AllF
 unfolding runs AllFitInMemory
 fit_more script r [] e all fits = (fits, tt)
 fit_more script r (x ∷ h) e all fits = (all.0, fit_more script (go script r x) h e all.1 fits)
-
-pub fixed_more : (h : List Entry) (e : Entry) → AllByRecursion (λ e. IsTrue (is_fixed e.outcome)) h → IsTrue (is_fixed e.outcome) → AllByRecursion (λ e. IsTrue (is_fixed e.outcome)) (h ++ e ∷ [])
-fixed_more [] e all one = (one, tt)
-fixed_more (x ∷ h) e all one = (all.0, fixed_more h e all.1 one)
 
 alone_after : (script : Script) (r : Run) (e : Entry) → (go script r e).prologue_over ≡ (r.prologue_over || not (e.session == 0))
 unfolding go
@@ -82,14 +78,13 @@ module _ (script : Script) (h : List Entry) (number : ℕ) (stage : Stage) (w : 
   }
 
   -- and takes the run on
-  pub at_next : IsTrue (is_due_at c stage k) → is_unrenewed stage ≡ false → IsTrue (outcome_fits c k o) → is_skip o ≡ false → IsTrue (is_fixed o)
+  pub at_next : IsTrue (is_due_at c stage k) → is_unrenewed stage ≡ false → IsTrue (outcome_fits c k o) → is_skip o ≡ false
       → (new : Warehouse) (told : Option Told) (next : Stage) → Makes script r e new told next → new.closed ≡ None
       → IsAt script (h ++ e ∷ []) (place_after number next).number (place_after number next).stage new
-  at_next due unrenewed fits done fixed new told next makes opened =
+  at_next due unrenewed fits done new told next makes opened =
       let more = runs_more script (run_begins script) h e in
       record {
         fits = fit_more script (run_begins script) h e at.fits (fits_next due unrenewed (subst (λ (b : Bool). IsTrue (fits_sink r.last b)) (sym done) at.sink) fits);
-        fixed = fixed_more h e at.fixed fixed;
         place =
             ap (λ (x : Run). place_of x 0) more
             ∙ place_of-go script r e
@@ -105,7 +100,7 @@ module _ (script : Script) (h : List Entry) (number : ℕ) (stage : Stage) (w : 
 
 pub at_begin : (script : Script) → IsAt script [] 1 First empty_warehouse
 unfolding runs AllFitInMemory place_of
-at_begin script = record { fits = tt; fixed = tt; place = refl; state = refl; alone = refl; sink = refl; opened = refl }
+at_begin script = record { fits = tt; place = refl; state = refl; alone = refl; sink = refl; opened = refl }
 
 -- a run's position is the number of its turns
 pub position_at : (script : Script) (h : List Entry) → (run_after script h).position ≡ length h

@@ -1,7 +1,7 @@
 -- What a run in memory has printed.
 use Rattle.std.specs.Prelude.{ℕ, List, Option, false}
 use Rattle.mesa_model.specs.declared.commands.Script.{Script}
-use Rattle.mesa_script.specs.Output.{IsOutput}
+use Rattle.mesa_output.specs.Output.{IsOutput}
 use Rattle.mesa_run.specs.Places.{run_begins}
 use Rattle.mesa_run.specs.Printed.{Printed}
 use Rattle.mesa_run.specs.declared.log.Log.{Log}

@@ -1,21 +1,19 @@
 -- Where a run in memory stands between two turns.
-use Rattle.std.specs.Prelude.{◌≡◌, ℕ, List, Bool, true, false, Option, Some, None, IsTrue}
-use Rattle.std.specs.List.{AllByRecursion}
+use Rattle.std.specs.Prelude.{◌≡◌, ℕ, List, true, false, Option, Some, None, IsTrue}
 use Rattle.mesa_model.specs.declared.commands.Command.{Command}
 use Rattle.mesa_model.specs.declared.commands.Command.TheVariants as command
 use Rattle.mesa_model.specs.declared.commands.Script.{Script}
 use Rattle.mesa_model.specs.declared.entries.Entry.{Entry}
 use Rattle.mesa_model.specs.declared.entries.Kind.{Kind}
 use Rattle.mesa_model.specs.declared.entries.Outcome.{Outcome}
-use Rattle.mesa_model.specs.declared.entries.Outcome.TheVariants as outcome
 use Rattle.mesa_model.specs.Warehouse.{Warehouse}
 use Rattle.mesa_history.specs.Run.{Stage, First, Looked, Run, place_of, command_at, nothing_there, begins}
 use Rattle.mesa_history.specs.Run as stands
 use Rattle.mesa_history.specs.Replay.{runs}
 use Rattle.mesa_history.specs.Legal.{fits_sink}
-use Rattle.mesa_script.specs.Output.{output}
+use Rattle.mesa_output.specs.Output.{output}
 use Rattle.mesa_run.specs.Legal.{AllFitInMemory}
-use Rattle.mesa_run.specs.Refused.{some_refused}
+use Rattle.mesa_output.specs.Refused.{some_refused}
 use Rattle.mesa_run.specs.Printed.{Printed}
 use Rattle.mesa_run.specs.declared.printer.Printer.{Printer}
 use Rattle.mesa_run.specs.declared.log.Log.{Log}
@@ -41,19 +39,9 @@ run_after script h = runs script (run_begins script) h
 abbrev pub printed_by : Script → List Entry → List ℕ
 printed_by script h = output script (run_begins script) h
 
--- an outcome whose block is fixed
-abbrev pub is_fixed : Outcome → Bool
-is_fixed outcome.Stands = true
-is_fixed outcome.Memory = true
-is_fixed outcome.ReadFault = true
-is_fixed outcome.WriteFault = true
-is_fixed outcome.Damaged = false
-is_fixed outcome.Skipped = true
-
 -- A history brought the one session to a command and a stage, and left this warehouse, which is open; no turn was skipped.
 pub record IsAt (script : Script) (h : List Entry) (number : ℕ) (stage : Stage) (w : Warehouse) : Type 0 where
   pub fits : AllFitInMemory script (run_begins script) h
-  pub fixed : AllByRecursion (λ e. IsTrue (is_fixed e.outcome)) h
   pub place : place_of (run_after script h) 0 ≡ record { number = number; stage = stage }
   pub state : (run_after script h).state.warehouse ≡ w
   pub alone : (run_after script h).prologue_over ≡ false

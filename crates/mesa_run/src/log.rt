@@ -2,7 +2,7 @@
 ghost use Rattle.std.specs.Prelude.{◌≡◌, ◌+◌, ◌≤◌, ◌<◌, ◌||◌, ◌++◌, ◌∷◌, [], true, vec_len, vec_capacity, length};
 ghost use Rattle.mesa_run.specs.Places.{turn_entry};
 ghost use Rattle.mesa_run.specs.Printed.{Printed};
-ghost use Rattle.mesa_run.specs.Refused.{is_refusal as refuses};
+ghost use Rattle.mesa_output.specs.Refused.{is_refusal as refuses};
 ghost use Rattle.mesa_script.specs.Replies.{head_line};
 
 use crate::Printer;

@@ -5,5 +5,4 @@ pub mod Script
 pub mod Errors
 pub mod Replies
 pub mod Rows
-pub mod Output
 pub mod Generated

@@ -11,7 +11,7 @@ use Rattle.mesa_model.specs.declared.entries.Outcome.TheVariants as outcome
 use Rattle.mesa_model.specs.declared.replies.Refusal.TheVariants as no
 use Rattle.mesa_history.specs.Run.{Stage, Run, place_of, command_of}
 use Rattle.mesa_history.specs.Replay.{refused_turn, some_damage, turn_of, turn_as, turned, told_by, go, runs}
-use Rattle.mesa_script.specs.Output.{block, retold, IsBlock, IsBlockAs, IsOutput, output}
+use Rattle.mesa_output.specs.Output.{block, retold, IsBlock, IsBlockAs, IsOutput, output}
 
 -- what a history printed, and the block of one entry more
 pub output_more : (script : Script) (r : Run) (h : List Entry) (e : Entry) (text piece : List ℕ)
@@ -20,6 +20,14 @@ unfolding runs IsOutput
 output_more script r [] e text piece was more = (piece, ([], (more, refl, ap (λ l. l ++ piece) was ∙ sym (append-nil piece))))
 output_more script r (x ∷ h) e text piece was more =
     (was.0, (was.1.0 ++ piece, (was.1.1.0, output_more script (go script r x) h e was.1.0 piece was.1.1.1 more, ap (λ l. l ++ piece) was.1.1.2 ∙ append_assoc was.0 was.1.0 piece)))
+
+-- ---- computed
+
+-- what is computed of a history with one entry more
+pub computed_more : (script : Script) (r : Run) (h : List Entry) (e : Entry) → output script r (h ++ e ∷ []) ≡ output script r h ++ block e (told_by script (runs script r h) e)
+unfolding runs output go
+computed_more script r [] e = append-nil _
+computed_more script r (x ∷ h) e = ap (λ (t : List ℕ). block x (told_by script r x) ++ t) (computed_more script (go script r x) h e) ∙ sym (append_assoc (block x (told_by script r x)) _ _)
 
 -- the damage that a computed block tells is one in which want and found differ
 differ : Fits ≢ Absent
