@@ -86,5 +86,5 @@ pub turned-closed : (script : Script) (r : Run) (e : Entry) (p : ℕ) → r.stat
 turned-closed script r e p is fits stands look begun =
     let turn = due_turn script r e fits.due in
     turned_is script r e turn.command turn.known
-    ∙ ap (turn_of r turn.command e) stands
+    ∙ ap (turn_of r turn.command e (place_of r e.session).stage) stands
     ∙ standing-closed r.position r.state e.session turn.command p is e.kind (place_of r e.session).stage turn.due look begun

@@ -4,8 +4,8 @@ use Rattle.std.specs.List.{AllByRecursion}
 use Rattle.mesa_model.specs.declared.commands.Script.{Script}
 use Rattle.mesa_model.specs.declared.entries.Entry.{Entry}
 use Rattle.mesa_history.specs.Run.{Run}
-use Rattle.mesa_history.specs.Replay.{closes, go, runs}
-use Rattle.mesa_history.specs.Found.{Kept, kept_in, stood, WasTried, Found}
+use Rattle.mesa_history.specs.Replay.{closes, stood, go, runs}
+use Rattle.mesa_history.specs.Found.{Kept, kept_in, WasTried, Found}
 use Rattle.mesa_history.proofs.More.{runs_more}
 
 -- the moments of these entries are at most t

@@ -1,5 +1,6 @@
 pub mod More
 pub mod Places
+pub mod Refusing
 pub mod Finding
 pub mod Due
 pub mod ClosedRuns

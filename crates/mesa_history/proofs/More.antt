@@ -3,7 +3,7 @@ use Rattle.std.proofs.Common.{◌≡◌, ◌+◌, List, [], ◌∷◌, ◌++◌,
 use Rattle.mesa_model.specs.declared.commands.Command.{Command}
 use Rattle.mesa_model.specs.declared.commands.Script.{Script}
 use Rattle.mesa_model.specs.declared.entries.Entry.{Entry}
-use Rattle.mesa_history.specs.Run.{Run, command_of}
+use Rattle.mesa_history.specs.Run.{Run, place_of, command_of}
 use Rattle.mesa_history.specs.Replay.{turned, turn_of, turn_as, is_skipped, last_of, go, runs}
 use Rattle.mesa_history.specs.Legal.{Fits, AllFit}
 use Rattle.mesa_history.specs.Found.{kept_of, kept_in}
@@ -29,7 +29,7 @@ fit_more script r (x ∷ h) e all fits = (all.0, fit_more script (go script r x)
 -- ---- what one entry makes of each part of a run
 
 -- the turn of an entry whose command is known
-pub turned_is : (script : Script) (r : Run) (e : Entry) (c : Command) → command_of script e ≡ Some c → turned script r e ≡ turn_of r c e e.outcome
+pub turned_is : (script : Script) (r : Run) (e : Entry) (c : Command) → command_of script e ≡ Some c → turned script r e ≡ turn_of r c e (place_of r e.session).stage e.outcome
 unfolding turned
 turned_is script r e c is = ap (turn_as r e) is
 

@@ -40,8 +40,8 @@ module _ (script : Script) (r : Run) (e : Entry) (claim : Claim) (fits : Fits sc
       ap (λ (t : Turned). tells_other_refusal t.told)
       (turned-closed script r e closed.position closed.same fits stands (ap (same_kind kind.Look) closing) (ap is_answered stage))
 
-  made : (o : Outcome) → e.outcome ≡ o → turned script r e ≡ turn_of r (due_turn script r e fits.due).command e o
-  made o is = let turn = due_turn script r e fits.due in turned_is script r e turn.command turn.known ∙ ap (turn_of r turn.command e) is
+  made : (o : Outcome) → e.outcome ≡ o → turned script r e ≡ turn_of r (due_turn script r e fits.due).command e (place_of r e.session).stage o
+  made o is = let turn = due_turn script r e fits.due in turned_is script r e turn.command turn.known ∙ ap (turn_of r turn.command e (place_of r e.session).stage) is
 
   -- a close that is refused for a fault or for want of memory
   when_refused : (s : State) (refusal : Refusal) → turned script r e ≡ refused_turn r.position s e.kind (place_of r e.session).stage refusal

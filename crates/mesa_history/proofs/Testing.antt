@@ -4,7 +4,7 @@ use Rattle.mesa_model.specs.declared.commands.Script.{Script}
 use Rattle.mesa_model.specs.declared.entries.Entry.{Entry}
 use Rattle.mesa_history.specs.Run.{State, Run, begins}
 use Rattle.mesa_history.specs.Replay.{told_by, is_skipped, go, runs}
-use Rattle.mesa_history.specs.Legal.{Fits, AllFit, IsLegal, fits_prologue, is_due, fits_renewal, fits_sink, fits_moment, fits_outcome, fits_closed, is_fit, are_fit, ends_well, is_legal}
+use Rattle.mesa_history.specs.Legal.{Fits, AllFit, IsLegal, fits_prologue, is_due, fits_renewal, fits_sink, fits_moment, fits_outcome, fits_reading, fits_writing, fits_closed, is_fit, are_fit, ends_well, is_legal}
 
 left_of : (a b : Bool) → IsTrue (a && b) → IsTrue a
 left_of true b is = refl
@@ -18,8 +18,14 @@ module _ (script : Script) (r : Run) (e : Entry) where
   abbrev from_closed : Bool
   from_closed = fits_closed r e
 
+  abbrev from_writing : Bool
+  from_writing = fits_writing script r e && from_closed
+
+  abbrev from_reading : Bool
+  from_reading = fits_reading script r e && from_writing
+
   abbrev from_outcome : Bool
-  from_outcome = fits_outcome script e && from_closed
+  from_outcome = fits_outcome script e && from_reading
 
   abbrev from_moment : Bool
   from_moment = fits_moment r.moment (told_by script r e) e && from_outcome
@@ -40,14 +46,18 @@ module _ (script : Script) (r : Run) (e : Entry) where
       let sink : IsTrue from_sink = right_of (fits_renewal r e) from_sink renewal in
       let moment : IsTrue from_moment = right_of (fits_sink r.last (is_skipped e)) from_moment sink in
       let outcome : IsTrue from_outcome = right_of (fits_moment r.moment (told_by script r e) e) from_outcome moment in
+      let reading : IsTrue from_reading = right_of (fits_outcome script e) from_reading outcome in
+      let writing : IsTrue from_writing = right_of (fits_reading script r e) from_writing reading in
       record {
         prologue = left_of (fits_prologue r e) from_due is;
         due = left_of (is_due script r e) from_renewal due;
         renewal = left_of (fits_renewal r e) from_sink renewal;
         sink = left_of (fits_sink r.last (is_skipped e)) from_moment sink;
         moment = left_of (fits_moment r.moment (told_by script r e) e) from_outcome moment;
-        outcome = left_of (fits_outcome script e) from_closed outcome;
-        closed = right_of (fits_outcome script e) from_closed outcome;
+        outcome = left_of (fits_outcome script e) from_reading outcome;
+        reading = left_of (fits_reading script r e) from_writing reading;
+        writing = left_of (fits_writing script r e) from_closed writing;
+        closed = right_of (fits_writing script r e) from_closed writing;
       }
 
 all_fit_by_test : (script : Script) (r : Run) (h : List Entry) → IsTrue (are_fit script r h) → AllFit script r h

@@ -4,10 +4,9 @@ use Rattle.std.specs.List.{AllByRecursion}
 use Rattle.mesa_span.specs.declared.ranges.Ranges.{Ranges}
 use Rattle.mesa_model.specs.declared.commands.Script.{Script}
 use Rattle.mesa_model.specs.declared.entries.Entry.{Entry}
-use Rattle.mesa_model.specs.declared.entries.Outcome.TheVariants as outcome
 use Rattle.mesa_model.specs.Warehouse.{Store}
 use Rattle.mesa_history.specs.Run.{State, Run}
-use Rattle.mesa_history.specs.Replay.{closes, go, runs}
+use Rattle.mesa_history.specs.Replay.{closes, stood, go, runs}
 
 -- What a store keeps of a state: the tables with their contents, how many versions there were, and the ranges; no pins, no leases, and not whether it closed.
 pub record Kept : Type 0 where
@@ -22,10 +21,6 @@ kept_of s = record { store = s.warehouse.store; next = s.warehouse.next; ranges 
 -- what a store keeps after some turns
 unfoldable pub kept_in : Run → Kept
 kept_in r = kept_of r.state
-
--- the entry as if its turn stood
-abbrev pub stood : Entry → Entry
-stood e = record e { outcome = outcome.Stands }
 
 -- This stood after a front of the history, behind which every entry is later than t.
 pub record StoodAfter (script : Script) (start : Run) (h : List Entry) (t : ℕ) (kept : Kept) : Type 0 where

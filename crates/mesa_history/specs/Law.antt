@@ -25,22 +25,26 @@ pub record Accepted : Type 0 where
   pub epochs : List ℕ
 
 -- a batch, and no rows where it is refused
-abbrev batch_or_none : Result (List Placed) BatchError → List Placed
+abbrev pub batch_or_none : Result (List Placed) BatchError → List Placed
 batch_or_none (Ok batch) = batch
 batch_or_none (Err refusal) = []
 
 -- the batch of a load's rows
-abbrev loaded_rows : Store → Command → List Placed
+abbrev pub loaded_rows : Store → Command → List Placed
 loaded_rows s (command.Load rows) = batch_or_none (batch_of (tables_named s) rows)
 loaded_rows s c = []
 
+-- a batch as it is accepted: its version, and the epoch of each table
+abbrev pub accepted : Store → ℕ → List Placed → Accepted
+accepted s version batch = record { version = version; batch = batch; epochs = map (λ (t : Table). epoch_of t.lineage) s.tables }
+
 -- the batch that a command's reply says was accepted
-abbrev accepted_as : Store → Command → Reply → List Accepted
-accepted_as s c (reply.Loaded version rows) = record { version = version; batch = loaded_rows s c; epochs = map (λ (t : Table). epoch_of t.lineage) s.tables } ∷ []
+abbrev pub accepted_as : Store → Command → Reply → List Accepted
+accepted_as s c (reply.Loaded version rows) = accepted s version (loaded_rows s c) ∷ []
 accepted_as s c r = []
 
 -- the same of a command and a reply that may not be there
-abbrev accepted_if_told : Store → Option Command → Option Told → List Accepted
+abbrev pub accepted_if_told : Store → Option Command → Option Told → List Accepted
 accepted_if_told s None told = []
 accepted_if_told s (Some c) None = []
 accepted_if_told s (Some c) (Some told) = accepted_as s c told.reply

@@ -1,5 +1,5 @@
 -- Legal: which histories a run may have.
-use Rattle.std.specs.Prelude.{ℕ, List, [], ◌∷◌, length, Bool, true, false, ◌&&◌, ◌||◌, ◌==◌, not, if◌then◌else◌, Option, Some, None, is_some, is_none, IsTrue}
+use Rattle.std.specs.Prelude.{ℕ, List, [], ◌∷◌, length, Bool, true, false, ◌&&◌, ◌||◌, ◌==◌, not, if◌then◌else◌, Option, Some, None, is_some, is_none, is_ok, IsTrue}
 use Rattle.std.specs.List.{list_all, range_with_len}
 use Rattle.mesa_model.specs.declared.commands.Command.{Command}
 use Rattle.mesa_model.specs.declared.commands.Command.TheVariants as command
@@ -13,8 +13,11 @@ use Rattle.mesa_model.specs.declared.replies.Reply.{Reply}
 use Rattle.mesa_model.specs.declared.replies.Reply.TheVariants as reply
 use Rattle.mesa_model.specs.declared.replies.Refusal.{Refusal}
 use Rattle.mesa_model.specs.declared.replies.Refusal.TheVariants as no
+use Rattle.mesa_batch.specs.Batch.{batch_of}
+use Rattle.mesa_model.specs.Warehouse.{Store}
+use Rattle.mesa_model.specs.Load.{tables_named}
 use Rattle.mesa_history.specs.Run.{State, Stage, First, Looked, Answered, Granted, Renewed, Finished, CutOff, Place, Told, Last, Silent, Printed, Skipped, Run, place_of, command_at, command_of, begins}
-use Rattle.mesa_history.specs.Replay.{told_by, is_skipped, is_later, closes, go, runs}
+use Rattle.mesa_history.specs.Replay.{stood, told_by, is_skipped, is_later, closes, go, runs}
 
 -- whether two kinds of turns are one
 abbrev pub same_kind : Kind → Kind → Bool
@@ -27,11 +30,7 @@ same_kind kind.Renew k = elim k [ kind.Look ↦ false | kind.Decide ↦ false | 
 -- whether a turn stands
 abbrev pub is_stands : Outcome → Bool
 is_stands outcome.Stands = true
-is_stands outcome.Memory = false
-is_stands outcome.ReadFault = false
-is_stands outcome.WriteFault = false
-is_stands outcome.Damaged = false
-is_stands outcome.Skipped = false
+is_stands o = false
 
 -- ---- the prologue comes first
 
@@ -68,13 +67,8 @@ is_due script r e = is_due_of (command_of script e) (place_of r e.session) e
 
 -- a work was granted a lease and not renewed yet
 abbrev pub is_unrenewed : Stage → Bool
-is_unrenewed First = false
-is_unrenewed Looked = false
-is_unrenewed (Answered at answer) = false
 is_unrenewed (Granted claim) = true
-is_unrenewed (Renewed claim) = false
-is_unrenewed Finished = false
-is_unrenewed CutOff = false
+is_unrenewed stage = false
 
 -- a work that closes without renewal stands only where the warehouse is closed, so it is refused, and not as lost
 abbrev pub fits_renewal : Run → Entry → Bool
@@ -138,6 +132,11 @@ abbrev pub is_work : Command → Bool
 is_work (command.Work name) = true
 is_work c = false
 
+-- whether a command releases a pin
+abbrev pub is_release : Command → Bool
+is_release (command.Release token) = true
+is_release c = false
+
 -- a command that writes in its deciding turn
 abbrev pub is_writing : Command → Bool
 is_writing (command.Load rows) = true
@@ -147,17 +146,17 @@ is_writing (command.Alter words) = true
 is_writing (command.Expire version) = true
 is_writing c = false
 
--- a read fault or damage stands only on a query and on the close of a work, a read fault also on a grant; a write fault only on the close of a work and on a deciding turn that writes
+-- want of memory stands on every turn but a release and the renewal of a lease; a read fault or damage only on a query and on the close of a work, a read fault also on a grant; a write fault only on the close of a work and on a deciding turn that writes
 abbrev pub outcome_fits : Command → Kind → Outcome → Bool
 outcome_fits c k outcome.Stands = true
-outcome_fits c k outcome.Memory = true
+outcome_fits c k outcome.Memory = not (is_release c || same_kind kind.Renew k)
 outcome_fits c k outcome.ReadFault = is_query c || (is_work c && (same_kind kind.Close k || same_kind kind.Grant k))
 outcome_fits c k outcome.WriteFault = (is_work c && same_kind kind.Close k) || (is_writing c && same_kind kind.Decide k)
 outcome_fits c k outcome.Damaged = is_query c || (is_work c && same_kind kind.Close k)
 outcome_fits c k outcome.Skipped = true
 
 -- the same of a command, if there is one
-abbrev outcome_fits_in : Option Command → Entry → Bool
+abbrev pub outcome_fits_in : Option Command → Entry → Bool
 outcome_fits_in None e = false
 outcome_fits_in (Some c) e = outcome_fits c e.kind e.outcome
 
@@ -165,15 +164,54 @@ outcome_fits_in (Some c) e = outcome_fits c e.kind e.outcome
 abbrev pub fits_outcome : Script → Entry → Bool
 fits_outcome script e = outcome_fits_in (command_of script e) e
 
+-- ---- which faults a turn may meet
+
+-- an outcome of a turn that couldn't read a file, or found one damaged
+abbrev pub is_unread : Outcome → Bool
+is_unread outcome.ReadFault = true
+is_unread outcome.Damaged = true
+is_unread o = false
+
+-- an outcome of a turn that couldn't write
+abbrev pub is_unwritten : Outcome → Bool
+is_unwritten outcome.WriteFault = true
+is_unwritten o = false
+
+-- a query's deciding turn, or a grant, finds a file that it can't read only where it would have printed nothing, had it stood: where the query would have been answered, or the work granted
+abbrev pub fits_reading : Script → Run → Entry → Bool
+fits_reading script r e = not (is_unread e.outcome) || same_kind kind.Close e.kind || is_none (told_by script r (stood e))
+
+-- the turn would have written, had it stood
+abbrev pub would_write : Script → Run → Entry → Bool
+would_write script r e = fits_renewal r (stood e) && wrote (told_by script r (stood e))
+
+-- a command for which files are built outside its turns: a load whose rows make a batch, or a work
+abbrev pub builds_files : Store → Command → Bool
+builds_files s (command.Load rows) = is_ok (batch_of (tables_named s) rows)
+builds_files s c = is_work c
+
+-- the same of a command, if there is one
+abbrev pub builds_files_in : Store → Option Command → Bool
+builds_files_in s None = false
+builds_files_in s (Some c) = builds_files s c
+
+-- a moment is that of the entry before, if there is one
+abbrev pub is_same_moment : Option ℕ → ℕ → Bool
+is_same_moment None moment = false
+is_same_moment (Some before) moment = moment == before
+
+-- a write fault that closes stands only where the turn would have written, had it stood; one of a file that was being built, in a turn that leaves the disk's clock, only where files are built for the command
+abbrev pub fits_writing : Script → Run → Entry → Bool
+fits_writing script r e =
+    not (is_unwritten e.outcome) || (closes r.moment e && would_write script r e)
+    || (is_same_moment r.moment e.moment && builds_files_in r.state.warehouse.store (command_of script e))
+
+-- ---- what follows a fault that closed the warehouse
+
 -- a query was answered and hasn't closed yet
 abbrev pub is_answered : Stage → Bool
-is_answered First = false
-is_answered Looked = false
 is_answered (Answered at answer) = true
-is_answered (Granted claim) = false
-is_answered (Renewed claim) = false
-is_answered Finished = false
-is_answered CutOff = false
+is_answered stage = false
 
 -- in a closed warehouse every entry stands or is skipped, but a look and the close of a query that was decided before
 abbrev pub fits_closed : Run → Entry → Bool
@@ -190,6 +228,8 @@ pub record Fits (script : Script) (r : Run) (e : Entry) : Type 0 where
   pub sink : IsTrue (fits_sink r.last (is_skipped e))
   pub moment : IsTrue (fits_moment r.moment (told_by script r e) e)
   pub outcome : IsTrue (fits_outcome script e)
+  pub reading : IsTrue (fits_reading script r e)
+  pub writing : IsTrue (fits_writing script r e)
   pub closed : IsTrue (fits_closed r e)
 
 -- each entry fits where it comes
@@ -206,30 +246,23 @@ abbrev pub is_complete : Script → Run → ℕ → Bool
 is_complete script r session = is_none (command_at script session (place_of r session).number)
 
 -- whether a session was cut off
-abbrev is_cut_off_at : Stage → Bool
-is_cut_off_at First = false
-is_cut_off_at Looked = false
-is_cut_off_at (Answered at answer) = false
-is_cut_off_at (Granted claim) = false
-is_cut_off_at (Renewed claim) = false
-is_cut_off_at Finished = false
+abbrev pub is_cut_off_at : Stage → Bool
 is_cut_off_at CutOff = true
+is_cut_off_at stage = false
 
 -- a session's last turn was skipped
 abbrev pub is_cut_off : Run → ℕ → Bool
 is_cut_off r session = is_cut_off_at (place_of r session).stage
 
 -- whether the last turn printed nothing
-abbrev is_silent : Last → Bool
+abbrev pub is_silent : Last → Bool
 is_silent Silent = true
-is_silent Printed = false
-is_silent Skipped = false
+is_silent last = false
 
 -- whether the last turn was skipped
-abbrev last_skipped : Last → Bool
-last_skipped Silent = false
-last_skipped Printed = false
+abbrev pub last_skipped : Last → Bool
 last_skipped Skipped = true
+last_skipped last = false
 
 -- How a run may end: where the sink didn't fail, every session is complete and no entry is skipped; where it did, the entries behind a printing one are skipped, and a session that isn't complete has one of them as its last.
 abbrev pub ends_well : Bool → Script → Run → Bool
@@ -247,7 +280,7 @@ pub record IsLegal (start : State) (script : Script) (h : List Entry) (failed : 
 abbrev pub is_fit : Script → Run → Entry → Bool
 is_fit script r e =
     fits_prologue r e && (is_due script r e && (fits_renewal r e && (fits_sink r.last (is_skipped e)
-    && (fits_moment r.moment (told_by script r e) e && (fits_outcome script e && fits_closed r e)))))
+    && (fits_moment r.moment (told_by script r e) e && (fits_outcome script e && (fits_reading script r e && (fits_writing script r e && fits_closed r e)))))))
 
 -- the same of each entry where it comes
 unfoldable pub are_fit : Script → Run → List Entry → Bool

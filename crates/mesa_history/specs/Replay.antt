@@ -81,7 +81,7 @@ work_name (command.Work name) = name
 work_name c = []
 
 -- the state with another range machine
-abbrev with_machine : State → Machine → State
+abbrev pub with_machine : State → Machine → State
 with_machine s m = record s { machine = m }
 
 -- a claim is granted, or the reply is printed by which it isn't
@@ -185,23 +185,27 @@ standing position s session c kind.Close stage = close position s stage
 standing position s session c kind.Grant stage = grant position s c
 standing position s session c kind.Renew stage = renew position s stage
 
--- a turn of a command, by its outcome: one that doesn't stand has its refusal as its reply, and one that is skipped changes nothing and has no reply
-abbrev pub turn_of : Run → Command → Entry → Outcome → Turned
-turn_of r c e outcome.Stands = standing r.position r.state e.session c e.kind (place_of r e.session).stage
-turn_of r c e outcome.Memory = refused_turn r.position r.state e.kind (place_of r e.session).stage no.Memory
-turn_of r c e outcome.ReadFault = refused_turn r.position r.state e.kind (place_of r e.session).stage no.ReadFault
-turn_of r c e outcome.WriteFault = refused_turn r.position (closed_if (closes r.moment e) r.position r.state) e.kind (place_of r e.session).stage no.WriteFault
-turn_of r c e outcome.Damaged = refused_turn r.position r.state e.kind (place_of r e.session).stage (no.Damaged some_damage)
-turn_of r c e outcome.Skipped = leaves r.state CutOff
+-- a turn of a command that has come to a stage, by its outcome: one that doesn't stand has its refusal as its reply, and one that is skipped changes nothing and has no reply
+abbrev pub turn_of : Run → Command → Entry → Stage → Outcome → Turned
+turn_of r c e stage outcome.Stands = standing r.position r.state e.session c e.kind stage
+turn_of r c e stage outcome.Memory = refused_turn r.position r.state e.kind stage no.Memory
+turn_of r c e stage outcome.ReadFault = refused_turn r.position r.state e.kind stage no.ReadFault
+turn_of r c e stage outcome.WriteFault = refused_turn r.position (closed_if (closes r.moment e) r.position r.state) e.kind stage no.WriteFault
+turn_of r c e stage outcome.Damaged = refused_turn r.position r.state e.kind stage (no.Damaged some_damage)
+turn_of r c e stage outcome.Skipped = leaves r.state CutOff
 
 -- the turn of an entry whose command is this one, if there is one
 abbrev pub turn_as : Run → Entry → Option Command → Turned
 turn_as r e None = leaves r.state CutOff
-turn_as r e (Some c) = turn_of r c e e.outcome
+turn_as r e (Some c) = turn_of r c e (place_of r e.session).stage e.outcome
 
 -- What an entry's turn makes of what stands before it.
 unfoldable pub turned : Script → Run → Entry → Turned
 turned script r e = turn_as r e (command_of script e)
+
+-- the entry as if its turn stood
+abbrev pub stood : Entry → Entry
+stood e = record e { outcome = outcome.Stands }
 
 -- what an entry prints
 abbrev pub told_by : Script → Run → Entry → Option Told

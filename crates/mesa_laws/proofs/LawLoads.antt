@@ -17,12 +17,11 @@ use Rattle.mesa_batch.specs.declared.words.RowWords.{RowWords}
 use Rattle.mesa_batch.specs.Batch.{Placed, batch_of, rows_for}
 use Rattle.mesa_model.specs.Warehouse.{Table, Warehouse}
 use Rattle.mesa_model.specs.Load.{newest_content, table_loaded, tables_loaded, tables_named, with_batch}
-use Rattle.mesa_history.specs.Law.{Accepted, accepted_rows, at_present, law_content, start_rows}
+use Rattle.mesa_history.specs.Law.{Accepted, accepted, accepted_rows, at_present, law_content, start_rows}
 use Rattle.mesa_laws.proofs.Batches.{batch_forms, no_rows_for}
 use Rattle.mesa_laws.proofs.Kept.{BatchAt, IsAccepted, Law, LawAt, law_early, law_late}
 use Rattle.mesa_laws.proofs.Lifting.{present_now}
 use Rattle.mesa_schema.proofs.Lists.{all_append, all_pass, all_so}
-use Rattle.mesa_laws.proofs.Moves.{accepted}
 
 -- ---- loaded tables
 

@@ -27,36 +27,9 @@ use Rattle.mesa_model.specs.Versions.{expire_to, store_from, version_asked, vers
 use Rattle.mesa_model.specs.Pins.{make_pin, pin_of, release_pin}
 use Rattle.mesa_model.specs.Query.{Answer, query_answer}
 use Rattle.mesa_model.specs.Refusals.{refuse_closed}
-use Rattle.mesa_history.specs.Law.{Accepted}
+use Rattle.mesa_history.specs.Law.{Accepted, accepted, accepted_as, batch_or_none}
 use Rattle.mesa_history.specs.Run.{Told}
 use Rattle.mesa_laws.proofs.Checks.{after_value, after_check, after_refuse_if, after_refuse_unless, after_some, after_other, after_other_check}
-
--- ---- the batch that a reply says was accepted
-
--- a batch, and no rows where it is refused
-abbrev batch_or_none : Result (List Placed) BatchError → List Placed
-batch_or_none (Ok batch) = batch
-batch_or_none (Err refusal) = []
-
--- the batch of a load's rows
-abbrev loaded_rows : Store → Command → List Placed
-loaded_rows s (command.Load rows) = batch_or_none (batch_of (tables_named s) rows)
-loaded_rows s c = []
-
--- a batch as it is accepted: its version, and the epoch of each table
-abbrev pub accepted : Store → ℕ → List Placed → Accepted
-accepted s version batch = record { version = version; batch = batch; epochs = map (λ (t : Table). epoch_of t.lineage) s.tables }
-
--- the batch that a command's reply says was accepted
-abbrev pub accepted_as : Store → Command → Reply → List Accepted
-accepted_as s c (reply.Loaded version rows) = accepted s version (loaded_rows s c) ∷ []
-accepted_as s c r = []
-
--- the same of a command and a reply that may not be there
-abbrev pub accepted_if_told : Store → Option Command → Option Told → List Accepted
-accepted_if_told s None told = []
-accepted_if_told s (Some c) None = []
-accepted_if_told s (Some c) (Some told) = accepted_as s c told.reply
 
 -- ---- what a command makes
 

@@ -137,7 +137,7 @@ module _ (r : Run) (e : Entry) where
   abbrev stage_of : Stage
   stage_of = (place_of r e.session).stage
 
-  turn_tells : (c : Command) (outcome : Outcome) → Tells r.state.warehouse e.session r.position (Some c) stage_of (turn_of r c e outcome)
+  turn_tells : (c : Command) (outcome : Outcome) → Tells r.state.warehouse e.session r.position (Some c) stage_of (turn_of r c e stage_of outcome)
   turn_tells c outcome.Stands = stands e.session r.position r.state c e.kind stage_of
   turn_tells c outcome.Memory = refused r.state.warehouse e.session r.position (Some c) r.state e.kind stage_of no.Memory
   turn_tells c outcome.ReadFault = refused r.state.warehouse e.session r.position (Some c) r.state e.kind stage_of no.ReadFault

@@ -103,7 +103,7 @@ faults position s true k stage = refused position (closed_if true position s) k 
 faults position s false k stage = refused position s k stage no.WriteFault
 
 module _ (r : Run) (e : Entry) where
-  turn_does : (c : Command) (o : Outcome) → Does r.state.warehouse e.session r.position (turn_of r c e o)
+  turn_does : (c : Command) (o : Outcome) → Does r.state.warehouse e.session r.position (turn_of r c e (place_of r e.session).stage o)
   turn_does c outcome.Stands = stands r.position r.state e.session c e.kind (place_of r e.session).stage
   turn_does c outcome.Memory = Stays (refused r.position r.state e.kind (place_of r e.session).stage no.Memory)
   turn_does c outcome.ReadFault = Stays (refused r.position r.state e.kind (place_of r e.session).stage no.ReadFault)

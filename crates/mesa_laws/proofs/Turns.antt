@@ -23,12 +23,12 @@ use Rattle.mesa_model.specs.Query.{Answer, query_answer}
 use Rattle.mesa_model.specs.Refusals.{refuse_closed}
 use Rattle.mesa_model.specs.Relations.{relation_of, table_number}
 use Rattle.mesa_model.specs.Versions.{version_asked}
-use Rattle.mesa_history.specs.Law.{Accepted, accepted_by}
+use Rattle.mesa_history.specs.Law.{Accepted, accepted_if_told, accepted_by}
 use Rattle.mesa_history.specs.Machine.{Claim, claim_checked, claim_of, explained, ranges_at, refuse_busy}
 use Rattle.mesa_history.specs.Run.{Answered, CutOff, Finished, First, Granted, Looked, Renewed, Run, Stage, State, command_of, place_of}
 use Rattle.mesa_history.specs.Replay.{Turned, close, closed_if, closes, completes, decide, decided_explain, decided_query, go, grants, refused_turn, renew, renews, some_damage, standing, turn_as, turn_of, turned, work_name}
 use Rattle.mesa_laws.proofs.Checks.{after_check, after_some, after_value}
-use Rattle.mesa_laws.proofs.Moves.{Moves, accepted_if_told, step_moves}
+use Rattle.mesa_laws.proofs.Moves.{Moves, step_moves}
 
 -- It holds after a turn of a command, whatever the turn was.
 record Turns (s : Store) (P : Store → ℕ → List Accepted → Type 0) (c : Command) (t : Turned) : Type 0 where
@@ -163,7 +163,7 @@ module _ (r : Run) (e : Entry) (P : Store → ℕ → List Accepted → Type 0) 
   fault_turns c k stage true = refused_turns before (closed_if true r.position r.state) c P moves.same r.position k stage no.WriteFault
   fault_turns c k stage false = refused_turns before r.state c P moves.same r.position k stage no.WriteFault
 
-  turn_turns : (c : Command) (o : Outcome) → Turns before P c (turn_of r c e o)
+  turn_turns : (c : Command) (o : Outcome) → Turns before P c (turn_of r c e (place_of r e.session).stage o)
   turn_turns c outcome.Stands = standing_turns c e.kind (place_of r e.session).stage
   turn_turns c outcome.Memory = refused_turns before r.state c P moves.same r.position e.kind (place_of r e.session).stage no.Memory
   turn_turns c outcome.ReadFault = refused_turns before r.state c P moves.same r.position e.kind (place_of r e.session).stage no.ReadFault

@@ -4,9 +4,11 @@ use Rattle.mesa_filter.specs.declared.words.QueryWords.{QueryWords}
 use Rattle.mesa_model.specs.declared.commands.Command.TheVariants as command
 use Rattle.mesa_model.specs.declared.commands.Script.{Script}
 use Rattle.mesa_model.specs.declared.entries.Entry.{Entry}
+use Rattle.mesa_model.specs.declared.replies.Page.{Page}
 use Rattle.mesa_model.specs.declared.replies.Reply.TheVariants as reply
 use Rattle.mesa_model.specs.Query.{Answer, query_answer}
-use Rattle.mesa_history.specs.Run.{State, Told, command_of}
+use Rattle.mesa_history.specs.Run.{State, Told, command_of, begins}
+use Rattle.mesa_history.specs.Replay.{told_by, runs}
 use Rattle.mesa_laws.specs.Answers.{IsFromItsVersion}
 use Rattle.mesa_laws.specs.Given.{warehouse_after}
 
@@ -29,3 +31,9 @@ pub record WasAnswered (script : Script) (start : State) (h : List Entry) (sessi
 pub record IsPrintedFromTheFold (script : Script) (start : State) (h : List Entry) (session : ℕ) (told : Told) : Type 0 where
   pub was : WasAnswered script start h session told
   pub fold : IsFromItsVersion script start was.before session was.words was.answer was.words.version
+
+-- Each page that a history prints is what its query asks for, at the position with which it is printed, of the fold of the batches accepted before.
+abbrev pub AnswersFromTheFold : Script → State → List Entry → Type 0
+AnswersFromTheFold script start h =
+    (before more : List Entry) (e : Entry) (told : Told) (page : Page) → before ++ e ∷ more ≡ h → told_by script (runs script (begins start) before) e ≡ Some told
+    → told.reply ≡ reply.Page page → IsPrintedFromTheFold script start before e.session told

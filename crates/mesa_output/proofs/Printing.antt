@@ -1,8 +1,7 @@
 -- What is printed with one entry more at a history's end.
-use Rattle.std.proofs.Common.{◌≡◌, ◌≢◌, ℕ, List, [], ◌∷◌, ◌++◌, refl, sym, ap, ◌∙◌, append_assoc, append-nil, Option, Some, None}
+use Rattle.std.proofs.Common.{◌≡◌, ℕ, List, [], ◌∷◌, ◌++◌, refl, sym, ap, ◌∙◌, append_assoc, append-nil, arith, Option, Some, None}
 use Rattle.mesa_model.specs.declared.commands.Command.{Command}
 use Rattle.mesa_model.specs.declared.commands.Script.{Script}
-use Rattle.mesa_file.specs.declared.damage.Seen.TheVariants.{Fits, Absent}
 use Rattle.mesa_model.specs.declared.entries.Entry.{Entry}
 use Rattle.mesa_model.specs.declared.entries.Kind.{Kind}
 use Rattle.mesa_model.specs.declared.entries.Kind.TheVariants as kind
@@ -11,7 +10,7 @@ use Rattle.mesa_model.specs.declared.entries.Outcome.TheVariants as outcome
 use Rattle.mesa_model.specs.declared.replies.Refusal.TheVariants as no
 use Rattle.mesa_history.specs.Run.{Stage, Run, place_of, command_of}
 use Rattle.mesa_history.specs.Replay.{refused_turn, some_damage, turn_of, turn_as, turned, told_by, go, runs}
-use Rattle.mesa_output.specs.Output.{block, retold, IsBlock, IsBlockAs, IsOutput, output}
+use Rattle.mesa_output.specs.Output.{block, retold, IsDamage, IsBlock, IsBlockAs, IsOutput, output}
 
 -- what a history printed, and the block of one entry more
 pub output_more : (script : Script) (r : Run) (h : List Entry) (e : Entry) (text piece : List ℕ)
@@ -29,9 +28,9 @@ unfolding runs output go
 computed_more script r [] e = append-nil _
 computed_more script r (x ∷ h) e = ap (λ (t : List ℕ). block x (told_by script r x) ++ t) (computed_more script (go script r x) h e) ∙ sym (append_assoc (block x (told_by script r x)) _ _)
 
--- the damage that a computed block tells is one in which want and found differ
-differ : Fits ≢ Absent
-differ same = cc
+-- what a computed block tells is such damage
+some_is_damage : IsDamage some_damage
+some_is_damage = record { file = omega arith; place = omega arith; want = tt; found = tt; differ = λ same. cc }
 
 damaged_again : (r : Run) (e : Entry) (k : Kind) (stage : Stage)
     → block e (refused_turn r.position r.state k stage (no.Damaged some_damage)).told ≡ block e (retold some_damage (refused_turn r.position r.state k stage (no.Damaged some_damage)).told)
@@ -41,25 +40,25 @@ damaged_again r e kind.Close stage = refl
 damaged_again r e kind.Grant stage = refl
 damaged_again r e kind.Renew stage = refl
 
-block_of_turn : (r : Run) (c : Command) (e : Entry) (o : Outcome) → IsBlockAs o e (turn_of r c e o).told (block e (turn_of r c e o).told)
-block_of_turn r c e outcome.Stands = refl
-block_of_turn r c e outcome.Memory = refl
-block_of_turn r c e outcome.ReadFault = refl
-block_of_turn r c e outcome.WriteFault = refl
-block_of_turn r c e outcome.Damaged = record { damage = some_damage; differ = differ; same = damaged_again r e e.kind (place_of r e.session).stage }
-block_of_turn r c e outcome.Skipped = refl
+block_of_turn : (r : Run) (c : Command) (e : Entry) (stage : Stage) (o : Outcome) → IsBlockAs o e (turn_of r c e stage o).told (block e (turn_of r c e stage o).told)
+block_of_turn r c e stage outcome.Stands = refl
+block_of_turn r c e stage outcome.Memory = refl
+block_of_turn r c e stage outcome.ReadFault = refl
+block_of_turn r c e stage outcome.WriteFault = refl
+block_of_turn r c e stage outcome.Damaged = record { damage = some_damage; is = some_is_damage; same = damaged_again r e e.kind stage }
+block_of_turn r c e stage outcome.Skipped = refl
 
 block_without : (e : Entry) (o : Outcome) → IsBlockAs o e None (block e None)
 block_without e outcome.Stands = refl
 block_without e outcome.Memory = refl
 block_without e outcome.ReadFault = refl
 block_without e outcome.WriteFault = refl
-block_without e outcome.Damaged = record { damage = some_damage; differ = differ; same = refl }
+block_without e outcome.Damaged = record { damage = some_damage; is = some_is_damage; same = refl }
 block_without e outcome.Skipped = refl
 
 block_is : (r : Run) (e : Entry) (c : Option Command) → IsBlock e (turn_as r e c).told (block e (turn_as r e c).told)
 block_is r e None = block_without e e.outcome
-block_is r e (Some c) = block_of_turn r c e e.outcome
+block_is r e (Some c) = block_of_turn r c e (place_of r e.session).stage e.outcome
 
 -- The computed output is one.
 pub output_is : (script : Script) (r : Run) (h : List Entry) → IsOutput script r h (output script r h)

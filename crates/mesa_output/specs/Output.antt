@@ -1,7 +1,10 @@
 -- Output: what a run prints.
-use Rattle.std.specs.Prelude.{◌≡◌, ◌≢◌, ℕ, List, [], ◌∷◌, ◌++◌, Option, Some, None, option_map}
+use Rattle.std.specs.Prelude.{◌≡◌, ◌≢◌, ◌<◌, ◌^◌, ℕ, List, [], ◌∷◌, ◌++◌, length, Option, Some, None, option_map}
+use Rattle.std.specs.List.{AllByRecursion}
 use Rattle.mesa_model.specs.declared.commands.Script.{Script}
 use Rattle.mesa_file.specs.declared.damage.Damage.{Damage}
+use Rattle.mesa_file.specs.declared.damage.Seen.{Seen}
+use Rattle.mesa_file.specs.declared.damage.Seen.TheVariants as seen
 use Rattle.mesa_model.specs.declared.entries.Entry.{Entry}
 use Rattle.mesa_model.specs.declared.entries.Outcome.{Outcome}
 use Rattle.mesa_model.specs.declared.entries.Outcome.TheVariants as outcome
@@ -21,10 +24,26 @@ block e (Some told) = head_line e.session e.command told.at told.reply ++ body_o
 abbrev pub retold : Damage → Option Told → Option Told
 retold damage told = option_map (λ (t : Told). record t { reply = reply.Refused (no.Damaged damage) }) told
 
--- the text tells some damage in which want and found differ
+-- what can be seen at a place: a number of 64 bits, or a digest of 32 bytes
+abbrev pub IsSeen : Seen → Type 0
+IsSeen (seen.Length n) = n < 2 ^ 64
+IsSeen (seen.Digest bytes) = (length bytes ≡ 32) × AllByRecursion (λ byte. byte < 2 ^ 8) bytes
+IsSeen seen.Absent = Unit {0}
+IsSeen seen.Fits = Unit {0}
+IsSeen (seen.Misfit n) = n < 2 ^ 64
+
+-- what can be told of a file: an id and a place of 64 bits, and what was wanted there and what was found, which differ
+pub record IsDamage (damage : Damage) : Type 0 where
+  pub file : damage.file < 2 ^ 64
+  pub place : damage.place < 2 ^ 64
+  pub want : IsSeen damage.want
+  pub found : IsSeen damage.found
+  pub differ : damage.want ≢ damage.found
+
+-- the text tells some damage
 pub record TellsDamage (e : Entry) (told : Option Told) (text : List ℕ) : Type 0 where
   pub damage : Damage
-  pub differ : damage.want ≢ damage.found
+  pub is : IsDamage damage
   pub same : text ≡ block e (retold damage told)
 
 -- the text is the block of an entry of this outcome

@@ -9,4 +9,5 @@ mod Scripts
 mod Sessions
 mod Faults
 mod Histories
+mod Causes
 mod FoldLaw

@@ -7,7 +7,7 @@ use Rattle.mesa_model.specs.declared.entries.Outcome.{Outcome}
 use Rattle.mesa_model.specs.declared.entries.Outcome.TheVariants as outcome
 use Rattle.mesa_history.specs.Run.{Run, begins, nothing_there}
 use Rattle.mesa_history.specs.Replay.{told_by, is_skipped, go}
-use Rattle.mesa_history.specs.Legal.{fits_prologue, is_due, fits_renewal, fits_sink, fits_moment, fits_outcome, fits_closed, ends_well, is_legal}
+use Rattle.mesa_history.specs.Legal.{fits_prologue, is_due, fits_renewal, fits_sink, fits_moment, fits_outcome, fits_reading, fits_writing, fits_closed, ends_well, is_legal}
 use Rattle.mesa_history.specs.Alone.{history_alone}
 use Rattle.mesa_script.specs.declared.script.ScriptError.{ScriptError}
 use Rattle.mesa_script.specs.Script.{script_of}
@@ -84,6 +84,8 @@ pub data Rule : Type 0 where
   Sink : Rule
   Moment : Rule
   ByOutcome : Rule
+  Reading : Rule
+  Writing : Rule
   Closed : Rule
   End : Rule
 
@@ -101,7 +103,9 @@ broken_by script r e =
     unless_kept (fits_sink r.last (is_skipped e)) Sink (
     unless_kept (fits_moment r.moment (told_by script r e) e) Moment (
     unless_kept (fits_outcome script e) ByOutcome (
-    unless_kept (fits_closed r e) Closed None))))))
+    unless_kept (fits_reading script r e) Reading (
+    unless_kept (fits_writing script r e) Writing (
+    unless_kept (fits_closed r e) Closed None))))))))
 
 -- the first rule that a history breaks from here on
 abbrev broken_from : Bool → Script → Run → List Entry → Option Rule

@@ -1,8 +1,7 @@
 -- Where a run ends.
-use Rattle.std.proofs.Common.{◌≡◌, ◌+◌, ◌<◌, ◌||◌, ℕ, suc, List, [], ◌∷◌, ◌++◌, length, drop, drop-cons, get_or, Bool, true, false, IsTrue, refl, sym, ap, ◌∙◌, subst, add-one, Option, Some, None, inl, inr}
+use Rattle.std.proofs.Common.{◌≡◌, ◌+◌, ◌<◌, ◌||◌, ℕ, suc, List, [], ◌∷◌, ◌++◌, length, drop, drop-cons, get_or, Bool, true, false, sym, ap, ◌∙◌, subst, add-one, Option, Some, None, inl, inr}
 use Rattle.std.proofs.lemmas.Bool.{cases_Bool}
 use Rattle.std.proofs.lemmas.List.{append-nil}
-use Rattle.std.specs.List.{AllByRecursion}
 use Rattle.mesa_model.specs.declared.commands.Command.{Command}
 use Rattle.mesa_model.specs.declared.commands.Script.{Script}
 use Rattle.mesa_model.specs.declared.entries.Entry.{Entry}
@@ -15,12 +14,12 @@ use Rattle.mesa_run.specs.Legal.{IsLegalInMemory}
 use Rattle.mesa_run.specs.Outputs.{PrintsOutput}
 use Rattle.mesa_run.specs.Places.{turn_entry, run_begins, printed_by, Logs}
 use Rattle.mesa_run.specs.Printed.{Printed}
-use Rattle.mesa_output.specs.Refused.{tells_refusal, some_refused}
+use Rattle.mesa_history.specs.Refused.{tells_refusal, some_refused}
 use Rattle.mesa_run.specs.declared.printer.Printer.{Printer}
 use Rattle.mesa_run.specs.declared.log.Log.{Log}
 use Rattle.mesa_run.proofs.Places.{legal_whole, legal_broken, legal_skipped, skip_makes}
 use Rattle.mesa_output.proofs.Printing.{computed_more, output_is}
-use Rattle.mesa_output.proofs.Refusing.{refused_more, or-false}
+use Rattle.mesa_history.proofs.Refusing.{refused_more, or-false}
 
 pub drop_command : (cs : List Command) (i : ℕ) (c : Command) → i < length cs → c ≡ get_or cs i c → drop i cs ≡ c ∷ drop (i + 1) cs
 drop_command cs i c lt is = rw (add-one, drop-cons cs i c) (ap (λ (x : Command). x ∷ drop (suc i) cs) (sym is))

@@ -1,7 +1,7 @@
 -- One turn more of a run in memory.
 use Rattle.std.proofs.Common.{◌≡◌, ◌+◌, ◌≤◌, ◌<◌, ◌==◌, ◌&&◌, ◌||◌, ℕ, zero, suc, List, [], ◌∷◌, ◌++◌, length, get_or, Bool, true, false, IsTrue, refl, sym, ap, ◌∙◌, subst, arith, add-one, Option, Some, None}
 use Rattle.std.specs.Prelude.{not, is_some, is_none, slice_get}
-use Rattle.std.specs.List.{AllByRecursion, list_all, range_with_len}
+use Rattle.std.specs.List.{list_all, range_with_len}
 use Rattle.mesa_model.specs.declared.commands.Command.{Command}
 use Rattle.mesa_model.specs.declared.commands.Script.{Script}
 use Rattle.mesa_model.specs.declared.entries.Entry.{Entry}
@@ -10,13 +10,13 @@ use Rattle.mesa_model.specs.declared.entries.Kind.TheVariants as kind
 use Rattle.mesa_model.specs.declared.entries.Outcome.{Outcome}
 use Rattle.mesa_model.specs.declared.entries.Outcome.TheVariants as outcome
 use Rattle.mesa_model.specs.Warehouse.{Warehouse, empty_warehouse}
-use Rattle.mesa_history.specs.Run.{State, Stage, First, Looked, Answered, Granted, Renewed, Finished, CutOff, Place, Told, Last, Silent, Printed, Skipped, Run, place_of, command_at, command_of, nothing_there}
+use Rattle.mesa_history.specs.Run.{State, Stage, First, CutOff, Place, Told, Last, Silent, Printed, Skipped, Run, place_of, command_at, command_of, nothing_there}
 use Rattle.mesa_history.specs.Replay.{Turned, turned, told_by, is_skip, is_skipped, place_after, last_of, go, runs}
-use Rattle.mesa_history.specs.Legal.{is_due_of, is_due_at, is_unrenewed, is_stands, is_answered, is_complete, fits_sink, fits_outcome, outcome_fits, same_kind, first_kind, sessions_of, is_cut_off, ends_well}
+use Rattle.mesa_history.specs.Legal.{is_due_of, is_due_at, is_unrenewed, is_stands, is_answered, is_complete, fits_sink, fits_outcome, outcome_fits, same_kind, first_kind, sessions_of, is_cut_off_at, is_cut_off, is_silent, last_skipped, ends_well}
 use Rattle.mesa_history.proofs.More.{turned_is, runs_more, state_after, last_after, position_is}
 use Rattle.mesa_history.proofs.Places.{place_of-go, same_is}
 use Rattle.mesa_run.specs.Built.{prologue_of}
-use Rattle.mesa_run.specs.Legal.{FitsInMemory, AllFitInMemory, IsLegalInMemory}
+use Rattle.mesa_run.specs.Legal.{is_in_memory, FitsInMemory, AllFitInMemory, IsLegalInMemory}
 use Rattle.mesa_run.specs.Places.{turn_entry, run_begins, run_after, IsAt}
 
 -- ---- histories with one entry more
@@ -60,8 +60,8 @@ module _ (script : Script) (h : List Entry) (number : ℕ) (stage : Stage) (w : 
   e = turn_entry number k o
 
   -- it fits
-  pub fits_next : IsTrue (is_due_at c stage k) → is_unrenewed stage ≡ false → IsTrue (fits_sink r.last (is_skip o)) → IsTrue (outcome_fits c k o) → FitsInMemory script r e
-  fits_next due unrenewed sink fits = record {
+  pub fits_next : IsTrue (is_due_at c stage k) → is_unrenewed stage ≡ false → IsTrue (fits_sink r.last (is_skip o)) → IsTrue (outcome_fits c k o) → IsTrue (is_in_memory o) → FitsInMemory script r e
+  fits_next due unrenewed sink fits memory = record {
     prologue = ap (λ (b : Bool). not (b && (0 == 0))) at.alone;
     due =
         ap (λ (x : Option Command). is_due_of x (place_of r 0) e) known
@@ -74,17 +74,18 @@ module _ (script : Script) (h : List Entry) (number : ℕ) (stage : Stage) (w : 
     sink = sink;
     moment = refl;
     outcome = outcome_of script e c known fits;
+    memory = memory;
     closed = ap (λ (x : Option ℕ). is_none x || is_stands o || is_skip o || same_kind kind.Look k || is_answered (place_of r 0).stage) (ap (λ (x : Warehouse). x.closed) at.state ∙ at.opened);
   }
 
   -- and takes the run on
-  pub at_next : IsTrue (is_due_at c stage k) → is_unrenewed stage ≡ false → IsTrue (outcome_fits c k o) → is_skip o ≡ false
+  pub at_next : IsTrue (is_due_at c stage k) → is_unrenewed stage ≡ false → IsTrue (outcome_fits c k o) → IsTrue (is_in_memory o) → is_skip o ≡ false
       → (new : Warehouse) (told : Option Told) (next : Stage) → Makes script r e new told next → new.closed ≡ None
       → IsAt script (h ++ e ∷ []) (place_after number next).number (place_after number next).stage new
-  at_next due unrenewed fits done new told next makes opened =
+  at_next due unrenewed fits memory done new told next makes opened =
       let more = runs_more script (run_begins script) h e in
       record {
-        fits = fit_more script (run_begins script) h e at.fits (fits_next due unrenewed (subst (λ (b : Bool). IsTrue (fits_sink r.last b)) (sym done) at.sink) fits);
+        fits = fit_more script (run_begins script) h e at.fits (fits_next due unrenewed (subst (λ (b : Bool). IsTrue (fits_sink r.last b)) (sym done) at.sink) fits memory);
         place =
             ap (λ (x : Run). place_of x 0) more
             ∙ place_of-go script r e
@@ -132,15 +133,6 @@ command_behind script i le = command_is script i ∙ none_behind (prologue_of sc
 complete_is : (script : Script) (r : Run) (p : Place) → place_of r 0 ≡ p → command_at script 0 p.number ≡ None → is_complete script r 0 ≡ true
 complete_is script r p place none = ap (λ (x : Place). is_none (command_at script 0 x.number)) place ∙ ap (λ (x : Option Command). is_none x) none
 
-abbrev is_cut_off_at : Stage → Bool
-is_cut_off_at First = false
-is_cut_off_at Looked = false
-is_cut_off_at (Answered at answer) = false
-is_cut_off_at (Granted claim) = false
-is_cut_off_at (Renewed claim) = false
-is_cut_off_at Finished = false
-is_cut_off_at CutOff = true
-
 same_kind_is : (k : Kind) → same_kind k k ≡ true
 same_kind_is kind.Look = refl
 same_kind_is kind.Decide = refl
@@ -162,27 +154,17 @@ sessions_one script one = ap (λ (n : ℕ). range_with_len 0 n) one
 passes_one : (script : Script) (f : ℕ → Bool) → length script.sessions ≡ 1 → f 0 ≡ true → list_all f (sessions_of script) ≡ true
 passes_one script f one passes = ap (λ (l : List ℕ). list_all f l) (sessions_one script one) ∙ ap (λ (b : Bool). b && true) passes
 
-abbrev was_skipped : Last → Bool
-was_skipped Silent = false
-was_skipped Printed = false
-was_skipped Skipped = true
-
-not_skipped : (l : Last) → IsTrue (fits_sink l false) → not (was_skipped l) ≡ true
+not_skipped : (l : Last) → IsTrue (fits_sink l false) → not (last_skipped l) ≡ true
 not_skipped Silent fits = refl
 not_skipped Printed fits = refl
 not_skipped Skipped fits = absurd cc
-
-abbrev was_silent : Last → Bool
-was_silent Silent = true
-was_silent Printed = false
-was_silent Skipped = false
 
 ends_whole : (script : Script) (r : Run) → length script.sessions ≡ 1 → is_complete script r 0 ≡ true → IsTrue (fits_sink r.last false) → IsTrue (ends_well false script r)
 ends_whole script r one complete sink =
     ap (λ (b : Bool). b && list_all (is_complete script r) (sessions_of script)) (not_skipped r.last sink) ∙ passes_one script (is_complete script r) one complete
 
 -- a run whose sink failed ends well where the one session is complete or cut off, and its last turn printed or was skipped
-ends_broken : (script : Script) (r : Run) → length script.sessions ≡ 1 → (is_complete script r 0 || is_cut_off r 0) ≡ true → not (was_silent r.last) ≡ true → IsTrue (ends_well true script r)
+ends_broken : (script : Script) (r : Run) → length script.sessions ≡ 1 → (is_complete script r 0 || is_cut_off r 0) ≡ true → not (is_silent r.last) ≡ true → IsTrue (ends_well true script r)
 ends_broken script r one ended last =
     ap (λ (b : Bool). b && list_all (λ session. is_complete script r session || is_cut_off r session) (sessions_of script)) last
     ∙ passes_one script (λ session. is_complete script r session || is_cut_off r session) one ended
@@ -199,7 +181,7 @@ module _ (script : Script) (one : length script.sessions ≡ 1) (h : List Entry)
   pub legal_broken : command_at script 0 number ≡ None → (run_after script h).last ≡ Printed → IsLegalInMemory (nothing_there script) script h true
   legal_broken none last = record {
     each = at.fits;
-    ends = ends_broken script (run_after script h) one (ap (λ (b : Bool). b || is_cut_off (run_after script h) 0) (complete_is script (run_after script h) _ at.place none)) (ap (λ (l : Last). not (was_silent l)) last);
+    ends = ends_broken script (run_after script h) one (ap (λ (b : Bool). b || is_cut_off (run_after script h) 0) (complete_is script (run_after script h) _ at.place none)) (ap (λ (l : Last). not (is_silent l)) last);
   }
 
   module _ (c : Command) (known : command_at script 0 number ≡ Some c) (last : (run_after script h).last ≡ Printed) where
@@ -221,7 +203,7 @@ module _ (script : Script) (one : length script.sessions ≡ 1) (h : List Entry)
 
     pub legal_skipped : IsLegalInMemory (nothing_there script) script (h ++ skip ∷ []) true
     legal_skipped = record {
-      each = fit_more script (run_begins script) h skip at.fits (fits_next script h number First w at c known (first_kind c) outcome.Skipped (same_kind_is (first_kind c)) refl (ap (λ (l : Last). fits_sink l true) last) (skip_fits c (first_kind c)));
+      each = fit_more script (run_begins script) h skip at.fits (fits_next script h number First w at c known (first_kind c) outcome.Skipped (same_kind_is (first_kind c)) refl (ap (λ (l : Last). fits_sink l true) last) (skip_fits c (first_kind c)) refl);
       ends = ends_broken script (run_after script (h ++ skip ∷ [])) one (or_true (is_complete script (run_after script (h ++ skip ∷ [])) 0) _ cut_off)
-          (ap (λ (l : Last). not (was_silent l)) (last_next script h skip _ None CutOff skip_makes));
+          (ap (λ (l : Last). not (is_silent l)) (last_next script h skip _ None CutOff skip_makes));
     }

@@ -31,7 +31,7 @@ use Rattle.mesa_model.specs.Query.{Answer, query_answer}
 use Rattle.mesa_model.specs.Step.{step, done_or_refused}
 use Rattle.mesa_history.specs.Run.{State, Stage, Looked, Answered, Finished, Place, Told, Run, command_at}
 use Rattle.mesa_history.specs.Replay.{Turned, turned, no_rows, decide, decided, decided_query, refused_turn, leaves, close}
-use Rattle.mesa_history.specs.Legal.{is_due_at, is_unrenewed, is_query}
+use Rattle.mesa_history.specs.Legal.{is_due_at, is_unrenewed, is_query, outcome_fits}
 use Rattle.mesa_history.proofs.More.{turned_is}
 use Rattle.mesa_script.specs.Rows.{body_of}
 use Rattle.mesa_run.specs.Built.{is_built}
@@ -126,6 +126,19 @@ decide_unrenewed (command.Pin version) built = absurd cc
 decide_unrenewed (command.Release token) built = absurd cc
 decide_unrenewed (command.Expire version) built = refl
 decide_unrenewed (command.Work name) built = absurd cc
+
+-- it may find no memory
+pub decide_lacks : (c : Command) → IsTrue (is_built c) → IsTrue (outcome_fits c kind.Decide outcome.Memory)
+decide_lacks (command.Table words) built = refl
+decide_lacks (command.View words) built = refl
+decide_lacks (command.Alter words) built = absurd cc
+decide_lacks (command.Load rows) built = refl
+decide_lacks (command.Query words) built = refl
+decide_lacks (command.Explain words) built = absurd cc
+decide_lacks (command.Pin version) built = absurd cc
+decide_lacks (command.Release token) built = absurd cc
+decide_lacks (command.Expire version) built = refl
+decide_lacks (command.Work name) built = absurd cc
 
 -- ---- turns
 

@@ -1,12 +1,23 @@
 -- Legal, for runs over lists in memory, where there is no clock.
-use Rattle.std.specs.Prelude.{◌≡◌, List, [], ◌∷◌, Bool, IsTrue}
+use Rattle.std.specs.Prelude.{◌≡◌, List, [], ◌∷◌, Bool, true, false, IsTrue}
 use Rattle.mesa_model.specs.declared.commands.Script.{Script}
 use Rattle.mesa_model.specs.declared.entries.Entry.{Entry}
+use Rattle.mesa_model.specs.declared.entries.Outcome.{Outcome}
+use Rattle.mesa_model.specs.declared.entries.Outcome.TheVariants as outcome
 use Rattle.mesa_history.specs.Run.{State, Run, begins}
 use Rattle.mesa_history.specs.Replay.{is_skipped, go, runs}
 use Rattle.mesa_history.specs.Legal.{fits_prologue, is_due, fits_renewal, fits_sink, fits_outcome, fits_closed, ends_well}
 
--- An entry that a run in memory may have next: one that a run may have, but for the rule on moments, in whose place every moment is 0.
+-- how a turn in memory ends, where there is no file to read or to write: it stands, it found no memory, or it was skipped
+abbrev pub is_in_memory : Outcome → Bool
+is_in_memory outcome.Stands = true
+is_in_memory outcome.Memory = true
+is_in_memory outcome.ReadFault = false
+is_in_memory outcome.WriteFault = false
+is_in_memory outcome.Damaged = false
+is_in_memory outcome.Skipped = true
+
+-- An entry that a run in memory may have next: one that a run may have, but that every moment is 0, and that no turn meets a fault of a file.
 pub record FitsInMemory (script : Script) (r : Run) (e : Entry) : Type 0 where
   pub prologue : IsTrue (fits_prologue r e)
   pub due : IsTrue (is_due script r e)
@@ -14,6 +25,7 @@ pub record FitsInMemory (script : Script) (r : Run) (e : Entry) : Type 0 where
   pub sink : IsTrue (fits_sink r.last (is_skipped e))
   pub moment : e.moment ≡ 0
   pub outcome : IsTrue (fits_outcome script e)
+  pub memory : IsTrue (is_in_memory e.outcome)
   pub closed : IsTrue (fits_closed r e)
 
 -- each entry fits where it comes

@@ -33,22 +33,21 @@ fn change<K: Sink>(warehouse: &mut PlainWarehouse, number: u32, command: &Comman
     let position = log.position();
     match warehouse.apply(0, command) {
         Ok(reply) => log.tell(number, Kind::Decide, Outcome::Stands, position, &reply, b""),
-        Err(_) => log.lack(number, Kind::Decide, position),
+        Err(_) => log.refuse(
+            number,
+            Kind::Decide,
+            Outcome::Memory,
+            position,
+            Refusal::Memory,
+        ),
     }
 }
 
 // Closes a query that was answered at a position, and prints its block there.
-fn close<K: Sink>(
-    alloc: Global,
-    number: u32,
-    position: u64,
-    page: Page,
-    query: &Query,
-    log: &mut Log<K>,
-)
+fn close<K: Sink>(alloc: Global, number: u32, at: u64, page: Page, query: &Query, log: &mut Log<K>)
     requires spelled { AllByRecursion (λ (row : AnyRow). IsTrue (is_spelling (group_kinds query.now) row.key)) page.rows }
     requires room { vec_len log.old.history < vec_capacity log.old.history }
-    ensures goes { (words : AnyQuery) (w : Warehouse) → Goes K.held K.faults (command_of.Query words) number (Answered position (answer_of (page, query.now))) log.old w (number + 1) First log.new w }
+    ensures goes { (words : AnyQuery) (w : Warehouse) → Goes K.held K.faults (command_of.Query words) number (Answered at (answer_of (page, query.now))) log.old w (number + 1) First log.new w }
     ensures room { vec_capacity log.old.history ≤ vec_capacity log.new.history }
     ensures few { vec_len log.new.history ≤ vec_len log.old.history + 1 }
 {
@@ -57,11 +56,11 @@ fn close<K: Sink>(
             number,
             Kind::Close,
             Outcome::Stands,
-            position,
+            at,
             &Reply::Page(page),
             text.body.as_slice(),
         ),
-        Err(_) => log.lack(number, Kind::Close, position),
+        Err(_) => log.refuse(number, Kind::Close, Outcome::Memory, at, Refusal::Memory),
     }
 }
 
@@ -93,7 +92,13 @@ fn ask<K: Sink>(
             &Reply::Refused(refusal),
             b"",
         ),
-        Err(_) => log.lack(number, Kind::Decide, position),
+        Err(_) => log.refuse(
+            number,
+            Kind::Decide,
+            Outcome::Memory,
+            position,
+            Refusal::Memory,
+        ),
     }
 }
 

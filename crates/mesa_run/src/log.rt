@@ -2,7 +2,7 @@
 ghost use Rattle.std.specs.Prelude.{◌≡◌, ◌+◌, ◌≤◌, ◌<◌, ◌||◌, ◌++◌, ◌∷◌, [], true, vec_len, vec_capacity, length};
 ghost use Rattle.mesa_run.specs.Places.{turn_entry};
 ghost use Rattle.mesa_run.specs.Printed.{Printed};
-ghost use Rattle.mesa_output.specs.Refused.{is_refusal as refuses};
+ghost use Rattle.mesa_history.specs.Refused.{is_refusal as refuses};
 ghost use Rattle.mesa_script.specs.Replies.{head_line};
 
 use crate::Printer;
@@ -76,22 +76,29 @@ impl<K: Sink> Log<K> {
         self.refused = self.refused || is_refusal(reply);
     }
 
-    /// Adds a turn of the one session that found no memory, and prints the refusal. There is room
-    /// for it.
-    pub(crate) fn lack(&mut self, number: u32, kind: Kind, position: u64)
+    /// Adds a turn of the one session that is refused for what it met, and prints the refusal.
+    /// There is room for it.
+    pub(crate) fn refuse(
+        &mut self,
+        number: u32,
+        kind: Kind,
+        outcome: Outcome,
+        position: u64,
+        refusal: Refusal,
+    )
         requires { vec_len self.old.history < vec_capacity self.old.history }
-        ensures items { self.new.history.items ≡ self.old.history.items ++ turn_entry number kind Outcome.Memory ∷ [] }
+        ensures items { self.new.history.items ≡ self.old.history.items ++ turn_entry number kind outcome ∷ [] }
         ensures room { vec_capacity self.old.history ≤ vec_capacity self.new.history }
         ensures len { vec_len self.new.history ≡ vec_len self.old.history + 1 }
-        ensures printed { Printed K.held K.faults self.old.printer self.new.printer (head_line 0 number position (Reply.Refused Refusal.Memory) ++ []) }
+        ensures printed { Printed K.held K.faults self.old.printer self.new.printer (head_line 0 number position (Reply.Refused refusal) ++ []) }
         ensures refused { self.new.refused ≡ (self.old.refused || true) }
     {
         self.tell(
             number,
             kind,
-            Outcome::Memory,
+            outcome,
             position,
-            &Reply::Refused(Refusal::Memory),
+            &Reply::Refused(refusal),
             b"",
         );
     }

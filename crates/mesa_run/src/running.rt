@@ -6,7 +6,7 @@ ghost use Rattle.mesa_run.specs.Built.{IsBuilt, prologue_of};
 ghost use Rattle.mesa_run.specs.Legal.{IsLegalInMemory};
 ghost use Rattle.mesa_run.specs.Places.{run_begins};
 ghost use Rattle.mesa_run.specs.Outputs.{PrintsOutput};
-ghost use Rattle.mesa_output.specs.Refused.{some_refused};
+ghost use Rattle.mesa_history.specs.Refused.{some_refused};
 
 use crate::Printer;
 use crate::commands::do_command;

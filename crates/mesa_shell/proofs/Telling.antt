@@ -4,7 +4,7 @@ use Rattle.std.specs.Prelude.{◌≢◌, IfSome, Ok, codes, if◌then◌else◌}
 use Rattle.mesa_model.specs.declared.commands.Script.{Script}
 use Rattle.mesa_history.specs.Run.{begins, nothing_there}
 use Rattle.mesa_script.specs.Script.{built_script_of}
-use Rattle.mesa_output.specs.Refused.{some_refused}
+use Rattle.mesa_history.specs.Refused.{some_refused}
 use Rattle.mesa_shell.specs.declared.shell.Done.{Done}
 use Rattle.mesa_shell.specs.Ending.{Ended, EndsRun, EndsText, HasRun, max_input, usage_line}
 use Rattle.mesa_shell.specs.Statuses.{IsNoScript, Tells, WasRun}

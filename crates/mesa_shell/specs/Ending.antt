@@ -10,7 +10,7 @@ use Rattle.mesa_script.specs.Errors.{error_text}
 use Rattle.mesa_output.specs.Output.{IsOutput}
 use Rattle.mesa_script.specs.Script.{built_script_of}
 use Rattle.mesa_run.specs.Legal.{IsLegalInMemory}
-use Rattle.mesa_output.specs.Refused.{some_refused}
+use Rattle.mesa_history.specs.Refused.{some_refused}
 use Rattle.mesa_shell.specs.declared.shell.Done.{Done}
 
 -- the longest input, in bytes

@@ -3,7 +3,9 @@ ghost use Rattle.std.specs.Prelude.{◌≡◌, ◌≢◌, ◌≤◌, ◌*◌, []
 ghost use Rattle.mesa_fault.specs.Causes.{Rose};
 ghost use Rattle.mesa_model.specs.declared.commands.Script.{Script as AnyScript};
 ghost use Rattle.mesa_run.specs.Built.{IsBuilt, prologue_of};
-ghost use Rattle.mesa_shell.specs.Answers.{AnswersFromTheFold, IsScriptOf};
+ghost use Rattle.mesa_shell.specs.Answers.{IsScriptOf};
+ghost use Rattle.mesa_laws.specs.Printed.{AnswersFromTheFold};
+ghost use Rattle.mesa_history.specs.Run.{nothing_there};
 ghost use Rattle.mesa_shell.specs.Ending as spec;
 ghost use Rattle.mesa_shell.specs.Statuses.{Tells};
 
@@ -146,7 +148,7 @@ fn run_source<S: Source, K: Sink>(alloc: Global, src: &mut S, out: K) -> Done<K>
 pub fn mesa<S: Source, K: Sink>(alloc: Global, words: &[&str], src: &mut S, out: K) -> Done<K>
     ensures ends { spec.Ends K.held K.faults (map (λ w. w.now) words.now) (S.left src.old) (Rose (S.faults src.old) (S.faults src.new)) out result }
     ensures tells { Tells K.held K.faults (map (λ w. w.now) words.now) (S.left src.old) (Rose (S.faults src.old) (S.faults src.new)) out result }
-    ensures answers { (script : AnyScript) → IsScriptOf (S.left src.old) script → AnswersFromTheFold script result.history.items }
+    ensures answers { (script : AnyScript) → IsScriptOf (S.left src.old) script → AnswersFromTheFold script (nothing_there script) result.history.items }
 {
     answers_from_the_fold();
     keeps_well_formed();

@@ -25,6 +25,6 @@ returns-in-Ok-Err-clause-goes g c =
 
 pub returns-in-Err-clause-goes : goal.returns-in-Err-clause-goes
 returns-in-Err-clause-goes g c =
-    let printed = rw c.position-position.ensures at c.lack.ensures.printed in
-    goes_lack g.K.Sink.held g.K.Sink.faults c.args.number c.args.log.now c.lack.new.self (command_of.Query c.args.words.now) c.args.warehouse.now refl
-    (record { items = c.lack.ensures.items; printed = printed; refused = c.lack.ensures.refused })
+    let printed = rw c.position-position.ensures at c.refuse.ensures.printed in
+    goes_lack g.K.Sink.held g.K.Sink.faults c.args.number c.args.log.now c.refuse.new.self (command_of.Query c.args.words.now) c.args.warehouse.now refl
+    (record { items = c.refuse.ensures.items; printed = printed; refused = c.refuse.ensures.refused })

@@ -14,7 +14,7 @@ returns-in-Ok-clause-goes g c =
 
 pub returns-in-Err-clause-goes : goal.returns-in-Err-clause-goes
 returns-in-Err-clause-goes g c =
-    let printed = rw c.position-position.ensures at c.lack.ensures.printed in
-    subst (λ (w : Warehouse). Goes g.K.Sink.held g.K.Sink.faults c.args.command.now c.args.number (deciding_stage c.args.command.now) c.args.log.now c.args.warehouse.now (c.args.number + 1) First c.lack.new.self w) (sym c.in-Err.ensures.kept)
-    (goes_lack g.K.Sink.held g.K.Sink.faults c.args.number c.args.log.now c.lack.new.self c.args.command.now c.args.warehouse.now c.requires.built
-    (record { items = c.lack.ensures.items; printed = printed; refused = c.lack.ensures.refused }))
+    let printed = rw c.position-position.ensures at c.refuse.ensures.printed in
+    subst (λ (w : Warehouse). Goes g.K.Sink.held g.K.Sink.faults c.args.command.now c.args.number (deciding_stage c.args.command.now) c.args.log.now c.args.warehouse.now (c.args.number + 1) First c.refuse.new.self w) (sym c.in-Err.ensures.kept)
+    (goes_lack g.K.Sink.held g.K.Sink.faults c.args.number c.args.log.now c.refuse.new.self c.args.command.now c.args.warehouse.now c.requires.built
+    (record { items = c.refuse.ensures.items; printed = printed; refused = c.refuse.ensures.refused }))

@@ -4,7 +4,7 @@ use Rattle.mesa_model.specs.declared.commands.Script.{Script}
 use Rattle.mesa_model.specs.declared.entries.Entry.{Entry}
 use Rattle.mesa_history.specs.Run.{Run}
 use Rattle.mesa_history.specs.Replay.{told_by, go, runs}
-use Rattle.mesa_output.specs.Refused.{tells_refusal, some_refused}
+use Rattle.mesa_history.specs.Refused.{tells_refusal, some_refused}
 
 or-assoc : (a b c : Bool) → ((a || b) || c) ≡ (a || (b || c))
 or-assoc true b c = refl
