@@ -1,4 +1,3 @@
-pub mod Filtering
 pub mod Forms
 pub mod Fronts
 pub mod HexDigits
