@@ -1,2 +1,3 @@
 mod Vectors
 pub mod Closed
+pub mod Numbers

@@ -13,5 +13,5 @@ pub use commands::{
     ValueWords, ViewWords,
 };
 pub use entries::{Entry, Kind, Outcome};
-pub use laws::closes_to_every_command;
+pub use laws::{closes_to_every_command, numbers_tell_entries};
 pub use replies::{Page, Refusal, Reply, SchemaFault};
