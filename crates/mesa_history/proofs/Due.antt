@@ -1,10 +1,12 @@
 -- What is known of an entry whose turn is due.
-use Rattle.std.proofs.Common.{◌≡◌, ◌==◌, ◌&&◌, Bool, true, false, IsTrue, refl, Option, Some, None}
+use Rattle.std.specs.List.{AllByRecursion}
+use Rattle.std.proofs.Common.{◌≡◌, ◌==◌, ◌&&◌, ◌<◌, ◌≤◌, ℕ, zero, suc, List, [], ◌∷◌, length, arith, Bool, true, false, IsTrue, refl, Option, Some, None}
 use Rattle.mesa_model.specs.declared.commands.Command.{Command}
 use Rattle.mesa_model.specs.declared.commands.Script.{Script}
 use Rattle.mesa_model.specs.declared.entries.Entry.{Entry}
-use Rattle.mesa_history.specs.Run.{Place, Run, place_of, command_of}
-use Rattle.mesa_history.specs.Legal.{is_due, is_due_of, is_due_at}
+use Rattle.mesa_history.specs.Run.{Place, Run, place_of, command_at, command_of}
+use Rattle.mesa_history.specs.Replay.{go}
+use Rattle.mesa_history.specs.Legal.{AllFit, is_due, is_due_of, is_due_at}
 
 -- an entry that is due is a turn of a command, which is the one that its session is at
 pub record IsDueTurn (o : Option Command) (place : Place) (e : Entry) : Type 0 where
@@ -24,3 +26,25 @@ due_of (Some c) place e is = let parts = both (e.command == place.number) (is_du
 
 pub due_turn : (script : Script) (r : Run) (e : Entry) → IsTrue (is_due script r e) → IsDueTurn (command_of script e) (place_of r e.session) e
 due_turn script r e is = due_of (command_of script e) (place_of r e.session) e is
+
+-- ---- sessions that are there
+
+abbrev of_sessions : List (List Command) → Script
+of_sessions sessions = record { lease = 0; sessions = sessions }
+
+known_below : (sessions : List (List Command)) (session number : ℕ) (c : Command) → command_at (of_sessions sessions) session number ≡ Some c → session < length sessions
+known_below [] zero zero c is = absurd cc
+known_below [] zero (suc n) c is = absurd cc
+known_below [] (suc s) zero c is = absurd cc
+known_below [] (suc s) (suc n) c is = absurd cc
+known_below (x ∷ xs) zero number c is = omega arith
+known_below (x ∷ xs) (suc s) number c is = let lt = known_below xs s number c is in omega (arith, lt)
+
+-- the entries that a run may have are of sessions that the script has
+pub fit_below : (script : Script) (r : Run) (h : List Entry) (limit : ℕ) → length script.sessions ≤ limit → AllFit script r h → AllByRecursion (λ (e : Entry). e.session < limit) h
+unfolding AllFit
+fit_below script r [] limit few all = tt
+fit_below script r (e ∷ h) limit few all =
+    let turn = due_turn script r e all.0.due in
+    let lt = known_below script.sessions e.session e.command turn.command turn.known in
+    (omega (arith, lt, few), fit_below script (go script r e) h limit few all.1)

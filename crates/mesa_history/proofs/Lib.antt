@@ -7,3 +7,10 @@ pub mod ClosedRuns
 pub mod Moments
 pub mod Renewals
 pub mod Testing
+pub mod Turns
+pub mod Ending
+pub mod Counting
+pub mod Checks
+pub mod Growing
+pub mod Claiming
+pub mod Claims

@@ -1,10 +1,10 @@
 -- One entry more at a history's end.
-use Rattle.std.proofs.Common.{◌≡◌, ◌+◌, List, [], ◌∷◌, ◌++◌, length, refl, ap, arith, Some}
+use Rattle.std.proofs.Common.{◌≡◌, ◌+◌, ◌∙◌, List, [], ◌∷◌, ◌++◌, length, refl, ap, arith, Some}
 use Rattle.mesa_model.specs.declared.commands.Command.{Command}
 use Rattle.mesa_model.specs.declared.commands.Script.{Script}
 use Rattle.mesa_model.specs.declared.entries.Entry.{Entry}
 use Rattle.mesa_history.specs.Run.{Run, place_of, command_of}
-use Rattle.mesa_history.specs.Replay.{turned, turn_of, turn_as, is_skipped, last_of, go, runs}
+use Rattle.mesa_history.specs.Replay.{turned, turn_of, turn_as, is_skipped, last_of, last_moment_of, go, runs}
 use Rattle.mesa_history.specs.Legal.{Fits, AllFit}
 use Rattle.mesa_history.specs.Found.{kept_of, kept_in}
 
@@ -58,3 +58,9 @@ pub position_is : (script : Script) (r : Run) (h : List Entry) → (runs script 
 unfolding runs go
 position_is script r [] = omega arith
 position_is script r (e ∷ h) = let more = position_is script (go script r e) h in omega (arith, more)
+
+-- a run's moment is that of its last entry
+pub last_moment_is : (script : Script) (r : Run) (h : List Entry) → (runs script r h).moment ≡ last_moment_of r.moment h
+unfolding runs last_moment_of
+last_moment_is script r [] = refl
+last_moment_is script r (e ∷ h) = last_moment_is script (go script r e) h ∙ ap (λ m. last_moment_of m h) (moment_after script r e)

@@ -254,6 +254,10 @@ is_cut_off_at stage = false
 abbrev pub is_cut_off : Run → ℕ → Bool
 is_cut_off r session = is_cut_off_at (place_of r session).stage
 
+-- a session is complete, or was cut off
+abbrev pub has_ended : Script → Run → ℕ → Bool
+has_ended script r session = is_complete script r session || is_cut_off r session
+
 -- whether the last turn printed nothing
 abbrev pub is_silent : Last → Bool
 is_silent Silent = true
@@ -267,7 +271,7 @@ last_skipped last = false
 -- How a run may end: where the sink didn't fail, every session is complete and no entry is skipped; where it did, the entries behind a printing one are skipped, and a session that isn't complete has one of them as its last.
 abbrev pub ends_well : Bool → Script → Run → Bool
 ends_well false script r = not (last_skipped r.last) && list_all (is_complete script r) (sessions_of script)
-ends_well true script r = not (is_silent r.last) && list_all (λ session. is_complete script r session || is_cut_off r session) (sessions_of script)
+ends_well true script r = not (is_silent r.last) && list_all (has_ended script r) (sessions_of script)
 
 -- Legal: what a run's history meets; `failed` says whether the sink failed in the run.
 pub record IsLegal (start : State) (script : Script) (h : List Entry) (failed : Bool) : Type 0 where

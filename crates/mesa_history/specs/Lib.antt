@@ -3,6 +3,10 @@ pub mod Run
 pub mod Replay
 pub mod Refused
 pub mod Legal
+pub mod Turns
 pub mod Found
 pub mod Alone
 pub mod Law
+pub mod Sources
+pub mod Counting
+pub mod Claims

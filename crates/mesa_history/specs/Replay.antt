@@ -258,3 +258,8 @@ go script r e = after r e (turned script r e)
 unfoldable pub runs : Script → Run → List Entry → Run
 runs script r [] = r
 runs script r (e ∷ h) = runs script (go script r e) h
+
+-- the moment of a history's last entry, and the one before it where there is none
+unfoldable pub last_moment_of : Option ℕ → List Entry → Option ℕ
+last_moment_of before [] = before
+last_moment_of before (e ∷ h) = last_moment_of (Some e.moment) h

@@ -1,9 +1,11 @@
 // Laws of histories.
-ghost use Rattle.std.specs.Prelude.{◌≡◌, ℕ, ◌-◌, ◌^◌, ◌<◌, ◌≤◌, Some, true, false, IsTrue};
-ghost use Rattle.mesa_history.specs.Legal.{Fits, is_answered, same_kind, tells_other_refusal, wrote as writes};
+ghost use Rattle.std.specs.List.{AllByRecursion};
+ghost use Rattle.std.specs.Prelude.{◌≡◌, ℕ, ◌-◌, ◌^◌, ◌==◌, ◌<◌, ◌≤◌, List, length, Bool, Some, true, false, IsTrue};
+ghost use Rattle.mesa_history.specs.Claims.{HasClaimAt, HasRanges};
+ghost use Rattle.mesa_history.specs.Legal.{AllFit, Fits, IsLegal, fits_sink, has_ended, is_answered, is_cut_off, same_kind, tells_other_refusal, wrote as writes};
 ghost use Rattle.mesa_history.specs.Machine.{Claim};
-ghost use Rattle.mesa_history.specs.Replay.{closes, refuses, told_by, turned};
-ghost use Rattle.mesa_history.specs.Run.{Granted, Run, place_of};
+ghost use Rattle.mesa_history.specs.Replay.{closes, refuses, runs, told_by, turned};
+ghost use Rattle.mesa_history.specs.Run.{Granted, Run, Skipped, State, begins, place_of};
 ghost use Rattle.mesa_model.specs.declared.commands.Script.{Script};
 ghost use Rattle.mesa_model.specs.declared.entries.Entry.{Entry};
 ghost use Rattle.mesa_model.specs.declared.entries.Kind.TheVariants as kind;
@@ -34,4 +36,26 @@ pub fn moments_never_fall()
 pub fn unrenewed_works_are_refused()
     ensures { (script : Script) (r : Run) (e : Entry) (claim : Claim) → Fits script r e → (place_of r e.session).stage ≡ Granted claim → e.kind ≡ kind.Close
         → IsTrue (tells_other_refusal (told_by script r e)) }
+{}
+
+/// While a session's work has a claim, from its grant to its close, the claim's table has the ranges
+/// that the work was made for, as long as the claim's lease is the table's last one and hasn't
+/// ended. So a range that is swapped in under a lease that holds still follows on those before it.
+pub fn claims_stay()
+    ensures { (script : Script) (start : State) (h : List Entry) (session : ℕ) → HasRanges start → HasClaimAt (runs script (begins start) h).state (place_of (runs script (begins start) h) session).stage }
+{}
+
+/// A session stays where it is while others have their turns.
+pub fn sessions_keep_their_places()
+    ensures { (script : Script) (r : Run) (h : List Entry) (session : ℕ) → AllByRecursion (λ e. (session == e.session) ≡ false) h → place_of (runs script r h) session ≡ place_of r session }
+{}
+
+/// A history each of whose entries the run may have is legal once every session is complete or was
+/// cut off, where the next entry would be a skipped one exactly as the sink has failed. In it a
+/// session is cut off only where the last turn was skipped.
+pub fn ended_runs_are_legal()
+    ensures legal { (start : State) (script : Script) (h : List Entry) (failed : Bool) → AllFit script (begins start) h → IsTrue (fits_sink (runs script (begins start) h).last failed)
+        → ((session : ℕ) → session < length script.sessions → IsTrue (has_ended script (runs script (begins start) h) session)) → IsLegal start script h failed }
+    ensures cut { (start : State) (script : Script) (h : List Entry) (session : ℕ) → AllFit script (begins start) h → is_cut_off (runs script (begins start) h) session ≡ true
+        → (runs script (begins start) h).last ≡ Skipped }
 {}

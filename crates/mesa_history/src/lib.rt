@@ -4,4 +4,7 @@
 
 mod laws;
 
-pub use laws::{closed_runs_refuse_what_comes, moments_never_fall, unrenewed_works_are_refused};
+pub use laws::{
+    claims_stay, closed_runs_refuse_what_comes, ended_runs_are_legal, moments_never_fall,
+    sessions_keep_their_places, unrenewed_works_are_refused,
+};
