@@ -17,30 +17,12 @@ use Rattle.mesa_script.specs.declared.script.Reason.{Reason}
 use Rattle.mesa_script.specs.declared.script.Reason.TheVariants as reason
 use Rattle.mesa_script.specs.declared.script.ScriptError.{ScriptError}
 use Rattle.mesa_script.specs.declared.script.ScriptError.TheVariants as bad
-use Rattle.mesa_script.specs.Records.{Name, Lease, Session, Table, View, Alter, Row, Commit, Query, Explain, Pin, Release, Expire, Work, name_of, field, fits_fields, is_unbuilt, asks_pin}
+use Rattle.mesa_script.specs.Records.{Name, Lease, Session, Table, View, Alter, Row, Commit, Query, Explain, Pin, Release, Expire, Work, name_of, field, fits_fields, unbuilt_as, is_unbuilt, asks_pin}
 use Rattle.mesa_script.specs.Words.{max_number, number_in, limit_of, key_words, value_words, version_of}
 use Rattle.mesa_script.specs.Items.{Item, LeaseOf, NextSession, RowOf, EndOfLoad, Single, item_of}
 use Rattle.mesa_script.specs.Script.{Read, nothing_read, fits_order, item_at, with_item, with_record, read_from, script_from, records_of, built_script_of, max_commands}
+use Rattle.mesa_history.proofs.Checks.{ok_bind, ok_then, ok_as, ok_on}
 use Rattle.mesa_run.specs.Built.{is_built, IsBuilt}
-
--- ---- checks one after another
-
-pub ok_bind : {A B E : Type 0} (P : B → Type 0) (x : Result A E) (f : A → Result B E) → ((a : A) → IfOk (f a) P) → IfOk (x >>= f) P
-ok_bind P (Ok a) f all = all a
-ok_bind P (Err e) f all = tt
-
-pub ok_then : {A B E : Type 0} (P : B → Type 0) (x : Result A E) (next : Result B E) → IfOk next P → IfOk (x >> next) P
-ok_then P (Ok a) next all = all
-ok_then P (Err e) next all = tt
-
-ok_as : {A D E : Type 0} (P : A → Type 0) (f : D → E) (x : Result A D) → IfOk x P → IfOk (refused_as f x) P
-ok_as P f (Ok a) all = all
-ok_as P f (Err d) all = tt
-
--- what holds of a value that is there is used behind it
-ok_on : {A B E : Type 0} (P : B → Type 0) (Q : A → Type 0) (x : Result A E) (f : A → Result B E) → IfOk x Q → ((a : A) → Q a → IfOk (f a) P) → IfOk (x >>= f) P
-ok_on P Q (Ok a) f holds all = all a holds
-ok_on P Q (Err e) f holds all = tt
 
 -- ---- records
 
@@ -51,23 +33,6 @@ IsBuiltItem NextSession = ⊥
 IsBuiltItem (RowOf row) = Unit {0}
 IsBuiltItem EndOfLoad = Unit {0}
 IsBuiltItem (Single c) = IsTrue (is_built c)
-
--- whether a record of this name isn't built yet
-abbrev unbuilt_as : Option Name → List (List ℕ) → Bool
-unbuilt_as None fields = false
-unbuilt_as (Some Lease) fields = true
-unbuilt_as (Some Session) fields = true
-unbuilt_as (Some Table) fields = false
-unbuilt_as (Some View) fields = false
-unbuilt_as (Some Alter) fields = true
-unbuilt_as (Some Row) fields = false
-unbuilt_as (Some Commit) fields = false
-unbuilt_as (Some Query) fields = nat_lt 6 (length fields) || asks_pin (field 2 fields)
-unbuilt_as (Some Explain) fields = true
-unbuilt_as (Some Pin) fields = true
-unbuilt_as (Some Release) fields = true
-unbuilt_as (Some Expire) fields = false
-unbuilt_as (Some Work) fields = true
 
 -- a table of these columns
 abbrev table_read : List (List ℕ) → List KeyWords → List ValueWords → Result Item Reason
@@ -83,18 +48,18 @@ says_built Lease fields built = absurd cc
 says_built Session fields built = absurd cc
 says_built Table fields built =
     ok_bind IsBuiltItem (each_of key_words (entries_of (field 2 fields))) (λ keys. each_of value_words (entries_of (field 3 fields)) >>= table_read fields keys)
-    (λ keys. ok_bind IsBuiltItem (each_of value_words (entries_of (field 3 fields))) (table_read fields keys) (λ values. refl))
+    (λ keys read. ok_bind IsBuiltItem (each_of value_words (entries_of (field 3 fields))) (table_read fields keys) (λ values read. refl))
 says_built View fields built = refl
 says_built Alter fields built = absurd cc
 says_built Row fields built = tt
 says_built Commit fields built = tt
 says_built Query fields built =
     ok_bind IsBuiltItem (version_of true (field 2 fields)) (λ version. limit_of (field 6 fields) >>= query_read fields version)
-    (λ version. ok_bind IsBuiltItem (limit_of (field 6 fields)) (query_read fields version) (λ limit. refl))
+    (λ version read. ok_bind IsBuiltItem (limit_of (field 6 fields)) (query_read fields version) (λ limit read. refl))
 says_built Explain fields built = absurd cc
 says_built Pin fields built = absurd cc
 says_built Release fields built = absurd cc
-says_built Expire fields built = ok_bind IsBuiltItem (number_in 0 max_number (field 1 fields)) (λ n. Ok (Single (command.Expire n))) (λ n. refl)
+says_built Expire fields built = ok_bind IsBuiltItem (number_in 0 max_number (field 1 fields)) (λ n. Ok (Single (command.Expire n))) (λ n read. refl)
 says_built Work fields built = absurd cc
 
 named_built : (o : Option Name) (place : ℕ) (fields : List (List ℕ)) (b c : Name → Bool) → unbuilt_as o fields ≡ false

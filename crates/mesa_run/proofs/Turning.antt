@@ -36,7 +36,7 @@ use Rattle.mesa_history.proofs.More.{turned_is}
 use Rattle.mesa_script.specs.Rows.{body_of}
 use Rattle.mesa_run.specs.Built.{is_built}
 use Rattle.mesa_run.specs.Places.{turn_entry, deciding_stage, run_after, IsAt}
-use Rattle.mesa_run.proofs.Building.{ok_bind, ok_then}
+use Rattle.mesa_history.proofs.Checks.{ok_bind, ok_then}
 use Rattle.mesa_run.proofs.Places.{Makes, position_at}
 
 -- ---- what a change keeps
@@ -63,13 +63,13 @@ view_keeps w words =
     ok_then (Keeps w) (refuse_closed w.closed) _ (
     ok_then (Keeps w) (refuse_unless (is_name words.view) (bad_schema fault.BadName)) _ (
     ok_then (Keeps w) (refuse_if (is_taken w.store words.view) no.TableExists) _ (
-    ok_bind (Keeps w) (ok_or (table_number w.store words.table) no_such_table) _ (λ number.
+    ok_bind (Keeps w) (ok_or (table_number w.store words.table) no_such_table) _ (λ number found.
     ok_then (Keeps w) (view_of_table_checked (table_at w.store number) words) _ (refl, refl)))))
 
 load_keeps : (w : Warehouse) (rows : List RowWords) → IfOk (load_batch w rows) (Keeps w)
 load_keeps w rows =
     ok_then (Keeps w) (refuse_closed w.closed) _ (
-    ok_bind (Keeps w) (refused_as batch_refusal (batch_of (tables_named w.store) rows)) _ (λ batch.
+    ok_bind (Keeps w) (refused_as batch_refusal (batch_of (tables_named w.store) rows)) _ (λ batch read.
     ok_then (Keeps w) (refuse_if (nat_le max_versions w.next) (no.VersionsFull max_versions)) _ (
     ok_then (Keeps w) (bounds_checked batch 0 w.store.tables) _ (refl, refl))))
 

@@ -86,7 +86,7 @@ abbrev pub asks_pin : List ℕ → Bool
 asks_pin word = same_bytes (take 4 word) (codes "pin:")
 
 -- whether a record of this name isn't built yet
-abbrev unbuilt_as : Option Name → List (List ℕ) → Bool
+abbrev pub unbuilt_as : Option Name → List (List ℕ) → Bool
 unbuilt_as None fields = false
 unbuilt_as (Some Lease) fields = true
 unbuilt_as (Some Session) fields = true
