@@ -1,5 +1,5 @@
 -- What turns, joins and the end of a lock do to the entries of names.
-use Rattle.std.proofs.Common.{◌≡◌, ℕ, suc, ◌+◌, ◌<◌, true, false, cond, List, [], ◌∷◌, ◌++◌, length, refl, sym, ap, ◌∙◌, ◌⊎◌, ⊎_elim, inl, inr, arith, lt_of_not-le}
+use Rattle.std.proofs.Common.{◌≡◌, ℕ, suc, ◌+◌, ◌<◌, true, false, cond, List, [], ◌∷◌, ◌++◌, length, length-append, append-nil, refl, sym, ap, ◌∙◌, ◌⊎◌, ⊎_elim, inl, inr, arith, lt_of_not-le}
 use Rattle.std.specs.List.{slice_get}
 use mathlib.Core.List.{IsPrefix}
 use mathlib.Core.Logic.{dite}
@@ -23,7 +23,7 @@ entries_begin names (x ∷ list) rest h = ap (λ l. cond (has names (name_of x))
 entries_same : (names list whole : List ℕ) → IsPrefix list whole → ((k : ℕ) → has_at names (slice_get whole k) ≡ has_at names (slice_get list k)) → entries_of names whole ≡ entries_of names list
 entries_same names list whole begins same = ap (entries_of names) (sym begins.1) ∙ entries_begin names list begins.0 (λ k. ap (λ l. has_at names (slice_get l k)) begins.1 ∙ same k)
 
-entries_append : (names xs ys : List ℕ) → entries_of names (xs ++ ys) ≡ entries_of names xs ++ entries_of names ys
+pub entries_append : (names xs ys : List ℕ) → entries_of names (xs ++ ys) ≡ entries_of names xs ++ entries_of names ys
 entries_append names [] ys = refl
 entries_append names (x ∷ xs) ys = elim (has names (name_of x)) as (λ b. cond b (x ∷ entries_of names (xs ++ ys)) (entries_of names (xs ++ ys)) ≡ cond b (x ∷ entries_of names xs) (entries_of names xs) ++ entries_of names ys)
     [ true ↦ ap (λ l. x ∷ l) (entries_append names xs ys) | false ↦ entries_append names xs ys ]
@@ -81,3 +81,26 @@ entries_apart names others (x ∷ list) apart =
     (λ (k : has others (name_of x) ≡ false). rw (both, h, k) more)
     (cases_Bool (has others (name_of x))))
     (cases_Bool (has names (name_of x)))
+
+-- ---- entries of other names
+
+longer_none : (xs ys : List ℕ) → xs ++ ys ≡ xs → ys ≡ []
+longer_none xs [] same = refl
+longer_none xs (y ∷ ys) same = let both = length-append xs (y ∷ ys) in let one : length (xs ++ y ∷ ys) ≡ length xs = ap (λ l. length l) same in absurd (omega arith)
+
+-- behind a beginning that has all entries of the names there is none
+pub none_behind : (names xs rest whole : List ℕ) → xs ++ rest ≡ whole → entries_of names whole ≡ entries_of names xs → entries_of names rest ≡ []
+none_behind names xs rest whole is same = longer_none (entries_of names xs) (entries_of names rest) (sym (entries_append names xs rest) ∙ ap (entries_of names) is ∙ same)
+
+pub others_found : (p : Known) (ticket : ℕ) (list rest names : List ℕ) → Finds p ticket list → IsExact p → Within names p.names → p.seen ++ rest ≡ list → entries_of names rest ≡ []
+others_found p ticket list rest names finds exact within is = none_behind names p.seen rest list is (entries_found p ticket list names finds exact within)
+
+pub others_first : (a b p : Known) (rest names : List ℕ) → Joins a b p → Within names a.names → a.seen ++ rest ≡ p.seen → entries_of names rest ≡ []
+others_first a b p rest names joins within is = none_behind names a.seen rest p.seen is (entries_kept_first a b p names joins within)
+
+pub others_second : (a b p : Known) (rest names : List ℕ) → Joins a b p → Within names b.names → b.seen ++ rest ≡ p.seen → entries_of names rest ≡ []
+others_second a b p rest names joins within is = none_behind names b.seen rest p.seen is (entries_kept_second a b p names joins within)
+
+pub others_more : (p : Known) (ticket entry : ℕ) (list names : List ℕ) → Finds p ticket list → IsExact p → Within names p.names → has names (name_of entry) ≡ false → entries_of names (list ++ entry ∷ []) ≡ entries_of names p.seen
+others_more p ticket entry list names finds exact within other =
+    entries_append names list (entry ∷ []) ∙ (λ i. entries_found p ticket list names finds exact within i ++ cond (other i) (entry ∷ []) []) ∙ append-nil (entries_of names p.seen)

@@ -14,7 +14,9 @@ mod plays;
 mod steps;
 mod view;
 
-pub use entries::{entries_all, entries_apart, entries_found, entries_kept_in, entries_more};
+pub use entries::{
+    entries_all, entries_apart, entries_found, entries_kept_in, entries_more, others_behind,
+};
 pub use held::Held;
 pub use lock::TurnLock;
 pub use pass::Pass;
