@@ -1,10 +1,10 @@
 -- What is known of an entry whose turn is due.
 use Rattle.std.specs.List.{AllByRecursion}
-use Rattle.std.proofs.Common.{◌≡◌, ◌==◌, ◌&&◌, ◌<◌, ◌≤◌, ℕ, zero, suc, List, [], ◌∷◌, length, arith, Bool, true, false, IsTrue, refl, Option, Some, None}
+use Rattle.std.proofs.Common.{◌≡◌, ◌==◌, ◌&&◌, ◌<◌, ◌≤◌, ℕ, zero, suc, List, [], ◌∷◌, length, get_or, slice_get, sym, ap, ◌∙◌, ◌+◌, add-one, arith, Bool, true, false, IsTrue, refl, Option, Some, None}
 use Rattle.mesa_model.specs.declared.commands.Command.{Command}
 use Rattle.mesa_model.specs.declared.commands.Script.{Script}
 use Rattle.mesa_model.specs.declared.entries.Entry.{Entry}
-use Rattle.mesa_history.specs.Run.{Place, Run, place_of, command_at, command_of}
+use Rattle.mesa_history.specs.Run.{Place, Run, place_of, commands_of, command_at, command_of}
 use Rattle.mesa_history.specs.Replay.{go}
 use Rattle.mesa_history.specs.Legal.{AllFit, is_due, is_due_of, is_due_at}
 
@@ -48,3 +48,26 @@ fit_below script r (e ∷ h) limit few all =
     let turn = due_turn script r e all.0.due in
     let lt = known_below script.sessions e.session e.command turn.command turn.known in
     (omega (arith, lt, few), fit_below script (go script r e) h limit few all.1)
+
+-- ---- commands by their index
+
+none_behind : (cs : List Command) (i : ℕ) → length cs ≤ i → slice_get cs i ≡ None
+none_behind [] i le = refl
+none_behind (c ∷ cs) zero le = absurd (omega arith)
+none_behind (c ∷ cs) (suc i) le = none_behind cs i (omega arith)
+
+some_there : (cs : List Command) (i : ℕ) (c d : Command) → i < length cs → c ≡ get_or cs i d → slice_get cs i ≡ Some c
+some_there [] i c d lt is = absurd (omega arith)
+some_there (x ∷ xs) zero c d lt is = ap (λ (y : Command). Some y) (sym is)
+some_there (x ∷ xs) (suc i) c d lt is = some_there xs i c d (omega arith) is
+
+command_is : (script : Script) (session i : ℕ) → command_at script session (i + 1) ≡ slice_get (commands_of script session) i
+command_is script session i = rw add-one refl
+
+-- a session's command of an index
+pub command_there : (script : Script) (session i : ℕ) (c d : Command) → i < length (commands_of script session) → c ≡ get_or (commands_of script session) i d → command_at script session (i + 1) ≡ Some c
+command_there script session i c d lt is = command_is script session i ∙ some_there (commands_of script session) i c d lt is
+
+-- there is none behind the last
+pub command_behind : (script : Script) (session i : ℕ) → length (commands_of script session) ≤ i → command_at script session (i + 1) ≡ None
+command_behind script session i le = command_is script session i ∙ none_behind (commands_of script session) i le

@@ -56,13 +56,17 @@ place_of r session = r.places session
 -- ---- commands
 
 -- the command of a number among a session's
-abbrev numbered : List Command → ℕ → Option Command
+abbrev pub numbered : List Command → ℕ → Option Command
 numbered commands zero = None
 numbered commands (suc n) = slice_get commands n
 
+-- a session's commands
+abbrev pub commands_of : Script → ℕ → List Command
+commands_of script session = slice_index_or script.sessions session []
+
 -- the command of a session with a number, which counts from 1
 abbrev pub command_at : Script → ℕ → ℕ → Option Command
-command_at script session number = numbered (slice_index_or script.sessions session []) number
+command_at script session number = numbered (commands_of script session) number
 
 -- the command of an entry
 abbrev pub command_of : Script → Entry → Option Command

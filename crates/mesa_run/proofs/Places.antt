@@ -109,27 +109,6 @@ position_at script h = let is = position_is script (run_begins script) h in omeg
 
 -- ---- where a run ends
 
-none_behind : (cs : List Command) (i : ℕ) → length cs ≤ i → slice_get cs i ≡ None
-none_behind [] i le = refl
-none_behind (c ∷ cs) zero le = absurd (omega arith)
-none_behind (c ∷ cs) (suc i) le = none_behind cs i (omega arith)
-
-some_there : (cs : List Command) (i : ℕ) (c : Command) → i < length cs → c ≡ get_or cs i c → slice_get cs i ≡ Some c
-some_there [] i c lt is = absurd (omega arith)
-some_there (x ∷ xs) zero c lt is = ap (λ (y : Command). Some y) (sym is)
-some_there (x ∷ xs) (suc i) c lt is = some_there xs i c (omega arith) is
-
-command_is : (script : Script) (i : ℕ) → command_at script 0 (i + 1) ≡ slice_get (prologue_of script) i
-command_is script i = rw add-one refl
-
--- the command of an index
-pub command_there : (script : Script) (i : ℕ) (c : Command) → i < length (prologue_of script) → c ≡ get_or (prologue_of script) i c → command_at script 0 (i + 1) ≡ Some c
-command_there script i c lt is = command_is script i ∙ some_there (prologue_of script) i c lt is
-
--- there is none behind the last
-pub command_behind : (script : Script) (i : ℕ) → length (prologue_of script) ≤ i → command_at script 0 (i + 1) ≡ None
-command_behind script i le = command_is script i ∙ none_behind (prologue_of script) i le
-
 complete_is : (script : Script) (r : Run) (p : Place) → place_of r 0 ≡ p → command_at script 0 p.number ≡ None → is_complete script r 0 ≡ true
 complete_is script r p place none = ap (λ (x : Place). is_none (command_at script 0 x.number)) place ∙ ap (λ (x : Option Command). is_none x) none
 

@@ -1,9 +1,10 @@
 -- The scripts that the program runs.
-use Rattle.std.specs.Prelude.{◌≡◌, ◌≤◌, List, [], length, slice_index_or, Bool, true, false, IsTrue}
+use Rattle.std.specs.Prelude.{◌≡◌, ◌≤◌, List, length, Bool, true, false, IsTrue}
 use Rattle.std.specs.List.{AllByRecursion}
 use Rattle.mesa_model.specs.declared.commands.Command.{Command}
 use Rattle.mesa_model.specs.declared.commands.Command.TheVariants as command
 use Rattle.mesa_model.specs.declared.commands.Script.{Script}
+use Rattle.mesa_history.specs.Run.{commands_of}
 use Rattle.mesa_script.specs.Script.{max_commands}
 
 -- a command that the program does
@@ -21,7 +22,7 @@ is_built (command.Work name) = false
 
 -- the commands of the first session, which runs alone
 abbrev pub prologue_of : Script → List Command
-prologue_of script = slice_index_or script.sessions 0 []
+prologue_of script = commands_of script 0
 
 -- A script that the program runs: one session, of commands that the program does, and no more of them than a script may have.
 pub record IsBuilt (script : Script) : Type 0 where

@@ -5,7 +5,7 @@ use Rattle.mesa_model.specs.declared.entries.Kind.{Kind}
 use Rattle.mesa_model.specs.declared.entries.Outcome.TheVariants as outcome
 use Rattle.mesa_run.specs.Built.{prologue_of}
 use Rattle.mesa_run.specs.Places.{turn_entry}
-use Rattle.mesa_run.proofs.Places.{command_there, command_behind}
+use Rattle.mesa_history.proofs.Due.{command_there, command_behind}
 use Rattle.mesa_run.proofs.Logging.{log_begins}
 use Rattle.mesa_run.proofs.Ends.{drop_command, whole_legal, whole_printed, skipped_legal, skipped_printed, skipped_refused}
 use Rattle.std.proofs.Common.{refl, ◌++◌, ◌∷◌, []}
@@ -28,7 +28,7 @@ commands-preserved g c =
     let all : c.prologue-commands.result.now ≡ prologue_of script = c.prologue-commands.ensures in
     let lt : i < length (prologue_of script) = rw (← all) c.commands-test.true in
     let is : c.index-commands-i.result ≡ get_or (prologue_of script) i c.index-commands-i.result = rw all at c.index-commands-i.is in
-    let known = command_there script i c.index-commands-i.result lt is in
+    let known = command_there script 0 i c.index-commands-i.result c.index-commands-i.result lt is in
     record {
       logs = c.do_command.ensures.goes.on script _ known inv.logs;
       built = (rw (drop_command c.prologue-commands.result.now i c.index-commands-i.result c.commands-test.true c.index-commands-i.is) at inv.built).1;
@@ -43,7 +43,7 @@ returns-then-log-clause-legal g c =
     let lt : i < length (prologue_of script) = rw (← all) c.commands-test.true in
     let is : c.index-commands-i.result ≡ get_or (prologue_of script) i c.index-commands-i.result = rw all at c.index-commands-i.is in
     let items = c.pass.ensures.items ∙ ap (λ (k : Kind). c.commands.log.history.items ++ turn_entry (i + 1) k outcome.Skipped ∷ []) c.first_kind.ensures in
-    skipped_legal g.K.Sink.held g.K.Sink.faults script c.requires.built.alone c.args.out c.commands.log (i + 1) c.commands.warehouse c.commands.invariant.logs c.index-commands-i.result (command_there script i c.index-commands-i.result lt is) c.if-log.true c.pass.new.self items c.pass.ensures.printer
+    skipped_legal g.K.Sink.held g.K.Sink.faults script c.requires.built.alone c.args.out c.commands.log (i + 1) c.commands.warehouse c.commands.invariant.logs c.index-commands-i.result (command_there script 0 i c.index-commands-i.result c.index-commands-i.result lt is) c.if-log.true c.pass.new.self items c.pass.ensures.printer
 
 pub returns-then-log-clause-printed : goal.returns-then-log-clause-printed
 returns-then-log-clause-printed g c =
@@ -53,7 +53,7 @@ returns-then-log-clause-printed g c =
     let lt : i < length (prologue_of script) = rw (← all) c.commands-test.true in
     let is : c.index-commands-i.result ≡ get_or (prologue_of script) i c.index-commands-i.result = rw all at c.index-commands-i.is in
     let items = c.pass.ensures.items ∙ ap (λ (k : Kind). c.commands.log.history.items ++ turn_entry (i + 1) k outcome.Skipped ∷ []) c.first_kind.ensures in
-    skipped_printed g.K.Sink.held g.K.Sink.faults script c.requires.built.alone c.args.out c.commands.log (i + 1) c.commands.warehouse c.commands.invariant.logs c.index-commands-i.result (command_there script i c.index-commands-i.result lt is) c.if-log.true c.pass.new.self items c.pass.ensures.printer
+    skipped_printed g.K.Sink.held g.K.Sink.faults script c.requires.built.alone c.args.out c.commands.log (i + 1) c.commands.warehouse c.commands.invariant.logs c.index-commands-i.result (command_there script 0 i c.index-commands-i.result c.index-commands-i.result lt is) c.if-log.true c.pass.new.self items c.pass.ensures.printer
 
 pub returns-then-log-clause-refused : goal.returns-then-log-clause-refused
 returns-then-log-clause-refused g c =
@@ -63,14 +63,14 @@ returns-then-log-clause-refused g c =
     let lt : i < length (prologue_of script) = rw (← all) c.commands-test.true in
     let is : c.index-commands-i.result ≡ get_or (prologue_of script) i c.index-commands-i.result = rw all at c.index-commands-i.is in
     let items = c.pass.ensures.items ∙ ap (λ (k : Kind). c.commands.log.history.items ++ turn_entry (i + 1) k outcome.Skipped ∷ []) c.first_kind.ensures in
-    skipped_refused g.K.Sink.held g.K.Sink.faults script c.requires.built.alone c.args.out c.commands.log (i + 1) c.commands.warehouse c.commands.invariant.logs c.index-commands-i.result (command_there script i c.index-commands-i.result lt is) c.if-log.true c.pass.new.self items c.pass.ensures.printer c.pass.ensures.refused
+    skipped_refused g.K.Sink.held g.K.Sink.faults script c.requires.built.alone c.args.out c.commands.log (i + 1) c.commands.warehouse c.commands.invariant.logs c.index-commands-i.result (command_there script 0 i c.index-commands-i.result c.index-commands-i.result lt is) c.if-log.true c.pass.new.self items c.pass.ensures.printer c.pass.ensures.refused
 
 pub returns-clause-legal : goal.returns-clause-legal
 returns-clause-legal g c =
     let script = c.args.script.now in
     let all : c.prologue-commands.result.now ≡ prologue_of script = c.prologue-commands.ensures in
     let le : length (prologue_of script) ≤ c.commands.i = rw (← all) c.commands-test.false in
-    whole_legal g.K.Sink.held g.K.Sink.faults script c.requires.built.alone c.args.out c.commands.log (c.commands.i + 1) c.commands.warehouse c.commands.invariant.logs (command_behind script c.commands.i le)
+    whole_legal g.K.Sink.held g.K.Sink.faults script c.requires.built.alone c.args.out c.commands.log (c.commands.i + 1) c.commands.warehouse c.commands.invariant.logs (command_behind script 0 c.commands.i le)
 
 pub returns-clause-printed : goal.returns-clause-printed
 returns-clause-printed g c =
