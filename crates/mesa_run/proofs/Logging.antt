@@ -1,5 +1,5 @@
 -- What a log is that of, with one turn more.
-use Rattle.std.proofs.Common.{◌≡◌, ◌||◌, ℕ, List, [], ◌∷◌, ◌++◌, Bool, false, sym, ap, ◌∙◌, subst, arith, Option, Some, None}
+use Rattle.std.proofs.Common.{◌≡◌, ◌||◌, ℕ, List, [], ◌∷◌, ◌++◌, Bool, false, refl, sym, ap, ◌∙◌, subst, arith, Option, Some, None}
 use Rattle.std.specs.Io.KnownBytes.{Appends}
 use Rattle.std.proofs.lemmas.Bool.{false≢true}
 use Rattle.std.proofs.lemmas.List.{append-nil}
@@ -33,6 +33,7 @@ printed_none held faults p = record {
   still = λ e. (e, appends_none (held p.sink));
   later = omega arith;
   cause = λ e f. absurd (false≢true (sym e ∙ f));
+  quiet = λ e. refl;
 }
 
 -- a log before its first turn

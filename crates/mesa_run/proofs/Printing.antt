@@ -1,5 +1,5 @@
 -- What is printed one after the other.
-use Rattle.std.proofs.Common.{◌≡◌, ◌≤◌, ◌+◌, ℕ, List, ◌++◌, length, take, true, false, Bool, refl, arith, inl, inr}
+use Rattle.std.proofs.Common.{◌≡◌, ◌≤◌, ◌+◌, ℕ, List, ◌++◌, length, take, true, false, Bool, refl, sym, ◌∙◌, arith, inl, inr}
 use Rattle.std.specs.Prelude.{Option}
 use Rattle.std.specs.Io.KnownBytes.{Appends}
 use Rattle.std.proofs.KnownBytes.{Appends-trans}
@@ -39,5 +39,13 @@ printed_then held faults a b c x y p q = record {
   cause = λ e f. elim (cases_Bool b.broken) [
     | inl broken ↦ rose-later _ _ _ (p.cause e broken) q.later
     | inr good ↦ rose-before _ _ _ p.later (q.cause good f)
+  ];
+  quiet = λ e. elim (cases_Bool b.broken) [
+    | inl broken ↦
+        let end : c.broken ≡ true = (q.still broken).0 in
+        q.quiet (end ∙ sym broken) ∙ p.quiet (broken ∙ sym (sym e ∙ end))
+    | inr good ↦
+        let begin : a.broken ≡ false = (p.whole good).0 in
+        q.quiet (e ∙ begin ∙ sym good) ∙ p.quiet (good ∙ sym begin)
   ];
 }

@@ -13,4 +13,5 @@ returns-in_default g c =
       still = λ e. absurd (false≢true (sym good ∙ e));
       later = c.in_default.ensures.cause.later;
       cause = λ e f. absurd (false≢true (sym good ∙ f));
+      quiet = λ e. c.in_default.ensures.cause.quiet;
     }
