@@ -3,5 +3,8 @@
 
 mod errors;
 mod shell;
+mod standard;
+pub mod statuses;
 
 pub use shell::{Done, MAX_INPUT, mesa};
+pub use standard::{flushed, program};

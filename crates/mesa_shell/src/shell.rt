@@ -1,15 +1,16 @@
 // The top call.
 ghost use Rattle.std.specs.Prelude.{◌≡◌, ◌≢◌, ◌≤◌, ◌*◌, [], ◌∷◌, length, map, codes, vec_capacity, true, false};
-ghost use Rattle.mesa_fault.specs.Causes.{Rose};
 ghost use Rattle.mesa_model.specs.declared.commands.Script.{Script as AnyScript};
 ghost use Rattle.mesa_run.specs.Built.{IsBuilt, prologue_of};
 ghost use Rattle.mesa_shell.specs.Answers.{IsScriptOf};
 ghost use Rattle.mesa_laws.specs.Printed.{AnswersFromTheFold};
 ghost use Rattle.mesa_history.specs.Run.{nothing_there};
 ghost use Rattle.mesa_shell.specs.Ending as spec;
+ghost use Rattle.mesa_shell.specs.Exits.{script_line, script_status};
 ghost use Rattle.mesa_shell.specs.Statuses.{Tells};
 
 use crate::errors::put_error;
+use crate::statuses;
 use mesa_io::{ReadError, Sink, Source, read_all};
 use mesa_laws::{answers_from_the_fold, keeps_well_formed};
 use mesa_model::{Entry, Script};
@@ -24,9 +25,7 @@ pub const MAX_INPUT: u64 = 67_108_864;
 /// What a call of the program leaves.
 #[derive(Drop)]
 pub struct Done<K> {
-    /// 0, or 1 where some reply was a refusal; 2 for other words than `run`, 3 for a script
-    /// that is refused, 4 for a source that failed, 5 for a sink that failed, 8
-    /// for want of memory, 9 for an input that is too long.
+    /// One of `statuses`.
     pub status: u8,
     /// The sink, with what was printed.
     pub out: K,
@@ -43,7 +42,11 @@ fn ended<K: Sink>(alloc: Global, out: K, status: u8, line: &[u8]) -> Done<K>
         broken: false,
     };
     printer.put(line);
-    let status = if printer.broken { 5 } else { status };
+    let status = if printer.broken {
+        statuses::SINK_FAULT
+    } else {
+        status
+    };
     Done {
         status,
         out: printer.sink,
@@ -53,7 +56,7 @@ fn ended<K: Sink>(alloc: Global, out: K, status: u8, line: &[u8]) -> Done<K>
 
 // Ends a call whose script is refused.
 fn refused<K: Sink>(alloc: Global, out: K, error: &ScriptError) -> Done<K>
-    ensures { spec.Ended K.held K.faults out result 3 (spec.script_line error.now) }
+    ensures { spec.Ended K.held K.faults out result script_status (script_line error.now) }
 {
     let mut printer = Printer {
         sink: out,
@@ -62,7 +65,11 @@ fn refused<K: Sink>(alloc: Global, out: K, error: &ScriptError) -> Done<K>
     printer.put(b"mesa: script ");
     put_error(&mut printer, error);
     printer.put(b"\n");
-    let status = if printer.broken { 5 } else { 3 };
+    let status = if printer.broken {
+        statuses::SINK_FAULT
+    } else {
+        statuses::BAD_SCRIPT
+    };
     Done {
         status,
         out: printer.sink,
@@ -74,7 +81,7 @@ fn refused<K: Sink>(alloc: Global, out: K, error: &ScriptError) -> Done<K>
 fn lacks_memory<K: Sink>(alloc: Global, out: K) -> Done<K>
     ensures { spec.LacksMemory K.held K.faults out result }
 {
-    ended(alloc, out, 8, b"mesa: memory\n")
+    ended(alloc, out, statuses::NO_MEMORY, b"mesa: memory\n")
 }
 
 // Whether the words are `run` alone.
@@ -97,11 +104,11 @@ fn run_script<K: Sink>(alloc: Global, script: &Script, history: Vec<Entry>, out:
 {
     let log = run(alloc, script, out, history);
     let status = if log.printer.broken {
-        5
+        statuses::SINK_FAULT
     } else if log.refused {
-        1
+        statuses::REFUSED
     } else {
-        0
+        statuses::ANSWERED
     };
     Done {
         status,
@@ -128,15 +135,15 @@ fn run_text<K: Sink>(alloc: Global, bytes: Vec<u8>, out: K) -> Done<K>
 
 // Reads the source and runs its script.
 fn run_source<S: Source, K: Sink>(alloc: Global, src: &mut S, out: K) -> Done<K>
-    ensures { spec.EndsRun K.held K.faults (S.left src.old) (Rose (S.faults src.old) (S.faults src.new)) out result }
+    ensures { spec.EndsRun K.held K.faults (S.left src.old) (S.faults src.old) (S.faults src.new) out result }
 {
     match read_all(alloc, src, MAX_INPUT) {
         Ok(bytes) => run_text(alloc, bytes, out),
-        Err(ReadError::Fault) => ended(alloc, out, 4, b"mesa: source fault\n"),
+        Err(ReadError::Fault) => ended(alloc, out, statuses::SOURCE_FAULT, b"mesa: source fault\n"),
         Err(ReadError::TooLong { .. }) => ended(
             alloc,
             out,
-            9,
+            statuses::TOO_LONG,
             b"mesa: input over 67108864 bytes\n",
         ),
         Err(ReadError::Memory) => lacks_memory(alloc, out),
@@ -146,8 +153,9 @@ fn run_source<S: Source, K: Sink>(alloc: Global, src: &mut S, out: K) -> Done<K>
 /// The program: with the word `run` alone it reads a script from the source, runs it over a
 /// reference warehouse that begins empty, and prints every reply onto the sink. Nothing is kept.
 pub fn mesa<S: Source, K: Sink>(alloc: Global, words: &[&str], src: &mut S, out: K) -> Done<K>
-    ensures ends { spec.Ends K.held K.faults (map (λ w. w.now) words.now) (S.left src.old) (Rose (S.faults src.old) (S.faults src.new)) out result }
-    ensures tells { Tells K.held K.faults (map (λ w. w.now) words.now) (S.left src.old) (Rose (S.faults src.old) (S.faults src.new)) out result }
+    ensures ends { spec.Ends K.held K.faults (map (λ w. w.now) words.now) (S.left src.old) (S.faults src.old) (S.faults src.new) out result }
+    ensures tells { Tells K.held K.faults (map (λ w. w.now) words.now) (S.left src.old) (S.faults src.old) (S.faults src.new) out result }
+    ensures untouched { map (λ w. w.now) words.now ≢ codes "run" ∷ [] → src.new ≡ src.old }
     ensures answers { (script : AnyScript) → IsScriptOf (S.left src.old) script → AnswersFromTheFold script (nothing_there script) result.history.items }
 {
     answers_from_the_fold();
@@ -156,6 +164,6 @@ pub fn mesa<S: Source, K: Sink>(alloc: Global, words: &[&str], src: &mut S, out:
         run_source(alloc, src, out)
     } else {
         let line = b"mesa: usage: mesa run | mesa check | mesa gen SEED VERSIONS\n";
-        ended(alloc, out, 2, line)
+        ended(alloc, out, statuses::USAGE, line)
     }
 }

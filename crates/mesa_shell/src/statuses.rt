@@ -1,0 +1,25 @@
+//! The statuses that the program exits with.
+
+/// The script was run, and no reply is a refusal.
+pub const ANSWERED: u8 = 0;
+
+/// The script was run, and some reply is a refusal.
+pub const REFUSED: u8 = 1;
+
+/// The words are others than `run`.
+pub const USAGE: u8 = 2;
+
+/// The script is refused, and nothing was run.
+pub const BAD_SCRIPT: u8 = 3;
+
+/// The source failed.
+pub const SOURCE_FAULT: u8 = 4;
+
+/// The sink failed; it has a front of what was to be printed.
+pub const SINK_FAULT: u8 = 5;
+
+/// Memory was short outside a command.
+pub const NO_MEMORY: u8 = 8;
+
+/// The input is longer than the longest one.
+pub const TOO_LONG: u8 = 9;
