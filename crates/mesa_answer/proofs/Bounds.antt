@@ -1,44 +1,31 @@
--- The sums of rows that are filtered, regrouped and sorted keep their bound.
-use Rattle.std.proofs.Common.{◌≡◌, ◌<◌, ◌≤◌, ◌+◌, ◌^◌, ℕ, List, [], ◌∷◌, length, map, get_or, true, false, Bool, cond, refl, sym, ◌∙◌, ap, subst, arith, zero-add}
-use Rattle.std.specs.Prelude.{pos, nat_abs, filter, Some, slice_get, sum_by}
-use Rattle.std.specs.List.Sorted.{IsPermutation}
-use Rattle.std.proofs.lemmas.List.{length-map}
-use Rattle.std.proofs.lemmas.List.Elements.{All-from_recursion, recursion_from_All}
-use Rattle.std.proofs.lemmas.List.Sorted.{All-permutation, sum_by-IsPermutation}
-use Rattle.std.proofs.lemmas.List.Sums.{sum_by-cons}
+-- The sums of rows that are filtered and grouped keep their bound.
+use Rattle.std.proofs.Common.{◌≡◌, ◌<◌, ◌≤◌, ◌+◌, ◌^◌, ℕ, zero, suc, List, [], ◌∷◌, ◌++◌, length, map, take, get_or, true, false, Bool, cond, refl, sym, ◌∙◌, ap, subst, arith, zero-add, Option, Some, None}
+use Rattle.std.specs.Prelude.{pos, nat_abs, nat_lt, filter, slice_get, sum_by}
+use Rattle.std.specs.List.{list_all}
+use Rattle.std.specs.Ordering.{is_lt}
+use Rattle.std.proofs.lemmas.List.{append-nil, length-map, map-append}
+use Rattle.std.proofs.lemmas.List.Sums.{sum_by-append, sum_by-cons}
 use Rattle.mesa_value.specs.declared.Agg.{Agg}
 use Rattle.mesa_value.specs.declared.Agg.TheVariants.{Sum}
+use Rattle.mesa_key.specs.Order.{byte_cmp}
 use Rattle.mesa_schema.specs.declared.rows.Row.{Row}
 use Rattle.mesa_schema.specs.declared.columns.ValueColumn.{ValueColumn}
 use Rattle.mesa_schema.specs.Columns.{Columns, aggs_of, chosen}
-use Rattle.mesa_schema.specs.Folded.{regrouped}
+use Rattle.mesa_schema.specs.Folded.{folded, grouped, regrouped}
 use Rattle.mesa_schema.specs.Laws.{AreFull}
 use Rattle.mesa_schema.specs.Rows.{AreRowsOf}
 use Rattle.mesa_batch.specs.Totals.{abs_total}
-use Rattle.mesa_fold.specs.Bound.{AddsAtMost, KeepsBound}
+use Rattle.mesa_fold.specs.Bound.{KeepsBound}
+use Rattle.mesa_fold.proofs.Merged.{folds_totals}
 use Rattle.mesa_filter.specs.Query.{are_places}
+use Rattle.mesa_model.specs.Page.{rows_after}
 use Rattle.mesa_answer.specs.Answering.{KeepsSums, grouped_columns}
+use Rattle.mesa_answer.specs.Gathering.{Wanted, first_groups}
 use Rattle.mesa_answer.proofs.Picked.{From, chosen-map, length-chosen, picked}
-
--- ---- rows in another order
-
-pub full_moved : (aggs : List Agg) (xs ys : List Row) → IsPermutation xs ys → AreFull aggs xs → AreFull aggs ys
-full_moved aggs xs ys moved full =
-    let P : Row → Type 0 = λ (row : Row). length row.values ≡ length aggs in
-    recursion_from_All P ys (All-permutation P xs ys moved (All-from_recursion P xs full))
-
-total_moved : (xs ys : List Row) → IsPermutation xs ys → (c : ℕ) → abs_total c ys ≡ abs_total c xs
-total_moved xs ys moved c = sum_by-IsPermutation (λ (row : Row). nat_abs (get_or row.values c (pos 0))) xs ys moved
-
-pub bound_moved : (aggs : List Agg) (xs ys : List Row) → IsPermutation xs ys → KeepsBound aggs [] xs → KeepsBound aggs [] ys
-bound_moved aggs xs ys moved bound c p = subst (λ n. 0 + n < 2 ^ 63) (sym (total_moved xs ys moved c)) (bound c p)
-
-pub adds_moved : (aggs : List Agg) (xs ys found : List Row) → IsPermutation xs ys → AddsAtMost aggs [] ys found → AddsAtMost aggs [] xs found
-adds_moved aggs xs ys found moved adds c p = subst (λ n. abs_total c found ≤ 0 + n) (total_moved xs ys moved c) (adds c p)
 
 -- ---- fewer rows
 
-fewer : (weigh : Row → ℕ) (test : Row → Bool) (rows : List Row) → sum_by weigh (filter test rows) ≤ sum_by weigh rows
+pub fewer : (weigh : Row → ℕ) (test : Row → Bool) (rows : List Row) → sum_by weigh (filter test rows) ≤ sum_by weigh rows
 fewer weigh test [] = omega arith
 fewer weigh test (row ∷ rows) =
     let rest = fewer weigh test rows in
@@ -47,16 +34,14 @@ fewer weigh test (row ∷ rows) =
       | false ↦ omega (arith, rest, sum_by-cons weigh row rows)
     ]
 
-pub sums_filtered : (s : Columns) (test : Row → Bool) (rows : List Row) → KeepsSums s rows → KeepsSums s (filter test rows)
-sums_filtered s test rows keeps c p = omega (arith, keeps c p, fewer (λ (row : Row). nat_abs (get_or row.values c (pos 0))) test rows)
+fewer_after : (weigh : Row → ℕ) (resume : Option (List ℕ)) (rows : List Row) → sum_by weigh (rows_after resume rows) ≤ sum_by weigh rows
+fewer_after weigh None rows = omega arith
+fewer_after weigh (Some key) rows = fewer weigh (λ (row : Row). is_lt (byte_cmp key row.key)) rows
 
-pub rows_filtered : (s : Columns) (test : Row → Bool) (rows : List Row) → AreRowsOf s rows → AreRowsOf s (filter test rows)
-rows_filtered s test [] all = tt
-rows_filtered s test (row ∷ rows) all =
-    elim (test row) as (λ t. AreRowsOf s (cond t (row ∷ filter test rows) (filter test rows))) [
-      | true ↦ (all.0, rows_filtered s test rows all.1)
-      | false ↦ rows_filtered s test rows all.1
-    ]
+fewer_taken : (weigh : Row → ℕ) (n : ℕ) (rows : List Row) → sum_by weigh (take n rows) ≤ sum_by weigh rows
+fewer_taken weigh zero rows = omega arith
+fewer_taken weigh (suc n) [] = omega arith
+fewer_taken weigh (suc n) (row ∷ rows) = omega (arith, fewer_taken weigh n rows, sum_by-cons weigh row rows, sum_by-cons weigh row (take n rows))
 
 -- ---- chosen values
 
@@ -81,9 +66,55 @@ bound_regrouped s columns values rows there all keeps c p =
     let from = picked values (aggs_of s) c Sum there p in
     subst (λ n. 0 + n < 2 ^ 63) (sym (total_regrouped s columns values c Sum from rows all)) (subst (λ n. n < 2 ^ 63) (sym (zero-add (abs_total from.place rows))) (keeps from.place from.there))
 
--- the sums of the groups
-pub sums_grouped : (s : Columns) (columns values : List ℕ) (regrouped_rows found : List Row) → KeepsBound (chosen values (aggs_of s)) [] regrouped_rows → AddsAtMost (chosen values (aggs_of s)) [] regrouped_rows found
-    → KeepsSums (grouped_columns s columns values) found
-sums_grouped s columns values regrouped_rows found bound adds c p =
+places_of_aggs : (s : Columns) (values : List ℕ) → are_places s.values values ≡ true → are_places (aggs_of s) values ≡ true
+places_of_aggs s values h = ap (λ n. list_all (λ place. nat_lt place n) values) (length-map s.values (λ (c : ValueColumn). c.agg)) ∙ h
+
+-- the absolute totals of groups are at most those of their rows
+total_grouped : (s : Columns) (columns values : List ℕ) (rows : List Row) (c : ℕ) → slice_get (chosen values (aggs_of s)) c ≡ Some Sum → AreRowsOf s rows
+    → abs_total c (grouped s columns values rows) ≤ abs_total c (map (regrouped s columns values) rows)
+total_grouped s columns values rows c p all =
+    let f : Row → Row = regrouped s columns values in
+    let aggs : List Agg = chosen values (aggs_of s) in
+    let one : map f rows ++ [] ≡ map f rows = append-nil (map f rows) in
+    subst (λ (xs : List Row). abs_total c (folded aggs (map f rows ∷ [])) ≤ abs_total c xs) one
+    (folds_totals aggs (map f rows ∷ []) c p (subst (AreFull aggs) (sym one) (full_regrouped s columns values rows all)))
+
+-- So the sums of groups keep the bound that their rows keep.
+pub sums_grouped : (s : Columns) (columns values : List ℕ) (rows : List Row) → are_places s.values values ≡ true → AreRowsOf s rows → KeepsSums s rows → KeepsSums (grouped_columns s columns values) (grouped s columns values rows)
+sums_grouped s columns values rows there all keeps c p =
     let q : slice_get (chosen values (aggs_of s)) c ≡ Some Sum = subst (λ aggs. slice_get aggs c ≡ Some Sum) (chosen-map (λ (k : ValueColumn). k.agg) values s.values) p in
-    omega (arith, bound c q, adds c q)
+    omega (arith, bound_regrouped s columns values rows (places_of_aggs s values there) all keeps c q, total_grouped s columns values rows c q all)
+
+-- The first groups and one row more keep the bound that all rows keep.
+pub first_bound : (w : Wanted) (rows : List Row) (row : Row) → are_places w.schema.values w.values ≡ true → AreRowsOf w.schema (rows ++ row ∷ []) → AreRowsOf w.schema rows → KeepsSums w.schema (rows ++ row ∷ [])
+    → KeepsBound (chosen w.values (aggs_of w.schema)) (first_groups w rows) (regrouped w.schema w.columns w.values row ∷ [])
+first_bound w rows row there form part keeps c p =
+    let f : Row → Row = regrouped w.schema w.columns w.values in
+    let weigh : Row → ℕ = λ (r : Row). nat_abs (get_or r.values c (pos 0)) in
+    let groups : List Row = grouped w.schema w.columns w.values rows in
+    let all : 0 + sum_by weigh (map f (rows ++ row ∷ [])) < 2 ^ 63 = bound_regrouped w.schema w.columns w.values (rows ++ row ∷ []) (places_of_aggs w.schema w.values there) form keeps c p in
+    let parts : sum_by weigh (map f (rows ++ row ∷ [])) ≡ sum_by weigh (map f rows) + sum_by weigh (f row ∷ []) = ap (sum_by weigh) (map-append f rows (row ∷ [])) ∙ sum_by-append weigh (map f rows) (f row ∷ []) in
+    let put : sum_by weigh groups ≤ sum_by weigh (map f rows) = total_grouped w.schema w.columns w.values rows c p part in
+    omega (arith, all, parts, put, fewer_after weigh w.resume groups, fewer_taken weigh w.most (rows_after w.resume groups))
+
+-- ---- rows of a list, put in one by one
+
+front : (weigh : Row → ℕ) (i : ℕ) (rows : List Row) (row : Row) → i < length rows → row ≡ get_or rows i row → sum_by weigh (take i rows) + weigh row ≤ sum_by weigh rows
+front weigh i [] row lt is = absurd (omega arith)
+front weigh zero (x ∷ xs) row lt is = subst (λ r. 0 + weigh r ≤ sum_by weigh (x ∷ xs)) (sym is) (omega (arith, sum_by-cons weigh x xs))
+front weigh (suc i) (x ∷ xs) row lt is = omega (arith, front weigh i xs row (omega arith) is, sum_by-cons weigh x xs, sum_by-cons weigh x (take i xs))
+
+-- What keeps the sums of a list keeps those of its first rows, all or those that pass a test.
+pub sums_filtered : (s : Columns) (test : Row → Bool) (i : ℕ) (rows : List Row) (row : Row) → i < length rows → row ≡ get_or rows i row → KeepsSums s rows → KeepsSums s (filter test (take i rows) ++ row ∷ [])
+sums_filtered s test i rows row lt is keeps c p =
+    let weigh : Row → ℕ = λ (r : Row). nat_abs (get_or r.values c (pos 0)) in
+    let all : sum_by weigh rows < 2 ^ 63 = keeps c p in
+    let one : sum_by weigh (filter test (take i rows) ++ row ∷ []) ≡ sum_by weigh (filter test (take i rows)) + sum_by weigh (row ∷ []) = sum_by-append weigh (filter test (take i rows)) (row ∷ []) in
+    omega (arith, all, one, sum_by-cons weigh row [], front weigh i rows row lt is, fewer weigh test (take i rows))
+
+pub sums_taken : (s : Columns) (i : ℕ) (rows : List Row) (row : Row) → i < length rows → row ≡ get_or rows i row → KeepsSums s rows → KeepsSums s (take i rows ++ row ∷ [])
+sums_taken s i rows row lt is keeps c p =
+    let weigh : Row → ℕ = λ (r : Row). nat_abs (get_or r.values c (pos 0)) in
+    let all : sum_by weigh rows < 2 ^ 63 = keeps c p in
+    let one : sum_by weigh (take i rows ++ row ∷ []) ≡ sum_by weigh (take i rows) + sum_by weigh (row ∷ []) = sum_by-append weigh (take i rows) (row ∷ []) in
+    omega (arith, all, one, sum_by-cons weigh row [], front weigh i rows row lt is)

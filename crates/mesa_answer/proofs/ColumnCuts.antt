@@ -1,52 +1,39 @@
--- Columns of encoded keys.
-use Rattle.std.proofs.Common.{◌≡◌, ℕ, zero, suc, ◌+◌, ◌<◌, ◌≤◌, List, [], ◌∷◌, length, map, min, take, drop, get_or, refl, sym, ◌∙◌, ap, arith, drop-cons, add-one, Some, None}
-use Rattle.std.specs.Prelude.{◌==◌, position, slice_get}
-use Rattle.std.proofs.Math.ListN.{drop_of_length-le}
-use Rattle.std.proofs.lemmas.List.{drop_min, take_min}
+-- The first columns of a key.
+use Rattle.std.proofs.Common.{◌≡◌, ℕ, zero, suc, ◌≤◌, ◌<◌, List, [], ◌∷◌, ◌++◌, length, take, get_or, refl, sym, ◌∙◌, ap, arith}
+use Rattle.std.specs.Prelude.{slice_get}
+use Rattle.std.specs.List.{cons_option}
+use Rattle.std.proofs.lemmas.List.{append-nil, take_all}
 use Rattle.mesa_key.specs.declared.KeyType.{KeyType}
-use Rattle.mesa_key.specs.declared.KeyType.TheVariants as kind
-use Rattle.mesa_key.specs.Spelling.{column_length, columns_of}
-use Rattle.mesa_key.proofs.Zeros.{zero_at, zero_nowhere}
-use Rattle.mesa_schema.specs.declared.columns.KeyColumn.{KeyColumn}
+use Rattle.mesa_key.specs.Spelling.{columns_of}
+use Rattle.mesa_schema.specs.Columns.{chosen}
 
--- a text ends with its zero byte
-pub ends_at : (bytes : List ℕ) (end : ℕ) → position (λ b. b == 0) bytes ≡ Some end → end + 1 ≡ min (column_length kind.Text bytes) (length bytes)
-ends_at bytes end e = let z = zero_at bytes end e in omega (arith, z.0, z.1)
+module _ {X : Type 0} where
+  pub take-front : (n : ℕ) (xs ys : List X) → length xs ≡ n → take n (xs ++ ys) ≡ xs
+  take-front zero [] ys e = refl
+  take-front zero (x ∷ xs) ys e = absurd (omega arith)
+  take-front (suc n) [] ys e = absurd (omega arith)
+  take-front (suc n) (x ∷ xs) ys e = ap (λ zs. x ∷ zs) (take-front n xs ys (omega arith))
 
-pub ends_nowhere : (bytes : List ℕ) → position (λ b. b == 0) bytes ≡ None → length bytes ≡ min (column_length kind.Text bytes) (length bytes)
-ends_nowhere bytes e = omega (arith, zero_nowhere bytes e)
+  -- as many as are wanted
+  pub cut_full : (n : ℕ) (found rest all : List X) → found ++ rest ≡ all → length found ≤ n → n ≤ length found → found ≡ take n all
+  cut_full n found rest all e few many = sym (ap (take n) (sym e) ∙ take-front n found rest (omega arith))
 
-abbrev pub types : List KeyColumn → List KeyType
-types columns = map (λ (c : KeyColumn). c.kind) columns
+  got-taken : (n p : ℕ) (xs : List X) → p < n → slice_get (take n xs) p ≡ slice_get xs p
+  got-taken zero p xs l = absurd (omega arith)
+  got-taken (suc n) p [] l = refl
+  got-taken (suc n) zero (x ∷ xs) l = refl
+  got-taken (suc n) (suc p) (x ∷ xs) l = got-taken n p xs (omega arith)
 
--- what is left of the bytes of a key behind columns of these types
-abbrev pub behind : List KeyType → List ℕ → List ℕ
-behind [] bytes = bytes
-behind (kind ∷ kinds) bytes = behind kinds (drop (column_length kind bytes) bytes)
+  -- what stands at these places stands among the first
+  pub chosen-taken : (n : ℕ) (places : List ℕ) (xs : List X) → ((k : ℕ) → k < length places → get_or places k 0 < n) → chosen places (take n xs) ≡ chosen places xs
+  chosen-taken n [] xs below = refl
+  chosen-taken n (p ∷ places) xs below =
+      let first : p < n = below zero (omega arith) in
+      let rest : chosen places (take n xs) ≡ chosen places xs = chosen-taken n places xs (λ k l. below (suc k) (omega (arith, l))) in
+      λ i. cons_option (got-taken n p xs first i) (rest i)
 
--- one column more lies before what is left
-pub behind_next : (columns : List KeyColumn) (i : ℕ) (d : KeyColumn) (rest more all : List ℕ) (n : ℕ) → i < length columns → n ≡ min (column_length (get_or columns i d).kind rest) (length rest) → more ≡ drop n rest
-    → behind (types (drop i columns)) rest ≡ all → behind (types (drop (i + 1) columns)) more ≡ all
-behind_next columns i d rest more all n l e m before =
-    ap (behind (types (drop (i + 1) columns))) (m ∙ ap (λ k. drop k rest) e ∙ drop_min (column_length (get_or columns i d).kind rest) rest)
-    ∙ sym (ap (λ cs. behind (types cs) rest) (drop-cons columns i d l ∙ ap (λ k. get_or columns i d ∷ drop k columns) (sym (add-one i))))
-    ∙ before
-
--- what is left when all of them lie before it
-pub behind_all : (columns : List KeyColumn) (i : ℕ) (rest all : List ℕ) → length columns ≤ i → behind (types (drop i columns)) rest ≡ all → rest ≡ all
-behind_all columns i rest all l before = ap (λ cs. behind (types cs) rest) (sym (drop_of_length-le columns l)) ∙ before
-
--- the column at a place begins behind those before it
-pub column_behind : (columns : List KeyColumn) (place : ℕ) (d : KeyColumn) (key : List ℕ) → place < length columns
-    → slice_get (columns_of (types columns) key) place ≡ Some (take (column_length (get_or columns place d).kind (behind (types (take place columns)) key)) (behind (types (take place columns)) key))
-column_behind [] place d key l = absurd (omega arith)
-column_behind (c ∷ columns) zero d key l = refl
-column_behind (c ∷ columns) (suc place) d key l = column_behind columns place d (drop (column_length c.kind key) key) (omega arith)
-
-pub column_cut : (columns : List KeyColumn) (place : ℕ) (d : KeyColumn) (key rest found : List ℕ) (n : ℕ) → place < length columns → rest ≡ behind (types (take place columns)) key
-    → n ≡ min (column_length (get_or columns place d).kind rest) (length rest) → found ≡ take n rest
-    → slice_get (columns_of (types columns) key) place ≡ Some found
-column_cut columns place d key rest found n l b e f =
-    column_behind columns place d key l
-    ∙ ap (λ r. Some (take (column_length (get_or columns place d).kind r) r)) (sym b)
-    ∙ ap Some (sym (f ∙ ap (λ k. take k rest) e ∙ take_min (column_length (get_or columns place d).kind rest) rest))
+-- all that there are
+pub cut_short : (n : ℕ) (found all : List (List ℕ)) (kinds : List KeyType) (bytes : List ℕ) → found ++ columns_of kinds bytes ≡ all → length found ≤ n → kinds ≡ [] → found ≡ take n all
+cut_short n found all kinds bytes e few none =
+    let whole : found ≡ all = sym (append-nil found) ∙ ap (λ ks. found ++ columns_of ks bytes) (sym none) ∙ e in
+    sym (take_all n found few) ∙ ap (take n) whole

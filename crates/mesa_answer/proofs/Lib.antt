@@ -1,10 +1,12 @@
-pub mod Asked
 pub mod Bounds
 pub mod ColumnCuts
-pub mod Picked
+pub mod Entries
+pub mod Firsts
 pub mod Forms
-pub mod Groups
 pub mod Paging
-pub mod Resumes
-pub mod SameOrder
+pub mod Parts
+pub mod Passing
+pub mod Picked
+pub mod Results
+pub mod Steps
 pub mod ViewColumns

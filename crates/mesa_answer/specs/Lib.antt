@@ -1,1 +1,4 @@
 pub mod Answering
+pub mod Gathered
+pub mod Gathering
+pub mod Held

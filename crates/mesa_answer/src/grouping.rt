@@ -1,13 +1,13 @@
 // Grouping rows.
-ghost use Rattle.std.specs.Prelude.{◌≡◌, IsTrue, IfOk};
+ghost use Rattle.std.specs.Prelude.{◌≡◌, None, IsTrue, IfOk};
 ghost use Rattle.mesa_schema.specs.Rows.{AreRowsOf};
 ghost use Rattle.mesa_schema.specs.Folded.{grouped};
 ghost use Rattle.mesa_filter.specs.Query.{are_places};
 ghost use Rattle.mesa_answer.specs.Answering.{KeepsSums, grouped_columns};
+ghost use Rattle.mesa_answer.specs.Gathered.{HasPut, wanted_of};
 
-use crate::folding::{chosen_aggs, fold_rows};
-use crate::regrouping::regrouped;
-use mesa_list::Items;
+use crate::answering::put_bounded;
+use crate::groups::Groups;
 use mesa_schema::{Row, RowList, Schema};
 use std::alloc::{AllocError, Global};
 
@@ -29,11 +29,28 @@ pub fn group(
     ensures form { IfOk result (λ found. AreRowsOf (grouped_columns schema.now columns.now values.now) found) }
     ensures bounded { IfOk result (λ found. KeepsSums (grouped_columns schema.now columns.now values.now) found) }
 {
-    let mut regrouped_rows = Vec::new(alloc);
+    let groups = gathered(alloc, schema, columns, values, rows)?;
+    groups.into_rows()
+}
+
+// All groups of the rows.
+fn gathered<'a>(
+    alloc: Global,
+    schema: &'a Schema,
+    columns: &'a [u16],
+    values: &'a [u16],
+    rows: &[Row],
+) -> Result<Groups<'a>, AllocError>
+    requires columns_there { IsTrue (are_places schema.now.keys columns.now) }
+    requires values_there { IsTrue (are_places schema.now.values values.now) }
+    requires of_schema { AreRowsOf schema.now rows.now }
+    requires bounded { KeepsSums schema.now rows.now }
+    ensures put { IfOk result (λ groups. HasPut groups rows.now) }
+    ensures wanted { IfOk result (λ groups. wanted_of groups ≡ record { schema = schema.now; columns = columns.now; values = values.now; resume = None; most = usize.MAX }) }
+{
+    let mut groups = Groups::all(alloc, schema, columns, values)?;
     for row in rows {
-        regrouped_rows.push(regrouped(alloc, schema, columns, values, row)?)?;
+        put_bounded(&mut groups, row)?;
     }
-    let aggs = chosen_aggs(alloc, schema, values)?;
-    let found = fold_rows(alloc, &aggs, regrouped_rows)?;
-    Ok(Items::from_vec(found))
+    Ok(groups)
 }

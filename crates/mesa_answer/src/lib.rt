@@ -1,14 +1,19 @@
-//! Answering: rows are grouped, a query is answered by a page, and a view has its content.
+//! Answering: rows are gathered into groups one by one, a query is answered by a page of them, and a view has its content.
 #![tactic(auto)]
 
 mod answering;
-mod columns;
-mod folding;
+mod error;
 mod grouping;
+mod groups;
+mod hand;
+mod laws;
 mod page;
-mod regrouping;
+mod putting;
 mod views;
 
 pub use answering::answer;
+pub use error::GroupError;
 pub use grouping::group;
+pub use groups::Groups;
+pub use laws::answer_over_parts;
 pub use views::view_rows;

@@ -1,0 +1,207 @@
+// The first groups of rows that are put in one by one.
+ghost use Rattle.std.specs.Prelude.{◌≡◌, ◌<◌, ◌≤◌, ◌^◌, List, [], ◌∷◌, ◌++◌, length, map, slice_index, EachIndex, None, IsTrue, IfOk, OnOk, OnErr, IfErr, MatchOption};
+ghost use Rattle.std.specs.Option.{option_copied};
+ghost use Rattle.mesa_schema.specs.declared.columns.KeyColumn.{KeyColumn as Column};
+ghost use Rattle.mesa_schema.specs.declared.rows.Row.{Row as AnyRow};
+ghost use Rattle.mesa_schema.specs.Columns.{aggs_of, chosen};
+ghost use Rattle.mesa_schema.specs.Folded.{grouped};
+ghost use Rattle.mesa_schema.specs.Rows.{AreRowsOf, IsRowOf};
+ghost use Rattle.mesa_filter.specs.Query.{IsQueryOf, are_places};
+ghost use Rattle.mesa_model.specs.Page.{page_of};
+ghost use Rattle.mesa_answer.specs.Answering.{KeepsSums, grouped_columns};
+ghost use Rattle.mesa_answer.specs.Gathered.{HasPut, wanted_of};
+ghost use Rattle.mesa_answer.specs.Gathering.{first_groups, wanted_by};
+ghost use Rattle.mesa_answer.specs.Held.{is_behind as comes_after, rows_in};
+
+use crate::error::GroupError;
+use crate::hand::Hand;
+use crate::page::page;
+use crate::putting::put_first;
+use mesa_filter::Query;
+use mesa_key::KeyType;
+use mesa_list::Items;
+use mesa_model::Page;
+use mesa_schema::{KeyColumn, Row, RowList, Schema};
+use mesa_value::{Agg, Values};
+use std::alloc::{AllocError, Global};
+use std::collections::BTreeMap;
+
+/// A gatherer of groups. Rows are put in one by one, in the order of their versions, and each is folded into its group. Of all groups only the first are held, as many as are wanted, so that its memory doesn't grow with the rows.
+#[derive(Drop)]
+pub struct Groups<'a> {
+    schema: &'a Schema,
+    columns: &'a [u16],
+    values: &'a [u16],
+    resume: Option<&'a [u8]>,
+    most: usize,
+    // What is looked up for each row: the types of the key columns, how many of them are looked at, and the aggregations of the chosen values.
+    kinds: Vec<KeyType>,
+    depth: usize,
+    aggs: Vec<Agg>,
+    held: BTreeMap<Vec<u8>, Values>,
+    hand: Hand,
+}
+
+impl<'a> Groups<'a> {
+    /// For the page of a query. The rows that are put in meet the query's filter; the caller sees to that.
+    pub fn of(alloc: Global, schema: &'a Schema, query: &'a Query) -> Result<Self, AllocError>
+        requires asked { IsQueryOf schema.now query.now }
+        ensures none { IfOk result (λ g. HasPut g []) }
+        ensures wanted { IfOk result (λ g. wanted_of g ≡ wanted_by schema.now query.now) }
+    {
+        let most = query.limit() as usize + 1;
+        let resume = query.resume();
+        Self::new(alloc, schema, query.columns(), query.values(), resume, most)
+    }
+
+    /// For all groups by the key columns at these places, with the value columns at those.
+    pub fn all(
+        alloc: Global,
+        schema: &'a Schema,
+        columns: &'a [u16],
+        values: &'a [u16],
+    ) -> Result<Self, AllocError>
+        requires columns_there { IsTrue (are_places schema.now.keys columns.now) }
+        requires values_there { IsTrue (are_places schema.now.values values.now) }
+        ensures none { IfOk result (λ g. HasPut g []) }
+        ensures wanted { IfOk result (λ g. wanted_of g ≡ record { schema = schema.now; columns = columns.now; values = values.now; resume = None; most = usize.MAX }) }
+    {
+        Self::new(alloc, schema, columns, values, None, usize::MAX)
+    }
+
+    fn new(
+        alloc: Global,
+        schema: &'a Schema,
+        columns: &'a [u16],
+        values: &'a [u16],
+        resume: Option<&'a [u8]>,
+        most: usize,
+    ) -> Result<Self, AllocError>
+        requires columns_there { IsTrue (are_places schema.now.keys columns.now) }
+        requires values_there { IsTrue (are_places schema.now.values values.now) }
+        ensures none { IfOk result (λ g. HasPut g []) }
+        ensures wanted { IfOk result (λ g. wanted_of g ≡ record { schema = schema.now; columns = columns.now; values = values.now; resume = option_copied resume.entry; most = most }) }
+    {
+        let kinds = kinds_in(alloc, schema.keys())?;
+        let aggs = chosen_aggs(alloc, schema, values)?;
+        Ok(Groups {
+            schema,
+            columns,
+            values,
+            resume,
+            most,
+            kinds,
+            depth: depth_of(columns),
+            aggs,
+            held: BTreeMap::new(alloc),
+            hand: Hand::new(alloc),
+        })
+    }
+
+    /// One row more. After an error the groups are as they were.
+    pub fn put(&mut self, row: &Row) -> Result<(), GroupError>
+        requires gathering { (given : List AnyRow) × HasPut self.old given }
+        requires form { IsRowOf (wanted_of self.old).schema row.now }
+        ensures put { OnOk result ((given : List AnyRow) → HasPut self.old given → HasPut self.new (given ++ row.now ∷ [])) }
+        ensures same { OnErr result ((given : List AnyRow) → HasPut self.old given → HasPut self.new given) }
+        ensures wanted { wanted_of self.new ≡ wanted_of self.old }
+        // A sum leaves its type only where the absolute values of the rows may add up to more than it holds.
+        ensures cause { IfErr result (λ e. e ≡ GroupError.Sum → (given : List AnyRow) → HasPut self.old given → KeepsSums (wanted_of self.old).schema (given ++ row.now ∷ []) → ⊥) }
+    {
+        self.hand
+            .take(&self.kinds, self.depth, self.columns, self.values, row)?;
+        if !is_behind(self.resume, self.hand.key()) {
+            return Ok(());
+        }
+        put_first(
+            *self.aggs.allocator(),
+            &self.aggs,
+            self.most,
+            &mut self.held,
+            self.hand.key(),
+            self.hand.values(),
+        )
+    }
+
+    /// The groups of the rows that were put in, in the order of their keys.
+    pub fn into_rows(self) -> Result<RowList, AllocError>
+        requires gathering { (given : List AnyRow) × HasPut self given }
+        ensures rows { IfOk result (λ rows. (given : List AnyRow) → HasPut self.entry given → rows ≡ first_groups (wanted_of self.entry) given) }
+        // So where as many as usize holds are wanted, these are all.
+        ensures few { IfOk result (λ rows. length rows < 2 ^ 63) }
+    {
+        let Groups { aggs, held, .. } = self;
+        Ok(Items::from_vec(listed(*aggs.allocator(), held)?))
+    }
+
+    /// The page of the query that this was made for, over the rows that were put in.
+    pub fn into_page(self, query: &Query) -> Result<Page, AllocError>
+        requires gathering { (given : List AnyRow) × HasPut self given }
+        requires of_query { wanted_of self ≡ wanted_by (wanted_of self).schema query.now }
+        ensures page { IfOk result (λ page. (given : List AnyRow) → HasPut self.entry given → page ≡ page_of query.now.version query.now.limit query.now.resume (grouped (wanted_of self.entry).schema query.now.asked.columns query.now.asked.values given)) }
+        ensures form { IfOk result (λ page. AreRowsOf (grouped_columns (wanted_of self.entry).schema query.now.asked.columns query.now.asked.values) page.rows) }
+    {
+        let rows = self.into_rows()?;
+        page(query, rows.into_vec())
+    }
+}
+
+// Whether a group key is behind the resume key.
+fn is_behind(resume: Option<&[u8]>, key: &[u8]) -> bool
+    ensures { result ≡ comes_after (option_copied resume.entry) key.now }
+{
+    match resume {
+        Some(resume) => resume.cmp(key).is_lt(),
+        None => true,
+    }
+}
+
+// The types of key columns.
+fn kinds_in(alloc: Global, columns: &[KeyColumn]) -> Result<Vec<KeyType>, AllocError>
+    ensures { IfOk result (λ kinds. kinds.items ≡ map (λ (c : Column). c.kind) columns.now) }
+{
+    columns.iter().map(|column| column.kind).collect(alloc)
+}
+
+// How many columns stand before and at the last of these places.
+fn depth_of(places: &[u16]) -> usize
+    ensures { EachIndex places.now (λ k. slice_index places.now k < result) }
+{
+    match greatest(places) {
+        Some(last) => last as usize + 1,
+        None => 0,
+    }
+}
+
+fn greatest(places: &[u16]) -> Option<u16>
+    ensures { MatchOption result (length places.now ≡ 0) (λ last. EachIndex places.now (λ k. slice_index places.now k ≤ last)) }
+{
+    places.iter().copied().max()
+}
+
+// The aggregations of the value columns at these places.
+fn chosen_aggs(alloc: Global, schema: &Schema, places: &[u16]) -> Result<Vec<Agg>, AllocError>
+    ensures { IfOk result (λ found. found.items ≡ chosen places.now (aggs_of schema.now)) }
+{
+    let columns = schema.values();
+    let mut found = Vec::new(alloc);
+    for place in places {
+        if let Some(column) = columns.get(*place as usize) {
+            found.push(column.agg)?;
+        }
+    }
+    Ok(found)
+}
+
+// The groups as rows.
+fn listed(alloc: Global, held: BTreeMap<Vec<u8>, Values>) -> Result<Vec<Row>, AllocError>
+    ensures rows { IfOk result (λ rows. rows.items ≡ rows_in held.entries) }
+    ensures few { length held.entries < 2 ^ 63 }
+{
+    let mut rows = Vec::with_capacity(alloc, held.len())?;
+    for (key, values) in held {
+        let key = Items::from_vec(key);
+        rows.push(Row { key, values })?;
+    }
+    Ok(rows)
+}

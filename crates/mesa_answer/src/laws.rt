@@ -1,0 +1,7 @@
+// What holds of every answer, whichever function made it.
+ghost use Rattle.mesa_answer.specs.Answering.{AnswersParts};
+
+/// A query over parts that were loaded one after the other needs no fold of them: the answer over the fold is the answer over the parts' rows in that order, and rows may be filtered anywhere.
+pub fn answer_over_parts()
+    ensures { AnswersParts }
+{}
