@@ -1,0 +1,9 @@
+//! Tests of the disk and the benches over a real folder.
+#![tactic(auto)]
+
+#[cfg(test)]
+mod areas;
+#[cfg(test)]
+mod files;
+#[cfg(test)]
+mod openings;

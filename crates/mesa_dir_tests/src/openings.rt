@@ -1,0 +1,57 @@
+// Folders that can't be opened.
+use mesa_dir::DirDisk;
+use mesa_disk::{Area, Bench, Disk, FileId, OpenFault};
+use std::fs;
+use std::process::Abort;
+use std::test::Fail;
+
+// Asserts that each call that can fail does, and that the areas are told as two bytes long.
+fn fails_in_each_call(rt: &impl Abort, disk: &mut DirDisk<HostRuntime>) -> Result<(), Fail> {
+    let mut two = [0u8; 2];
+    assert_eq!(rt; disk.journal_len(Area::Zero), 2);
+    assert!(rt; disk.journal_read(Area::Zero, 0, &mut two).is_err());
+    assert_eq!(rt; disk.journal_len(Area::One), 2);
+    assert!(rt; disk.journal_read(Area::One, 0, &mut two).is_err());
+    assert!(rt; disk.journal_write(Area::Zero, 0, b"a".as_slice()).is_err());
+    assert!(rt; disk.journal_sync().is_err());
+    assert!(rt; disk.remove(FileId::of(1)).is_err());
+    assert!(rt; matches!(disk.reader(FileId::of(1)), Err(OpenFault::Failed)));
+    assert!(rt; disk.file_ids().is_err());
+    assert!(rt; disk.bench()?.draft(FileId::of(1)).is_err());
+    assert_eq!(rt; disk.clock(), 3);
+    Ok(())
+}
+
+#[test]
+fn a_folder_that_is_none_fails(rt: HostRuntime) -> Result<(), Fail> {
+    let name = "mesa_dir_flat";
+    fs::write(&rt, name, b"no folder".as_slice())?;
+    let mut disk = DirDisk::open(rt, name)?;
+    fails_in_each_call(&rt, &mut disk)?;
+    drop(disk);
+    fs::remove_file(&rt, name)?;
+    Ok(())
+}
+
+#[test]
+fn a_folder_that_another_has_fails(rt: HostRuntime) -> Result<(), Fail> {
+    let name = "mesa_dir_locked";
+    let _ = fs::remove_dir_all(&rt, name);
+    let mut first = DirDisk::open(rt, name)?;
+    assert!(rt;
+        first
+            .journal_write(Area::Zero, 0, b"abc".as_slice())
+            .is_ok()
+    );
+    let mut second = DirDisk::open(rt, name)?;
+    fails_in_each_call(&rt, &mut second)?;
+    drop(second);
+    // The first goes on unharmed, and once it is let go the folder can be opened.
+    assert!(rt; first.journal_sync().is_ok());
+    drop(first);
+    let third = DirDisk::open(rt, name)?;
+    assert_eq!(rt; third.journal_len(Area::Zero), 3);
+    drop(third);
+    fs::remove_dir_all(&rt, name)?;
+    Ok(())
+}
