@@ -4,13 +4,13 @@ use Rattle.std.proofs.lemmas.List.{drop_more, map-append, take_more_set, drop-se
 use Rattle.std.proofs.Math.ListN.{set}
 use Rattle.mesa_value.specs.declared.Agg.{Agg}
 use Rattle.mesa_value.specs.declared.Agg.TheVariants.{Sum, Min, Max, Replace}
-use Rattle.mesa_value.specs.Agg.{combined}
+use Rattle.mesa_value.specs.Agg.{Combines, combined}
 use Rattle.mesa_schema.specs.declared.rows.Row.{Row}
 use Rattle.mesa_schema.specs.declared.columns.ValueColumn.{ValueColumn}
 use Rattle.mesa_schema.specs.declared.columns.KeyColumn.{KeyColumn}
 use Rattle.mesa_key.specs.declared.KeyType.{KeyType}
 use Rattle.mesa_schema.specs.Columns.{Columns, aggs_of}
-use Rattle.mesa_schema.specs.Folded.{row_combined, combined_from}
+use Rattle.mesa_schema.specs.Folded.{all_combined, row_combined, combined_from}
 use Rattle.mesa_delta.specs.Summary.{noted, all_noted, last_key, aggregates, values_of, AllCombine}
 use Rattle.mesa_delta.specs.Totals.{added}
 use Rattle.mesa_delta.specs.Tallies.{Tallies}
@@ -72,6 +72,25 @@ sums_step columns totals values i column x c t v before =
 pub set_length : (totals : List ℤ) (i : ℕ) (x : ℤ) → length (set totals i x) ≡ length totals
 set_length totals i x = length-set totals i x
 
+-- what combines from a place on
+pub sums_at : (columns : List ValueColumn) (totals values : List ℤ) (i : ℕ) (column : ValueColumn) → i < length columns → i < length totals → i < length values
+    → AllCombine (map agg_of (drop i columns)) (drop i totals) (drop i values) → Combines (get_or columns i column).agg (get_or totals i (pos 0)) (get_or values i (pos 0)) × AllCombine (map agg_of (drop (i + 1) columns)) (drop (i + 1) totals) (drop (i + 1) values)
+sums_at columns totals values i column c t v h = rw (drop_more columns i column c, drop_more totals i (pos 0) t, drop_more values i (pos 0) v) at h
+
+pub sums_onto : (columns : List ValueColumn) (totals values : List ℤ) (i : ℕ) (column : ValueColumn) → i < length columns → i < length totals → i < length values
+    → Combines (get_or columns i column).agg (get_or totals i (pos 0)) (get_or values i (pos 0)) → AllCombine (map agg_of (drop (i + 1) columns)) (drop (i + 1) totals) (drop (i + 1) values) → AllCombine (map agg_of (drop i columns)) (drop i totals) (drop i values)
+sums_onto columns totals values i column c t v one others = rw (drop_more columns i column c, drop_more totals i (pos 0) t, drop_more values i (pos 0) v) (one, others)
+
+all_ended : (aggs : List Agg) (old new : List ℤ) → min (min (length aggs) (length old)) (length new) ≡ 0 → AllCombine aggs old new
+all_ended [] old new end = tt
+all_ended (agg ∷ aggs) [] new end = tt
+all_ended (agg ∷ aggs) (a ∷ old) [] end = tt
+all_ended (agg ∷ aggs) (a ∷ old) (b ∷ new) end = absurd (omega arith)
+
+pub sums_end : (columns : List ValueColumn) (totals values : List ℤ) (i : ℕ) → min (min (length columns) (length totals)) (length values) ≤ i → AllCombine (map agg_of (drop i columns)) (drop i totals) (drop i values)
+sums_end columns totals values i end =
+    all_ended (map agg_of (drop i columns)) (drop i totals) (drop i values) (omega (arith, length-map (drop i columns) agg_of, length-drop i columns, length-drop i totals, length-drop i values))
+
 -- the loop's end: a list has ended
 pub added_end : (columns : List ValueColumn) (totals values whole : List ℤ) (i : ℕ) → min (length columns) (length totals) ≤ i
     → take i totals ++ added (map agg_of (drop i columns)) (drop i totals) (drop i values) ≡ whole → totals ≡ whole
@@ -95,3 +114,8 @@ goes_on s old new row (x ∷ rows) len z r f l t h = record {
 
 abbrev pub kind_of : KeyColumn → KeyType
 kind_of c = c.kind
+
+-- rows and one more, combined
+pub combined_rows : (aggs : List Agg) (rows : List Row) (row : Row) → 0 < length rows → all_combined aggs (map values_of (rows ++ row ∷ [])) ≡ row_combined aggs (all_combined aggs (map values_of rows)) row.values
+combined_rows aggs [] row some = absurd (omega arith)
+combined_rows aggs (x ∷ rows) row some = ap (combined_from aggs x.values) (map-append values_of rows (row ∷ [])) ∙ combined_more aggs x.values (map values_of rows) row.values

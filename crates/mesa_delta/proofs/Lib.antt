@@ -16,3 +16,5 @@ pub mod Going
 pub mod Steps
 pub mod Accepting
 pub mod Following
+pub mod Bounding
+pub mod Once

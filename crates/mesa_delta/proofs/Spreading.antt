@@ -77,6 +77,11 @@ rise_more : (a : Row) (rows : List Row) (row : Row) → Rise (map key_of (a ∷ 
 rise_more a [] row h less = (less, tt)
 rise_more a (b ∷ rows) row h less = (h.0, rise_more b rows row h.1 less)
 
+-- a row whose key is greater than the last one
+pub rise_on : (rows : List Row) (row : Row) → 0 < length rows → Rise (map key_of rows) → byte_cmp (last_key rows) row.key ≡ Less → Rise (map key_of (rows ++ row ∷ []))
+rise_on [] row some h less = absurd (omega arith)
+rise_on (a ∷ rows) row some h less = rise_more a rows row h less
+
 pub rise_alike : (rows others : List Row) (row : Row) → length rows ≡ length others → last_key rows ≡ last_key others → Rise (map key_of others) → Rise (map key_of (rows ++ row ∷ [])) → Rise (map key_of (others ++ row ∷ []))
 rise_alike [] [] row len last rise h = tt
 rise_alike [] (x ∷ others) row len last rise h = absurd (omega arith)

@@ -7,6 +7,7 @@ use Rattle.std.proofs.lemmas.List.{length-append, length-map, take_at, drop_at, 
 use Rattle.std.proofs.lemmas.List.Concat.{flat_map-cons}
 use Rattle.std.proofs.lemmas.Nat.{from_be_bytes-to_be_bytes_4, from_be_bytes-to_be_bytes_8}
 use Rattle.mesa_schema.specs.Schema.{is_schema}
+use Rattle.mesa_key.specs.Order.{short_key}
 use Rattle.mesa_schema.specs.Columns.{Columns, kinds_of, aggs_of}
 use Rattle.mesa_delta.specs.declared.place.Entry.{Entry}
 use Rattle.mesa_file.specs.declared.file_ref.FileRef.{FileRef}
@@ -144,18 +145,19 @@ pub spelled_so : (s : Columns) (rows blocks : ℕ) (bytes front back : List ℕ)
 spelled_so s rows blocks bytes front back es len f b at is =
     sym (take-append-drop (60 * blocks) bytes) ∙ ap (λ (l : List ℕ). l ++ drop (60 * blocks) bytes) (sym f ∙ sym at) ∙ ap (λ (l : List ℕ). flat_map spelled es ++ l) (sym b ∙ is ∙ ap (λ (n : ℕ). foot s rows n) (sym len))
 
-pub index_of : (file : FileRef) (s columns : Columns) (bytes : List ℕ) (place rows : ℕ) (es entries : List Entry) → columns ≡ s → entries ≡ es → length es ≡ file.blocks → 0 < file.blocks → place + length bytes ≡ file.len → file.blocks < 2 ^ 32 → file.len < 2 ^ 64 → rows < 2 ^ 64 → IsTrue (is_schema s)
+pub index_of : (file : FileRef) (s columns : Columns) (bytes : List ℕ) (place rows : ℕ) (es entries : List Entry) (last : List ℕ) → last ≡ short_key file.last → columns ≡ s → entries ≡ es → length es ≡ file.blocks → 0 < file.blocks → place + length bytes ≡ file.len → file.blocks < 2 ^ 32 → file.len < 2 ^ 64 → rows < 2 ^ 64 → IsTrue (is_schema s)
     → bytes ≡ tail_spelled s rows es → Follow 0 es place → NeverFall (shorts_of es) → AllByRecursion HasWidths es
-    → IsIndexOf file s bytes (record { file = file.id; columns = columns; len = file.len; tail = place; rows = rows; entries = entries })
-index_of file s columns bytes place rows es entries same found len some sum few fits counted schema spelled follow fall widths =
-    subst (λ (x : Columns). IsIndexOf file s bytes (record { file = file.id; columns = x; len = file.len; tail = place; rows = rows; entries = entries })) (sym same)
-    (subst (λ (x : List Entry). IsIndexOf file s bytes (record { file = file.id; columns = s; len = file.len; tail = place; rows = rows; entries = x })) (sym found)
+    → IsIndexOf file s bytes (record { file = file.id; columns = columns; len = file.len; tail = place; rows = rows; entries = entries; last = last })
+index_of file s columns bytes place rows es entries last short same found len some sum few fits counted schema spelled follow fall widths =
+    subst (λ (x : Columns). IsIndexOf file s bytes (record { file = file.id; columns = x; len = file.len; tail = place; rows = rows; entries = entries; last = last })) (sym same)
+    (subst (λ (x : List Entry). IsIndexOf file s bytes (record { file = file.id; columns = s; len = file.len; tail = place; rows = rows; entries = x; last = last })) (sym found)
     record {
       id = refl;
       columns = refl;
       len = refl;
       blocks = len;
       spelled = spelled;
+      last = short;
       index = record {
         tail = record { some = omega arith; follow = follow; fall = fall; widths = widths };
         few = omega arith;

@@ -2,7 +2,9 @@
 use Rattle.std.proofs.Common.{◌≡◌, ℕ, ◌<◌, List, [], ◌∷◌, ◌++◌, length, map, refl, sym, ap, subst, ◌∙◌, arith, Option, Some, None}
 use Rattle.std.specs.Prelude.{flat_map}
 use Rattle.sha2.specs.Sha256.{sha256}
+use Rattle.std.specs.List.{AllByRecursion}
 use Rattle.mesa_value.specs.declared.Agg.{Agg}
+use Rattle.mesa_value.specs.Agg.{IsAmount}
 use Rattle.mesa_schema.specs.declared.rows.Row.{Row}
 use Rattle.mesa_schema.specs.Columns.{aggs_of}
 use Rattle.mesa_block.specs.Fill.{Built}
@@ -40,17 +42,17 @@ pub may_push : {M T : Type 0} (bytes : T → Option (List ℕ)) (w : DeltaWriter
 may_push bytes w row next =
     subst (λ (b : Built). Rise (map key_of (b.rows ++ row ∷ []))) (sym next.1.laid.built) (open_rise w.schema next.0 row next.2.greater)
 
-pub one_more : {M T : Type 0} (bytes : T → Option (List ℕ)) (old : DeltaWriter M T) (blocks : BlockWriter M T) (tally : Tally) (row : Row) → IsNext bytes old row
+pub one_more : {M T : Type 0} (bytes : T → Option (List ℕ)) (old : DeltaWriter M T) (blocks : BlockWriter M T) (tally : Tally) (row : Row) → IsNext bytes old row → AllByRecursion IsAmount row.values
     → ((f : Filling) → Lays bytes old.schema old.blocks f → Lays bytes old.schema blocks (with_more old.schema f row))
     → ((rows : List Row) → Tallies old.schema old.tally rows → Tallies old.schema tally (rows ++ row ∷ []))
     → (rows : List Row) → HasTaken bytes old rows → HasTaken bytes (record old { blocks = blocks; tally = tally }) (rows ++ row ∷ [])
-one_more bytes old blocks tally row next lay add rows h =
+one_more bytes old blocks tally row next amounts lay add rows h =
     let known = next.1 in
     let may = next.2 in
     record {
       laid = subst (Lays bytes old.schema blocks) (sym (filled_more old.schema nothing_filled rows row)) (lay (spread old.schema rows) h.laid);
       tallied = add rows h.tallied;
-      good = each_more (IsRow old.schema) rows row h.good may.form;
+      good = each_more (IsRow old.schema) rows row h.good (record { form = may.form; amounts = amounts });
       rise = rise_alike next.0 rows row (sym known.tallied.rows ∙ h.tallied.rows) (sym known.tallied.last ∙ h.tallied.last) h.rise may.greater;
     }
 

@@ -1,13 +1,17 @@
 -- Where a search may begin.
-use Rattle.std.specs.Prelude.{◌≡◌, ℕ, ◌<◌, ◌≤◌, List, ◌∷◌, ◌++◌, length, map, true}
+use Rattle.std.specs.Prelude.{◌≡◌, ℕ, ◌+◌, ◌<◌, ◌≤◌, List, [], ◌∷◌, ◌++◌, length, map, get_or, IsTrue, true}
 use Rattle.std.specs.List.{AllByRecursion}
 use Rattle.std.specs.Ordering.{is_le}
 use Rattle.mesa_key.specs.Order.{byte_cmp, short_key}
 use Rattle.mesa_schema.specs.declared.rows.Row.{Row}
+use Rattle.mesa_schema.specs.Columns.{Columns}
 use Rattle.mesa_schema.specs.Folded.{rows_of}
-use Rattle.mesa_block.specs.Rows.{Rise}
+use Rattle.mesa_schema.specs.Schema.{is_schema}
+use Rattle.mesa_block.specs.Rows.{IsRow, Rise}
 use Rattle.mesa_block.specs.Spelling.{key_of}
 use Rattle.mesa_delta.specs.Seeking.{seek_in}
+use Rattle.mesa_delta.specs.Spread.{blocks_of}
+use Rattle.mesa_delta.specs.Summary.{last_key}
 use Rattle.mesa_delta.specs.Tail.{first_key}
 
 -- the short key of a block's first key
@@ -22,3 +26,16 @@ abbrev pub BeginsBefore : Type 0
 BeginsBefore = (key : List ℕ) (before : List (List Row)) (front : List Row) (row : Row) (back : List Row) (behind : List (List Row))
     → Rise (map key_of (rows_of (before ++ (front ++ row ∷ back) ∷ behind))) → AllByRecursion IsSome behind → is_le (byte_cmp key row.key) ≡ true
     → seek_in (short_key key) (map first_short (before ++ (front ++ row ∷ back) ∷ behind)) ≤ length before
+
+-- The short keys between which the blocks of a file lie: those of the blocks' first keys, and behind them that of the last key of all.
+abbrev pub bounds_of : Columns → List Row → List (List ℕ)
+bounds_of s rows = map first_short (blocks_of s rows) ++ short_key (last_key rows) ∷ []
+
+-- A row's short key lies between two others, and may be one of them.
+abbrev pub LiesBetween : List ℕ → List ℕ → Row → Type 0
+LiesBetween low high row = (is_le (byte_cmp low (short_key row.key)) ≡ true) × (is_le (byte_cmp (short_key row.key) high) ≡ true)
+
+-- In a file the short key of each row of a block lies between that of the block's first key and that of the next block's, or of the last key of all.
+abbrev pub KeysBetween : Type 0
+KeysBetween = (s : Columns) (rows : List Row) (i : ℕ) → IsTrue (is_schema s) → 0 < length rows → AllByRecursion (IsRow s) rows → Rise (map key_of rows)
+    → AllByRecursion (LiesBetween (get_or (bounds_of s rows) i []) (get_or (bounds_of s rows) (i + 1) [])) (get_or (blocks_of s rows) i [])

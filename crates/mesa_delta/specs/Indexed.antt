@@ -1,12 +1,13 @@
 -- What is known of a file once its tail was read.
 use Rattle.std.specs.Prelude.{◌≡◌, ℕ, ◌+◌, ◌*◌, ◌^◌, ◌<◌, List, length, IsTrue}
+use Rattle.mesa_key.specs.Order.{short_key}
 use Rattle.mesa_schema.specs.Columns.{Columns}
 use Rattle.mesa_schema.specs.Schema.{is_schema}
 use Rattle.mesa_file.specs.declared.file_ref.FileRef.{FileRef}
 use Rattle.mesa_delta.specs.declared.place.Entry.{Entry}
 use Rattle.mesa_delta.specs.Places.{IsTail, tail_spelled}
 
--- A file's id, its rows' columns, how long it is, where its tail begins, how many rows it has, and its blocks' entries.
+-- A file's id, its rows' columns, how long it is, where its tail begins, how many rows it has, its blocks' entries, and the short key of its last key.
 pub record Indexed : Type 0 where
   pub file : ℕ
   pub columns : Columns
@@ -14,6 +15,7 @@ pub record Indexed : Type 0 where
   pub tail : ℕ
   pub rows : ℕ
   pub entries : List Entry
+  pub last : List ℕ
 
 -- how long a tail is, by the count of blocks
 abbrev pub tail_length : Columns → ℕ → ℕ
@@ -28,11 +30,12 @@ pub record IsIndex (x : Indexed) : Type 0 where
   pub fits : x.len < 2 ^ 64
   pub whole : x.tail + tail_length x.columns (length x.entries) ≡ x.len
 
--- An index is of the file of this reference, whose tail has these bytes.
+-- An index is of the file of this reference, whose tail has these bytes. Only the reference tells the last key.
 pub record IsIndexOf (file : FileRef) (s : Columns) (bytes : List ℕ) (x : Indexed) : Type 0 where
   pub id : x.file ≡ file.id
   pub columns : x.columns ≡ s
   pub len : x.len ≡ file.len
   pub blocks : length x.entries ≡ file.blocks
   pub spelled : bytes ≡ tail_spelled x.columns x.rows x.entries
+  pub last : x.last ≡ short_key file.last
   pub index : IsIndex x

@@ -42,6 +42,7 @@ pub record IsIndexed (x : Indexed) (rows : List Row) (bytes : List ℕ) : Type 0
   pub file : IsFile x.columns rows bytes
   pub over : IsOver x bytes
   pub blocks : length (blocks_of x.columns rows) ≡ length x.entries
+  pub last : x.last ≡ short_key (last_key rows)
 
 -- where the tail of a file of this reference begins
 abbrev pub tail_place : Columns → FileRef → ℕ

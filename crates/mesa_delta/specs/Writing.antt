@@ -3,6 +3,7 @@ use Rattle.std.specs.Prelude.{ℕ, ◌<◌, List, [], ◌∷◌, ◌++◌, lengt
 use Rattle.std.specs.List.{AllByRecursion}
 use Rattle.mesa_schema.specs.declared.rows.Row.{Row}
 use Rattle.mesa_schema.specs.Columns.{Columns, aggs_of}
+use Rattle.mesa_schema.specs.Rows.{IsRowOf}
 use Rattle.mesa_block.specs.Rows.{IsRow, Rise}
 use Rattle.mesa_block.specs.Spelling.{key_of}
 use Rattle.mesa_delta.specs.Spread.{spread}
@@ -23,7 +24,7 @@ draft_of w = w.blocks.draft
 
 -- A row may follow others: it has the columns' form, its key is greater than theirs, and each sum over all of them is a number of 64 bits.
 pub record MayFollow (s : Columns) (rows : List Row) (row : Row) : Type 0 where
-  pub form : IsRow s row
+  pub form : IsRowOf s row
   pub greater : Rise (map key_of (rows ++ row ∷ []))
   pub sums : 0 < length rows → AllCombine (aggs_of s) (aggregates (aggs_of s) rows) row.values
 

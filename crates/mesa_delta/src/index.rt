@@ -13,12 +13,13 @@ use crate::seeking::seek;
 use crate::tail::put_foot;
 use byteorder::{BigEndian, ByteOrder};
 use mesa_disk::{FileId, FileRef};
+use mesa_key::short;
 use mesa_list::{Items, TryCopy};
 use mesa_schema::Schema;
 use std::alloc::{AllocError, Global};
 use std::marker::Model;
 
-/// A file as its tail tells it: where each block is, its length, its digest, and the short key of its first key.
+/// A file as its tail and its reference tell it: where each block is, its length, its digest, the short key of its first key, and that of the file's last key.
 #[derive(Drop)]
 pub struct Index {
     file: FileId,
@@ -27,6 +28,7 @@ pub struct Index {
     tail: u64,
     rows: u64,
     entries: Items<Entry>,
+    last: [u8; 16],
 }
 
 impl Model for Index {
@@ -34,14 +36,14 @@ impl Model for Index {
 
     ghost Value = { Indexed };
 
-    ghost view = { λ x. record { file = x.file; columns = x.schema; len = x.len; tail = x.tail; rows = x.rows; entries = x.entries } };
+    ghost view = { λ x. record { file = x.file; columns = x.schema; len = x.len; tail = x.tail; rows = x.rows; entries = x.entries; last = x.last } };
 
-    ghost invariant = { λ x. IsIndex (record { file = x.file; columns = x.schema; len = x.len; tail = x.tail; rows = x.rows; entries = x.entries }) };
+    ghost invariant = { λ x. IsIndex (record { file = x.file; columns = x.schema; len = x.len; tail = x.tail; rows = x.rows; entries = x.entries; last = x.last }) };
 }
 
 impl Index {
     /// The index whose tail these bytes are, if they are the tail of a file of the reference.
-    pub fn read(
+    pub(crate) fn read(
         alloc: Global,
         file: &FileRef,
         schema: &Schema,
@@ -81,6 +83,7 @@ impl Index {
             tail,
             rows,
             entries: Items::from_vec(entries),
+            last: short(file.last.as_slice()),
         }))
     }
 
@@ -120,8 +123,23 @@ impl Index {
         self.entries.len() as u32
     }
 
+    /// The short key of a block's first key.
+    pub fn short(&self, i: u32) -> &[u8; 16]
+        requires { i < length self.now.entries }
+        ensures { result.now ≡ (entry_of self.now.entries i).short }
+    {
+        &self.entries.as_slice()[i as usize].short
+    }
+
+    /// The short key of the file's last key.
+    pub fn last(&self) -> &[u8; 16]
+        ensures { result.now ≡ self.now.last }
+    {
+        &self.last
+    }
+
     /// A block's entry.
-    pub fn entry(&self, i: u32) -> Entry
+    pub(crate) fn entry(&self, i: u32) -> Entry
         requires { i < length self.now.entries }
         ensures entry { result ≡ entry_of self.now.entries i }
         ensures index { IsIndex self.now }
@@ -138,7 +156,7 @@ impl Index {
     }
 
     /// The allocator that the index came from.
-    pub fn allocator(&self) -> Global {
+    pub(crate) fn allocator(&self) -> Global {
         self.entries.allocator()
     }
 }

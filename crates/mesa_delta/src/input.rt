@@ -7,6 +7,7 @@ use std::sync::Arc;
 ///
 /// The rows have the columns of this epoch, and are lifted to the present ones. A view's file has the view's
 /// columns alone, and epoch 0.
+#[derive(Drop)]
 pub struct Input<R> {
     pub reader: DeltaReader<R>,
     pub evolving: Arc<Evolving>,

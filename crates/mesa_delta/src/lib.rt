@@ -18,6 +18,6 @@ mod writer;
 pub use error::{FileError, WriteError};
 pub use index::Index;
 pub use input::Input;
-pub use laws::begins_before;
+pub use laws::{begins_before, keys_between, one_file, one_row_more};
 pub use reader::DeltaReader;
 pub use writer::DeltaWriter;

@@ -30,6 +30,7 @@ use mesa_schema::{Row, Schema};
 use std::alloc::{AllocError, Global};
 
 /// A file that is read block by block. The tail was read once, and a block is read by one read.
+#[derive(Drop)]
 pub struct DeltaReader<R> {
     pub(crate) reader: R,
     pub(crate) index: Index,
@@ -215,6 +216,8 @@ impl<R: FileReader> DeltaReader<R> {
 
         // Read comes where the count of faults rose, and Damaged where the file isn't the recorded one.
         ensures cause { IfErr result (λ e. (R.faults reader ≤ R.faults e.1) × (e.0 ≡ file_error.Read → Rose (R.faults reader) (R.faults e.1))) }
+        ensures quiet { IfOk result (λ r. R.faults (reader_of r) ≡ R.faults reader) }
+        ensures other { IfErr result (λ e. e.0 ≢ file_error.Read → R.faults e.1 ≡ R.faults reader) }
         ensures damaged { IfErr result (λ e. (d : AnyDamage) → e.0 ≡ file_error.Damaged d → IsTailDamage (R.bytes reader) (R.size reader) schema.now file.now d) }
         ensures accepts { IfErr result (λ e. (d : AnyDamage) → e.0 ≡ file_error.Damaged d → (b : List ℕ) (rows : List AnyRow) → R.bytes reader ≡ Some b → IsFile schema.now rows b
             → IsReferenceOf schema.now file.now.id rows file.now → ⊥) }
@@ -233,6 +236,13 @@ impl<R: FileReader> DeltaReader<R> {
             }),
             Err(error) => Err((error, reader)),
         }
+    }
+
+    /// What is known of the file.
+    pub fn index(&self) -> &Index
+        ensures { result.now ≡ index_of self.now }
+    {
+        &self.index
     }
 
     /// How many blocks the file has.

@@ -1,13 +1,13 @@
 // What is known of the rows that were written, beside their bytes.
-ghost use Rattle.std.specs.Prelude.{◌≡◌, ◌<◌, List, [], ◌∷◌, ◌++◌, length, map, OnOk};
+ghost use Rattle.std.specs.Prelude.{◌≡◌, ◌<◌, ◌↔◌, List, [], ◌∷◌, ◌++◌, length, map, IsTrue, OnOk};
 ghost use Rattle.mesa_schema.specs.declared.rows.Row.{Row as AnyRow};
 ghost use Rattle.mesa_schema.specs.Columns.{aggs_of};
-ghost use Rattle.mesa_delta.specs.Summary.{AllCombine, all_noted, noted as noted_value};
+ghost use Rattle.mesa_delta.specs.Summary.{AllCombine, aggregates, all_noted, noted as noted_value};
 ghost use Rattle.mesa_delta.specs.Totals.{added};
 ghost use Rattle.mesa_delta.specs.Tallies.{Tallies};
 
 use mesa_schema::{Row, Schema, ValueColumn};
-use mesa_value::{Agg, Amount, combine};
+use mesa_value::{Agg, Amount, combine, combines};
 use std::alloc::{AllocError, Global};
 
 /// How many rows there are, their first and last key, and for each value column its aggregate.
@@ -33,6 +33,16 @@ impl Tally {
             last: Vec::new(alloc),
             totals: Vec::new(alloc),
         }
+    }
+
+    /// Whether the row's values combine with the aggregates.
+    pub fn allows(&self, schema: &Schema, row: &Row) -> bool
+        ensures { (rows : List AnyRow) → Tallies schema.now self.now rows → IsTrue result ↔ (0 < length rows → AllCombine (aggs_of schema.now) (aggregates (aggs_of schema.now) rows) row.now.values) }
+    {
+        if self.rows == 0 {
+            return true;
+        }
+        all_combine(schema.values(), &self.totals, row.values.as_slice())
     }
 
     /// One row more. More rows than can be counted are answered as want of memory.
@@ -113,6 +123,19 @@ fn put_noted(
         totals.push(noted(columns[i].agg, values[i]))?;
     }
     Ok(())
+}
+
+// Whether each column's aggregate combines with the row's value.
+fn all_combine(columns: &[ValueColumn], totals: &[Amount], values: &[Amount]) -> bool
+    ensures { IsTrue result ↔ AllCombine (map (λ c. c.agg) columns.now) totals.now values.now }
+{
+    let count = columns.len().min(totals.len()).min(values.len());
+    for i in 0..count {
+        if !combines(columns[i].agg, totals[i], values[i]) {
+            return false;
+        }
+    }
+    true
 }
 
 // The aggregates of one row more.

@@ -1,10 +1,15 @@
 // Writing a file.
-ghost use Rattle.std.specs.Prelude.{◌≡◌, ◌<◌, ◌≤◌, ◌+◌, ℕ, List, [], ◌∷◌, ◌++◌, length, map, IfOk, OnOk, IfErr, Some};
+ghost use Rattle.std.specs.Prelude.{◌≡◌, ◌≢◌, ◌<◌, ◌≤◌, ◌+◌, ◌↔◌, ℕ, List, [], ◌∷◌, ◌++◌, length, map, IfOk, OnOk, IfErr, IsTrue, Some};
 ghost use Rattle.mesa_fault.specs.Causes.{HasFaultCause, Rose};
+ghost use Rattle.std.specs.List.{AllByRecursion};
+ghost use Rattle.mesa_value.specs.Agg.{IsAmount};
 ghost use Rattle.mesa_schema.specs.declared.rows.Row.{Row as AnyRow};
+ghost use Rattle.mesa_schema.specs.Columns.{aggs_of};
+ghost use Rattle.mesa_block.specs.Rows.{IsRow, Rise};
+ghost use Rattle.mesa_block.specs.Spelling.{key_of};
 ghost use Rattle.mesa_delta.specs.declared.error.WriteError.TheVariants.{Draft as DraftFault};
 ghost use Rattle.mesa_delta.specs.File.{IsFile};
-ghost use Rattle.mesa_delta.specs.Summary.{IsReferenceOf};
+ghost use Rattle.mesa_delta.specs.Summary.{AllCombine, IsReferenceOf, aggregates};
 ghost use Rattle.mesa_delta.specs.Writing.{HasTaken, IsNext, columns_of, id_of, draft_of};
 
 use crate::WriteError;
@@ -14,6 +19,7 @@ use mesa_block::BlockBuilder;
 use mesa_disk::{Draft, FileId, FileRef, Made};
 use mesa_list::{Items, TryCopy};
 use mesa_schema::{Row, Schema};
+use mesa_value::Amount;
 use std::alloc::{AllocError, Global};
 use std::marker::PhantomData;
 
@@ -66,6 +72,19 @@ impl<M: Made, T: Draft<M>> DeltaWriter<M, T> {
         })
     }
 
+    /// Whether the sums over the rows so far and the row are numbers of 64 bits.
+    pub fn allows(&self, row: &Row) -> bool
+        ensures { (rows : List AnyRow) → HasTaken T.bytes self.now rows
+            → IsTrue result ↔ (0 < length rows → AllCombine (aggs_of (columns_of self.now)) (aggregates (aggs_of (columns_of self.now)) rows) row.now.values) }
+    {
+        self.tally.allows(&self.schema, row)
+    }
+
+    /// The rows so far have the columns' form, and their keys rise.
+    pub fn held(&self)
+        ensures { (rows : List AnyRow) → HasTaken T.bytes self.now rows → AllByRecursion (IsRow (columns_of self.now)) rows × Rise (map key_of rows) }
+    {}
+
     /// One row more.
     pub fn push(&mut self, row: &Row) -> Result<(), WriteError>
         requires { IsNext T.bytes self.old row.now }
@@ -75,6 +94,7 @@ impl<M: Made, T: Draft<M>> DeltaWriter<M, T> {
         ensures draft { T.id_of (draft_of self.new) ≡ T.id_of (draft_of self.old) }
         ensures cause { HasFaultCause (λ e. e ≡ DraftFault) (T.faults (draft_of self.old)) (T.faults (draft_of self.new)) result }
     {
+        are_amounts(row.values.as_slice());
         self.tally.add(&self.schema, row)?;
         self.blocks.push(&self.schema, row)?;
         Ok(())
@@ -88,6 +108,7 @@ impl<M: Made, T: Draft<M>> DeltaWriter<M, T> {
         ensures id { IfOk result (λ x. M.id_of x.0 ≡ T.id_of (draft_of self)) }
         ensures given_back { IfErr result (λ e. T.id_of e.1 ≡ T.id_of (draft_of self)) }
         ensures cause { IfErr result (λ e. (T.faults (draft_of self) ≤ T.faults e.1) × (e.0 ≡ DraftFault → Rose (T.faults (draft_of self)) (T.faults e.1))) }
+        ensures quiet { IfErr result (λ e. e.0 ≢ DraftFault → T.faults e.1 ≡ T.faults (draft_of self)) }
     {
         let DeltaWriter {
             mut blocks,
@@ -117,6 +138,15 @@ impl<M: Made, T: Draft<M>> DeltaWriter<M, T> {
             tally: _tally,
         } = self;
         blocks.into_draft()
+    }
+}
+
+// What a row has as values are numbers of 64 bits: each that is read is one.
+fn are_amounts(values: &[Amount])
+    ensures { AllByRecursion IsAmount values.now }
+{
+    for value in values {
+        let _amount = *value;
     }
 }
 

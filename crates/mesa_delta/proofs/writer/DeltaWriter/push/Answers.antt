@@ -1,8 +1,11 @@
 use Rattle.mesa_delta.proofs.Taking.{may_push, one_more}
 use Rattle.mesa_delta.proofs.writer.DeltaWriter.push.Goals as goal
 
+pub push-requires-clause-form : goal.push-requires-clause-form
+push-requires-clause-form g c κs within = record { form = c.requires.2.form; amounts = rw c.as_slice.ensures at c.are_amounts.ensures }
+
 pub push-requires-clause-greater : goal.push-requires-clause-greater
 push-requires-clause-greater g c κs within = may_push g.T.Draft.bytes c.args.self.now c.args.row.now c.requires
 
 pub returns-clause-taken : goal.returns-clause-taken
-returns-clause-taken g c = one_more g.T.Draft.bytes c.args.self.now _ _ c.args.row.now c.requires c.in_ok-push.ensures.laid c.in_ok-add.ensures
+returns-clause-taken g c = one_more g.T.Draft.bytes c.args.self.now _ _ c.args.row.now c.requires (rw c.as_slice.ensures at c.are_amounts.ensures) c.in_ok-push.ensures.laid c.in_ok-add.ensures
