@@ -14,7 +14,8 @@ use Rattle.mesa_file.specs.declared.file_ref.FileRef.{FileRef}
 use Rattle.mesa_delta.specs.Indexed.{IsIndexOf, tail_length}
 use Rattle.mesa_delta.specs.Places.{spelled, Follow, HasWidths, shorts_of, tail_spelled}
 use Rattle.mesa_delta.specs.Seeking.{NeverFall}
-use Rattle.mesa_delta.specs.Tail.{foot, kind_byte, agg_byte, magic}
+use Rattle.mesa_schema.specs.Codes.{agg_byte, kind_byte}
+use Rattle.mesa_delta.specs.Tail.{foot, magic}
 use Rattle.mesa_delta.proofs.Adding.{agg_of, kind_of}
 use Rattle.mesa_delta.proofs.Entering.{follow_le}
 

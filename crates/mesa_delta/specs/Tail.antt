@@ -2,12 +2,9 @@
 use Rattle.std.specs.Prelude.{ℕ, ◌+◌, List, [], ◌∷◌, ◌++◌, length, map}
 use Rattle.std.specs.Int.{w32, w64, to_be_bytes}
 use Rattle.sha2.specs.Sha256.{sha256}
-use Rattle.mesa_value.specs.declared.Agg.{Agg}
-use Rattle.mesa_value.specs.declared.Agg.TheVariants as agg
-use Rattle.mesa_key.specs.declared.KeyType.{KeyType}
-use Rattle.mesa_key.specs.declared.KeyType.TheVariants as kind
 use Rattle.mesa_key.specs.Order.{short_key}
 use Rattle.mesa_schema.specs.declared.rows.Row.{Row}
+use Rattle.mesa_schema.specs.Codes.{agg_byte, kind_byte}
 use Rattle.mesa_schema.specs.Columns.{Columns, kinds_of, aggs_of}
 use Rattle.mesa_block.specs.Spelling.{block}
 
@@ -24,18 +21,6 @@ entry short offset bytes = short ++ (to_be_bytes w64 offset ++ (to_be_bytes w32 
 abbrev pub entries : Columns → ℕ → List (List Row) → List ℕ
 entries s offset [] = []
 entries s offset (rows ∷ blocks) = entry (short_key (first_key rows)) offset (block s rows) ++ entries s (offset + length (block s rows)) blocks
-
--- A key column's byte.
-abbrev pub kind_byte : KeyType → ℕ
-kind_byte kind.Int = 0
-kind_byte kind.Text = 1
-
--- A value column's byte.
-abbrev pub agg_byte : Agg → ℕ
-agg_byte agg.Sum = 0
-agg_byte agg.Min = 1
-agg_byte agg.Max = 2
-agg_byte agg.Replace = 3
 
 -- The last eight bytes of a file are `MESADLT1`.
 abbrev pub magic : List ℕ

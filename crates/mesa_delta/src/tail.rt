@@ -1,12 +1,11 @@
 // The bytes of a file's tail.
 ghost use Rattle.std.specs.Prelude.{◌≡◌, ◌<◌, ◌^◌, ◌++◌, length, map, OnOk};
 ghost use Rattle.std.specs.Int.{w32, w64, to_be_bytes};
-ghost use Rattle.mesa_delta.specs.Tail.{entry, foot, kind_byte, agg_byte};
+ghost use Rattle.mesa_schema.specs.Codes.{agg_byte as byte_of_agg, kind_byte as byte_of_kind};
+ghost use Rattle.mesa_delta.specs.Tail.{entry, foot};
 
 use byteorder::{BigEndian, ByteOrder};
-use mesa_key::KeyType;
-use mesa_schema::{KeyColumn, Schema, ValueColumn};
-use mesa_value::Agg;
+use mesa_schema::{KeyColumn, Schema, ValueColumn, agg_byte, kind_byte};
 use sha2::{Digest, Sha256};
 use std::alloc::AllocError;
 
@@ -47,42 +46,22 @@ pub fn put_entry(
     Ok(())
 }
 
-fn kind_of(kind: KeyType) -> u8
-    ensures { result ≡ kind_byte kind }
-{
-    match kind {
-        KeyType::Int => 0,
-        KeyType::Text => 1,
-    }
-}
-
-fn agg_of(agg: Agg) -> u8
-    ensures { result ≡ agg_byte agg }
-{
-    match agg {
-        Agg::Sum => 0,
-        Agg::Min => 1,
-        Agg::Max => 2,
-        Agg::Replace => 3,
-    }
-}
-
 // Appends a byte for each key column.
 fn put_kinds(out: &mut Vec<u8>, columns: &[KeyColumn]) -> Result<(), AllocError>
-    ensures { OnOk result (out.new.items ≡ out.old.items ++ map kind_byte (map (λ c. c.kind) columns.now)) }
+    ensures { OnOk result (out.new.items ≡ out.old.items ++ map byte_of_kind (map (λ c. c.kind) columns.now)) }
 {
     for column in columns {
-        out.push(kind_of(column.kind))?;
+        out.push(kind_byte(column.kind))?;
     }
     Ok(())
 }
 
 // Appends a byte for each value column.
 fn put_aggs(out: &mut Vec<u8>, columns: &[ValueColumn]) -> Result<(), AllocError>
-    ensures { OnOk result (out.new.items ≡ out.old.items ++ map agg_byte (map (λ c. c.agg) columns.now)) }
+    ensures { OnOk result (out.new.items ≡ out.old.items ++ map byte_of_agg (map (λ c. c.agg) columns.now)) }
 {
     for column in columns {
-        out.push(agg_of(column.agg))?;
+        out.push(agg_byte(column.agg))?;
     }
     Ok(())
 }
