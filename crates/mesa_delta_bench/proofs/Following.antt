@@ -42,6 +42,16 @@ Orders = (types : List KeyType) (a b : List KeyValue) → IsKey types a → IsKe
 abbrev pub Reads : Type 0
 Reads = (types : List KeyType) (key : List KeyValue) (more : List ℕ) → IsKey types key → key_read types (key_spelling key ++ more) ≡ key
 
+-- the laws of one row more that this rests on
+abbrev pub Lasts : Type 0
+Lasts = (rows : List Row) (row : Row) → last_key (rows ++ row ∷ []) ≡ row.key
+
+abbrev pub Rises : Type 0
+Rises = (rows : List Row) (row : Row) → 0 < length rows → Rise (map key_of rows) → byte_cmp (last_key rows) row.key ≡ Less → Rise (map key_of (rows ++ row ∷ []))
+
+abbrev pub CombinesOn : Type 0
+CombinesOn = (aggs : List Agg) (rows : List Row) (row : Row) → 0 < length rows → all_combined aggs (map values_of (rows ++ row ∷ [])) ≡ row_combined aggs (all_combined aggs (map values_of rows)) row.values
+
 small : (n : ℕ) → n < 2 ^ 32 → FitsSigned w64 (pos n)
 small n h = omega (arith, int_rules)
 
@@ -66,26 +76,6 @@ next_place i = elim (cases_order (i / 10000) ((i + 1) / 10000)) [ inl same ↦ i
 key_rises : Orders → (i : ℕ) → i + 1 < 2 ^ 32 → byte_cmp (row_at i).key (row_at (i + 1)).key ≡ Less
 key_rises orders i h = orders ints (key_at i) (key_at (i + 1)) (is_key i (omega arith)) (is_key (i + 1) h) ∙ less_pair _ _ _ _ (next_place i)
 
-last_key-push : (rows : List Row) (row : Row) → last_key (rows ++ row ∷ []) ≡ row.key
-last_key-push [] row = refl
-last_key-push (a ∷ []) row = refl
-last_key-push (a ∷ b ∷ rows) row = last_key-push (b ∷ rows) row
-
-rise_more : (rows : List Row) (row : Row) → 0 < length rows → Rise (map key_of rows) → byte_cmp (last_key rows) row.key ≡ Less → Rise (map key_of (rows ++ row ∷ []))
-rise_more [] row some h less = absurd (omega arith)
-rise_more (a ∷ []) row some h less = (less, tt)
-rise_more (a ∷ b ∷ rows) row some h less = (h.0, rise_more (b ∷ rows) row (omega arith) h.1 less)
-
-combined_more : (aggs : List Agg) (first : List ℤ) (rest : List (List ℤ)) (more : List ℤ) → combined_from aggs first (rest ++ more ∷ []) ≡ row_combined aggs (combined_from aggs first rest) more
-combined_more aggs first [] more = refl
-combined_more aggs first (x ∷ rest) more = combined_more aggs (row_combined aggs first x) rest more
-
-combined_rows : (aggs : List Agg) (rows : List Row) (row : Row) → 0 < length rows → all_combined aggs (map values_of (rows ++ row ∷ [])) ≡ row_combined aggs (all_combined aggs (map values_of rows)) row.values
-combined_rows aggs [] row some = absurd (omega arith)
-combined_rows aggs (x ∷ rows) row some =
-    ap (combined_from aggs x.values) (map-append values_of rows (row ∷ []))
-    ∙ combined_more aggs x.values (map values_of rows) row.values
-
 some_below : (n : ℕ) → 0 < length (rows_below (suc n))
 unfolding rows_below
 some_below n = omega (arith, length-append (rows_below n) (row_at n ∷ []))
@@ -97,31 +87,31 @@ record Combined (n : ℕ) : Type 0 where
   few : sum ≤ n * 999
   all : all_combined sum_and_max (map values_of (rows_below n)) ≡ pos sum ∷ peak ∷ []
 
-combined_below : (n : ℕ) → Combined (suc n)
+combined_below : CombinesOn → (n : ℕ) → Combined (suc n)
 unfolding rows_below
-combined_below zero = record { sum = 0; peak = pos 0; few = omega arith; all = refl }
-combined_below (suc n) =
-    let before = combined_below n in
+combined_below combines zero = record { sum = 0; peak = pos 0; few = omega arith; all = refl }
+combined_below combines (suc n) =
+    let before = combined_below combines n in
     let i = suc n in
     record {
       sum = before.sum + i % 1000;
       peak = int_max before.peak (pos (i % 997));
       few = omega (arith, before.few);
-      all = combined_rows sum_and_max (rows_below i) (row_at i) (some_below n) ∙ ap (λ (l : List ℤ). row_combined sum_and_max l (row_at i).values) before.all;
+      all = combines sum_and_max (rows_below i) (row_at i) (some_below n) ∙ ap (λ (l : List ℤ). row_combined sum_and_max l (row_at i).values) before.all;
     }
 
-sums_fit : (n : ℕ) → n < 2 ^ 32 → 0 < length (rows_below n) → AllCombine sum_and_max (aggregates sum_and_max (rows_below n)) (row_at n).values
+sums_fit : CombinesOn → (n : ℕ) → n < 2 ^ 32 → 0 < length (rows_below n) → AllCombine sum_and_max (aggregates sum_and_max (rows_below n)) (row_at n).values
 unfolding rows_below
-sums_fit zero h some = absurd (omega arith)
-sums_fit (suc n) h some =
-    let x = combined_below n in
+sums_fit combines zero h some = absurd (omega arith)
+sums_fit combines (suc n) h some =
+    let x = combined_below combines n in
     subst (λ (l : List ℤ). AllCombine sum_and_max (all_noted sum_and_max l) (row_at (suc n)).values) (sym x.all) (small_sum x.sum (suc n % 1000) (omega (arith, x.few)), (tt, tt))
 
-rises : Orders → (n : ℕ) → n < 2 ^ 32 → Rise (map key_of (rows_below n)) → Rise (map key_of (rows_below n ++ row_at n ∷ []))
+rises : Orders → Lasts → Rises → (n : ℕ) → n < 2 ^ 32 → Rise (map key_of (rows_below n)) → Rise (map key_of (rows_below n ++ row_at n ∷ []))
 unfolding rows_below
-rises orders zero h rise = tt
-rises orders (suc n) h rise =
-    rise_more (rows_below (suc n)) (row_at (suc n)) (some_below n) rise (ap (λ (k : List ℕ). byte_cmp k (row_at (suc n)).key) (last_key-push (rows_below n) (row_at n)) ∙ subst (λ (k : ℕ). byte_cmp (row_at n).key (row_at k).key ≡ Less) (add-one n) (key_rises orders n (omega arith)))
+rises orders lasts on zero h rise = tt
+rises orders lasts on (suc n) h rise =
+    on (rows_below (suc n)) (row_at (suc n)) (some_below n) rise (ap (λ (k : List ℕ). byte_cmp k (row_at (suc n)).key) (lasts (rows_below n) (row_at n)) ∙ subst (λ (k : ℕ). byte_cmp (row_at n).key (row_at k).key ≡ Less) (add-one n) (key_rises orders n (omega arith)))
 
 abbrev agg_of : ValueColumn → Agg
 agg_of c = c.agg
@@ -141,11 +131,11 @@ is_row reads s i has h =
       amounts = (small (i % 1000) (omega arith), (small (i % 997) (omega arith), tt));
     }
 
-pub may_follow : Orders → Reads → (s : Columns) (i : ℕ) → HasColumns s → i < 2 ^ 32 → Rise (map key_of (rows_below i)) → MayFollow s (rows_below i) (row_at i)
-may_follow orders reads s i has h rise = record {
-  form = is_row reads s i has h;
-  greater = rises orders i h rise;
-  sums = λ some. subst (λ (aggs : List Agg). AllCombine aggs (aggregates aggs (rows_below i)) (row_at i).values) (sym has.aggs) (sums_fit i h some);
+pub may_follow : Orders → Reads → Lasts → Rises → CombinesOn → (s : Columns) (i : ℕ) → HasColumns s → i < 2 ^ 32 → Rise (map key_of (rows_below i)) → MayFollow s (rows_below i) (row_at i)
+may_follow orders reads lasts on combines s i has h rise = record {
+  form = (is_row reads s i has h).form;
+  greater = rises orders lasts on i h rise;
+  sums = λ some. subst (λ (aggs : List Agg). AllCombine aggs (aggregates aggs (rows_below i)) (row_at i).values) (sym has.aggs) (sums_fit combines i h some);
 }
 
 pub next_row : {M T : Type 0} (bytes : T → Option (List ℕ)) (w : DeltaWriter M T) (i : ℕ) → ((s : Columns) (i : ℕ) → HasColumns s → i < 2 ^ 32 → Rise (map key_of (rows_below i)) → MayFollow s (rows_below i) (row_at i))

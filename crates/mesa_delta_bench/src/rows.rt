@@ -7,6 +7,7 @@ ghost use Rattle.mesa_delta.specs.Writing.{MayFollow};
 ghost use Rattle.mesa_delta_bench.specs.Made.{HasColumns, row_at, rows_below};
 
 use anyhow::{Result, anyhow};
+use mesa_delta::one_row_more;
 use mesa_key::{KeyType, encode_int, orders_bytes_as_keys, reads_back};
 use mesa_list::Items;
 use mesa_schema::{KeyColumn, Name, Row, Schema, ValueColumn};
@@ -86,4 +87,5 @@ pub fn rows_follow()
 {
     orders_bytes_as_keys();
     reads_back();
+    one_row_more();
 }
