@@ -1,9 +1,11 @@
 -- Which faults a turn may meet: histories that keep the rules on faults, and ones that break a single rule.
-use Rattle.std.proofs.Common.{◌≡◌, ℕ, List, [], ◌∷◌, ◌++◌, false, Some, None, refl}
+use Rattle.std.proofs.Common.{◌≡◌, ℕ, ◌^◌, List, [], ◌∷◌, ◌++◌, false, Some, None, arith, refl}
 use Rattle.std.specs.Prelude.{codes}
 use Rattle.mesa_model.specs.declared.entries.Entry.{Entry}
 use Rattle.mesa_model.specs.declared.entries.Kind.TheVariants.{Look, Decide, Close, Grant, Renew}
 use Rattle.mesa_model.specs.declared.entries.Outcome.TheVariants as outcome
+use Rattle.mesa_file.specs.declared.damage.Seen.TheVariants as seen
+use Rattle.mesa_output.specs.Output.{IsDamage}
 use Rattle.mesa_rows.specs.Rows.{broken_rule, ByOutcome, Reading, Writing, Closed, stands, ends}
 use Rattle.mesa_rows.proofs.OnLiterals.{on_literals}
 
@@ -255,3 +257,17 @@ memory_behind_closing = refl
 load_behind_closing : broken_rule closed-script (until_closed ++ (stands 1 1 Close 3 ∷ stands 2 2 Look 3 ∷ ends 2 2 Decide outcome.Memory 3 ∷ [])) false ≡ Some Closed
 unfolding on_literals
 load_behind_closing = refl
+
+-- ---- damage
+
+-- A file's id of more than 64 bits can't be told.
+long_id : IsDamage (record { file = 2 ^ 64; place = 0; want = seen.Fits; found = seen.Absent }) → ⊥
+long_id told = omega (arith, told.file)
+
+-- Nor can a digest that isn't of 32 bytes.
+short_digest : IsDamage (record { file = 0; place = 0; want = seen.Digest (1 ∷ 2 ∷ []); found = seen.Absent }) → ⊥
+short_digest told = omega (arith, told.want.0)
+
+-- Nor that what was wanted was found.
+nothing_damaged : IsDamage (record { file = 0; place = 0; want = seen.Fits; found = seen.Fits }) → ⊥
+nothing_damaged told = told.differ refl
