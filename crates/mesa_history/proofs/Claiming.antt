@@ -1,7 +1,7 @@
 -- A claim stays while its lease does, whatever the range machine does.
 use Rattle.std.proofs.Common.{◌≡◌, ◌⊎◌, inl, inr, ⊎_elim, ℕ, zero, suc, ◌+◌, ◌<◌, ◌≤◌, List, [], ◌∷◌, ◌++◌, length, Bool, true, false, if◌then◌else◌, not, ◌&&◌, ◌==◌, nat_lt, refl, sym, ◌∙◌, ap, subst, arith, Option, None, Some, slice_index_or, slice_set}
 use Rattle.std.proofs.lemmas.Bool.Decides.{nat_tests}
-use Rattle.std.proofs.lemmas.List.{length-append}
+use Rattle.std.proofs.lemmas.List.{length-append, length-set}
 use Rattle.mesa_span.specs.declared.ranges.Ranges.{Ranges}
 use Rattle.mesa_span.specs.Work.{swapped}
 use Rattle.mesa_lease.specs.declared.lease.Lease.{Lease}
@@ -21,11 +21,6 @@ set_there : {A : Type 0} (xs : List (Option A)) (n : ℕ) (y : Option A) (l : A)
 set_there [] n y l is = let never : None ≡ Some l = is in cc
 set_there (x ∷ xs) zero y l is = refl
 set_there (x ∷ xs) (suc n) y l is = set_there xs n y l is
-
-set_length : {A : Type 0} (xs : List A) (n : ℕ) (y : A) → length (slice_set xs n y) ≡ length xs
-set_length [] n y = refl
-set_length (x ∷ xs) zero y = refl
-set_length (x ∷ xs) (suc n) y = ap suc (set_length xs n y)
 
 front_get : {A : Type 0} (xs ys : List A) (k : ℕ) (d : A) → k < length xs → slice_index_or (xs ++ ys) k d ≡ slice_index_or xs k d
 front_get [] ys k d lt = absurd (omega (arith, lt))
@@ -127,7 +122,7 @@ module _ (m : Machine) (claim : Claim) (was : Ranges) (c : IsClaim m claim was) 
   pub done_keeps : (position : ℕ) (other : Claim) → is_held m.leases other.table other.lease position ≡ true → IsClaim (claim_done m other) claim was
   done_keeps position other held = record {
     number = subst (λ n. claim.lease ≤ n) (sym (same_granted other)) c.number;
-    there = subst (λ n. claim.table < n) (sym (set_length m.ranges other.table (swapped other.work (ranges_at m other.table)))) c.there;
+    there = subst (λ n. claim.table < n) (sym (length-set m.ranges other.table (swapped other.work (ranges_at m other.table)))) c.there;
     stays = λ live. ⊎_elim (λ same. same ∙ c.stays (live_before other live))
         (λ one. absurd (dead (subst (λ t. is_live (ended other.table other.lease m.leases) t claim.lease ≡ true) one.0 live)))
         (set_get m.ranges other.table (swapped other.work (ranges_at m other.table)) claim.table (new_ranges 0));
