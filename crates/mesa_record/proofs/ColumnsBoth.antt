@@ -18,9 +18,10 @@ use Rattle.mesa_schema.specs.declared.changes.Change.{Change}
 use Rattle.mesa_schema.specs.declared.changes.Change.TheVariants.{AddValue, DropValue, AddKey}
 use Rattle.mesa_schema.specs.Changes.{is_of_kind}
 use Rattle.mesa_schema.specs.Names.{is_name}
-use Rattle.mesa_record.specs.Reading.{Left, Read, add_key_at, add_value_at, agg_of, amount_at, byte_at, change_at, drop_value_at, flag_of, key_column_at, key_default_at, kind_of, many, meaning, name_at, ruled, text_at, value_column_at}
+use Rattle.mesa_schema.specs.Codes.{agg_byte, agg_of, kind_byte, kind_of}
+use Rattle.mesa_record.specs.Reading.{Left, Read, add_key_at, add_value_at, amount_at, byte_at, change_at, drop_value_at, flag_of, key_column_at, key_default_at, many, meaning, name_at, ruled, text_at, value_column_at}
 use Rattle.mesa_record.specs.Rules.{IsKeyValue, IsNamed, IsTypedChange, is_change}
-use Rattle.mesa_record.specs.Spelling.{agg_byte, amount, change, counted, flag, key_column, key_default, kind_byte, text, value_column}
+use Rattle.mesa_record.specs.Spelling.{amount, change, counted, flag, key_column, key_default, text, value_column}
 use Rattle.mesa_record.proofs.Both.{Again, Begins, Found, InOrder, begins_two, here, list_again, list_found, of_ok, step_of}
 use Rattle.mesa_record.proofs.Numbers.{amount_again, amount_found, byte_again, byte_found, one}
 use Rattle.mesa_record.proofs.Texts.{meaning_again, meaning_found, ruled_again, ruled_found, text_again, text_found}

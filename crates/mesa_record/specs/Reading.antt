@@ -2,8 +2,6 @@
 use Rattle.std.specs.Prelude.{◌≡◌, ◌≢◌, ℕ, zero, suc, ◌+◌, ℤ, List, [], ◌∷◌, ◌++◌, length, take, drop, get_or, Bool, true, false, ◌==◌, nat_le, nat_lt, if◌then◌else◌, Option, None, Some, Result, Ok, Err}
 use Rattle.std.specs.Int.{w16, w32, w64, from_be_bytes, cast_signed}
 use Rattle.mesa_list.specs.Checks.{◌>>=◌}
-use Rattle.mesa_value.specs.declared.Agg.{Agg}
-use Rattle.mesa_value.specs.declared.Agg.TheVariants as agg
 use Rattle.mesa_key.specs.declared.KeyType.{KeyType}
 use Rattle.mesa_key.specs.declared.KeyType.TheVariants as kind
 use Rattle.mesa_key.specs.declared.KeyValue.{KeyValue}
@@ -11,6 +9,7 @@ use Rattle.mesa_key.specs.declared.KeyValue.TheVariants as value
 use Rattle.mesa_key.specs.Text.{is_key_text}
 use Rattle.mesa_schema.specs.declared.columns.KeyColumn.{KeyColumn}
 use Rattle.mesa_schema.specs.declared.columns.ValueColumn.{ValueColumn}
+use Rattle.mesa_schema.specs.Codes.{agg_of, kind_of}
 use Rattle.mesa_schema.specs.declared.changes.Change.{Change}
 use Rattle.mesa_schema.specs.declared.changes.Change.TheVariants.{AddValue, DropValue, AddKey}
 use Rattle.mesa_schema.specs.Names.{is_name}
@@ -112,12 +111,6 @@ abbrev pub with_front : {A : Type 0} → List A → Read (List A) → Read (List
 with_front front read = read >>= λ xs. Ok (front ++ xs.0, xs.1)
 
 -- ---- columns
-
-abbrev pub kind_of : ℕ → Option KeyType
-kind_of b = if b == 0 then Some kind.Int else if b == 1 then Some kind.Text else None
-
-abbrev pub agg_of : ℕ → Option Agg
-agg_of b = if b == 0 then Some agg.Sum else if b == 1 then Some agg.Min else if b == 2 then Some agg.Max else if b == 3 then Some agg.Replace else None
 
 abbrev pub flag_of : ℕ → Option Bool
 flag_of b = if b == 0 then Some false else if b == 1 then Some true else None

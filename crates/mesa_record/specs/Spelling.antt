@@ -1,14 +1,11 @@
 -- The bytes of a record: each record has one spelling.
 use Rattle.std.specs.Prelude.{ℕ, ℤ, List, [], ◌∷◌, ◌++◌, length, flat_map, Bool, true, false, Option, None, Some}
 use Rattle.std.specs.Int.{w16, w32, w64, to_be_bytes, cast_unsigned}
-use Rattle.mesa_value.specs.declared.Agg.{Agg}
-use Rattle.mesa_value.specs.declared.Agg.TheVariants as agg
-use Rattle.mesa_key.specs.declared.KeyType.{KeyType}
-use Rattle.mesa_key.specs.declared.KeyType.TheVariants as kind
 use Rattle.mesa_key.specs.declared.KeyValue.{KeyValue}
 use Rattle.mesa_key.specs.declared.KeyValue.TheVariants as value
 use Rattle.mesa_schema.specs.declared.columns.KeyColumn.{KeyColumn}
 use Rattle.mesa_schema.specs.declared.columns.ValueColumn.{ValueColumn}
+use Rattle.mesa_schema.specs.Codes.{agg_byte, kind_byte}
 use Rattle.mesa_schema.specs.declared.changes.Change.{Change}
 use Rattle.mesa_schema.specs.declared.changes.Change.TheVariants.{AddValue, DropValue, AddKey}
 use Rattle.mesa_file.specs.declared.file_ref.FileRef.{FileRef}
@@ -48,16 +45,6 @@ abbrev pub counted : {A : Type 0} → (A → List ℕ) → List A → List ℕ
 counted spell xs = length xs ∷ flat_map spell xs
 
 -- ---- columns
-
-abbrev pub kind_byte : KeyType → ℕ
-kind_byte kind.Int = 0
-kind_byte kind.Text = 1
-
-abbrev pub agg_byte : Agg → ℕ
-agg_byte agg.Sum = 0
-agg_byte agg.Min = 1
-agg_byte agg.Max = 2
-agg_byte agg.Replace = 3
 
 abbrev pub key_column : KeyColumn → List ℕ
 key_column c = text c.name ++ kind_byte c.kind ∷ []

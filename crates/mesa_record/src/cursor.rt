@@ -1,11 +1,12 @@
 // The bytes of a record, read field by field.
 ghost use Rattle.std.specs.Prelude.{◌≡◌, IfOk, length};
-ghost use Rattle.mesa_record.specs.Reading.{Gives, GivesAs, piece_at, byte_at, half_at, word_at, long_at, amount_at, text_at, name_at, key_at, columns_at, count_at, meaning, kind_of, agg_of, flag_of};
+ghost use Rattle.mesa_record.specs.Reading.{Gives, GivesAs, piece_at, byte_at, half_at, word_at, long_at, amount_at, text_at, name_at, key_at, columns_at, count_at, meaning, flag_of};
+ghost use Rattle.mesa_schema.specs.Codes.{agg_of, kind_of};
 
 use crate::RecordError;
 use mesa_key::{KeyBytes, KeyType};
 use mesa_list::Items;
-use mesa_schema::{Name, NameError};
+use mesa_schema::{Name, NameError, agg_of_byte, kind_of_byte};
 use mesa_value::Agg;
 use std::alloc::Global;
 use std::marker::Model;
@@ -162,10 +163,9 @@ impl<'a> Cursor<'a> {
         ensures { Gives result self.new (meaning kind_of self.old) }
     {
         let at = self.at();
-        match self.byte()? {
-            0 => Ok(KeyType::Int),
-            1 => Ok(KeyType::Text),
-            _ => Err(RecordError::BadKind { at }),
+        match kind_of_byte(self.byte()?) {
+            Some(kind) => Ok(kind),
+            None => Err(RecordError::BadKind { at }),
         }
     }
 
@@ -173,12 +173,9 @@ impl<'a> Cursor<'a> {
         ensures { Gives result self.new (meaning agg_of self.old) }
     {
         let at = self.at();
-        match self.byte()? {
-            0 => Ok(Agg::Sum),
-            1 => Ok(Agg::Min),
-            2 => Ok(Agg::Max),
-            3 => Ok(Agg::Replace),
-            _ => Err(RecordError::BadKind { at }),
+        match agg_of_byte(self.byte()?) {
+            Some(agg) => Ok(agg),
+            None => Err(RecordError::BadKind { at }),
         }
     }
 

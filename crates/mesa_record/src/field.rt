@@ -1,7 +1,7 @@
 // Fields that stand in lists: how each is read and written.
 ghost use Rattle.std.specs.Prelude.{◌≡◌, ◌++◌, List, ℕ, flat_map, OnOk};
 ghost use Rattle.mesa_record.specs.Reading.{Gives, amount_at, key_column_at, long_at, many, name_at, value_column_at};
-ghost use Rattle.mesa_record.specs.Spelling.{agg_byte as byte_of_agg, amount, key_column, half, kind_byte as byte_of_kind, long, text, value_column, word};
+ghost use Rattle.mesa_record.specs.Spelling.{amount, key_column, half, long, text, value_column, word};
 ghost use Rattle.std.specs.List.{AllByRecursion};
 ghost use Rattle.mesa_value.specs.Agg.{IsAmount};
 ghost use Rattle.mesa_schema.specs.declared.columns.KeyColumn.{KeyColumn as Column};
@@ -10,10 +10,8 @@ ghost use Rattle.mesa_record.specs.Rules.{IsHalf, IsLong, IsNamed, IsWord};
 
 use crate::RecordError;
 use crate::cursor::Cursor;
-use mesa_key::KeyType;
 use mesa_list::Items;
-use mesa_schema::{KeyColumn, Name, ValueColumn};
-use mesa_value::Agg;
+use mesa_schema::{KeyColumn, Name, ValueColumn, agg_byte, kind_byte};
 use std::alloc::{AllocError, Global};
 
 /// A field that stands in lists.
@@ -177,24 +175,4 @@ pub(crate) fn put_long(number: u64, out: &mut Vec<u8>) -> Result<(), AllocError>
     ensures typed { IsLong number }
 {
     out.extend_from_slice(&number.to_be_bytes())
-}
-
-pub(crate) fn kind_byte(kind: KeyType) -> u8
-    ensures { result ≡ byte_of_kind kind }
-{
-    match kind {
-        KeyType::Int => 0,
-        KeyType::Text => 1,
-    }
-}
-
-pub(crate) fn agg_byte(agg: Agg) -> u8
-    ensures { result ≡ byte_of_agg agg }
-{
-    match agg {
-        Agg::Sum => 0,
-        Agg::Min => 1,
-        Agg::Max => 2,
-        Agg::Replace => 3,
-    }
 }

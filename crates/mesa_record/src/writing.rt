@@ -1,10 +1,10 @@
 // Writing records.
 ghost use Rattle.std.specs.List.{AllByRecursion};
-ghost use Rattle.std.specs.Prelude.{◌≡◌, ◌++◌, IfOk, IsTrue, Ok, OnOk};
+ghost use Rattle.std.specs.Prelude.{◌≡◌, [], ◌∷◌, ◌++◌, IfOk, IsTrue, Ok, OnOk};
 ghost use Rattle.mesa_record.specs.Reading.{record_at};
 ghost use Rattle.mesa_record.specs.declared.record.Record.TheVariants as record_of;
-ghost use Rattle.mesa_record.specs.Rules.{IsKeyValue, IsTyped, IsTypedChange, IsTypedPart, IsWord, are_parts, keeps_rules};
-ghost use Rattle.mesa_record.specs.Spelling.{change as change_bytes, key_default, parts_fields, spelled, table_fields, view_fields, word};
+ghost use Rattle.mesa_record.specs.Rules.{IsHalf, IsKeyValue, IsTyped, IsTypedChange, IsTypedPart, IsWord, are_parts, keeps_rules};
+ghost use Rattle.mesa_record.specs.Spelling.{change as change_bytes, flag, half, key_default, parts_fields, spelled, table_fields, view_fields, word};
 
 use crate::field::{Field, put_half, put_word, write_fields};
 use crate::files::write_files_if_any;
@@ -36,12 +36,8 @@ fn write(record: &Record, out: &mut Vec<u8>) -> Result<(), AllocError>
     ensures typed { OnOk result (IsTyped «record».now) }
 {
     match record {
-        Record::Run { number } => {
-            out.push(1)?;
-            put_word(*number, out)
-        }
+        Record::Run { number } => write_number(1, *number, out),
         Record::Table { name, keys, values } => {
-            out.push(2)?;
             write_table(name, keys.as_slice(), values.as_slice(), out)
         }
         Record::View {
@@ -49,21 +45,9 @@ fn write(record: &Record, out: &mut Vec<u8>) -> Result<(), AllocError>
             name,
             keys,
             values,
-        } => {
-            out.push(3)?;
-            put_half(*table, out)?;
-            write_view(name, keys.as_slice(), values.as_slice(), out)
-        }
-        Record::Alter { table, change } => {
-            out.push(4)?;
-            put_half(*table, out)?;
-            write_change(change, out)
-        }
-        Record::Publish { version, parts } => {
-            out.push(5)?;
-            put_word(*version, out)?;
-            write_parts(parts.as_slice(), out)
-        }
+        } => write_view(*table, name, keys.as_slice(), values.as_slice(), out),
+        Record::Alter { table, change } => write_alter(*table, change, out),
+        Record::Publish { version, parts } => write_publish(*version, parts.as_slice(), out),
         Record::Swap {
             table,
             base,
@@ -72,17 +56,51 @@ fn write(record: &Record, out: &mut Vec<u8>) -> Result<(), AllocError>
             epoch,
             files,
         } => {
-            out.push(6)?;
-            put_half(*table, out)?;
-            out.push(*base as u8)?;
+            write_swap(*table, *base, out)?;
             write_range(*from, *to, *epoch, out)?;
             write_files_if_any(files, out)
         }
-        Record::Expire { version } => {
-            out.push(7)?;
-            put_word(*version, out)
-        }
+        Record::Expire { version } => write_number(7, *version, out),
     }
+}
+
+// Appends a record that has a number and nothing else.
+fn write_number(kind: u8, number: u32, out: &mut Vec<u8>) -> Result<(), AllocError>
+    ensures bytes { OnOk result (out.new.items ≡ out.old.items ++ kind ∷ word number) }
+    ensures typed { OnOk result (IsWord number) }
+{
+    out.push(kind)?;
+    put_word(number, out)
+}
+
+fn write_alter(table: u16, change: &Change, out: &mut Vec<u8>) -> Result<(), AllocError>
+    ensures bytes { OnOk result (out.new.items ≡ out.old.items ++ 4 ∷ (half table ++ change_bytes change.now)) }
+    ensures typed { OnOk result (IsHalf table × IsTypedChange change.now) }
+{
+    out.push(4)?;
+    put_half(table, out)?;
+    write_change(change, out)
+}
+
+fn write_publish(version: u32, parts: &[Part], out: &mut Vec<u8>) -> Result<(), AllocError>
+    requires { IsTrue (are_parts parts.now) }
+    ensures bytes { OnOk result (out.new.items ≡ out.old.items ++ 5 ∷ (word version ++ parts_fields parts.now)) }
+    ensures typed { OnOk result (IsWord version × AllByRecursion IsTypedPart parts.now) }
+{
+    out.push(5)?;
+    put_word(version, out)?;
+    write_parts(parts, out)
+}
+
+// Appends the kind of a swap, its table, and whether it makes a base.
+fn write_swap(table: u16, base: bool, out: &mut Vec<u8>) -> Result<(), AllocError>
+    ensures bytes { OnOk result (out.new.items ≡ out.old.items ++ 6 ∷ (half table ++ flag base ∷ [])) }
+    ensures typed { OnOk result (IsHalf table) }
+{
+    out.push(6)?;
+    put_half(table, out)?;
+    out.push(base as u8)?;
+    Ok(())
 }
 
 fn write_table(
@@ -92,9 +110,10 @@ fn write_table(
     out: &mut Vec<u8>,
 ) -> Result<(), AllocError>
     requires { IsTrue (keeps_rules (record_of.Table name.now keys.now values.now)) }
-    ensures bytes { OnOk result (out.new.items ≡ out.old.items ++ table_fields name.now keys.now values.now) }
+    ensures bytes { OnOk result (out.new.items ≡ out.old.items ++ 2 ∷ table_fields name.now keys.now values.now) }
     ensures typed { OnOk result (IsTyped (record_of.Table name.now keys.now values.now)) }
 {
+    out.push(2)?;
     name.write(out)?;
     out.push(keys.len() as u8)?;
     write_fields(keys, out)?;
@@ -103,15 +122,18 @@ fn write_table(
 }
 
 fn write_view(
+    table: u16,
     name: &Name,
     keys: &[Name],
     values: &[Name],
     out: &mut Vec<u8>,
 ) -> Result<(), AllocError>
-    requires { IsTrue (keeps_rules (record_of.View 0 name.now keys.now values.now)) }
-    ensures bytes { OnOk result (out.new.items ≡ out.old.items ++ view_fields name.now keys.now values.now) }
-    ensures typed { OnOk result (IsTyped (record_of.View 0 name.now keys.now values.now)) }
+    requires { IsTrue (keeps_rules (record_of.View table name.now keys.now values.now)) }
+    ensures bytes { OnOk result (out.new.items ≡ out.old.items ++ 3 ∷ (half table ++ view_fields name.now keys.now values.now)) }
+    ensures typed { OnOk result (IsTyped (record_of.View table name.now keys.now values.now)) }
 {
+    out.push(3)?;
+    put_half(table, out)?;
     name.write(out)?;
     out.push(keys.len() as u8)?;
     write_fields(keys, out)?;
