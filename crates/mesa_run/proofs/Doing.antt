@@ -26,7 +26,7 @@ use Rattle.mesa_script.specs.Rows.{body_of}
 use Rattle.mesa_run.specs.Built.{is_built}
 use Rattle.mesa_run.specs.Legal.{is_in_memory}
 use Rattle.mesa_run.specs.Places.{turn_entry, run_after, deciding_stage, IsAt, Goes}
-use Rattle.mesa_run.specs.Printed.{Printed}
+use Rattle.mesa_printer.specs.Printed.{Printed}
 use Rattle.mesa_history.specs.Refused.{is_refusal}
 use Rattle.mesa_run.specs.declared.log.Log.{Log}
 use Rattle.mesa_run.proofs.Places.{Makes, at_next}

@@ -13,9 +13,9 @@ use Rattle.mesa_output.specs.Output.{block}
 use Rattle.mesa_run.specs.Legal.{IsLegalInMemory}
 use Rattle.mesa_run.specs.Outputs.{PrintsOutput}
 use Rattle.mesa_run.specs.Places.{turn_entry, run_begins, printed_by, Logs}
-use Rattle.mesa_run.specs.Printed.{Printed}
+use Rattle.mesa_printer.specs.Printed.{Printed}
 use Rattle.mesa_history.specs.Refused.{tells_refusal, some_refused}
-use Rattle.mesa_run.specs.declared.printer.Printer.{Printer}
+use Rattle.mesa_printer.specs.declared.printer.Printer.{Printer}
 use Rattle.mesa_run.specs.declared.log.Log.{Log}
 use Rattle.mesa_run.proofs.Places.{legal_whole, legal_broken, legal_skipped, skip_makes}
 use Rattle.mesa_output.proofs.Printing.{computed_more, output_is}

@@ -1,4 +1,3 @@
-pub mod Printing
 pub mod Building
 pub mod Places
 pub mod Turning

@@ -12,11 +12,11 @@ use Rattle.mesa_output.specs.Output.{block, output}
 use Rattle.mesa_script.specs.Replies.{head_line}
 use Rattle.mesa_script.specs.Rows.{body_of}
 use Rattle.mesa_run.specs.Places.{run_begins, run_after, printed_by, IsAt, Logs}
-use Rattle.mesa_run.specs.Printed.{Printed}
+use Rattle.mesa_printer.specs.Printed.{Printed}
 use Rattle.mesa_history.specs.Refused.{is_refusal, tells_refusal, some_refused}
-use Rattle.mesa_run.specs.declared.printer.Printer.{Printer}
+use Rattle.mesa_printer.specs.declared.printer.Printer.{Printer}
 use Rattle.mesa_run.specs.declared.log.Log.{Log}
-use Rattle.mesa_run.proofs.Printing.{printed_then}
+use Rattle.mesa_printer.proofs.Printing.{printed_then}
 use Rattle.mesa_output.proofs.Printing.{computed_more}
 use Rattle.mesa_history.proofs.Refusing.{refused_more, or-false}
 use Rattle.mesa_run.proofs.Places.{Makes, last_next, at_begin}

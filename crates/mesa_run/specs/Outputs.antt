@@ -3,7 +3,7 @@ use Rattle.std.specs.Prelude.{ℕ, List, Option, false}
 use Rattle.mesa_model.specs.declared.commands.Script.{Script}
 use Rattle.mesa_output.specs.Output.{IsOutput}
 use Rattle.mesa_run.specs.Places.{run_begins}
-use Rattle.mesa_run.specs.Printed.{Printed}
+use Rattle.mesa_printer.specs.Printed.{Printed}
 use Rattle.mesa_run.specs.declared.log.Log.{Log}
 
 -- What a sink was given in a run is the output of the run's history, as far as the sink took it.

@@ -14,8 +14,8 @@ use Rattle.mesa_history.specs.Legal.{fits_sink}
 use Rattle.mesa_output.specs.Output.{output}
 use Rattle.mesa_run.specs.Legal.{AllFitInMemory}
 use Rattle.mesa_history.specs.Refused.{some_refused}
-use Rattle.mesa_run.specs.Printed.{Printed}
-use Rattle.mesa_run.specs.declared.printer.Printer.{Printer}
+use Rattle.mesa_printer.specs.Printed.{Printed}
+use Rattle.mesa_printer.specs.declared.printer.Printer.{Printer}
 use Rattle.mesa_run.specs.declared.log.Log.{Log}
 
 -- a turn of the one session, at moment 0

@@ -4,10 +4,8 @@
 mod commands;
 mod laws;
 mod log;
-mod printer;
 mod running;
 
 pub use laws::scripts_are_built;
 pub use log::Log;
-pub use printer::Printer;
 pub use running::{room, run};

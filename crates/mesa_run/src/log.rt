@@ -1,13 +1,13 @@
 // The history of a run, and what of it is printed.
 ghost use Rattle.std.specs.Prelude.{◌≡◌, ◌+◌, ◌≤◌, ◌<◌, ◌||◌, ◌++◌, ◌∷◌, [], true, vec_len, vec_capacity, length};
 ghost use Rattle.mesa_run.specs.Places.{turn_entry};
-ghost use Rattle.mesa_run.specs.Printed.{Printed};
+ghost use Rattle.mesa_printer.specs.Printed.{Printed};
 ghost use Rattle.mesa_history.specs.Refused.{is_refusal as refuses};
 ghost use Rattle.mesa_script.specs.Replies.{head_line};
 
-use crate::Printer;
 use mesa_io::Sink;
 use mesa_model::{Entry, Kind, Outcome, Refusal, Reply};
+use mesa_printer::Printer;
 
 /// A command has at most three turns.
 pub(crate) const TURNS_OF_A_COMMAND: usize = 3;

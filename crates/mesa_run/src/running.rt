@@ -8,12 +8,12 @@ ghost use Rattle.mesa_run.specs.Places.{run_begins};
 ghost use Rattle.mesa_run.specs.Outputs.{PrintsOutput};
 ghost use Rattle.mesa_history.specs.Refused.{some_refused};
 
-use crate::Printer;
 use crate::commands::do_command;
 use crate::log::{Log, TURNS_OF_A_COMMAND};
 use mesa_io::Sink;
 use mesa_model::{Command, Entry, Kind, Outcome, Script};
 use mesa_plain::PlainWarehouse;
+use mesa_printer::Printer;
 use std::alloc::{AllocError, Global};
 
 // The commands of the one session.

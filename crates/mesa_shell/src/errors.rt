@@ -1,10 +1,10 @@
 // The line of a refused script.
 ghost use Rattle.std.specs.Prelude.{◌≡◌, ◌++◌, codes, decimal};
-ghost use Rattle.mesa_run.specs.Printed.{Printed};
+ghost use Rattle.mesa_printer.specs.Printed.{Printed};
 ghost use Rattle.mesa_script.specs.Errors.{error_text, reason_word as word_of};
 
 use mesa_io::Sink;
-use mesa_run::Printer;
+use mesa_printer::Printer;
 use mesa_script::{Reason, ScriptError};
 
 // A reason in a word.

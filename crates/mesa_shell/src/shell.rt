@@ -15,7 +15,8 @@ use mesa_io::{ReadError, Sink, Source, read_all};
 use mesa_laws::{answers_from_the_fold, keeps_well_formed};
 use mesa_model::{Entry, Script};
 use mesa_parse::parse;
-use mesa_run::{Printer, room, run, scripts_are_built};
+use mesa_printer::Printer;
+use mesa_run::{room, run, scripts_are_built};
 use mesa_script::ScriptError;
 use std::alloc::Global;
 

@@ -1,4 +1,4 @@
-use Rattle.mesa_run.proofs.Printing.{printed_then}
+use Rattle.mesa_printer.proofs.Printing.{printed_then}
 use Rattle.mesa_shell.proofs.errors.put_place.Goals as goal
 
 pub returns : goal.returns

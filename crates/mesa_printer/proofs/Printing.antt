@@ -7,8 +7,8 @@ use Rattle.std.proofs.Math.Seq.{take-append-add, take-append_seam}
 use Rattle.std.proofs.lemmas.Bool.{cases_Bool, cases_lt}
 use Rattle.std.proofs.lemmas.List.{append-nil, take-append-le, take_all}
 use Rattle.mesa_fault.specs.Causes.{Rose}
-use Rattle.mesa_run.specs.declared.printer.Printer.{Printer}
-use Rattle.mesa_run.specs.Printed.{Printed}
+use Rattle.mesa_printer.specs.declared.printer.Printer.{Printer}
+use Rattle.mesa_printer.specs.Printed.{Printed}
 
 rose-later : (a b c : ℕ) → Rose a b → b ≤ c → Rose a c
 rose-later a b c h k = omega arith

@@ -1,7 +1,7 @@
 use Rattle.std.proofs.Common.{◌≡◌, length, false, arith, ◌≤◌, sym, ◌∙◌}
 use Rattle.std.proofs.lemmas.List.{take_all}
 use Rattle.std.proofs.lemmas.Bool.{false≢true}
-use Rattle.mesa_run.proofs.printer.Printer.put.Goals as goal
+use Rattle.mesa_printer.proofs.printer.Printer.put.Goals as goal
 
 pub returns-in_default : goal.returns-in_default
 returns-in_default g c =

@@ -1,6 +1,6 @@
 // Printing onto a sink, without memory.
 ghost use Rattle.std.specs.Prelude.{decimal, ◌++◌};
-ghost use Rattle.mesa_run.specs.Printed.{Printed};
+ghost use Rattle.mesa_printer.specs.Printed.{Printed};
 ghost use Rattle.mesa_script.specs.Replies.{head_line};
 
 use itoa::Buffer;
