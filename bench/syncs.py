@@ -7,10 +7,11 @@ syncs on the same folder, and beside sqlite3.
 PROGRAM is the built program, by default crates/mesa_dir_bench/out/mesa_dir_bench; BATCHES is 100 by default. A batch
 takes six syncs: of two files, of the folder after each of two names, and twice of the journal by its data. The bare
 syncs do the same writes and names and nothing else. sqlite3 stores as many bytes a transaction, in WAL mode with full
-syncing. The three take turns, and the best of five rounds counts."""
+syncing. The three take turns, and the median of five rounds counts."""
 import os
 import pathlib
 import sqlite3
+import statistics
 import subprocess
 import sys
 import tempfile
@@ -23,12 +24,15 @@ RECORD = bytes(14)
 
 
 def batches(program, folder, count):
-    """Seconds of a run of the program that stores so many batches, without those of a run that stores none."""
-    def run(number):
+    """Seconds in which the program stores so many batches, from its first line on, which it prints when it has opened."""
+    with subprocess.Popen([program, "anew", str(count)], cwd=folder, stdout=subprocess.PIPE) as child:
+        child.stdout.readline()
         begun = time.perf_counter()
-        subprocess.run([program, "anew", str(number)], cwd=folder, check=True, stdout=subprocess.DEVNULL)
-        return time.perf_counter() - begun
-    return run(count) - run(0)
+        child.stdout.read()
+        seconds = time.perf_counter() - begun
+    if child.returncode != 0:
+        sys.exit(f"syncs: the program ended with status {child.returncode}")
+    return seconds
 
 
 def bare(folder, count):
@@ -87,8 +91,8 @@ def main():
     count = int(sys.argv[2]) if len(sys.argv) > 2 else 100
     with tempfile.TemporaryDirectory(dir=os.getcwd()) as folder:
         rounds = [(batches(program, folder, count), bare(folder, count), transactions(folder, count)) for _ in range(ROUNDS)]
-    ours, syncs, sqlite = (min(column) * 1000 / count for column in zip(*rounds))
-    print(f"processors: {os.cpu_count()}; load: {os.getloadavg()[0]:.1f}; {count} batches, best of {ROUNDS} rounds")
+    ours, syncs, sqlite = (statistics.median(column) * 1000 / count for column in zip(*rounds))
+    print(f"processors: {os.cpu_count()}; load: {os.getloadavg()[0]:.1f}; {count} batches, median of {ROUNDS} rounds")
     print("| | ms a batch | against bare syncs |")
     print("|---|---|---|")
     print(f"| two files of 2 KB and a record | {ours:.2f} | {ours / syncs:.2f} |")

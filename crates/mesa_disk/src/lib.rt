@@ -8,8 +8,6 @@ mod failures;
 mod file;
 mod memory;
 mod moving;
-#[cfg(test)]
-mod tests;
 
 pub use area::Area;
 pub use disk::Disk;

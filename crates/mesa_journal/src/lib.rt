@@ -8,8 +8,6 @@
 
 mod framed;
 mod reading;
-#[cfg(test)]
-mod tests;
 mod writing;
 
 pub use framed::Framed;

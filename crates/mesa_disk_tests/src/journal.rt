@@ -1,5 +1,6 @@
-use crate::{Framed, JournalError, JournalRead, append, close_gate, read_journal};
+// Journals in an area of a disk in memory.
 use mesa_disk::{Area, Disk, MemDisk};
+use mesa_journal::{Framed, JournalError, JournalRead, append, close_gate, read_journal};
 use std::alloc::Global;
 use std::process::Abort;
 use std::test::Fail;

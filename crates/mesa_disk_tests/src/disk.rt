@@ -1,6 +1,6 @@
-//! The images of each moment and each pick, over calls that fail and calls that don't. What is expected
-//! was written down from the model of a disk.
-use crate::{
+// The images of each moment and each pick, over calls that fail and calls that don't. What is expected
+// was written down from the model of a disk.
+use mesa_disk::{
     Area, Bench, ByteList, Disk, DiskFailed, Draft, DraftError, FileId, FileReader, Made, MemBench,
     MemDisk, MemMade, OpenFault,
 };

@@ -1,2 +1,0 @@
-mod table;
-mod untold;
