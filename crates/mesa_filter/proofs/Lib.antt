@@ -2,7 +2,6 @@ pub mod Forms
 pub mod Fronts
 pub mod HexDigits
 pub mod Joins
-pub mod Lists
 pub mod PlacesAsked
 pub mod Pruning
 pub mod Refusals

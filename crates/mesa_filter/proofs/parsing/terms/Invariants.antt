@@ -1,7 +1,7 @@
 use Rattle.std.proofs.Common.{◌≡◌, ◌≤◌, length, true}
 use Rattle.mesa_schema.specs.Columns.{kinds_of}
 use Rattle.mesa_filter.specs.Filter.{are_within, filter_of, terms_from}
-use Rattle.mesa_filter.proofs.Lists.{ahead}
+use Rattle.mesa_list.proofs.Lists.{ahead}
 use Rattle.mesa_filter.proofs.parsing.terms.Given as goal
 
 -- the terms so far and those that are left are all

@@ -3,7 +3,7 @@ use Rattle.std.specs.Prelude.{nat_lt}
 use Rattle.std.specs.List.{enumerate_from}
 use Rattle.std.proofs.lemmas.Bool.{lt-ltb}
 use Rattle.mesa_filter.specs.Query.{are_places}
-use Rattle.mesa_filter.proofs.Lists.{all_pass_more}
+use Rattle.mesa_list.proofs.Lists.{all_pass_more}
 use Rattle.mesa_filter.proofs.PlacesAsked.{one_place}
 use Rattle.mesa_filter.proofs.places.all_places.Goals as goal
 

@@ -2,7 +2,7 @@ use Rattle.std.proofs.Common.{◌≡◌, length, map, true}
 use Rattle.mesa_list.specs.Split.{split_at}
 use Rattle.mesa_filter.specs.Asked.{places_of}
 use Rattle.mesa_filter.specs.Query.{are_places}
-use Rattle.mesa_filter.proofs.Lists.{ahead}
+use Rattle.mesa_list.proofs.Lists.{ahead}
 use Rattle.mesa_filter.proofs.places.named_places.Given as goal
 
 -- the places so far and those of the names that are left are all
