@@ -7,6 +7,7 @@ use Rattle.std.proofs.lemmas.List.{take_more, take_all}
 use Rattle.std.proofs.lemmas.List.FromFn.{map-range_with_len_more}
 use Rattle.std.proofs.lemmas.Bool.{eq-eqb}
 use Rattle.std.proofs.lemmas.Grind.{common_steps}
+use Rattle.mesa_list.proofs.Whole.{both}
 use Rattle.mesa_list.specs.Checks.{◌>>=◌}
 use Rattle.mesa_key.specs.declared.KeyType.{KeyType}
 use Rattle.mesa_key.specs.declared.KeyType.TheVariants as kind
@@ -17,7 +18,7 @@ use Rattle.mesa_block.specs.Spelling.{columns, key_of}
 use Rattle.mesa_block.specs.Rows.{Rise}
 use Rattle.mesa_block.specs.Reading.{many, column_at, columns_at, bad_column, bad_text, or_else, key_at, is_less, out_of_order}
 use Rattle.mesa_block.proofs.Again.{AreColumns, IsCell, NoZero, columns_of_keys, less_is}
-use Rattle.mesa_block.proofs.Laying.{both, each_so}
+use Rattle.mesa_block.proofs.Laying.{each_so}
 use Rattle.mesa_block.proofs.Takes.{AreCells, bind_ok, column_takes, ok_is, laid}
 
 -- Columns of these types that were read have r cells each, and those of ints have eight bytes.

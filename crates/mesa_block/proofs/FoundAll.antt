@@ -7,6 +7,7 @@ use Rattle.std.proofs.Math.Facts.{sfits_to_z}
 use Rattle.std.proofs.lemmas.Nat.{be_bytes_2}
 use Rattle.std.proofs.lemmas.List.{length-map}
 use Rattle.std.proofs.lemmas.List.FromFn.{length-map-range_with_len}
+use Rattle.mesa_list.proofs.Whole.{IsByte, all_bytes, are_bytes, each_split}
 use Rattle.mesa_value.specs.Agg.{IsAmount}
 use Rattle.mesa_key.specs.declared.KeyType.{KeyType}
 use Rattle.mesa_key.specs.declared.KeyType.TheVariants as kind
@@ -16,7 +17,7 @@ use Rattle.mesa_schema.specs.Columns.{Columns, kinds_of}
 use Rattle.mesa_block.specs.Spelling.{block, columns, key_of, value_column}
 use Rattle.mesa_block.specs.Rows.{AreRows, IsRow}
 use Rattle.mesa_block.specs.Reading.{block_at, count_of, key_at, row_at, values_at}
-use Rattle.mesa_block.proofs.Bytes.{IsByte, all_bytes, are_bytes, byte_at, cell_bytes, key_bytes, laid_bytes, split_all}
+use Rattle.mesa_block.proofs.Bytes.{cell_bytes, key_bytes, laid_bytes}
 use Rattle.mesa_block.proofs.Found.{AreRead, all_eight, are_good, counts, keys_found, rises}
 use Rattle.mesa_block.proofs.FoundBlock.{block_whole}
 use Rattle.mesa_block.proofs.FoundKeys.{keys_spelled}
@@ -49,7 +50,7 @@ keys_of_rows kinds keys values (i ∷ is) = ap (λ (l : List (List ℕ)). key_at
 
 words_of : (c : List (List ℕ)) → AllByRecursion (λ (cell : List ℕ). length cell ≡ 8) c → AllByRecursion (AllByRecursion IsByte) c → AllByRecursion IsWord c
 words_of [] lens all = tt
-words_of (cell ∷ c) lens all = (record { len = lens.0; small = byte_at cell all.0 }, words_of c lens.1 all.1)
+words_of (cell ∷ c) lens all = (record { len = lens.0; small = are_bytes cell all.0 }, words_of c lens.1 all.1)
 
 all_words : (r n : ℕ) (cs : List (List (List ℕ))) → AreRead r (replicate n kind.Int) cs → AllByRecursion (AllByRecursion (AllByRecursion IsByte)) cs → AllByRecursion (AllByRecursion IsWord) cs
 all_words r zero [] are all = tt
@@ -72,15 +73,15 @@ spelled_so s bytes rows are e =
     let t = w.taken in
     let n = length s.values in
     let all = drop_bytes 3 bytes (all_bytes bytes are) in
-    let parts = split_all IsByte (laid (kinds_of s) t.keys) (laid (replicate n kind.Int) t.values) (subst (AllByRecursion IsByte) t.parts all) in
+    let parts = each_split IsByte (laid (kinds_of s) t.keys) (laid (replicate n kind.Int) t.values) (subst (AllByRecursion IsByte) t.parts all) in
     let keys : columns (kinds_of s) (map key_of rows) ≡ laid (kinds_of s) t.keys =
     ap (λ rs. columns (kinds_of s) (map key_of rs)) (sym t.same) ∙ ap (columns (kinds_of s)) (keys_of_rows (kinds_of s) t.keys t.values (range_with_len 0 r)) ∙ keys_found r (kinds_of s) t.keys t.keys_read t.texts in
     let values : flat_map (value_column rows) (range_with_len 0 n) ≡ laid (replicate n kind.Int) t.values =
     ap (λ rs. flat_map (value_column rs) (range_with_len 0 n)) (sym t.same)
     ∙ values_found (kinds_of s) t.keys t.values r n (as_many r n t.values t.values_read) (counts r (replicate n kind.Int) t.values t.values_read) (all_words r n t.values t.values_read (laid_bytes r (replicate n kind.Int) t.values t.values_read parts.1)) in
     let count : length rows ≡ r = sym (ap length t.same) ∙ length-map-range_with_len (row_at (kinds_of s) t.keys t.values) 0 r in
-    let small = byte_at bytes (all_bytes bytes are) in
-    let two : to_be_bytes w16 (length rows) ≡ get_or bytes 1 0 ∷ (get_or bytes 2 0 ∷ []) = be_bytes_2 (get_or bytes 1 0 ∷ (get_or bytes 2 0 ∷ [])) (length rows) refl (byte_at (get_or bytes 1 0 ∷ (get_or bytes 2 0 ∷ [])) (small 1, (small 2, tt))) count in
+    let small = are_bytes bytes (all_bytes bytes are) in
+    let two : to_be_bytes w16 (length rows) ≡ get_or bytes 1 0 ∷ (get_or bytes 2 0 ∷ []) = be_bytes_2 (get_or bytes 1 0 ∷ (get_or bytes 2 0 ∷ [])) (length rows) refl (are_bytes (get_or bytes 1 0 ∷ (get_or bytes 2 0 ∷ [])) (small 1, (small 2, tt))) count in
     let b1 = get_or bytes 1 0 in
     let b2 = get_or bytes 2 0 in
     ap (λ (l : List ℕ). 0 ∷ (l ++ (columns (kinds_of s) (map key_of rows) ++ flat_map (value_column rows) (range_with_len 0 n)))) two
@@ -93,7 +94,7 @@ spelled_so s bytes rows are e =
 amounts_of : (cs : List (List (List ℕ))) (i : ℕ) → AllByRecursion (AllByRecursion (AllByRecursion IsByte)) cs → AllByRecursion IsAmount (values_at cs i)
 amounts_of [] i all = tt
 amounts_of (c ∷ cs) i all =
-    let small = byte_at (get_or c i []) (cell_bytes c i all.0) in
+    let small = are_bytes (get_or c i []) (cell_bytes c i all.0) in
     let fits : Fits w64 (from_be_bytes w64 (get_or c i [])) = omega (arith, small 0, small 1, small 2, small 3, small 4, small 5, small 6, small 7) in
     (sfits_to_z {w = w64} {n = from_be_bytes w64 (get_or c i [])} fits, amounts_of cs i all.1)
 
@@ -118,7 +119,7 @@ rows_so reads spelled s bytes rows are e =
     let t = w.taken in
     let n = length s.values in
     let all = drop_bytes 3 bytes (all_bytes bytes are) in
-    let parts = split_all IsByte (laid (kinds_of s) t.keys) (laid (replicate n kind.Int) t.values) (subst (AllByRecursion IsByte) t.parts all) in
+    let parts = each_split IsByte (laid (kinds_of s) t.keys) (laid (replicate n kind.Int) t.values) (subst (AllByRecursion IsByte) t.parts all) in
     let kb = laid_bytes r (kinds_of s) t.keys t.keys_read parts.0 in
     let vb = laid_bytes r (replicate n kind.Int) t.values t.values_read parts.1 in
     let good = each_mapped (λ i. IsTrue (is_spelling (kinds_of s) (key_at (kinds_of s) t.keys i))) (IsRow s) (row_at (kinds_of s) t.keys t.values) (range_with_len 0 r)

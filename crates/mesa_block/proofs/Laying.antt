@@ -1,5 +1,5 @@
 -- Columns of rows, one row or one column more.
-use Rattle.std.proofs.Common.{◌≡◌, ℕ, zero, suc, ◌+◌, ◌-◌, ◌<◌, ◌≤◌, ◌^◌, List, [], ◌∷◌, ◌++◌, length, map, get_or, take, drop, refl, sym, ap, ◌∙◌, arith, append_assoc, zero-add, Bool, true, false, inl, inr}
+use Rattle.std.proofs.Common.{◌≡◌, ℕ, zero, suc, ◌+◌, ◌-◌, ◌<◌, ◌≤◌, ◌^◌, List, [], ◌∷◌, ◌++◌, length, map, get_or, take, drop, refl, sym, ap, ◌∙◌, arith, append_assoc, zero-add, inl, inr}
 use Rattle.std.specs.Prelude.{IsTrue, not, flat_map, nat_le, ◌&&◌, ◌==◌}
 use Rattle.std.specs.Str.{is_utf8}
 use Rattle.std.specs.List.{AllByRecursion, list_any, range_with_len}
@@ -7,6 +7,7 @@ use Rattle.std.proofs.lemmas.List.{append-nil, length-take, length-drop, take_al
 use Rattle.std.proofs.lemmas.Grind.{flat_map-append}
 use Rattle.std.proofs.lemmas.List.FromFn.{map-range_with_len_more}
 use Rattle.std.proofs.lemmas.Bool.{eqb-true, leb-true, cases_lt}
+use Rattle.mesa_list.proofs.Whole.{both}
 use Rattle.mesa_key.specs.declared.KeyType.{KeyType}
 use Rattle.mesa_key.specs.declared.KeyType.TheVariants as kind
 use Rattle.mesa_key.specs.Spelling.{before_zero, is_column, is_key_text, is_spelling}
@@ -42,11 +43,6 @@ pub range_step : (f : ℕ → List ℕ) (n : ℕ) (start now new : List ℕ) →
 range_step f n start now new before put =
     put ∙ ap (λ (l : List ℕ). l ++ f n) before ∙ append_assoc start (flat_map f (range_with_len 0 n)) (f n)
     ∙ ap (λ (l : List ℕ). start ++ l) (sym (rw (range_more n, flat_map-append) (ap (λ (l : List ℕ). flat_map f (range_with_len 0 n) ++ l) (append-nil (f n)))))
-
--- both parts of a test hold
-pub both : (a b : Bool) → IsTrue (a && b) → IsTrue a × IsTrue b
-both true b h = (refl, h)
-both false b h = absurd cc
 
 -- how many bytes a cell takes in a key
 abbrev pub cell_size : KeyType → List ℕ → ℕ

@@ -6,6 +6,7 @@ use Rattle.std.proofs.lemmas.List.{map-append, length-append}
 use Rattle.std.proofs.lemmas.List.Concat.{flat_map-cons}
 use Rattle.std.proofs.lemmas.List.FromFn.{length-range_with_len}
 use Rattle.std.proofs.lemmas.Bool.{eqb-true, le-leb, lt-leb, leb-true, leb-false, ltb-true, ltb-false}
+use Rattle.mesa_list.proofs.Whole.{each_push}
 use Rattle.mesa_key.specs.declared.KeyType.{KeyType}
 use Rattle.mesa_key.specs.declared.KeyType.TheVariants as kind
 use Rattle.mesa_key.specs.Spelling.{is_spelling}
@@ -70,12 +71,8 @@ block_length f rows all =
     let values = even (value_column rows) (length rows * 8) (range_with_len 0 (length f.values)) column_each in
     omega (arith, keys, rw length-range_with_len at values, length-append (columns (kinds_of f) (map key_of rows)) (flat_map (value_column rows) (range_with_len 0 (length f.values))))
 
-each_append : {X : Type 0} (P : X → Type 0) (xs : List X) (x : X) → AllByRecursion P xs → P x → AllByRecursion P (xs ++ x ∷ [])
-each_append P [] x all h = (h, tt)
-each_append P (y ∷ xs) x all h = (all.0, each_append P xs x all.1 h)
-
 pub rows_more : (f : Columns) (rows : List Row) (row : Row) → AllByRecursion (IsRead f) rows → IsRead f row → AllByRecursion (IsRead f) (rows ++ row ∷ [])
-rows_more f rows row all h = each_append (IsRead f) rows row all h
+rows_more f rows row all h = each_push (IsRead f) rows row all h
 
 pub block_more : (f : Columns) (rows : List Row) (row : Row) → AllByRecursion (IsRead f) rows → IsRead f row
     → length (block f (rows ++ row ∷ [])) ≡ length (block f rows) + (length row.key + 8 * (length f.values))
@@ -141,7 +138,7 @@ built_more passes f rows row len more b h rise few is short = record {
   size = omega (arith, block_more f rows row (all_read passes f rows b.good) (is_read passes f row h), b.size);
   few = omega (arith, length-append rows (row ∷ []));
   short = short;
-  good = each_append (IsRow f) rows row b.good h;
+  good = each_push (IsRow f) rows row b.good h;
   rise = rise;
 }
 

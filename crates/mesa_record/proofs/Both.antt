@@ -1,10 +1,11 @@
 -- What it means that a field is read again from its spelling, and that what is read was spelled so.
-use Rattle.std.proofs.Common.{◌≡◌, ℕ, zero, suc, ◌+◌, ◌<◌, List, [], ◌∷◌, ◌++◌, length, get_or, refl, sym, ap, subst, ◌∙◌, arith, append_assoc, Result, Ok, Err}
+use Rattle.std.proofs.Common.{◌≡◌, ℕ, zero, suc, ◌+◌, ◌<◌, List, [], ◌∷◌, ◌++◌, length, get_or, refl, sym, ap, subst, ◌∙◌, append_assoc, Result, Ok, Err}
 use Rattle.std.specs.Prelude.{flat_map, take, drop}
 use Rattle.std.specs.List.{AllByRecursion}
 use Rattle.std.proofs.lemmas.List.Concat.{flat_map-cons}
 use Rattle.mesa_list.specs.Checks.{◌>>=◌}
-use Rattle.mesa_key.specs.Spelling.{AreBytes}
+use Rattle.mesa_list.proofs.Whole.{are_bytes, each_cut}
+pub use Rattle.mesa_list.proofs.Whole.{IsByte, all_bytes}
 use Rattle.mesa_record.specs.Reading.{Left, Read, rising}
 
 -- what is left at a place
@@ -14,9 +15,6 @@ here at bytes = record { at = at; bytes = bytes }
 -- The bytes are read as x, whatever follows them.
 abbrev pub Again : {A : Type 0} → (Left → Read A) → List ℕ → A → Type 0
 Again read bytes x = (at : ℕ) (more : List ℕ) → (to : ℕ) × (read (here at (bytes ++ more)) ≡ Ok (x, here to more))
-
-abbrev pub IsByte : ℕ → Type 0
-IsByte b = b < 256
 
 abbrev pub Bytes : List ℕ → Type 0
 Bytes bytes = AllByRecursion IsByte bytes
@@ -32,19 +30,11 @@ Found {A = A} read spell Is = (l after : Left) (x : A) → Bytes l.bytes → rea
 
 -- ---- bytes
 
-pub all_bytes : (bytes : List ℕ) → AreBytes bytes → Bytes bytes
-all_bytes [] are = tt
-all_bytes (b ∷ bytes) are = (are 0, all_bytes bytes (λ i. are (suc i)))
-
 pub byte_in : (bytes : List ℕ) → Bytes bytes → (i : ℕ) → get_or bytes i 0 < 256
-byte_in [] all i = omega arith
-byte_in (b ∷ bytes) all zero = all.0
-byte_in (b ∷ bytes) all (suc i) = byte_in bytes all.1 i
+byte_in = are_bytes
 
 pub taken : (n : ℕ) (bytes : List ℕ) → Bytes bytes → Bytes (take n bytes) × Bytes (drop n bytes)
-taken zero bytes all = (tt, all)
-taken (suc n) [] all = (tt, tt)
-taken (suc n) (b ∷ bytes) all = let rest = taken n bytes all.1 in ((all.0, rest.0), rest.1)
+taken = each_cut IsByte
 
 -- ---- one after the other
 

@@ -2,6 +2,7 @@
 use Rattle.std.proofs.Common.{◌≡◌, ℕ, ◌+◌, ◌<◌, ◌^◌, List, ◌++◌, length, refl, sym, ap, subst, ◌∙◌, append_assoc, Bool, true, false, Ok, Option, Some, None}
 use Rattle.std.specs.Prelude.{IsTrue, ◌&&◌, flat_map, nat_le}
 use Rattle.std.proofs.lemmas.Bool.{ltb-true, lt-ltb}
+use Rattle.mesa_list.proofs.Whole.{both}
 use Rattle.mesa_value.specs.Agg.{IsAmount}
 use Rattle.mesa_file.specs.declared.file_ref.FileRef.{FileRef}
 use Rattle.mesa_record.specs.declared.record.ViewRef.{ViewRef}
@@ -14,10 +15,6 @@ use Rattle.mesa_record.proofs.Both.{Again, Begins, Found, InOrder, begins_two, h
 use Rattle.mesa_record.proofs.Numbers.{amount_again, amount_found, byte_again, byte_found, half_again, half_found, long_again, long_found, one, piece_again, piece_found, word_again, word_found}
 use Rattle.mesa_record.proofs.Texts.{key_again, key_found, meaning_again, meaning_found, ruled_again, ruled_found}
 use Rattle.mesa_record.proofs.ColumnsBoth.{IsCounted, counted_again, counted_found, flag_of_byte, made_again, two_again, two_found}
-
-pub both : (a b : Bool) → IsTrue (a && b) → IsTrue a × IsTrue b
-both true b h = (refl, h)
-both false b h = absurd cc
 
 pub all_true : (a b : Bool) → IsTrue a → IsTrue b → IsTrue (a && b)
 all_true true b x y = y

@@ -3,6 +3,7 @@ use Rattle.std.proofs.Common.{◌≡◌, inl, inr, ℕ, ◌+◌, ◌<◌, ◌^�
 use Rattle.std.specs.Prelude.{IsTrue, ◌&&◌, ◌==◌, flat_map, if◌then◌else◌, map, nat_le, nat_lt}
 use Rattle.std.specs.List.{AllByRecursion, list_all}
 use Rattle.std.proofs.lemmas.Bool.{eqb-true, ltb-true, lt-ltb}
+use Rattle.mesa_list.proofs.Whole.{both}
 use Rattle.mesa_key.specs.Spelling.{AreBytes}
 use Rattle.mesa_schema.specs.declared.columns.KeyColumn.{KeyColumn}
 use Rattle.mesa_schema.specs.declared.columns.ValueColumn.{ValueColumn}
@@ -19,7 +20,7 @@ use Rattle.mesa_record.proofs.Both.{Again, Begins, Bytes, Found, InOrder, all_by
 use Rattle.mesa_record.proofs.Numbers.{byte_again, byte_found, half_again, half_found, one, word_again, word_found}
 use Rattle.mesa_record.proofs.Texts.{meaning_again, meaning_found}
 use Rattle.mesa_record.proofs.ColumnsBoth.{IsChange, IsCounted, change_again, change_found, counted_again, counted_found, either_way, flag_again, flag_of_byte, key_column_again, key_column_found, made_again, made_found, name_again, name_found, two_again, two_found, value_column_again, value_column_found}
-use Rattle.mesa_record.proofs.FilesBoth.{AreFiles, AreFilesIfAny, IsPart, IsView, all_true, both, files_if_any_again, files_if_any_found, part_again, part_found}
+use Rattle.mesa_record.proofs.FilesBoth.{AreFiles, AreFilesIfAny, IsPart, IsView, all_true, files_if_any_again, files_if_any_found, part_again, part_found}
 
 -- ---- what the rules say, list by list
 
