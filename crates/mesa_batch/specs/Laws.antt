@@ -1,10 +1,15 @@
 -- Laws of batches.
-use Rattle.std.specs.Prelude.{◌≡◌, ℕ, List, [], ◌∷◌, Ok}
+use Rattle.std.specs.Prelude.{◌≡◌, ℕ, List, [], ◌∷◌, map, Ok}
 use Rattle.mesa_list.specs.Checks.{◌>>=◌}
-use Rattle.mesa_schema.specs.Columns.{aggs_of}
+use Rattle.mesa_schema.specs.declared.changes.Change.{Change}
+use Rattle.mesa_schema.specs.declared.rows.Row.{Row}
+use Rattle.mesa_schema.specs.Columns.{Columns, aggs_of}
+use Rattle.mesa_schema.specs.Changes.{changed, lifted_once}
+use Rattle.mesa_schema.specs.Lineages.{HasDefault}
 use Rattle.mesa_schema.specs.Folded.{folded}
 use Rattle.mesa_schema.specs.Rows.{AreRowsOf}
 use Rattle.mesa_batch.specs.declared.words.RowWords.{RowWords}
+use Rattle.mesa_batch.specs.Totals.{AreAtMost, abs_totals, totals_after}
 use Rattle.mesa_batch.specs.Batch.{Named, Placed, batch_from, batch_of, columns_at, rows_for}
 use Rattle.mesa_batch.specs.Gathered.{with_row}
 
@@ -16,3 +21,8 @@ KeepsForms = (tables : List Named) (words : List RowWords) (batch : List Placed)
 -- Rows and then others give what the others give after the next row.
 abbrev pub GoesRowByRow : Type 0
 GoesRowByRow = (tables : List Named) (before : List Placed) (words : RowWords) (rest : List RowWords) → batch_from tables before (words ∷ rest) ≡ (with_row tables before words >>= (λ rows. batch_from tables rows rest))
+
+-- Totals that bound those of rows bound, after a change whose default is one of its column, those of the lifted rows.
+abbrev pub TotalsLast : Type 0
+TotalsLast = (s : Columns) (change : Change) (rows : List Row) (totals : List ℕ) → HasDefault change → AreRowsOf s rows → AreAtMost (abs_totals s rows) totals
+    → AreAtMost (abs_totals (changed s change) (map (lifted_once s change) rows)) (totals_after s change totals)

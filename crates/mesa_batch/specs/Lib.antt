@@ -2,6 +2,7 @@ pub mod Batch
 pub mod Gathered
 pub mod Glance
 pub mod Kept
+pub mod Load
 pub mod Laws
 pub mod Numbers
 pub mod Taken

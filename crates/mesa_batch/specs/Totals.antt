@@ -1,9 +1,11 @@
 -- Absolute totals: what keeps every sum within its type.
-use Rattle.std.specs.Prelude.{ℕ, ◌+◌, ◌^◌, min, pos, nat_abs, List, [], ◌∷◌, map, zip, sum_by, slice_index_or, nat_le, Bool, true, false, Option, position}
+use Rattle.std.specs.Prelude.{ℕ, ◌+◌, ◌^◌, ◌≤◌, min, pos, nat_abs, List, [], ◌∷◌, ◌++◌, map, zip, sum_by, slice_index_or, take, drop, length, nat_le, Bool, true, false, if◌then◌else◌, Option, position, unwrap_or, ⊤}
 use Rattle.mesa_value.specs.declared.Agg.{Agg}
 use Rattle.mesa_value.specs.declared.Agg.TheVariants as agg
 use Rattle.mesa_schema.specs.declared.rows.Row.{Row}
-use Rattle.mesa_schema.specs.Columns.{Columns, aggs_of}
+use Rattle.mesa_schema.specs.declared.changes.Change.{Change}
+use Rattle.mesa_schema.specs.declared.changes.Change.TheVariants.{AddKey, AddValue, DropValue}
+use Rattle.mesa_schema.specs.Columns.{Columns, aggs_of, place_of, value_names}
 
 abbrev pub is_sum : Agg → Bool
 is_sum agg.Sum = true
@@ -38,3 +40,24 @@ over_bound totals more = position (λ total. nat_le (2 ^ 63) total) (totals_with
 -- the totals, in which one above 2^63 - 1 stands as 2^63
 abbrev pub capped : List ℕ → List ℕ
 capped totals = map (λ total. min (2 ^ 63) total) totals
+
+-- how many sum columns there are
+abbrev pub sums_in : List Agg → ℕ
+sums_in aggs = length (sum_places 0 aggs)
+
+-- the totals without that of the value column at a place, which has one if it is a sum column
+abbrev pub totals_without : List Agg → ℕ → List ℕ → List ℕ
+totals_without aggs place totals = take (sums_in (take place aggs)) totals ++ drop (sums_in (take (place + 1) aggs)) totals
+
+-- the totals after a change: an added sum column has total 0, and a dropped one's total goes
+abbrev pub totals_after : Columns → Change → List ℕ → List ℕ
+totals_after s (AddValue column default) totals = if is_sum column.agg then totals ++ 0 ∷ [] else totals
+totals_after s (DropValue name) totals = totals_without (aggs_of s) (unwrap_or (place_of name (value_names s)) (length s.values)) totals
+totals_after s (AddKey column default) totals = totals
+
+-- as many totals, each at most the other
+abbrev pub AreAtMost : List ℕ → List ℕ → Type 0
+AreAtMost [] [] = ⊤
+AreAtMost [] (y ∷ ys) = ⊥
+AreAtMost (x ∷ xs) [] = ⊥
+AreAtMost (x ∷ xs) (y ∷ ys) = (x ≤ y) × AreAtMost xs ys

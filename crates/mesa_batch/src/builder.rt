@@ -15,7 +15,7 @@ ghost use Rattle.mesa_batch.specs.Totals.{abs_totals};
 
 use crate::keeping::{Kept, Place, put};
 use crate::reading::{FieldError, ReadRow, read_row};
-use crate::{Batch, BatchError, Glance, RowWords};
+use crate::{Batch, BatchError, Glance, RowView};
 use mesa_list::Items;
 use mesa_schema::{Evolving, Row, RowList};
 use std::alloc::{AllocError, Global};
@@ -56,7 +56,7 @@ impl BatchBuilder {
     }
 
     /// Reads the load's next row and keeps it; rows count from 1. All rows of one builder are given with one glance.
-    pub fn row(&mut self, glance: &Glance, words: &RowWords) -> Result<(), BatchError>
+    pub fn row(&mut self, glance: &Glance, words: &RowView) -> Result<(), BatchError>
         requires one_glance { IsReadBy glance.now self.old }
         ensures ok { OnOk result (with_row (tables_of glance.now) self.old.rows words.now ≡ Ok self.new.rows) }
         ensures refused { IfErr result (λ e. e ≢ BatchError.Memory → with_row (tables_of glance.now) self.old.rows words.now ≡ Err e) }
@@ -148,18 +148,18 @@ fn push_row(tables: &mut Items<RowList>, table: u16, row: Row) -> Result<(), All
 fn read_words(
     alloc: Global,
     glance: &Glance,
-    words: &RowWords,
+    words: &RowView,
     number: u64,
 ) -> Result<(u16, ReadRow), BatchError>
     ensures read { IfOk result (λ r. read_of (tables_of glance.now) number words.now ≡ Ok (record { table = r.0; row = record { key = r.1.key.items; values = r.1.values } })) }
     ensures there { IfOk result (λ r. r.0 < length glance.now.tables) }
     ensures refused { IfErr result (λ e. e ≢ BatchError.Memory → read_of (tables_of glance.now) number words.now ≡ Err e) }
 {
-    let Some(table) = glance.find(words.table.as_slice()) else {
+    let Some(table) = glance.find(words.table()) else {
         return Err(BatchError::NoTable { row: number });
     };
     let schema = glance.evolving(table).present();
-    match read_row(alloc, schema, words.fields.as_slice()) {
+    match read_row(alloc, schema, words.fields()) {
         Ok(row) => Ok((table, row)),
         Err(FieldError::Bad(column)) => Err(BatchError::BadRow {
             row: number,

@@ -8,7 +8,8 @@ ghost use Rattle.mesa_batch.specs.Batch.{key_from, row_of, values_from};
 ghost use Rattle.mesa_batch.specs.Reading.{IsRefusal, spelled};
 
 use mesa_key::{KeyText, KeyType, Values, encode_int, encode_text};
-use mesa_schema::{KeyColumn, Schema, ValueColumn, Words, signed};
+use mesa_list::FieldsView;
+use mesa_schema::{KeyColumn, Schema, ValueColumn, signed};
 use std::alloc::{AllocError, Global};
 
 /// Why a row's fields make no row of its table.
@@ -41,7 +42,7 @@ pub(crate) struct ReadRow {
 pub(crate) fn read_row(
     alloc: Global,
     schema: &Schema,
-    fields: &[Words],
+    fields: &FieldsView,
 ) -> Result<ReadRow, FieldError>
     ensures read { IfOk result (λ row. row_of schema.now fields.now ≡ Ok (record { key = row.key.items; values = row.values })) }
     ensures refused { IfErr result (IsRefusal (row_of schema.now fields.now)) }
@@ -49,12 +50,17 @@ pub(crate) fn read_row(
     let columns = schema.keys();
     let key = read_key(alloc, columns, fields)?;
     let first = columns.len() as u16 + 1;
-    let values = read_values(alloc, first, schema.values(), &fields[columns.len()..])?;
+    let rest = fields.range(columns.len(), fields.len());
+    let values = read_values(alloc, first, schema.values(), &rest)?;
     Ok(ReadRow { key, values })
 }
 
 // The spelling of the key that the first fields make.
-fn read_key(alloc: Global, columns: &[KeyColumn], fields: &[Words]) -> Result<Vec<u8>, FieldError>
+fn read_key(
+    alloc: Global,
+    columns: &[KeyColumn],
+    fields: &FieldsView,
+) -> Result<Vec<u8>, FieldError>
     requires few { length columns.now ≤ 16 }
     ensures read { IfOk result (λ bytes. spelled (key_from 1 (map (λ (c : Key). c.kind) columns.now) fields.now) ≡ Ok bytes.items) }
     ensures enough { OnOk result (length columns.now ≤ length fields.now) }
@@ -66,7 +72,7 @@ fn read_key(alloc: Global, columns: &[KeyColumn], fields: &[Words]) -> Result<Ve
         let Some(field) = fields.get(place) else {
             return Err(FieldError::Bad(number));
         };
-        if !push_value(column.kind, field.as_slice(), &mut bytes)? {
+        if !push_value(column.kind, field, &mut bytes)? {
             return Err(FieldError::Bad(number));
         }
     }
@@ -100,7 +106,7 @@ fn read_values(
     alloc: Global,
     first: u16,
     columns: &[ValueColumn],
-    fields: &[Words],
+    fields: &FieldsView,
 ) -> Result<Values, FieldError>
     requires few { first + length columns.now < 2 ^ 16 }
     ensures read { IfOk result (λ values. values_from first (map (λ (c : Value). c.agg) columns.now) fields.now ≡ Ok values) }
@@ -112,7 +118,7 @@ fn read_values(
         let Some(field) = fields.get(place) else {
             return Err(FieldError::Bad(number));
         };
-        let Some(value) = signed(field.as_slice()) else {
+        let Some(value) = signed(field) else {
             return Err(FieldError::Bad(number));
         };
         values.push(value)?;

@@ -1,9 +1,9 @@
 // A load's rows as a script has them, and why they make no batch.
-use mesa_list::TryCopy;
-use mesa_schema::{Fields, Words};
+use mesa_list::Fields;
+use mesa_schema::Words;
 use std::alloc::AllocError;
 
-/// A row as the script has it: key fields, then value fields.
+/// A row as the script has it: key fields, then value fields. `LoadRows` keeps rows of a load, and lends them.
 #[derive(Drop)]
 pub struct RowWords {
     pub table: Words,
@@ -29,14 +29,5 @@ impl From<AllocError> for BatchError {
 
     fn from(_: AllocError) -> Self {
         BatchError::Memory
-    }
-}
-
-impl TryCopy for RowWords {
-    fn copy(&self) -> Result<Self, AllocError> {
-        Ok(RowWords {
-            table: self.table.copy()?,
-            fields: self.fields.copy()?,
-        })
     }
 }

@@ -1,5 +1,5 @@
 -- Lists of which every element is of a kind, and bytes.
-use Rattle.std.proofs.Common.{◌≡◌, ℕ, zero, suc, ◌^◌, ◌<◌, List, [], ◌∷◌, ◌++◌, get_or, take, drop, refl, arith, Bool, true, false}
+use Rattle.std.proofs.Common.{ℕ, zero, suc, ◌^◌, ◌<◌, List, [], ◌∷◌, ◌++◌, take, drop, refl, arith, Bool, true, false}
 use Rattle.std.specs.Prelude.{◌&&◌, IsTrue, slice_index}
 use Rattle.std.specs.List.{AllByRecursion}
 

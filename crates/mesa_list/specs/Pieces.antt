@@ -1,10 +1,10 @@
--- Fields that stand one behind the other in one list of bytes.
+-- Pieces that stand one behind the other in one list, as fields do in their bytes.
 use Rattle.std.specs.Prelude.{ℕ, ◌≤◌, List, [], ◌∷◌, slice_range}
 
--- the pieces of the bytes that end at these places, the first of which begins at start
-abbrev pub pieces : List ℕ → ℕ → List ℕ → List (List ℕ)
-pieces bytes start [] = []
-pieces bytes start (end ∷ ends) = slice_range bytes start end ∷ pieces bytes end ends
+-- the pieces of a list that end at these places, the first of which begins at start
+abbrev pub pieces : {X : Type 0} → List X → ℕ → List ℕ → List (List X)
+pieces items start [] = []
+pieces items start (end ∷ ends) = slice_range items start end ∷ pieces items end ends
 
 -- no piece ends before it begins
 abbrev pub Rise : ℕ → List ℕ → Type 0

@@ -12,7 +12,7 @@ use Rattle.mesa_schema.specs.Columns.{Columns, key_names, value_names, aggs_of, 
 use Rattle.mesa_schema.specs.Schema.{schema_checked}
 use Rattle.mesa_schema.specs.Changes.{columns_of, epoch_of, with_change, new_name_checked, change_checked, lifted_once}
 use Rattle.mesa_schema.specs.Views.{max_views, view_checked, with_view}
-use Rattle.mesa_batch.specs.Totals.{is_sum, sum_places}
+use Rattle.mesa_batch.specs.Totals.{sums_in, totals_after}
 use Rattle.mesa_model.specs.declared.commands.KeyWords.{KeyWords}
 use Rattle.mesa_model.specs.declared.commands.ValueWords.{ValueWords}
 use Rattle.mesa_model.specs.declared.commands.TableWords.{TableWords}
@@ -28,10 +28,6 @@ use Rattle.mesa_model.specs.declared.replies.Reply.TheVariants as reply
 use Rattle.mesa_model.specs.Warehouse.{Table, Warehouse, max_tables, table_at, with_tables, with_table}
 use Rattle.mesa_model.specs.Relations.{table_number, is_taken}
 use Rattle.mesa_model.specs.Refusals.{bad_schema, no_such_table, refuse_closed, schema_refusal, view_refusal, change_refusal}
-
--- how many of these are sum columns
-abbrev pub sums_in : List Agg → ℕ
-sums_in aggs = length (sum_places 0 aggs)
 
 -- ---- tables
 
@@ -113,16 +109,6 @@ abbrev pub changed_name : Change → List ℕ
 changed_name (change.AddValue column default) = column.name
 changed_name (change.DropValue name) = name
 changed_name (change.AddKey column default) = column.name
-
--- the totals without that of the value column at a place, which has one if it is a sum column
-abbrev pub totals_without : List Agg → ℕ → List ℕ → List ℕ
-totals_without aggs place totals = take (sums_in (take place aggs)) totals ++ drop (sums_in (take (place + 1) aggs)) totals
-
--- the totals after a change: an added sum column has total 0, and a dropped one's total goes
-abbrev pub totals_after : Columns → Change → List ℕ → List ℕ
-totals_after s (change.AddValue column default) totals = if is_sum column.agg then totals ++ 0 ∷ [] else totals
-totals_after s (change.DropValue name) totals = totals_without (aggs_of s) (unwrap_or (place_of name (value_names s)) (length s.values)) totals
-totals_after s (change.AddKey column default) totals = totals
 
 -- a table after a change of its schema: every content is lifted
 abbrev pub table_changed : Table → Change → Table

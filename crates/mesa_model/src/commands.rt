@@ -1,5 +1,5 @@
 // What a script asks.
-use mesa_batch::RowWords;
+use mesa_batch::LoadRows;
 use mesa_filter::{QueryWords, VersionWord};
 use mesa_key::KeyType;
 use mesa_list::Items;
@@ -67,7 +67,7 @@ pub enum Command {
     View(ViewWords),
     Alter(AlterWords),
     /// A batch of rows, perhaps of none.
-    Load(Items<RowWords>),
+    Load(LoadRows),
     Query(QueryWords),
     Explain(ExplainWords),
     /// A version that the session is to keep.

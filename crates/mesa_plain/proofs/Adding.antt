@@ -9,8 +9,7 @@ use Rattle.mesa_value.specs.declared.Agg.TheVariants as agg
 use Rattle.mesa_schema.specs.Columns.{Columns, aggs_of}
 use Rattle.mesa_schema.specs.Changes.{columns_of}
 use Rattle.mesa_batch.specs.Glance.{Known}
-use Rattle.mesa_batch.specs.Totals.{is_sum}
-use Rattle.mesa_model.specs.Tables.{sums_in}
+use Rattle.mesa_batch.specs.Totals.{is_sum, sums_in}
 use Rattle.mesa_model.specs.Warehouse.{max_tables}
 use Rattle.mesa_plain.specs.Kept.{Contents, contents_in, shared, tables_in}
 use Rattle.mesa_plain.specs.Sound.{AreKept, HasTotals, IsHeld}

@@ -1,30 +1,31 @@
-use Rattle.std.proofs.Common.{◌+◌, subst, sym, ◌∙◌, rules}
+use Rattle.std.proofs.Common.{◌+◌, arith, subst, sym, ◌∙◌, rules}
 use mir.Val.{SFits}
 use mir.Syntax.{w64}
 use Rattle.std.proofs.lemmas.Int.{to_z-of_z}
+use Rattle.mesa_batch.proofs.LoadedRows.{none_at, some_at}
 use Rattle.mesa_batch.proofs.Fields.{AreRead, value_missing, value_bad, value_next, values_left, values_done}
 use Rattle.mesa_batch.proofs.reading.read_values.Goals as goal
 
 pub returns-in_default-clause-refused : goal.returns-in_default-clause-refused
-returns-in_default-clause-refused c = value_missing c.args.columns.now c.args.fields.now c.args.first c.columns.place c.columns.values c.columns-test.true c.in_default.ensures.lookup.3 c.columns.invariant
+returns-in_default-clause-refused c = value_missing c.args.columns.now c.args.fields.now c.args.first c.columns.place c.columns.values c.columns-test.true (none_at c.args.fields.now c.columns.place c.in_default.ensures) c.columns.invariant
 
 pub returns-in_default-signed-clause-refused : goal.returns-in_default-signed-clause-refused
 returns-in_default-signed-clause-refused c =
-    let found = c.in-Some.ensures.lookup in
-    value_bad c.args.columns.now c.args.fields.now c.args.first c.columns.place c.as_slice.result.now c.columns.values c.columns-test.true
-    found.3.0 (c.as_slice.ensures ∙ found.3.1 c.as_slice.result.now) (sym c.signed.ensures ∙ c.in_default-signed.is) c.columns.invariant
+    let found = some_at c.args.fields.now c.columns.place c.in-Some.field.now c.in-Some.ensures in
+    value_bad c.args.columns.now c.args.fields.now c.args.first c.columns.place c.in-Some.field.now c.columns.values c.columns-test.true
+    found.0 found.1 (sym c.signed.ensures ∙ c.in_default-signed.is) c.columns.invariant
 
 pub columns-preserved : goal.columns-preserved
 columns-preserved c =
-    let found = c.in-Some.ensures.lookup in
+    let found = some_at c.args.fields.now c.columns.place c.in-Some.field.now c.in-Some.ensures in
     let value : SFits w64 c.in-Some-signed.value = search rules in
     let pushed = simp to_z-of_z at c.in_ok-push.ensures.ok in
     subst (AreRead c.args.columns.now c.args.fields.now c.args.first (c.columns.place + 1)) (sym pushed) (
-    value_next c.args.columns.now c.args.fields.now c.args.first c.columns.place c.as_slice.result.now c.columns.values c.in-Some-signed.value c.columns-test.true
-    found.3.0 (c.as_slice.ensures ∙ found.3.1 c.as_slice.result.now) (sym c.signed.ensures ∙ c.in-Some-signed.is) c.columns.invariant)
+    value_next c.args.columns.now c.args.fields.now c.args.first c.columns.place c.in-Some.field.now c.columns.values c.in-Some-signed.value c.columns-test.true
+    found.0 found.1 (sym c.signed.ensures ∙ c.in-Some-signed.is) c.columns.invariant)
 
-pub returns-then-fields-columns-clause-refused : goal.returns-then-fields-columns-clause-refused
-returns-then-fields-columns-clause-refused c = values_left c.args.columns.now c.args.fields.now c.args.first c.columns.place c.columns.values c.columns-test.false c.if-fields-columns.true c.columns.auto.place-end c.columns.invariant
+pub returns-then-len-columns-clause-refused : goal.returns-then-len-columns-clause-refused
+returns-then-len-columns-clause-refused c = values_left c.args.columns.now c.args.fields.now c.args.first c.columns.place c.columns.values c.columns-test.false (omega (arith, c.len.ensures, c.if-len-columns.true)) c.columns.auto.place-end c.columns.invariant
 
 pub returns-clause-read : goal.returns-clause-read
-returns-clause-read c = values_done c.args.columns.now c.args.fields.now c.args.first c.columns.place c.columns.values c.columns-test.false c.columns.auto.place-end c.if-fields-columns.false c.columns.invariant
+returns-clause-read c = values_done c.args.columns.now c.args.fields.now c.args.first c.columns.place c.columns.values c.columns-test.false c.columns.auto.place-end (omega (arith, c.len.ensures, c.if-len-columns.false)) c.columns.invariant

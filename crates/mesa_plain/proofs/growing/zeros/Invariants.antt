@@ -1,6 +1,6 @@
 use Rattle.std.proofs.Common.{◌≡◌, ◌++◌, drop, length, replicate}
 use Rattle.mesa_schema.specs.Columns.{aggs_of}
-use Rattle.mesa_model.specs.Tables.{sums_in}
+use Rattle.mesa_batch.specs.Totals.{sums_in}
 use Rattle.mesa_plain.proofs.SumNames.{sum_names}
 use Rattle.mesa_plain.proofs.growing.zeros.Given as goal
 

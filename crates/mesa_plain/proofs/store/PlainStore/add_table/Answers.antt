@@ -4,7 +4,7 @@ use Rattle.mesa_schema.specs.Columns.{aggs_of}
 use Rattle.mesa_schema.specs.Changes.{Lineage, columns_of}
 use Rattle.mesa_batch.specs.declared.glance.Glanced.{Glanced}
 use Rattle.mesa_batch.specs.Numbers.{known_of}
-use Rattle.mesa_model.specs.Tables.{sums_in}
+use Rattle.mesa_batch.specs.Totals.{sums_in}
 use Rattle.mesa_model.specs.Warehouse.{max_tables}
 use Rattle.mesa_plain.specs.Kept.{Versioned, tables_in, with_table_more}
 use Rattle.mesa_plain.proofs.Adding.{added, kept_more}
