@@ -1,5 +1,6 @@
-pub mod RecordsLeft
-pub mod Taking
 pub mod Digits
-pub mod Steps
 pub mod FieldAt
+pub mod RecordsLeft
+pub mod RowItems
+pub mod Steps
+pub mod Taking

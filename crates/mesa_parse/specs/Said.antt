@@ -1,6 +1,7 @@
 -- What records say, in the words of the definition.
 use Rattle.std.specs.Prelude.{ℕ, List, [], ◌∷◌, Bool, ◌||◌, codes}
 use Rattle.mesa_list.specs.Bytes.{same_bytes}
+use Rattle.mesa_batch.specs.Load.{row_from}
 use Rattle.mesa_script.specs.Records.{Name, Table, View, Row, Commit, Query, Expire}
 use Rattle.mesa_script.specs.Items.{Item, RowOf, EndOfLoad, Single}
 use Rattle.mesa_parse.specs.declared.kinds.Kind.{Kind}
@@ -29,6 +30,6 @@ is_later_word word =
 
 -- what a record said
 abbrev pub item_as : Said → Item
-item_as (said.Row row) = RowOf row
+item_as (said.Row words) = RowOf (row_from words)
 item_as said.EndOfLoad = EndOfLoad
 item_as (said.Single command) = Single command

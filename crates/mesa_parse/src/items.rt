@@ -1,6 +1,7 @@
 // What each record says, a function for each kind.
 ghost use Rattle.std.specs.Prelude.{◌≡◌, IfErr, IfOk, Ok};
 ghost use Rattle.csv.specs.Records.{fields_of};
+ghost use Rattle.mesa_batch.specs.Load.{row_from};
 ghost use Rattle.mesa_script.specs.Records.{Table, View, Row, Query, Expire};
 ghost use Rattle.mesa_script.specs.Items.{RowOf, Single, item_of};
 ghost use Rattle.mesa_parse.specs.Failures.{Tells};
@@ -13,16 +14,16 @@ use crate::numbers::{MAX_NUMBER, limit, number_in};
 use crate::records::{field, words, words_from};
 use crate::versions::version;
 use csv::ByteRecord;
-use mesa_batch::RowWords;
 use mesa_filter::QueryWords;
+use mesa_list::Fields;
 use mesa_model::{Command, TableWords, ViewWords};
 use std::alloc::{AllocError, Global};
 
 /// What a record says.
 #[derive(Drop)]
 pub(crate) enum Said {
-    /// A row of a load.
-    Row(RowWords),
+    /// A row of a load: its table's name, and then its fields.
+    Row(Fields),
     EndOfLoad,
     /// A command by itself.
     Single(Command),
@@ -55,14 +56,12 @@ fn view(alloc: Global, fields: &ByteRecord) -> Result<Command, AllocError>
     }))
 }
 
-// A row of a load.
-fn row(alloc: Global, fields: &ByteRecord) -> Result<RowWords, AllocError>
-    ensures { IfOk result (λ row. item_of Row (fields_of fields.now) ≡ Ok (RowOf row)) }
+// The words of a row of a load.
+#[tactic(auto, using(crate::proofs::RowItems::row_item))]
+fn row(alloc: Global, fields: &ByteRecord) -> Result<Fields, AllocError>
+    ensures { IfOk result (λ words. item_of Row (fields_of fields.now) ≡ Ok (RowOf (row_from words))) }
 {
-    Ok(RowWords {
-        table: words(alloc, fields, 1)?,
-        fields: words_from(alloc, fields, 2)?,
-    })
+    words_from(alloc, fields, 1)
 }
 
 // A query; the fields that it leaves out are empty.

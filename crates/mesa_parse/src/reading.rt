@@ -12,7 +12,7 @@ use crate::failed::Failed;
 use crate::items::{Said, read_item};
 use crate::kinds::Kind;
 use csv::ByteRecord;
-use mesa_batch::RowWords;
+use mesa_batch::LoadRows;
 use mesa_list::Items;
 use mesa_model::{Command, Script, Session};
 use mesa_script::{Reason, ScriptError};
@@ -33,7 +33,7 @@ pub(crate) struct Reading {
     lease: u32,
     finished: Items<Session>,
     current: Session,
-    rows: Items<RowWords>,
+    rows: LoadRows,
     count: usize,
 }
 
@@ -54,7 +54,7 @@ impl Reading {
             lease: DEFAULT_LEASE,
             finished: Items::new(alloc),
             current: Items::new(alloc),
-            rows: Items::new(alloc),
+            rows: LoadRows::new(alloc),
             count: 0,
         }
     }
@@ -97,7 +97,7 @@ impl Reading {
         if self.current.push(command).is_err() {
             return Err(ScriptError::Memory);
         }
-        self.rows = Items::new(alloc);
+        self.rows = LoadRows::new(alloc);
         self.count += 1;
         Ok(())
     }
@@ -108,12 +108,12 @@ impl Reading {
         ensures refused { IfErr result (λ e. e ≢ ScriptError.Memory → with_item place (item_as said) self.old ≡ Err e) }
     {
         match said {
-            Said::Row(row) => match self.rows.push(row) {
+            Said::Row(words) => match self.rows.push(&words) {
                 Ok(()) => Ok(()),
                 Err(_) => Err(ScriptError::Memory),
             },
             Said::EndOfLoad => {
-                let rows = mem::replace(&mut self.rows, Items::new(alloc));
+                let rows = mem::replace(&mut self.rows, LoadRows::new(alloc));
                 self.add_command(alloc, place, Command::Load(rows))
             }
             Said::Single(command) => self.add_command(alloc, place, command),

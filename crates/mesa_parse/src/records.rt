@@ -7,8 +7,8 @@ ghost use Rattle.mesa_script.specs.Script.{records_of};
 ghost use Rattle.mesa_parse.specs.Left.{IsBetween, records_left};
 
 use csv::{ByteRecord, Reader, ReaderBuilder};
-use mesa_list::Items;
-use mesa_schema::{Fields, Words};
+use mesa_list::{Fields, Items};
+use mesa_schema::Words;
 use mesa_script::ScriptError;
 use std::alloc::{AllocError, Global};
 
@@ -57,7 +57,7 @@ pub(crate) fn words(alloc: Global, fields: &ByteRecord, place: usize) -> Result<
     Items::from_bytes(alloc, field(fields, place))
 }
 
-/// Copies of the fields from a place on.
+/// Copies of the fields from a place on, in one buffer.
 pub(crate) fn words_from(
     alloc: Global,
     fields: &ByteRecord,
@@ -65,9 +65,9 @@ pub(crate) fn words_from(
 ) -> Result<Fields, AllocError>
     ensures { IfOk result (λ copies. copies ≡ drop start (fields_of fields.now)) }
 {
-    let mut copies = Items::new(alloc);
+    let mut copies = Fields::new(alloc);
     'fields: for place in start..fields.len() {
-        copies.push(words(alloc, fields, place)?)?;
+        copies.push(field(fields, place))?;
     }
     Ok(copies)
 }

@@ -28,6 +28,14 @@ stops (Err d) before rest e p = ap (λ (r : Result (List Placed) BatchError). r 
 pub row_stops : (tables : List Named) (before : List Placed) (words : RowWords) (rows : List RowWords) (e : BatchError) → with_row tables before words ≡ Err e → batch_from tables before (words ∷ rows) ≡ Err e
 row_stops tables before words rows e p = stops (placed_of tables before words) before (λ more. batch_from tables more rows) e p
 
+-- A row that is kept leaves it to the others.
+pub row_goes_on : (tables : List Named) (before after : List Placed) (words : RowWords) (rows : List RowWords) → with_row tables before words ≡ Ok after → batch_from tables before (words ∷ rows) ≡ batch_from tables after rows
+row_goes_on tables before after words rows e = by (placed_of tables before words) e
+  where
+    by : (r : Result Placed BatchError) → (r >>= (λ placed. Ok (before ++ placed ∷ []))) ≡ Ok after → (r >>= (λ placed. batch_from tables (before ++ placed ∷ []) rows)) ≡ batch_from tables after rows
+    by (Ok placed) e = let same : before ++ placed ∷ [] ≡ after = cc in ap (λ all. batch_from tables all rows) same
+    by (Err error) e = cc
+
 -- and is told
 pub is_told : (e : BatchError) (due : Result (List Placed) BatchError) (failure : Failure) → failure ≡ batch_failure e → (e ≢ error.Memory → due ≡ Err e) → IsDue (refused_as batch_refusal due) failure
 is_told error.Memory due failure is h = subst (IsDue (refused_as batch_refusal due)) (sym is) tt

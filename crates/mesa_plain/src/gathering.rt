@@ -8,19 +8,19 @@ ghost use Rattle.mesa_plain.specs.Grown.{HasRows, IsBatchOf};
 ghost use Rattle.mesa_plain.specs.Told.{IsDue, batch_failure};
 
 use crate::failure::Failure;
-use mesa_batch::{Batch, BatchBuilder, BatchError, Glance, RowWords};
+use mesa_batch::{Batch, BatchBuilder, BatchError, Glance, LoadRows};
 use mesa_model::Refusal;
 use std::alloc::{AllocError, Global};
 
 // The batch of a load's rows, or its first refusal.
-pub(crate) fn gather(alloc: Global, glance: &Glance, rows: &[RowWords]) -> Result<Batch, Failure>
+pub(crate) fn gather(alloc: Global, glance: &Glance, rows: &LoadRows) -> Result<Batch, Failure>
     ensures rows { IfOk result (λ batch. (placed : List PlacedRow) × ((batch_of (tables_of glance.now) rows.now ≡ Ok placed) × HasRows placed batch)) }
     ensures batch { IfOk result (λ batch. IsBatchOf glance.now.tables batch) }
     ensures refused { IfErr result (IsDue (refused_as batch_refusal (batch_of (tables_of glance.now) rows.now))) }
 {
     let mut builder = BatchBuilder::new(alloc);
-    'rows: for words in rows {
-        if let Err(error) = builder.row(glance, words) {
+    'rows: for place in 0..rows.len() {
+        if let Err(error) = builder.row(glance, &rows.row(place)) {
             return Err(refusal_of(error));
         }
     }

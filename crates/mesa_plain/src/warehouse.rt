@@ -16,7 +16,7 @@ use crate::failure::Failure;
 use crate::gathering::gather;
 use crate::pins::{PlainPin, counted, is_held, let_go, push_pin};
 use crate::store::PlainStore;
-use mesa_batch::RowWords;
+use mesa_batch::LoadRows;
 use mesa_filter::VersionWord;
 use mesa_list::Items;
 use mesa_model::{Refusal, Reply};
@@ -63,7 +63,7 @@ impl PlainWarehouse {
     }
 
     /// Loads a batch of rows: it is seen in all tables at once.
-    pub fn load(&mut self, rows: &[RowWords]) -> Result<Reply, AllocError>
+    pub fn load(&mut self, rows: &LoadRows) -> Result<Reply, AllocError>
         ensures done { IfOk result (λ reply. done_or_refused self.old (load_batch self.old rows.now) ≡ (self.new, reply)) }
         ensures kept { OnErr result (self.new ≡ self.old) }
     {
@@ -74,7 +74,7 @@ impl PlainWarehouse {
         }
     }
 
-    fn try_load(&mut self, rows: &[RowWords]) -> Result<Reply, Failure>
+    fn try_load(&mut self, rows: &LoadRows) -> Result<Reply, Failure>
         ensures done { IfOk result (λ reply. load_batch self.old rows.now ≡ Ok (self.new, reply)) }
         ensures refused { IfErr result (IsDue (load_batch self.old rows.now)) }
         ensures kept { OnErr result (self.new ≡ self.old) }

@@ -1,10 +1,11 @@
 // Rows of a load, and why they make no batch.
+ghost use Rattle.std.specs.Prelude.{◌≡◌, IfOk, length};
 ghost use Rattle.mesa_batch.specs.Gathered.{IsReadBy};
 
 use crate::views::table;
-use mesa_batch::{Batch, BatchBuilder, BatchError, Glance, Glanced, RowWords, fits};
-use mesa_list::{Items, TryCopy};
-use mesa_schema::{Fields, Name, Words};
+use mesa_batch::{Batch, BatchBuilder, BatchError, Glance, Glanced, LoadRows, fits};
+use mesa_list::{Fields, Items, TryCopy};
+use mesa_schema::Name;
 use std::alloc::{AllocError, Global};
 use std::sync::Arc;
 use std::test::Fail;
@@ -19,37 +20,28 @@ fn glance(alloc: Global) -> Result<Glance, Fail> {
     Ok(Glance::new(alloc, 1, tables)?)
 }
 
-fn words_of(alloc: Global, bytes: &[u8]) -> Result<Words, AllocError> {
-    Items::from_bytes(alloc, bytes)
-}
-
-// The fields that stand between semicolons; none in an empty text.
-fn fields_of(alloc: Global, text: &[u8]) -> Result<Fields, AllocError> {
-    let mut fields: Fields = Items::new(alloc);
-    if text.is_empty() {
-        return Ok(fields);
+// A row of a table's name and its fields, which stand between semicolons; an empty text has none.
+fn row(alloc: Global, name: &[u8], fields: &[u8]) -> Result<LoadRows, AllocError>
+    ensures { IfOk result (λ rows. length rows ≡ 1) }
+{
+    let mut words = Fields::new(alloc);
+    words.push(name)?;
+    if !fields.is_empty() {
+        for field in fields.split(|b| *b == b';') {
+            words.push(field)?;
+        }
     }
-    for field in text.split(|b| *b == b';') {
-        fields.push(words_of(alloc, field)?)?;
-    }
-    Ok(fields)
-}
-
-// A row of a table's name and its fields.
-fn row(alloc: Global, name: &[u8], fields: &[u8]) -> Result<RowWords, AllocError> {
-    let row = RowWords {
-        table: words_of(alloc, name)?,
-        fields: fields_of(alloc, fields)?,
-    };
-    row.copy()
+    let mut rows = LoadRows::new(alloc);
+    rows.push(&words)?;
+    Ok(rows)
 }
 
 // Why a load of one row makes no batch.
 fn fault_of(alloc: Global, name: &[u8], fields: &[u8]) -> Result<Option<BatchError>, Fail> {
     let glance = glance(alloc)?;
-    let row = row(alloc, name, fields)?;
+    let rows = row(alloc, name, fields)?;
     let mut builder = BatchBuilder::new(alloc);
-    Ok(builder.row(&glance, &row).err())
+    Ok(builder.row(&glance, &rows.row(0)).err())
 }
 
 const NO_TABLE: Option<BatchError> = Some(BatchError::NoTable { row: 1 });
@@ -146,8 +138,8 @@ fn next_fault(
     requires { IsReadBy glance.now builder.old }
     ensures { IsReadBy glance.now builder.new }
 {
-    let row = row(alloc, b"t", fields)?;
-    Ok(builder.row(glance, &row).err())
+    let rows = row(alloc, b"t", fields)?;
+    Ok(builder.row(glance, &rows.row(0)).err())
 }
 
 // Whether two rows are taken, and a third is refused that has the key of the first.

@@ -4,6 +4,8 @@
 #[cfg(test)]
 mod batches;
 #[cfg(test)]
+mod changes;
+#[cfg(test)]
 mod columns;
 #[cfg(test)]
 mod schemas;

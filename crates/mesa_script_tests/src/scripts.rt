@@ -1,4 +1,5 @@
 // Scripts that are read, and scripts that are refused.
+use mesa_batch::RowView;
 use mesa_model::Command;
 use mesa_parse::parse;
 use mesa_schema::Words;
@@ -11,6 +12,19 @@ fn push_all(out: &mut Vec<u8>, lists: &[Words]) -> Result<(), AllocError> {
     for list in lists {
         out.push(b',')?;
         out.extend_from_slice(list.as_slice())?;
+    }
+    Ok(())
+}
+
+// A row of a load behind a space.
+fn push_row(out: &mut Vec<u8>, row: &RowView) -> Result<(), AllocError> {
+    out.push(b' ')?;
+    out.extend_from_slice(row.table())?;
+    for place in 0..row.fields().len() {
+        if let Some(field) = row.fields().get(place) {
+            out.push(b',')?;
+            out.extend_from_slice(field)?;
+        }
     }
     Ok(())
 }
@@ -39,10 +53,8 @@ fn outline(alloc: Global, command: &Command) -> Result<Vec<u8>, AllocError> {
         }
         Command::Load(rows) => {
             out.extend_from_slice(b"load")?;
-            for row in rows.as_slice() {
-                out.push(b' ')?;
-                out.extend_from_slice(row.table.as_slice())?;
-                push_all(&mut out, row.fields.as_slice())?;
+            for place in 0..rows.len() {
+                push_row(&mut out, &rows.row(place))?;
             }
         }
         Command::Query(words) => {

@@ -21,7 +21,7 @@ impl PlainWarehouse {
         match command {
             Command::Table(words) => self.make_table(words),
             Command::View(words) => self.make_view(words),
-            Command::Load(rows) => self.load(rows.as_slice()),
+            Command::Load(rows) => self.load(rows),
             Command::Query(words) => self.reply_to_query(session, words),
             Command::Pin(version) => self.pin(session, *version),
             Command::Release(token) => Ok(self.release(session, *token)),
