@@ -16,7 +16,7 @@ fn tables_full(rt: HostRuntime) -> Result<(), Fail> {
     }
     output.push_str("0.33@32 refused tables_full limit=32\n")?;
     let trial = try_script(alloc, script.as_str())?;
-    assert!(rt; trial.gave(1, output.as_str()));
+    trial.expect(&rt, "tables full", 1, output.as_str());
     Ok(())
 }
 
@@ -34,7 +34,7 @@ fn views_full(rt: HostRuntime) -> Result<(), Fail> {
     }
     output.push_str("0.10@9 refused tables_full limit=8\n")?;
     let trial = try_script(alloc, script.as_str())?;
-    assert!(rt; trial.gave(1, output.as_str()));
+    trial.expect(&rt, "views full", 1, output.as_str());
     Ok(())
 }
 
@@ -44,7 +44,12 @@ fn seventeen_key_columns(rt: HostRuntime) -> Result<(), Fail> {
         rt.alloc(),
         "table,x,a int;b int;c int;d int;e int;f int;g int;h int;i int;j int;k int;l int;m int;n int;o int;p int;q int,v sum\n",
     )?;
-    assert!(rt; trial.gave(1, "0.1@0 refused bad_schema reason=too_many_columns\n"));
+    trial.expect(
+        &rt,
+        "seventeen key columns",
+        1,
+        "0.1@0 refused bad_schema reason=too_many_columns\n",
+    );
     Ok(())
 }
 
@@ -66,6 +71,6 @@ fn more_than_a_page(rt: HostRuntime) -> Result<(), Fail> {
     }
     output.push_str("resume t/0/0/k/80000000000003e7\n")?;
     let trial = try_script(alloc, script.as_str())?;
-    assert!(rt; trial.gave(0, output.as_str()));
+    trial.expect(&rt, "more than a page", 0, output.as_str());
     Ok(())
 }

@@ -13,15 +13,15 @@ fn quotes_and_line_ends(rt: HostRuntime) -> Result<(), Fail> {
          commit\r\n\r\n\
          query,t",
     )?;
-    assert!(rt;
-        trial.gave(
-            0,
-            "0.1@0 table t\n\
+    trial.expect(
+        &rt,
+        "quotes and line ends",
+        0,
+        "0.1@0 table t\n\
          0.2@2 loaded version=0 rows=2\n\
          0.3@3 rows 2 version=0\n\
          \"a,\"\"b\"\"\",5\n\
          \"two\nlines\",6\n",
-        )
     );
     Ok(())
 }
@@ -31,14 +31,14 @@ fn no_utf8(rt: HostRuntime) -> Result<(), Fail> {
     let alloc = rt.alloc();
     let script: &[u8] = b"table,t,k text,v sum\nrow,t,\xff,5\ncommit\nquery,\xff\nquery,t\n";
     let trial = try_bytes(alloc, &["run"], script.to_vec(alloc)?, &[], &[])?;
-    assert!(rt;
-        trial.gave(
-            1,
-            "0.1@0 table t\n\
+    trial.expect(
+        &rt,
+        "no utf8",
+        1,
+        "0.1@0 table t\n\
          0.2@2 refused bad_row row=1 column=1\n\
          0.3@3 refused no_table\n\
          0.4@4 refused future asked=latest newest=none\n",
-        )
     );
     Ok(())
 }

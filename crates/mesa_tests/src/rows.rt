@@ -1,11 +1,6 @@
 // Scripts that run.
-use crate::trial::{Trial, try_script};
+use crate::trial::try_script;
 use std::test::Fail;
-
-// Whether a run ended with this status and this output, after so many turns.
-fn gave(trial: &Trial, status: u8, output: &str, turns: usize) -> bool {
-    trial.gave(status, output) && trial.turns == turns
-}
 
 #[test]
 fn sales_and_view(rt: HostRuntime) -> Result<(), Fail> {
@@ -29,11 +24,11 @@ fn sales_and_view(rt: HostRuntime) -> Result<(), Fail> {
          query,c,latest\n\
          query,a,1,pub=100&day>=20140101,country,clicks\n",
     )?;
-    assert!(rt;
-        gave(
-            &trial,
-            0,
-            "0.1@0 table a\n\
+    trial.expect(
+        &rt,
+        "sales and view",
+        0,
+        "0.1@0 table a\n\
          0.2@1 table b\n\
          0.3@2 view c\n\
          0.4@4 loaded version=0 rows=4\n\
@@ -51,9 +46,8 @@ fn sales_and_view(rt: HostRuntime) -> Result<(), Fail> {
          2,US,190,100\n\
          0.9@13 rows 1 version=1\n\
          US,190\n",
-            15
-        )
     );
+    assert_eq!(rt; trial.turns, 15);
     Ok(())
 }
 
@@ -67,18 +61,17 @@ fn one_row(rt: HostRuntime) -> Result<(), Fail> {
          commit\n\
          query,t\n",
     )?;
-    assert!(rt;
-        gave(
-            &trial,
-            0,
-            "0.1@0 table t\n\
+    trial.expect(
+        &rt,
+        "one row",
+        0,
+        "0.1@0 table t\n\
          0.2@2 loaded version=0 rows=1\n\
          0.3@4 loaded version=1 rows=0\n\
          0.4@5 rows 1 version=1\n\
          1,5\n",
-            7
-        )
     );
+    assert_eq!(rt; trial.turns, 7);
     Ok(())
 }
 
@@ -93,18 +86,17 @@ fn zero_sum_stays(rt: HostRuntime) -> Result<(), Fail> {
          commit\n\
          query,t\n",
     )?;
-    assert!(rt;
-        gave(
-            &trial,
-            0,
-            "0.1@0 table t\n\
+    trial.expect(
+        &rt,
+        "zero sum stays",
+        0,
+        "0.1@0 table t\n\
          0.2@2 loaded version=0 rows=1\n\
          0.3@4 loaded version=1 rows=1\n\
          0.4@5 rows 1 version=1\n\
          7,0\n",
-            7
-        )
     );
+    assert_eq!(rt; trial.turns, 7);
     Ok(())
 }
 
@@ -120,16 +112,15 @@ fn duplicate_key(rt: HostRuntime) -> Result<(), Fail> {
          row,t,1,7\n\
          commit\n",
     )?;
-    assert!(rt;
-        gave(
-            &trial,
-            1,
-            "0.1@0 table t\n\
+    trial.expect(
+        &rt,
+        "duplicate key",
+        1,
+        "0.1@0 table t\n\
          0.2@2 refused duplicate_key first=1 second=3\n\
          0.3@4 loaded version=0 rows=1\n",
-            5
-        )
     );
+    assert_eq!(rt; trial.turns, 5);
     Ok(())
 }
 
@@ -144,33 +135,31 @@ fn sum_bound(rt: HostRuntime) -> Result<(), Fail> {
          commit\n\
          query,t\n",
     )?;
-    assert!(rt;
-        gave(
-            &trial,
-            1,
-            "0.1@0 table t\n\
+    trial.expect(
+        &rt,
+        "sum bound",
+        1,
+        "0.1@0 table t\n\
          0.2@2 loaded version=0 rows=1\n\
          0.3@4 refused sum_bound table=t column=v\n\
          0.4@5 rows 1 version=0\n\
          1,9223372036854775807\n",
-            7
-        )
     );
+    assert_eq!(rt; trial.turns, 7);
     let trial = try_script(
         rt.alloc(),
         "table,t,k int,v sum\n\
          row,t,1,-9223372036854775808\n\
          commit\n",
     )?;
-    assert!(rt;
-        gave(
-            &trial,
-            1,
-            "0.1@0 table t\n\
+    trial.expect(
+        &rt,
+        "sum bound",
+        1,
+        "0.1@0 table t\n\
          0.2@2 refused sum_bound table=t column=v\n",
-            3
-        )
     );
+    assert_eq!(rt; trial.turns, 3);
     Ok(())
 }
 
@@ -188,11 +177,11 @@ fn stale_and_future(rt: HostRuntime) -> Result<(), Fail> {
          query,t,3\n\
          expire,0\n",
     )?;
-    assert!(rt;
-        gave(
-            &trial,
-            1,
-            "0.1@0 table t\n\
+    trial.expect(
+        &rt,
+        "stale and future",
+        1,
+        "0.1@0 table t\n\
          0.2@1 refused future asked=latest newest=none\n\
          0.3@3 loaded version=0 rows=0\n\
          0.4@5 loaded version=1 rows=0\n\
@@ -201,9 +190,8 @@ fn stale_and_future(rt: HostRuntime) -> Result<(), Fail> {
          0.7@9 refused stale asked=0 oldest=1\n\
          0.8@10 refused future asked=3 newest=2\n\
          0.9@11 refused stale asked=0 oldest=1\n",
-            12
-        )
     );
+    assert_eq!(rt; trial.turns, 12);
     Ok(())
 }
 
@@ -224,11 +212,11 @@ fn refusals_by_name(rt: HostRuntime) -> Result<(), Fail> {
          query,t,,kk=1\n\
          query,t,,k=x\n",
     )?;
-    assert!(rt;
-        gave(
-            &trial,
-            1,
-            "0.1@0 table t\n\
+    trial.expect(
+        &rt,
+        "refusals by name",
+        1,
+        "0.1@0 table t\n\
          0.2@2 refused no_table row=2\n\
          0.3@4 refused bad_row row=1 column=3\n\
          0.4@6 refused bad_row row=1 column=3\n\
@@ -236,9 +224,8 @@ fn refusals_by_name(rt: HostRuntime) -> Result<(), Fail> {
          0.6@8 refused bad_schema reason=name_twice\n\
          0.7@9 refused no_column\n\
          0.8@10 refused bad_filter term=1\n",
-            11
-        )
     );
+    assert_eq!(rt; trial.turns, 11);
     Ok(())
 }
 
@@ -251,17 +238,16 @@ fn views_guard_columns(rt: HostRuntime) -> Result<(), Fail> {
          view,x,t,c,r\n\
          view,t,t,c,v\n",
     )?;
-    assert!(rt;
-        gave(
-            &trial,
-            1,
-            "0.1@0 table t\n\
+    trial.expect(
+        &rt,
+        "views guard columns",
+        1,
+        "0.1@0 table t\n\
          0.2@1 view w\n\
          0.3@2 refused replace_group column=r\n\
          0.4@3 refused table_exists\n",
-            4
-        )
     );
+    assert_eq!(rt; trial.turns, 4);
     Ok(())
 }
 
@@ -275,18 +261,17 @@ fn escaped_filter(rt: HostRuntime) -> Result<(), Fail> {
          commit\n\
          query,t,,name=a%26b|x%2cy\n",
     )?;
-    assert!(rt;
-        gave(
-            &trial,
-            0,
-            "0.1@0 table t\n\
+    trial.expect(
+        &rt,
+        "escaped filter",
+        0,
+        "0.1@0 table t\n\
          0.2@2 loaded version=0 rows=2\n\
          0.3@3 rows 2 version=0\n\
          a&b,6\n\
          \"x,y\",5\n",
-            5
-        )
     );
+    assert_eq!(rt; trial.turns, 5);
     Ok(())
 }
 
@@ -307,10 +292,11 @@ fn four_aggregations(rt: HostRuntime) -> Result<(), Fail> {
          commit\n\
          query,m\n",
     )?;
-    assert!(rt;
-        trial.gave(
-            1,
-            "0.1@0 table m\n\
+    trial.expect(
+        &rt,
+        "four aggregations",
+        1,
+        "0.1@0 table m\n\
          0.2@1 refused future asked=latest newest=none\n\
          0.3@3 loaded version=0 rows=3\n\
          0.4@5 loaded version=1 rows=2\n\
@@ -318,8 +304,7 @@ fn four_aggregations(rt: HostRuntime) -> Result<(), Fail> {
          -2,1,1,1,1,1\n\
          2,-1,7,7,7,7\n\
          2,1,8,3,5,3\n\
-         2,1000,0,0,0,0\n"
-        )
+         2,1000,0,0,0,0\n",
     );
     Ok(())
 }
@@ -327,7 +312,7 @@ fn four_aggregations(rt: HostRuntime) -> Result<(), Fail> {
 #[test]
 fn empty_script(rt: HostRuntime) -> Result<(), Fail> {
     let trial = try_script(rt.alloc(), "")?;
-    assert!(rt; trial.gave(0, ""));
+    trial.expect(&rt, "empty script", 0, "");
     assert_eq!(rt; trial.turns, 0);
     Ok(())
 }

@@ -10,11 +10,11 @@ const USAGE: &str = "mesa: usage: mesa run | mesa check | mesa gen SEED VERSIONS
 fn other_words(rt: HostRuntime) -> Result<(), Fail> {
     let alloc = rt.alloc();
     let none = try_bytes(alloc, &[], Vec::new(alloc), &[], &[])?;
-    assert!(rt; none.gave(2, USAGE));
+    none.expect(&rt, "no words", 2, USAGE);
     let more = try_bytes(alloc, &["run", "x"], Vec::new(alloc), &[], &[])?;
-    assert!(rt; more.gave(2, USAGE));
+    more.expect(&rt, "run x", 2, USAGE);
     let other = try_bytes(alloc, &["check"], Vec::new(alloc), &[], &[])?;
-    assert!(rt; other.gave(2, USAGE));
+    other.expect(&rt, "check", 2, USAGE);
     Ok(())
 }
 
@@ -23,7 +23,7 @@ fn source_fails(rt: HostRuntime) -> Result<(), Fail> {
     let alloc = rt.alloc();
     let script = ONE_ROW.as_bytes().to_vec(alloc)?;
     let trial = try_bytes(alloc, &["run"], script, &[0], &[])?;
-    assert!(rt; trial.gave(4, "mesa: source fault\n"));
+    trial.expect(&rt, "source fails", 4, "mesa: source fault\n");
     Ok(())
 }
 
@@ -32,11 +32,11 @@ fn sink_fails(rt: HostRuntime) -> Result<(), Fail> {
     let alloc = rt.alloc();
     let script = ONE_ROW.as_bytes().to_vec(alloc)?;
     let trial = try_bytes(alloc, &["run"], script, &[], &[0])?;
-    assert!(rt; trial.gave(5, ""));
+    trial.expect(&rt, "sink fails", 5, "");
     // The command whose block failed has its turn, and the next one is skipped.
     assert_eq!(rt; trial.turns, 2);
     let trial = try_bytes(alloc, &[], Vec::new(alloc), &[], &[0])?;
-    assert!(rt; trial.gave(5, ""));
+    trial.expect(&rt, "a sink that fails before the usage", 5, "");
     Ok(())
 }
 
@@ -46,6 +46,11 @@ fn input_too_long(rt: HostRuntime) -> Result<(), Fail> {
     let mut bytes = Vec::new(alloc);
     bytes.resize(67_108_865, b'\n')?;
     let trial = try_bytes(alloc, &["run"], bytes, &[], &[])?;
-    assert!(rt; trial.gave(9, "mesa: input over 67108864 bytes\n"));
+    trial.expect(
+        &rt,
+        "input too long",
+        9,
+        "mesa: input over 67108864 bytes\n",
+    );
     Ok(())
 }

@@ -2,6 +2,7 @@
 use mesa_io::{MemSink, MemSource};
 use mesa_shell::{Done, mesa};
 use std::alloc::Global;
+use std::process::Abort;
 use std::test::Fail;
 
 /// What a run of the program left.
@@ -9,13 +10,14 @@ use std::test::Fail;
 pub struct Trial {
     pub status: u8,
     pub turns: usize,
-    out: MemSink,
+    pub text: String,
 }
 
 impl Trial {
-    /// Whether it ended with this status and this output.
-    pub fn gave(&self, status: u8, output: &str) -> bool {
-        self.status == status && self.out.bytes() == output.as_bytes()
+    /// Stops the test of a case that printed another text or ended with another status.
+    pub fn expect(&self, rt: &impl Abort, case: &str, status: u8, text: &str) {
+        assert_eq!(rt; self.text.as_str(), text, "what {case} prints");
+        assert_eq!(rt; self.status, status, "the status of {case}");
     }
 }
 
@@ -36,10 +38,11 @@ pub fn try_bytes(
         out,
         history,
     } = done;
+    let text = String::from_utf8(out.bytes().to_vec(alloc)?);
     Ok(Trial {
         status,
         turns: history.len(),
-        out,
+        text: text.ok().ok_or("what was printed is no text")?,
     })
 }
 
