@@ -1,4 +1,5 @@
 // Head lines.
+use crate::texts::text_of;
 use mesa_file::{Damage, FileId, Seen};
 use mesa_filter::VersionWord;
 use mesa_list::Items;
@@ -8,12 +9,11 @@ use mesa_schema::Name;
 use std::alloc::Global;
 use std::test::Fail;
 
-// Whether the head line of a reply to the fifth command of the prologue, at position 8, is this
-// one.
-fn is_line(reply: &Reply, want: &str) -> bool {
+// The head line of a reply to the fifth command of the prologue, at position 8.
+fn line_of(alloc: Global, reply: &Reply) -> Result<String, Fail> {
     let mut line = [0; HEAD_ROOM];
     let end = head(0, 5, 8, reply, &mut line);
-    &line[..end] == want.as_bytes()
+    text_of(alloc, &line[..end])
 }
 
 // The name of these bytes.
@@ -138,16 +138,18 @@ fn refusals(alloc: Global) -> Result<Vec<(Refusal, &'static str)>, Fail> {
 
 #[test]
 fn prints_replies(rt: HostRuntime) -> Result<(), Fail> {
-    for (reply, want) in replies(rt.alloc())? {
-        assert!(rt; is_line(&reply, want), "not {want}");
+    let alloc = rt.alloc();
+    for (reply, want) in replies(alloc)? {
+        assert_eq!(rt; line_of(alloc, &reply)?.as_str(), want);
     }
     Ok(())
 }
 
 #[test]
 fn prints_refusals(rt: HostRuntime) -> Result<(), Fail> {
-    for (refusal, want) in refusals(rt.alloc())? {
-        assert!(rt; is_line(&Reply::Refused(refusal), want), "not {want}");
+    let alloc = rt.alloc();
+    for (refusal, want) in refusals(alloc)? {
+        assert_eq!(rt; line_of(alloc, &Reply::Refused(refusal))?.as_str(), want);
     }
     Ok(())
 }

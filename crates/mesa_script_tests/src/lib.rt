@@ -7,3 +7,5 @@ mod heads;
 mod pages;
 #[cfg(test)]
 mod scripts;
+#[cfg(test)]
+mod texts;

@@ -5,6 +5,7 @@ ghost use Rattle.mesa_key.specs.Spelling.{IsKey, is_spelling};
 ghost use Rattle.mesa_key.specs.Text.{is_key_text};
 ghost use Rattle.mesa_schema.specs.declared.rows.Row.{Row as AnyRow};
 
+use crate::texts::text_of;
 use mesa_key::{Key, KeyBytes, KeyText, KeyType, KeyValue, encode, reads_back};
 use mesa_list::Items;
 use mesa_model::Page;
@@ -71,7 +72,7 @@ fn prints_pages(rt: HostRuntime) -> Result<(), Fail> {
     assert!(rt; printed.more);
     let lines =
         "20131231,US,10\n-5,\"a,\"\"b\"\"\",-1\nresume a/1/0/day;country/7ffffffffffffffb612c22622200\n";
-    assert_eq!(rt; printed.body.as_slice(), lines.as_bytes());
+    assert_eq!(rt; text_of(alloc, printed.body.as_slice())?.as_str(), lines);
     Ok(())
 }
 

@@ -1,4 +1,5 @@
 // Scripts that are read, and scripts that are refused.
+use crate::texts::text_of;
 use mesa_batch::RowView;
 use mesa_model::Command;
 use mesa_parse::parse;
@@ -91,7 +92,7 @@ fn reads_a_script(rt: HostRuntime) -> Result<(), Fail> {
     assert_eq!(rt; commands.len(), wants.len());
     for (command, want) in commands.iter().zip(wants) {
         let words = outline(alloc, command)?;
-        assert_eq!(rt; words.as_slice(), want.as_bytes());
+        assert_eq!(rt; text_of(alloc, words.as_slice())?.as_str(), want);
     }
     Ok(())
 }
