@@ -105,6 +105,15 @@ fn changes_that_break_a_rule(rt: HostRuntime) -> Result<(), Fail> {
     Ok(())
 }
 
+// The text of no bytes.
+fn empty_text(alloc: Global) -> KeyValue {
+    let bytes = Items::new(alloc);
+    if KeyText::allows(bytes.as_slice()) {
+        return KeyValue::Text(KeyText::new(bytes));
+    }
+    KeyValue::Int(0)
+}
+
 // The row `1, "x"` with the values 5 and 7, of the table's first columns.
 fn first_row(alloc: Global) -> Result<Row, Fail> {
     Ok(Row {
@@ -117,10 +126,9 @@ fn first_row(alloc: Global) -> Result<Row, Fail> {
 fn a_row_of_the_first_epoch_at_present(rt: HostRuntime) -> Result<(), Fail> {
     let alloc = rt.alloc();
     let mut table = table(alloc)?;
-    let text = KeyText::new(Items::new(alloc));
     for change in [
         added_value(alloc, b"m", Agg::Min, 9)?,
-        added_key(alloc, b"e", KeyType::Text, KeyValue::Text(text))?,
+        added_key(alloc, b"e", KeyType::Text, empty_text(alloc))?,
         dropped(alloc, b"v")?,
         added_key(alloc, b"f", KeyType::Int, KeyValue::Int(-1))?,
     ] {
