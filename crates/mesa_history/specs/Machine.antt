@@ -1,11 +1,12 @@
 -- RangeMachine: each table's ranges of deltas and its lease, without any rows.
-use Rattle.std.specs.Prelude.{ℕ, ◌+◌, ◌-◌, List, [], ◌∷◌, ◌++◌, ◌==◌, if◌then◌else◌, Option, Some, None, slice_index_or, slice_set, Result, Ok, Err}
+use Rattle.std.specs.Prelude.{ℕ, ◌+◌, List, [], ◌∷◌, ◌++◌, Option, Some, None, slice_index_or, slice_set, Result, Ok, Err}
 use Rattle.std.specs.Option.{ok_or}
 use Rattle.mesa_list.specs.Checks.{◌>>=◌, ◌>>◌, refuse_unless, refused_as}
 use Rattle.mesa_span.specs.declared.ranges.Ranges.{Ranges}
 use Rattle.mesa_span.specs.declared.works.Work.{Work}
 use Rattle.mesa_span.specs.declared.works.Work.TheVariants as work
 use Rattle.mesa_span.specs.Plan.{plan}
+pub use Rattle.mesa_span.specs.Ranges.{new_ranges}
 use Rattle.mesa_span.specs.Work.{next_work, swapped}
 use Rattle.mesa_lease.specs.Book.{Book, begun, holder, is_held, other_holder, granted, renewed, ended}
 use Rattle.mesa_model.specs.declared.commands.ExplainWords.{ExplainWords}
@@ -29,14 +30,6 @@ pub record Claim : Type 0 where
   pub table : ℕ
   pub lease : ℕ
   pub work : Work
-
--- a base to the version before this one, and none where that is the first version
-abbrev pub base_before : ℕ → Option ℕ
-base_before version = if version == 0 then None else Some (version - 1)
-
--- the ranges of a table that is made while this version is the oldest: an empty base to the one before it
-abbrev pub new_ranges : ℕ → Ranges
-new_ranges oldest = record { base_to = base_before oldest; cumulatives = [] }
 
 -- the ranges of the table of a number
 abbrev pub ranges_at : Machine → ℕ → Ranges

@@ -11,9 +11,9 @@ pub record IsSettled (story : Story) (area : Area) (bodies : List (List ℕ)) (e
   pub left : (c : Image) → story.may_leave c → Closed (area_of area c) bodies end
 
 -- An area has the bodies, with one more or without it.
-abbrev pub WithOrWithout : List (List ℕ) → ℕ → List ℕ → List ℕ → List ℕ → Type 0
-WithOrWithout bodies end body old new = Closed new bodies end ⊎ Closed new (bodies ++ body ∷ []) (end + length body + 5)
+abbrev pub WithOrWithout : List (List ℕ) → ℕ → List ℕ → List ℕ → Type 0
+WithOrWithout bodies end body area = Closed area bodies end ⊎ Closed area (bodies ++ body ∷ []) (end + length body + 5)
 
 -- An image from the start, whose area has the bodies with one more or without it.
 abbrev pub IsWithinAppend : Story → Area → List (List ℕ) → ℕ → List ℕ → Image → Type 0
-IsWithinAppend start area bodies end body = After (InArea area (WithOrWithout bodies end body)) start.may_leave
+IsWithinAppend start area bodies end body = After (InArea area (λ old new. WithOrWithout bodies end body new)) start.may_leave

@@ -1,5 +1,5 @@
 -- The ranges of versions that a table's deltas cover.
-use Rattle.std.specs.Prelude.{◌≡◌, ℕ, ◌+◌, ◌*◌, ◌≤◌, List, [], ◌∷◌, map, length, Option, Some, None, Contains, ◌⊎◌, ⊤}
+use Rattle.std.specs.Prelude.{◌≡◌, ℕ, ◌+◌, ◌-◌, ◌*◌, ◌≤◌, ◌==◌, if◌then◌else◌, List, [], ◌∷◌, map, length, Option, Some, None, Contains, ◌⊎◌, ⊤}
 use Rattle.std.specs.List.{range_with_len}
 use Rattle.mesa_span.specs.declared.ranges.Ranges.{Ranges}
 
@@ -11,6 +11,14 @@ Span = ℕ × ℕ
 abbrev pub start_behind : Option ℕ → ℕ
 start_behind None = 0
 start_behind (Some to) = to + 1
+
+-- a base to the version before this one, and none where that is the first version
+abbrev pub base_before : ℕ → Option ℕ
+base_before version = if version == 0 then None else Some (version - 1)
+
+-- the ranges of a table that is made while this version is the oldest: an empty base to the one before it
+abbrev pub new_ranges : ℕ → Ranges
+new_ranges oldest = record { base_to = base_before oldest; cumulatives = [] }
 
 -- The first version behind the base: every cumulative starts there.
 abbrev pub start_of : Ranges → ℕ
