@@ -1,0 +1,23 @@
+-- The image in which nothing was written.
+use Rattle.std.proofs.Common.{refl, ◌≤◌, [], inl, arith}
+use Rattle.mesa_history.specs.Found.{kept_of as kept_in_state}
+use Rattle.mesa_history.specs.Run.{nothing_there}
+use Rattle.mesa_model.specs.declared.commands.Script.{Script}
+use Rattle.mesa_image.specs.Catalog.{empty_catalog}
+use Rattle.mesa_image.specs.Fitting.{catalog_from}
+use Rattle.mesa_image.specs.Contents.{Rows, kept_of}
+use Rattle.mesa_image.specs.Sound.{IsSound, IsSoundAs, StandsFor, empty_image}
+
+no_rows : Rows
+no_rows id = []
+
+sound_as : IsSoundAs empty_image [] empty_catalog no_rows
+unfolding catalog_from
+sound_as = record { journal = (0, inl (record { short = (let e : 0 ≤ 1 = omega arith in e); none = refl; ends = refl })); records = refl; files = tt; rows_are = tt }
+
+pub is_sound : IsSound empty_image
+is_sound = record { bodies = []; catalogue = empty_catalog; rows = no_rows; is = sound_as }
+
+pub stands_for_nothing : (script : Script) → StandsFor empty_image (kept_in_state (nothing_there script))
+unfolding kept_of
+stands_for_nothing script = record { bodies = []; catalogue = empty_catalog; rows = no_rows; is = sound_as; same = refl }

@@ -1,0 +1,7 @@
+mod Bodies
+mod OneRow
+mod AcrossBase
+mod DerivedView
+mod Misfits
+mod Damaged
+mod Empty

@@ -1,0 +1,58 @@
+-- Records that don't fit what stands before them.
+use Rattle.std.proofs.Common.{◌≡◌, refl, ℕ, List, [], ◌∷◌, ◌++◌, None}
+use Rattle.mesa_record.specs.Reading.{fields_of, file_ref_at, files_at}
+use Rattle.mesa_record.specs.Reading as reading
+use Rattle.mesa_image.specs.Fitting.{fits, catalog_from, catalog}
+use Rattle.mesa_image.proofs.Bodies.{half, word, long, run_1, empty_batch, expire}
+use Rattle.mesa_image.proofs.OneRow.{table_t, file_bytes, bodies}
+
+-- run 2
+abbrev run_2 : List ℕ
+run_2 = 1 ∷ 0 ∷ 0 ∷ 0 ∷ 2 ∷ []
+
+-- the numbers of runs begin with 1, and none comes twice
+first_run_2 : catalog (run_2 ∷ []) ≡ None
+unfolding fields_of reading.rising fits catalog_from
+first_run_2 = refl
+
+run_1_again : catalog (run_1 ∷ run_1 ∷ []) ≡ None
+unfolding fields_of reading.rising fits catalog_from
+run_1_again = refl
+
+-- versions begin with 0, and none is left out
+first_version_1 : catalog (run_1 ∷ empty_batch 1 ∷ []) ≡ None
+unfolding fields_of reading.rising fits catalog_from
+first_version_1 = refl
+
+-- the oldest version is one that is there
+expire_to_come : catalog (run_1 ∷ empty_batch 0 ∷ expire 1 ∷ []) ≡ None
+unfolding fields_of reading.rising fits catalog_from
+expire_to_come = refl
+
+-- a batch of one row, with this file, of an epoch, with this total
+abbrev batch : ℕ → List ℕ → ℕ → List ℕ → List ℕ
+batch version file epoch total = 5 ∷ word version ++ half 1 ++ half 0 ++ word epoch ++ file ++ 1 ∷ total
+
+-- a table of a name that is there
+table_again : catalog (bodies ++ table_t ∷ []) ≡ None
+unfolding fields_of file_ref_at files_at reading.rising fits catalog_from
+table_again = refl
+
+-- a file's id is of the last run, and new
+id_of_an_older_run : catalog (bodies ++ run_2 ∷ batch 2 (file_bytes 1 1) 0 (long 5) ∷ []) ≡ None
+unfolding fields_of file_ref_at files_at reading.rising fits catalog_from
+id_of_an_older_run = refl
+
+id_twice : catalog (bodies ++ batch 2 (file_bytes 1 0) 0 (long 5) ∷ []) ≡ None
+unfolding fields_of file_ref_at files_at reading.rising fits catalog_from
+id_twice = refl
+
+-- a batch is of the present epoch
+epoch_to_come : catalog (bodies ++ batch 2 (file_bytes 1 1) 1 (long 5) ∷ []) ≡ None
+unfolding fields_of file_ref_at files_at reading.rising fits catalog_from
+epoch_to_come = refl
+
+-- with 2^63 - 6 the total is 2^63 - 1, and with one more it is past the bound
+past_the_bound : catalog (bodies ++ batch 2 (file_bytes 1 1) 0 (0x7f ∷ 0xff ∷ 0xff ∷ 0xff ∷ 0xff ∷ 0xff ∷ 0xff ∷ 0xfb ∷ []) ∷ []) ≡ None
+unfolding fields_of file_ref_at files_at reading.rising fits catalog_from
+past_the_bound = refl

@@ -1,0 +1,6 @@
+pub mod Catalog
+pub mod Fitting
+pub mod Contents
+pub mod Sound
+pub mod Held
+pub mod Shape
