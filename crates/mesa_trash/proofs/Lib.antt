@@ -1,0 +1,4 @@
+pub mod Waiting
+pub mod Filing
+pub mod Adopting
+pub mod Swapping
