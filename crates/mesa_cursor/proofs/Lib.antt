@@ -1,0 +1,4 @@
+pub mod Lifted
+pub mod Giving
+pub mod Rising
+pub mod Ending
