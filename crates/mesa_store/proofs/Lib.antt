@@ -1,0 +1,3 @@
+pub mod Bodies
+mod Joined
+mod Gates
