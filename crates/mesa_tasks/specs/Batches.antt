@@ -1,0 +1,69 @@
+-- Batches whose files are written.
+use Rattle.std.specs.Prelude.{◌≡◌, ℕ, ◌+◌, ◌^◌, List, [], ◌∷◌, ◌++◌, Bool, true, false, nat_le, Option, Some, None, ⊤}
+use Rattle.std.specs.List.{list_any}
+use Rattle.mesa_schema.specs.declared.rows.Row.{Row}
+use Rattle.mesa_schema.specs.Columns.{aggs_of}
+use Rattle.mesa_schema.specs.Changes.{Lineage, columns_of}
+use Rattle.mesa_schema.specs.Folded.{folded}
+use Rattle.mesa_batch.specs.Batch.{Placed, rows_for}
+use Rattle.mesa_batch.specs.Glance.{Known, Sight}
+use Rattle.mesa_batch.specs.Totals.{abs_totals, capped}
+use Rattle.mesa_tasks.specs.Made.{AreMadeFiles}
+use Rattle.mesa_tasks.specs.declared.made.MadeFiles.{MadeFiles}
+use Rattle.mesa_tasks.specs.declared.prepared.Prepared.{Prepared}
+use Rattle.mesa_tasks.specs.declared.prepared.PreparedPart.{PreparedPart}
+
+-- A table's part of a batch: its number, its columns and views, its rows in the order of their keys, and for each sum column their absolute values, added up.
+pub record Share : Type 0 where
+  pub table : ℕ
+  pub lineage : Lineage
+  pub rows : List Row
+  pub totals : List ℕ
+
+-- the part of a table with these rows of the batch, if there are any
+abbrev pub share_of : ℕ → Lineage → List Row → List Share
+share_of table l [] = []
+share_of table l (row ∷ rows) = record {
+  table = table;
+  lineage = l;
+  rows = folded (aggs_of (columns_of l)) ((row ∷ rows) ∷ []);
+  totals = abs_totals (columns_of l) (row ∷ rows);
+} ∷ []
+
+-- the parts of these tables, which are numbered from this one on
+abbrev pub shares_from : List Placed → ℕ → List Known → List Share
+shares_from batch table [] = []
+shares_from batch table (t ∷ tables) = share_of table t.lineage (rows_for table batch) ++ shares_from batch (table + 1) tables
+
+-- The parts of a batch: one for each table with rows, by the tables' numbers.
+abbrev pub shares : Sight → List Placed → List Share
+shares sight batch = shares_from batch 0 sight.tables
+
+-- a total passes the bound of 2^63 - 1 by itself
+abbrev pub is_over : Share → Bool
+is_over share = list_any (λ total. nat_le (2 ^ 63) total) share.totals
+
+-- The files of a part: none where some total of the batch passes the bound, and else its rows' and its views'.
+abbrev pub HasFiles : {M : Type 0} → (M → Option (List ℕ)) → (M → ℕ) → Bool → Share → Option (MadeFiles M) → Type 0
+HasFiles bytes id_of true share None = ⊤
+HasFiles bytes id_of true share (Some made) = ⊥
+HasFiles bytes id_of false share None = ⊥
+HasFiles bytes id_of false share (Some made) = AreMadeFiles bytes id_of (columns_of share.lineage) share.lineage.views share.rows made
+
+-- A part as it is prepared.
+pub record IsPart {M : Type 0} (bytes : M → Option (List ℕ)) (id_of : M → ℕ) (over : Bool) (share : Share) (part : PreparedPart M) : Type 0 where
+  pub table : part.table ≡ share.table
+  pub totals : part.totals ≡ capped share.totals
+  pub files : HasFiles bytes id_of over share part.files
+
+-- each of the parts as it is prepared
+abbrev pub AreParts : {M : Type 0} → (M → Option (List ℕ)) → (M → ℕ) → Bool → List Share → List (PreparedPart M) → Type 0
+AreParts bytes id_of over [] [] = ⊤
+AreParts bytes id_of over [] (part ∷ parts) = ⊥
+AreParts bytes id_of over (share ∷ more) [] = ⊥
+AreParts bytes id_of over (share ∷ more) (part ∷ parts) = IsPart bytes id_of over share part × AreParts bytes id_of over more parts
+
+-- A batch that was read by the tables of a glance, with its files and totals.
+pub record IsPrepared {M : Type 0} (bytes : M → Option (List ℕ)) (id_of : M → ℕ) (sight : Sight) (batch : List Placed) (p : Prepared M) : Type 0 where
+  pub generation : p.generation ≡ sight.generation
+  pub parts : AreParts bytes id_of (list_any is_over (shares sight batch)) (shares sight batch) p.parts.items

@@ -1,0 +1,35 @@
+-- Readers that are given back.
+use Rattle.std.specs.Prelude.{◌≡◌, ℕ, ◌<◌, ◌≤◌, List, Vec, Option, None, Some, map, flat_map, ◌++◌, []}
+use Rattle.std.specs.List.{AllByRecursion}
+use Rattle.std.specs.declared.alloc.Global.{Global}
+use Rattle.mesa_fault.specs.Causes.{Rose}
+use Rattle.mesa_disk.specs.Story.{Story}
+use Rattle.mesa_delta.specs.declared.input.Input.{Input}
+use Rattle.mesa_tasks.specs.Inputs.{source_of}
+use Rattle.mesa_tasks.specs.declared.merging.Task.{Task}
+use Rattle.mesa_tasks.specs.declared.merging.TaskView.{TaskView}
+use Rattle.mesa_tasks.specs.declared.querying.Pinned.{Pinned}
+use Rattle.mesa_tasks.specs.declared.querying.PinnedInput.{PinnedInput}
+
+-- Readers were given back: each that has failed is counted, and where none has, no count changes.
+pub record GivesBack {R : Type 0} (faults : R → ℕ) (inputs : List (Input R)) (old new : Story) : Type 0 where
+  pub calls : new.faults ≡ old.faults
+  pub later : old.read_faults ≤ new.read_faults
+  pub counted : AllByRecursion (λ (i : Input R). 0 < faults (source_of i) → Rose old.read_faults new.read_faults) inputs
+  pub quiet : AllByRecursion (λ (i : Input R). faults (source_of i) ≡ 0) inputs → new.read_faults ≡ old.read_faults
+
+abbrev inputs_in : {R : Type 0} → Option (Vec (Input R) Global) → List (Input R)
+inputs_in None = []
+inputs_in (Some inputs) = inputs.items
+
+-- a view's own inputs, if it has any
+abbrev pub own_inputs : {R : Type 0} → TaskView R → List (Input R)
+own_inputs v = inputs_in v.inputs
+
+-- all inputs of a task: the table's, and then each view's
+abbrev pub task_inputs : {R : Type 0} → Task R → List (Input R)
+task_inputs t = t.inputs.items ++ flat_map own_inputs t.views.items
+
+-- the inputs of a pinned query
+abbrev pub pinned_inputs : {R : Type 0} → Pinned R → List (Input R)
+pinned_inputs {R = R} p = map (λ (i : PinnedInput R). i.input) p.inputs.items

@@ -1,0 +1,9 @@
+pub mod Serials
+pub mod Errors
+pub mod Made
+pub mod Batches
+pub mod Inputs
+pub mod Tasks
+pub mod Pins
+pub mod Opening
+pub mod GivingBack

@@ -1,0 +1,94 @@
+// Giving readers back, which takes no memory and can't fail.
+ghost use Rattle.std.specs.Prelude.{[], ◌∷◌, flat_map};
+ghost use Rattle.mesa_disk.specs.Story.{Unmoved};
+ghost use Rattle.mesa_tasks.specs.GivingBack.{GivesBack, own_inputs, pinned_inputs, task_inputs};
+
+use crate::{Pinned, PinnedInput, Task, TaskView};
+use mesa_delta::Input;
+use mesa_disk::{Disk, Made};
+
+/// Gives back an input's reader.
+pub fn retire_input<M: Made, D: Disk<M>>(disk: &mut D, input: Input<D::Reader>)
+    ensures unmoved { Unmoved (D.story disk.old) (D.story disk.new) }
+    ensures given { GivesBack D.Reader.faults (input ∷ []) (D.story disk.old) (D.story disk.new) }
+{
+    let Input {
+        reader,
+        evolving: _evolving,
+        epoch: _epoch,
+    } = input;
+    disk.retire(reader.detach());
+}
+
+/// Gives back the readers of inputs.
+pub fn retire_all<M: Made, D: Disk<M>>(disk: &mut D, mut inputs: Vec<Input<D::Reader>>)
+    ensures unmoved { Unmoved (D.story disk.old) (D.story disk.new) }
+    ensures given { GivesBack D.Reader.faults inputs.items (D.story disk.old) (D.story disk.new) }
+{
+    'inputs: while let Some(input) = inputs.pop() {
+        retire_input(disk, input);
+    }
+    inputs.destroy_empty();
+}
+
+// Gives back the readers of a view's own files.
+fn retire_view<M: Made, D: Disk<M>>(disk: &mut D, view: TaskView<D::Reader>)
+    ensures unmoved { Unmoved (D.story disk.old) (D.story disk.new) }
+    ensures given { GivesBack D.Reader.faults (own_inputs view) (D.story disk.old) (D.story disk.new) }
+{
+    let TaskView {
+        view: _view,
+        inputs,
+    } = view;
+    if let Some(inputs) = inputs {
+        retire_all(disk, inputs);
+    }
+}
+
+// Gives back the readers of views' own files.
+fn retire_views<M: Made, D: Disk<M>>(disk: &mut D, mut views: Vec<TaskView<D::Reader>>)
+    ensures unmoved { Unmoved (D.story disk.old) (D.story disk.new) }
+    ensures given { GivesBack D.Reader.faults (flat_map own_inputs views.items) (D.story disk.old) (D.story disk.new) }
+{
+    'views: while let Some(view) = views.pop() {
+        retire_view(disk, view);
+    }
+    views.destroy_empty();
+}
+
+/// Gives back the readers of a task.
+pub fn retire_task<M: Made, D: Disk<M>>(disk: &mut D, task: Task<D::Reader>)
+    ensures unmoved { Unmoved (D.story disk.old) (D.story disk.new) }
+    ensures given { GivesBack D.Reader.faults (task_inputs task) (D.story disk.old) (D.story disk.new) }
+{
+    let Task {
+        table: _table,
+        work: _work,
+        lease: _lease,
+        epoch: _epoch,
+        inputs,
+        views,
+        damage: _damage,
+    } = task;
+    retire_all(disk, inputs);
+    retire_views(disk, views);
+}
+
+/// Gives back the readers of a query.
+pub fn retire_pinned<M: Made, D: Disk<M>>(disk: &mut D, pinned: Pinned<D::Reader>)
+    ensures unmoved { Unmoved (D.story disk.old) (D.story disk.new) }
+    ensures given { GivesBack D.Reader.faults (pinned_inputs pinned) (D.story disk.old) (D.story disk.new) }
+{
+    let Pinned {
+        query: _query,
+        version: _version,
+        view: _view,
+        at: _at,
+        mut inputs,
+    } = pinned;
+    'inputs: while let Some(one) = inputs.pop() {
+        let PinnedInput { input, own: _own } = one;
+        retire_input(disk, input);
+    }
+    inputs.destroy_empty();
+}

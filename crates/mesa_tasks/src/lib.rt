@@ -1,0 +1,18 @@
+//! What is handed out of turns and comes back to them: the files of a batch or of a merged range, and the inputs of a merge or a query; and how files are opened and given back.
+#![tactic(auto)]
+
+mod giving_back;
+mod made;
+mod merging;
+mod opening;
+mod prepared;
+mod querying;
+mod serials;
+
+pub use giving_back::{retire_all, retire_input, retire_pinned, retire_task};
+pub use made::{MadeFile, MadeFiles, MadeView};
+pub use merging::{CompactError, NewDelta, Task, TaskView};
+pub use opening::{Met, Opened, Unopened, Wanted, open_all, open_one};
+pub use prepared::{LoadError, Prepared, PreparedPart};
+pub use querying::{Pinned, PinnedInput};
+pub use serials::Serials;
