@@ -4,7 +4,7 @@ use Rattle.std.specs.List.{AllByRecursion}
 use Rattle.mesa_disk.specs.Image.{Image}
 use Rattle.mesa_file.specs.declared.damage.Damage.{Damage}
 use Rattle.mesa_delta.specs.declared.input.Input.{Input}
-use Rattle.mesa_tasks.specs.Inputs.{source_of}
+use Rattle.mesa_cursor.specs.Cursors.{reader_in}
 use Rattle.mesa_tasks.specs.declared.opening.Wanted.{Wanted}
 use Rattle.mesa_tasks.specs.Opening.{HaveOpened, IsDamageOf, IsOpened, wanted_columns}
 
@@ -23,7 +23,7 @@ module _ {R : Type 0} (bytes : R → Option (List ℕ)) (faults : R → ℕ) (to
   opened_less (v ∷ ws) (q ∷ is) w rest d all one = (all.0, opened_less ws is w rest d all.1 one)
 
   -- no reader has failed yet
-  pub opened_fresh : (ws : List Wanted) (is : List (Input R)) → HaveOpened bytes faults told ws is None → AllByRecursion (λ (i : Input R). faults (source_of i) ≡ 0) is
+  pub opened_fresh : (ws : List Wanted) (is : List (Input R)) → HaveOpened bytes faults told ws is None → AllByRecursion (λ (i : Input R). faults (reader_in i) ≡ 0) is
   opened_fresh ws [] all = tt
   opened_fresh [] (i ∷ is) all = absurd all
   opened_fresh (w ∷ ws) (i ∷ is) all = (all.0.fresh, opened_fresh ws is all.1)

@@ -5,7 +5,7 @@ use Rattle.std.specs.declared.alloc.Global.{Global}
 use Rattle.mesa_fault.specs.Causes.{Rose}
 use Rattle.mesa_disk.specs.Story.{Story}
 use Rattle.mesa_delta.specs.declared.input.Input.{Input}
-use Rattle.mesa_tasks.specs.Inputs.{source_of}
+use Rattle.mesa_cursor.specs.Cursors.{reader_in}
 use Rattle.mesa_tasks.specs.declared.merging.Task.{Task}
 use Rattle.mesa_tasks.specs.declared.merging.TaskView.{TaskView}
 use Rattle.mesa_tasks.specs.declared.querying.Pinned.{Pinned}
@@ -15,8 +15,8 @@ use Rattle.mesa_tasks.specs.declared.querying.PinnedInput.{PinnedInput}
 pub record GivesBack {R : Type 0} (faults : R → ℕ) (inputs : List (Input R)) (old new : Story) : Type 0 where
   pub calls : new.faults ≡ old.faults
   pub later : old.read_faults ≤ new.read_faults
-  pub counted : AllByRecursion (λ (i : Input R). 0 < faults (source_of i) → Rose old.read_faults new.read_faults) inputs
-  pub quiet : AllByRecursion (λ (i : Input R). faults (source_of i) ≡ 0) inputs → new.read_faults ≡ old.read_faults
+  pub counted : AllByRecursion (λ (i : Input R). 0 < faults (reader_in i) → Rose old.read_faults new.read_faults) inputs
+  pub quiet : AllByRecursion (λ (i : Input R). faults (reader_in i) ≡ 0) inputs → new.read_faults ≡ old.read_faults
 
 abbrev inputs_in : {R : Type 0} → Option (Vec (Input R) Global) → List (Input R)
 inputs_in None = []

@@ -1,27 +1,17 @@
 -- Files that are read as rows of the present.
-use Rattle.std.specs.Prelude.{◌≡◌, ℕ, ◌≤◌, List, [], ◌∷◌, map, Option, ⊤}
+use Rattle.std.specs.Prelude.{◌≡◌, ℕ, List, [], ◌∷◌, map, Option, ⊤}
 use Rattle.std.specs.List.{AllByRecursion}
 use Rattle.mesa_schema.specs.declared.rows.Row.{Row}
 use Rattle.mesa_schema.specs.Columns.{Columns, aggs_of}
-use Rattle.mesa_schema.specs.Changes.{Lineage, columns_at, columns_of, epoch_of, lifted}
+use Rattle.mesa_schema.specs.Changes.{Lineage, columns_of}
 use Rattle.mesa_schema.specs.Folded.{folded}
-use Rattle.mesa_delta.specs.Reading.{HasRead, IsReaderOf, IsWhole, index_of, reader_of}
+use Rattle.mesa_delta.specs.Reading.{IsWhole, index_of}
 use Rattle.mesa_delta.specs.declared.input.Input.{Input}
+use Rattle.mesa_cursor.specs.Cursors.{IsInput, lift_by, reader_in}
 
 -- the columns of an input's table or view through its life
 abbrev pub lineage_of : {R : Type 0} → Input R → Lineage
 lineage_of i = i.evolving.value
-
--- what an input's file is read from
-abbrev pub source_of : {R : Type 0} → Input R → R
-source_of i = reader_of i.reader
-
--- An input's epoch is one that its table had, its file has that epoch's columns, and where its bytes are told it ends with the tail of its index. Its reader has read some blocks one after the other, or none.
-pub record IsInput {R : Type 0} (bytes : R → Option (List ℕ)) (i : Input R) : Type 0 where
-  pub epoch : i.epoch ≤ epoch_of (lineage_of i)
-  pub columns : (index_of i.reader).columns ≡ columns_at (lineage_of i) i.epoch
-  pub over : IsReaderOf bytes (source_of i) (index_of i.reader)
-  pub read : (parts : List (List Row)) × HasRead bytes i.reader parts
 
 -- Inputs that may be merged: all are lifted to these columns.
 abbrev pub AreInputs : {R : Type 0} → (R → Option (List ℕ)) → Columns → List (Input R) → Type 0
@@ -33,14 +23,14 @@ AreInputsOf bytes l inputs = AllByRecursion (λ i. IsInput bytes i × (lineage_o
 
 -- rows of an input's file at present
 abbrev pub lifted_in : {R : Type 0} → Input R → List Row → List Row
-lifted_in i rows = map (lifted (lineage_of i) i.epoch (epoch_of (lineage_of i))) rows
+lifted_in i rows = map (lift_by i) rows
 
 -- These are all rows of each input's file.
 abbrev pub HaveRows : {R : Type 0} → (R → Option (List ℕ)) → List (Input R) → List (List Row) → Type 0
 HaveRows bytes [] [] = ⊤
 HaveRows bytes [] (rows ∷ parts) = ⊥
 HaveRows bytes (i ∷ inputs) [] = ⊥
-HaveRows bytes (i ∷ inputs) (rows ∷ parts) = IsWhole (index_of i.reader) rows (bytes (source_of i)) × HaveRows bytes inputs parts
+HaveRows bytes (i ∷ inputs) (rows ∷ parts) = IsWhole (index_of i.reader) rows (bytes (reader_in i)) × HaveRows bytes inputs parts
 
 -- each input's rows at present
 abbrev pub lifted_parts : {R : Type 0} → List (Input R) → List (List Row) → List (List Row)

@@ -17,7 +17,8 @@ use Rattle.mesa_delta.specs.Indexed.{IsIndexOf}
 use Rattle.mesa_delta.specs.Reading.{IsTailDamage, index_of}
 use Rattle.mesa_delta.specs.Summary.{IsReferenceOf}
 use Rattle.mesa_delta.specs.declared.input.Input.{Input}
-use Rattle.mesa_tasks.specs.Inputs.{IsInput, lineage_of, source_of}
+use Rattle.mesa_cursor.specs.Cursors.{IsInput, reader_in}
+use Rattle.mesa_tasks.specs.Inputs.{lineage_of}
 use Rattle.mesa_tasks.specs.declared.opening.Met.{Met}
 use Rattle.mesa_tasks.specs.declared.opening.Met.TheVariants as met
 use Rattle.mesa_tasks.specs.declared.opening.Opened.{Opened}
@@ -82,8 +83,8 @@ pub record IsOpened {R : Type 0} (bytes : R → Option (List ℕ)) (faults : R �
   pub epoch : i.epoch ≡ w.epoch
   pub input : IsInput bytes i
   pub index : IsRecordedIndex w i
-  pub content : HasBytes bytes told w.file.now.id (source_of i)
-  pub fresh : faults (source_of i) ≡ 0
+  pub content : HasBytes bytes told w.file.now.id (reader_in i)
+  pub fresh : faults (reader_in i) ≡ 0
 
 -- A file is absent, and that is told.
 pub record IsAbsent (told : Option Image) (file : FileRef) (d : Damage) : Type 0 where
