@@ -1,0 +1,103 @@
+-- Rows and contents after a change of a table's columns, and rows that were merged in an earlier epoch.
+use Rattle.std.proofs.Common.{◌≡◌, ℕ, ◌+◌, ◌-◌, ◌≤◌, List, [], ◌∷◌, ◌++◌, map, take, drop, refl, sym, ◌∙◌, ap, arith, append_assoc}
+use Rattle.std.proofs.lemmas.List.{map-append, take-append-drop, drop-drop}
+use Rattle.std.proofs.lemmas.Simd.{map-map}
+use Rattle.mesa_schema.specs.declared.rows.Row.{Row}
+use Rattle.mesa_schema.specs.declared.changes.Change.{Change}
+use Rattle.mesa_schema.specs.Columns.{aggs_of}
+use Rattle.mesa_schema.specs.Changes.{Lineage, columns_after, columns_at, columns_of, epoch_of, lifted, lifted_by, lifted_once, with_change}
+use Rattle.mesa_schema.specs.Lineages.{HasDefault, IsLineage}
+use Rattle.mesa_schema.specs.Rows.{AreRowsOf}
+use Rattle.mesa_schema.specs.Folded.{folded, rows_of}
+use Rattle.mesa_schema.proofs.Forms.{lifts_folded}
+use Rattle.mesa_schema.proofs.Lists.{map_is}
+use Rattle.mesa_schema.proofs.PresentRows.{columns_after-append, columns_more, lifted_all, lifted_by-append, lifted_more, present_folds}
+use Rattle.mesa_schema.proofs.Refolds.{refolded}
+use Rattle.mesa_image.specs.Catalog.{Delta, Ending, Stock, start_in, stock_changed}
+use Rattle.mesa_image.specs.Fitting.{base_deltas}
+use Rattle.mesa_image.specs.Contents.{Rows, rows_in, present, deltas_to, content}
+use Rattle.mesa_image.specs.Sound.{IsMerged}
+use Rattle.mesa_image_laws.specs.Brought.{Replaces}
+use Rattle.mesa_image_laws.proofs.Contents.{drop_take}
+use Rattle.mesa_image_laws.proofs.Formed.{AreFormed, AreOfEpochs, rows_formed}
+
+columns_on : (l : Lineage) (a b : ℕ) → a ≤ b → columns_after (columns_at l a) (take (b - a) (drop a l.changes)) ≡ columns_at l b
+columns_on l a b le = sym (columns_after-append l.first (take a l.changes) (take (b - a) (drop a l.changes))) ∙ ap (columns_after l.first) (drop_take a b l.changes le)
+
+-- A row lifted to an epoch and then to the present one.
+pub lifted_twice : (l : Lineage) (a b : ℕ) (row : Row) → a ≤ b → lifted l a (epoch_of l) row ≡ lifted l b (epoch_of l) (lifted l a b row)
+lifted_twice l a b row le =
+    let front = take (b - a) (drop a l.changes) in
+    let at : a + (b - a) ≡ b = omega (arith, le) in
+    let split : front ++ drop b l.changes ≡ drop a l.changes = ap (λ ds. front ++ ds) (sym (drop-drop (b - a) a l.changes ∙ ap (λ n. drop n l.changes) at)) ∙ take-append-drop (b - a) (drop a l.changes) in
+    lifted_all l a row
+    ∙ ap (λ changes. lifted_by (columns_at l a) changes row) (sym split)
+    ∙ lifted_by-append (columns_at l a) front (drop b l.changes) row
+    ∙ ap (λ s. lifted_by s (drop b l.changes) (lifted_by (columns_at l a) front row)) (columns_on l a b le)
+    ∙ sym (lifted_all l b (lifted_by (columns_at l a) front row))
+
+pub present_more : (rows : Rows) (l : Lineage) (c : Change) (d : Delta) → d.epoch ≤ epoch_of l → present rows (with_change l c) d ≡ map (lifted_once (columns_of l) c) (present rows l d)
+present_more rows l c d le =
+    map_is (lifted (with_change l c) d.epoch (epoch_of (with_change l c))) (λ row. lifted_once (columns_of l) c (lifted l d.epoch (epoch_of l) row)) (rows_in rows d) (λ row. lifted_more l c d.epoch row le)
+    ∙ sym (map-map (lifted_once (columns_of l) c) (lifted l d.epoch (epoch_of l)) (rows_in rows d))
+
+parts_more : (rows : Rows) (l : Lineage) (c : Change) (ds : List Delta) → AreOfEpochs (epoch_of l) ds → map (present rows (with_change l c)) ds ≡ map (map (lifted_once (columns_of l) c)) (map (present rows l) ds)
+parts_more rows l c [] all = refl
+parts_more rows l c (d ∷ ds) all = λ i. present_more rows l c d all.0 i ∷ parts_more rows l c ds all.1 i
+
+-- The fold of deltas after a change is the changed fold.
+pub fold_altered : (rows : Rows) (l : Lineage) (c : Change) (ds : List Delta) → HasDefault c → AreOfEpochs (epoch_of l) ds → AreFormed rows l ds
+    → folded (aggs_of (columns_of (with_change l c))) (map (present rows (with_change l c)) ds) ≡ map (lifted_once (columns_of l) c) (folded (aggs_of (columns_of l)) (map (present rows l) ds))
+fold_altered rows l c ds default epochs formed =
+    (λ i. folded (aggs_of (columns_more l c i)) (parts_more rows l c ds epochs i))
+    ∙ sym (lifts_folded (columns_of l) (c ∷ []) (map (present rows l) ds) (default, tt) (rows_formed rows l ds formed))
+
+-- A content after a change is the lifted one.
+pub content_altered : (rows : Rows) (t : Stock) (c : Change) (version : ℕ) → HasDefault c → AreOfEpochs (epoch_of t.lineage) (deltas_to t version) → AreFormed rows t.lineage (deltas_to t version)
+    → content rows (stock_changed t c) version ≡ map (lifted_once (columns_of t.lineage) c) (content rows t version)
+content_altered rows t c version default epochs formed = fold_altered rows t.lineage c (deltas_to t version) default epochs formed
+
+-- What replaces deltas still does after a change; so a merged range stays so, and a cumulative too.
+pub replaces_altered : (rows : Rows) (l : Lineage) (c : Change) (d : Delta) (olds : List Delta) → HasDefault c → d.epoch ≤ epoch_of l → AreOfEpochs (epoch_of l) olds → AreFormed rows l olds
+    → Replaces rows l d olds → Replaces rows (with_change l c) d olds
+replaces_altered rows l c d olds default le epochs formed is =
+    present_more rows l c d le ∙ ap (map (lifted_once (columns_of l) c)) is ∙ sym (fold_altered rows l c olds default epochs formed)
+
+-- ---- rows that were merged in an earlier epoch
+
+-- the rows of a delta, lifted to an epoch
+abbrev pub at_epoch : Rows → Lineage → ℕ → Delta → List Row
+at_epoch rows l epoch d = map (lifted l d.epoch epoch) (rows_in rows d)
+
+present_twice : (rows : Rows) (l : Lineage) (epoch : ℕ) (ds : List Delta) → AreOfEpochs epoch ds → map (present rows l) ds ≡ map (map (lifted l epoch (epoch_of l))) (map (at_epoch rows l epoch) ds)
+present_twice rows l epoch [] all = refl
+present_twice rows l epoch (d ∷ ds) all = λ i. (map_is (lifted l d.epoch (epoch_of l)) (λ row. lifted l epoch (epoch_of l) (lifted l d.epoch epoch row)) (rows_in rows d) (λ row. lifted_twice l d.epoch epoch row all.0)
+    ∙ sym (map-map (lifted l epoch (epoch_of l)) (lifted l d.epoch epoch) (rows_in rows d))) i ∷ present_twice rows l epoch ds all.1 i
+
+-- Rows that are the fold of others in their own epoch are so at present.
+pub replaces_lifted : (rows : Rows) (l : Lineage) (d : Delta) (olds : List Delta) → IsLineage l → AreOfEpochs d.epoch olds → AreRowsOf (columns_at l d.epoch) (rows_of (map (at_epoch rows l d.epoch) olds))
+    → rows_in rows d ≡ folded (aggs_of (columns_at l d.epoch)) (map (at_epoch rows l d.epoch) olds) → Replaces rows l d olds
+replaces_lifted rows l d olds lineage epochs formed is =
+    ap (map (lifted l d.epoch (epoch_of l))) is
+    ∙ present_folds l d.epoch (map (at_epoch rows l d.epoch) olds) lineage formed
+    ∙ ap (folded (aggs_of (columns_of l))) (sym (present_twice rows l d.epoch olds epochs))
+
+-- A plan that reads a cumulative in the place of its singletons folds to the same.
+pub plan_folds : (rows : Rows) (t : Stock) (e : Ending) (version : ℕ) → start_in t ≤ e.to → e.to ≤ version → IsMerged rows t e
+    → folded (aggs_of (columns_of t.lineage)) (map (present rows t.lineage) (base_deltas t.base) ++ present rows t.lineage e.delta ∷ map (present rows t.lineage) (take (version - e.to) (drop (e.to + 1 - start_in t) t.singles)))
+    ≡ content rows t version
+plan_folds rows t e version behind within merged =
+    let l = t.lineage in
+    let aggs = aggs_of (columns_of l) in
+    let n = e.to + 1 - start_in t in
+    let m = version + 1 - start_in t in
+    let bases = map (present rows l) (base_deltas t.base) in
+    let front = map (present rows l) (take n t.singles) in
+    let rest = map (present rows l) (take (version - e.to) (drop n t.singles)) in
+    let k : version - e.to ≡ m - n = omega (arith, behind, within) in
+    let split : take n t.singles ++ take (version - e.to) (drop n t.singles) ≡ take m t.singles = ap (λ j. take n t.singles ++ take j (drop n t.singles)) k ∙ drop_take n m t.singles (omega (arith, within)) in
+    ap (λ x. folded aggs (bases ++ x ∷ rest)) merged
+    ∙ refolded aggs bases front rest
+    ∙ ap (folded aggs) (append_assoc bases front rest)
+    ∙ ap (λ x. folded aggs (bases ++ x)) (sym (map-append (present rows l) (take n t.singles) (take (version - e.to) (drop n t.singles))) ∙ ap (map (present rows l)) split)
+    ∙ ap (folded aggs) (sym (map-append (present rows l) (base_deltas t.base) (take m t.singles)))

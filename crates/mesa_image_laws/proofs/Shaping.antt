@@ -1,0 +1,130 @@
+-- Every record that fits keeps what catalogues keep.
+use Rattle.std.proofs.Common.{◌≡◌, inl, ℕ, suc, ◌+◌, ◌-◌, ◌^◌, ◌<◌, ◌≤◌, List, [], ◌∷◌, ◌++◌, map, length, Option, Some, None, true, false, refl, sym, ◌∙◌, ap, subst, arith, length-append, length-drop}
+use Rattle.std.proofs.lemmas.List.{map-append}
+use Rattle.std.specs.List.{AllByRecursion}
+use Rattle.mesa_schema.specs.Columns.{aggs_of}
+use Rattle.mesa_schema.specs.Changes.{columns_of, epoch_of}
+use Rattle.mesa_batch.specs.Totals.{totals_with}
+use Rattle.mesa_batch.specs.Totals.{sums_in}
+use Rattle.mesa_span.specs.declared.works.Work.TheVariants as work
+use Rattle.mesa_span.specs.Ranges.{IsReachable}
+use Rattle.mesa_span.specs.Work.{swapped}
+use Rattle.mesa_record.specs.declared.record.Part.{Part}
+use Rattle.mesa_record.specs.declared.record.Record.TheVariants as record_of
+use Rattle.mesa_image.specs.Catalog.{Delta, Ending, Stock, Catalog, start_in, ranges_of, stock_loaded, stock_swapped, applied, empty_delta, part_delta}
+use Rattle.mesa_image.specs.Fitting.{base_deltas, delta_in, deltas_of}
+use Rattle.mesa_image.specs.Shape.{IsShaped, IsCatalog}
+use Rattle.mesa_schema.proofs.Lists.{all_append, all_drop, all_so}
+use Rattle.mesa_image_laws.proofs.Lists.{all_front, all_back}
+use Rattle.mesa_image_laws.proofs.Kept.{ranges_swapped}
+
+-- ---- runs and expiries
+
+pub run_shaped : (c : Catalog) (number : ℕ) → IsCatalog c → IsCatalog (applied c (record_of.Run number))
+run_shaped c number is = record { tables = is.tables; names = is.names; oldest = is.oldest; few = is.few; most = is.most }
+
+later_shaped : (oldest version next : ℕ) (t : Stock) → oldest ≤ version → IsShaped oldest next t → IsShaped version next t
+later_shaped oldest version next t le is = record {
+  lineage = is.lineage;
+  totals = is.totals;
+  bounded = is.bounded;
+  singles = is.singles;
+  base = omega (arith, le, is.base);
+  reachable = is.reachable;
+  ends = is.ends;
+  epochs = is.epochs;
+}
+
+pub expire_shaped : (c : Catalog) (version : ℕ) → c.oldest ≤ version → version < c.next → IsCatalog c → IsCatalog (applied c (record_of.Expire version))
+expire_shaped c version le lt is = record {
+  tables = all_so (IsShaped c.oldest c.next) (IsShaped version c.next) c.tables (λ t. later_shaped c.oldest version c.next t le) is.tables;
+  names = is.names;
+  oldest = inl lt;
+  few = is.few;
+  most = is.most;
+}
+
+-- ---- a batch
+
+-- what a part that fits gives
+pub record PartFits (t : Stock) (p : Part) : Type 0 where
+  pub epoch : p.epoch ≡ epoch_of t.lineage
+  pub count : length p.totals ≡ sums_in (aggs_of (columns_of t.lineage))
+  pub bound : AllByRecursion (λ total. total < 2 ^ 63) (totals_with t.totals p.totals)
+
+length-totals : (totals more : List ℕ) → length more ≡ length totals → length (totals_with totals more) ≡ length totals
+length-totals [] [] e = refl
+length-totals [] (m ∷ more) e = absurd (omega (arith, e))
+length-totals (t ∷ totals) [] e = absurd (omega (arith, e))
+length-totals (t ∷ totals) (m ∷ more) e = ap suc (length-totals totals more (omega (arith, e)))
+
+epochs_more : (t : Stock) (d : Delta) → d.epoch ≤ epoch_of t.lineage → AllByRecursion (λ (x : Delta). x.epoch ≤ epoch_of t.lineage) (deltas_of t) → AllByRecursion (λ (x : Delta). x.epoch ≤ epoch_of t.lineage) (base_deltas t.base ++ (map delta_in t.cumulatives ++ (t.singles ++ d ∷ [])))
+epochs_more t d le all =
+    let E = λ (x : Delta). x.epoch ≤ epoch_of t.lineage in
+    let rest = all_back E (base_deltas t.base) (map delta_in t.cumulatives ++ t.singles) all in
+    all_append E (base_deltas t.base) _ (all_front E (base_deltas t.base) (map delta_in t.cumulatives ++ t.singles) all)
+    (all_append E (map delta_in t.cumulatives) _ (all_front E (map delta_in t.cumulatives) t.singles rest) (all_append E t.singles (d ∷ []) (all_back E (map delta_in t.cumulatives) t.singles rest) (le, tt)))
+
+ends_later : (next : ℕ) (es : List Ending) → AllByRecursion (λ (e : Ending). e.to < next) es → AllByRecursion (λ (e : Ending). e.to < next + 1) es
+ends_later next es all = all_so (λ (e : Ending). e.to < next) (λ (e : Ending). e.to < next + 1) es (λ e lt. (let n : e.to < next + 1 = omega (arith, lt) in n)) all
+
+abbrev pub FitsIfAny : Stock → Option Part → Type 0
+FitsIfAny t None = Unit {0}
+FitsIfAny t (Some p) = PartFits t p
+
+pub loaded_shaped : (oldest next : ℕ) (t : Stock) (p : Option Part) → IsShaped oldest next t → FitsIfAny t p → IsShaped oldest (next + 1) (stock_loaded t p)
+loaded_shaped oldest next t None is fit = record {
+  lineage = is.lineage;
+  totals = is.totals;
+  bounded = is.bounded;
+  singles = omega (arith, is.singles, length-append t.singles (empty_delta ∷ []));
+  base = is.base;
+  reachable = is.reachable;
+  ends = ends_later next t.cumulatives is.ends;
+  epochs = epochs_more t (empty_delta) (omega arith) is.epochs;
+}
+loaded_shaped oldest next t (Some p) is fit = record {
+  lineage = is.lineage;
+  totals = length-totals t.totals p.totals (fit.count ∙ sym is.totals) ∙ is.totals;
+  bounded = fit.bound;
+  singles = omega (arith, is.singles, length-append t.singles (part_delta p ∷ []));
+  base = is.base;
+  reachable = is.reachable;
+  ends = ends_later next t.cumulatives is.ends;
+  epochs = epochs_more t (part_delta p) (omega (arith, fit.epoch)) is.epochs;
+}
+
+-- ---- a merged range
+
+pub based_shaped : (oldest next : ℕ) (t : Stock) (to : ℕ) (d : Delta) → start_in t ≤ to → to ≤ oldest → to < next → d.epoch ≤ epoch_of t.lineage → IsReachable (swapped (work.Base to) (ranges_of t)) → IsShaped oldest next t → IsShaped oldest next (stock_swapped t true to d)
+based_shaped oldest next t to d behind within lt epoch reachable is =
+    let E = λ (x : Delta). x.epoch ≤ epoch_of t.lineage in
+    let n = to + 1 - start_in t in
+    let rest = all_back E (map delta_in t.cumulatives) t.singles (all_back E (base_deltas t.base) (map delta_in t.cumulatives ++ t.singles) is.epochs) in
+    record {
+      lineage = is.lineage;
+      totals = is.totals;
+      bounded = is.bounded;
+      singles = omega (arith, is.singles, length-drop n t.singles, behind, lt);
+      base = omega (arith, within);
+      reachable = reachable;
+      ends = tt;
+      epochs = (epoch, all_drop E n t.singles rest);
+    }
+
+pub covered_shaped : (oldest next : ℕ) (t : Stock) (to : ℕ) (d : Delta) → to < next → d.epoch ≤ epoch_of t.lineage → IsReachable (swapped (work.Cumulative (start_in t) to) (ranges_of t)) → IsShaped oldest next t → IsShaped oldest next (stock_swapped t false to d)
+covered_shaped oldest next t to d lt epoch reachable is =
+    let E = λ (x : Delta). x.epoch ≤ epoch_of t.lineage in
+    let ending : Ending = record { to = to; delta = d } in
+    let rest = all_back E (base_deltas t.base) (map delta_in t.cumulatives ++ t.singles) is.epochs in
+    record {
+      lineage = is.lineage;
+      totals = is.totals;
+      bounded = is.bounded;
+      singles = is.singles;
+      base = is.base;
+      reachable = subst IsReachable (sym (ranges_swapped t false (start_in t) to d)) reachable;
+      ends = all_append (λ (e : Ending). e.to < next) t.cumulatives (ending ∷ []) is.ends (lt, tt);
+      epochs = all_append E (base_deltas t.base) _ (all_front E (base_deltas t.base) (map delta_in t.cumulatives ++ t.singles) is.epochs)
+          (all_append E (map delta_in (t.cumulatives ++ ending ∷ [])) t.singles (subst (AllByRecursion E) (sym (map-append delta_in t.cumulatives (ending ∷ []))) (all_append E (map delta_in t.cumulatives) (d ∷ []) (all_front E (map delta_in t.cumulatives) t.singles rest) (epoch, tt))) (all_back E (map delta_in t.cumulatives) t.singles rest));
+    }

@@ -1,0 +1,36 @@
+// The files that catalogues name.
+ghost use Rattle.mesa_image.specs.Catalog.{Catalog, applied};
+ghost use Rattle.mesa_image.specs.Contents.{Rows, kept_of};
+ghost use Rattle.mesa_image.specs.Fitting.{Shelved, alter_fits, brings_new_files, brought, fits, shelved};
+ghost use Rattle.mesa_image.specs.Held.{IsUnnamed};
+ghost use Rattle.mesa_image.specs.Shape.{IsCatalog};
+ghost use Rattle.mesa_image.specs.Sound.{AreStocked, wants};
+ghost use Rattle.mesa_image_laws.specs.Brought.{Agree};
+ghost use Rattle.mesa_record.specs.declared.record.Record.{Record as RecordOf};
+ghost use Rattle.mesa_record.specs.declared.record.Record.TheVariants as record_of;
+ghost use Rattle.mesa_schema.specs.declared.changes.Change.{Change as ChangeOf};
+ghost use Rattle.std.specs.List.{AllByRecursion};
+ghost use Rattle.std.specs.Prelude.{◌≡◌, ℕ, List, true};
+
+/// A change leaves the files that a catalogue names, and their columns.
+pub fn changes_keep_files()
+    ensures { (c : Catalog) (table : ℕ) (change : ChangeOf) → IsCatalog c → alter_fits c table change ≡ true → shelved (applied c (record_of.Alter table change)) ≡ shelved c }
+{}
+
+/// So does a view, where each view's file has rows of a view that is there.
+pub fn views_keep_files()
+    ensures { (rows : Rows) (c : Catalog) (table : ℕ) (name : List ℕ) (keys values : List (List ℕ)) → AreStocked rows c → fits c (record_of.View table name keys values) ≡ true
+        → shelved (applied c (record_of.View table name keys values)) ≡ shelved c }
+{}
+
+/// The files that a record brings have ids that none has which is named.
+pub fn brought_ids_are_new()
+    ensures { (c : Catalog) (r : RecordOf) → fits c r ≡ true → AllByRecursion (λ (x : Shelved). IsUnnamed c x.file.id) (brought c r) }
+{}
+
+/// Rows count only for files that are named.
+pub fn rows_count_where_named()
+    ensures kept { (old new : Rows) (c : Catalog) → Agree old new (shelved c) → kept_of new c ≡ kept_of old c }
+    ensures stocked { (old new : Rows) (c : Catalog) → Agree old new (shelved c) → AreStocked old c → AreStocked new c }
+    ensures wanted { (old new : Rows) (files : List Shelved) → Agree old new files → wants new files ≡ wants old files }
+{}

@@ -1,0 +1,50 @@
+// What each record moves.
+ghost use Rattle.mesa_batch.specs.Batch.{Placed};
+ghost use Rattle.mesa_image.specs.Catalog.{Catalog, merged_delta, stock_at};
+ghost use Rattle.mesa_image.specs.Contents.{Rows, kept_of};
+ghost use Rattle.mesa_image.specs.Fitting.{fits};
+ghost use Rattle.mesa_image.specs.Shape.{IsCatalog};
+ghost use Rattle.mesa_image.specs.Sound.{AreStocked};
+ghost use Rattle.mesa_image_laws.specs.Brought.{AreTold, BringsAll, Merges};
+ghost use Rattle.mesa_image_laws.specs.Moves.{Moves, kept_altered, kept_expired, kept_loaded, kept_made, kept_swapped, kept_viewed, work_of};
+ghost use Rattle.mesa_record.specs.declared.record.Files.{Files as FilesOf};
+ghost use Rattle.mesa_record.specs.declared.record.Part.{Part as PartOf};
+ghost use Rattle.mesa_record.specs.declared.record.Record.TheVariants as record_of;
+ghost use Rattle.mesa_record.specs.Rules.{IsTypedChange};
+ghost use Rattle.mesa_schema.specs.declared.changes.Change.{Change as ChangeOf};
+ghost use Rattle.mesa_schema.specs.declared.columns.KeyColumn.{KeyColumn as KeyOf};
+ghost use Rattle.mesa_schema.specs.declared.columns.ValueColumn.{ValueColumn as ValueOf};
+ghost use Rattle.std.specs.Prelude.{◌≡◌, ℕ, Bool, List, Option, true};
+
+/// The beginning of a run moves nothing that is kept.
+pub fn runs_move_nothing()
+    ensures { (rows : Rows) (c : Catalog) (number : ℕ) → AreStocked rows c → Moves rows c (record_of.Run number) (kept_of rows c) }
+{}
+
+/// A table, a view, a change and an expiry move what is kept as their commands move the reference
+/// warehouse.
+pub fn commands_move()
+    ensures table { (rows : Rows) (c : Catalog) (name : List ℕ) (keys : List KeyOf) (values : List ValueOf) → AreStocked rows c
+        → Moves rows c (record_of.Table name keys values) (kept_made (kept_of rows c) name (record { keys = keys; values = values })) }
+    ensures view { (rows : Rows) (c : Catalog) (table : ℕ) (name : List ℕ) (keys values : List (List ℕ)) → AreStocked rows c → fits c (record_of.View table name keys values) ≡ true
+        → Moves rows c (record_of.View table name keys values) (kept_viewed (kept_of rows c) table (record { name = name; keys = keys; values = values })) }
+    ensures alter { (rows : Rows) (c : Catalog) (table : ℕ) (change : ChangeOf) → IsCatalog c → AreStocked rows c → fits c (record_of.Alter table change) ≡ true → IsTypedChange change
+        → Moves rows c (record_of.Alter table change) (kept_altered (kept_of rows c) table change) }
+    ensures expire { (rows : Rows) (c : Catalog) (version : ℕ) → AreStocked rows c → fits c (record_of.Expire version) ≡ true
+        → Moves rows c (record_of.Expire version) (kept_expired (kept_of rows c) version) }
+{}
+
+/// A batch moves what is kept as a load moves the reference warehouse, where its parts bring the
+/// batch's rows and their files are true.
+pub fn batches_move()
+    ensures { (rows : Rows) (c : Catalog) (version : ℕ) (parts : List PartOf) (batch : List Placed) → IsCatalog c → AreStocked rows c
+        → AreTold rows c (record_of.Publish version parts) → BringsAll rows parts batch 0 c.tables → Moves rows c (record_of.Publish version parts) (kept_loaded (kept_of rows c) batch) }
+{}
+
+/// A merged range moves the ranges as a work moves the range machine, and no content, where its rows
+/// are those of what it merges and its files are true.
+pub fn works_move()
+    ensures { (rows : Rows) (c : Catalog) (table : ℕ) (base : Bool) (from to epoch : ℕ) (files : Option FilesOf) → IsCatalog c → AreStocked rows c
+        → fits c (record_of.Swap table base from to epoch files) ≡ true → AreTold rows c (record_of.Swap table base from to epoch files) → Merges rows (stock_at c table) base to (merged_delta epoch files)
+        → Moves rows c (record_of.Swap table base from to epoch files) (kept_swapped (kept_of rows c) table (work_of base from to)) }
+{}
