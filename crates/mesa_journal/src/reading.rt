@@ -1,4 +1,4 @@
-ghost use Rattle.std.specs.Prelude.{◌≡◌, ◌+◌, ◌^◌, ◌<◌, ◌++◌, ℕ, List, length, Some, IfOk, IfErr, IfSome, IsNone};
+ghost use Rattle.std.specs.Prelude.{◌≡◌, ◌+◌, ◌^◌, ◌<◌, ◌≤◌, ◌++◌, ℕ, List, length, Some, IfOk, IfErr, IfSome, IsNone};
 ghost use Rattle.std.specs.List.{AllByRecursion};
 ghost use Rattle.mesa_fault.specs.Causes.{HasFaultCause};
 ghost use Rattle.mesa_disk.specs.Image.{Image, area_of};
@@ -89,6 +89,11 @@ pub fn read_journal<M: Made, D: Disk<M>>(
     ensures damaged { (i : Image) (at want : ℕ) → (D.story disk.old).told ≡ Some i → IsDamaged (area_of area i) at want → AgreesOnDamage (area_of area i) at want result }
 
     ensures bytes { IfOk result (λ read. AllByRecursion AreBytes (bodies_of read.bodies)) }
+
+    // A gate stands at the end, in an area of more than one byte.
+    ensures gate { IfOk result (λ read. 1 < (D.story disk.old).len area → read.end < (D.story disk.old).len area) }
+    ensures none { IfOk result (λ read. (D.story disk.old).len area ≤ 1 → read.end ≡ 0) }
+
     ensures unmoved { Unmoved (D.story disk.old) (D.story disk.new) }
     ensures cause { HasFaultCause (λ e. e ≡ Fault) (D.story disk.old).faults (D.story disk.new).faults result }
     ensures read_cause { (D.story disk.new).read_faults ≡ (D.story disk.old).read_faults }
@@ -105,6 +110,8 @@ fn parse(alloc: Global, area: &[u8]) -> Result<JournalRead, JournalError>
     ensures whole { (bodies : List (List ℕ)) (end : ℕ) → IsJournal area.now bodies end → Agrees bodies end result }
     ensures damaged { (at want : ℕ) → IsDamaged area.now at want → AgreesOnDamage area.now at want result }
     ensures bytes { IfOk result (λ read. AllByRecursion AreBytes (bodies_of read.bodies)) }
+    ensures gate { IfOk result (λ read. 1 < length area.now → read.end < length area.now) }
+    ensures none { IfOk result (λ read. length area.now ≤ 1 → read.end ≡ 0) }
     ensures no_fault { IfErr result (λ e. e ≡ Fault → ⊥) }
 {
     parse_records(alloc, area)
@@ -113,6 +120,8 @@ fn parse(alloc: Global, area: &[u8]) -> Result<JournalRead, JournalError>
 fn parse_records(alloc: Global, area: &[u8]) -> Result<JournalRead, JournalError>
     ensures found { Finds area.now result }
     ensures bytes { IfOk result (λ read. AllByRecursion AreBytes (bodies_of read.bodies)) }
+    ensures gate { IfOk result (λ read. 1 < length area.now → read.end < length area.now) }
+    ensures none { IfOk result (λ read. length area.now ≤ 1 → read.end ≡ 0) }
     ensures no_fault { IfErr result (λ e. e ≡ Fault → ⊥) }
 {
     let mut bodies = Items::new(alloc);
