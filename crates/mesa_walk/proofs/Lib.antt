@@ -1,0 +1,14 @@
+pub mod Printed
+pub mod Clock
+pub mod Steps
+pub mod Coming
+pub mod Turning
+pub mod Skeletons
+pub mod Changing
+pub mod Pinning
+pub mod Reading
+pub mod Asking
+pub mod Working
+pub mod Beginning
+pub mod Going
+pub mod Alike

@@ -1,0 +1,300 @@
+-- The turns of a work.
+use Rattle.std.proofs.Common.{◌≡◌, ℕ, ◌+◌, ◌<◌, ◌≤◌, ◌^◌, List, [], ◌∷◌, ◌++◌, length, Bool, true, false, not, ◌||◌, IsTrue, refl, sym, ◌∙◌, ap, subst, arith, Option, None, Some, Result, Ok, Err, ok_or}
+use Rattle.std.specs.Prelude.{is_none, is_some}
+use Rattle.mesa_list.specs.Checks.{◌>>=◌, ◌>>◌, refused_as}
+use Rattle.mesa_fault.specs.Causes.{Rose, last}
+use Rattle.mesa_disk.specs.Story.{Story, Unmoved, Spans}
+use Rattle.mesa_span.specs.declared.works.Work.{Work}
+use Rattle.mesa_span.specs.declared.works.Work.TheVariants as range
+use Rattle.mesa_lease.specs.Book.{holder}
+use Rattle.mesa_span.specs.Work.{next_work}
+use Rattle.mesa_model.specs.declared.commands.Command.{Command}
+use Rattle.mesa_model.specs.declared.commands.Command.TheVariants as command
+use Rattle.mesa_model.specs.declared.entries.Entry.{Entry}
+use Rattle.mesa_model.specs.declared.entries.Kind.{Kind}
+use Rattle.mesa_model.specs.declared.entries.Kind.TheVariants as kind
+use Rattle.mesa_model.specs.declared.entries.Outcome.{Outcome}
+use Rattle.mesa_model.specs.declared.entries.Outcome.TheVariants as outcome
+use Rattle.mesa_model.specs.declared.replies.Refusal.{Refusal}
+use Rattle.mesa_model.specs.declared.replies.Refusal.TheVariants as no
+use Rattle.mesa_model.specs.declared.replies.Reply.{Reply}
+use Rattle.mesa_model.specs.declared.replies.Reply.TheVariants as reply
+use Rattle.mesa_model.specs.Entry.{IsShort}
+use Rattle.mesa_model.specs.Refusals.{no_such_table, refuse_closed}
+use Rattle.mesa_model.specs.Relations.{table_number}
+use Rattle.mesa_model.specs.Warehouse.{Warehouse, newest_of}
+use Rattle.mesa_history.specs.Machine.{Machine, Claim, ranges_at, refuse_busy, claim_of, claimed, claim_checked, claim_renewed, claim_ended, claim_done, swapped_reply}
+use Rattle.mesa_history.specs.Run.{State, First, Granted, Renewed, Run}
+use Rattle.mesa_history.specs.Replay.{Turned, turn_of, prints, refuses, grants, renews, completes, closed_off, closed_if, closes, with_machine, stood}
+use Rattle.mesa_history.specs.Legal.{is_written, wrote}
+use Rattle.mesa_history.specs.Found.{Kept, kept_of}
+use Rattle.mesa_history.specs.Refused.{is_refusal}
+use Rattle.mesa_history.specs.Turns.{IsDue, would_print}
+use Rattle.mesa_history.proofs.More.{kept_after}
+use Rattle.mesa_history.proofs.Turns.{turned_at}
+use Rattle.mesa_output.specs.Output.{block}
+use Rattle.mesa_skeleton.proofs.Steps.{claim-bare}
+use Rattle.mesa_walk.specs.Books.{Books, AreBooksOf, closed_books, closed_books_if, granted_books, renewed_books, ended_books, swapped_books}
+use Rattle.mesa_walk.specs.Causes.{Cause, Replies, Unread, Damaged, Unwritten, NoMemory, is_read_fault, outcome_of, reply_of, told_at}
+use Rattle.mesa_walk.specs.Printing.{IsPut}
+use Rattle.mesa_walk.specs.Turns.{entry}
+use Rattle.mesa_walk.specs.Walk.{Outset, run_of, IsWalk, Counts, AllStand, Passes, Writes, StandsForEither}
+use Rattle.mesa_walk.specs.Works.{HasNoClaim, HasNotMerged, Swaps, unmerged_books}
+use Rattle.mesa_walk.proofs.Clock.{same_moment, not_closing, begun_moment, closing}
+use Rattle.mesa_walk.proofs.Coming.{fits_open, renewal_open, comes_standing, comes_without_memory, comes_unread, comes_damaged, comes_unwritten, comes_undrafted}
+use Rattle.mesa_walk.proofs.Turning.{counts_any, counts_below, opened, position_at, puts_reply, puts_cause, mute_turn, cause_turn, wrote_turn, failed_turn}
+
+-- ---- claims
+
+busy_silent : (b : Option ℕ) (next : Result Claim Reply) (r : Reply) → ((x : Reply) → next ≡ Err x → is_written x ≡ false) → (refuse_busy b >> next) ≡ Err r → is_written r ≡ false
+busy_silent None next r rest is = rest r is
+busy_silent (Some lease) next r rest is = let same : reply.Busy lease ≡ r = cc in ap is_written (sym same)
+
+idle_silent : (x : Option Work) (f : Work → Claim) (r : Reply) → (ok_or x reply.Idle >>= (λ work. Ok (f work))) ≡ Err r → is_written r ≡ false
+idle_silent None f r is = let same : reply.Idle ≡ r = cc in ap is_written (sym same)
+idle_silent (Some work) f r is = absurd cc
+
+table_silent : (t : Option ℕ) (next : ℕ → Result Claim Reply) (r : Reply) → ((table : ℕ) (x : Reply) → next table ≡ Err x → is_written x ≡ false) → (ok_or t (reply.Refused no_such_table) >>= next) ≡ Err r → is_written r ≡ false
+table_silent None next r rest is = let same : reply.Refused no_such_table ≡ r = cc in ap is_written (sym same)
+table_silent (Some table) next r rest is = rest table r is
+
+closed_silent : (c : Option ℕ) (next : Result Claim Reply) (r : Reply) → ((x : Reply) → next ≡ Err x → is_written x ≡ false) → (refused_as reply.Refused (refuse_closed c) >> next) ≡ Err r → is_written r ≡ false
+closed_silent None next r rest is = rest r is
+closed_silent (Some p) next r rest is = let same : reply.Refused (no.Closed p) ≡ r = cc in ap is_written (sym same)
+
+-- a work that isn't granted wrote nothing
+claim_silent : (w : Warehouse) (m : Machine) (position : ℕ) (name : List ℕ) (r : Reply) → claim_of w m position name ≡ Err r → is_written r ≡ false
+claim_silent w m position name r is =
+    closed_silent w.closed _ r
+    (λ x e. table_silent (table_number w.store name) _ x
+    (λ table y f. busy_silent (holder m.leases table position) _ y
+    (λ z g. idle_silent (next_work (ranges_at m table) w.store.oldest (newest_of w)) (λ work. record { table = table; lease = m.leases.granted + 1; work = work }) z g) f) e) is
+
+-- a work that is granted finds the warehouse open
+claim_open : (w : Warehouse) (m : Machine) (position : ℕ) (name : List ℕ) (claim : Claim) → claim_of w m position name ≡ Ok claim → w.closed ≡ None
+claim_open w m position name claim is = by w.closed refl
+  where
+    by : (o : Option ℕ) → w.closed ≡ o → w.closed ≡ None
+    by None e = e
+    by (Some p) e = let never : claim_of (record w { closed = Some p }) m position name ≡ Ok claim = subst (λ o. claim_of (record w { closed = o }) m position name ≡ Ok claim) e is in absurd cc
+
+-- and so does a claim whose lease holds
+pub checked_open : (w : Warehouse) (m : Machine) (position : ℕ) (claim : Claim) → claim_checked w m position claim ≡ Ok tt → w.closed ≡ None
+checked_open w m position claim is = by w.closed refl
+  where
+    by : (o : Option ℕ) → w.closed ≡ o → w.closed ≡ None
+    by None e = e
+    by (Some p) e = let never : claim_checked (record w { closed = Some p }) m position claim ≡ Ok tt = subst (λ o. claim_checked (record w { closed = o }) m position claim ≡ Ok tt) e is in absurd cc
+
+swap_writes : (x : Work) → is_written (swapped_reply x) ≡ true
+swap_writes (range.Base to) = refl
+swap_writes (range.Cumulative from to) = refl
+
+swap_told : (x : Work) → is_refusal (swapped_reply x) ≡ false
+swap_told (range.Base to) = refl
+swap_told (range.Cumulative from to) = refl
+
+module _ (o : Outset) (sound : Bool) (books : Books) (story : Story) (held : Option (List ℕ)) (h : List Entry) (running refused : Bool) (v : IsWalk o sound books story held h running refused)
+    (s n : ℕ) (low : s < 2 ^ 16) (few : n < 2 ^ 32) (name : List ℕ) (m : ℕ) (ran : running ≡ true) (at : ℕ) (place : at ≡ length h) where
+  abbrev r : Run
+  r = run_of o h
+
+  abbrev w : Warehouse
+  w = r.state.warehouse
+
+  abbrev works : Command
+  works = command.Work name
+
+  short : (k : Kind) (out : Outcome) → IsShort (entry s n k out m)
+  short k out = record { session = low; command = few }
+
+  at_is : at ≡ r.position
+  at_is = position_at o sound books story held h running refused v at place
+
+  -- what the books say of a claim is what Replay says
+  pub claim_is : claim_of w r.state.machine r.position name ≡ claim_of books.bare books.machine at name
+  claim_is = claim-bare w r.state.machine r.position name ∙ (λ i. claim_of (v.state.skeleton i) (v.state.machine i) (sym at_is i) name)
+
+  pub checked_is : (claim : Claim) → claim_checked w r.state.machine r.position claim ≡ claim_checked books.bare books.machine at claim
+  checked_is claim = λ i. claim_checked (v.state.skeleton i) (v.state.machine i) (sym at_is i) claim
+
+  -- the books with another range machine
+  machine_stands : (a b : Machine) → a ≡ b → a.ranges ≡ r.state.machine.ranges → AreBooksOf sound (record books { machine = b }) (with_machine r.state a)
+  machine_stands a b is same = record { skeleton = v.state.skeleton; machine = is; rows = λ ok. ap (λ x. record (kept_of r.state) { ranges = x }) same ∙ v.state.rows ok; pins = v.state.pins }
+
+  -- ---- turns that move nothing on the disk
+
+  module _ (moment : m ≡ story.moment) (new : Story) (unmoved : Unmoved story new) where
+    -- -- its first turn
+
+    module _ (due : IsDue o.script (run_of o h) s n (command.Work name) First) where
+      grant_is : (q : Result Claim Reply) → claim_of books.bare books.machine at name ≡ q → turn_of r works (entry s n kind.Grant outcome.Stands m) First outcome.Stands ≡ grants r.position r.state q
+      grant_is q is = ap (grants r.position r.state) (claim_is ∙ is)
+
+      -- it is granted
+      pub granted_turn : (claim : Claim) → claim_of books.bare books.machine at name ≡ Ok claim → Counts story new false
+          → IsWalk o sound (granted_books at claim books) new held (h ++ entry s n kind.Grant outcome.Stands m ∷ []) running refused
+      granted_turn claim is counts =
+          mute_turn o sound books story held h running refused v (entry s n kind.Grant outcome.Stands m) works First due (short kind.Grant outcome.Stands) moment new unmoved
+          (comes_standing r works First s n kind.Grant m refl (renewal_open w.closed First kind.Grant outcome.Stands refl)) (ap not (sym ran)) (with_machine r.state (claimed r.state.machine r.position claim)) (Granted claim) (grant_is (Ok claim) is) counts
+          (granted_books at claim books) (machine_stands _ _ (λ i. claimed (v.state.machine i) (sym at_is i) claim) refl) refl
+
+      prints_none : (claim : Claim) → claim_of books.bare books.machine at name ≡ Ok claim → is_none (would_print r s works kind.Grant First) ≡ true
+      prints_none claim is = ap (λ q. is_none (grants r.position r.state q).told) (claim_is ∙ is)
+
+      still_open : (claim : Claim) → claim_of books.bare books.machine at name ≡ Ok claim → w.closed ≡ None
+      still_open claim is = claim_open w r.state.machine r.position name claim (claim_is ∙ is)
+
+      -- it isn't
+      pub ungranted_turn : (cause : Cause) → HasNoClaim books at name cause → Counts story new (is_read_fault cause) → (now : Bool) (new_held : Option (List ℕ)) → IsPut (block (entry s n kind.Grant (outcome_of cause) m) (Some (told_at at (reply_of cause)))) now held new_held
+          → IsWalk o sound books new new_held (h ++ entry s n kind.Grant (outcome_of cause) m ∷ []) now (refused || is_refusal (reply_of cause))
+      ungranted_turn (Replies rep) has counts now new_held put =
+          cause_turn o sound books story held h running refused v (entry s n kind.Grant outcome.Stands m) works First due (short kind.Grant outcome.Stands) moment new unmoved
+          (comes_standing r works First s n kind.Grant m refl (renewal_open w.closed First kind.Grant outcome.Stands refl)) ran (Replies rep) refl tt refl r.state (grant_is (Err rep) has) (claim_silent books.bare books.machine at name rep has) counts at place now new_held put books v.state refl
+      ungranted_turn Unread has counts now new_held put =
+          cause_turn o sound books story held h running refused v (entry s n kind.Grant outcome.ReadFault m) works First due (short kind.Grant outcome.ReadFault) moment new unmoved
+          (comes_unread r works First s n kind.Grant m refl refl (prints_none has.0 has.1) (fits_open w.closed false false false false (still_open has.0 has.1))) ran Unread refl tt refl r.state refl refl counts at place now new_held put books v.state refl
+      ungranted_turn (Damaged damage) has counts now new_held put = absurd has
+      ungranted_turn Unwritten has counts now new_held put = absurd has
+      ungranted_turn NoMemory has counts now new_held put =
+          cause_turn o sound books story held h running refused v (entry s n kind.Grant outcome.Memory m) works First due (short kind.Grant outcome.Memory) moment new unmoved
+          (comes_without_memory r works First s n kind.Grant m refl refl (fits_open w.closed false false false false (opened o sound books story held h running refused v has))) ran NoMemory refl tt refl r.state refl refl counts at place now new_held put books v.state refl
+
+    -- -- its second turn, and its close where the merge failed
+
+    module _ (claim : Claim) (due : IsDue o.script (run_of o h) s n (command.Work name) (Granted claim)) where
+      -- its lease holds anew
+      pub renewed_turn : claim_checked books.bare books.machine at claim ≡ Ok tt → Counts story new false
+          → IsWalk o sound (renewed_books at claim books) new held (h ++ entry s n kind.Renew outcome.Stands m ∷ []) running refused
+      renewed_turn holds counts =
+          mute_turn o sound books story held h running refused v (entry s n kind.Renew outcome.Stands m) works (Granted claim) due (short kind.Renew outcome.Stands) moment new unmoved
+          (comes_standing r works (Granted claim) s n kind.Renew m refl refl) (ap not (sym ran)) (with_machine r.state (claim_renewed r.state.machine r.position claim)) (Renewed claim) (ap (renews r.position r.state claim) (checked_is claim ∙ holds)) counts
+          (renewed_books at claim books) (machine_stands _ _ (λ i. claim_renewed (v.state.machine i) (sym at_is i) claim) refl) refl
+
+      -- it is lost, or the books are closed
+      pub unrenewed_turn : (x : Refusal) → claim_checked books.bare books.machine at claim ≡ Err x → Counts story new false → (now : Bool) (new_held : Option (List ℕ)) → IsPut (block (entry s n kind.Renew outcome.Stands m) (Some (told_at at (reply.Refused x)))) now held new_held
+          → IsWalk o sound books new new_held (h ++ entry s n kind.Renew outcome.Stands m ∷ []) now (refused || true)
+      unrenewed_turn x lost counts now new_held put =
+          cause_turn o sound books story held h running refused v (entry s n kind.Renew outcome.Stands m) works (Granted claim) due (short kind.Renew outcome.Stands) moment new unmoved
+          (comes_standing r works (Granted claim) s n kind.Renew m refl refl) ran (Replies (reply.Refused x)) refl tt refl r.state (ap (renews r.position r.state claim) (checked_is claim ∙ lost)) refl counts at place now new_held put books v.state refl
+
+      -- the merge failed, and the books are closed: nothing changes
+      pub shut_turn : (p : ℕ) → books.bare.closed ≡ Some p → Counts story new false → (now : Bool) (new_held : Option (List ℕ)) → IsPut (block (entry s n kind.Close outcome.Stands m) (Some (told_at at (reply.Refused (no.Closed p))))) now held new_held
+          → IsWalk o sound books new new_held (h ++ entry s n kind.Close outcome.Stands m ∷ []) now (refused || true)
+      shut_turn p shut counts now new_held put =
+          let shut_is : w.closed ≡ Some p = ap (λ (x : Warehouse). x.closed) v.state.skeleton ∙ shut in
+          let checked : claim_checked w r.state.machine r.position claim ≡ Err (no.Closed p) = λ i. claim_checked (record w { closed = shut_is i }) r.state.machine r.position claim in
+          cause_turn o sound books story held h running refused v (entry s n kind.Close outcome.Stands m) works (Granted claim) due (short kind.Close outcome.Stands) moment new unmoved
+          (comes_standing r works (Granted claim) s n kind.Close m refl (subst (λ x. IsTrue (is_some x)) (sym shut_is) refl)) ran (Replies (reply.Refused (no.Closed p))) refl tt refl r.state (ap (completes r.position r.state claim) checked) refl counts at place now new_held put books v.state refl
+
+      abbrev closed_state : Bool → State
+      closed_state b = closed_off (closed_if b r.position r.state) (Granted claim)
+
+      closed_stand : (b : Bool) → AreBooksOf sound (closed_books_if b at (ended_books claim books)) (closed_state b)
+      closed_stand true = record {
+        skeleton = ap (λ (x : Warehouse). record x { closed = Some r.position }) v.state.skeleton ∙ ap (λ p. record books.bare { closed = Some p }) (sym at_is);
+        machine = λ i. claim_ended (v.state.machine i) claim;
+        rows = v.state.rows;
+        pins = v.state.pins;
+      }
+      closed_stand false = machine_stands _ _ (λ i. claim_ended (v.state.machine i) claim) refl
+
+      closed_kept : (b : Bool) → kept_of (closed_state b) ≡ kept_of r.state
+      closed_kept true = refl
+      closed_kept false = refl
+
+      ended_stand : AreBooksOf sound (ended_books claim books) (with_machine r.state (claim_ended r.state.machine claim))
+      ended_stand = machine_stands _ _ (λ i. claim_ended (v.state.machine i) claim) refl
+
+      -- the merge failed, for whatever cause: the lease ends
+      pub unmerged_turn : (cause : Cause) (b : Bool) → closes r.moment (entry s n kind.Close outcome.WriteFault m) ≡ b → HasNotMerged books cause → Counts story new (is_read_fault cause) → (now : Bool) (new_held : Option (List ℕ)) → IsPut (block (entry s n kind.Close (outcome_of cause) m) (Some (told_at at (reply_of cause)))) now held new_held
+          → IsWalk o sound (unmerged_books cause b at claim books) new new_held (h ++ entry s n kind.Close (outcome_of cause) m ∷ []) now (refused || is_refusal (reply_of cause))
+      unmerged_turn (Replies rep) b closes_is has counts now new_held put = absurd has
+      unmerged_turn Unread b closes_is has counts now new_held put =
+          cause_turn o sound books story held h running refused v (entry s n kind.Close outcome.ReadFault m) works (Granted claim) due (short kind.Close outcome.ReadFault) moment new unmoved
+          (comes_unread r works (Granted claim) s n kind.Close m refl refl refl (fits_open w.closed false false false false (opened o sound books story held h running refused v has))) ran Unread refl tt refl (with_machine r.state (claim_ended r.state.machine claim)) refl refl counts at place now new_held put (ended_books claim books) ended_stand refl
+      unmerged_turn (Damaged damage) b closes_is has counts now new_held put =
+          cause_turn o sound books story held h running refused v (entry s n kind.Close outcome.Damaged m) works (Granted claim) due (short kind.Close outcome.Damaged) moment new unmoved
+          (comes_damaged r works (Granted claim) s n kind.Close m refl refl refl (fits_open w.closed false false false false (opened o sound books story held h running refused v has.0))) ran (Damaged damage) refl has.1 refl (with_machine r.state (claim_ended r.state.machine claim)) refl refl counts at place now new_held put (ended_books claim books) ended_stand refl
+      unmerged_turn Unwritten b closes_is has counts now new_held put =
+          let e = entry s n kind.Close outcome.WriteFault m in
+          let there = begun_moment o.script o.start h s n works (Granted claim) due (λ first. absurd cc) in
+          cause_turn o sound books story held h running refused v e works (Granted claim) due (short kind.Close outcome.WriteFault) moment new unmoved
+          (comes_undrafted r works (Granted claim) s n kind.Close m refl refl (same_moment r.moment story.moment m v.at there moment) refl (opened o sound books story held h running refused v has)) ran Unwritten refl tt refl (closed_state b)
+          (ap (λ x. refuses r.position (closed_off (closed_if x r.position r.state) (Granted claim)) no.WriteFault) closes_is) refl
+          (counts_below story new (closes r.moment e) counts (λ below. not_closing r.moment story.moment e v.at there moment (subst (λ x. x < last) unmoved.moment below))) at place now new_held put (closed_books_if b at (ended_books claim books)) (closed_stand b) (closed_kept b)
+      unmerged_turn NoMemory b closes_is has counts now new_held put =
+          cause_turn o sound books story held h running refused v (entry s n kind.Close outcome.Memory m) works (Granted claim) due (short kind.Close outcome.Memory) moment new unmoved
+          (comes_without_memory r works (Granted claim) s n kind.Close m refl refl (fits_open w.closed false false false false (opened o sound books story held h running refused v has))) ran NoMemory refl tt refl (with_machine r.state (claim_ended r.state.machine claim)) refl refl counts at place now new_held put (ended_books claim books) ended_stand refl
+
+    -- -- its close once its lease was renewed
+
+    module _ (claim : Claim) (due : IsDue o.script (run_of o h) s n (command.Work name) (Renewed claim)) where
+      -- the lease is lost, or the books are closed: nothing changes
+      pub lost_turn : (x : Refusal) → claim_checked books.bare books.machine at claim ≡ Err x → Counts story new false → (now : Bool) (new_held : Option (List ℕ)) → IsPut (block (entry s n kind.Close outcome.Stands m) (Some (told_at at (reply.Refused x)))) now held new_held
+          → IsWalk o sound books new new_held (h ++ entry s n kind.Close outcome.Stands m ∷ []) now (refused || true)
+      lost_turn x lost counts now new_held put =
+          cause_turn o sound books story held h running refused v (entry s n kind.Close outcome.Stands m) works (Renewed claim) due (short kind.Close outcome.Stands) moment new unmoved
+          (comes_standing r works (Renewed claim) s n kind.Close m refl refl) ran (Replies (reply.Refused x)) refl tt refl r.state (ap (completes r.position r.state claim) (checked_is claim ∙ lost)) refl counts at place now new_held put books v.state refl
+
+      -- there is no memory for the swap: the lease ends
+      pub starved_turn : books.bare.closed ≡ None → Counts story new false → (now : Bool) (new_held : Option (List ℕ)) → IsPut (block (entry s n kind.Close outcome.Memory m) (Some (told_at at (reply.Refused no.Memory)))) now held new_held
+          → IsWalk o sound (ended_books claim books) new new_held (h ++ entry s n kind.Close outcome.Memory m ∷ []) now (refused || true)
+      starved_turn is counts now new_held put =
+          cause_turn o sound books story held h running refused v (entry s n kind.Close outcome.Memory m) works (Renewed claim) due (short kind.Close outcome.Memory) moment new unmoved
+          (comes_without_memory r works (Renewed claim) s n kind.Close m refl refl (fits_open w.closed false false false false (opened o sound books story held h running refused v is))) ran NoMemory refl tt refl (with_machine r.state (claim_ended r.state.machine claim)) refl refl counts at place now new_held put
+          (ended_books claim books) (machine_stands _ _ (λ i. claim_ended (v.state.machine i) claim) refl) refl
+
+  -- ---- the swap
+
+  module _ (claim : Claim) (due : IsDue o.script (run_of o h) s n (command.Work name) (Renewed claim)) (holds : claim_checked books.bare books.machine at claim ≡ Ok tt) (new : Story) (moment : m ≡ new.moment) (passes : Passes story new)
+      (had : IsTrue sound → story.moment < last → AllStand o.stands story books.kept) (kept : Kept) (swaps : Swaps books claim kept) (writes : Writes o.stands story new books.kept kept) (now : Bool) (new_held : Option (List ℕ)) where
+    abbrev swapped_state : State
+    swapped_state = with_machine r.state (claim_done r.state.machine claim)
+
+    kept_is : IsTrue sound → kept_of swapped_state ≡ kept
+    kept_is ok = swaps sound r.state v.state ok
+
+    swapped_is : turn_of r works (entry s n kind.Close outcome.Stands m) (Renewed claim) outcome.Stands ≡ prints r.position swapped_state (swapped_reply claim.work)
+    swapped_is = ap (completes r.position r.state claim) (checked_is claim ∙ holds)
+
+    had_kept : IsTrue sound → story.moment < last → AllStand o.stands story (kept_of r.state)
+    had_kept ok below = subst (AllStand o.stands story) (sym (v.state.rows ok)) (had ok below)
+
+    spans : (aim : Kept) → kept ≡ aim → IsTrue sound → new.moment < last → Spans (StandsForEither o.stands (kept_of r.state) aim) story new
+    spans aim is ok below =
+        subst (λ x. Spans (StandsForEither o.stands x aim) story new) (sym (v.state.rows ok)) (subst (λ x. Spans (StandsForEither o.stands books.kept x) story new) is (writes below (had ok (below_before passes.later below))))
+      where
+        below_before : story.moment ≤ new.moment → new.moment < last → story.moment < last
+        below_before later lt = omega (arith, later, lt)
+
+    -- its device work is done: the books have its range, and the lease has ended
+    pub swapped_turn : Counts story new false → (IsTrue sound → new.moment < last → AllStand o.stands new kept) → IsPut (block (entry s n kind.Close outcome.Stands m) (Some (told_at at (swapped_reply claim.work)))) now held new_held
+        → IsWalk o sound (swapped_books claim kept books) new new_held (h ++ entry s n kind.Close outcome.Stands m ∷ []) now (refused || false)
+    swapped_turn counts stand put =
+        subst (λ b. IsWalk o sound (swapped_books claim kept books) new new_held (h ++ entry s n kind.Close outcome.Stands m ∷ []) now (refused || b)) (swap_told claim.work)
+        (wrote_turn o sound books story held h running refused v (entry s n kind.Close outcome.Stands m) works (Renewed claim) due (short kind.Close outcome.Stands) new passes moment counts had_kept
+        (comes_standing r works (Renewed claim) s n kind.Close m refl refl) ran refl swapped_state (swapped_reply claim.work) swapped_is now new_held
+        (puts_reply o sound books story held h running refused v (entry s n kind.Close outcome.Stands m) (swapped_reply claim.work) at place refl now new_held put) (swap_writes claim.work) (swapped_books claim kept books)
+        (record { skeleton = v.state.skeleton; machine = λ i. claim_done (v.state.machine i) claim; rows = kept_is; pins = v.state.pins })
+        (λ ok below. spans (kept_of swapped_state) (sym (kept_is ok)) ok below) (λ ok below. subst (AllStand o.stands new) (sym (kept_is ok)) (stand ok below)))
+
+    -- its device work has failed: the books close, and the lease has ended
+    pub unswapped_turn : Counts story new true → IsPut (block (entry s n kind.Close outcome.WriteFault m) (Some (told_at at (reply_of Unwritten)))) now held new_held
+        → IsWalk o sound (closed_books at (ended_books claim books)) new new_held (h ++ entry s n kind.Close outcome.WriteFault m ∷ []) now (refused || true)
+    unswapped_turn counts put =
+        let e = entry s n kind.Close outcome.WriteFault m in
+        let shut : State = closed_off (closed_if true r.position r.state) (Renewed claim) in
+        let closing_is : closes r.moment e ≡ true = closing r.moment story.moment e v.at (subst (λ x. Rose story.moment x) (sym moment) passes.rose) refl in
+        failed_turn o sound books story held h running refused v e works (Renewed claim) due (short kind.Close outcome.WriteFault) new passes moment (counts_any story new (closes r.moment e) counts) had_kept
+        (comes_unwritten r works (Renewed claim) s n kind.Close m refl refl closing_is refl (ap (λ (t : Turned). wrote t.told) swapped_is ∙ swap_writes claim.work) (opened o sound books story held h running refused v (checked_open books.bare books.machine at claim holds)))
+        ran refl shut (reply_of Unwritten) (ap (λ b. refuses r.position (closed_off (closed_if b r.position r.state) (Renewed claim)) no.WriteFault) closing_is) now new_held
+        (puts_cause o sound books story held h running refused v e Unwritten at place refl tt now new_held put) refl closing_is kept (closed_books at (ended_books claim books))
+        (record {
+          skeleton = ap (λ (x : Warehouse). record x { closed = Some r.position }) v.state.skeleton ∙ ap (λ p. record books.bare { closed = Some p }) (sym at_is);
+          machine = λ i. claim_ended (v.state.machine i) claim;
+          rows = v.state.rows;
+          pins = v.state.pins;
+        })
+        refl (λ ok. sym (kept_is ok) ∙ sym (kept_after o.script r (stood e) ∙ ap (λ (t : Turned). kept_of t.state) (turned_at o.script r (entry s n kind.Close outcome.Stands m) works (Renewed claim) due ∙ swapped_is)))
+        (λ ok below. spans kept refl ok below)

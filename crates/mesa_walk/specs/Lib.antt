@@ -1,0 +1,9 @@
+pub mod Books
+pub mod Printing
+pub mod Walk
+pub mod Turns
+pub mod Causes
+pub mod Changes
+pub mod Queries
+pub mod Works
+pub mod Sight
