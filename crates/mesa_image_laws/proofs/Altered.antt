@@ -19,9 +19,10 @@ use Rattle.mesa_image.specs.Contents.{Rows, rows_in, present, deltas_to, content
 use Rattle.mesa_image.specs.Sound.{IsMerged}
 use Rattle.mesa_image_laws.specs.Brought.{Replaces}
 use Rattle.mesa_image_laws.proofs.Contents.{drop_take}
-use Rattle.mesa_image_laws.proofs.Formed.{AreFormed, AreOfEpochs, rows_formed}
+use Rattle.mesa_image_laws.proofs.Formed.{AreFormed, rows_formed}
+use Rattle.mesa_image_laws.specs.Sourced.{AreOfEpochs}
 
-columns_on : (l : Lineage) (a b : ℕ) → a ≤ b → columns_after (columns_at l a) (take (b - a) (drop a l.changes)) ≡ columns_at l b
+pub columns_on : (l : Lineage) (a b : ℕ) → a ≤ b → columns_after (columns_at l a) (take (b - a) (drop a l.changes)) ≡ columns_at l b
 columns_on l a b le = sym (columns_after-append l.first (take a l.changes) (take (b - a) (drop a l.changes))) ∙ ap (columns_after l.first) (drop_take a b l.changes le)
 
 -- A row lifted to an epoch and then to the present one.

@@ -19,7 +19,7 @@ use Rattle.mesa_span.specs.Ranges.{start_of}
 use Rattle.std.specs.Prelude.{option_map}
 use Rattle.mesa_image.specs.Contents.{Rows, present, deltas_to, content}
 use Rattle.mesa_image.specs.Shape.{IsShaped}
-use Rattle.mesa_image_laws.specs.Brought.{BringsIfAny, Replaces}
+use Rattle.mesa_image_laws.specs.Brought.{BringsIfAny, Replaces, loaded_delta}
 
 -- ---- a merged range
 
@@ -56,11 +56,6 @@ content_covered rows t to d version = refl
 
 -- ---- a batch
 
--- the delta of a version that is loaded
-abbrev pub new_delta : Option Part → Delta
-new_delta None = empty_delta
-new_delta (Some p) = part_delta p
-
 present_now : (l : Lineage) (rows : List Row) → map (lifted l (epoch_of l) (epoch_of l)) rows ≡ rows
 present_now l rows = map_is (lifted l (epoch_of l) (epoch_of l)) (λ row. row) rows (lifted_now l) ∙ map-id rows
 
@@ -76,14 +71,14 @@ module _ (rows : Rows) (t : Stock) where
   part_rows p epoch = ap (λ e. map (lifted t.lineage e (epoch_of t.lineage)) (rows p.files.file.id)) epoch ∙ present_now t.lineage (rows p.files.file.id)
 
   -- the new delta's rows are the load's, by their keys
-  pub new_rows : (p : Option Part) (load : List Row) → BringsIfAny rows t p load → at_present (new_delta p) ≡ folded aggs (load ∷ [])
+  pub new_rows : (p : Option Part) (load : List Row) → BringsIfAny rows t p load → at_present (loaded_delta p) ≡ folded aggs (load ∷ [])
   new_rows None load is = ap (λ xs. folded aggs (xs ∷ [])) (sym is)
   new_rows (Some p) load is = part_rows p is.epoch ∙ is.by_key
 
   -- contents of earlier versions stay
   content_early : (p : Option Part) (version : ℕ) → version + 1 - start_in t ≤ length t.singles → content rows (stock_loaded t p) version ≡ content rows t version
-  content_early None version le = ap (λ ds. folded aggs (map at_present (base_deltas t.base ++ ds))) (take-append-le (version + 1 - start_in t) t.singles (new_delta None ∷ []) le)
-  content_early (Some p) version le = ap (λ ds. folded aggs (map at_present (base_deltas t.base ++ ds))) (take-append-le (version + 1 - start_in t) t.singles (new_delta (Some p) ∷ []) le)
+  content_early None version le = ap (λ ds. folded aggs (map at_present (base_deltas t.base ++ ds))) (take-append-le (version + 1 - start_in t) t.singles (loaded_delta None ∷ []) le)
+  content_early (Some p) version le = ap (λ ds. folded aggs (map at_present (base_deltas t.base ++ ds))) (take-append-le (version + 1 - start_in t) t.singles (loaded_delta (Some p) ∷ []) le)
 
   -- the content of the new version
   abbrev pub all_parts : List (List Row)

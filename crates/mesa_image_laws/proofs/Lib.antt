@@ -18,3 +18,6 @@ pub mod Shaping
 pub mod ShapedTables
 pub mod ShapedBatches
 pub mod Wholes
+pub mod Ids
+pub mod Sourcing
+pub mod Plans

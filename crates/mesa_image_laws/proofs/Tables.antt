@@ -46,7 +46,7 @@ base_is_empty : (o : Option ℕ) → AllByRecursion IsEmpty (base_deltas (option
 base_is_empty None = tt
 base_is_empty (Some to) = (refl, tt)
 
-new_deltas : (c : Catalog) (name : List ℕ) (s : Columns) → AllByRecursion IsEmpty (deltas_of (new_stock c name s))
+pub new_deltas : (c : Catalog) (name : List ℕ) (s : Columns) → AllByRecursion IsEmpty (deltas_of (new_stock c name s))
 new_deltas c name s = all_append IsEmpty (base_deltas (new_stock c name s).base) (replicate (c.next - c.oldest) empty_delta) (base_is_empty (base_before c.oldest)) (all_replicate IsEmpty empty_delta (c.next - c.oldest) refl)
 
 none_shelved : (P : Shelved → Type 0) (l : Lineage) (d : Delta) → IsEmpty d → AllByRecursion P (delta_shelved l d)

@@ -6,11 +6,13 @@ use Rattle.mesa_record.specs.declared.record.Record.{Record}
 use Rattle.mesa_record.specs.declared.record.Record.TheVariants as record_of
 use Rattle.mesa_record.specs.declared.error.RecordError.{RecordError}
 use Rattle.mesa_record.specs.Reading.{record_at}
-use Rattle.mesa_record.specs.Rules.{IsTyped}
+use Rattle.mesa_record.specs.Rules.{IsRecord, IsTyped}
 use Rattle.mesa_record.proofs.RecordsBoth.{record_found}
 use Rattle.mesa_image.specs.Catalog.{Catalog, empty_catalog, applied}
 use Rattle.mesa_image.specs.Fitting.{fits, kind_fits, brings_new_files, with_body, read_record, applied_if, then_bodies, catalog_from, catalog}
 use Rattle.mesa_image.specs.Shape.{IsCatalog}
+use Rattle.mesa_image_laws.specs.Ids.{HasOwnIds}
+use Rattle.mesa_image_laws.proofs.Ids.{own_ids}
 use Rattle.mesa_image_laws.proofs.Lists.{both_true, is_at_most, is_less}
 use Rattle.mesa_image_laws.proofs.Shaping.{run_shaped, expire_shaped}
 use Rattle.mesa_image_laws.proofs.ShapedTables.{table_shaped, view_shaped, alter_shaped}
@@ -36,27 +38,33 @@ fits_shaped c r is typed e = kind_shaped c r is typed (both_true (kind_fits c r)
 pub empty_shaped : IsCatalog empty_catalog
 empty_shaped = record { tables = tt; names = refl; oldest = inr (refl, refl); few = omega arith; most = omega arith }
 
-read_shaped : (c d : Catalog) (body : List ℕ) → AreBytes body → IsCatalog c → with_body c body ≡ Some d → IsCatalog d
-read_shaped c d body bytes is e = by (record_at body) refl e
-  where
-    fit : (r : Record) → IsTyped r → (b : Bool) → fits c r ≡ b → applied_if c r b ≡ Some d → IsCatalog d
-    fit r typed true good e = (let same : applied c r ≡ d = cc in subst IsCatalog same (fits_shaped c r is typed good))
-    fit r typed false good e = absurd (cc)
+-- what records that fit keep, and the empty catalogue has, every catalogue has that bodies make
+module _ (P : Catalog → Type 0) (keeps : (c : Catalog) (r : Record) → P c → IsRecord r → fits c r ≡ true → P (applied c r)) where
+  read_kept : (c d : Catalog) (body : List ℕ) → AreBytes body → P c → with_body c body ≡ Some d → P d
+  read_kept c d body bytes is e = by (record_at body) refl e
+    where
+      fit : (r : Record) → IsRecord r → (b : Bool) → fits c r ≡ b → applied_if c r b ≡ Some d → P d
+      fit r its true good e = (let same : applied c r ≡ d = cc in subst P same (keeps c r is its good))
+      fit r its false good e = absurd (cc)
 
-    by : (o : Result Record RecordError) → record_at body ≡ o → read_record c o ≡ Some d → IsCatalog d
-    by (Ok r) reads e = fit r (record_found body r bytes reads).0.typed (fits c r) refl e
-    by (Err x) reads e = absurd (cc)
+      by : (o : Result Record RecordError) → record_at body ≡ o → read_record c o ≡ Some d → P d
+      by (Ok r) reads e = fit r (record_found body r bytes reads).0 (fits c r) refl e
+      by (Err x) reads e = absurd (cc)
 
-pub from_shaped : (bodies : List (List ℕ)) (c d : Catalog) → AllByRecursion AreBytes bodies → IsCatalog c → catalog_from c bodies ≡ Some d → IsCatalog d
-unfolding catalog_from
-from_shaped [] c d bytes is e = (let same : c ≡ d = cc in subst IsCatalog same is)
-from_shaped (body ∷ bodies) c d bytes is e = after c d body bodies bytes.0 is (with_body c body) refl e (λ b more. from_shaped bodies b d bytes.1 more)
-  where
-    after : (c d : Catalog) (body : List ℕ) (bodies : List (List ℕ)) → AreBytes body → IsCatalog c → (o : Option Catalog) → with_body c body ≡ o → then_bodies o (λ b. catalog_from b bodies) ≡ Some d
-        → ((b : Catalog) → IsCatalog b → catalog_from b bodies ≡ Some d → IsCatalog d) → IsCatalog d
-    after c d body bodies bytes is None read e rest = absurd (cc)
-    after c d body bodies bytes is (Some b) read e rest = rest b (read_shaped c b body bytes is read) e
+  from_kept : (bodies : List (List ℕ)) (c d : Catalog) → AllByRecursion AreBytes bodies → P c → catalog_from c bodies ≡ Some d → P d
+  unfolding catalog_from
+  from_kept [] c d bytes is e = (let same : c ≡ d = cc in subst P same is)
+  from_kept (body ∷ bodies) c d bytes is e = after c d body bodies bytes.0 is (with_body c body) refl e (λ b more. from_kept bodies b d bytes.1 more)
+    where
+      after : (c d : Catalog) (body : List ℕ) (bodies : List (List ℕ)) → AreBytes body → P c → (o : Option Catalog) → with_body c body ≡ o → then_bodies o (λ b. catalog_from b bodies) ≡ Some d
+          → ((b : Catalog) → P b → catalog_from b bodies ≡ Some d → P d) → P d
+      after c d body bodies bytes is None read e rest = absurd (cc)
+      after c d body bodies bytes is (Some b) read e rest = rest b (read_kept c b body bytes is read) e
 
 -- Every catalogue that bodies spell has the shape.
 pub catalog_shaped : (bodies : List (List ℕ)) (c : Catalog) → AllByRecursion AreBytes bodies → catalog bodies ≡ Some c → IsCatalog c
-catalog_shaped bodies c bytes e = from_shaped bodies empty_catalog c bytes empty_shaped e
+catalog_shaped bodies c bytes e = from_kept IsCatalog (λ c r is its fit. fits_shaped c r is its.typed fit) bodies empty_catalog c bytes empty_shaped e
+
+-- And in it each id is its file's own.
+pub catalog_owns : (bodies : List (List ℕ)) (c : Catalog) → AllByRecursion AreBytes bodies → catalog bodies ≡ Some c → HasOwnIds c
+catalog_owns bodies c bytes e = from_kept HasOwnIds (λ c r is its fit. own_ids c r its.rules fit is) bodies empty_catalog c bytes (record { once = λ id. omega arith; runs = λ id some. absurd (omega (arith, some)) }) e

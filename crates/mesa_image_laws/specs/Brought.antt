@@ -9,7 +9,7 @@ use Rattle.mesa_batch.specs.Batch.{Placed, rows_for}
 use Rattle.mesa_batch.specs.Totals.{abs_totals}
 use Rattle.mesa_record.specs.declared.record.Part.{Part}
 use Rattle.mesa_record.specs.declared.record.Record.{Record}
-use Rattle.mesa_image.specs.Catalog.{Catalog, Delta, Stock, part_delta, part_of, start_in}
+use Rattle.mesa_image.specs.Catalog.{Catalog, Delta, Stock, empty_delta, part_delta, part_of, start_in}
 use Rattle.mesa_image.specs.Fitting.{Shelved, brought}
 use Rattle.mesa_image.specs.Contents.{Rows, deltas_to, present}
 use Rattle.mesa_image.specs.Sound.{AreGrouped, IsTold}
@@ -28,6 +28,11 @@ pub record Brings (rows : Rows) (t : Stock) (p : Part) (load : List Row) : Type 
 abbrev pub BringsIfAny : Rows → Stock → Option Part → List Row → Type 0
 BringsIfAny rows t None load = load ≡ []
 BringsIfAny rows t (Some p) load = Brings rows t p load
+
+-- the delta of a version, by what a batch brings to it
+abbrev pub loaded_delta : Option Part → Delta
+loaded_delta None = empty_delta
+loaded_delta (Some p) = part_delta p
 
 -- The parts bring a batch to the tables from a number on: to each table its rows.
 abbrev pub BringsAll : Rows → List Part → List Placed → ℕ → List Stock → Type 0

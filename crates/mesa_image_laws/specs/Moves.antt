@@ -59,6 +59,19 @@ abbrev pub work_of : Bool → ℕ → ℕ → Work
 work_of true from to = work.Base to
 work_of false from to = work.Cumulative from to
 
+-- whether a work makes a base, and the first and the last version of its range
+abbrev pub is_base : Work → Bool
+is_base (work.Base to) = true
+is_base (work.Cumulative from to) = false
+
+abbrev pub first_of : Work → ℕ
+first_of (work.Base to) = 0
+first_of (work.Cumulative from to) = from
+
+abbrev pub last_of : Work → ℕ
+last_of (work.Base to) = to
+last_of (work.Cumulative from to) = to
+
 -- once a work's range is swapped in: the ranges change, and no content
 abbrev pub kept_swapped : Kept → ℕ → Work → Kept
 kept_swapped k table w = record k { ranges = slice_set k.ranges table (swapped w (slice_index_or k.ranges table (new_ranges 0))) }

@@ -1,16 +1,19 @@
 // The files that catalogues name.
 ghost use Rattle.mesa_image.specs.Catalog.{Catalog, applied};
 ghost use Rattle.mesa_image.specs.Contents.{Rows, kept_of};
-ghost use Rattle.mesa_image.specs.Fitting.{Shelved, alter_fits, brings_new_files, brought, fits, shelved};
+ghost use Rattle.mesa_image.specs.Fitting.{Shelved, alter_fits, brought, catalog, fits, shelved};
 ghost use Rattle.mesa_image.specs.Held.{IsUnnamed};
 ghost use Rattle.mesa_image.specs.Shape.{IsCatalog};
 ghost use Rattle.mesa_image.specs.Sound.{AreStocked, wants};
 ghost use Rattle.mesa_image_laws.specs.Brought.{Agree};
+ghost use Rattle.mesa_image_laws.specs.Ids.{HasOwnIds, IsNewId, brought_ids, dropped_ids, named, times};
+ghost use Rattle.mesa_key.specs.Spelling.{AreBytes};
 ghost use Rattle.mesa_record.specs.declared.record.Record.{Record as RecordOf};
 ghost use Rattle.mesa_record.specs.declared.record.Record.TheVariants as record_of;
+ghost use Rattle.mesa_record.specs.Rules.{keeps_rules};
 ghost use Rattle.mesa_schema.specs.declared.changes.Change.{Change as ChangeOf};
 ghost use Rattle.std.specs.List.{AllByRecursion};
-ghost use Rattle.std.specs.Prelude.{◌≡◌, ℕ, List, true};
+ghost use Rattle.std.specs.Prelude.{◌≡◌, ◌+◌, ◌<◌, ℕ, List, Some, true};
 
 /// A change leaves the files that a catalogue names, and their columns.
 pub fn changes_keep_files()
@@ -23,9 +26,23 @@ pub fn views_keep_files()
         → shelved (applied c (record_of.View table name keys values)) ≡ shelved c }
 {}
 
+/// What is named after a record, with what it lets go, is what was named before with what it brings.
+pub fn ids_are_counted()
+    ensures { (c : Catalog) (r : RecordOf) (id : ℕ) → keeps_rules r ≡ true → fits c r ≡ true
+        → times id (named (applied c r)) + times id (dropped_ids c r) ≡ times id (named c) + times id (brought_ids c r) }
+{}
+
 /// The files that a record brings have ids that none has which is named.
 pub fn brought_ids_are_new()
-    ensures { (c : Catalog) (r : RecordOf) → fits c r ≡ true → AllByRecursion (λ (x : Shelved). IsUnnamed c x.file.id) (brought c r) }
+    ensures unnamed { (c : Catalog) (r : RecordOf) → fits c r ≡ true → AllByRecursion (λ (x : Shelved). IsUnnamed c x.file.id) (brought c r) }
+    ensures own { (c : Catalog) (r : RecordOf) (id : ℕ) → fits c r ≡ true → 0 < times id (brought_ids c r) → IsNewId c r id }
+{}
+
+/// Each id that a catalogue names is that of one file, of a run that was: of every catalogue that
+/// bodies of bytes make, and after each record that fits.
+pub fn catalogs_own_ids()
+    ensures whole { (bodies : List (List ℕ)) (c : Catalog) → AllByRecursion AreBytes bodies → catalog bodies ≡ Some c → HasOwnIds c }
+    ensures kept { (c : Catalog) (r : RecordOf) → keeps_rules r ≡ true → fits c r ≡ true → HasOwnIds c → HasOwnIds (applied c r) }
 {}
 
 /// Rows count only for files that are named.

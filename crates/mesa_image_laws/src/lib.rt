@@ -1,14 +1,19 @@
 //! What records do to what a catalogue stands for: each that fits moves it as its command moves the
-//! reference warehouse and the ranges, and what holds of catalogues and of the rows of their files
-//! goes on to hold.
+//! reference warehouse and the ranges, and what holds of catalogues, of their files and of the rows
+//! of these goes on to hold.
 #![tactic(auto)]
 
 mod files;
 mod moves;
 mod shapes;
+mod sources;
+mod works;
 
 pub use files::{
-    brought_ids_are_new, changes_keep_files, rows_count_where_named, views_keep_files,
+    brought_ids_are_new, catalogs_own_ids, changes_keep_files, ids_are_counted,
+    rows_count_where_named, views_keep_files,
 };
 pub use moves::{batches_move, commands_move, runs_move_nothing, works_move};
 pub use shapes::{catalogs_are_shaped, catalogs_go_on, records_keep_shape};
+pub use sources::{sources_begin, sources_go_on, sources_tell};
+pub use works::{due_works_fit, plans_fold};
