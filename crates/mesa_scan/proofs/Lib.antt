@@ -1,0 +1,5 @@
+pub mod Bounds
+pub mod Blocks
+pub mod Skipping
+pub mod Going
+pub mod Onwards

@@ -1,0 +1,4 @@
+pub mod Allowing
+pub mod Damaged
+pub mod Matching
+pub mod Scanning

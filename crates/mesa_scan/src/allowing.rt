@@ -1,0 +1,53 @@
+// Whether a block may have a matching row.
+ghost use Rattle.std.specs.Prelude.{◌≡◌, ◌+◌, ◌<◌, [], get_or, length};
+ghost use Rattle.std.specs.Bool.{OnFalse};
+ghost use Rattle.std.specs.Ordering.{is_gt};
+ghost use Rattle.mesa_key.specs.Order.{byte_cmp};
+ghost use Rattle.mesa_filter.specs.Pruning.{NoneMeets};
+ghost use Rattle.mesa_scan.specs.Allowing.{allows_block, bounds_in, is_allowed};
+
+use mesa_delta::Index;
+use mesa_filter::Filter;
+
+// Whether a block of this number may have a matching row, by the first key columns of its rows.
+#[tactic(auto, using(crate::proofs::Bounds::front))]
+pub(crate) fn may_have(filter: &Filter, columns: u8, index: &Index, block: u32) -> bool
+    requires { block < length index.now.entries }
+    ensures walk { result ≡ allows_block filter.now columns index.now block }
+    ensures none { OnFalse result (NoneMeets filter.now.kinds columns filter.now.terms (get_or (bounds_in index.now) block []) (get_or (bounds_in index.now) (block + 1) [])) }
+{
+    may_lie_between(filter, columns, index.short(block), behind(index, block))
+}
+
+// The short key at which a block ends: the next block's, or that of the file's last key.
+#[tactic(auto, using(crate::proofs::Bounds::front, crate::proofs::Bounds::behind_last))]
+fn behind(index: &Index, block: u32) -> &[u8; 16]
+    requires { block < length index.now.entries }
+    ensures { result.now ≡ get_or (bounds_in index.now) (block + 1) [] }
+{
+    let blocks = index.blocks();
+    let next = block + 1;
+    if next < blocks {
+        index.short(next)
+    } else {
+        index.last()
+    }
+}
+
+// Whether a matching row may lie between two short keys.
+fn may_lie_between(filter: &Filter, columns: u8, low: &[u8; 16], high: &[u8; 16]) -> bool
+    ensures walk { result ≡ is_allowed filter.now columns low.now high.now }
+    ensures none { OnFalse result (NoneMeets filter.now.kinds columns filter.now.terms low.now high.now) }
+{
+    if is_above(low, high) {
+        return true;
+    }
+    filter.may_meet(columns, low, high)
+}
+
+// Whether a short key is above another.
+fn is_above(low: &[u8], high: &[u8]) -> bool
+    ensures { result ≡ is_gt (byte_cmp low.now high.now) }
+{
+    low.cmp(high).is_gt()
+}

@@ -1,0 +1,10 @@
+//! Files scanned for the rows that match: a block is read only where it may have one.
+#![tactic(auto)]
+
+mod allowing;
+mod matching;
+mod scanning;
+mod whole;
+
+pub use scanning::Scan;
+pub use whole::{ScanCount, scan};

@@ -1,0 +1,113 @@
+// An input scanned block by block.
+ghost use Rattle.std.specs.Prelude.{◌≡◌, ◌<◌, ◌≤◌, ◌+◌, ◌++◌, ◌↔◌, [], List, length, IfOk, OnOk, OnErr, IfErr, IsTrue};
+ghost use Rattle.mesa_fault.specs.Causes.{HasFaultCause};
+ghost use Rattle.mesa_file.specs.declared.damage.Damage.{Damage as AnyDamage};
+ghost use Rattle.mesa_schema.specs.declared.rows.Row.{Row as AnyRow};
+ghost use Rattle.mesa_delta.specs.declared.error.FileError.TheVariants as file_error;
+ghost use Rattle.mesa_delta.specs.Reading.{index_of};
+ghost use Rattle.mesa_cursor.specs.Cursors.{IsInput, IsSameInput, reader_in};
+ghost use Rattle.mesa_scan.specs.Damaged.{IsDamaged};
+ghost use Rattle.mesa_scan.specs.Scanning.{HasScanned, IsFilterOf, filter_of, next_of, read_of};
+
+use crate::allowing::may_have;
+use crate::matching::add_matching;
+use mesa_block::fits_alone;
+use mesa_delta::{FileError, Input, keys_between};
+use mesa_disk::FileReader;
+use mesa_filter::Filter;
+use mesa_key::reads_back;
+use mesa_schema::{Lift, Row, lifts_to_present};
+use std::alloc::AllocError;
+
+/// Where an input is being scanned for the rows that match a filter. It goes on block by block, and a block is read only where it may have a matching row; so what is held is at most a block.
+///
+/// A scan is of the input that it was made for, which each call is given that reads it.
+#[derive(Drop)]
+pub struct Scan<'a> {
+    filter: &'a Filter,
+    lift: Lift,
+    // How many key columns the file's rows have.
+    columns: u8,
+    next: u32,
+    blocks_read: u32,
+}
+
+impl<'a> Scan<'a> {
+    /// At the first block of an input. The filter is one of the columns to which its rows are lifted.
+    pub fn of<R: FileReader>(input: &Input<R>, filter: &'a Filter) -> Result<Self, AllocError>
+        requires input { IsInput R.bytes input.now }
+        requires filter { IsFilterOf input.now filter.now }
+        ensures given { IfOk result (λ s. HasScanned R.bytes input.now s []) }
+        ensures filter { IfOk result (λ s. filter_of s ≡ filter.now) }
+        ensures start { IfOk result (λ s. next_of s ≡ 0) }
+    {
+        let lift = input.evolving.lift_from(input.epoch)?;
+        Ok(Scan {
+            filter,
+            lift,
+            columns: input.reader.index().schema().keys().len() as u8,
+            next: 0,
+            blocks_read: 0,
+        })
+    }
+
+    /// Whether every block was looked at.
+    pub fn is_over<R: FileReader>(&self, input: &Input<R>) -> bool
+        ensures { IsTrue result ↔ (length (index_of input.now.reader).entries ≤ next_of self.now) }
+    {
+        self.next >= input.reader.blocks()
+    }
+
+    /// How many blocks were read.
+    pub fn blocks_read(&self) -> u32
+        ensures { result ≡ read_of self.now }
+    {
+        self.blocks_read
+    }
+
+    /// Goes on by a block, and adds its matching rows, lifted, behind the rows that are there. After an error some of them may be there, and the scan stands where it stood.
+    pub fn block<R: FileReader>(
+        &mut self,
+        input: &mut Input<R>,
+        rows: &mut Vec<Row>,
+    ) -> Result<(), FileError>
+        requires scanning { (given : List AnyRow) × HasScanned R.bytes input.old self.old given }
+        requires left { next_of self.old < length (index_of input.old.reader).entries }
+        ensures more { OnOk result ((given : List AnyRow) → HasScanned R.bytes input.old self.old given
+            → (more : List AnyRow) × (rows.new.items ≡ rows.old.items ++ more) × HasScanned R.bytes input.new self.new (given ++ more)) }
+        ensures next { OnOk result (next_of self.new ≡ next_of self.old + 1) }
+        ensures filter { filter_of self.new ≡ filter_of self.old }
+        ensures grows { (more : List AnyRow) × (rows.new.items ≡ rows.old.items ++ more) }
+        ensures stays { OnErr result (self.new ≡ self.old) }
+
+        // The input stays one, of the same file, and is read at most once.
+        ensures input { IsInput R.bytes input.new }
+        ensures same { IsSameInput R.bytes input.old input.new }
+        ensures size { R.size (reader_in input.new) ≡ R.size (reader_in input.old) }
+        ensures reads { OnOk result (R.reads (reader_in input.new) + read_of self.old ≤ R.reads (reader_in input.old) + read_of self.new) }
+
+        // Read comes where the count of faults rose, and Damaged where the file isn't the recorded one.
+        ensures cause { HasFaultCause (λ e. e ≡ file_error.Read) (R.faults (reader_in input.old)) (R.faults (reader_in input.new)) result }
+        ensures damaged { IfErr result (λ e. (d : AnyDamage) → e ≡ file_error.Damaged d → IsDamaged R.bytes R.size input.old d) }
+    {
+        fits_alone();
+        keys_between();
+        lifts_to_present();
+        reads_back();
+        let _columns = input.evolving.present();
+        let index = input.reader.index();
+        let _blocks = index.blocks();
+        if !may_have(self.filter, self.columns, index, self.next) {
+            self.next += 1;
+            return Ok(());
+        }
+        let block = match input.reader.block(self.next) {
+            Ok(block) => block,
+            Err(error) => return Err(error),
+        };
+        add_matching(self.filter, &self.lift, block.into_rows(), rows)?;
+        self.blocks_read += 1;
+        self.next += 1;
+        Ok(())
+    }
+}
