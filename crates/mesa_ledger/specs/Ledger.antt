@@ -98,11 +98,11 @@ Holder = Hold × Catalog
 abbrev pub pin_holder : HeldPin → Holder
 pin_holder p = (p.hold, p.copy)
 
--- an open query's hold, on the files that the catalogue named which its session saw
+-- an open query's hold, on the files that the catalogue named which stood at the position of its turn
 abbrev pub query_holder : (ℕ → Catalog) → OpenQuery → Holder
-query_holder seen q = (q.hold, seen q.session)
+query_holder seen q = (q.hold, seen q.hold.at)
 
--- all holds: those of the pins, and those of the open queries, each of which saw a catalogue
+-- all holds: those of the pins, and those of the open queries
 abbrev pub holders : (ℕ → Catalog) → Ledger → List Holder
 holders seen l = map pin_holder l.pins ++ map (query_holder seen) l.queries
 

@@ -69,7 +69,7 @@ pub record AreCounted (o : Outset) (g : Origin) (l : Ledger) (h : List Entry) : 
   pub adopted : l.adopted ≤ most_files * length h
   pub generation : l.generation ≡ g.generation + schema_changes o.script (begins o.start) h
 
--- What a vault keeps, for rows that its files may have and the catalogues that its open queries saw: the walk of its history with the books of its ledger; that each image stands for its catalogue while it is open; the shape of its catalogues, and its counts; its files; and what its rows are and were made of.
+-- What a vault keeps, for rows that its files may have and the catalogues that stood at its open queries' positions: the walk of its history with the books of its ledger; that each image stands for its catalogue while it is open; the shape of its catalogues, and its counts; its files; and what its rows are and were made of.
 pub record IsVault (o : Outset) (g : Origin) (sound : Bool) (l : Ledger) (story : Story) (held : Option (List ℕ)) (h : List Entry) (running refused : Bool) : Type 0 where
   pub rows : Rows
   pub bodies : List (List ℕ)

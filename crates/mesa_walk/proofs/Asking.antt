@@ -29,7 +29,7 @@ use Rattle.mesa_walk.specs.Causes.{Cause, Replies, Unread, Damaged, Unwritten, N
 use Rattle.mesa_walk.specs.Printing.{IsPut}
 use Rattle.mesa_walk.specs.Queries.{HasNoAnswer, IsPinned, IsOpenFrom, MayClose, closing_outcome, closing_told, closing_fault}
 use Rattle.mesa_walk.specs.Turns.{entry}
-use Rattle.mesa_walk.specs.Walk.{Outset, run_of, IsWalk, Counts}
+use Rattle.mesa_walk.specs.Walk.{Outset, run_of, IsWalk, WalksOn, Counts}
 use Rattle.mesa_walk.proofs.Coming.{or_right, fits_open, renewal_open, renewal_later, comes_standing, comes_without_memory, comes_unread, comes_damaged}
 use Rattle.mesa_walk.proofs.Skeletons.{err_of, ok_of}
 use Rattle.mesa_walk.proofs.Turning.{opened, position_at, quiet_turn, mute_turn, cause_turn}
@@ -74,7 +74,7 @@ module _ (o : Outset) (sound : Bool) (books : Books) (story : Story) (held : Opt
       pinned_is : turn_of r asks (decides_with outcome.Stands) First outcome.Stands ≡ leaves r.state (Answered r.position given.0)
       pinned_is = ap (decided_query r.position r.state) given.1
 
-      pub pinned_turn : Counts story new false → IsWalk o sound books new held (h ++ decides_with outcome.Stands ∷ []) running refused
+      pub pinned_turn : Counts story new false → WalksOn o sound books new held h (decides_with outcome.Stands) running refused
       pinned_turn counts =
           mute_turn o sound books story held h running refused v (decides_with outcome.Stands) asks First due (short _ refl refl) moment new unmoved
           (comes_standing r asks First s n kind.Decide m refl (renewal_open r.state.warehouse.closed First kind.Decide outcome.Stands refl)) (ap not (sym ran)) r.state (Answered r.position given.0) pinned_is counts books v.state refl
@@ -100,7 +100,7 @@ module _ (o : Outset) (sound : Bool) (books : Books) (story : Story) (held : Opt
     still_open answer is = answered_open r.state.warehouse s words (answered answer is).0 (answered answer is).1
 
     pub unpinned_turn : (cause : Cause) → HasNoAnswer books s words cause → Counts story new (is_read_fault cause) → (at : ℕ) → at ≡ length h → (now : Bool) (new_held : Option (List ℕ)) → IsPut (block (decides_with (outcome_of cause)) (Some (told_at at (reply_of cause)))) now held new_held
-        → IsWalk o sound books new new_held (h ++ decides_with (outcome_of cause) ∷ []) now (refused || is_refusal (reply_of cause))
+        → WalksOn o sound books new new_held h (decides_with (outcome_of cause)) now (refused || is_refusal (reply_of cause))
     unpinned_turn (Replies rep) has counts at place now new_held put =
         cause_turn o sound books story held h running refused v (decides_with outcome.Stands) asks First due (short _ refl refl) moment new unmoved
         (comes_standing r asks First s n kind.Decide m refl (renewal_open r.state.warehouse.closed First kind.Decide outcome.Stands refl)) ran (Replies rep) refl tt refl r.state
@@ -143,7 +143,7 @@ module _ (o : Outset) (sound : Bool) (books : Books) (story : Story) (held : Opt
 
     pub close_turn : (cause : Option Cause) → MayClose cause → Counts story new (closing_fault cause) → (now : Bool) (new_held : Option (List ℕ)) (piece : List ℕ)
         → (IsTrue sound → piece ≡ block (closes_with (closing_outcome cause)) (Some (closing_told at open'.answer cause))) → IsPut piece now held new_held
-        → IsWalk o sound books new new_held (h ++ closes_with (closing_outcome cause) ∷ []) now (refused || is_some cause)
+        → WalksOn o sound books new new_held h (closes_with (closing_outcome cause)) now (refused || is_some cause)
     close_turn None may counts now new_held piece is put =
         quiet_turn o sound books story held h running refused v (closes_with outcome.Stands) asks stage open'.due (short _ refl refl) moment new unmoved
         (comes_standing r asks stage s n kind.Close m refl (renewal_later r.state.warehouse.closed stage kind.Close outcome.Stands refl)) (ap not (sym ran)) (closed_turned None) refl refl counts now new_held

@@ -1,5 +1,5 @@
 -- Commands that one turn decides: they fail, they change the books alone, or they write.
-use Rattle.std.proofs.Common.{◌≡◌, ℕ, ◌<◌, ◌≤◌, ◌^◌, List, [], ◌∷◌, ◌++◌, length, Bool, true, false, not, ◌||◌, ◌&&◌, IsTrue, refl, sym, ◌∙◌, ap, subst, arith, Option, Some, Ok, Err}
+use Rattle.std.proofs.Common.{◌≡◌, ℕ, ◌<◌, ◌≤◌, ◌^◌, List, length, Bool, true, false, not, ◌||◌, ◌&&◌, IsTrue, refl, sym, ◌∙◌, ap, subst, arith, Option, Some, Ok, Err}
 use Rattle.mesa_fault.specs.Causes.{Rose, last}
 use Rattle.mesa_disk.specs.Story.{Story, Spans}
 use Rattle.mesa_batch.specs.declared.words.RowWords.{RowWords}
@@ -39,7 +39,7 @@ use Rattle.mesa_walk.specs.Causes.{Cause, Replies, Unread, Damaged, Unwritten, N
 use Rattle.mesa_walk.specs.Changes.{Doing, IsDecided, IsChange, HasFailed, failed_books}
 use Rattle.mesa_walk.specs.Printing.{IsPut}
 use Rattle.mesa_walk.specs.Turns.{entry}
-use Rattle.mesa_walk.specs.Walk.{Outset, run_of, IsWalk, Counts, AllStand, Passes, Writes, StandsForEither}
+use Rattle.mesa_walk.specs.Walk.{Outset, run_of, IsWalk, WalksOn, WalksWith, Counts, AllStand, Passes, Writes, StandsForEither}
 use Rattle.mesa_walk.proofs.Clock.{same_moment, not_closing, begun_moment, closing}
 use Rattle.mesa_walk.proofs.Coming.{fits_open, renewal_open, comes_standing, comes_without_memory, comes_unwritten, comes_undrafted}
 use Rattle.mesa_walk.proofs.Skeletons.{err_of, ok_of, plain_is, bare_plain, builds_is}
@@ -134,7 +134,7 @@ module _ (o : Outset) (sound : Bool) (books : Books) (story : Story) (held : Opt
 
   -- a file that was built for it has failed: nothing was written, and the books close only where the clock stands at its last value
   undrafted_turn : (b : Bool) → closes r.moment (turn_with outcome.WriteFault) ≡ b → HasFailed books c f Unwritten → m ≡ story.moment → (now : Bool) (new_held : Option (List ℕ)) → IsPut (block (turn_with outcome.WriteFault) (Some (told_at at (reply_of Unwritten)))) now held new_held
-      → IsWalk o sound (closed_books_if b at books) story new_held (h ++ turn_with outcome.WriteFault ∷ []) now (refused || true)
+      → WalksOn o sound (closed_books_if b at books) story new_held h (turn_with outcome.WriteFault) now (refused || true)
   undrafted_turn b closes_is failed moment now new_held put =
       let e = turn_with outcome.WriteFault in
       let there = begun_moment o.script o.start h s n c stage due (λ first. drafted_later c books.bare.store failed.1 failed.2 (subst (λ st. IsTrue (is_due_at c st kind.Decide)) first d.due)) in
@@ -145,7 +145,7 @@ module _ (o : Outset) (sound : Bool) (books : Books) (story : Story) (held : Opt
 
   -- It isn't done, whatever the cause.
   pub fails_turn : (cause : Cause) (b : Bool) → closes r.moment (turn_with outcome.WriteFault) ≡ b → HasFailed books c f cause → m ≡ story.moment → (now : Bool) (new_held : Option (List ℕ)) → IsPut (block (turn_with (outcome_of cause)) (Some (told_at at (reply_of cause)))) now held new_held
-      → IsWalk o sound (failed_books cause b at books) story new_held (h ++ turn_with (outcome_of cause) ∷ []) now (refused || is_refusal (reply_of cause))
+      → WalksOn o sound (failed_books cause b at books) story new_held h (turn_with (outcome_of cause)) now (refused || is_refusal (reply_of cause))
   fails_turn (Replies rep) b closes_is failed moment now new_held put =
       cause_turn o sound books story held h running refused v (turn_with outcome.Stands) c stage due (short outcome.Stands) moment story (stays story) (comes_standing r c stage s n kind.Decide m d.due (renewal outcome.Stands))
       ran (Replies rep) refl tt refl r.state (refused_is failed.0 failed.1 ∙ ap (prints r.position r.state) (sym failed.2)) (ap is_written failed.2) (counts_same story) at place now new_held put books v.state refl
@@ -183,7 +183,7 @@ module _ (o : Outset) (sound : Bool) (books : Books) (story : Story) (held : Opt
 
     -- The books change, and nothing that a store keeps.
     pub changed_turn : is_written rep ≡ false → ((x : Warehouse) → f w ≡ Ok (x, rep) → kept_of (stepped r.state x rep) ≡ kept_of r.state) → m ≡ story.moment → (now : Bool) (new_held : Option (List ℕ)) → IsPut (block (turn_with outcome.Stands) (Some (told_at at rep))) now held new_held
-        → IsWalk o sound changed story new_held (h ++ turn_with outcome.Stands ∷ []) now (refused || is_refusal rep)
+        → WalksOn o sound changed story new_held h (turn_with outcome.Stands) now (refused || is_refusal rep)
     changed_turn silent keeps moment now new_held put =
         told_turn o sound books story held h running refused v (turn_with outcome.Stands) c stage due (short outcome.Stands) moment story (stays story) (comes_standing r c stage s n kind.Decide m d.due (renewal outcome.Stands))
         ran refl stood_state rep decide_is silent (counts_same story) now new_held (puts_reply o sound books story held h running refused v (turn_with outcome.Stands) rep at place refl now new_held put) changed stood_books (keeps after done_is)
@@ -201,7 +201,7 @@ module _ (o : Outset) (sound : Bool) (books : Books) (story : Story) (held : Opt
 
       -- Its device work is done.
       pub written_turn : Counts story new false → (IsTrue sound → new.moment < last → AllStand o.stands new changed.kept) → IsPut (block (turn_with outcome.Stands) (Some (told_at at rep))) now held new_held
-          → IsWalk o sound changed new new_held (h ++ turn_with outcome.Stands ∷ []) now (refused || is_refusal rep)
+          → WalksWith o sound changed new new_held h (turn_with outcome.Stands) now (refused || is_refusal rep) rep
       written_turn counts stand put =
           wrote_turn o sound books story held h running refused v (turn_with outcome.Stands) c stage due (short outcome.Stands) new passes moment counts had_kept (comes_standing r c stage s n kind.Decide m d.due (renewal outcome.Stands)) ran refl stood_state rep decide_is now new_held
           (puts_reply o sound books story held h running refused v (turn_with outcome.Stands) rep at place refl now new_held put) writes_is changed stood_books (λ ok below. spans (kept_of stood_state) (sym (stood_books.rows ok)) ok below)
@@ -209,7 +209,7 @@ module _ (o : Outset) (sound : Bool) (books : Books) (story : Story) (held : Opt
 
       -- Its device work has failed, and the books close.
       pub unwritten_turn : is_writing c ≡ true → Counts story new true → IsPut (block (turn_with outcome.WriteFault) (Some (told_at at (reply_of Unwritten)))) now held new_held
-          → IsWalk o sound (closed_books at books) new new_held (h ++ turn_with outcome.WriteFault ∷ []) now (refused || true)
+          → WalksOn o sound (closed_books at books) new new_held h (turn_with outcome.WriteFault) now (refused || true)
       unwritten_turn can counts put =
           let e = turn_with outcome.WriteFault in
           let closing_is : closes r.moment e ≡ true = closing r.moment story.moment e v.at (subst (λ x. Rose story.moment x) (sym moment) passes.rose) refl in

@@ -28,7 +28,7 @@ use Rattle.mesa_walk.specs.Causes.{told_at}
 use Rattle.mesa_walk.specs.Changes.{Doing, IsChange, MakesPin, ReleasesPin}
 use Rattle.mesa_walk.specs.Printing.{IsPut}
 use Rattle.mesa_walk.specs.Turns.{entry}
-use Rattle.mesa_walk.specs.Walk.{Outset, run_of, IsWalk}
+use Rattle.mesa_walk.specs.Walk.{Outset, run_of, IsWalk, WalksOn}
 use Rattle.mesa_walk.proofs.Changing.{pin_decided, release_decided, changed_turn}
 
 version_in : Reply → ℕ
@@ -106,14 +106,14 @@ module _ (o : Outset) (sound : Bool) (books : Books) (story : Story) (held : Opt
     (s n : ℕ) (low : s < 2 ^ 16) (few : n < 2 ^ 32) (m : ℕ) (moment : m ≡ story.moment) (ran : running ≡ true) (at : ℕ) (place : at ≡ length h) (was_open : books.bare.closed ≡ None) where
   -- a version is pinned
   pub pin_turn : (asked : VersionWord) → IsDue o.script (run_of o h) s n (command.Pin asked) First → (version : ℕ) → MakesPin books s asked version → (now : Bool) (new_held : Option (List ℕ))
-      → IsPut (block (entry s n kind.Decide outcome.Stands m) (Some (told_at at (reply.Pinned (next_token books.bare s) version)))) now held new_held → IsWalk o sound (pinned_books s version books) story new_held (h ++ entry s n kind.Decide outcome.Stands m ∷ []) now (refused || false)
+      → IsPut (block (entry s n kind.Decide outcome.Stands m) (Some (told_at at (reply.Pinned (next_token books.bare s) version)))) now held new_held → WalksOn o sound (pinned_books s version books) story new_held h (entry s n kind.Decide outcome.Stands m) now (refused || false)
   pin_turn asked due version is now new_held put =
       changed_turn o sound books story held h running refused v s n low few (command.Pin asked) First (λ w. make_pin w s asked) (pin_decided s asked) due m ran at place (pinned_books s version books) (reply.Pinned (next_token books.bare s) version)
       (pin_change books s asked version is was_open) refl (λ after made. ap (λ (w : Warehouse). kept_of (stepped (run_of o h).state w (reply.Pinned (next_token books.bare s) version))) (pin_made (run_of o h).state.warehouse s asked after _ made).1) moment now new_held put
 
   -- a pin is released
   pub release_turn : (token : ℕ) → IsDue o.script (run_of o h) s n (command.Release token) First → ReleasesPin books s token → (now : Bool) (new_held : Option (List ℕ))
-      → IsPut (block (entry s n kind.Decide outcome.Stands m) (Some (told_at at (reply.Released token)))) now held new_held → IsWalk o sound (released_books s token books) story new_held (h ++ entry s n kind.Decide outcome.Stands m ∷ []) now (refused || false)
+      → IsPut (block (entry s n kind.Decide outcome.Stands m) (Some (told_at at (reply.Released token)))) now held new_held → WalksOn o sound (released_books s token books) story new_held h (entry s n kind.Decide outcome.Stands m) now (refused || false)
   release_turn token due is now new_held put =
       changed_turn o sound books story held h running refused v s n low few (command.Release token) First (λ w. release_pin w s token) (release_decided s token) due m ran at place (released_books s token books) (reply.Released token)
       (release_change books s token is was_open) refl (λ after made. ap (λ (w : Warehouse). kept_of (stepped (run_of o h).state w (reply.Released token))) (pin_released (run_of o h).state.warehouse s token after _ made).0) moment now new_held put

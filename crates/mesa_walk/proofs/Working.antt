@@ -1,5 +1,5 @@
 -- The turns of a work.
-use Rattle.std.proofs.Common.{◌≡◌, ℕ, ◌+◌, ◌<◌, ◌≤◌, ◌^◌, List, [], ◌∷◌, ◌++◌, length, Bool, true, false, not, ◌||◌, IsTrue, refl, sym, ◌∙◌, ap, subst, arith, Option, None, Some, Result, Ok, Err, ok_or}
+use Rattle.std.proofs.Common.{◌≡◌, ℕ, ◌+◌, ◌<◌, ◌≤◌, ◌^◌, List, length, Bool, true, false, not, ◌||◌, IsTrue, refl, sym, ◌∙◌, ap, subst, arith, Option, None, Some, Result, Ok, Err, ok_or}
 use Rattle.std.specs.Prelude.{is_none, is_some}
 use Rattle.mesa_list.specs.Checks.{◌>>=◌, ◌>>◌, refused_as}
 use Rattle.mesa_fault.specs.Causes.{Rose, last}
@@ -38,7 +38,7 @@ use Rattle.mesa_walk.specs.Books.{Books, AreBooksOf, closed_books, closed_books_
 use Rattle.mesa_walk.specs.Causes.{Cause, Replies, Unread, Damaged, Unwritten, NoMemory, is_read_fault, outcome_of, reply_of, told_at}
 use Rattle.mesa_walk.specs.Printing.{IsPut}
 use Rattle.mesa_walk.specs.Turns.{entry}
-use Rattle.mesa_walk.specs.Walk.{Outset, run_of, IsWalk, Counts, AllStand, Passes, Writes, StandsForEither}
+use Rattle.mesa_walk.specs.Walk.{Outset, run_of, IsWalk, WalksOn, WalksWith, Counts, AllStand, Passes, Writes, StandsForEither}
 use Rattle.mesa_walk.specs.Works.{HasNoClaim, HasNotMerged, Swaps, unmerged_books}
 use Rattle.mesa_walk.proofs.Clock.{same_moment, not_closing, begun_moment, closing}
 use Rattle.mesa_walk.proofs.Coming.{fits_open, renewal_open, comes_standing, comes_without_memory, comes_unread, comes_damaged, comes_unwritten, comes_undrafted}
@@ -133,7 +133,7 @@ module _ (o : Outset) (sound : Bool) (books : Books) (story : Story) (held : Opt
 
       -- it is granted
       pub granted_turn : (claim : Claim) → claim_of books.bare books.machine at name ≡ Ok claim → Counts story new false
-          → IsWalk o sound (granted_books at claim books) new held (h ++ entry s n kind.Grant outcome.Stands m ∷ []) running refused
+          → WalksOn o sound (granted_books at claim books) new held h (entry s n kind.Grant outcome.Stands m) running refused
       granted_turn claim is counts =
           mute_turn o sound books story held h running refused v (entry s n kind.Grant outcome.Stands m) works First due (short kind.Grant outcome.Stands) moment new unmoved
           (comes_standing r works First s n kind.Grant m refl (renewal_open w.closed First kind.Grant outcome.Stands refl)) (ap not (sym ran)) (with_machine r.state (claimed r.state.machine r.position claim)) (Granted claim) (grant_is (Ok claim) is) counts
@@ -147,7 +147,7 @@ module _ (o : Outset) (sound : Bool) (books : Books) (story : Story) (held : Opt
 
       -- it isn't
       pub ungranted_turn : (cause : Cause) → HasNoClaim books at name cause → Counts story new (is_read_fault cause) → (now : Bool) (new_held : Option (List ℕ)) → IsPut (block (entry s n kind.Grant (outcome_of cause) m) (Some (told_at at (reply_of cause)))) now held new_held
-          → IsWalk o sound books new new_held (h ++ entry s n kind.Grant (outcome_of cause) m ∷ []) now (refused || is_refusal (reply_of cause))
+          → WalksOn o sound books new new_held h (entry s n kind.Grant (outcome_of cause) m) now (refused || is_refusal (reply_of cause))
       ungranted_turn (Replies rep) has counts now new_held put =
           cause_turn o sound books story held h running refused v (entry s n kind.Grant outcome.Stands m) works First due (short kind.Grant outcome.Stands) moment new unmoved
           (comes_standing r works First s n kind.Grant m refl (renewal_open w.closed First kind.Grant outcome.Stands refl)) ran (Replies rep) refl tt refl r.state (grant_is (Err rep) has) (claim_silent books.bare books.machine at name rep has) counts at place now new_held put books v.state refl
@@ -165,7 +165,7 @@ module _ (o : Outset) (sound : Bool) (books : Books) (story : Story) (held : Opt
     module _ (claim : Claim) (due : IsDue o.script (run_of o h) s n (command.Work name) (Granted claim)) where
       -- its lease holds anew
       pub renewed_turn : claim_checked books.bare books.machine at claim ≡ Ok tt → Counts story new false
-          → IsWalk o sound (renewed_books at claim books) new held (h ++ entry s n kind.Renew outcome.Stands m ∷ []) running refused
+          → WalksOn o sound (renewed_books at claim books) new held h (entry s n kind.Renew outcome.Stands m) running refused
       renewed_turn holds counts =
           mute_turn o sound books story held h running refused v (entry s n kind.Renew outcome.Stands m) works (Granted claim) due (short kind.Renew outcome.Stands) moment new unmoved
           (comes_standing r works (Granted claim) s n kind.Renew m refl refl) (ap not (sym ran)) (with_machine r.state (claim_renewed r.state.machine r.position claim)) (Renewed claim) (ap (renews r.position r.state claim) (checked_is claim ∙ holds)) counts
@@ -173,14 +173,14 @@ module _ (o : Outset) (sound : Bool) (books : Books) (story : Story) (held : Opt
 
       -- it is lost, or the books are closed
       pub unrenewed_turn : (x : Refusal) → claim_checked books.bare books.machine at claim ≡ Err x → Counts story new false → (now : Bool) (new_held : Option (List ℕ)) → IsPut (block (entry s n kind.Renew outcome.Stands m) (Some (told_at at (reply.Refused x)))) now held new_held
-          → IsWalk o sound books new new_held (h ++ entry s n kind.Renew outcome.Stands m ∷ []) now (refused || true)
+          → WalksOn o sound books new new_held h (entry s n kind.Renew outcome.Stands m) now (refused || true)
       unrenewed_turn x lost counts now new_held put =
           cause_turn o sound books story held h running refused v (entry s n kind.Renew outcome.Stands m) works (Granted claim) due (short kind.Renew outcome.Stands) moment new unmoved
           (comes_standing r works (Granted claim) s n kind.Renew m refl refl) ran (Replies (reply.Refused x)) refl tt refl r.state (ap (renews r.position r.state claim) (checked_is claim ∙ lost)) refl counts at place now new_held put books v.state refl
 
       -- the merge failed, and the books are closed: nothing changes
       pub shut_turn : (p : ℕ) → books.bare.closed ≡ Some p → Counts story new false → (now : Bool) (new_held : Option (List ℕ)) → IsPut (block (entry s n kind.Close outcome.Stands m) (Some (told_at at (reply.Refused (no.Closed p))))) now held new_held
-          → IsWalk o sound books new new_held (h ++ entry s n kind.Close outcome.Stands m ∷ []) now (refused || true)
+          → WalksOn o sound books new new_held h (entry s n kind.Close outcome.Stands m) now (refused || true)
       shut_turn p shut counts now new_held put =
           let shut_is : w.closed ≡ Some p = ap (λ (x : Warehouse). x.closed) v.state.skeleton ∙ shut in
           let checked : claim_checked w r.state.machine r.position claim ≡ Err (no.Closed p) = λ i. claim_checked (record w { closed = shut_is i }) r.state.machine r.position claim in
@@ -208,7 +208,7 @@ module _ (o : Outset) (sound : Bool) (books : Books) (story : Story) (held : Opt
 
       -- the merge failed, for whatever cause: the lease ends
       pub unmerged_turn : (cause : Cause) (b : Bool) → closes r.moment (entry s n kind.Close outcome.WriteFault m) ≡ b → HasNotMerged books cause → Counts story new (is_read_fault cause) → (now : Bool) (new_held : Option (List ℕ)) → IsPut (block (entry s n kind.Close (outcome_of cause) m) (Some (told_at at (reply_of cause)))) now held new_held
-          → IsWalk o sound (unmerged_books cause b at claim books) new new_held (h ++ entry s n kind.Close (outcome_of cause) m ∷ []) now (refused || is_refusal (reply_of cause))
+          → WalksOn o sound (unmerged_books cause b at claim books) new new_held h (entry s n kind.Close (outcome_of cause) m) now (refused || is_refusal (reply_of cause))
       unmerged_turn (Replies rep) b closes_is has counts now new_held put = absurd has
       unmerged_turn Unread b closes_is has counts now new_held put =
           cause_turn o sound books story held h running refused v (entry s n kind.Close outcome.ReadFault m) works (Granted claim) due (short kind.Close outcome.ReadFault) moment new unmoved
@@ -232,14 +232,14 @@ module _ (o : Outset) (sound : Bool) (books : Books) (story : Story) (held : Opt
     module _ (claim : Claim) (due : IsDue o.script (run_of o h) s n (command.Work name) (Renewed claim)) where
       -- the lease is lost, or the books are closed: nothing changes
       pub lost_turn : (x : Refusal) → claim_checked books.bare books.machine at claim ≡ Err x → Counts story new false → (now : Bool) (new_held : Option (List ℕ)) → IsPut (block (entry s n kind.Close outcome.Stands m) (Some (told_at at (reply.Refused x)))) now held new_held
-          → IsWalk o sound books new new_held (h ++ entry s n kind.Close outcome.Stands m ∷ []) now (refused || true)
+          → WalksOn o sound books new new_held h (entry s n kind.Close outcome.Stands m) now (refused || true)
       lost_turn x lost counts now new_held put =
           cause_turn o sound books story held h running refused v (entry s n kind.Close outcome.Stands m) works (Renewed claim) due (short kind.Close outcome.Stands) moment new unmoved
           (comes_standing r works (Renewed claim) s n kind.Close m refl refl) ran (Replies (reply.Refused x)) refl tt refl r.state (ap (completes r.position r.state claim) (checked_is claim ∙ lost)) refl counts at place now new_held put books v.state refl
 
       -- there is no memory for the swap: the lease ends
       pub starved_turn : books.bare.closed ≡ None → Counts story new false → (now : Bool) (new_held : Option (List ℕ)) → IsPut (block (entry s n kind.Close outcome.Memory m) (Some (told_at at (reply.Refused no.Memory)))) now held new_held
-          → IsWalk o sound (ended_books claim books) new new_held (h ++ entry s n kind.Close outcome.Memory m ∷ []) now (refused || true)
+          → WalksOn o sound (ended_books claim books) new new_held h (entry s n kind.Close outcome.Memory m) now (refused || true)
       starved_turn is counts now new_held put =
           cause_turn o sound books story held h running refused v (entry s n kind.Close outcome.Memory m) works (Renewed claim) due (short kind.Close outcome.Memory) moment new unmoved
           (comes_without_memory r works (Renewed claim) s n kind.Close m refl refl (fits_open w.closed false false false false (opened o sound books story held h running refused v is))) ran NoMemory refl tt refl (with_machine r.state (claim_ended r.state.machine claim)) refl refl counts at place now new_held put
@@ -270,9 +270,9 @@ module _ (o : Outset) (sound : Bool) (books : Books) (story : Story) (held : Opt
 
     -- its device work is done: the books have its range, and the lease has ended
     pub swapped_turn : Counts story new false → (IsTrue sound → new.moment < last → AllStand o.stands new kept) → IsPut (block (entry s n kind.Close outcome.Stands m) (Some (told_at at (swapped_reply claim.work)))) now held new_held
-        → IsWalk o sound (swapped_books claim kept books) new new_held (h ++ entry s n kind.Close outcome.Stands m ∷ []) now (refused || false)
+        → WalksWith o sound (swapped_books claim kept books) new new_held h (entry s n kind.Close outcome.Stands m) now (refused || false) (swapped_reply claim.work)
     swapped_turn counts stand put =
-        subst (λ b. IsWalk o sound (swapped_books claim kept books) new new_held (h ++ entry s n kind.Close outcome.Stands m ∷ []) now (refused || b)) (swap_told claim.work)
+        subst (λ b. WalksWith o sound (swapped_books claim kept books) new new_held h (entry s n kind.Close outcome.Stands m) now (refused || b) (swapped_reply claim.work)) (swap_told claim.work)
         (wrote_turn o sound books story held h running refused v (entry s n kind.Close outcome.Stands m) works (Renewed claim) due (short kind.Close outcome.Stands) new passes moment counts had_kept
         (comes_standing r works (Renewed claim) s n kind.Close m refl refl) ran refl swapped_state (swapped_reply claim.work) swapped_is now new_held
         (puts_reply o sound books story held h running refused v (entry s n kind.Close outcome.Stands m) (swapped_reply claim.work) at place refl now new_held put) (swap_writes claim.work) (swapped_books claim kept books)
@@ -281,7 +281,7 @@ module _ (o : Outset) (sound : Bool) (books : Books) (story : Story) (held : Opt
 
     -- its device work has failed: the books close, and the lease has ended
     pub unswapped_turn : Counts story new true → IsPut (block (entry s n kind.Close outcome.WriteFault m) (Some (told_at at (reply_of Unwritten)))) now held new_held
-        → IsWalk o sound (closed_books at (ended_books claim books)) new new_held (h ++ entry s n kind.Close outcome.WriteFault m ∷ []) now (refused || true)
+        → WalksOn o sound (closed_books at (ended_books claim books)) new new_held h (entry s n kind.Close outcome.WriteFault m) now (refused || true)
     unswapped_turn counts put =
         let e = entry s n kind.Close outcome.WriteFault m in
         let shut : State = closed_off (closed_if true r.position r.state) (Renewed claim) in

@@ -1,19 +1,21 @@
 -- The walk: what a vault's books, disk and sink are to the history of its run.
-use Rattle.std.specs.Prelude.{◌≡◌, ◌⊎◌, ℕ, ◌+◌, ◌≤◌, ◌<◌, List, Bool, not, Option, None, Some, IsTrue, true}
+use Rattle.std.specs.Prelude.{◌≡◌, ◌⊎◌, ℕ, ◌+◌, ◌≤◌, ◌<◌, List, [], ◌∷◌, ◌++◌, Bool, not, false, Option, None, Some, IsTrue, true}
 use Rattle.std.specs.List.{AllByRecursion}
 use Rattle.mesa_fault.specs.Causes.{last, Rose}
 use Rattle.mesa_disk.specs.Image.{Image}
 use Rattle.mesa_disk.specs.Story.{Story, Spans}
 use Rattle.mesa_model.specs.declared.commands.Script.{Script}
 use Rattle.mesa_model.specs.declared.entries.Entry.{Entry}
+use Rattle.mesa_model.specs.declared.replies.Reply.{Reply}
 use Rattle.mesa_model.specs.Entry.{IsShort}
 use Rattle.mesa_history.specs.Run.{State, Run, begins}
-use Rattle.mesa_history.specs.Replay.{runs}
-use Rattle.mesa_history.specs.Legal.{AllFit, fits_sink}
+use Rattle.mesa_history.specs.Replay.{told_by, runs}
+use Rattle.mesa_history.specs.Legal.{AllFit, fits_sink, wrote}
 use Rattle.mesa_history.specs.Found.{Kept, Found}
 use Rattle.mesa_history.specs.Counting.{count_in, is_disk_fault}
 use Rattle.mesa_history.specs.Refused.{some_refused}
 use Rattle.mesa_walk.specs.Books.{Books, AreBooksOf}
+use Rattle.mesa_walk.specs.Causes.{told_at}
 use Rattle.mesa_walk.specs.Printing.{IsPrinted}
 
 -- What a run sets out from: what an image stands for, the script, the state, and the disk's clock, both counts of the disk's faults together and the sink's bytes at its start.
@@ -101,3 +103,15 @@ pub record Passes (old new : Story) : Type 0 where
 -- What the device work of a turn leaves: where each image stood for what was kept, each image since stands for that or for what was to be kept.
 abbrev pub Writes : (Image → Kept → Type 0) → Story → Story → Kept → Kept → Type 0
 Writes stands old new before after = new.moment < last → AllStand stands old before → Spans (StandsForEither stands before after) old new
+
+-- ---- one entry more
+
+-- The walk goes on with an entry that wrote nothing.
+pub record WalksOn (o : Outset) (sound : Bool) (books : Books) (story : Story) (held : Option (List ℕ)) (h : List Entry) (e : Entry) (running refused : Bool) : Type 0 where
+  pub walk : IsWalk o sound books story held (h ++ e ∷ []) running refused
+  pub silent : wrote (told_by o.script (run_of o h) e) ≡ false
+
+-- The walk goes on with an entry that wrote, and tells this reply.
+pub record WalksWith (o : Outset) (sound : Bool) (books : Books) (story : Story) (held : Option (List ℕ)) (h : List Entry) (e : Entry) (running refused : Bool) (r : Reply) : Type 0 where
+  pub walk : IsWalk o sound books story held (h ++ e ∷ []) running refused
+  pub tells : told_by o.script (run_of o h) e ≡ Some (told_at (run_of o h).position r)

@@ -1,0 +1,83 @@
+-- A vault before its first turn, one whose disk gave readers back, and what a session sees of one.
+use Rattle.std.proofs.Common.{◌≡◌, ℕ, ◌<◌, List, [], Bool, true, false, subst, arith, Option, None, IsTrue}
+use Rattle.mesa_fault.specs.Causes.{last}
+use Rattle.mesa_disk.specs.Story.{Story, Unmoved}
+use Rattle.mesa_model.specs.declared.entries.Entry.{Entry}
+use Rattle.mesa_history.specs.Claims.{HasRanges, HasClaimAt}
+use Rattle.mesa_history.specs.Counting.{count_in}
+use Rattle.mesa_history.specs.Law.{accepted_in}
+use Rattle.mesa_history.specs.Run.{begins, place_of}
+use Rattle.mesa_history.proofs.Claims.{runs_hold, begins_hold}
+use Rattle.mesa_image.specs.Catalog.{Catalog}
+use Rattle.mesa_image.specs.Held.{IsHeld}
+use Rattle.mesa_image.specs.Shape.{IsCatalog}
+use Rattle.mesa_image.specs.Sound.{AreStocked}
+use Rattle.mesa_skeleton.specs.Rows.{Rows, no_rows}
+use Rattle.mesa_trash.specs.Holding.{Among}
+use Rattle.mesa_trash.proofs.Filing.{filed_first}
+use Rattle.mesa_walk.specs.Turns.{IsSeen}
+use Rattle.mesa_walk.specs.Walk.{Outset, IsWalk, Counts, run_of}
+use Rattle.mesa_walk.proofs.Beginning.{unmoved_walk}
+use Rattle.mesa_ledger.specs.Ledger.{Ledger, books_of, named_in, next_id}
+use Rattle.mesa_ledger.specs.Sourced.{AreSourced, all_written}
+use Rattle.mesa_ledger.specs.Vault.{Origin, IsReady, IsVault, Starts, IsVaultAt, outset_of}
+use Rattle.mesa_ledger.proofs.Standing.{held_unmoved, ready_unmoved, there_unmoved}
+
+-- a ledger of a catalogue, in which nothing was done yet
+abbrev pub first_ledger : Outset → Catalog → ℕ → ℕ → Ledger
+first_ledger o c generation end = record { catalogue = c; generation = generation; pins = []; queries = []; trash = []; leases = o.start.machine.leases; given = []; closed = None; adopted = 0; end = end }
+
+-- Before the first turn.
+pub started_vault : (o : Outset) (g : Origin) (sound : Bool) (c : Catalog) (end : ℕ) (story : Story) (held : Option (List ℕ)) (rows : Rows) (bodies : List (List ℕ)) → IsWalk o sound (books_of rows (first_ledger o c g.generation end)) story held [] true false
+    → HasRanges o.start → o.start.machine.leases.granted ≡ 0 → (IsTrue sound → story.moment < last → IsHeld story bodies end c rows) → IsCatalog c → ((id : ℕ) → Among id (named_in c) → id < next_id (first_ledger o c g.generation end))
+    → IsReady (first_ledger o c g.generation end) story → (IsTrue sound → AreStocked rows c) → (IsTrue sound → AreSourced rows (all_written g.found []) 0 c.tables) → IsVault o g sound (first_ledger o c g.generation end) story held [] true false
+unfolding count_in accepted_in
+started_vault o g sound c end story held rows bodies walk ranges none stands shaped named ready stocked sourced = record {
+  rows = rows;
+  bodies = bodies;
+  seen = λ position. c;
+  walk = walk;
+  ranges = ranges;
+  stands = λ ok low is. stands ok low;
+  shaped = shaped;
+  copies = tt;
+  versions = tt;
+  counts = record { leases = omega (arith, none); given = tt; adopted = omega arith; generation = omega arith };
+  filed = filed_first 0 (next_id (first_ledger o c g.generation end)) (named_in c) named;
+  ready = λ is. ready;
+  there = λ ok low i is. tt;
+  stocked = λ ok. (stocked ok, tt);
+  sourced = sourced;
+}
+
+-- Calls that move no image keep a vault, and so does a rise of a count.
+pub unmoved_vault : (o : Outset) (g : Origin) (sound : Bool) (l : Ledger) (story new : Story) (held : Option (List ℕ)) (h : List Entry) (running refused : Bool) → Unmoved story new → Counts story new false → IsVault o g sound l story held h running refused → IsVault o g sound l new held h running refused
+unmoved_vault o g sound l story new held h running refused same counts v = record {
+  rows = v.rows;
+  bodies = v.bodies;
+  seen = v.seen;
+  walk = unmoved_walk o sound (books_of v.rows l) story new held h running refused same counts v.walk;
+  ranges = v.ranges;
+  stands = λ ok low is. held_unmoved story new same v.bodies l.end l.catalogue v.rows (v.stands ok (subst (λ m. m < last) same.moment low) is);
+  shaped = v.shaped;
+  copies = v.copies;
+  versions = v.versions;
+  counts = v.counts;
+  filed = v.filed;
+  ready = λ is. ready_unmoved story new same l (v.ready is);
+  there = λ ok low. there_unmoved story new same v.rows v.seen l (v.there ok (subst (λ m. m < last) same.moment low));
+  stocked = v.stocked;
+  sourced = v.sourced;
+}
+
+-- What a session relies on.
+pub vault_seen : (o : Outset) (g : Origin) (sound : Bool) (l : Ledger) (story : Story) (held : Option (List ℕ)) (h : List Entry) (running refused : Bool) (clock : ℕ) → IsVault o g sound l story held h running refused → IsSeen o.script o.start (record { history = h; running = running; clock = clock })
+vault_seen o g sound l story held h running refused clock v = record { fits = v.walk.legal; short = v.walk.short; sink = v.walk.sink }
+
+-- The same of a family of starts, at the one without rows.
+pub vault_at_seen : (n : Starts) (l : Ledger) (story : Story) (held : Option (List ℕ)) (h : List Entry) (running refused : Bool) (clock : ℕ) → IsVaultAt n l story held h running refused → IsSeen n.script (n.start no_rows) (record { history = h; running = running; clock = clock })
+vault_at_seen n l story held h running refused clock v = vault_seen (outset_of n no_rows) (n.origin no_rows) false l story held h running refused clock (v no_rows false (λ is. absurd cc))
+
+-- Each session's work has its claim.
+pub vault_claims : (o : Outset) (g : Origin) (sound : Bool) (l : Ledger) (story : Story) (held : Option (List ℕ)) (h : List Entry) (running refused : Bool) → IsVault o g sound l story held h running refused → (session : ℕ) → HasClaimAt (run_of o h).state (place_of (run_of o h) session).stage
+vault_claims o g sound l story held h running refused v session = (runs_hold o.script (begins o.start) h (begins_hold o.start v.ranges)).claims session

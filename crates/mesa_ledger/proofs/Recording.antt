@@ -1,0 +1,169 @@
+-- A vault with one entry more that wrote a record, or tried to.
+use Rattle.std.proofs.Common.{◌≡◌, ◌⊎◌, ℕ, ◌+◌, ◌*◌, ◌<◌, ◌≤◌, List, [], ◌∷◌, ◌++◌, map, length, Bool, refl, sym, ◌∙◌, ap, subst, arith, Option, None, Some, IsTrue}
+use Rattle.std.specs.List.{AllByRecursion}
+use Rattle.std.proofs.lemmas.List.{length-append}
+use Rattle.mesa_fault.specs.Causes.{last}
+use Rattle.mesa_disk.specs.Files.{AreGone}
+use Rattle.mesa_disk.specs.Image.{Image}
+use Rattle.mesa_disk.specs.Story.{Story, Steps}
+use Rattle.mesa_disk.specs.declared.area.Area.TheVariants.{Zero}
+use Rattle.mesa_commit.specs.Images.{Has}
+use Rattle.mesa_commit.specs.Turn.{MovesOnly}
+use Rattle.mesa_lease.specs.Book.{Book}
+use Rattle.mesa_model.specs.declared.entries.Entry.{Entry}
+use Rattle.mesa_model.specs.declared.replies.Reply.{Reply}
+use Rattle.mesa_history.specs.Counting.{one_if}
+use Rattle.mesa_history.specs.Run.{begins}
+use Rattle.mesa_image.specs.Catalog.{Catalog}
+use Rattle.mesa_image.specs.Held.{IsHeld}
+use Rattle.mesa_image.specs.Sound.{AreStocked}
+use Rattle.mesa_image_laws.proofs.Agreeing.{agree_stocked}
+use Rattle.mesa_skeleton.specs.Rows.{Rows}
+use Rattle.mesa_trash.specs.Filed.{AreFresh, AreMoved, PinFiles, Renames}
+use Rattle.mesa_trash.specs.Holding.{Among, Held, AreFiled, IsHoldOf, ids_of, freed, kept}
+use Rattle.mesa_trash.proofs.Adopting.{fresh_stays, named_stays}
+use Rattle.mesa_trash.proofs.Filing.{freed_unheld}
+use Rattle.mesa_walk.specs.Sight.{is_of_schemas, tells_of_schemas, schema_changes}
+use Rattle.mesa_walk.specs.Walk.{Outset, WalksOn, WalksWith}
+use Rattle.mesa_ledger.specs.Ledger.{Ledger, books_of, named_in, first_id, next_id, past_id, most_files, Holder, holders, ids_held, files_held}
+use Rattle.mesa_ledger.specs.Recorded.{holds_in, waiting, removed_by, Adopts, IsRecorded, recorded_ledger, failed_ledger}
+use Rattle.mesa_ledger.specs.Sourced.{AreSourced, all_written}
+use Rattle.mesa_ledger.specs.Vault.{Origin, AreThere, IsVault, written_by}
+use Rattle.mesa_ledger.proofs.Accepting.{silent_accepts, silent_changes, changes_more}
+use Rattle.mesa_ledger.proofs.Filing.{holds_are, filed_lost, filed_moved, filed_recorded, still_waits, old_agree, files_stay}
+use Rattle.mesa_ledger.proofs.Lists.{map_all, all_also}
+
+-- no number is more than the next one
+more_given : (n : ℕ) (ns : List ℕ) → AllByRecursion (λ x. x ≤ n) ns → AllByRecursion (λ x. x ≤ n + 1) ns
+more_given n [] all = tt
+more_given n (x ∷ ns) all = (omega (arith, all.0), more_given n ns all.1)
+
+module _ (o : Outset) (g : Origin) (sound : Bool) (l : Ledger) (story : Story) (held : Option (List ℕ)) (h : List Entry) (running refused : Bool) (v : IsVault o g sound l story held h running refused)
+    (e : Entry) (new : Story) (new_held : Option (List ℕ)) (now told : Bool) (made : List (ℕ × Option (List ℕ))) (gone : List ℕ) (adopted : ℕ) (adopts : Adopts l made adopted)
+    (only : Steps (MovesOnly made (removed_by l (length h) gone)) story.told new.told) (later_clock : story.moment ≤ new.moment) where
+  more : length (h ++ e ∷ []) ≡ length h + 1
+  more = length-append h (e ∷ [])
+
+  abbrev pins : List Held
+  pins = map ids_held (holders v.seen l)
+
+  abbrev later_id : ℕ
+  later_id = first_id l.catalogue.run + adopted
+
+  later_le : next_id l ≤ later_id
+  later_le = (let n = adopts.more in omega (arith, n))
+
+  most_more : most_files * (length h + 1) ≡ most_files * length h + most_files
+  most_more = omega arith
+
+  few_now : adopted ≤ most_files * length (h ++ e ∷ [])
+  few_now = subst (λ n. adopted ≤ most_files * n) (sym more) (let a = adopts.few in let b = v.counts.adopted in omega (arith, a, b, most_more))
+
+  -- what is removed had no hold, whatever came of the record that drops it
+  unheld_by : (c : Catalog) → Renames (named_in l.catalogue) made (named_in c) gone → (id : ℕ) → Among id (removed_by l (length h) gone) → AllByRecursion (λ (p : Held). Among id p.1 → ⊥) pins
+  unheld_by c renames id is =
+      freed_unheld (length h + 1) later_id (named_in c) (waiting l (length h) gone) pins (filed_moved (length h) (next_id l) (named_in l.catalogue) l.trash pins v.filed made later_id adopts.given later_le (named_in c) gone renames)
+      id (subst (λ hs. Among id (ids_of (freed hs (waiting l (length h) gone)))) (sym (holds_are v.seen l)) is)
+
+  -- files of holds stay where what is removed had no hold
+  module _ (later : Rows) (agree : (id : ℕ) → id < next_id l → later id ≡ v.rows id) (unheld : (id : ℕ) → Among id (removed_by l (length h) gone) → AllByRecursion (λ (p : Held). Among id p.1 → ⊥) pins) where
+    below : AllByRecursion (λ (x : Holder). (id : ℕ) → Among id (named_in x.1) → id < next_id l) (holders v.seen l)
+    below = all_also (λ x. IsHoldOf (named_in l.catalogue) l.trash (ids_held x).0 (ids_held x).1) (λ x. ((ids_held x).0.at < length h) × ((ids_held x).0.next ≤ next_id l)) (λ (x : Holder). (id : ℕ) → Among id (named_in x.1) → id < next_id l) (holders v.seen l)
+        (λ x is low id named. (let a = is.given id named in omega (arith, a, low.1)))
+        (map_all (λ (p : Held). IsHoldOf (named_in l.catalogue) l.trash p.0 p.1) ids_held (holders v.seen l) v.filed.held) (map_all (λ (p : Held). (p.0.at < length h) × (p.0.next ≤ next_id l)) ids_held (holders v.seen l) v.filed.before)
+
+    stay_all : (xs : List Holder) (i j : Image) → MovesOnly made (removed_by l (length h) gone) i j → AllByRecursion (λ (x : Holder). (id : ℕ) → Among id (named_in x.1) → id < next_id l) xs → ((id : ℕ) → Among id (removed_by l (length h) gone) → AllByRecursion (λ (p : Held). Among id p.1 → ⊥) (map ids_held xs))
+        → AllByRecursion (λ (p : PinFiles). Has p.1 i) (map (files_held v.rows) xs) → AllByRecursion (λ (p : PinFiles). Has p.1 j) (map (files_held later) xs)
+    stay_all [] i j moves low apart has = tt
+    stay_all (x ∷ xs) i j moves low apart has =
+        (files_stay v.rows later (next_id l) later_id agree x.1 low.0 made (removed_by l (length h) gone) i j moves adopts.given (λ id is named. (apart id is).0 named) has.0, stay_all xs i j moves low.1 (λ id is. (apart id is).1) has.1)
+
+    there_stays : IsTrue sound → new.moment < last → AreThere later v.seen l new
+    there_stays ok low j is = let before = only.back j is in stay_all (holders v.seen l) before.0 j before.2 below unheld (v.there ok (omega (arith, later_clock, low)) before.0 before.1)
+
+    stocked_stays : IsTrue sound → AllByRecursion (λ (x : Holder). AreStocked later x.1) (holders v.seen l)
+    stocked_stays ok = all_also (λ (x : Holder). (id : ℕ) → Among id (named_in x.1) → id < next_id l) (λ (x : Holder). AreStocked v.rows x.1) (λ (x : Holder). AreStocked later x.1) (holders v.seen l)
+        (λ x low are. agree_stocked v.rows later x.1 (old_agree v.rows later (next_id l) later_id agree x.1 low) are) below (v.stocked ok).1
+
+  -- ---- the record is written
+
+  module _ (later : Rows) (c : Catalog) (recorded : IsRecorded l v.rows later c made gone) (gone_now : (i : Image) → new.told ≡ Some i → AreGone (removed_by l (length h) gone) i) where
+    moved : AreMoved made (removed_by l (length h) gone) story.told new.told
+    moved = record { only = only; gone = gone_now }
+
+    filed_now : AreFiled (length h + 1) later_id (named_in c) (kept (holds_in l) (waiting l (length h) gone)) pins
+    filed_now = subst (λ hs. AreFiled (length h + 1) later_id (named_in c) (kept hs (waiting l (length h) gone)) pins) (holds_are v.seen l)
+        (filed_recorded (length h) (next_id l) (named_in l.catalogue) l.trash pins v.filed made later_id adopts.given later_le (named_in c) gone recorded.renames)
+
+    unheld : (id : ℕ) → Among id (removed_by l (length h) gone) → AllByRecursion (λ (p : Held). Among id p.1 → ⊥) pins
+    unheld = unheld_by c recorded.renames
+
+    goes : (id : ℕ) → Among id (named_in l.catalogue) ⊎ Among id (ids_of l.trash) → Among id (named_in c) ⊎ (Among id (ids_of (kept (holds_in l) (waiting l (length h) gone))) ⊎ Among id (removed_by l (length h) gone))
+    goes id had = subst (λ hs. Among id (named_in c) ⊎ (Among id (ids_of (kept hs (waiting l (length h) gone))) ⊎ Among id (ids_of (freed hs (waiting l (length h) gone))))) (holds_are v.seen l)
+        (still_waits (length h) (next_id l) (named_in l.catalogue) l.trash pins v.filed made later_id adopts.given later_le (named_in c) gone recorded.renames id had)
+
+    module _ (generation : ℕ) (leases : Book) (end : ℕ) (bodies : List (List ℕ)) (rep : Reply) where
+      abbrev after : Ledger
+      after = recorded_ledger l (length h) c generation gone leases adopted end
+
+      -- The device work of the turn is done, and the ledger has its record.
+      pub recorded_vault : WalksWith o sound (books_of later after) new new_held h e now told rep → (IsTrue sound → new.moment < last → l.closed ≡ None → IsHeld new bodies end c later) → (IsTrue sound → AreStocked later c) → (l.closed ≡ None → end < new.len Zero)
+          → leases.granted ≤ l.leases.granted → generation ≡ l.generation + one_if (is_of_schemas rep) → (IsTrue sound → AreSourced later (written_by o g.found (h ++ e ∷ [])) 0 c.tables) → IsVault o g sound after new new_held (h ++ e ∷ []) now told
+      recorded_vault on stands stocked long granted counted sourced = record {
+        rows = later;
+        bodies = bodies;
+        seen = v.seen;
+        walk = on.walk;
+        ranges = v.ranges;
+        stands = stands;
+        shaped = recorded.shaped;
+        copies = v.copies;
+        versions = v.versions;
+        counts = record {
+          leases = omega (arith, more, granted, v.counts.leases);
+          given = subst (λ n. AllByRecursion (λ x. x ≤ n) l.given) (sym more) (more_given (length h) l.given v.counts.given);
+          adopted = few_now;
+          generation = counted_now;
+        };
+        filed = subst (λ n. AreFiled n (next_id after) (named_in c) after.trash pins) (sym more) (subst (λ n. AreFiled (length h + 1) (first_id n + adopted) (named_in c) after.trash pins) (sym recorded.run) filed_now);
+        ready = λ is. record {
+          long = long is;
+          fresh = subst (λ n. AreFresh (first_id n + adopted) (first_id (n + 1)) new.told) (sym recorded.run)
+              (fresh_stays made (removed_by l (length h) gone) (next_id l) later_id (past_id l) story.told new.told adopts.given later_le only (v.ready is).fresh);
+          strays = named_stays made (removed_by l (length h) gone) (named_in l.catalogue) (named_in c) (ids_of l.trash) (ids_of after.trash) story.told new.told moved recorded.brings goes (v.ready is).strays;
+        };
+        there = there_stays later recorded.agree unheld;
+        stocked = λ ok. (stocked ok, stocked_stays later recorded.agree unheld ok);
+        sourced = sourced;
+      }
+        where
+          counted_now : generation ≡ g.generation + schema_changes o.script (begins o.start) (h ++ e ∷ [])
+          counted_now = (let a = v.counts.generation in let b = changes_more o.script (begins o.start) h e ∙ ap (λ t. schema_changes o.script (begins o.start) h + one_if (tells_of_schemas t)) on.tells in omega (arith, a, b, counted))
+
+  -- ---- the device work failed
+
+  -- The device work of the turn failed: the books close, whatever was brought is lost, and the lease of a work may have ended.
+  pub failed_vault : (position : ℕ) (leases : Book) (c : Catalog) → Renames (named_in l.catalogue) made (named_in c) gone → WalksOn o sound (books_of v.rows (failed_ledger l position leases adopted)) new new_held h e now told → leases.granted ≤ l.leases.granted
+      → IsVault o g sound (failed_ledger l position leases adopted) new new_held (h ++ e ∷ []) now told
+  failed_vault position leases c renames on granted = record {
+    rows = v.rows;
+    bodies = v.bodies;
+    seen = v.seen;
+    walk = on.walk;
+    ranges = v.ranges;
+    stands = λ ok low is. absurd (let never : Some position ≡ None = is in cc);
+    shaped = v.shaped;
+    copies = v.copies;
+    versions = v.versions;
+    counts = record {
+      leases = omega (arith, more, granted, v.counts.leases);
+      given = subst (λ n. AllByRecursion (λ x. x ≤ n) l.given) (sym more) (more_given (length h) l.given v.counts.given);
+      adopted = few_now;
+      generation = v.counts.generation ∙ ap (λ n. g.generation + n) (sym (silent_changes o.script (begins o.start) h e on.silent));
+    };
+    filed = subst (λ n. AreFiled n later_id (named_in l.catalogue) l.trash pins) (sym more) (filed_lost (length h) (next_id l) (named_in l.catalogue) l.trash pins v.filed made later_id adopts.given later_le);
+    ready = λ is. absurd (let never : Some position ≡ None = is in cc);
+    there = there_stays v.rows (λ id low. refl) (unheld_by c renames);
+    stocked = λ ok. v.stocked ok;
+    sourced = λ ok. subst (λ a. AreSourced v.rows (all_written g.found a) 0 l.catalogue.tables) (sym (silent_accepts o.script (begins o.start) h e on.silent)) (v.sourced ok);
+  }
