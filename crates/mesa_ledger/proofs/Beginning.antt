@@ -30,12 +30,13 @@ first_ledger o c generation end = record { catalogue = c; generation = generatio
 -- Before the first turn.
 pub started_vault : (o : Outset) (g : Origin) (sound : Bool) (c : Catalog) (end : ℕ) (story : Story) (held : Option (List ℕ)) (rows : Rows) (bodies : List (List ℕ)) → IsWalk o sound (books_of rows (first_ledger o c g.generation end)) story held [] true false
     → HasRanges o.start → o.start.machine.leases.granted ≡ 0 → (IsTrue sound → story.moment < last → IsHeld story bodies end c rows) → IsCatalog c → ((id : ℕ) → Among id (named_in c) → id < next_id (first_ledger o c g.generation end))
-    → IsReady (first_ledger o c g.generation end) story → (IsTrue sound → AreStocked rows c) → (IsTrue sound → AreSourced rows (all_written g.found []) 0 c.tables) → IsVault o g sound (first_ledger o c g.generation end) story held [] true false
+    → IsReady (first_ledger o c g.generation end) story → (IsTrue sound → AreStocked rows c) → (IsTrue sound → AreSourced rows (all_written g.found []) 0 c.tables c.tables) → IsVault o g sound (first_ledger o c g.generation end) story held [] true false
 unfolding count_in accepted_in
 started_vault o g sound c end story held rows bodies walk ranges none stands shaped named ready stocked sourced = record {
   rows = rows;
   bodies = bodies;
   seen = λ position. c;
+  full = c.tables;
   walk = walk;
   ranges = ranges;
   stands = λ ok low is. stands ok low;
@@ -56,6 +57,7 @@ unmoved_vault o g sound l story new held h running refused same counts v = recor
   rows = v.rows;
   bodies = v.bodies;
   seen = v.seen;
+  full = v.full;
   walk = unmoved_walk o sound (books_of v.rows l) story new held h running refused same counts v.walk;
   ranges = v.ranges;
   stands = λ ok low is. held_unmoved story new same v.bodies l.end l.catalogue v.rows (v.stands ok (subst (λ m. m < last) same.moment low) is);

@@ -34,6 +34,7 @@ module _ (o : Outset) (g : Origin) (sound : Bool) (l : Ledger) (story : Story) (
       rows = v.rows;
       bodies = v.bodies;
       seen = seen;
+      full = v.full;
       walk = on.walk;
       ranges = v.ranges;
       stands = λ ok below is. held_unmoved story new same v.bodies l.end l.catalogue v.rows (v.stands ok (subst (λ m. m < last) same.moment below) (opened is));
@@ -50,7 +51,7 @@ module _ (o : Outset) (g : Origin) (sound : Bool) (l : Ledger) (story : Story) (
       ready = λ is. ready_unmoved story new same after (was_ready is);
       there = λ ok below i is. kept.there ok (subst (λ m. m < last) same.moment below) i (sym same.told ∙ is);
       stocked = λ ok. ((v.stocked ok).0, kept.stocked ok);
-      sourced = λ ok. subst (λ a. AreSourced v.rows (all_written g.found a) 0 l.catalogue.tables) (sym (silent_accepts o.script (begins o.start) h e on.silent)) (v.sourced ok);
+      sourced = λ ok. subst (λ a. AreSourced v.rows (all_written g.found a) 0 l.catalogue.tables v.full) (sym (silent_accepts o.script (begins o.start) h e on.silent)) (v.sourced ok);
     }
       where
         more : length (h ++ e ∷ []) ≡ length h + 1

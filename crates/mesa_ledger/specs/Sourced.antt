@@ -1,11 +1,12 @@
--- What the rows of a delta were made of.
-use Rattle.std.specs.Prelude.{◌≡◌, ℕ, ◌+◌, List, [], ◌∷◌, ◌++◌, map, filter, ◌&&◌, nat_le, Option, None, Some, IfSome, ⊤}
+-- What the rows of a table's deltas were made of.
+use Rattle.std.specs.Prelude.{◌≡◌, ℕ, ◌+◌, ◌≤◌, List, [], ◌∷◌, ◌++◌, map, filter, ◌&&◌, nat_le, Option, None, Some, ⊤}
 use Rattle.std.specs.List.{AllByRecursion}
-use Rattle.mesa_schema.specs.Changes.{Lineage, epoch_of}
+use Rattle.mesa_schema.specs.Changes.{Lineage, columns_at, epoch_of}
+use Rattle.mesa_schema.specs.Rows.{AreRowsOf}
 use Rattle.mesa_history.specs.Law.{Accepted}
 use Rattle.mesa_history.specs.Sources.{Source, source_in, range_rows}
-use Rattle.mesa_image.specs.Catalog.{Delta, Ending, Stock, start_in}
-use Rattle.mesa_image.specs.Contents.{rows_in, present}
+use Rattle.mesa_image.specs.Catalog.{Delta, Ending, Stock, Catalog, start_in, stock_at}
+use Rattle.mesa_image_laws.specs.Sourced.{IsSourced, source_of}
 use Rattle.mesa_skeleton.specs.Rows.{Rows}
 
 -- Rows of a table as they were first written, and the version that they made.
@@ -13,23 +14,23 @@ pub record Written : Type 0 where
   pub version : ℕ
   pub source : Source
 
--- a delta's rows as it has them
-abbrev pub source_of : Rows → Delta → Source
-source_of rows d = record { epoch = d.epoch; rows = rows_in rows d }
-
--- the singletons from a version on
+-- singletons, from a version on
 abbrev pub singles_written : Rows → ℕ → List Delta → List Written
 singles_written rows version [] = []
 singles_written rows version (d ∷ singles) = record { version = version; source = source_of rows d } ∷ singles_written rows (version + 1) singles
 
--- the base, as if its last version had made all of it
+-- a base, as if its last version had made all of it
 abbrev pub base_written : Rows → Option Ending → List Written
 base_written rows None = []
 base_written rows (Some e) = record { version = e.to; source = source_of rows e.delta } ∷ []
 
--- What a run finds written of a table: its base and its singletons.
-abbrev pub found_written : Rows → Stock → List Written
-found_written rows t = base_written rows t.base ++ singles_written rows (start_in t) t.singles
+-- What a table's base and singletons say was written.
+abbrev pub written_in : Rows → Stock → List Written
+written_in rows t = base_written rows t.base ++ singles_written rows (start_in t) t.singles
+
+-- what a run finds written of the table of a number
+abbrev pub found_in : Rows → Catalog → ℕ → List Written
+found_in rows c number = written_in rows (stock_at c number)
 
 -- what an accepted batch writes of the table of a number
 abbrev pub batch_written : ℕ → Accepted → Written
@@ -46,22 +47,29 @@ source_written w = w.source
 abbrev pub sources_from : ℕ → ℕ → List Written → List Source
 sources_from from to written = map source_written (filter (λ (w : Written). nat_le from w.version && nat_le w.version to) written)
 
--- A delta that covers these versions has, lifted to the present epoch, the rows to which what was written in them folds.
-abbrev pub IsMadeOf : Rows → Lineage → List Written → ℕ → ℕ → Delta → Type 0
-IsMadeOf rows l written from to d = present rows l d ≡ range_rows l (epoch_of l) (sources_from from to written)
+-- sources are of epochs up to this one
+abbrev pub AreUpTo : ℕ → List Source → Type 0
+AreUpTo epoch sources = AllByRecursion (λ (s : Source). s.epoch ≤ epoch) sources
 
--- so each singleton from a version on
-abbrev pub AreMadeOf : Rows → Lineage → List Written → ℕ → List Delta → Type 0
-AreMadeOf rows l written version [] = ⊤
-AreMadeOf rows l written version (d ∷ singles) = IsMadeOf rows l written version version d × AreMadeOf rows l written (version + 1) singles
+-- Two accounts of what was written say the same: over each range, and in each epoch up to which it was written, both fold to the same rows.
+abbrev pub SayTheSame : Lineage → List Written → List Written → Type 0
+SayTheSame l a b = (epoch from to : ℕ) → epoch ≤ epoch_of l → AreUpTo epoch (sources_from from to a) → AreUpTo epoch (sources_from from to b)
+    → range_rows l epoch (sources_from from to a) ≡ range_rows l epoch (sources_from from to b)
 
--- Each delta of a table has the rows of its range: the base those from the first version on, a cumulative those behind the base, and a singleton those of its version.
-pub record IsSourced (rows : Rows) (written : List Written) (t : Stock) : Type 0 where
-  pub base : IfSome t.base (λ (e : Ending). IsMadeOf rows t.lineage written 0 e.to e.delta)
-  pub cumulatives : AllByRecursion (λ (e : Ending). IsMadeOf rows t.lineage written (start_in t) e.to e.delta) t.cumulatives
-  pub singles : AreMadeOf rows t.lineage written (start_in t) t.singles
+-- Rows are of an epoch that the table had, and have the form of its columns.
+pub record IsFormed (l : Lineage) (s : Source) : Type 0 where
+  pub epoch : s.epoch ≤ epoch_of l
+  pub form : AreRowsOf (columns_at l s.epoch) s.rows
+
+-- A table stands for the same as one in which nothing was swapped, and that one says of what was written the same as the history does.
+pub record IsSourcedBy (rows : Rows) (written : List Written) (t full : Stock) : Type 0 where
+  pub sourced : IsSourced rows t full
+  pub formed : AllByRecursion (λ (w : Written). IsFormed t.lineage w.source) written
+  pub same : SayTheSame t.lineage (written_in rows full) written
 
 -- so each table from a number on
-abbrev pub AreSourced : Rows → (ℕ → List Written) → ℕ → List Stock → Type 0
-AreSourced rows written number [] = ⊤
-AreSourced rows written number (t ∷ tables) = IsSourced rows (written number) t × AreSourced rows written (number + 1) tables
+abbrev pub AreSourced : Rows → (ℕ → List Written) → ℕ → List Stock → List Stock → Type 0
+AreSourced rows written number [] [] = ⊤
+AreSourced rows written number [] (full ∷ fulls) = ⊥
+AreSourced rows written number (t ∷ tables) [] = ⊥
+AreSourced rows written number (t ∷ tables) (full ∷ fulls) = IsSourcedBy rows (written number) t full × AreSourced rows written (number + 1) tables fulls
