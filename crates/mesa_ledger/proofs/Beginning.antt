@@ -12,13 +12,14 @@ use Rattle.mesa_image.specs.Catalog.{Catalog}
 use Rattle.mesa_image.specs.Held.{IsHeld}
 use Rattle.mesa_image.specs.Shape.{IsCatalog}
 use Rattle.mesa_image.specs.Sound.{AreStocked}
+use Rattle.mesa_image_laws.specs.Ids.{HasOwnIds, named}
 use Rattle.mesa_skeleton.specs.Rows.{Rows, no_rows}
 use Rattle.mesa_trash.specs.Holding.{Among}
 use Rattle.mesa_trash.proofs.Filing.{filed_first}
 use Rattle.mesa_walk.specs.Turns.{IsSeen}
 use Rattle.mesa_walk.specs.Walk.{Outset, IsWalk, Counts, run_of}
 use Rattle.mesa_walk.proofs.Beginning.{unmoved_walk}
-use Rattle.mesa_ledger.specs.Ledger.{Ledger, books_of, named_in, next_id}
+use Rattle.mesa_ledger.specs.Ledger.{Ledger, books_of, next_id}
 use Rattle.mesa_ledger.specs.Sourced.{AreSourced, all_written}
 use Rattle.mesa_ledger.specs.Vault.{Origin, IsReady, IsVault, Starts, IsVaultAt, outset_of}
 use Rattle.mesa_ledger.proofs.Standing.{held_unmoved, ready_unmoved, there_unmoved}
@@ -29,10 +30,10 @@ first_ledger o c generation end = record { catalogue = c; generation = generatio
 
 -- Before the first turn.
 pub started_vault : (o : Outset) (g : Origin) (sound : Bool) (c : Catalog) (end : ℕ) (story : Story) (held : Option (List ℕ)) (rows : Rows) (bodies : List (List ℕ)) → IsWalk o sound (books_of rows (first_ledger o c g.generation end)) story held [] true false
-    → HasRanges o.start → o.start.machine.leases.granted ≡ 0 → (IsTrue sound → story.moment < last → IsHeld story bodies end c rows) → IsCatalog c → ((id : ℕ) → Among id (named_in c) → id < next_id (first_ledger o c g.generation end))
+    → HasRanges o.start → o.start.machine.leases.granted ≡ 0 → (IsTrue sound → story.moment < last → IsHeld story bodies end c rows) → IsCatalog c → HasOwnIds c → ((id : ℕ) → Among id (named c) → id < next_id (first_ledger o c g.generation end))
     → IsReady (first_ledger o c g.generation end) story → (IsTrue sound → AreStocked rows c) → (IsTrue sound → AreSourced rows (all_written g.found []) 0 c.tables c.tables) → IsVault o g sound (first_ledger o c g.generation end) story held [] true false
 unfolding count_in accepted_in
-started_vault o g sound c end story held rows bodies walk ranges none stands shaped named ready stocked sourced = record {
+started_vault o g sound c end story held rows bodies walk ranges none stands shaped own named_given ready stocked sourced = record {
   rows = rows;
   bodies = bodies;
   seen = λ position. c;
@@ -41,10 +42,11 @@ started_vault o g sound c end story held rows bodies walk ranges none stands sha
   ranges = ranges;
   stands = λ ok low is. stands ok low;
   shaped = shaped;
+  own = own;
   copies = tt;
   versions = tt;
   counts = record { leases = omega (arith, none); given = tt; adopted = omega arith; generation = omega arith };
-  filed = filed_first 0 (next_id (first_ledger o c g.generation end)) (named_in c) named;
+  filed = filed_first 0 (next_id (first_ledger o c g.generation end)) (named c) named_given;
   ready = λ is. ready;
   there = λ ok low i is. tt;
   stocked = λ ok. (stocked ok, tt);
@@ -62,6 +64,7 @@ unmoved_vault o g sound l story new held h running refused same counts v = recor
   ranges = v.ranges;
   stands = λ ok low is. held_unmoved story new same v.bodies l.end l.catalogue v.rows (v.stands ok (subst (λ m. m < last) same.moment low) is);
   shaped = v.shaped;
+  own = v.own;
   copies = v.copies;
   versions = v.versions;
   counts = v.counts;

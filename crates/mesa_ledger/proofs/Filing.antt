@@ -1,7 +1,9 @@
 -- The files of holds, through the device work of a turn.
-use Rattle.std.proofs.Common.{◌≡◌, ◌⊎◌, inl, inr, ⊎_elim, ℕ, ◌+◌, ◌<◌, ◌≤◌, List, [], ◌∷◌, ◌++◌, map, Option, Bool, true, false, cond, not, refl, sym, ◌∙◌, ap, subst, arith}
+use Rattle.std.proofs.Common.{◌≡◌, ◌⊎◌, inl, inr, ⊎_elim, ℕ, ◌+◌, ◌<◌, ◌≤◌, List, [], ◌∷◌, ◌++◌, map, Option, Bool, true, false, cond, not, refl, sym, ◌∙◌, subst, arith}
 use Rattle.std.specs.Prelude.{filter}
 use Rattle.std.specs.List.{AllByRecursion}
+use Rattle.std.proofs.lemmas.List.{map-append}
+use Rattle.std.proofs.lemmas.Simd.{map-map}
 use Rattle.mesa_disk.specs.Image.{Image}
 use Rattle.mesa_commit.specs.Images.{Has}
 use Rattle.mesa_commit.specs.Turn.{MovesOnly, made_ids}
@@ -9,6 +11,7 @@ use Rattle.mesa_image.specs.Catalog.{Catalog}
 use Rattle.mesa_image.specs.Fitting.{Shelved, shelved, shelved_id}
 use Rattle.mesa_image.specs.Sound.{wants}
 use Rattle.mesa_image_laws.proofs.Agreeing.{Agrees, agree_wants}
+use Rattle.mesa_image_laws.specs.Ids.{named}
 use Rattle.mesa_skeleton.specs.Rows.{Rows}
 use Rattle.mesa_trash.specs.declared.trash.Hold.{Hold}
 use Rattle.mesa_trash.specs.declared.trash.Dropped.{Dropped}
@@ -17,20 +20,11 @@ use Rattle.mesa_trash.specs.Holding.{Among, is_held, ids_of, freed, kept, droppe
 use Rattle.mesa_trash.proofs.Adopting.{pin_stays, had_apart}
 use Rattle.mesa_trash.proofs.Filing.{filed_later, filed_brought, filed_dropped, filed_removed}
 use Rattle.mesa_trash.proofs.Waiting.{among_front, among_back, dropped_among}
-use Rattle.mesa_ledger.specs.Ledger.{Ledger, named_in, Holder, pin_holder, query_holder, holders, ids_held}
-use Rattle.mesa_ledger.specs.Recorded.{hold_of_pin, hold_of_query, holds_in}
+use Rattle.mesa_ledger.specs.Ledger.{Ledger, Holder, pin_holder, query_holder, holders, ids_held}
+use Rattle.mesa_ledger.specs.Recorded.{holds_in}
+use Rattle.mesa_ledger.proofs.Lists.{among_left, among_split}
 
 -- ---- ids
-
-among_left : (id : ℕ) (xs ys : List ℕ) → Among id xs → Among id (xs ++ ys)
-among_left id [] ys is = absurd is
-among_left id (x ∷ xs) ys (inl is) = inl is
-among_left id (x ∷ xs) ys (inr is) = inr (among_left id xs ys is)
-
-among_split : (id : ℕ) (xs ys : List ℕ) → Among id (xs ++ ys) → Among id xs ⊎ Among id ys
-among_split id [] ys is = inr is
-among_split id (x ∷ xs) ys (inl is) = inl (inl is)
-among_split id (x ∷ xs) ys (inr is) = ⊎_elim (λ a. inl (inr a)) (λ a. inr a) (among_split id xs ys is)
 
 given_of : (next later : ℕ) (made : List (ℕ × Option (List ℕ))) (id : ℕ) → AreGiven next later made → Among id (made_ids made) → (next ≤ id) × (id < later)
 given_of next later [] id given is = absurd is
@@ -51,21 +45,13 @@ kept_or_freed test id (d ∷ ds) is = by (test d) is (λ more. kept_or_freed tes
 
 -- ---- the holds as the code has them
 
-mapped : {A B C : Type 0} (f : B → C) (g : A → B) (k : A → C) → ((x : A) → f (g x) ≡ k x) → (xs : List A) → map f (map g xs) ≡ map k xs
-mapped f g k same [] = refl
-mapped f g k same (x ∷ xs) = λ i. same x i ∷ mapped f g k same xs i
-
-map_joined : {A B : Type 0} (f : A → B) (xs ys : List A) → map f (xs ++ ys) ≡ map f xs ++ map f ys
-map_joined f [] ys = refl
-map_joined f (x ∷ xs) ys = ap (λ zs. f x ∷ zs) (map_joined f xs ys)
-
 abbrev hold_of : Holder → Hold
 hold_of x = x.0
 
 pub holds_are : (seen : ℕ → Catalog) (l : Ledger) → holds_of (map ids_held (holders seen l)) ≡ holds_in l
 holds_are seen l =
-    mapped (λ (p : Held). p.0) ids_held hold_of (λ x. refl) (holders seen l) ∙ map_joined hold_of (map pin_holder l.pins) (map (query_holder seen) l.queries)
-    ∙ (λ i. mapped hold_of pin_holder hold_of_pin (λ p. refl) l.pins i ++ mapped hold_of (query_holder seen) hold_of_query (λ q. refl) l.queries i)
+    map-map (λ (p : Held). p.0) ids_held (holders seen l) ∙ map-append hold_of (map pin_holder l.pins) (map (query_holder seen) l.queries)
+    ∙ (λ i. map-map hold_of pin_holder l.pins i ++ map-map hold_of (query_holder seen) l.queries i)
 
 -- ---- ids, whatever a read tells
 
@@ -109,13 +95,13 @@ wanted_all : (P : ℕ → Type 0) (rows : Rows) (xs : List Shelved) → ((id : �
 wanted_all P rows [] all = tt
 wanted_all P rows (x ∷ xs) all = (all x.file.id (inl refl), wanted_all P rows xs (λ id is. all id (inr is)))
 
-module _ (rows later : Rows) (next later_id : ℕ) (agree : (id : ℕ) → id < next → later id ≡ rows id) (c : Catalog) (below : (id : ℕ) → Among id (named_in c) → id < next) where
+module _ (rows later : Rows) (next later_id : ℕ) (agree : (id : ℕ) → id < next → later id ≡ rows id) (c : Catalog) (below : (id : ℕ) → Among id (named c) → id < next) where
   -- files that were there before have the same rows
   pub old_agree : AllByRecursion (Agrees rows later) (shelved c)
   old_agree = named_all (λ id. later id ≡ rows id) (shelved c) (λ id is. agree id (below id is))
 
   -- and stay, unless they are removed
-  pub files_stay : (made : List (ℕ × Option (List ℕ))) (removed : List ℕ) (i j : Image) → MovesOnly made removed i j → AreGiven next later_id made → ((id : ℕ) → Among id removed → Among id (named_in c) → ⊥) → Has (wants rows (shelved c)) i → Has (wants later (shelved c)) j
+  pub files_stay : (made : List (ℕ × Option (List ℕ))) (removed : List ℕ) (i j : Image) → MovesOnly made removed i j → AreGiven next later_id made → ((id : ℕ) → Among id removed → Among id (named c) → ⊥) → Has (wants rows (shelved c)) i → Has (wants later (shelved c)) j
   files_stay made removed i j moves given apart has =
       subst (λ f. Has f j) (sym (agree_wants rows later (shelved c) old_agree))
-      (pin_stays (wants rows (shelved c)) made removed i j moves (had_apart (wants rows (shelved c)) (named_in c) next later_id made removed given (wanted_all (λ id. Among id (named_in c)) rows (shelved c) (λ id is. is)) below apart) has)
+      (pin_stays (wants rows (shelved c)) made removed i j moves (had_apart (wants rows (shelved c)) (named c) next later_id made removed given (wanted_all (λ id. Among id (named c)) rows (shelved c) (λ id is. is)) below apart) has)

@@ -9,12 +9,13 @@ use Rattle.mesa_image.specs.Catalog.{Catalog}
 use Rattle.mesa_image.specs.Fitting.{shelved}
 use Rattle.mesa_image.specs.Shape.{IsCatalog}
 use Rattle.mesa_image.specs.Sound.{AreStocked, wants}
+use Rattle.mesa_image_laws.specs.Ids.{named}
 use Rattle.mesa_skeleton.specs.Rows.{Rows}
 use Rattle.mesa_trash.specs.declared.trash.Hold.{Hold}
 use Rattle.mesa_trash.specs.Filed.{PinFiles}
 use Rattle.mesa_trash.specs.Holding.{Held, IsHoldOf, AreFiled}
 use Rattle.mesa_trash.proofs.Filing.{filed_later, filed_pinned}
-use Rattle.mesa_ledger.specs.Ledger.{HeldPin, OpenQuery, Ledger, named_in, next_id, Holder, pin_holder, query_holder, holders, ids_held, files_held}
+use Rattle.mesa_ledger.specs.Ledger.{HeldPin, OpenQuery, Ledger, next_id, Holder, pin_holder, query_holder, holders, ids_held, files_held}
 use Rattle.mesa_ledger.specs.Vault.{AreShaped, IsVersioned}
 use Rattle.mesa_ledger.proofs.Lists.{all_map, map_all, all_joined, all_front, all_back, all_also, all_so, all_filtered}
 
@@ -32,7 +33,7 @@ queries_of P seen l all = map_all P (query_holder seen) l.queries (all_back P (m
 
 -- What is kept of holds when a ledger has other pins and queries.
 pub record AreKept (rows : Rows) (sound : Bool) (told : Option Image) (low : Type 0) (seen : ℕ → Catalog) (l : Ledger) (position : ℕ) : Type 0 where
-  pub filed : AreFiled position (next_id l) (named_in l.catalogue) l.trash (map ids_held (holders seen l))
+  pub filed : AreFiled position (next_id l) (named l.catalogue) l.trash (map ids_held (holders seen l))
   pub copies : AreShaped seen l
   pub versions : AllByRecursion IsVersioned l.pins
   pub stocked : IsTrue sound → AllByRecursion (λ (x : Holder). AreStocked rows x.1) (holders seen l)
@@ -64,7 +65,7 @@ module _ (rows : Rows) (sound : Bool) (told : Option Image) (low : Type 0) (seen
   -- the turn that follows leaves the holds
   pub holds_stay : AreKept rows sound told low seen l (position + 1)
   holds_stay = record {
-    filed = filed_later position (next_id l) (named_in l.catalogue) l.trash (map ids_held (holders seen l)) kept.filed (position + 1) (omega arith);
+    filed = filed_later position (next_id l) (named l.catalogue) l.trash (map ids_held (holders seen l)) kept.filed (position + 1) (omega arith);
     copies = kept.copies;
     versions = kept.versions;
     stocked = kept.stocked;
@@ -76,16 +77,16 @@ module _ (rows : Rows) (sound : Bool) (told : Option Image) (low : Type 0) (seen
     abbrev mine : Holder
     mine = (hold_at position (next_id l), l.catalogue)
 
-    made : AreFiled (position + 1) (next_id l) (named_in l.catalogue) l.trash ((hold_at position (next_id l), named_in l.catalogue) ∷ map ids_held (holders seen l))
-    made = (filed_pinned position (next_id l) (named_in l.catalogue) l.trash (map ids_held (holders seen l)) kept.filed true).1
+    made : AreFiled (position + 1) (next_id l) (named l.catalogue) l.trash ((hold_at position (next_id l), named l.catalogue) ∷ map ids_held (holders seen l))
+    made = (filed_pinned position (next_id l) (named l.catalogue) l.trash (map ids_held (holders seen l)) kept.filed true).1
 
     -- all of them, where the new one is the first
     pub record Firsts (P : Holder → Type 0) : Type 0 where
       pub first : P (hold_at position (next_id l), l.catalogue)
       pub rest : AllByRecursion P (holders seen l)
 
-    held_first : Firsts (λ x. IsHoldOf (named_in l.catalogue) l.trash (ids_held x).0 (ids_held x).1)
-    held_first = record { first = made.held.0; rest = map_all (λ (p : Held). IsHoldOf (named_in l.catalogue) l.trash p.0 p.1) ids_held (holders seen l) made.held.1 }
+    held_first : Firsts (λ x. IsHoldOf (named l.catalogue) l.trash (ids_held x).0 (ids_held x).1)
+    held_first = record { first = made.held.0; rest = map_all (λ (p : Held). IsHoldOf (named l.catalogue) l.trash p.0 p.1) ids_held (holders seen l) made.held.1 }
 
     before_first : Firsts (λ x. ((ids_held x).0.at < position + 1) × ((ids_held x).0.next ≤ next_id l))
     before_first = record { first = made.before.0; rest = map_all (λ (p : Held). (p.0.at < position + 1) × (p.0.next ≤ next_id l)) ids_held (holders seen l) made.before.1 }
@@ -103,7 +104,7 @@ module _ (rows : Rows) (sound : Bool) (told : Option Image) (low : Type 0) (seen
       pub pin_kept : AreKept rows sound told low seen with_pin (position + 1)
       pin_kept = record {
         filed = record {
-          held = all_map (λ (p : Held). IsHoldOf (named_in l.catalogue) l.trash p.0 p.1) ids_held (holders seen with_pin) (with_one _ held_first.first held_first.rest);
+          held = all_map (λ (p : Held). IsHoldOf (named l.catalogue) l.trash p.0 p.1) ids_held (holders seen with_pin) (with_one _ held_first.first held_first.rest);
           before = all_map (λ (p : Held). (p.0.at < position + 1) × (p.0.next ≤ next_id l)) ids_held (holders seen with_pin) (with_one _ before_first.first before_first.rest);
           apart = made.apart;
           named_given = made.named_given;
@@ -141,7 +142,7 @@ module _ (rows : Rows) (sound : Bool) (told : Option Image) (low : Type 0) (seen
       pub query_kept : AreKept rows sound told low later with_query (position + 1)
       query_kept = record {
         filed = record {
-          held = all_map (λ (p : Held). IsHoldOf (named_in l.catalogue) l.trash p.0 p.1) ids_held (holders later with_query) (with_another _ held_first.first held_first.rest);
+          held = all_map (λ (p : Held). IsHoldOf (named l.catalogue) l.trash p.0 p.1) ids_held (holders later with_query) (with_another _ held_first.first held_first.rest);
           before = all_map (λ (p : Held). (p.0.at < position + 1) × (p.0.next ≤ next_id l)) ids_held (holders later with_query) (with_another _ before_first.first before_first.rest);
           apart = made.apart;
           named_given = made.named_given;
@@ -166,7 +167,7 @@ module _ (rows : Rows) (sound : Bool) (told : Option Image) (low : Type 0) (seen
     pub fewer_kept : AreKept rows sound told low seen fewer (position + 1)
     fewer_kept = record {
       filed = record {
-        held = all_map (λ (p : Held). IsHoldOf (named_in l.catalogue) l.trash p.0 p.1) ids_held (holders seen fewer) (with_fewer _ (map_all (λ (p : Held). IsHoldOf (named_in l.catalogue) l.trash p.0 p.1) ids_held (holders seen l) stay.held));
+        held = all_map (λ (p : Held). IsHoldOf (named l.catalogue) l.trash p.0 p.1) ids_held (holders seen fewer) (with_fewer _ (map_all (λ (p : Held). IsHoldOf (named l.catalogue) l.trash p.0 p.1) ids_held (holders seen l) stay.held));
         before = all_map (λ (p : Held). (p.0.at < position + 1) × (p.0.next ≤ next_id l)) ids_held (holders seen fewer) (with_fewer _ (map_all (λ (p : Held). (p.0.at < position + 1) × (p.0.next ≤ next_id l)) ids_held (holders seen l) stay.before));
         apart = stay.apart;
         named_given = stay.named_given;
@@ -179,5 +180,5 @@ module _ (rows : Rows) (sound : Bool) (told : Option Image) (low : Type 0) (seen
       there = λ ok below i is. all_map (λ (p : PinFiles). Has p.1 i) (files_held rows) (holders seen fewer) (with_fewer _ (map_all (λ (p : PinFiles). Has p.1 i) (files_held rows) (holders seen l) (kept.there ok below i is)));
     }
       where
-        stay : AreFiled (position + 1) (next_id l) (named_in l.catalogue) l.trash (map ids_held (holders seen l))
+        stay : AreFiled (position + 1) (next_id l) (named l.catalogue) l.trash (map ids_held (holders seen l))
         stay = holds_stay.filed

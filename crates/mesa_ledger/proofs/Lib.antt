@@ -4,5 +4,6 @@ pub mod Holding
 pub mod Accepting
 pub mod Quiet
 pub mod Filing
+pub mod Renaming
 pub mod Recording
 pub mod Beginning

@@ -1,7 +1,8 @@
--- What holds of each element of lists that are mapped, joined and filtered.
-use Rattle.std.proofs.Common.{List, [], ◌∷◌, ◌++◌, map, Bool, true, false, cond}
+-- What holds of each element of lists that are mapped, joined and filtered, and ids among joined lists.
+use Rattle.std.proofs.Common.{◌⊎◌, inl, inr, ⊎_elim, ℕ, List, [], ◌∷◌, ◌++◌, map, Bool, true, false, cond}
 use Rattle.std.specs.Prelude.{filter}
 use Rattle.std.specs.List.{AllByRecursion}
+use Rattle.mesa_trash.specs.Holding.{Among}
 
 pub all_map : {A B : Type 0} (P : B → Type 0) (f : A → B) (xs : List A) → AllByRecursion (λ x. P (f x)) xs → AllByRecursion P (map f xs)
 all_map P f [] all = tt
@@ -38,3 +39,19 @@ picked P false x xs one all = all
 pub all_filtered : {A : Type 0} (P : A → Type 0) (test : A → Bool) (xs : List A) → AllByRecursion P xs → AllByRecursion P (filter test xs)
 all_filtered P test [] all = tt
 all_filtered P test (x ∷ xs) all = picked P (test x) x (filter test xs) all.0 (all_filtered P test xs all.1)
+
+-- ---- ids
+
+pub among_left : (id : ℕ) (xs ys : List ℕ) → Among id xs → Among id (xs ++ ys)
+among_left id [] ys is = absurd is
+among_left id (x ∷ xs) ys (inl is) = inl is
+among_left id (x ∷ xs) ys (inr is) = inr (among_left id xs ys is)
+
+pub among_right : (id : ℕ) (xs ys : List ℕ) → Among id ys → Among id (xs ++ ys)
+among_right id [] ys is = is
+among_right id (x ∷ xs) ys is = inr (among_right id xs ys is)
+
+pub among_split : (id : ℕ) (xs ys : List ℕ) → Among id (xs ++ ys) → Among id xs ⊎ Among id ys
+among_split id [] ys is = inr is
+among_split id (x ∷ xs) ys (inl is) = inl (inl is)
+among_split id (x ∷ xs) ys (inr is) = ⊎_elim (λ a. inl (inr a)) (λ a. inr a) (among_split id xs ys is)

@@ -8,9 +8,10 @@ use Rattle.mesa_lease.specs.Book.{Book}
 use Rattle.mesa_model.specs.declared.entries.Entry.{Entry}
 use Rattle.mesa_history.specs.Run.{begins}
 use Rattle.mesa_image.specs.Catalog.{Catalog}
+use Rattle.mesa_image_laws.specs.Ids.{named}
 use Rattle.mesa_trash.specs.Holding.{AreFiled}
 use Rattle.mesa_walk.specs.Walk.{Outset, WalksOn}
-use Rattle.mesa_ledger.specs.Ledger.{HeldPin, OpenQuery, Ledger, books_of, named_in, next_id, most_files, holders, ids_held}
+use Rattle.mesa_ledger.specs.Ledger.{HeldPin, OpenQuery, Ledger, books_of, next_id, most_files, holders, ids_held}
 use Rattle.mesa_ledger.specs.Sourced.{AreSourced, all_written}
 use Rattle.mesa_ledger.specs.Vault.{Origin, IsReady, IsVault}
 use Rattle.mesa_ledger.proofs.Accepting.{silent_accepts, silent_changes}
@@ -39,6 +40,7 @@ module _ (o : Outset) (g : Origin) (sound : Bool) (l : Ledger) (story : Story) (
       ranges = v.ranges;
       stands = λ ok below is. held_unmoved story new same v.bodies l.end l.catalogue v.rows (v.stands ok (subst (λ m. m < last) same.moment below) (opened is));
       shaped = v.shaped;
+      own = v.own;
       copies = kept.copies;
       versions = kept.versions;
       counts = record {
@@ -47,7 +49,7 @@ module _ (o : Outset) (g : Origin) (sound : Bool) (l : Ledger) (story : Story) (
         adopted = subst (λ n. l.adopted ≤ most_files * n) (sym more) (omega (arith, v.counts.adopted));
         generation = v.counts.generation ∙ ap (λ n. g.generation + n) (sym (silent_changes o.script (begins o.start) h e on.silent));
       };
-      filed = subst (λ n. AreFiled n (next_id l) (named_in l.catalogue) l.trash (map ids_held (holders seen after))) (sym more) kept.filed;
+      filed = subst (λ n. AreFiled n (next_id l) (named l.catalogue) l.trash (map ids_held (holders seen after))) (sym more) kept.filed;
       ready = λ is. ready_unmoved story new same after (was_ready is);
       there = λ ok below i is. kept.there ok (subst (λ m. m < last) same.moment below) i (sym same.told ∙ is);
       stocked = λ ok. ((v.stocked ok).0, kept.stocked ok);

@@ -18,6 +18,7 @@ use Rattle.mesa_image.specs.Catalog.{Stock, Catalog}
 use Rattle.mesa_image.specs.Held.{IsHeld}
 use Rattle.mesa_image.specs.Sound.{AreStocked}
 use Rattle.mesa_image_laws.proofs.Agreeing.{agree_stocked}
+use Rattle.mesa_image_laws.specs.Ids.{named}
 use Rattle.mesa_skeleton.specs.Rows.{Rows}
 use Rattle.mesa_trash.specs.Filed.{AreFresh, AreMoved, PinFiles, Renames}
 use Rattle.mesa_trash.specs.Holding.{Among, Held, AreFiled, IsHoldOf, ids_of, freed, kept}
@@ -25,7 +26,7 @@ use Rattle.mesa_trash.proofs.Adopting.{fresh_stays, named_stays}
 use Rattle.mesa_trash.proofs.Filing.{freed_unheld}
 use Rattle.mesa_walk.specs.Sight.{is_of_schemas, tells_of_schemas, schema_changes}
 use Rattle.mesa_walk.specs.Walk.{Outset, WalksOn, WalksWith}
-use Rattle.mesa_ledger.specs.Ledger.{Ledger, books_of, named_in, first_id, next_id, past_id, most_files, Holder, holders, ids_held, files_held}
+use Rattle.mesa_ledger.specs.Ledger.{Ledger, books_of, first_id, next_id, past_id, most_files, Holder, holders, ids_held, files_held}
 use Rattle.mesa_ledger.specs.Recorded.{holds_in, waiting, removed_by, Adopts, IsRecorded, recorded_ledger, failed_ledger}
 use Rattle.mesa_ledger.specs.Sourced.{AreSourced, all_written}
 use Rattle.mesa_ledger.specs.Vault.{Origin, AreThere, IsVault, written_by}
@@ -60,19 +61,19 @@ module _ (o : Outset) (g : Origin) (sound : Bool) (l : Ledger) (story : Story) (
   few_now = subst (λ n. adopted ≤ most_files * n) (sym more) (let a = adopts.few in let b = v.counts.adopted in omega (arith, a, b, most_more))
 
   -- what is removed had no hold, whatever came of the record that drops it
-  unheld_by : (c : Catalog) → Renames (named_in l.catalogue) made (named_in c) gone → (id : ℕ) → Among id (removed_by l (length h) gone) → AllByRecursion (λ (p : Held). Among id p.1 → ⊥) pins
+  unheld_by : (c : Catalog) → Renames (named l.catalogue) made (named c) gone → (id : ℕ) → Among id (removed_by l (length h) gone) → AllByRecursion (λ (p : Held). Among id p.1 → ⊥) pins
   unheld_by c renames id is =
-      freed_unheld (length h + 1) later_id (named_in c) (waiting l (length h) gone) pins (filed_moved (length h) (next_id l) (named_in l.catalogue) l.trash pins v.filed made later_id adopts.given later_le (named_in c) gone renames)
+      freed_unheld (length h + 1) later_id (named c) (waiting l (length h) gone) pins (filed_moved (length h) (next_id l) (named l.catalogue) l.trash pins v.filed made later_id adopts.given later_le (named c) gone renames)
       id (subst (λ hs. Among id (ids_of (freed hs (waiting l (length h) gone)))) (sym (holds_are v.seen l)) is)
 
   -- files of holds stay where what is removed had no hold
   module _ (later : Rows) (agree : (id : ℕ) → id < next_id l → later id ≡ v.rows id) (unheld : (id : ℕ) → Among id (removed_by l (length h) gone) → AllByRecursion (λ (p : Held). Among id p.1 → ⊥) pins) where
-    below : AllByRecursion (λ (x : Holder). (id : ℕ) → Among id (named_in x.1) → id < next_id l) (holders v.seen l)
-    below = all_also (λ x. IsHoldOf (named_in l.catalogue) l.trash (ids_held x).0 (ids_held x).1) (λ x. ((ids_held x).0.at < length h) × ((ids_held x).0.next ≤ next_id l)) (λ (x : Holder). (id : ℕ) → Among id (named_in x.1) → id < next_id l) (holders v.seen l)
+    below : AllByRecursion (λ (x : Holder). (id : ℕ) → Among id (named x.1) → id < next_id l) (holders v.seen l)
+    below = all_also (λ x. IsHoldOf (named l.catalogue) l.trash (ids_held x).0 (ids_held x).1) (λ x. ((ids_held x).0.at < length h) × ((ids_held x).0.next ≤ next_id l)) (λ (x : Holder). (id : ℕ) → Among id (named x.1) → id < next_id l) (holders v.seen l)
         (λ x is low id named. (let a = is.given id named in omega (arith, a, low.1)))
-        (map_all (λ (p : Held). IsHoldOf (named_in l.catalogue) l.trash p.0 p.1) ids_held (holders v.seen l) v.filed.held) (map_all (λ (p : Held). (p.0.at < length h) × (p.0.next ≤ next_id l)) ids_held (holders v.seen l) v.filed.before)
+        (map_all (λ (p : Held). IsHoldOf (named l.catalogue) l.trash p.0 p.1) ids_held (holders v.seen l) v.filed.held) (map_all (λ (p : Held). (p.0.at < length h) × (p.0.next ≤ next_id l)) ids_held (holders v.seen l) v.filed.before)
 
-    stay_all : (xs : List Holder) (i j : Image) → MovesOnly made (removed_by l (length h) gone) i j → AllByRecursion (λ (x : Holder). (id : ℕ) → Among id (named_in x.1) → id < next_id l) xs → ((id : ℕ) → Among id (removed_by l (length h) gone) → AllByRecursion (λ (p : Held). Among id p.1 → ⊥) (map ids_held xs))
+    stay_all : (xs : List Holder) (i j : Image) → MovesOnly made (removed_by l (length h) gone) i j → AllByRecursion (λ (x : Holder). (id : ℕ) → Among id (named x.1) → id < next_id l) xs → ((id : ℕ) → Among id (removed_by l (length h) gone) → AllByRecursion (λ (p : Held). Among id p.1 → ⊥) (map ids_held xs))
         → AllByRecursion (λ (p : PinFiles). Has p.1 i) (map (files_held v.rows) xs) → AllByRecursion (λ (p : PinFiles). Has p.1 j) (map (files_held later) xs)
     stay_all [] i j moves low apart has = tt
     stay_all (x ∷ xs) i j moves low apart has =
@@ -82,7 +83,7 @@ module _ (o : Outset) (g : Origin) (sound : Bool) (l : Ledger) (story : Story) (
     there_stays ok low j is = let before = only.back j is in stay_all (holders v.seen l) before.0 j before.2 below unheld (v.there ok (omega (arith, later_clock, low)) before.0 before.1)
 
     stocked_stays : IsTrue sound → AllByRecursion (λ (x : Holder). AreStocked later x.1) (holders v.seen l)
-    stocked_stays ok = all_also (λ (x : Holder). (id : ℕ) → Among id (named_in x.1) → id < next_id l) (λ (x : Holder). AreStocked v.rows x.1) (λ (x : Holder). AreStocked later x.1) (holders v.seen l)
+    stocked_stays ok = all_also (λ (x : Holder). (id : ℕ) → Among id (named x.1) → id < next_id l) (λ (x : Holder). AreStocked v.rows x.1) (λ (x : Holder). AreStocked later x.1) (holders v.seen l)
         (λ x low are. agree_stocked v.rows later x.1 (old_agree v.rows later (next_id l) later_id agree x.1 low) are) below (v.stocked ok).1
 
   -- ---- the record is written
@@ -91,16 +92,16 @@ module _ (o : Outset) (g : Origin) (sound : Bool) (l : Ledger) (story : Story) (
     moved : AreMoved made (removed_by l (length h) gone) story.told new.told
     moved = record { only = only; gone = gone_now }
 
-    filed_now : AreFiled (length h + 1) later_id (named_in c) (kept (holds_in l) (waiting l (length h) gone)) pins
-    filed_now = subst (λ hs. AreFiled (length h + 1) later_id (named_in c) (kept hs (waiting l (length h) gone)) pins) (holds_are v.seen l)
-        (filed_recorded (length h) (next_id l) (named_in l.catalogue) l.trash pins v.filed made later_id adopts.given later_le (named_in c) gone recorded.renames)
+    filed_now : AreFiled (length h + 1) later_id (named c) (kept (holds_in l) (waiting l (length h) gone)) pins
+    filed_now = subst (λ hs. AreFiled (length h + 1) later_id (named c) (kept hs (waiting l (length h) gone)) pins) (holds_are v.seen l)
+        (filed_recorded (length h) (next_id l) (named l.catalogue) l.trash pins v.filed made later_id adopts.given later_le (named c) gone recorded.renames)
 
     unheld : (id : ℕ) → Among id (removed_by l (length h) gone) → AllByRecursion (λ (p : Held). Among id p.1 → ⊥) pins
     unheld = unheld_by c recorded.renames
 
-    goes : (id : ℕ) → Among id (named_in l.catalogue) ⊎ Among id (ids_of l.trash) → Among id (named_in c) ⊎ (Among id (ids_of (kept (holds_in l) (waiting l (length h) gone))) ⊎ Among id (removed_by l (length h) gone))
-    goes id had = subst (λ hs. Among id (named_in c) ⊎ (Among id (ids_of (kept hs (waiting l (length h) gone))) ⊎ Among id (ids_of (freed hs (waiting l (length h) gone))))) (holds_are v.seen l)
-        (still_waits (length h) (next_id l) (named_in l.catalogue) l.trash pins v.filed made later_id adopts.given later_le (named_in c) gone recorded.renames id had)
+    goes : (id : ℕ) → Among id (named l.catalogue) ⊎ Among id (ids_of l.trash) → Among id (named c) ⊎ (Among id (ids_of (kept (holds_in l) (waiting l (length h) gone))) ⊎ Among id (removed_by l (length h) gone))
+    goes id had = subst (λ hs. Among id (named c) ⊎ (Among id (ids_of (kept hs (waiting l (length h) gone))) ⊎ Among id (ids_of (freed hs (waiting l (length h) gone))))) (holds_are v.seen l)
+        (still_waits (length h) (next_id l) (named l.catalogue) l.trash pins v.filed made later_id adopts.given later_le (named c) gone recorded.renames id had)
 
     module _ (generation : ℕ) (leases : Book) (end : ℕ) (bodies : List (List ℕ)) (full : List Stock) (rep : Reply) where
       abbrev after : Ledger
@@ -118,6 +119,7 @@ module _ (o : Outset) (g : Origin) (sound : Bool) (l : Ledger) (story : Story) (
         ranges = v.ranges;
         stands = stands;
         shaped = recorded.shaped;
+        own = recorded.own;
         copies = v.copies;
         versions = v.versions;
         counts = record {
@@ -126,12 +128,12 @@ module _ (o : Outset) (g : Origin) (sound : Bool) (l : Ledger) (story : Story) (
           adopted = few_now;
           generation = counted_now;
         };
-        filed = subst (λ n. AreFiled n (next_id after) (named_in c) after.trash pins) (sym more) (subst (λ n. AreFiled (length h + 1) (first_id n + adopted) (named_in c) after.trash pins) (sym recorded.run) filed_now);
+        filed = subst (λ n. AreFiled n (next_id after) (named c) after.trash pins) (sym more) (subst (λ n. AreFiled (length h + 1) (first_id n + adopted) (named c) after.trash pins) (sym recorded.run) filed_now);
         ready = λ is. record {
           long = long is;
           fresh = subst (λ n. AreFresh (first_id n + adopted) (first_id (n + 1)) new.told) (sym recorded.run)
               (fresh_stays made (removed_by l (length h) gone) (next_id l) later_id (past_id l) story.told new.told adopts.given later_le only (v.ready is).fresh);
-          strays = named_stays made (removed_by l (length h) gone) (named_in l.catalogue) (named_in c) (ids_of l.trash) (ids_of after.trash) story.told new.told moved recorded.brings goes (v.ready is).strays;
+          strays = named_stays made (removed_by l (length h) gone) (named l.catalogue) (named c) (ids_of l.trash) (ids_of after.trash) story.told new.told moved recorded.brings goes (v.ready is).strays;
         };
         there = there_stays later recorded.agree unheld;
         stocked = λ ok. (stocked ok, stocked_stays later recorded.agree unheld ok);
@@ -144,7 +146,7 @@ module _ (o : Outset) (g : Origin) (sound : Bool) (l : Ledger) (story : Story) (
   -- ---- the device work failed
 
   -- The device work of the turn failed: the books close, whatever was brought is lost, and the lease of a work may have ended.
-  pub failed_vault : (position : ℕ) (leases : Book) (c : Catalog) → Renames (named_in l.catalogue) made (named_in c) gone → WalksOn o sound (books_of v.rows (failed_ledger l position leases adopted)) new new_held h e now told → leases.granted ≤ l.leases.granted
+  pub failed_vault : (position : ℕ) (leases : Book) (c : Catalog) → Renames (named l.catalogue) made (named c) gone → WalksOn o sound (books_of v.rows (failed_ledger l position leases adopted)) new new_held h e now told → leases.granted ≤ l.leases.granted
       → IsVault o g sound (failed_ledger l position leases adopted) new new_held (h ++ e ∷ []) now told
   failed_vault position leases c renames on granted = record {
     rows = v.rows;
@@ -155,6 +157,7 @@ module _ (o : Outset) (g : Origin) (sound : Bool) (l : Ledger) (story : Story) (
     ranges = v.ranges;
     stands = λ ok low is. absurd (let never : Some position ≡ None = is in cc);
     shaped = v.shaped;
+    own = v.own;
     copies = v.copies;
     versions = v.versions;
     counts = record {
@@ -163,7 +166,7 @@ module _ (o : Outset) (g : Origin) (sound : Bool) (l : Ledger) (story : Story) (
       adopted = few_now;
       generation = v.counts.generation ∙ ap (λ n. g.generation + n) (sym (silent_changes o.script (begins o.start) h e on.silent));
     };
-    filed = subst (λ n. AreFiled n later_id (named_in l.catalogue) l.trash pins) (sym more) (filed_lost (length h) (next_id l) (named_in l.catalogue) l.trash pins v.filed made later_id adopts.given later_le);
+    filed = subst (λ n. AreFiled n later_id (named l.catalogue) l.trash pins) (sym more) (filed_lost (length h) (next_id l) (named l.catalogue) l.trash pins v.filed made later_id adopts.given later_le);
     ready = λ is. absurd (let never : Some position ≡ None = is in cc);
     there = there_stays v.rows (λ id low. refl) (unheld_by c renames);
     stocked = λ ok. v.stocked ok;

@@ -5,9 +5,10 @@ use Rattle.mesa_schema.specs.Views.{max_views}
 use Rattle.mesa_model.specs.Warehouse.{Table, Store, Pin, max_tables}
 use Rattle.mesa_model.specs.Pins.{store_at}
 use Rattle.mesa_image.specs.Catalog.{Stock, Catalog, ranges_of}
-use Rattle.mesa_image.specs.Fitting.{shelved, shelved_id}
+use Rattle.mesa_image.specs.Fitting.{shelved}
 use Rattle.mesa_image.specs.Contents.{kept_of}
 use Rattle.mesa_image.specs.Sound.{wants}
+use Rattle.mesa_image_laws.specs.Ids.{named}
 use Rattle.mesa_skeleton.specs.Rows.{Rows}
 use Rattle.mesa_trash.specs.declared.trash.Dropped.{Dropped}
 use Rattle.mesa_trash.specs.declared.trash.Hold.{Hold}
@@ -70,10 +71,6 @@ books_of rows l = record {
 
 -- ---- files
 
--- the ids of the files that a catalogue names
-abbrev pub named_in : Catalog → List ℕ
-named_in c = map shelved_id (shelved c)
-
 -- the first id of the files that a run adopts
 abbrev pub first_id : ℕ → ℕ
 first_id run = run * 2 ^ 40
@@ -108,7 +105,7 @@ holders seen l = map pin_holder l.pins ++ map (query_holder seen) l.queries
 
 -- the ids of the files that a hold is on
 abbrev pub ids_held : Holder → Held
-ids_held x = (x.0, named_in x.1)
+ids_held x = (x.0, named x.1)
 
 -- these files, with the bytes that their rows make
 abbrev pub files_held : Rows → Holder → PinFiles

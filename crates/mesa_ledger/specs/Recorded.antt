@@ -4,12 +4,13 @@ use Rattle.mesa_commit.specs.Turn.{made_ids}
 use Rattle.mesa_image.specs.Catalog.{Catalog}
 use Rattle.mesa_image.specs.Shape.{IsCatalog}
 use Rattle.mesa_lease.specs.Book.{Book}
+use Rattle.mesa_image_laws.specs.Ids.{HasOwnIds, named}
 use Rattle.mesa_skeleton.specs.Rows.{Rows}
 use Rattle.mesa_trash.specs.declared.trash.Dropped.{Dropped}
 use Rattle.mesa_trash.specs.declared.trash.Hold.{Hold}
 use Rattle.mesa_trash.specs.Filed.{AreGiven, Renames, waits_after}
 use Rattle.mesa_trash.specs.Holding.{Among, freed, ids_of, kept}
-use Rattle.mesa_ledger.specs.Ledger.{HeldPin, OpenQuery, Ledger, named_in, first_id, next_id, most_files}
+use Rattle.mesa_ledger.specs.Ledger.{HeldPin, OpenQuery, Ledger, first_id, next_id, most_files}
 
 abbrev pub hold_of_pin : HeldPin → Hold
 hold_of_pin p = p.hold
@@ -39,9 +40,10 @@ pub record Adopts (l : Ledger) (made : List (ℕ × Option (List ℕ))) (adopted
 pub record IsRecorded (l : Ledger) (rows later : Rows) (c : Catalog) (made : List (ℕ × Option (List ℕ))) (gone : List ℕ) : Type 0 where
   pub agree : (id : ℕ) → id < next_id l → later id ≡ rows id
   pub run : c.run ≡ l.catalogue.run
-  pub renames : Renames (named_in l.catalogue) made (named_in c) gone
-  pub brings : (id : ℕ) → Among id (made_ids made) → Among id (named_in c)
+  pub renames : Renames (named l.catalogue) made (named c) gone
+  pub brings : (id : ℕ) → Among id (made_ids made) → Among id (named c)
   pub shaped : IsCatalog c
+  pub own : HasOwnIds c
 
 -- The ledger behind the record of a turn at a position.
 abbrev pub recorded_ledger : Ledger → ℕ → Catalog → ℕ → List ℕ → Book → ℕ → ℕ → Ledger

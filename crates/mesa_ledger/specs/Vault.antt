@@ -15,12 +15,13 @@ use Rattle.mesa_image.specs.Catalog.{Stock, Catalog}
 use Rattle.mesa_image.specs.Held.{IsHeld}
 use Rattle.mesa_image.specs.Shape.{IsCatalog}
 use Rattle.mesa_image.specs.Sound.{AreStocked, StandsFor}
+use Rattle.mesa_image_laws.specs.Ids.{HasOwnIds, named}
 use Rattle.mesa_skeleton.specs.Rows.{Rows}
 use Rattle.mesa_trash.specs.Filed.{AreFresh, AreNamedOrWait, PinFiles}
 use Rattle.mesa_trash.specs.Holding.{AreFiled, ids_of}
 use Rattle.mesa_walk.specs.Sight.{schema_changes}
 use Rattle.mesa_walk.specs.Walk.{Outset, IsWalk}
-use Rattle.mesa_ledger.specs.Ledger.{HeldPin, Ledger, books_of, named_in, next_id, past_id, most_files, Holder, holders, ids_held, files_held}
+use Rattle.mesa_ledger.specs.Ledger.{HeldPin, Ledger, books_of, next_id, past_id, most_files, Holder, holders, ids_held, files_held}
 use Rattle.mesa_ledger.specs.Sourced.{Written, all_written, AreSourced}
 
 -- The batches that a run accepted so far.
@@ -33,13 +34,13 @@ written_by o found h = all_written found (accepted_by o h)
 
 -- The holds tell which files the pins and the open queries have; what waits isn't named; and all ids were given before the next one.
 abbrev pub IsFiled : (ℕ → Catalog) → Ledger → List Entry → Type 0
-IsFiled seen l h = AreFiled (length h) (next_id l) (named_in l.catalogue) l.trash (map ids_held (holders seen l))
+IsFiled seen l h = AreFiled (length h) (next_id l) (named l.catalogue) l.trash (map ids_held (holders seen l))
 
 -- While the vault is open, the journal has room for a body; the ids that the run may still give have no file; and each file that is there is named, or waits.
 pub record IsReady (l : Ledger) (story : Story) : Type 0 where
   pub long : l.end < story.len Zero
   pub fresh : AreFresh (next_id l) (past_id l) story.told
-  pub strays : AreNamedOrWait (named_in l.catalogue) (ids_of l.trash) story.told
+  pub strays : AreNamedOrWait (named l.catalogue) (ids_of l.trash) story.told
 
 -- Where the store was sound, and while the clock is below its last value, the files of every pin and every open query are there with the bytes of their rows.
 abbrev pub AreThere : Rows → (ℕ → Catalog) → Ledger → Story → Type 0
@@ -79,6 +80,7 @@ pub record IsVault (o : Outset) (g : Origin) (sound : Bool) (l : Ledger) (story 
   pub ranges : HasRanges o.start
   pub stands : IsTrue sound → story.moment < last → l.closed ≡ None → IsHeld story bodies l.end l.catalogue rows
   pub shaped : IsCatalog l.catalogue
+  pub own : HasOwnIds l.catalogue
   pub copies : AreShaped seen l
   pub versions : AllByRecursion IsVersioned l.pins
   pub counts : AreCounted o g l h
