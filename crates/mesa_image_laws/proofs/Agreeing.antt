@@ -25,7 +25,7 @@ module _ (old new : Rows) where
   abbrev pub Agrees : Shelved → Type 0
   Agrees x = new x.file.id ≡ old x.file.id
 
-  abbrev Same : Lineage → Delta → Type 0
+  abbrev pub Same : Lineage → Delta → Type 0
   Same l d = AllByRecursion Agrees (delta_shelved l d)
 
   same_rows : (l : Lineage) (d : Delta) → Same l d → rows_in new d ≡ rows_in old d
@@ -36,26 +36,26 @@ module _ (old new : Rows) where
       by None epoch totals all = refl
       by (Some f) epoch totals all = all.0
 
-  same_present : (l : Lineage) (d : Delta) → Same l d → present new l d ≡ present old l d
+  pub same_present : (l : Lineage) (d : Delta) → Same l d → present new l d ≡ present old l d
   same_present l d all = ap (map (lifted l d.epoch (epoch_of l))) (same_rows l d all)
 
   same_parts : (l : Lineage) (ds : List Delta) → AllByRecursion (Same l) ds → map (present new l) ds ≡ map (present old l) ds
   same_parts l ds all = same_maps (Same l) (present new l) (present old l) ds (same_present l) all
 
-  abbrev SameStock : Stock → Type 0
+  abbrev pub SameStock : Stock → Type 0
   SameStock t = AllByRecursion Agrees (stock_shelved t)
 
   module _ (t : Stock) (all : SameStock t) where
     deltas : AllByRecursion (Same t.lineage) (deltas_of t)
     deltas = all_unflat Agrees (delta_shelved t.lineage) (deltas_of t) all
 
-    bases : AllByRecursion (Same t.lineage) (base_deltas t.base)
+    pub bases : AllByRecursion (Same t.lineage) (base_deltas t.base)
     bases = all_front (Same t.lineage) (base_deltas t.base) (map delta_in t.cumulatives ++ t.singles) deltas
 
-    merged_deltas : AllByRecursion (Same t.lineage) (map delta_in t.cumulatives)
+    pub merged_deltas : AllByRecursion (Same t.lineage) (map delta_in t.cumulatives)
     merged_deltas = all_front (Same t.lineage) (map delta_in t.cumulatives) t.singles (all_back (Same t.lineage) (base_deltas t.base) (map delta_in t.cumulatives ++ t.singles) deltas)
 
-    singles : AllByRecursion (Same t.lineage) t.singles
+    pub singles : AllByRecursion (Same t.lineage) t.singles
     singles = all_back (Same t.lineage) (map delta_in t.cumulatives) t.singles (all_back (Same t.lineage) (base_deltas t.base) (map delta_in t.cumulatives ++ t.singles) deltas)
 
     same_content : (version : ℕ) → content new t version ≡ content old t version

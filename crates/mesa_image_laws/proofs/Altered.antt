@@ -1,4 +1,4 @@
--- Rows and contents after a change of a table's columns, and rows that were merged in an earlier epoch.
+-- Rows and contents after a change of a table's columns, and what a plan with a cumulative folds to.
 use Rattle.std.proofs.Common.{◌≡◌, ℕ, ◌+◌, ◌-◌, ◌≤◌, List, [], ◌∷◌, ◌++◌, map, take, drop, refl, sym, ◌∙◌, ap, arith, append_assoc}
 use Rattle.std.proofs.lemmas.List.{map-append, take-append-drop, drop-drop}
 use Rattle.std.proofs.lemmas.Simd.{map-map}
@@ -6,12 +6,11 @@ use Rattle.mesa_schema.specs.declared.rows.Row.{Row}
 use Rattle.mesa_schema.specs.declared.changes.Change.{Change}
 use Rattle.mesa_schema.specs.Columns.{aggs_of}
 use Rattle.mesa_schema.specs.Changes.{Lineage, columns_after, columns_at, columns_of, epoch_of, lifted, lifted_by, lifted_once, with_change}
-use Rattle.mesa_schema.specs.Lineages.{HasDefault, IsLineage}
-use Rattle.mesa_schema.specs.Rows.{AreRowsOf}
-use Rattle.mesa_schema.specs.Folded.{folded, rows_of}
+use Rattle.mesa_schema.specs.Lineages.{HasDefault}
+use Rattle.mesa_schema.specs.Folded.{folded}
 use Rattle.mesa_schema.proofs.Forms.{lifts_folded}
 use Rattle.mesa_schema.proofs.Lists.{map_is}
-use Rattle.mesa_schema.proofs.PresentRows.{columns_after-append, columns_more, lifted_all, lifted_by-append, lifted_more, present_folds}
+use Rattle.mesa_schema.proofs.PresentRows.{columns_after-append, columns_more, lifted_all, lifted_by-append, lifted_more}
 use Rattle.mesa_schema.proofs.Refolds.{refolded}
 use Rattle.mesa_image.specs.Catalog.{Delta, Ending, Stock, start_in, stock_changed}
 use Rattle.mesa_image.specs.Fitting.{base_deltas}
@@ -19,8 +18,7 @@ use Rattle.mesa_image.specs.Contents.{Rows, rows_in, present, deltas_to, content
 use Rattle.mesa_image.specs.Sound.{IsMerged}
 use Rattle.mesa_image_laws.specs.Brought.{Replaces}
 use Rattle.mesa_image_laws.proofs.Contents.{drop_take}
-use Rattle.mesa_image_laws.proofs.Formed.{AreFormed, rows_formed}
-use Rattle.mesa_image_laws.specs.Sourced.{AreOfEpochs}
+use Rattle.mesa_image_laws.proofs.Formed.{AreFormed, AreOfEpochs, rows_formed}
 
 pub columns_on : (l : Lineage) (a b : ℕ) → a ≤ b → columns_after (columns_at l a) (take (b - a) (drop a l.changes)) ≡ columns_at l b
 columns_on l a b le = sym (columns_after-append l.first (take a l.changes) (take (b - a) (drop a l.changes))) ∙ ap (columns_after l.first) (drop_take a b l.changes le)
@@ -63,25 +61,6 @@ pub replaces_altered : (rows : Rows) (l : Lineage) (c : Change) (d : Delta) (old
     → Replaces rows l d olds → Replaces rows (with_change l c) d olds
 replaces_altered rows l c d olds default le epochs formed is =
     present_more rows l c d le ∙ ap (map (lifted_once (columns_of l) c)) is ∙ sym (fold_altered rows l c olds default epochs formed)
-
--- ---- rows that were merged in an earlier epoch
-
--- the rows of a delta, lifted to an epoch
-abbrev pub at_epoch : Rows → Lineage → ℕ → Delta → List Row
-at_epoch rows l epoch d = map (lifted l d.epoch epoch) (rows_in rows d)
-
-present_twice : (rows : Rows) (l : Lineage) (epoch : ℕ) (ds : List Delta) → AreOfEpochs epoch ds → map (present rows l) ds ≡ map (map (lifted l epoch (epoch_of l))) (map (at_epoch rows l epoch) ds)
-present_twice rows l epoch [] all = refl
-present_twice rows l epoch (d ∷ ds) all = λ i. (map_is (lifted l d.epoch (epoch_of l)) (λ row. lifted l epoch (epoch_of l) (lifted l d.epoch epoch row)) (rows_in rows d) (λ row. lifted_twice l d.epoch epoch row all.0)
-    ∙ sym (map-map (lifted l epoch (epoch_of l)) (lifted l d.epoch epoch) (rows_in rows d))) i ∷ present_twice rows l epoch ds all.1 i
-
--- Rows that are the fold of others in their own epoch are so at present.
-pub replaces_lifted : (rows : Rows) (l : Lineage) (d : Delta) (olds : List Delta) → IsLineage l → AreOfEpochs d.epoch olds → AreRowsOf (columns_at l d.epoch) (rows_of (map (at_epoch rows l d.epoch) olds))
-    → rows_in rows d ≡ folded (aggs_of (columns_at l d.epoch)) (map (at_epoch rows l d.epoch) olds) → Replaces rows l d olds
-replaces_lifted rows l d olds lineage epochs formed is =
-    ap (map (lifted l d.epoch (epoch_of l))) is
-    ∙ present_folds l d.epoch (map (at_epoch rows l d.epoch) olds) lineage formed
-    ∙ ap (folded (aggs_of (columns_of l))) (sym (present_twice rows l d.epoch olds epochs))
 
 -- A plan that reads a cumulative in the place of its singletons folds to the same.
 pub plan_folds : (rows : Rows) (t : Stock) (e : Ending) (version : ℕ) → start_in t ≤ e.to → e.to ≤ version → IsMerged rows t e

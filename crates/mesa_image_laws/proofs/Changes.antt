@@ -30,8 +30,7 @@ use Rattle.mesa_image.specs.Sound.{AreGrouped, AreStocked, IsGrouped, IsGroupedA
 use Rattle.mesa_image.specs.Shape.{IsCatalog, IsShaped}
 use Rattle.mesa_image_laws.specs.Moves.{kept_altered}
 use Rattle.mesa_image_laws.proofs.Lists.{all_back, all_front, all_take, all_unflat, all_unmap, both_true, is_less, stock_found}
-use Rattle.mesa_image_laws.proofs.Formed.{all_formed, rows_formed, up_to, without_merged}
-use Rattle.mesa_image_laws.specs.Sourced.{AreOfEpochs}
+use Rattle.mesa_image_laws.proofs.Formed.{AreOfEpochs, all_formed, rows_formed, up_to, without_merged}
 use Rattle.mesa_image_laws.proofs.Altered.{content_altered, present_more, replaces_altered}
 use Rattle.mesa_image_laws.proofs.Defaults.{default_read}
 use Rattle.mesa_image_laws.proofs.Views.{ranges_same, set_shelved, stock_table}

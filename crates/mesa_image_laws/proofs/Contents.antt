@@ -56,7 +56,7 @@ content_covered rows t to d version = refl
 
 -- ---- a batch
 
-present_now : (l : Lineage) (rows : List Row) → map (lifted l (epoch_of l) (epoch_of l)) rows ≡ rows
+pub present_now : (l : Lineage) (rows : List Row) → map (lifted l (epoch_of l) (epoch_of l)) rows ≡ rows
 present_now l rows = map_is (lifted l (epoch_of l) (epoch_of l)) (λ row. row) rows (lifted_now l) ∙ map-id rows
 
 module _ (rows : Rows) (t : Stock) where

@@ -1,5 +1,5 @@
 -- The rows of a sound table's deltas have the form of its present columns.
-use Rattle.std.proofs.Common.{ℕ, ◌+◌, ◌-◌, List, [], ◌∷◌, ◌++◌, map, Option, Some, None}
+use Rattle.std.proofs.Common.{ℕ, ◌+◌, ◌-◌, ◌≤◌, List, [], ◌∷◌, ◌++◌, map, Option, Some, None}
 use Rattle.std.specs.List.{AllByRecursion}
 use Rattle.mesa_schema.specs.declared.rows.Row.{Row}
 use Rattle.mesa_schema.specs.Changes.{Lineage, columns_at, columns_of, epoch_of, lifted}
@@ -19,6 +19,10 @@ use Rattle.mesa_image_laws.proofs.Lists.{all_front, all_back, all_take}
 -- deltas whose rows have the form of the present columns
 abbrev pub AreFormed : Rows → Lineage → List Delta → Type 0
 AreFormed rows l ds = AllByRecursion (λ (d : Delta). AreRowsOf (columns_of l) (present rows l d)) ds
+
+-- deltas of epochs up to this one
+abbrev pub AreOfEpochs : ℕ → List Delta → Type 0
+AreOfEpochs epoch ds = AllByRecursion (λ (d : Delta). d.epoch ≤ epoch) ds
 
 -- what holds of all deltas holds of those up to a version
 pub up_to : (P : Delta → Type 0) (t : Stock) (version : ℕ) → AllByRecursion P (deltas_of t) → AllByRecursion P (deltas_to t version)

@@ -19,5 +19,10 @@ pub mod ShapedTables
 pub mod ShapedBatches
 pub mod Wholes
 pub mod Ids
-pub mod Sourcing
 pub mod Plans
+pub mod Rising
+pub mod Written
+pub mod Lifted
+pub mod Sourcing
+pub mod Found
+pub mod AllSourced

@@ -47,7 +47,7 @@ module _ (rows : Rows) (c : Catalog) (stocked : AreStocked rows c) where
         all_map W (wanted rows) (shelved (applied c (record_of.Table name keys values))) (named_table (λ x. W (wanted rows x)) c name keys values (all_unmap W (wanted rows) (shelved c) old)));
   }
 
-  view_there : (table : ℕ) (name : List ℕ) (keys values : List (List ℕ)) → fits c (record_of.View table name keys values) ≡ true → table < length c.tables
+  pub view_there : (table : ℕ) (name : List ℕ) (keys values : List (List ℕ)) → fits c (record_of.View table name keys values) ≡ true → table < length c.tables
   view_there table name keys values fit =
       let s = columns_of (stock_at c table).lineage in
       let last = both_true (is_there c table && is_new_name c name && is_ok (view_checked s keys values)) (nat_lt (length (stock_at c table).lineage.views) max_views) (kind_of c (record_of.View table name keys values) fit) in

@@ -87,7 +87,7 @@ names_loaded : (parts : List Part) (number : ℕ) (tables : List Stock) → flat
 names_loaded parts number [] = refl
 names_loaded parts number (t ∷ tables) = λ i. loaded_names t (part_of number parts) i ++ names_loaded parts (number + 1) tables i
 
-length_loaded : (parts : List Part) (number : ℕ) (tables : List Stock) → length (stocks_loaded parts number tables) ≡ length tables
+pub length_loaded : (parts : List Part) (number : ℕ) (tables : List Stock) → length (stocks_loaded parts number tables) ≡ length tables
 length_loaded parts number [] = refl
 length_loaded parts number (t ∷ tables) = ap suc (length_loaded parts (number + 1) tables)
 
@@ -112,7 +112,7 @@ ends_within start newest tens zero le = tt
 ends_within start newest tens (suc n) le = (omega (arith, le), ends_within start newest (tens + 1) n (omega (arith, le)))
 
 -- an end that is missing is that of a version that is there
-missing_there : (start next to : ℕ) (ends : List ℕ) → start ≤ next → missing_end start ends (base_before next) ≡ Some to → to < next
+pub missing_there : (start next to : ℕ) (ends : List ℕ) → start ≤ next → missing_end start ends (base_before next) ≡ Some to → to < next
 missing_there start next to ends le e = by (next == 0) refl e
   where
     by : (b : Bool) → (next == 0) ≡ b → missing_end start ends (cond b None (Some (next - 1))) ≡ Some to → to < next
@@ -124,7 +124,16 @@ missing_there start next to ends le e = by (next == 0) refl e
         let top : to ≤ next - 1 = all_found (λ x. x ≤ next - 1) (is_missing ends) (possible_ends start (Some (next - 1))) to e (ends_within start (next - 1) 0 tens few) in
         omega (arith, some, top)
 
-number_is : (o : Option ℕ) (n : ℕ) → is_number o n ≡ true → o ≡ Some n
+-- and lies behind the base
+ends_behind : (start tens n : ℕ) → AllByRecursion (λ e. start ≤ e) (map (end_of start) (range_with_len tens n))
+ends_behind start tens zero = tt
+ends_behind start tens (suc n) = (omega arith, ends_behind start (tens + 1) n)
+
+pub missing_behind : (start to : ℕ) (ends : List ℕ) (newest : Option ℕ) → missing_end start ends newest ≡ Some to → start ≤ to
+missing_behind start to ends None e = absurd cc
+missing_behind start to ends (Some newest) e = all_found (λ x. start ≤ x) (is_missing ends) (possible_ends start (Some newest)) to e (ends_behind start 0 ((newest + 1 - start) / 10))
+
+pub number_is : (o : Option ℕ) (n : ℕ) → is_number o n ≡ true → o ≡ Some n
 number_is None n e = absurd (let f : false ≡ true = e in cc)
 number_is (Some m) n e = ap Some (is_equal m n e)
 

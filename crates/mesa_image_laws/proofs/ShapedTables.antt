@@ -70,7 +70,7 @@ start_before version = by (version == 0) refl
     by true e = let f : version ≡ 0 = eqb-true version 0 e in sym f
     by false e = grind (arith, nat_tests)
 
-start_new : (c : Catalog) (name : List ℕ) (s : Columns) → start_in (new_stock c name s) ≡ c.oldest
+pub start_new : (c : Catalog) (name : List ℕ) (s : Columns) → start_in (new_stock c name s) ≡ c.oldest
 start_new c name s = ap start_behind (same_ends (base_before c.oldest)) ∙ start_before c.oldest
 
 base_epochs : (o : Option ℕ) → AllByRecursion (λ (d : Delta). d.epoch ≤ 0) (base_deltas (option_map empty_base o))

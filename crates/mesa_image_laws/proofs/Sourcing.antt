@@ -1,264 +1,275 @@
--- A table stands for the same as one in which nothing was swapped, whatever records come.
-use Rattle.std.proofs.Common.{◌≡◌, ⊎_elim, inl, inr, ℕ, ◌+◌, ◌-◌, ◌≤◌, List, [], ◌∷◌, ◌++◌, map, length, take, drop, Option, Some, None, Bool, true, false, refl, sym, ◌∙◌, ap, subst, arith, append_assoc, length-append, length-drop}
-use Rattle.std.proofs.lemmas.List.{drop-append-le, drop-drop, map-append, take-append-le}
+-- What a table's deltas were made of, when a run finds them and after each record.
+use Rattle.std.proofs.Common.{◌≡◌, ℕ, zero, suc, ◌+◌, ◌-◌, ◌<◌, ◌≤◌, List, [], ◌∷◌, ◌++◌, map, length, take, drop, Option, Some, None, Bool, true, false, refl, sym, ◌∙◌, ap, subst, arith, append_assoc, length-append, length-drop}
+use Rattle.std.specs.Prelude.{IfSome}
+use Rattle.std.proofs.lemmas.List.{map-append}
 use Rattle.std.specs.List.{AllByRecursion}
 use Rattle.mesa_schema.specs.declared.rows.Row.{Row}
 use Rattle.mesa_schema.specs.declared.changes.Change.{Change}
 use Rattle.mesa_schema.specs.Columns.{aggs_of}
-use Rattle.mesa_schema.specs.Changes.{Lineage, columns_after, columns_at, columns_of, epoch_of, lifted, with_change}
-use Rattle.mesa_schema.specs.Folded.{folded, rows_of}
+use Rattle.mesa_schema.specs.Changes.{Lineage, columns_of, epoch_of, lifted, with_change}
+use Rattle.mesa_schema.specs.Folded.{folded}
 use Rattle.mesa_schema.specs.Lineages.{HasDefault, IsLineage}
-use Rattle.mesa_schema.specs.Rows.{AreRowsOf, IsRowOf}
-use Rattle.mesa_schema.proofs.Forms.{lifted_form}
-use Rattle.mesa_schema.proofs.Lists.{all_append, all_both, all_drop, all_map, all_so}
-use Rattle.mesa_schema.proofs.PresentRows.{epoch_more, present_form}
-use Rattle.mesa_block.specs.Rows.{IsRow}
-use Rattle.mesa_history.specs.Sources.{source_at}
-use Rattle.mesa_record.specs.declared.record.Files.{Files}
+use Rattle.mesa_schema.proofs.Lists.{all_append, all_both, all_filter, all_map, all_so}
+use Rattle.mesa_schema.proofs.Refolds.{refolded}
+use Rattle.mesa_span.specs.Ranges.{Rise}
+use Rattle.mesa_history.specs.Sources.{range_rows}
 use Rattle.mesa_record.specs.declared.record.Part.{Part}
 use Rattle.mesa_image.specs.Catalog.{Delta, Ending, Stock, empty_delta, part_delta, start_in, stock_changed, stock_loaded, stock_swapped, stock_viewed}
-use Rattle.mesa_image.specs.Fitting.{base_deltas, delta_in, delta_shelved, deltas_of}
-use Rattle.mesa_image.specs.Contents.{Rows, content, deltas_to, present, rows_in}
-use Rattle.mesa_image.specs.Sound.{IsStocked, IsTold}
+use Rattle.mesa_image.specs.Fitting.{base_deltas, delta_in}
+use Rattle.mesa_image.specs.Contents.{Rows, content, deltas_to, present}
 use Rattle.mesa_image.specs.Shape.{IsShaped}
-use Rattle.mesa_image_laws.specs.Brought.{Replaces, loaded_delta, merged_of}
-use Rattle.mesa_image_laws.specs.Sourced.{AreOfEpochs, HasForm, IsMergedOf, IsRebased, IsSourced, IsUnswapped, source_deltas, source_of}
-use Rattle.mesa_image_laws.proofs.Lists.{all_back, all_front, all_take, all_unflat}
-use Rattle.mesa_image_laws.proofs.Contents.{drop_take, front_folded}
-use Rattle.mesa_image_laws.proofs.Formed.{without_merged}
-use Rattle.mesa_image_laws.proofs.Altered.{at_epoch, columns_on, replaces_altered, replaces_lifted}
+use Rattle.mesa_image_laws.specs.Brought.{BringsIfAny, Replaces, loaded_delta, merged_of}
+use Rattle.mesa_image_laws.specs.Sourced.{AreMadeOf, AreWritten, HasForm, IsMadeOf, IsMergedOf, IsSourced, Written, source_written, sources_from, version_written}
+use Rattle.mesa_image_laws.proofs.Lists.{all_back, all_front}
+use Rattle.mesa_image_laws.proofs.Contents.{new_rows, present_now}
+use Rattle.mesa_image_laws.proofs.Lifted.{changes_sources, folded_now, form_more, lifts_sources, now, range_now}
+use Rattle.mesa_image_laws.proofs.Written.{From, is_within, none_between, rise_push, sources_one, sources_push, sources_split}
 
--- ---- forms
+-- what was written in a range has its forms
+pub forms_from : (l : Lineage) (from to : ℕ) (written : List Written) → AllByRecursion (λ (w : Written). HasForm l w.source) written → AllByRecursion (HasForm l) (sources_from from to written)
+forms_from l from to written all = all_map (HasForm l) source_written (From from to written) (all_filter (λ (w : Written). HasForm l w.source) (is_within from to) written all)
 
-pub form_told : (rows : Rows) (l : Lineage) (d : Delta) → d.epoch ≤ epoch_of l → AllByRecursion (IsTold rows) (delta_shelved l d) → HasForm rows l d
-form_told rows l d le told = record { epoch = le; form = by d.files d.epoch d.totals told }
-  where
-    by : (files : Option Files) (epoch : ℕ) (totals : Option (List ℕ)) → AllByRecursion (IsTold rows) (delta_shelved l (record { epoch = epoch; files = files; totals = totals }))
-        → AreRowsOf (columns_at l epoch) (rows_in rows (record { epoch = epoch; files = files; totals = totals }))
-    by None epoch totals told = tt
-    by (Some f) epoch totals told = all_so (IsRow (columns_at l epoch)) (IsRowOf (columns_at l epoch)) (rows f.file.id) (λ row good. good.form) told.0.file.good
+-- ---- deltas that follow one another
 
--- rows of an epoch's form, at the present
-form_now : (rows : Rows) (l : Lineage) (d : Delta) → IsLineage l → HasForm rows l d → AreRowsOf (columns_of l) (present rows l d)
-form_now rows l d is has = all_map (IsRowOf (columns_of l)) (lifted l d.epoch (epoch_of l)) (rows_in rows d) (all_so (IsRowOf (columns_at l d.epoch)) (λ row. IsRowOf (columns_of l) (lifted l d.epoch (epoch_of l) row)) (rows_in rows d) (λ row form. present_form l d.epoch row is form) has.form)
+module _ (rows : Rows) (l : Lineage) (written : List Written) (rise : Rise 0 (map version_written written)) where
+  -- made of what is folded at present
+  pub made_now : (from to : ℕ) (d : Delta) → IsMadeOf rows l written from to d → present rows l d ≡ folded_now l (sources_from from to written)
+  made_now from to d is = is ∙ range_now l (sources_from from to written)
 
--- and at a later epoch
-form_at : (rows : Rows) (l : Lineage) (epoch : ℕ) (d : Delta) → IsLineage l → d.epoch ≤ epoch → HasForm rows l d → AreRowsOf (columns_at l epoch) (at_epoch rows l epoch d)
-form_at rows l epoch d is le has =
-    let some : List Change = take (epoch - d.epoch) (drop d.epoch l.changes) in
-    all_map (IsRowOf (columns_at l epoch)) (lifted l d.epoch epoch) (rows_in rows d)
-    (all_so (IsRowOf (columns_at l d.epoch)) (λ row. IsRowOf (columns_at l epoch) (lifted l d.epoch epoch row)) (rows_in rows d)
-    (λ row form. subst (λ s. IsRowOf s (lifted l d.epoch epoch row)) (columns_on l d.epoch epoch le)
-    (lifted_form (columns_at l d.epoch) some row (all_take HasDefault (epoch - d.epoch) (drop d.epoch l.changes) (all_drop HasDefault d.epoch l.changes is.defaults)) form)) has.form)
+  pub now_made : (from to : ℕ) (d : Delta) → present rows l d ≡ folded_now l (sources_from from to written) → IsMadeOf rows l written from to d
+  now_made from to d is = is ∙ sym (range_now l (sources_from from to written))
 
-forms_at : (rows : Rows) (l : Lineage) (epoch : ℕ) (ds : List Delta) → IsLineage l → AreOfEpochs epoch ds → AllByRecursion (HasForm rows l) ds → AreRowsOf (columns_at l epoch) (rows_of (map (at_epoch rows l epoch) ds))
-forms_at rows l epoch [] is les all = tt
-forms_at rows l epoch (d ∷ ds) is les all = all_append (IsRowOf (columns_at l epoch)) (at_epoch rows l epoch d) (rows_of (map (at_epoch rows l epoch) ds)) (form_at rows l epoch d is les.0 all.0) (forms_at rows l epoch ds is les.1 all.1)
+  -- singletons fold to what was written in their versions
+  pub fold_singles : (before : List (List Row)) (version n to : ℕ) (ds : List Delta) → AreMadeOf rows l written version ds → version + n ≡ to + 1 → n ≤ length ds
+      → folded (aggs_of (columns_of l)) (before ++ map (present rows l) (take n ds)) ≡ folded (aggs_of (columns_of l)) (before ++ map (now l) (sources_from version to written))
+  fold_singles before version zero to ds all ends le =
+      ap (λ ss. folded (aggs_of (columns_of l)) (before ++ map (now l) (map source_written ss))) (sym (none_between version to written (omega (arith, ends))))
+  fold_singles before version (suc n) to [] all ends le = absurd (omega (arith, le))
+  fold_singles before version (suc n) to (d ∷ ds) all ends le =
+      let aggs = aggs_of (columns_of l) in
+      let here = map (now l) (sources_from version version written) in
+      let rest = map (present rows l) (take n ds) in
+      let split : map (now l) (sources_from version to written) ≡ here ++ map (now l) (sources_from (version + 1) to written) =
+      ap (map (now l)) (sources_split version version to written rise (omega arith) (omega (arith, ends))) ∙ map-append (now l) (sources_from version version written) (sources_from (version + 1) to written) in
+      ap (λ x. folded aggs (before ++ x ∷ rest)) (made_now version version d all.0)
+      ∙ refolded aggs before here rest
+      ∙ fold_singles (before ++ here) (version + 1) n to ds all.1 (omega (arith, ends)) (omega (arith, le))
+      ∙ ap (folded aggs) (append_assoc before here (map (now l) (sources_from (version + 1) to written)) ∙ ap (λ xs. before ++ xs) (sym split))
 
--- a change more
-form_more : (rows : Rows) (l : Lineage) (c : Change) (d : Delta) → HasForm rows l d → HasForm rows (with_change l c) d
-form_more rows l c d has =
-    let le = has.epoch in
-    record {
-      epoch = omega (arith, le, epoch_more l c);
-      form = subst (λ changes. AreRowsOf (columns_after l.first changes) (rows_in rows d)) (sym (take-append-le d.epoch l.changes (c ∷ []) has.epoch)) has.form;
-    }
+  -- a base and singletons behind it
+  fold_behind : (e : Ending) (n to : ℕ) (ds : List Delta) → IsMadeOf rows l written 0 e.to e.delta → AreMadeOf rows l written (e.to + 1) ds → e.to + 1 + n ≡ to + 1 → n ≤ length ds
+      → folded (aggs_of (columns_of l)) (present rows l e.delta ∷ map (present rows l) (take n ds)) ≡ folded_now l (sources_from 0 to written)
+  fold_behind e n to ds base all ends le =
+      let aggs = aggs_of (columns_of l) in
+      let front = map (now l) (sources_from 0 e.to written) in
+      let rest = map (present rows l) (take n ds) in
+      let split : map (now l) (sources_from 0 to written) ≡ front ++ map (now l) (sources_from (e.to + 1) to written) =
+      ap (map (now l)) (sources_split 0 e.to to written rise (omega arith) (omega (arith, ends))) ∙ map-append (now l) (sources_from 0 e.to written) (sources_from (e.to + 1) to written) in
+      ap (λ x. folded aggs (x ∷ rest)) (made_now 0 e.to e.delta base)
+      ∙ refolded aggs [] front rest
+      ∙ fold_singles front (e.to + 1) n to ds all ends le
+      ∙ ap (folded aggs) (sym split)
 
--- ---- the beginning
+-- ---- what a sourced table tells
 
--- A sound table stands for itself.
-pub sourced_first : (rows : Rows) (oldest next : ℕ) (t : Stock) → IsShaped oldest next t → IsStocked rows t → IsSourced rows t t
-sourced_first rows oldest next t shaped stocked =
-    let told = all_unflat (IsTold rows) (delta_shelved t.lineage) (deltas_of t) stocked.files in
-    record {
-      lineage = refl;
-      versions = refl;
-      forms = without_merged (HasForm rows t.lineage) t (all_both (λ (d : Delta). d.epoch ≤ epoch_of t.lineage) (λ (d : Delta). AllByRecursion (IsTold rows) (delta_shelved t.lineage d)) (HasForm rows t.lineage) (deltas_of t) (λ d le its. form_told rows t.lineage d le its) shaped.epochs told);
-      by = inl (record { base = refl; singles = refl });
-    }
+module _ (rows : Rows) (written : List Written) (t : Stock) (sourced : IsSourced rows written t) where
+  start_at : (o : Option Ending) → t.base ≡ o → start_in t ≡ start_in (record t { base = o })
+  start_at o is = ap (λ b. start_in (record t { base = b })) is
 
--- ---- what it tells
-
-module _ (rows : Rows) (t full : Stock) (sourced : IsSourced rows t full) where
-  start_same : t.base ≡ full.base → start_in t ≡ start_in full
-  start_same same = ap (λ b. start_in (record t { base = b })) same
-
-  start_at : (e : Ending) → t.base ≡ Some e → start_in t ≡ e.to + 1
-  start_at e is = ap (λ b. start_in (record t { base = b })) is
-
-  -- the whole list to a version is that to a base's end, and the singletons behind it
-  full_split : (b : IsRebased rows t full) (version : ℕ) → b.ending.to ≤ version → deltas_to full version ≡ deltas_to full b.ending.to ++ take (version - b.ending.to) t.singles
-  full_split b version le =
-      let e = b.ending in
-      let from = b.behind in
-      let n = e.to + 1 - start_in full in
-      let m = version + 1 - start_in full in
-      let few : n ≤ m = omega (arith, from, le) in
-      let rest : m - n ≡ version - e.to = omega (arith, from, le) in
-      ap (λ xs. base_deltas full.base ++ xs) (sym (drop_take n m full.singles few)) ∙ sym (append_assoc (base_deltas full.base) (take n full.singles) (take (m - n) (drop n full.singles)))
-      ∙ (λ i. (base_deltas full.base ++ take n full.singles) ++ take (rest i) (sym b.singles i))
-
-  abbrev Now : List Delta → List Row
-  Now ds = folded (aggs_of (columns_of t.lineage)) (map (present rows t.lineage) ds)
-
-  -- what a query reads folds to what the whole list folds to
-  folds_same : (version : ℕ) → start_in t ≤ version + 1 → Now (deltas_to t version) ≡ Now (deltas_to full version)
-  folds_same version le = ⊎_elim unswapped rebased sourced.by
+  -- the base and the singletons to a version fold to what was written to it
+  parts_to : (to : ℕ) → start_in t ≤ to + 1 → to + 1 ≤ start_in t + length t.singles → folded (aggs_of (columns_of t.lineage)) (map (present rows t.lineage) (deltas_to t to)) ≡ folded_now t.lineage (sources_from 0 to written)
+  parts_to to le within = by t.base refl sourced.base
     where
-      unswapped : IsUnswapped t full → folded (aggs_of (columns_of t.lineage)) (map (present rows t.lineage) (deltas_to t version)) ≡ folded (aggs_of (columns_of t.lineage)) (map (present rows t.lineage) (deltas_to full version))
-      unswapped u = λ i. folded (aggs_of (columns_of t.lineage)) (map (present rows t.lineage) (base_deltas (u.base i) ++ take (version + 1 - start_same u.base i) (u.singles i)))
+      n : ℕ
+      n = to + 1 - start_in t
 
-      rebased : IsRebased rows t full → folded (aggs_of (columns_of t.lineage)) (map (present rows t.lineage) (deltas_to t version)) ≡ folded (aggs_of (columns_of t.lineage)) (map (present rows t.lineage) (deltas_to full version))
-      rebased b =
-          let e = b.ending in
-          let begin = start_at e b.base in
-          let count : version + 1 - start_in t ≡ version - e.to = omega (arith, begin) in
-          let aggs = aggs_of (columns_of t.lineage) in
-          let rest = take (version - e.to) t.singles in
-          (λ i. folded aggs (map (present rows t.lineage) (base_deltas (b.base i) ++ take (count i) t.singles)))
-          ∙ front_folded aggs (present rows t.lineage e.delta) (map (present rows t.lineage) (deltas_to full e.to)) (map (present rows t.lineage) rest) b.replaces
-          ∙ ap (folded aggs) (sym (map-append (present rows t.lineage) (deltas_to full e.to) rest) ∙ ap (map (present rows t.lineage)) (sym (full_split b version (omega (arith, begin, le)))))
+      by : (o : Option Ending) → t.base ≡ o → IfSome o (λ (e : Ending). IsMadeOf rows t.lineage written 0 e.to e.delta)
+          → folded (aggs_of (columns_of t.lineage)) (map (present rows t.lineage) (base_deltas t.base ++ take (to + 1 - start_in t) t.singles)) ≡ folded_now t.lineage (sources_from 0 to written)
+      by None is base =
+          let start : start_in t ≡ 0 = start_at None is in
+          let all = subst (λ v. AreMadeOf rows t.lineage written v t.singles) start sourced.singles in
+          ap (λ o. folded (aggs_of (columns_of t.lineage)) (map (present rows t.lineage) (base_deltas o ++ take (to + 1 - start_in t) t.singles))) is
+          ∙ fold_singles rows t.lineage written sourced.are.rise [] 0 (to + 1 - start_in t) to t.singles all (omega (arith, start)) (omega (arith, le, within))
+      by (Some e) is base =
+          let start : start_in t ≡ e.to + 1 = start_at (Some e) is in
+          let all = subst (λ v. AreMadeOf rows t.lineage written v t.singles) start sourced.singles in
+          ap (λ o. folded (aggs_of (columns_of t.lineage)) (map (present rows t.lineage) (base_deltas o ++ take (to + 1 - start_in t) t.singles))) is
+          ∙ fold_behind rows t.lineage written sourced.are.rise e (to + 1 - start_in t) to t.singles base all (omega (arith, start, le)) (omega (arith, le, within))
 
-  -- A content is that of the table in which nothing was swapped.
-  pub content_sourced : (version : ℕ) → start_in t ≤ version + 1 → content rows t version ≡ content rows full version
-  content_sourced version le = folds_same version le ∙ ap (λ l. folded (aggs_of (columns_of l)) (map (present rows l) (deltas_to full version))) (sym sourced.lineage)
+  -- A content is what was written to its version.
+  pub content_made : (version : ℕ) → start_in t ≤ version + 1 → version + 1 ≤ start_in t + length t.singles → content rows t version ≡ range_rows t.lineage (epoch_of t.lineage) (sources_from 0 version written)
+  content_made version le within = parts_to version le within ∙ sym (range_now t.lineage (sources_from 0 version written))
 
-  -- where the singletons of the table begin in the whole list
-  singles_sourced : (start_in full ≤ start_in t) × (t.singles ≡ drop (start_in t - start_in full) full.singles)
-  singles_sourced = ⊎_elim unswapped rebased sourced.by
+  -- the first version of a work's range
+  abbrev pub first : Bool → ℕ
+  first true = 0
+  first false = start_in t
+
+  -- What a merged range takes the place of folds to what was written in it.
+  pub merged_made : (base : Bool) (to : ℕ) → start_in t ≤ to + 1 → to + 1 ≤ start_in t + length t.singles
+      → folded (aggs_of (columns_of t.lineage)) (map (present rows t.lineage) (merged_of t base to)) ≡ range_rows t.lineage (epoch_of t.lineage) (sources_from (first base) to written)
+  merged_made true to le within = content_made to le within
+  merged_made false to le within =
+      fold_singles rows t.lineage written sourced.are.rise [] (start_in t) (to + 1 - start_in t) to t.singles sourced.singles (omega (arith, le)) (omega (arith, le, within))
+      ∙ sym (range_now t.lineage (sources_from (start_in t) to written))
+
+  -- So a delta that is made of a work's range may take the place of what the table has of it.
+  pub made_replaces : (base : Bool) (to : ℕ) (d : Delta) → start_in t ≤ to + 1 → to + 1 ≤ start_in t + length t.singles → IsMadeOf rows t.lineage written (first base) to d → Replaces rows t.lineage d (merged_of t base to)
+  made_replaces base to d le within is = is ∙ sym (merged_made base to le within)
+
+  -- A delta that was merged in its own epoch is made of its range at present, whatever changes came since.
+  pub merge_made : (from to : ℕ) (d : Delta) → IsLineage t.lineage → IsMergedOf rows t.lineage written from to d → IsMadeOf rows t.lineage written from to d
+  merge_made from to d is m =
+      now_made rows t.lineage written sourced.are.rise from to d (lifts_sources rows t.lineage d (sources_from from to written) is m.epochs (forms_from t.lineage from to written sourced.are.forms) m.rows_are)
+
+-- ---- each record
+
+-- a batch: what it brings is written, and is the new singleton's
+module _ (rows : Rows) (written : List Written) (t : Stock) (p : Option Part) (w : Written) (sourced : IsSourced rows written t) (brings : BringsIfAny rows t p w.source.rows)
+    (form : HasForm t.lineage w.source) (present_epoch : w.source.epoch ≡ epoch_of t.lineage) (next : w.version ≡ start_in t + length t.singles) where
+  all_below : AllByRecursion (λ (x : Written). x.version < w.version) written
+  all_below = subst (λ n. AllByRecursion (λ (x : Written). x.version < n) written) (sym next) sourced.there
+
+  still : (from to : ℕ) (d : Delta) → to < w.version → IsMadeOf rows t.lineage written from to d → IsMadeOf rows t.lineage (written ++ w ∷ []) from to d
+  still from to d lt is = is ∙ ap (range_rows t.lineage (epoch_of t.lineage)) (sym (sources_push from to written w lt))
+
+  still_singles : (version : ℕ) (ds : List Delta) → version + length ds ≤ w.version → AreMadeOf rows t.lineage written version ds → AreMadeOf rows t.lineage (written ++ w ∷ []) version ds
+  still_singles version [] le all = tt
+  still_singles version (d ∷ ds) le all = (still version version d (omega (arith, le)) all.0, still_singles (version + 1) ds (omega (arith, le)) all.1)
+
+  made_push : (version : ℕ) (ds : List Delta) (d : Delta) → AreMadeOf rows t.lineage (written ++ w ∷ []) version ds → IsMadeOf rows t.lineage (written ++ w ∷ []) (version + length ds) (version + length ds) d
+      → AreMadeOf rows t.lineage (written ++ w ∷ []) version (ds ++ d ∷ [])
+  made_push version [] d all last = ((let e : version + 0 ≡ version = omega arith in subst (λ v. IsMadeOf rows t.lineage (written ++ w ∷ []) v v d) e last), tt)
+  made_push version (x ∷ ds) d all last =
+      (all.0, made_push (version + 1) ds d all.1 (let e : version + suc (length ds) ≡ version + 1 + length ds = omega arith in subst (λ v. IsMadeOf rows t.lineage (written ++ w ∷ []) v v d) e last))
+
+  last_made : IsMadeOf rows t.lineage (written ++ w ∷ []) (start_in t + length t.singles) (start_in t + length t.singles) (loaded_delta p)
+  last_made =
+      let one : sources_from w.version w.version (written ++ w ∷ []) ≡ w.source ∷ [] = sources_one written [] w all_below tt in
+      let its : now t.lineage w.source ≡ w.source.rows = own_rows in
+      let made : IsMadeOf rows t.lineage (written ++ w ∷ []) w.version w.version (loaded_delta p) =
+      new_rows rows t p w.source.rows brings ∙ ap (λ part. folded (aggs_of (columns_of t.lineage)) (part ∷ [])) (sym its) ∙ sym (ap (range_rows t.lineage (epoch_of t.lineage)) one ∙ range_now t.lineage (w.source ∷ [])) in
+      subst (λ v. IsMadeOf rows t.lineage (written ++ w ∷ []) v v (loaded_delta p)) next made
     where
-      unswapped : IsUnswapped t full → (start_in full ≤ start_in t) × (t.singles ≡ drop (start_in t - start_in full) full.singles)
-      unswapped u =
-          let same = start_same u.base in
-          let none : start_in t - start_in full ≡ 0 = omega (arith, same) in
-          (omega (arith, same), u.singles ∙ ap (λ n. drop n full.singles) (sym none))
+      own_rows : now t.lineage w.source ≡ w.source.rows
+      own_rows = ap (λ e. map (lifted t.lineage e (epoch_of t.lineage)) w.source.rows) present_epoch ∙ present_now t.lineage w.source.rows
 
-      rebased : IsRebased rows t full → (start_in full ≤ start_in t) × (t.singles ≡ drop (start_in t - start_in full) full.singles)
-      rebased b =
-          let begin = start_at b.ending b.base in
-          let behind = b.behind in
-          (omega (arith, begin, behind), b.singles ∙ ap (λ n. drop (n - start_in full) full.singles) (sym begin))
+  last_of_base : (e : Ending) → t.base ≡ Some e → e.to < w.version
+  last_of_base e is = (let start : start_in t ≡ e.to + 1 = ap (λ b. start_in (record t { base = b })) is in omega (arith, start, next))
 
-  -- all of a range's deltas have forms
-  range_forms : (base : Bool) (from to : ℕ) → AllByRecursion (HasForm rows t.lineage) (source_deltas full base from to)
-  range_forms true from to =
-      all_append (HasForm rows t.lineage) (base_deltas full.base) _ (all_front (HasForm rows t.lineage) (base_deltas full.base) full.singles sourced.forms)
-      (all_take (HasForm rows t.lineage) (to + 1 - start_in full) full.singles (all_back (HasForm rows t.lineage) (base_deltas full.base) full.singles sourced.forms))
-  range_forms false from to =
-      all_take (HasForm rows t.lineage) (to + 1 - from) (drop (from - start_in full) full.singles) (all_drop (HasForm rows t.lineage) (from - start_in full) full.singles (all_back (HasForm rows t.lineage) (base_deltas full.base) full.singles sourced.forms))
+  still_base : (o : Option Ending) → t.base ≡ o → IfSome o (λ (e : Ending). IsMadeOf rows t.lineage written 0 e.to e.delta) → IfSome o (λ (e : Ending). IsMadeOf rows t.lineage (written ++ w ∷ []) 0 e.to e.delta)
+  still_base None is made = made
+  still_base (Some e) is made = still 0 e.to e.delta (last_of_base e is) made
 
-  same_parts : (epoch : ℕ) (ds : List Delta) → map (source_at t.lineage epoch) (map (source_of rows) ds) ≡ map (at_epoch rows t.lineage epoch) ds
-  same_parts epoch [] = refl
-  same_parts epoch (d ∷ ds) = ap (λ xs. at_epoch rows t.lineage epoch d ∷ xs) (same_parts epoch ds)
+  are_more : AreWritten t.lineage (written ++ w ∷ [])
+  are_more = record { rise = rise_push 0 written w sourced.are.rise all_below (omega arith); forms = all_append (λ (x : Written). HasForm t.lineage x.source) written (w ∷ []) sourced.are.forms (form, tt) }
 
-  -- Rows that are those of a range in their own epoch replace its sources at present, whatever changes came since.
-  pub merge_replaces : (d : Delta) (base : Bool) (from to : ℕ) → IsLineage t.lineage → IsMergedOf rows t.lineage d (source_deltas full base from to) → Replaces rows t.lineage d (source_deltas full base from to)
-  merge_replaces d base from to is m =
-      let olds = source_deltas full base from to in
-      replaces_lifted rows t.lineage d olds is m.epochs (forms_at rows t.lineage d.epoch olds is m.epochs (range_forms base from to))
-      (m.rows_are ∙ ap (folded (aggs_of (columns_at t.lineage d.epoch))) (same_parts d.epoch olds))
+  there_more : (n : ℕ) → n ≡ length t.singles + 1 → AllByRecursion (λ (x : Written). x.version < start_in t + n) (written ++ w ∷ [])
+  there_more n is =
+      all_append (λ (x : Written). x.version < start_in t + n) written (w ∷ [])
+      (all_so (λ (x : Written). x.version < start_in t + length t.singles) (λ (x : Written). x.version < start_in t + n) written (λ x lt. (let e : x.version < start_in t + n = omega (arith, lt, is) in e)) sourced.there)
+      ((let e : w.version < start_in t + n = omega (arith, next, is) in e), tt)
 
-  -- So they replace what is there now of the range.
-  pub range_replaces : (d : Delta) (base : Bool) (to : ℕ) → start_in t ≤ to + 1 → Replaces rows t.lineage d (source_deltas full base (start_in t) to) → Replaces rows t.lineage d (merged_of t base to)
-  range_replaces d true to le is = is ∙ sym (folds_same to le)
-  range_replaces d false to le is = is ∙ ap (λ ds. folded (aggs_of (columns_of t.lineage)) (map (present rows t.lineage) (take (to + 1 - start_in t) ds))) (sym singles_sourced.1)
+  pub loaded_sourced : AllByRecursion (λ (e : Ending). e.to < start_in t + length t.singles) t.cumulatives → IsSourced rows (written ++ w ∷ []) (stock_loaded t p)
+  loaded_sourced ends = by p refl
+    where
+      cumulatives : AllByRecursion (λ (e : Ending). IsMadeOf rows t.lineage (written ++ w ∷ []) (start_in t) e.to e.delta) t.cumulatives
+      cumulatives = all_both (λ (e : Ending). e.to < start_in t + length t.singles) (λ (e : Ending). IsMadeOf rows t.lineage written (start_in t) e.to e.delta) (λ (e : Ending). IsMadeOf rows t.lineage (written ++ w ∷ []) (start_in t) e.to e.delta) t.cumulatives
+          (λ e lt made. still (start_in t) e.to e.delta (omega (arith, lt, next)) made) ends sourced.cumulatives
 
-  -- ---- each record
+      singles : AreMadeOf rows t.lineage (written ++ w ∷ []) (start_in t) (t.singles ++ loaded_delta p ∷ [])
+      singles = made_push (start_in t) t.singles (loaded_delta p) (still_singles (start_in t) t.singles (omega (arith, next)) sourced.singles) last_made
 
-  -- a new base
-  base_sourced : (d : Delta) (to : ℕ) → start_in t ≤ to + 1 → to + 1 ≤ start_in t + length t.singles → Replaces rows t.lineage d (deltas_to full to) → IsSourced rows (stock_swapped t true to d) full
-  base_sourced d to le within is =
-      let from = singles_sourced.0 in
-      let n = to + 1 - start_in t in
-      let versions = sourced.versions in
-      let cut = length-drop n t.singles in
-      let count : (start_in t - start_in full) + n ≡ to + 1 - start_in full = omega (arith, from, le) in
-      record {
-        lineage = sourced.lineage;
-        versions = omega (arith, versions, cut, le, within);
-        forms = sourced.forms;
-        by = inr (record {
-          ending = record { to = to; delta = d };
-          base = refl;
-          behind = omega (arith, from, le);
-          replaces = is;
-          singles = ap (drop n) singles_sourced.1 ∙ drop-drop n (start_in t - start_in full) full.singles ∙ ap (λ k. drop k full.singles) count;
-        });
+      by : (q : Option Part) → p ≡ q → IsSourced rows (written ++ w ∷ []) (stock_loaded t q)
+      by None is = record {
+        are = are_more;
+        there = there_more (length (t.singles ++ empty_delta ∷ [])) (length-append t.singles (empty_delta ∷ []));
+        base = still_base t.base refl sourced.base;
+        cumulatives = cumulatives;
+        singles = subst (λ q. AreMadeOf rows t.lineage (written ++ w ∷ []) (start_in t) (t.singles ++ loaded_delta q ∷ [])) is singles;
+      }
+      by (Some q) is = record {
+        are = are_more;
+        there = there_more (length (t.singles ++ part_delta q ∷ [])) (length-append t.singles (part_delta q ∷ []));
+        base = still_base t.base refl sourced.base;
+        cumulatives = cumulatives;
+        singles = subst (λ q. AreMadeOf rows t.lineage (written ++ w ∷ []) (start_in t) (t.singles ++ loaded_delta q ∷ [])) is singles;
       }
 
-  -- a cumulative more
-  cumulative_sourced : (d : Delta) (to : ℕ) → IsSourced rows (stock_swapped t false to d) full
-  cumulative_sourced d to = record { lineage = sourced.lineage; versions = sourced.versions; forms = sourced.forms; by = ⊎_elim (λ u. inl (record { base = u.base; singles = u.singles })) (λ b. inr (record { ending = b.ending; base = b.base; behind = b.behind; replaces = b.replaces; singles = b.singles })) sourced.by }
+-- a view
+pub viewed_sourced : (rows : Rows) (written : List Written) (t : Stock) (name : List ℕ) (keys values : List (List ℕ)) → IsSourced rows written t → IsSourced rows written (stock_viewed t name keys values)
+viewed_sourced rows written t name keys values is = record {
+  are = record {
+    rise = is.are.rise;
+    forms = all_so (λ (w : Written). HasForm t.lineage w.source) (λ (w : Written). HasForm (stock_viewed t name keys values).lineage w.source) written (λ w has. record { epoch = has.epoch; form = has.form }) is.are.forms;
+  };
+  there = is.there;
+  base = is.base;
+  cumulatives = is.cumulatives;
+  singles = same (start_in t) t.singles is.singles;
+}
+  where
+    same : (version : ℕ) (ds : List Delta) → AreMadeOf rows t.lineage written version ds → AreMadeOf rows (stock_viewed t name keys values).lineage written version ds
+    same version [] all = tt
+    same version (d ∷ ds) all = (all.0, same (version + 1) ds all.1)
 
-  pub swapped_sourced : (d : Delta) (base : Bool) (to : ℕ) → start_in t ≤ to + 1 → to + 1 ≤ start_in t + length t.singles → Replaces rows t.lineage d (source_deltas full base (start_in t) to) → IsSourced rows (stock_swapped t base to d) full
-  swapped_sourced d true to le within is = base_sourced d to le within is
-  swapped_sourced d false to le within is = cumulative_sourced d to
+-- a change
+module _ (rows : Rows) (oldest next : ℕ) (written : List Written) (t : Stock) (c : Change) (shaped : IsShaped oldest next t) (default : HasDefault c) (sourced : IsSourced rows written t) where
+  made_more : (from to : ℕ) (d : Delta) → d.epoch ≤ epoch_of t.lineage → IsMadeOf rows t.lineage written from to d → IsMadeOf rows (with_change t.lineage c) written from to d
+  made_more from to d le is =
+      now_made rows (with_change t.lineage c) written sourced.are.rise from to d
+      (changes_sources rows t.lineage c d (sources_from from to written) shaped.lineage default le (forms_from t.lineage from to written sourced.are.forms) (made_now rows t.lineage written sourced.are.rise from to d is))
 
-  -- a view more
-  pub viewed_sourced : (name : List ℕ) (keys values : List (List ℕ)) → IsSourced rows (stock_viewed t name keys values) (stock_viewed full name keys values)
-  viewed_sourced name keys values = record {
-    lineage = ap (λ (l : Lineage). record l { views = l.views ++ record { name = name; keys = keys; values = values } ∷ [] }) sourced.lineage;
-    versions = sourced.versions;
-    forms = all_so (HasForm rows t.lineage) (HasForm rows (stock_viewed t name keys values).lineage) (base_deltas full.base ++ full.singles) (λ d has. record { epoch = has.epoch; form = has.form }) sourced.forms;
-    by = ⊎_elim (λ u. inl (record { base = u.base; singles = u.singles })) (λ b. inr (record { ending = b.ending; base = b.base; behind = b.behind; replaces = b.replaces; singles = b.singles })) sourced.by;
-  }
+  abbrev E : Delta → Type 0
+  E d = d.epoch ≤ epoch_of t.lineage
 
-  -- a change of the columns
-  pub altered_sourced : (oldest next : ℕ) (c : Change) → IsShaped oldest next t → HasDefault c → IsSourced rows (stock_changed t c) (stock_changed full c)
-  altered_sourced oldest next c shaped default = record {
-    lineage = ap (λ l. with_change l c) sourced.lineage;
-    versions = sourced.versions;
-    forms = all_so (HasForm rows t.lineage) (HasForm rows (with_change t.lineage c)) (base_deltas full.base ++ full.singles) (form_more rows t.lineage c) sourced.forms;
-    by = ⊎_elim (λ u. inl (record { base = u.base; singles = u.singles })) (λ b. inr (record { ending = b.ending; base = b.base; behind = b.behind; replaces = still b; singles = b.singles })) sourced.by;
-  }
-    where
-      still : (b : IsRebased rows t full) → Replaces rows (with_change t.lineage c) b.ending.delta (deltas_to full b.ending.to)
-      still b =
-          let olds = deltas_to full b.ending.to in
-          let forms = range_forms true 0 b.ending.to in
-          let bases = all_front (λ (d : Delta). d.epoch ≤ epoch_of t.lineage) (base_deltas t.base) (map delta_in t.cumulatives ++ t.singles) shaped.epochs in
-          let own = subst (λ o. AllByRecursion (λ (d : Delta). d.epoch ≤ epoch_of t.lineage) (base_deltas o)) b.base bases in
-          replaces_altered rows t.lineage c b.ending.delta olds default own.0
-          (all_so (HasForm rows t.lineage) (λ (d : Delta). d.epoch ≤ epoch_of t.lineage) olds (λ d has. has.epoch) forms)
-          (all_so (HasForm rows t.lineage) (λ (d : Delta). AreRowsOf (columns_of t.lineage) (present rows t.lineage d)) olds (λ d has. form_now rows t.lineage d shaped.lineage has) forms) b.replaces
+  base_more : (o : Option Ending) → AllByRecursion E (base_deltas o) → IfSome o (λ (e : Ending). IsMadeOf rows t.lineage written 0 e.to e.delta) → IfSome o (λ (e : Ending). IsMadeOf rows (with_change t.lineage c) written 0 e.to e.delta)
+  base_more None les made = made
+  base_more (Some e) les made = made_more 0 e.to e.delta les.0 made
 
--- a version more
-abbrev with_single : Stock → Delta → Stock
-with_single t d = record t { singles = t.singles ++ d ∷ [] }
+  endings_more : (es : List Ending) → AllByRecursion E (map delta_in es) → AllByRecursion (λ (e : Ending). IsMadeOf rows t.lineage written (start_in t) e.to e.delta) es → AllByRecursion (λ (e : Ending). IsMadeOf rows (with_change t.lineage c) written (start_in t) e.to e.delta) es
+  endings_more [] les all = tt
+  endings_more (e ∷ es) les all = (made_more (start_in t) e.to e.delta les.0 all.0, endings_more es les.1 all.1)
 
-single_sourced : (rows : Rows) (t full : Stock) (d : Delta) → IsSourced rows t full → HasForm rows t.lineage d → IsSourced rows (with_single t d) (with_single full d)
-single_sourced rows t full d sourced has =
-    let versions = sourced.versions in
+  singles_more : (version : ℕ) (ds : List Delta) → AllByRecursion E ds → AreMadeOf rows t.lineage written version ds → AreMadeOf rows (with_change t.lineage c) written version ds
+  singles_more version [] les all = tt
+  singles_more version (d ∷ ds) les all = (made_more version version d les.0 all.0, singles_more (version + 1) ds les.1 all.1)
+
+  pub altered_sourced : IsSourced rows written (stock_changed t c)
+  altered_sourced =
+      let rest = all_back E (base_deltas t.base) (map delta_in t.cumulatives ++ t.singles) shaped.epochs in
+      record {
+        are = record { rise = sourced.are.rise; forms = all_so (λ (w : Written). HasForm t.lineage w.source) (λ (w : Written). HasForm (with_change t.lineage c) w.source) written (λ w has. form_more t.lineage c w.source has) sourced.are.forms };
+        there = sourced.there;
+        base = base_more t.base (all_front E (base_deltas t.base) (map delta_in t.cumulatives ++ t.singles) shaped.epochs) sourced.base;
+        cumulatives = endings_more t.cumulatives (all_front E (map delta_in t.cumulatives) t.singles rest) sourced.cumulatives;
+        singles = singles_more (start_in t) t.singles (all_back E (map delta_in t.cumulatives) t.singles rest) sourced.singles;
+      }
+
+-- a merged range
+made_drop : (rows : Rows) (l : Lineage) (written : List Written) (version n : ℕ) (ds : List Delta) → AreMadeOf rows l written version ds → AreMadeOf rows l written (version + n) (drop n ds)
+made_drop rows l written version zero ds all = (let e : version + 0 ≡ version = omega arith in subst (λ v. AreMadeOf rows l written v ds) (sym e) all)
+made_drop rows l written version (suc n) [] all = tt
+made_drop rows l written version (suc n) (d ∷ ds) all = (let e : version + 1 + n ≡ version + suc n = omega arith in subst (λ v. AreMadeOf rows l written v (drop n ds)) e (made_drop rows l written (version + 1) n ds all.1))
+
+pub swapped_sourced : (rows : Rows) (written : List Written) (t : Stock) (base : Bool) (to : ℕ) (d : Delta) (sourced : IsSourced rows written t) → start_in t ≤ to + 1 → to + 1 ≤ start_in t + length t.singles
+    → IsMadeOf rows t.lineage written (first rows written t sourced base) to d → IsSourced rows written (stock_swapped t base to d)
+swapped_sourced rows written t true to d sourced le within made =
+    let n = to + 1 - start_in t in
+    let cut = length-drop n t.singles in
+    let from : start_in t + n ≡ to + 1 = omega (arith, le) in
+    let same : to + 1 + length (drop n t.singles) ≡ start_in t + length t.singles = omega (arith, cut, le, within) in
     record {
-      lineage = sourced.lineage;
-      versions = omega (arith, versions, length-append t.singles (d ∷ []), length-append full.singles (d ∷ []));
-      forms = subst (AllByRecursion (HasForm rows t.lineage)) (append_assoc (base_deltas full.base) full.singles (d ∷ [])) (all_append (HasForm rows t.lineage) (base_deltas full.base ++ full.singles) (d ∷ []) sourced.forms (has, tt));
-      by = ⊎_elim (λ u. inl (record { base = u.base; singles = ap (λ xs. xs ++ d ∷ []) u.singles })) (λ b. inr (rebased b)) sourced.by;
+      are = sourced.are;
+      there = subst (λ k. AllByRecursion (λ (w : Written). w.version < k) written) (sym same) sourced.there;
+      base = made;
+      cumulatives = tt;
+      singles = subst (λ v. AreMadeOf rows t.lineage written v (drop n t.singles)) from (made_drop rows t.lineage written (start_in t) n t.singles sourced.singles);
     }
-  where
-    rebased : IsRebased rows t full → IsRebased rows (with_single t d) (with_single full d)
-    rebased b =
-        let e = b.ending in
-        let n = e.to + 1 - start_in full in
-        let begin = start_at rows t full sourced e b.base in
-        let versions = sourced.versions in
-        let behind = b.behind in
-        let le : n ≤ length full.singles = omega (arith, begin, versions, behind) in
-        let front : deltas_to (with_single full d) e.to ≡ deltas_to full e.to = ap (λ xs. base_deltas full.base ++ xs) (take-append-le n full.singles (d ∷ []) le) in
-        record {
-          ending = e;
-          base = b.base;
-          behind = b.behind;
-          replaces = subst (Replaces rows t.lineage e.delta) (sym front) b.replaces;
-          singles = ap (λ xs. xs ++ d ∷ []) b.singles ∙ sym (drop-append-le n full.singles (d ∷ []) le);
-        }
-
-pub loaded_sourced : (rows : Rows) (t full : Stock) (p : Option Part) → IsSourced rows t full → HasForm rows t.lineage (loaded_delta p) → IsSourced rows (stock_loaded t p) (stock_loaded full p)
-loaded_sourced rows t full None sourced has = same (single_sourced rows t full empty_delta sourced has)
-  where
-    same : IsSourced rows (with_single t empty_delta) (with_single full empty_delta) → IsSourced rows (stock_loaded t None) (stock_loaded full None)
-    same s = record { lineage = s.lineage; versions = s.versions; forms = s.forms; by = ⊎_elim (λ u. inl (record { base = u.base; singles = u.singles })) (λ b. inr (record { ending = b.ending; base = b.base; behind = b.behind; replaces = b.replaces; singles = b.singles })) s.by }
-loaded_sourced rows t full (Some p) sourced has = same (single_sourced rows t full (part_delta p) sourced has)
-  where
-    same : IsSourced rows (with_single t (part_delta p)) (with_single full (part_delta p)) → IsSourced rows (stock_loaded t (Some p)) (stock_loaded full (Some p))
-    same s = record { lineage = s.lineage; versions = s.versions; forms = s.forms; by = ⊎_elim (λ u. inl (record { base = u.base; singles = u.singles })) (λ b. inr (record { ending = b.ending; base = b.base; behind = b.behind; replaces = b.replaces; singles = b.singles })) s.by }
+swapped_sourced rows written t false to d sourced le within made = record {
+  are = sourced.are;
+  there = sourced.there;
+  base = sourced.base;
+  cumulatives = all_append (λ (e : Ending). IsMadeOf rows t.lineage written (start_in t) e.to e.delta) t.cumulatives (record { to = to; delta = d } ∷ []) sourced.cumulatives (made, tt);
+  singles = sourced.singles;
+}

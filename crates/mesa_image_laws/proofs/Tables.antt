@@ -33,7 +33,7 @@ no_rows rows l [] all = refl
 no_rows rows l (d ∷ ds) all =
     ap (λ (files : Option Files). map (lifted l d.epoch (epoch_of l)) (rows_in rows (record d { files = files })) ++ rows_of (map (present rows l) ds)) all.0 ∙ no_rows rows l ds all.1
 
-folds_nothing : (aggs : List Agg) (parts : List (List Row)) → rows_of parts ≡ [] → folded aggs parts ≡ []
+pub folds_nothing : (aggs : List Agg) (parts : List (List Row)) → rows_of parts ≡ [] → folded aggs parts ≡ []
 folds_nothing aggs parts is = ap (λ rs. map (folded_at aggs rs) (keys_of rs)) is
 
 all_copies : (n k : ℕ) → AllByRecursion IsEmpty (take k (replicate n empty_delta))
@@ -42,7 +42,7 @@ all_copies zero (suc k) = tt
 all_copies (suc n) zero = tt
 all_copies (suc n) (suc k) = (refl, all_copies n k)
 
-base_is_empty : (o : Option ℕ) → AllByRecursion IsEmpty (base_deltas (option_map empty_base o))
+pub base_is_empty : (o : Option ℕ) → AllByRecursion IsEmpty (base_deltas (option_map empty_base o))
 base_is_empty None = tt
 base_is_empty (Some to) = (refl, tt)
 

@@ -79,7 +79,7 @@ pub ranges_same : (c : Catalog) (table : ℕ) → slice_set (map ranges_of c.tab
 ranges_same c table = ap (slice_set (map ranges_of c.tables) table) (sym (map_at ranges_of c.tables table no_stock)) ∙ set_same (map ranges_of c.tables) table (ranges_of no_stock)
 
 -- an element of a mapped list, where it is there
-map_within : {A B : Type 0} (f : A → B) (xs : List A) (n : ℕ) (none : B) (d : A) → n < length xs → slice_index_or (map f xs) n none ≡ f (slice_index_or xs n d)
+pub map_within : {A B : Type 0} (f : A → B) (xs : List A) (n : ℕ) (none : B) (d : A) → n < length xs → slice_index_or (map f xs) n none ≡ f (slice_index_or xs n d)
 map_within f [] n none d lt = absurd (omega (arith, lt))
 map_within f (x ∷ xs) zero none d lt = refl
 map_within f (x ∷ xs) (suc n) none d lt = map_within f xs n none d (omega (arith, lt))

@@ -1,53 +1,131 @@
--- What a table's deltas were merged of: the deltas of a table in which nothing was swapped since the rows were told.
-use Rattle.std.specs.Prelude.{◌≡◌, ◌⊎◌, ℕ, ◌+◌, ◌-◌, ◌≤◌, List, ◌++◌, map, take, drop, length, Some, Bool, true, false}
+-- What the rows of a delta were made of: what a run found of a table when it began, and what the batches brought to it since.
+use Rattle.std.specs.Prelude.{◌≡◌, ℕ, ◌+◌, ◌<◌, ◌≤◌, List, [], ◌∷◌, ◌++◌, map, filter, length, ◌&&◌, nat_le, Option, None, Some, IfSome, ⊤}
 use Rattle.std.specs.List.{AllByRecursion}
-use Rattle.mesa_schema.specs.Changes.{Lineage, columns_at, epoch_of}
+use Rattle.mesa_schema.specs.Changes.{Lineage, columns_at, columns_of, epoch_of}
 use Rattle.mesa_schema.specs.Rows.{AreRowsOf}
-use Rattle.mesa_history.specs.Sources.{Source, range_rows}
-use Rattle.mesa_image.specs.Catalog.{Delta, Ending, Stock, start_in}
-use Rattle.mesa_image.specs.Fitting.{base_deltas}
-use Rattle.mesa_image.specs.Contents.{Rows, deltas_to, rows_in}
-use Rattle.mesa_image_laws.specs.Brought.{Replaces}
+use Rattle.mesa_batch.specs.Batch.{Placed, rows_for}
+use Rattle.mesa_span.specs.Ranges.{Rise}
+use Rattle.mesa_history.specs.Law.{Accepted}
+use Rattle.mesa_history.specs.Sources.{Source, source_in, range_rows}
+use Rattle.mesa_image.specs.Catalog.{Catalog, Delta, Ending, Stock, start_in}
+use Rattle.mesa_image.specs.Contents.{Rows, rows_in, present}
 
--- a delta's rows as they were written
+-- ---- what was written
+
+-- Rows of a table as they were first written, and the version that they made.
+pub record Written : Type 0 where
+  pub version : ℕ
+  pub source : Source
+
+-- a delta's rows as it has them
 abbrev pub source_of : Rows → Delta → Source
 source_of rows d = record { epoch = d.epoch; rows = rows_in rows d }
 
--- deltas of epochs up to this one
-abbrev pub AreOfEpochs : ℕ → List Delta → Type 0
-AreOfEpochs epoch ds = AllByRecursion (λ (d : Delta). d.epoch ≤ epoch) ds
+-- the singletons from a version on
+abbrev pub singles_written : Rows → ℕ → List Delta → List Written
+singles_written rows version [] = []
+singles_written rows version (d ∷ singles) = record { version = version; source = source_of rows d } ∷ singles_written rows (version + 1) singles
 
--- A delta is of an epoch that the table had, and its rows have the form of that epoch's columns.
-pub record HasForm (rows : Rows) (l : Lineage) (d : Delta) : Type 0 where
-  pub epoch : d.epoch ≤ epoch_of l
-  pub form : AreRowsOf (columns_at l d.epoch) (rows_in rows d)
+-- the base, as if its last version had made all of it
+abbrev pub base_written : Rows → Option Ending → List Written
+base_written rows None = []
+base_written rows (Some e) = record { version = e.to; source = source_of rows e.delta } ∷ []
 
--- Nothing was swapped in.
-pub record IsUnswapped (t full : Stock) : Type 0 where
-  pub base : t.base ≡ full.base
-  pub singles : t.singles ≡ full.singles
+-- What a run finds written of a table: its base and its singletons.
+abbrev pub found_written : Rows → Stock → List Written
+found_written rows t = base_written rows t.base ++ singles_written rows (start_in t) t.singles
 
--- A base was swapped in: it takes the place of all deltas to its end, and the singletons behind it are still there.
-pub record IsRebased (rows : Rows) (t full : Stock) : Type 0 where
-  pub ending : Ending
-  pub base : t.base ≡ Some ending
-  pub behind : start_in full ≤ ending.to + 1
-  pub replaces : Replaces rows t.lineage ending.delta (deltas_to full ending.to)
-  pub singles : t.singles ≡ drop (ending.to + 1 - start_in full) full.singles
+-- what an accepted batch writes of the table of a number
+abbrev pub batch_written : ℕ → Accepted → Written
+batch_written number a = record { version = a.version; source = source_in number a }
 
--- A table stands for the same as one of the same columns and versions in which nothing was swapped.
-pub record IsSourced (rows : Rows) (t full : Stock) : Type 0 where
-  pub lineage : full.lineage ≡ t.lineage
-  pub versions : start_in full + length full.singles ≡ start_in t + length t.singles
-  pub forms : AllByRecursion (HasForm rows t.lineage) (base_deltas full.base ++ full.singles)
-  pub by : IsUnswapped t full ⊎ IsRebased rows t full
+-- All that was written of the table of a number: what the run found, and the batches that it accepted.
+abbrev pub all_written : (ℕ → List Written) → List Accepted → ℕ → List Written
+all_written found accepted number = found number ++ map (batch_written number) accepted
 
--- the deltas of a work's range, from its first version to its last, in a table in which nothing was swapped
-abbrev pub source_deltas : Stock → Bool → ℕ → ℕ → List Delta
-source_deltas full true from to = deltas_to full to
-source_deltas full false from to = take (to + 1 - from) (drop (from - start_in full) full.singles)
+abbrev pub source_written : Written → Source
+source_written w = w.source
 
--- A delta has the rows to which the deltas of a work's range fold, in the delta's own epoch, up to which they are.
-pub record IsMergedOf (rows : Rows) (l : Lineage) (d : Delta) (olds : List Delta) : Type 0 where
-  pub epochs : AreOfEpochs d.epoch olds
-  pub rows_are : rows_in rows d ≡ range_rows l d.epoch (map (source_of rows) olds)
+abbrev pub version_written : Written → ℕ
+version_written w = w.version
+
+-- what was written from one version to another
+abbrev pub sources_from : ℕ → ℕ → List Written → List Source
+sources_from from to written = map source_written (filter (λ (w : Written). nat_le from w.version && nat_le w.version to) written)
+
+-- Rows are of an epoch that the table had, and have the form of its columns then.
+pub record HasForm (l : Lineage) (s : Source) : Type 0 where
+  pub epoch : s.epoch ≤ epoch_of l
+  pub form : AreRowsOf (columns_at l s.epoch) s.rows
+
+-- What was written of a table, by rising versions, each in the form of its epoch.
+pub record AreWritten (l : Lineage) (written : List Written) : Type 0 where
+  pub rise : Rise 0 (map version_written written)
+  pub forms : AllByRecursion (λ (w : Written). HasForm l w.source) written
+
+-- ---- what deltas were made of
+
+-- A delta that covers these versions has, lifted to the present epoch, the rows to which what was written in them folds.
+abbrev pub IsMadeOf : Rows → Lineage → List Written → ℕ → ℕ → Delta → Type 0
+IsMadeOf rows l written from to d = present rows l d ≡ range_rows l (epoch_of l) (sources_from from to written)
+
+-- so each singleton from a version on
+abbrev pub AreMadeOf : Rows → Lineage → List Written → ℕ → List Delta → Type 0
+AreMadeOf rows l written version [] = ⊤
+AreMadeOf rows l written version (d ∷ singles) = IsMadeOf rows l written version version d × AreMadeOf rows l written (version + 1) singles
+
+-- What was written of a table is of versions that are there, and each of its deltas has the rows of its range: the base those from the first version on, a cumulative those behind the base, and a singleton those of its version.
+pub record IsSourced (rows : Rows) (written : List Written) (t : Stock) : Type 0 where
+  pub are : AreWritten t.lineage written
+  pub there : AllByRecursion (λ (w : Written). w.version < start_in t + length t.singles) written
+  pub base : IfSome t.base (λ (e : Ending). IsMadeOf rows t.lineage written 0 e.to e.delta)
+  pub cumulatives : AllByRecursion (λ (e : Ending). IsMadeOf rows t.lineage written (start_in t) e.to e.delta) t.cumulatives
+  pub singles : AreMadeOf rows t.lineage written (start_in t) t.singles
+
+-- so each table from a number on
+abbrev pub AreSourced : Rows → (ℕ → List Written) → ℕ → List Stock → Type 0
+AreSourced rows written number [] = ⊤
+AreSourced rows written number (t ∷ tables) = IsSourced rows (written number) t × AreSourced rows written (number + 1) tables
+
+-- ---- what a work makes
+
+-- A delta has, in its own epoch, the rows to which what was written in a range folds, all of which is of that epoch or an earlier one.
+pub record IsMergedOf (rows : Rows) (l : Lineage) (written : List Written) (from to : ℕ) (d : Delta) : Type 0 where
+  pub epochs : AllByRecursion (λ (s : Source). s.epoch ≤ d.epoch) (sources_from from to written)
+  pub rows_are : rows_in rows d ≡ range_rows l d.epoch (sources_from from to written)
+
+-- Nothing is written: no rows, in the first epoch.
+abbrev pub IsUnwritten : Written → Type 0
+IsUnwritten w = (w.source.epoch ≡ 0) × (w.source.rows ≡ [])
+
+-- ---- a whole catalogue
+
+-- What was written of a table to come: nothing yet, in versions that were there.
+pub record AreToCome (next : ℕ) (written : List Written) : Type 0 where
+  pub nothing : AllByRecursion IsUnwritten written
+  pub rise : Rise 0 (map version_written written)
+  pub there : AllByRecursion (λ (w : Written). w.version < next) written
+
+-- Each table of a catalogue was made of what was written of it, and of other tables nothing was written yet.
+pub record HasSources (rows : Rows) (written : ℕ → List Written) (c : Catalog) : Type 0 where
+  pub tables : AreSourced rows written 0 c.tables
+  pub others : (number : ℕ) → length c.tables ≤ number → AreToCome c.next (written number)
+
+-- what is written once a batch is accepted
+abbrev pub written_with : (ℕ → List Written) → Accepted → ℕ → List Written
+written_with written a number = written number ++ batch_written number a ∷ []
+
+abbrev pub epoch_in : Stock → ℕ
+epoch_in t = epoch_of t.lineage
+
+-- A batch's rows for each table from a number on have the form of its present columns.
+abbrev pub AreFormed : List Placed → ℕ → List Stock → Type 0
+AreFormed batch number [] = ⊤
+AreFormed batch number (t ∷ tables) = AreRowsOf (columns_of t.lineage) (rows_for number batch) × AreFormed batch (number + 1) tables
+
+-- A batch is accepted as a catalogue's next version: it has the present epochs, and rows of the present form for the tables that are there.
+pub record IsAccepted (c : Catalog) (a : Accepted) : Type 0 where
+  pub version : a.version ≡ c.next
+  pub epochs : a.epochs ≡ map epoch_in c.tables
+  pub formed : AreFormed a.batch 0 c.tables
+  pub within : (number : ℕ) → length c.tables ≤ number → rows_for number a.batch ≡ []

@@ -7,6 +7,7 @@ ghost use Rattle.mesa_image.specs.Shape.{IsCatalog};
 ghost use Rattle.mesa_image.specs.Sound.{AreStocked, wants};
 ghost use Rattle.mesa_image_laws.specs.Brought.{Agree};
 ghost use Rattle.mesa_image_laws.specs.Ids.{HasOwnIds, IsNewId, brought_ids, dropped_ids, named, times};
+ghost use Rattle.mesa_image_laws.specs.Sourced.{HasSources, Written};
 ghost use Rattle.mesa_key.specs.Spelling.{AreBytes};
 ghost use Rattle.mesa_record.specs.declared.record.Record.{Record as RecordOf};
 ghost use Rattle.mesa_record.specs.declared.record.Record.TheVariants as record_of;
@@ -49,5 +50,6 @@ pub fn catalogs_own_ids()
 pub fn rows_count_where_named()
     ensures kept { (old new : Rows) (c : Catalog) → Agree old new (shelved c) → kept_of new c ≡ kept_of old c }
     ensures stocked { (old new : Rows) (c : Catalog) → Agree old new (shelved c) → AreStocked old c → AreStocked new c }
+    ensures sourced { (old new : Rows) (written : ℕ → List Written) (c : Catalog) → Agree old new (shelved c) → HasSources old written c → HasSources new written c }
     ensures wanted { (old new : Rows) (files : List Shelved) → Agree old new files → wants new files ≡ wants old files }
 {}

@@ -1,41 +1,64 @@
-// What deltas were merged of.
-ghost use Rattle.mesa_image.specs.Catalog.{Delta, Stock, start_in, stock_changed, stock_loaded, stock_swapped, stock_viewed};
-ghost use Rattle.mesa_image.specs.Contents.{Rows, content};
-ghost use Rattle.mesa_image.specs.Fitting.{delta_shelved};
-ghost use Rattle.mesa_image.specs.Shape.{IsShaped};
-ghost use Rattle.mesa_image.specs.Sound.{IsStocked, IsTold};
-ghost use Rattle.mesa_image_laws.specs.Brought.{Replaces, loaded_delta, merged_of};
-ghost use Rattle.mesa_image_laws.specs.Sourced.{IsMergedOf, IsSourced, source_deltas};
+// What the rows of deltas were made of.
+ghost use Rattle.mesa_history.specs.Law.{Accepted};
+ghost use Rattle.mesa_history.specs.Sources.{range_rows};
+ghost use Rattle.mesa_image.specs.Catalog.{Catalog, Delta, applied, merged_delta, stock_at};
+ghost use Rattle.mesa_image.specs.Contents.{Rows, content, present};
+ghost use Rattle.mesa_image.specs.Fitting.{fits, may_be_work};
+ghost use Rattle.mesa_image.specs.Shape.{IsCatalog};
+ghost use Rattle.mesa_image.specs.Sound.{AreStocked};
+ghost use Rattle.mesa_image_laws.specs.Brought.{BringsAll, Replaces, merged_of};
+ghost use Rattle.mesa_image_laws.specs.Sourced.{HasSources, IsAccepted, IsMadeOf, IsMergedOf, Written, found_written, sources_from, written_with};
+ghost use Rattle.mesa_record.specs.declared.record.Files.{Files as FilesOf};
 ghost use Rattle.mesa_record.specs.declared.record.Part.{Part as PartOf};
-ghost use Rattle.mesa_schema.specs.Changes.{epoch_of};
+ghost use Rattle.mesa_record.specs.declared.record.Record.TheVariants as record_of;
+ghost use Rattle.mesa_record.specs.Rules.{IsTypedChange};
+ghost use Rattle.mesa_schema.specs.Changes.{columns_of, epoch_of};
+ghost use Rattle.mesa_schema.specs.Columns.{aggs_of};
 ghost use Rattle.mesa_schema.specs.declared.changes.Change.{Change as ChangeOf};
-ghost use Rattle.mesa_schema.specs.Lineages.{HasDefault, IsLineage};
-ghost use Rattle.std.specs.List.{AllByRecursion};
-ghost use Rattle.std.specs.Prelude.{◌≡◌, ◌+◌, ◌≤◌, ℕ, Bool, List, Option, length};
+ghost use Rattle.mesa_schema.specs.declared.columns.KeyColumn.{KeyColumn as KeyOf};
+ghost use Rattle.mesa_schema.specs.declared.columns.ValueColumn.{ValueColumn as ValueOf};
+ghost use Rattle.mesa_schema.specs.Folded.{folded};
+ghost use Rattle.std.specs.Prelude.{◌≡◌, ◌≤◌, ◌<◌, ℕ, Bool, List, Option, length, map, true};
 
-/// A table of a sound image stands for itself, before anything is swapped.
+/// A sound catalogue was made of what a run finds written of it.
 pub fn sources_begin()
-    ensures { (rows : Rows) (oldest next : ℕ) (t : Stock) → IsShaped oldest next t → IsStocked rows t → IsSourced rows t t }
+    ensures { (rows : Rows) (c : Catalog) → IsCatalog c → AreStocked rows c → HasSources rows (λ number. found_written rows (stock_at c number)) c }
 {}
 
-/// A table goes on to stand for the same as one in which nothing is swapped: through batches, views
-/// and changes, which come to both, and through merged ranges, which come to it alone.
+/// Deltas are made of what was written, whatever records come: a batch adds what it brings to what
+/// was written; a merged range was made of what was written in it.
 pub fn sources_go_on()
-    ensures loaded { (rows : Rows) (t full : Stock) (p : Option PartOf) → IsSourced rows t full → (loaded_delta p).epoch ≤ epoch_of t.lineage → AllByRecursion (IsTold rows) (delta_shelved t.lineage (loaded_delta p))
-        → IsSourced rows (stock_loaded t p) (stock_loaded full p) }
-    ensures viewed { (rows : Rows) (t full : Stock) (name : List ℕ) (keys values : List (List ℕ)) → IsSourced rows t full → IsSourced rows (stock_viewed t name keys values) (stock_viewed full name keys values) }
-    ensures changed { (rows : Rows) (oldest next : ℕ) (t full : Stock) (change : ChangeOf) → IsSourced rows t full → IsShaped oldest next t → HasDefault change → IsSourced rows (stock_changed t change) (stock_changed full change) }
-    ensures swapped { (rows : Rows) (t full : Stock) (d : Delta) (base : Bool) (to : ℕ) → IsSourced rows t full → start_in t ≤ to + 1 → to + 1 ≤ start_in t + length t.singles
-        → Replaces rows t.lineage d (source_deltas full base (start_in t) to) → IsSourced rows (stock_swapped t base to d) full }
+    ensures run { (rows : Rows) (written : ℕ → List Written) (c : Catalog) (number : ℕ) → HasSources rows written c → HasSources rows written (applied c (record_of.Run number)) }
+    ensures table { (rows : Rows) (written : ℕ → List Written) (c : Catalog) (name : List ℕ) (keys : List KeyOf) (values : List ValueOf) → IsCatalog c → HasSources rows written c
+        → HasSources rows written (applied c (record_of.Table name keys values)) }
+    ensures view { (rows : Rows) (written : ℕ → List Written) (c : Catalog) (table : ℕ) (name : List ℕ) (keys values : List (List ℕ)) → IsCatalog c → AreStocked rows c → HasSources rows written c
+        → fits c (record_of.View table name keys values) ≡ true → HasSources rows written (applied c (record_of.View table name keys values)) }
+    ensures alter { (rows : Rows) (written : ℕ → List Written) (c : Catalog) (table : ℕ) (change : ChangeOf) → IsCatalog c → HasSources rows written c
+        → fits c (record_of.Alter table change) ≡ true → IsTypedChange change → HasSources rows written (applied c (record_of.Alter table change)) }
+    ensures publish { (rows : Rows) (written : ℕ → List Written) (c : Catalog) (version : ℕ) (parts : List PartOf) (a : Accepted) → IsCatalog c → HasSources rows written c
+        → IsAccepted c a → BringsAll rows parts a.batch 0 c.tables → HasSources rows (written_with written a) (applied c (record_of.Publish version parts)) }
+    ensures swap { (rows : Rows) (written : ℕ → List Written) (c : Catalog) (table : ℕ) (base : Bool) (from to epoch : ℕ) (files : Option FilesOf) → IsCatalog c → HasSources rows written c
+        → fits c (record_of.Swap table base from to epoch files) ≡ true → IsMadeOf rows (stock_at c table).lineage (written table) from to (merged_delta epoch files)
+        → HasSources rows written (applied c (record_of.Swap table base from to epoch files)) }
+    ensures expire { (rows : Rows) (written : ℕ → List Written) (c : Catalog) (version : ℕ) → HasSources rows written c → HasSources rows written (applied c (record_of.Expire version)) }
 {}
 
-/// A content is that of the table in which nothing was swapped. A delta that was merged in its own
-/// epoch of a range's sources takes their place at present, whatever changes came since, and that of
-/// what the table has of the range now.
+/// A content is the fold of what was written to its version, and what a work reads that of what was
+/// written in its range.
 pub fn sources_tell()
-    ensures contents { (rows : Rows) (t full : Stock) (version : ℕ) → IsSourced rows t full → start_in t ≤ version + 1 → content rows t version ≡ content rows full version }
-    ensures merged { (rows : Rows) (t full : Stock) (d : Delta) (base : Bool) (from to : ℕ) → IsSourced rows t full → IsLineage t.lineage → IsMergedOf rows t.lineage d (source_deltas full base from to)
-        → Replaces rows t.lineage d (source_deltas full base from to) }
-    ensures now { (rows : Rows) (t full : Stock) (d : Delta) (base : Bool) (to : ℕ) → IsSourced rows t full → start_in t ≤ to + 1 → Replaces rows t.lineage d (source_deltas full base (start_in t) to)
-        → Replaces rows t.lineage d (merged_of t base to) }
+    ensures contents { (rows : Rows) (written : ℕ → List Written) (c : Catalog) (table version : ℕ) → IsCatalog c → HasSources rows written c → table < length c.tables → c.oldest ≤ version → version < c.next
+        → content rows (stock_at c table) version ≡ range_rows (stock_at c table).lineage (epoch_of (stock_at c table).lineage) (sources_from 0 version (written table)) }
+    ensures works { (rows : Rows) (written : ℕ → List Written) (c : Catalog) (table : ℕ) (base : Bool) (from to : ℕ) → IsCatalog c → HasSources rows written c → table < length c.tables → may_be_work c (stock_at c table) base from to ≡ true
+        → folded (aggs_of (columns_of (stock_at c table).lineage)) (map (present rows (stock_at c table).lineage) (merged_of (stock_at c table) base to))
+        ≡ range_rows (stock_at c table).lineage (epoch_of (stock_at c table).lineage) (sources_from from to (written table)) }
+{}
+
+/// A delta that was merged in the epoch of its work's grant is made of its range at present,
+/// whatever changes came since, and may take the place of what the table has of the range.
+pub fn works_merge_sources()
+    ensures made { (rows : Rows) (written : ℕ → List Written) (c : Catalog) (table from to : ℕ) (d : Delta) → IsCatalog c → HasSources rows written c → table < length c.tables
+        → IsMergedOf rows (stock_at c table).lineage (written table) from to d → IsMadeOf rows (stock_at c table).lineage (written table) from to d }
+    ensures replaces { (rows : Rows) (written : ℕ → List Written) (c : Catalog) (table : ℕ) (base : Bool) (from to epoch : ℕ) (files : Option FilesOf) → IsCatalog c → HasSources rows written c
+        → fits c (record_of.Swap table base from to epoch files) ≡ true → IsMadeOf rows (stock_at c table).lineage (written table) from to (merged_delta epoch files)
+        → Replaces rows (stock_at c table).lineage (merged_delta epoch files) (merged_of (stock_at c table) base to) }
 {}

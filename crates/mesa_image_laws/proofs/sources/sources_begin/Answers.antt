@@ -1,5 +1,5 @@
-use Rattle.mesa_image_laws.proofs.Sourcing.{sourced_first}
+use Rattle.mesa_image_laws.proofs.AllSourced.{all_found}
 use Rattle.mesa_image_laws.proofs.sources.sources_begin.Goals as goal
 
 pub returns : goal.returns
-returns g rows oldest next t shaped stocked = sourced_first rows oldest next t shaped stocked
+returns g rows c is stocked = all_found rows c is stocked

@@ -1,11 +1,13 @@
-use Rattle.mesa_image_laws.proofs.Sourcing.{altered_sourced, form_told, loaded_sourced, swapped_sourced, viewed_sourced}
-use Rattle.mesa_image_laws.specs.Brought.{loaded_delta}
+use Rattle.mesa_image_laws.proofs.AllSourced.{alter_sourced, publish_sourced, swap_sourced, table_sourced, view_sourced}
 use Rattle.mesa_image_laws.proofs.sources.sources_go_on.Goals as goal
 
 pub returns : goal.returns
 returns g = record {
-  loaded = λ rows t full p sourced le told. loaded_sourced rows t full p sourced (form_told rows t.lineage (loaded_delta p) le told);
-  viewed = λ rows t full name keys values sourced. viewed_sourced rows t full sourced name keys values;
-  changed = λ rows oldest next t full change sourced shaped default. altered_sourced rows t full sourced oldest next change shaped default;
-  swapped = λ rows t full d base to sourced le within is. swapped_sourced rows t full sourced d base to le within is;
+  run = λ rows written c number has. record { tables = has.tables; others = has.others };
+  table = λ rows written c name keys values is has. table_sourced rows written c is has name keys values;
+  view = λ rows written c table name keys values is stocked has fit. view_sourced rows written c is has stocked table name keys values fit;
+  alter = λ rows written c table change is has fit typed. alter_sourced rows written c is has table change fit typed;
+  publish = λ rows written c version parts a is has accepted brings. publish_sourced rows written c is has parts a accepted version brings;
+  swap = λ rows written c table base from to epoch files is has fit made. swap_sourced rows written c is has table base from to epoch files fit made;
+  expire = λ rows written c version has. record { tables = has.tables; others = has.others };
 }
