@@ -20,7 +20,7 @@ use Rattle.mesa_walk.specs.Turns.{IsSeen}
 use Rattle.mesa_walk.specs.Walk.{Outset, IsWalk, Counts, run_of}
 use Rattle.mesa_walk.proofs.Beginning.{unmoved_walk}
 use Rattle.mesa_ledger.specs.Ledger.{Ledger, books_of, next_id}
-use Rattle.mesa_ledger.specs.Sourced.{AreSourced, all_written}
+use Rattle.mesa_image_laws.specs.Sourced.{HasSources, all_written}
 use Rattle.mesa_ledger.specs.Vault.{Origin, IsReady, IsVault, Starts, IsVaultAt, outset_of}
 use Rattle.mesa_ledger.proofs.Standing.{held_unmoved, ready_unmoved, there_unmoved}
 
@@ -31,13 +31,12 @@ first_ledger o c generation end = record { catalogue = c; generation = generatio
 -- Before the first turn.
 pub started_vault : (o : Outset) (g : Origin) (sound : Bool) (c : Catalog) (end : ℕ) (story : Story) (held : Option (List ℕ)) (rows : Rows) (bodies : List (List ℕ)) → IsWalk o sound (books_of rows (first_ledger o c g.generation end)) story held [] true false
     → HasRanges o.start → o.start.machine.leases.granted ≡ 0 → (IsTrue sound → story.moment < last → IsHeld story bodies end c rows) → IsCatalog c → HasOwnIds c → ((id : ℕ) → Among id (named c) → id < next_id (first_ledger o c g.generation end))
-    → IsReady (first_ledger o c g.generation end) story → (IsTrue sound → AreStocked rows c) → (IsTrue sound → AreSourced rows (all_written g.found []) 0 c.tables c.tables) → IsVault o g sound (first_ledger o c g.generation end) story held [] true false
+    → IsReady (first_ledger o c g.generation end) story → (IsTrue sound → AreStocked rows c) → (IsTrue sound → HasSources rows (all_written g.found []) c) → IsVault o g sound (first_ledger o c g.generation end) story held [] true false
 unfolding count_in accepted_in
 started_vault o g sound c end story held rows bodies walk ranges none stands shaped own named_given ready stocked sourced = record {
   rows = rows;
   bodies = bodies;
   seen = λ position. c;
-  full = c.tables;
   walk = walk;
   ranges = ranges;
   stands = λ ok low is. stands ok low;
@@ -59,7 +58,6 @@ unmoved_vault o g sound l story new held h running refused same counts v = recor
   rows = v.rows;
   bodies = v.bodies;
   seen = v.seen;
-  full = v.full;
   walk = unmoved_walk o sound (books_of v.rows l) story new held h running refused same counts v.walk;
   ranges = v.ranges;
   stands = λ ok low is. held_unmoved story new same v.bodies l.end l.catalogue v.rows (v.stands ok (subst (λ m. m < last) same.moment low) is);

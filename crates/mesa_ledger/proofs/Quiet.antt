@@ -12,7 +12,7 @@ use Rattle.mesa_image_laws.specs.Ids.{named}
 use Rattle.mesa_trash.specs.Holding.{AreFiled}
 use Rattle.mesa_walk.specs.Walk.{Outset, WalksOn}
 use Rattle.mesa_ledger.specs.Ledger.{HeldPin, OpenQuery, Ledger, books_of, next_id, most_files, holders, ids_held}
-use Rattle.mesa_ledger.specs.Sourced.{AreSourced, all_written}
+use Rattle.mesa_image_laws.specs.Sourced.{HasSources, all_written}
 use Rattle.mesa_ledger.specs.Vault.{Origin, IsReady, IsVault}
 use Rattle.mesa_ledger.proofs.Accepting.{silent_accepts, silent_changes}
 use Rattle.mesa_ledger.proofs.Holding.{AreKept}
@@ -35,7 +35,6 @@ module _ (o : Outset) (g : Origin) (sound : Bool) (l : Ledger) (story : Story) (
       rows = v.rows;
       bodies = v.bodies;
       seen = seen;
-      full = v.full;
       walk = on.walk;
       ranges = v.ranges;
       stands = λ ok below is. held_unmoved story new same v.bodies l.end l.catalogue v.rows (v.stands ok (subst (λ m. m < last) same.moment below) (opened is));
@@ -53,7 +52,7 @@ module _ (o : Outset) (g : Origin) (sound : Bool) (l : Ledger) (story : Story) (
       ready = λ is. ready_unmoved story new same after (was_ready is);
       there = λ ok below i is. kept.there ok (subst (λ m. m < last) same.moment below) i (sym same.told ∙ is);
       stocked = λ ok. ((v.stocked ok).0, kept.stocked ok);
-      sourced = λ ok. subst (λ a. AreSourced v.rows (all_written g.found a) 0 l.catalogue.tables v.full) (sym (silent_accepts o.script (begins o.start) h e on.silent)) (v.sourced ok);
+      sourced = λ ok. subst (λ a. HasSources v.rows (all_written g.found a) l.catalogue) (sym (silent_accepts o.script (begins o.start) h e on.silent)) (v.sourced ok);
     }
       where
         more : length (h ++ e ∷ []) ≡ length h + 1

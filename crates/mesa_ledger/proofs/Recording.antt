@@ -14,7 +14,7 @@ use Rattle.mesa_model.specs.declared.entries.Entry.{Entry}
 use Rattle.mesa_model.specs.declared.replies.Reply.{Reply}
 use Rattle.mesa_history.specs.Counting.{one_if}
 use Rattle.mesa_history.specs.Run.{begins}
-use Rattle.mesa_image.specs.Catalog.{Stock, Catalog}
+use Rattle.mesa_image.specs.Catalog.{Catalog}
 use Rattle.mesa_image.specs.Held.{IsHeld}
 use Rattle.mesa_image.specs.Sound.{AreStocked}
 use Rattle.mesa_image_laws.proofs.Agreeing.{agree_stocked}
@@ -28,7 +28,7 @@ use Rattle.mesa_walk.specs.Sight.{is_of_schemas, tells_of_schemas, schema_change
 use Rattle.mesa_walk.specs.Walk.{Outset, WalksOn, WalksWith}
 use Rattle.mesa_ledger.specs.Ledger.{Ledger, books_of, first_id, next_id, past_id, most_files, Holder, holders, ids_held, files_held}
 use Rattle.mesa_ledger.specs.Recorded.{holds_in, waiting, removed_by, Adopts, IsRecorded, recorded_ledger, failed_ledger}
-use Rattle.mesa_ledger.specs.Sourced.{AreSourced, all_written}
+use Rattle.mesa_image_laws.specs.Sourced.{HasSources, all_written}
 use Rattle.mesa_ledger.specs.Vault.{Origin, AreThere, IsVault, written_by}
 use Rattle.mesa_ledger.proofs.Accepting.{silent_accepts, silent_changes, changes_more}
 use Rattle.mesa_ledger.proofs.Filing.{holds_are, filed_lost, filed_moved, filed_recorded, still_waits, old_agree, files_stay}
@@ -103,18 +103,17 @@ module _ (o : Outset) (g : Origin) (sound : Bool) (l : Ledger) (story : Story) (
     goes id had = subst (λ hs. Among id (named c) ⊎ (Among id (ids_of (kept hs (waiting l (length h) gone))) ⊎ Among id (ids_of (freed hs (waiting l (length h) gone))))) (holds_are v.seen l)
         (still_waits (length h) (next_id l) (named l.catalogue) l.trash pins v.filed made later_id adopts.given later_le (named c) gone recorded.renames id had)
 
-    module _ (generation : ℕ) (leases : Book) (end : ℕ) (bodies : List (List ℕ)) (full : List Stock) (rep : Reply) where
+    module _ (generation : ℕ) (leases : Book) (end : ℕ) (bodies : List (List ℕ)) (rep : Reply) where
       abbrev after : Ledger
       after = recorded_ledger l (length h) c generation gone leases adopted end
 
       -- The device work of the turn is done, and the ledger has its record.
       pub recorded_vault : WalksWith o sound (books_of later after) new new_held h e now told rep → (IsTrue sound → new.moment < last → l.closed ≡ None → IsHeld new bodies end c later) → (IsTrue sound → AreStocked later c) → (l.closed ≡ None → end < new.len Zero)
-          → leases.granted ≤ l.leases.granted → generation ≡ l.generation + one_if (is_of_schemas rep) → (IsTrue sound → AreSourced later (written_by o g.found (h ++ e ∷ [])) 0 c.tables full) → IsVault o g sound after new new_held (h ++ e ∷ []) now told
+          → leases.granted ≤ l.leases.granted → generation ≡ l.generation + one_if (is_of_schemas rep) → (IsTrue sound → HasSources later (written_by o g.found (h ++ e ∷ [])) c) → IsVault o g sound after new new_held (h ++ e ∷ []) now told
       recorded_vault on stands stocked long granted counted sourced = record {
         rows = later;
         bodies = bodies;
         seen = v.seen;
-        full = full;
         walk = on.walk;
         ranges = v.ranges;
         stands = stands;
@@ -152,7 +151,6 @@ module _ (o : Outset) (g : Origin) (sound : Bool) (l : Ledger) (story : Story) (
     rows = v.rows;
     bodies = v.bodies;
     seen = v.seen;
-    full = v.full;
     walk = on.walk;
     ranges = v.ranges;
     stands = λ ok low is. absurd (let never : Some position ≡ None = is in cc);
@@ -170,5 +168,5 @@ module _ (o : Outset) (g : Origin) (sound : Bool) (l : Ledger) (story : Story) (
     ready = λ is. absurd (let never : Some position ≡ None = is in cc);
     there = there_stays v.rows (λ id low. refl) (unheld_by c renames);
     stocked = λ ok. v.stocked ok;
-    sourced = λ ok. subst (λ a. AreSourced v.rows (all_written g.found a) 0 l.catalogue.tables v.full) (sym (silent_accepts o.script (begins o.start) h e on.silent)) (v.sourced ok);
+    sourced = λ ok. subst (λ a. HasSources v.rows (all_written g.found a) l.catalogue) (sym (silent_accepts o.script (begins o.start) h e on.silent)) (v.sourced ok);
   }

@@ -1,4 +1,3 @@
 pub mod Ledger
-pub mod Sourced
 pub mod Vault
 pub mod Recorded

@@ -11,18 +11,18 @@ use Rattle.mesa_model.specs.declared.entries.Entry.{Entry}
 use Rattle.mesa_history.specs.Claims.{HasRanges}
 use Rattle.mesa_history.specs.Law.{Accepted, accepted_in}
 use Rattle.mesa_history.specs.Run.{State, begins}
-use Rattle.mesa_image.specs.Catalog.{Stock, Catalog}
+use Rattle.mesa_image.specs.Catalog.{Catalog}
 use Rattle.mesa_image.specs.Held.{IsHeld}
 use Rattle.mesa_image.specs.Shape.{IsCatalog}
 use Rattle.mesa_image.specs.Sound.{AreStocked, StandsFor}
 use Rattle.mesa_image_laws.specs.Ids.{HasOwnIds, named}
+use Rattle.mesa_image_laws.specs.Sourced.{Written, all_written, HasSources}
 use Rattle.mesa_skeleton.specs.Rows.{Rows}
 use Rattle.mesa_trash.specs.Filed.{AreFresh, AreNamedOrWait, PinFiles}
 use Rattle.mesa_trash.specs.Holding.{AreFiled, ids_of}
 use Rattle.mesa_walk.specs.Sight.{schema_changes}
 use Rattle.mesa_walk.specs.Walk.{Outset, IsWalk}
 use Rattle.mesa_ledger.specs.Ledger.{HeldPin, Ledger, books_of, next_id, past_id, most_files, Holder, holders, ids_held, files_held}
-use Rattle.mesa_ledger.specs.Sourced.{Written, all_written, AreSourced}
 
 -- The batches that a run accepted so far.
 abbrev pub accepted_by : Outset → List Entry → List Accepted
@@ -70,12 +70,11 @@ pub record AreCounted (o : Outset) (g : Origin) (l : Ledger) (h : List Entry) : 
   pub adopted : l.adopted ≤ most_files * length h
   pub generation : l.generation ≡ g.generation + schema_changes o.script (begins o.start) h
 
--- What a vault keeps, for rows that its files may have, the catalogues that stood at its open queries' positions, and tables in which nothing was swapped: the walk of its history with the books of its ledger; that each image stands for its catalogue while it is open; the shape of its catalogues, and its counts; its files; and what its rows are and were made of.
+-- What a vault keeps, for rows that its files may have, and the catalogues that stood at its open queries' positions: the walk of its history with the books of its ledger; that each image stands for its catalogue while it is open; the shape of its catalogues, and its counts; its files; and what its rows are and were made of.
 pub record IsVault (o : Outset) (g : Origin) (sound : Bool) (l : Ledger) (story : Story) (held : Option (List ℕ)) (h : List Entry) (running refused : Bool) : Type 0 where
   pub rows : Rows
   pub bodies : List (List ℕ)
   pub seen : ℕ → Catalog
-  pub full : List Stock
   pub walk : IsWalk o sound (books_of rows l) story held h running refused
   pub ranges : HasRanges o.start
   pub stands : IsTrue sound → story.moment < last → l.closed ≡ None → IsHeld story bodies l.end l.catalogue rows
@@ -88,7 +87,7 @@ pub record IsVault (o : Outset) (g : Origin) (sound : Bool) (l : Ledger) (story 
   pub ready : l.closed ≡ None → IsReady l story
   pub there : IsTrue sound → story.moment < last → AreThere rows seen l story
   pub stocked : IsTrue sound → AllStocked rows seen l
-  pub sourced : IsTrue sound → AreSourced rows (written_by o g.found h) 0 l.catalogue.tables full
+  pub sourced : IsTrue sound → HasSources rows (written_by o g.found h) l.catalogue
 
 -- ---- a family of starts
 
