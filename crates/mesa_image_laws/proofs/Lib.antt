@@ -26,3 +26,4 @@ pub mod Lifted
 pub mod Sourcing
 pub mod Found
 pub mod AllSourced
+pub mod Accepted

@@ -3,7 +3,7 @@ use Rattle.std.specs.Prelude.{◌≡◌, ℕ, ◌+◌, ◌<◌, ◌≤◌, List,
 use Rattle.std.specs.List.{AllByRecursion}
 use Rattle.mesa_schema.specs.Changes.{Lineage, columns_at, columns_of, epoch_of}
 use Rattle.mesa_schema.specs.Rows.{AreRowsOf}
-use Rattle.mesa_batch.specs.Batch.{Placed, rows_for}
+use Rattle.mesa_batch.specs.Batch.{Named, Placed, rows_for}
 use Rattle.mesa_span.specs.Ranges.{Rise}
 use Rattle.mesa_history.specs.Law.{Accepted}
 use Rattle.mesa_history.specs.Sources.{Source, source_in, range_rows}
@@ -129,3 +129,7 @@ pub record IsAccepted (c : Catalog) (a : Accepted) : Type 0 where
   pub epochs : a.epochs ≡ map epoch_in c.tables
   pub formed : AreFormed a.batch 0 c.tables
   pub within : (number : ℕ) → length c.tables ≤ number → rows_for number a.batch ≡ []
+
+-- the tables by which a load's rows are read
+abbrev pub tables_read : Catalog → List Named
+tables_read c = map (λ (t : Stock). record { name = t.name; columns = columns_of t.lineage }) c.tables

@@ -15,5 +15,7 @@ pub use files::{
 };
 pub use moves::{batches_move, commands_move, runs_move_nothing, works_move};
 pub use shapes::{catalogs_are_shaped, catalogs_go_on, records_keep_shape};
-pub use sources::{sources_begin, sources_go_on, sources_tell, works_merge_sources};
+pub use sources::{
+    batches_are_accepted, sources_begin, sources_go_on, sources_tell, works_merge_sources,
+};
 pub use works::{due_works_fit, plans_fold};

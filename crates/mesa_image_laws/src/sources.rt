@@ -1,4 +1,6 @@
 // What the rows of deltas were made of.
+ghost use Rattle.mesa_batch.specs.Batch.{Placed, batch_of};
+ghost use Rattle.mesa_batch.specs.declared.words.RowWords.{RowWords as WordsOf};
 ghost use Rattle.mesa_history.specs.Law.{Accepted};
 ghost use Rattle.mesa_history.specs.Sources.{range_rows};
 ghost use Rattle.mesa_image.specs.Catalog.{Catalog, Delta, applied, merged_delta, stock_at};
@@ -7,7 +9,7 @@ ghost use Rattle.mesa_image.specs.Fitting.{fits, may_be_work};
 ghost use Rattle.mesa_image.specs.Shape.{IsCatalog};
 ghost use Rattle.mesa_image.specs.Sound.{AreStocked};
 ghost use Rattle.mesa_image_laws.specs.Brought.{BringsAll, Replaces, merged_of};
-ghost use Rattle.mesa_image_laws.specs.Sourced.{HasSources, IsAccepted, IsMadeOf, IsMergedOf, Written, found_written, sources_from, written_with};
+ghost use Rattle.mesa_image_laws.specs.Sourced.{HasSources, IsAccepted, IsMadeOf, IsMergedOf, Written, epoch_in, found_written, sources_from, tables_read, written_with};
 ghost use Rattle.mesa_record.specs.declared.record.Files.{Files as FilesOf};
 ghost use Rattle.mesa_record.specs.declared.record.Part.{Part as PartOf};
 ghost use Rattle.mesa_record.specs.declared.record.Record.TheVariants as record_of;
@@ -18,7 +20,7 @@ ghost use Rattle.mesa_schema.specs.declared.changes.Change.{Change as ChangeOf};
 ghost use Rattle.mesa_schema.specs.declared.columns.KeyColumn.{KeyColumn as KeyOf};
 ghost use Rattle.mesa_schema.specs.declared.columns.ValueColumn.{ValueColumn as ValueOf};
 ghost use Rattle.mesa_schema.specs.Folded.{folded};
-ghost use Rattle.std.specs.Prelude.{◌≡◌, ◌≤◌, ◌<◌, ℕ, Bool, List, Option, length, map, true};
+ghost use Rattle.std.specs.Prelude.{◌≡◌, ◌≤◌, ◌<◌, ℕ, Bool, List, Ok, Option, length, map, true};
 
 /// A sound catalogue was made of what a run finds written of it.
 pub fn sources_begin()
@@ -41,6 +43,11 @@ pub fn sources_go_on()
         → fits c (record_of.Swap table base from to epoch files) ≡ true → IsMadeOf rows (stock_at c table).lineage (written table) from to (merged_delta epoch files)
         → HasSources rows written (applied c (record_of.Swap table base from to epoch files)) }
     ensures expire { (rows : Rows) (written : ℕ → List Written) (c : Catalog) (version : ℕ) → HasSources rows written c → HasSources rows written (applied c (record_of.Expire version)) }
+{}
+
+/// A batch that was read by a catalogue's tables may be accepted as its next version.
+pub fn batches_are_accepted()
+    ensures { (c : Catalog) (words : List WordsOf) (batch : List Placed) → batch_of (tables_read c) words ≡ Ok batch → IsAccepted c (record { version = c.next; batch = batch; epochs = map epoch_in c.tables }) }
 {}
 
 /// A content is the fold of what was written to its version, and what a work reads that of what was
