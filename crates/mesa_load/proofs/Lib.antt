@@ -1,0 +1,9 @@
+mod Places
+mod Follows
+mod Filed
+mod Rows
+mod Shares
+mod Written
+mod Reading
+mod Keeping
+mod Prepared

@@ -1,0 +1,51 @@
+-- A load's rows, read one after another.
+use Rattle.std.proofs.Common.{◌≡◌, ℕ, ◌+◌, ◌<◌, List, [], ◌∷◌, drop, length, Ok, Err, sym, ap, subst, ◌∙◌}
+use Rattle.std.specs.Prelude.{Some, Result, slice_get}
+use Rattle.mesa_list.specs.Checks.{◌>>=◌}
+use Rattle.mesa_value.specs.declared.Agg.{Agg}
+use Rattle.mesa_schema.specs.declared.rows.Row.{Row}
+use Rattle.mesa_schema.specs.Columns.{Columns, aggs_of}
+use Rattle.mesa_schema.specs.Folded.{folded}
+use Rattle.mesa_schema.specs.Rows.{AreRowsOf}
+use Rattle.mesa_batch.specs.declared.words.BatchError.{BatchError}
+use Rattle.mesa_batch.specs.declared.words.RowWords.{RowWords}
+use Rattle.mesa_batch.specs.Batch.{Named, Placed, batch_from, batch_of, columns_at, rows_for}
+use Rattle.mesa_batch.specs.Gathered.{Batched, rows_at, with_row}
+use Rattle.mesa_batch.specs.Glance.{Sight, columns_in, tables_of}
+use Rattle.mesa_batch.specs.Laws.{GoesRowByRow, KeepsForms}
+use Rattle.mesa_batch.specs.Totals.{abs_totals}
+use Rattle.mesa_load.specs.Plans.{IsBatched}
+use Rattle.mesa_load.proofs.Places.{splits_at}
+
+-- the next row is what stands before the rest
+rest_from : GoesRowByRow → (tables : List Named) (before : List Placed) (rows : List RowWords) (i : ℕ) (words : RowWords) (r : Result (List Placed) BatchError) → i < length rows → slice_get rows i ≡ Some words
+    → with_row tables before words ≡ r → batch_from tables before (drop i rows) ≡ (r >>= (λ placed. batch_from tables placed (drop (i + 1) rows)))
+rest_from law tables before rows i words r lt at is =
+    let s = splits_at i rows lt in
+    let same : s.x ≡ words = cc (s.at, at) in
+    ap (batch_from tables before) (s.back ∙ ap (λ (w : RowWords). w ∷ drop (i + 1) rows) same)
+    ∙ law tables before words (drop (i + 1) rows)
+    ∙ ap (λ (v : Result (List Placed) BatchError). v >>= (λ placed. batch_from tables placed (drop (i + 1) rows))) is
+
+pub read_next : GoesRowByRow → (tables : List Named) (before new : List Placed) (rows : List RowWords) (i : ℕ) (words : RowWords) → i < length rows → slice_get rows i ≡ Some words
+    → with_row tables before words ≡ Ok new → batch_of tables rows ≡ batch_from tables before (drop i rows) → batch_of tables rows ≡ batch_from tables new (drop (i + 1) rows)
+read_next law tables before new rows i words lt at is so_far = so_far ∙ rest_from law tables before rows i words (Ok new) lt at is
+
+pub read_refused : GoesRowByRow → (tables : List Named) (before : List Placed) (e : BatchError) (rows : List RowWords) (i : ℕ) (words : RowWords) → i < length rows → slice_get rows i ≡ Some words
+    → with_row tables before words ≡ Err e → batch_of tables rows ≡ batch_from tables before (drop i rows) → batch_of tables rows ≡ Err e
+read_refused law tables before e rows i words lt at is so_far = so_far ∙ rest_from law tables before rows i words (Err e) lt at is
+
+pub read_all : (tables : List Named) (batch : List Placed) (rows : List RowWords) (i : ℕ) → drop i rows ≡ [] → batch_of tables rows ≡ batch_from tables batch (drop i rows) → batch_of tables rows ≡ Ok batch
+read_all tables batch rows i none so_far = so_far ∙ ap (batch_from tables batch) none
+
+-- a batch by tables is what was read
+pub batched : KeepsForms → (sight : Sight) (words : List RowWords) (batch : List Placed) (b : Batched) → batch_of (tables_of sight) words ≡ Ok batch
+    → ((table : ℕ) (aggs : List Agg) → rows_at table b ≡ folded aggs (rows_for table batch ∷ []))
+    → ((table : ℕ) (s : Columns) → abs_totals s (rows_at table b) ≡ abs_totals s (rows_for table batch))
+    → (0 < length batch → b.columns ≡ columns_in sight) → IsBatched sight batch b
+batched law sight words batch b read rows totals columns = record {
+  rows = rows;
+  totals = totals;
+  form = λ table. subst (λ (rs : List Row). AreRowsOf (columns_at table (tables_of sight)) rs) (sym (rows table (aggs_of (columns_at table (tables_of sight))))) (law (tables_of sight) words batch table read).1;
+  columns = columns;
+}

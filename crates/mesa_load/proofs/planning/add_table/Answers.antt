@@ -1,0 +1,64 @@
+use Rattle.std.proofs.Common.{◌≡◌, ◌<◌, ◌^◌, List, [], ◌∷◌, ◌++◌, Bool, true, false, length, map, Ok, Err, refl, sym, subst, ◌∙◌, arith}
+use Rattle.std.specs.Prelude.{Result, OnOk, nat_le, ◌||◌, ◌==◌}
+use Rattle.std.proofs.lemmas.Bool.{eqb-true}
+use Rattle.std.proofs.lemmas.List.{nil_from_length}
+use Rattle.std.specs.List.{AllByRecursion, list_any}
+use Rattle.mesa_schema.specs.declared.rows.Row.{Row}
+use Rattle.mesa_schema.specs.Changes.{Lineage, columns_of}
+use Rattle.mesa_batch.specs.Gathered.{rows_at}
+use Rattle.mesa_batch.specs.Glance.{Known}
+use Rattle.mesa_load.proofs.Places.{if_some, splits_at}
+use Rattle.mesa_load.proofs.Shares.{next_table, plan_next, plan_same}
+use Rattle.mesa_load.specs.Filing.{AreFileRows}
+use Rattle.mesa_load.specs.Jobs.{IsFit, content_in}
+use Rattle.mesa_load.specs.Plans.{table_contents}
+use Rattle.mesa_load.specs.declared.planning.Plan.{Plan}
+use Rattle.mesa_load.specs.declared.planning.Planned.{Planned}
+use Rattle.mesa_load.proofs.planning.add_table.Goals as goal
+use Rattle.mesa_load.proofs.planning.add_table.Goals.{then-plan, else-plan}
+
+none_of : (rows : List Row) → (length rows == 0) ≡ true → rows ≡ []
+none_of rows none = nil_from_length rows (eqb-true (length rows) 0 none)
+
+some_of : (rows : List Row) → (length rows == 0) ≡ false → 0 < length rows
+some_of [] none = absurd cc
+some_of (row ∷ rows) none = omega arith
+
+pub returns-then-is_empty : goal.returns-then-is_empty
+returns-then-is_empty c =
+    λ rows batched plan. plan_same c.args.glance.now rows c.args.batch.now c.args.table c.args.plan.now c.requires batched (sym c.rows-rows.ensures ∙ none_of c.rows-rows.result.now (sym c.if-is_empty.ensures)) plan
+
+either : (x y z : Bool) → x ≡ true → z ≡ true → z ≡ (x || y)
+either true y z a b = b
+either false y z a b = absurd cc
+
+neither : (x y : Bool) → x ≡ false → y ≡ (x || y)
+neither true y a = absurd cc
+neither false y a = refl
+
+both : {T E : Type 0} (r : Result T E) (A B C : Type 0) → OnOk r A → OnOk r B → (A → B → C) → OnOk r C
+both (Ok x) A B C a b f = f a b
+both (Err e) A B C a b f = tt
+
+pub returns : goal.returns
+returns c =
+    let table = c.args.table in
+    let sight = c.args.glance.now in
+    let b = c.args.batch.now in
+    let l : Lineage = c.deref-evolving.result.now in
+    let over : c.if-plan.plan ≡ (c.args.plan.now.over || list_any (λ total. nat_le (2 ^ 63) total) c.in_ok-totals.totals) = elim c.if-plan.branch [
+      | then-plan w ↦ either c.args.plan.now.over _ c.if-plan.plan w.if-plan.true (w.plan-is ∙ w.if-plan.true)
+      | else-plan w ↦ w.plan-is ∙ w.is_over-plan.ensures ∙ neither c.args.plan.now.over _ w.if-plan.false
+    ] in
+    both c.add_jobs.result _ _ _ c.add_jobs.ensures.contents c.add_jobs.ensures.fit (λ contents fit rows batched plan.
+    let rows_are = c.rows-rows.ensures in
+    let some : 0 < length (rows_at table b) = subst (λ (rs : List Row). 0 < length rs) rows_are (some_of c.rows-rows.result.now (sym c.if-is_empty.ensures)) in
+    let s = splits_at table sight.tables c.requires in
+    let known = if_some (λ (t : Known). c.evolving.result.now.value ≡ t.lineage) _ s.x s.at c.evolving.ensures in
+    let lineage : l ≡ s.x.lineage = c.deref-evolving.ensures ∙ known in
+    let next = next_table sight rows b table l c.requires batched some lineage in
+    let p : Planned = record { table = table; views = c.views.result; totals = c.in_ok-totals.totals } in
+    let new : Plan = record { parts = c.push.new.self; jobs = c.add_jobs.new.jobs; over = c.if-plan.plan } in
+    plan_next c.folds_by_key.ensures.rise sight rows b table l c.args.plan.now new p next plan c.in_ok-push.ensures.items refl c.views.ensures c.in_ok-totals.ensures
+    (subst (λ (rs : List Row). map content_in c.add_jobs.new.jobs.items ≡ map content_in c.args.plan.now.jobs.items ++ table_contents l rs) rows_are contents) over
+    (subst (λ (rs : List Row). AreFileRows (columns_of l) rs → AllByRecursion IsFit c.args.plan.now.jobs.items → AllByRecursion IsFit c.add_jobs.new.jobs.items) rows_are fit))

@@ -1,0 +1,42 @@
+-- What is known of drafts that are opened or given back.
+use Rattle.std.specs.Prelude.{◌≡◌, ◌<◌, ℕ, List, [], ◌∷◌, ◌++◌, Option, Some, Result, Ok, Err, Vec, ⊤}
+use Rattle.std.specs.declared.alloc.Global.{Global}
+use Rattle.mesa_fault.specs.Causes.{Rose}
+use Rattle.mesa_delta.specs.declared.error.WriteError.TheVariants.{Draft as DraftFault}
+use Rattle.mesa_tasks.specs.declared.made.MadeFile.{MadeFile}
+use Rattle.mesa_tasks.specs.declared.prepared.LoadError.{LoadError}
+use Rattle.mesa_tasks.specs.declared.prepared.LoadError.TheVariants as load
+use Rattle.mesa_load.specs.declared.building.Progress.{Progress}
+use Rattle.mesa_load.specs.declared.building.Progress.TheVariants as progress
+
+-- A draft is open, empty, and has its id.
+abbrev pub IsBegun : {M T : Type 0} → (T → Option (List ℕ)) → (T → ℕ) → Progress M T → Type 0
+IsBegun bytes id_of (progress.Begun id draft) = ((b : List ℕ) → bytes draft ≡ Some b → b ≡ []) × (id_of draft ≡ id)
+IsBegun bytes id_of (progress.Finished file) = ⊥
+IsBegun bytes id_of (progress.Failed error draft) = ⊥
+IsBegun bytes id_of progress.Lent = ⊥
+
+-- A draft that failed as a device does has counted it.
+abbrev pub HasCause : {M T : Type 0} → (T → ℕ) → Progress M T → Type 0
+HasCause faults (progress.Failed error draft) = error ≡ DraftFault → 0 < faults draft
+HasCause faults (progress.Finished file) = ⊤
+HasCause faults (progress.Begun id draft) = ⊤
+HasCause faults progress.Lent = ⊤
+
+-- a finished file
+abbrev pub finished : {M T : Type 0} → MadeFile M → Progress M T
+finished file = progress.Finished file
+
+-- Why files are not written: a fault is counted by the bench, and the rows are no reason.
+abbrev pub IsUnwritten : ℕ → ℕ → LoadError → Type 0
+IsUnwritten before now (load.Batch b) = ⊥
+IsUnwritten before now load.Draft = Rose before now
+IsUnwritten before now load.Memory = ⊤
+
+-- files, with one more
+abbrev pub IsKept : {M T : Type 0} → Result (Vec (MadeFile M) Global) LoadError → Progress M T → List (MadeFile M) → Type 0
+IsKept (Ok files) (progress.Finished file) more = more ≡ files.items ++ file ∷ []
+IsKept (Ok files) (progress.Failed error draft) more = ⊥
+IsKept (Ok files) (progress.Begun id draft) more = ⊥
+IsKept (Ok files) progress.Lent more = ⊥
+IsKept (Err error) file more = ⊥

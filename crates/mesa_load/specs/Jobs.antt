@@ -1,0 +1,69 @@
+-- Files that are written side by side.
+use Rattle.std.specs.Prelude.{◌≡◌, ◌<◌, ◌≤◌, ℕ, List, [], ◌∷◌, length, slice_index_or, Option, None, Some, IfSome, ⊤}
+use Rattle.mesa_fault.specs.Causes.{Rose}
+use Rattle.mesa_schema.specs.declared.rows.Row.{Row}
+use Rattle.mesa_schema.specs.declared.views.View.{View}
+use Rattle.mesa_schema.specs.Changes.{Lineage, columns_of}
+use Rattle.mesa_delta.specs.declared.error.WriteError.TheVariants.{Draft as DraftFault}
+use Rattle.mesa_tasks.specs.Made.{Content, IsMadeFile, content_of}
+use Rattle.mesa_load.specs.Filing.{AreFileRows}
+use Rattle.mesa_load.specs.declared.building.Job.{Job}
+use Rattle.mesa_load.specs.declared.building.Progress.{Progress}
+use Rattle.mesa_load.specs.declared.building.Progress.TheVariants as progress
+
+abbrev pub ProgressOf : Type 0 → Type 0 → Type 0
+ProgressOf M T = Progress M T
+
+-- the view of a number
+abbrev pub view_in : Lineage → ℕ → View
+view_in l view = slice_index_or l.views view (record { name = []; keys = []; values = [] })
+
+-- a table's rows, or those of a view over them
+abbrev pub content_at : Lineage → List Row → Option ℕ → Content
+content_at l rows None = record { columns = columns_of l; rows = rows }
+content_at l rows (Some view) = content_of (columns_of l) rows (view_in l view)
+
+-- whose rows a job's file is to have
+abbrev pub content_in : Job → Content
+content_in j = content_at j.evolving.now j.rows.now j.view
+
+-- A job's view is there, its table has rows, and a file may have them.
+pub record IsFit (j : Job) : Type 0 where
+  pub view : IfSome j.view (λ view. view < length j.evolving.now.views)
+  pub some : 0 < length j.rows.now
+  pub rows : AreFileRows (columns_of j.evolving.now) j.rows.now
+
+-- A job may be done: its draft is empty and has its id.
+abbrev pub IsReady : {M T : Type 0} → (T → Option (List ℕ)) → (T → ℕ) → Job → Progress M T → Type 0
+IsReady bytes id_of job (progress.Begun id draft) = ((b : List ℕ) → bytes draft ≡ Some b → b ≡ []) × (id_of draft ≡ id) × IsFit job
+IsReady bytes id_of job (progress.Finished file) = ⊥
+IsReady bytes id_of job (progress.Failed error draft) = ⊥
+IsReady bytes id_of job progress.Lent = ⊥
+
+-- what is made of a draft: the file of this content, or the draft, with the cause
+abbrev pub HasWritten : {M T : Type 0} → (M → Option (List ℕ)) → (M → ℕ) → (T → ℕ) → Content → T → Progress M T → Type 0
+HasWritten bytes id_of faults content draft (progress.Finished file) = IsMadeFile bytes id_of content file
+HasWritten bytes id_of faults content draft (progress.Failed error left) = (faults draft ≤ faults left) × (error ≡ DraftFault → Rose (faults draft) (faults left))
+HasWritten bytes id_of faults content draft (progress.Begun id left) = ⊥
+HasWritten bytes id_of faults content draft progress.Lent = ⊥
+
+-- what is made of a job
+abbrev pub HasFiled : {M T : Type 0} → (M → Option (List ℕ)) → (M → ℕ) → (T → ℕ) → Job → Progress M T → Progress M T → Type 0
+HasFiled bytes id_of faults job (progress.Begun id draft) after = HasWritten bytes id_of faults (content_in job) draft after
+HasFiled bytes id_of faults job (progress.Finished file) after = ⊥
+HasFiled bytes id_of faults job (progress.Failed error draft) after = ⊥
+HasFiled bytes id_of faults job progress.Lent after = ⊥
+
+-- What became of a job: its file, or a draft that has counted its fault.
+abbrev pub IsDone : {M T : Type 0} → (M → Option (List ℕ)) → (M → ℕ) → (T → ℕ) → Job → Progress M T → Type 0
+IsDone bytes id_of faults job (progress.Finished file) = IsMadeFile bytes id_of (content_in job) file
+IsDone bytes id_of faults job (progress.Failed error left) = error ≡ DraftFault → 0 < faults left
+IsDone bytes id_of faults job (progress.Begun id draft) = ⊥
+IsDone bytes id_of faults job progress.Lent = ⊥
+
+-- each of the jobs
+abbrev pub AreDone : {M T : Type 0} → (M → Option (List ℕ)) → (M → ℕ) → (T → ℕ) → List Job → List (Progress M T) → Type 0
+AreDone bytes id_of faults [] [] = ⊤
+AreDone bytes id_of faults [] (p ∷ ps) = ⊥
+AreDone bytes id_of faults (j ∷ js) [] = ⊥
+AreDone bytes id_of faults (j ∷ js) (p ∷ ps) = IsDone bytes id_of faults j p × AreDone bytes id_of faults js ps

@@ -1,0 +1,5 @@
+pub mod Filing
+pub mod Jobs
+pub mod Collected
+pub mod Plans
+pub mod Preparing

@@ -1,0 +1,66 @@
+// The drafts of a batch: opened before any of its files is built, and given back where one fails.
+ghost use Rattle.std.specs.Prelude.{◌≡◌, ◌≤◌, length, IfOk, IfErr, OnOk};
+ghost use Rattle.std.specs.List.{AllByRecursion};
+ghost use Rattle.mesa_load.specs.Collected.{IsBegun, IsUnwritten};
+ghost use Rattle.mesa_load.specs.Preparing.{GoOn};
+
+use crate::building::Progress;
+use mesa_disk::{Bench, DraftError, Made};
+use mesa_tasks::{LoadError, Serials};
+use std::alloc::Global;
+
+/// So many empty drafts. Where one can't be made, those before it are given back.
+pub(crate) fn open_drafts<M: Made, B: Bench<M>>(
+    alloc: Global,
+    bench: &mut B,
+    ids: &mut Serials,
+    count: usize,
+) -> Result<Vec<Progress<M, B::Draft>>, LoadError>
+    ensures count { IfOk result (λ drafts. length drafts.items ≡ count) }
+    ensures begun { IfOk result (λ drafts. AllByRecursion (IsBegun B.Draft.bytes B.Draft.id_of) drafts.items) }
+    ensures ids { GoOn ids.old ids.new }
+    ensures later { B.faults bench.old ≤ B.faults bench.new }
+    ensures quiet { OnOk result (B.faults bench.new ≡ B.faults bench.old) }
+    ensures refused { IfErr result (IsUnwritten (B.faults bench.old) (B.faults bench.new)) }
+{
+    let Ok(mut drafts) = Vec::with_capacity(alloc, count) else {
+        return Err(LoadError::Memory);
+    };
+    'drafts: for _ in 0..count {
+        let id = ids.draw();
+        match bench.draft(id) {
+            Ok(draft) => drafts.push_reserved(Progress::Begun(id, draft)),
+            Err(DraftError::Failed) => {
+                spoil_all(bench, drafts);
+                return Err(LoadError::Draft);
+            }
+            Err(DraftError::Memory) => {
+                spoil_all(bench, drafts);
+                return Err(LoadError::Memory);
+            }
+        }
+    }
+    Ok(drafts)
+}
+
+// Gives back the drafts that are still there.
+fn spoil_all<M: Made, B: Bench<M>>(bench: &mut B, mut files: Vec<Progress<M, B::Draft>>)
+    ensures { B.faults bench.old ≤ B.faults bench.new }
+{
+    'files: while let Some(file) = files.pop() {
+        spoil(bench, file);
+    }
+    files.destroy_empty();
+}
+
+// Gives back the draft of a file.
+fn spoil<M: Made, B: Bench<M>>(bench: &mut B, file: Progress<M, B::Draft>)
+    ensures { B.faults bench.old ≤ B.faults bench.new }
+{
+    match file {
+        Progress::Begun(_, draft) => bench.spoil(draft),
+        Progress::Failed(_, draft) => bench.spoil(draft),
+        Progress::Finished(_) => {}
+        Progress::Lent => {}
+    }
+}
