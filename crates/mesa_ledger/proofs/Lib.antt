@@ -7,3 +7,5 @@ pub mod Filing
 pub mod Renaming
 pub mod Recording
 pub mod Beginning
+pub mod Pins
+pub mod Staying

@@ -35,7 +35,7 @@ use Rattle.mesa_ledger.proofs.Filing.{holds_are, filed_lost, filed_moved, filed_
 use Rattle.mesa_ledger.proofs.Lists.{map_all, all_also}
 
 -- no number is more than the next one
-more_given : (n : ℕ) (ns : List ℕ) → AllByRecursion (λ x. x ≤ n) ns → AllByRecursion (λ x. x ≤ n + 1) ns
+pub more_given : (n : ℕ) (ns : List ℕ) → AllByRecursion (λ x. x ≤ n) ns → AllByRecursion (λ x. x ≤ n + 1) ns
 more_given n [] all = tt
 more_given n (x ∷ ns) all = (omega (arith, all.0), more_given n ns all.1)
 

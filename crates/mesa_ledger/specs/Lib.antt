@@ -1,3 +1,4 @@
 pub mod Ledger
 pub mod Vault
 pub mod Recorded
+pub mod Turned
