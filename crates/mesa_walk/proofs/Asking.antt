@@ -67,7 +67,7 @@ module _ (o : Outset) (sound : Bool) (books : Books) (story : Story) (held : Opt
 
     -- it is answered
 
-    module _ (tells : Bool → Answer → Type 0) (pinned : IsPinned books s words tells) where
+    module _ (tells : Answer → Type 0) (pinned : IsPinned sound books s words tells) where
       abbrev given : (x : Answer) × (query_answer r.state.warehouse s words ≡ Ok x) × (bare_answer x ≡ bare_answer pinned.asked.0)
       given = answered pinned.asked.0 pinned.asked.1
 
@@ -79,7 +79,7 @@ module _ (o : Outset) (sound : Bool) (books : Books) (story : Story) (held : Opt
           mute_turn o sound books story held h running refused v (decides_with outcome.Stands) asks First due (short _ refl refl) moment new unmoved
           (comes_standing r asks First s n kind.Decide m refl (renewal_open r.state.warehouse.closed First kind.Decide outcome.Stands refl)) (ap not (sym ran)) r.state (Answered r.position given.0) pinned_is counts books v.state refl
 
-      pub pinned_open : (at : ℕ) → at ≡ length h → IsOpenFrom o.script (run_of o (h ++ decides_with outcome.Stands ∷ [])) s n words at (tells sound)
+      pub pinned_open : (at : ℕ) → at ≡ length h → IsOpenFrom o.script (run_of o (h ++ decides_with outcome.Stands ∷ [])) s n words at tells
       pinned_open at place = record {
         answer = given.0;
         due = record {
@@ -88,7 +88,7 @@ module _ (o : Outset) (sound : Bool) (books : Books) (story : Story) (held : Opt
               ∙ ap (λ q. record { number = n; stage = Answered q given.0 }) (sym (position_at o sound books story held h running refused v at place));
           prologue = subst (λ (x : Run). IsTrue (not (x.prologue_over && (s == 0)))) (sym (runs_more o.script (begins o.start) h (decides_with outcome.Stands))) (prologue_after o.script r (decides_with outcome.Stands) due.prologue);
         };
-        told = pinned.answers sound r.state given.0 v.state given.1;
+        told = pinned.answers r.state given.0 v.state given.1;
       }
 
     -- it isn't

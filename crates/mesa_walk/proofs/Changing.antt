@@ -159,7 +159,7 @@ module _ (o : Outset) (sound : Bool) (books : Books) (story : Story) (held : Opt
 
   -- ---- it is done
 
-  module _ (changed : Books) (rep : Reply) (change : IsChange books changed f rep) where
+  module _ (changed : Books) (rep : Reply) (change : IsChange sound books changed f rep) where
     found : (x : Warehouse × Reply) × (f w ≡ Ok x) × (bare_done x ≡ bare_done (change.skeleton.0, rep))
     found = ok_of bare_done (f w) _ (alike ∙ ap (bare_result bare_done) change.skeleton.1)
 
@@ -173,7 +173,7 @@ module _ (o : Outset) (sound : Bool) (books : Books) (story : Story) (held : Opt
     stood_state = stepped r.state after rep
 
     stood_books : AreBooksOf sound changed stood_state
-    stood_books = change.follows sound r.state after v.state done_is
+    stood_books = change.follows r.state after v.state done_is
 
     decide_is : decide r.position r.state s c ≡ prints r.position stood_state rep
     decide_is = d.decides r.position r.state ∙ ap (λ q. decided r.position r.state (done_or_refused w q)) done_is

@@ -70,11 +70,11 @@ bare_after : (books : Books) (w : Warehouse) (f : Doing) → bare_result bare_do
 unfolding done_in
 bare_after books w f alike skeleton after made r one two = ap (λ q. done_in q after) (sym (ap (bare_result bare_done) one) ∙ (alike ∙ ap (λ x. bare_result bare_done (f x)) skeleton ∙ ap (bare_result bare_done) two))
 
-pub pin_change : (books : Books) (s : ℕ) (asked : VersionWord) (v : ℕ) → MakesPin books s asked v → books.bare.closed ≡ None → IsChange books (pinned_books s v books) (λ w. make_pin w s asked) (reply.Pinned (next_token books.bare s) v)
+pub pin_change : (sound : Bool) (books : Books) (s : ℕ) (asked : VersionWord) (v : ℕ) → MakesPin books s asked v → books.bare.closed ≡ None → IsChange sound books (pinned_books s v books) (λ w. make_pin w s asked) (reply.Pinned (next_token books.bare s) v)
 unfolding version_in
-pin_change books s asked v is was_open = record {
+pin_change sound books s asked v is was_open = record {
   skeleton = (with_pin books.bare s v, is);
-  follows = λ sound st after had made. (let inv = pin_made st.warehouse s asked after (reply.Pinned (next_token books.bare s) v) made in
+  follows = λ st after had made. (let inv = pin_made st.warehouse s asked after (reply.Pinned (next_token books.bare s) v) made in
       let same : v ≡ inv.0 = ap version_in inv.2 in
       let after_is : after ≡ with_pin st.warehouse s v = inv.1 ∙ ap (with_pin st.warehouse s) (sym same) in
       record {
@@ -88,10 +88,10 @@ pin_change books s asked v is was_open = record {
   plain = refl;
 }
 
-pub release_change : (books : Books) (s token : ℕ) → ReleasesPin books s token → books.bare.closed ≡ None → IsChange books (released_books s token books) (λ w. release_pin w s token) (reply.Released token)
-release_change books s token is was_open = record {
+pub release_change : (sound : Bool) (books : Books) (s token : ℕ) → ReleasesPin books s token → books.bare.closed ≡ None → IsChange sound books (released_books s token books) (λ w. release_pin w s token) (reply.Released token)
+release_change sound books s token is was_open = record {
   skeleton = (record books.bare { pins = without_pin s token books.bare.pins }, is);
-  follows = λ sound st after had made. (let inv = pin_released st.warehouse s token after (reply.Released token) made in
+  follows = λ st after had made. (let inv = pin_released st.warehouse s token after (reply.Released token) made in
       record {
         skeleton = bare_after books st.warehouse (λ w. release_pin w s token) (release-bare st.warehouse s token) had.skeleton after (record books.bare { pins = without_pin s token books.bare.pins }) _ made is;
         machine = had.machine;
@@ -109,11 +109,11 @@ module _ (o : Outset) (sound : Bool) (books : Books) (story : Story) (held : Opt
       → IsPut (block (entry s n kind.Decide outcome.Stands m) (Some (told_at at (reply.Pinned (next_token books.bare s) version)))) now held new_held → WalksOn o sound (pinned_books s version books) story new_held h (entry s n kind.Decide outcome.Stands m) now (refused || false)
   pin_turn asked due version is now new_held put =
       changed_turn o sound books story held h running refused v s n low few (command.Pin asked) First (λ w. make_pin w s asked) (pin_decided s asked) due m ran at place (pinned_books s version books) (reply.Pinned (next_token books.bare s) version)
-      (pin_change books s asked version is was_open) refl (λ after made. ap (λ (w : Warehouse). kept_of (stepped (run_of o h).state w (reply.Pinned (next_token books.bare s) version))) (pin_made (run_of o h).state.warehouse s asked after _ made).1) moment now new_held put
+      (pin_change sound books s asked version is was_open) refl (λ after made. ap (λ (w : Warehouse). kept_of (stepped (run_of o h).state w (reply.Pinned (next_token books.bare s) version))) (pin_made (run_of o h).state.warehouse s asked after _ made).1) moment now new_held put
 
   -- a pin is released
   pub release_turn : (token : ℕ) → IsDue o.script (run_of o h) s n (command.Release token) First → ReleasesPin books s token → (now : Bool) (new_held : Option (List ℕ))
       → IsPut (block (entry s n kind.Decide outcome.Stands m) (Some (told_at at (reply.Released token)))) now held new_held → WalksOn o sound (released_books s token books) story new_held h (entry s n kind.Decide outcome.Stands m) now (refused || false)
   release_turn token due is now new_held put =
       changed_turn o sound books story held h running refused v s n low few (command.Release token) First (λ w. release_pin w s token) (release_decided s token) due m ran at place (released_books s token books) (reply.Released token)
-      (release_change books s token is was_open) refl (λ after made. ap (λ (w : Warehouse). kept_of (stepped (run_of o h).state w (reply.Released token))) (pin_released (run_of o h).state.warehouse s token after _ made).0) moment now new_held put
+      (release_change sound books s token is was_open) refl (λ after made. ap (λ (w : Warehouse). kept_of (stepped (run_of o h).state w (reply.Released token))) (pin_released (run_of o h).state.warehouse s token after _ made).0) moment now new_held put

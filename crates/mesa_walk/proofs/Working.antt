@@ -248,12 +248,12 @@ module _ (o : Outset) (sound : Bool) (books : Books) (story : Story) (held : Opt
   -- ---- the swap
 
   module _ (claim : Claim) (due : IsDue o.script (run_of o h) s n (command.Work name) (Renewed claim)) (holds : claim_checked books.bare books.machine at claim ≡ Ok tt) (new : Story) (moment : m ≡ new.moment) (passes : Passes story new)
-      (had : IsTrue sound → story.moment < last → AllStand o.stands story books.kept) (kept : Kept) (swaps : Swaps books claim kept) (writes : Writes o.stands story new books.kept kept) (now : Bool) (new_held : Option (List ℕ)) where
+      (had : IsTrue sound → story.moment < last → AllStand o.stands story books.kept) (kept : Kept) (swaps : Swaps sound books claim kept) (writes : Writes o.stands story new books.kept kept) (now : Bool) (new_held : Option (List ℕ)) where
     abbrev swapped_state : State
     swapped_state = with_machine r.state (claim_done r.state.machine claim)
 
     kept_is : IsTrue sound → kept_of swapped_state ≡ kept
-    kept_is ok = swaps sound r.state v.state ok
+    kept_is ok = swaps r.state v.state ok
 
     swapped_is : turn_of r works (entry s n kind.Close outcome.Stands m) (Renewed claim) outcome.Stands ≡ prints r.position swapped_state (swapped_reply claim.work)
     swapped_is = ap (completes r.position r.state claim) (checked_is claim ∙ holds)

@@ -34,9 +34,9 @@ is_plain (reply.Page page) = false
 is_plain r = true
 
 -- Books become these by what a command does, with a reply: whatever state they were the books of, they are those of the state after it.
-pub record IsChange (old new : Books) (f : Doing) (r : Reply) : Type 0 where
+pub record IsChange (sound : Bool) (old new : Books) (f : Doing) (r : Reply) : Type 0 where
   pub skeleton : (after : Warehouse) × (f old.bare ≡ Ok (after, r))
-  pub follows : (sound : Bool) (s : State) (after : Warehouse) → AreBooksOf sound old s → f s.warehouse ≡ Ok (after, r) → AreBooksOf sound new (stepped s after r)
+  pub follows : (s : State) (after : Warehouse) → AreBooksOf sound old s → f s.warehouse ≡ Ok (after, r) → AreBooksOf sound new (stepped s after r)
   pub opened : old.bare.closed ≡ None
   pub plain : is_plain r ≡ true
 
@@ -54,9 +54,9 @@ HasFailed books c f Unwritten = (books.bare.closed ≡ None) × (is_writing c �
 HasFailed books c f NoMemory = (books.bare.closed ≡ None) × (is_release c ≡ false)
 
 -- A command that writes was checked.
-abbrev pub HasChecked : Books → Command → Doing → Checks → Type 0
-HasChecked books c f (Ready changed r) = IsChange books changed f r × (is_written r ≡ true)
-HasChecked books c f (Fails cause) = HasFailed books c f cause
+abbrev pub HasChecked : Bool → Books → Command → Doing → Checks → Type 0
+HasChecked sound books c f (Ready changed r) = IsChange sound books changed f r × (is_written r ≡ true)
+HasChecked sound books c f (Fails cause) = HasFailed books c f cause
 
 -- the books behind a command that wasn't done: they change only where a fault closes them
 abbrev pub failed_books : Cause → Bool → ℕ → Books → Books

@@ -26,9 +26,9 @@ HasNoAnswer books session words Unwritten = ⊥
 HasNoAnswer books session words NoMemory = books.bare.closed ≡ None
 
 -- A query is answered by the books, and what is handed out for it tells the answer that each state gives of which they are the books.
-pub record IsPinned (books : Books) (session : ℕ) (words : QueryWords) (tells : Bool → Answer → Type 0) : Type 0 where
+pub record IsPinned (sound : Bool) (books : Books) (session : ℕ) (words : QueryWords) (tells : Answer → Type 0) : Type 0 where
   pub asked : (answer : Answer) × (query_answer books.bare session words ≡ Ok answer)
-  pub answers : (sound : Bool) (s : State) (answer : Answer) → AreBooksOf sound books s → query_answer s.warehouse session words ≡ Ok answer → tells sound answer
+  pub answers : (s : State) (answer : Answer) → AreBooksOf sound books s → query_answer s.warehouse session words ≡ Ok answer → tells answer
 
 -- A query was answered at a position and isn't closed yet, and what was handed out for it tells its answer.
 pub record IsOpenFrom (script : Script) (r : Run) (session number : ℕ) (words : QueryWords) (position : ℕ) (tells : Answer → Type 0) : Type 0 where

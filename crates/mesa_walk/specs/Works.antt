@@ -25,9 +25,9 @@ HasNotMerged books Unwritten = books.bare.closed ≡ None
 HasNotMerged books NoMemory = books.bare.closed ≡ None
 
 -- A claim's range can be swapped in, and the store then keeps this: what each state keeps, of which these are the books, once the range machine has the range.
-abbrev pub Swaps : Books → Claim → Kept → Type 0
-Swaps books claim kept =
-    (sound : Bool) (s : State) → AreBooksOf sound books s → IsTrue sound → kept_of (with_machine s (claim_done s.machine claim)) ≡ kept
+abbrev pub Swaps : Bool → Books → Claim → Kept → Type 0
+Swaps sound books claim kept =
+    (s : State) → AreBooksOf sound books s → IsTrue sound → kept_of (with_machine s (claim_done s.machine claim)) ≡ kept
 
 -- the stage of a work after its first turn, or after its renewal, by the task that it gave, if any
 abbrev pub task_stage : {T : Type 0} → (T → Claim) → (Claim → Stage) → Option T → Stage

@@ -46,8 +46,8 @@ pub fn turns_take_sessions_on()
 
 /// A pin, and a release, makes of books of a state those of the state after it.
 pub fn pins_change_books()
-    ensures pin { (books : Books) (session : ℕ) (asked : VersionWord) (version : ℕ) → MakesPin books session asked version → books.bare.closed ≡ None
-        → IsChange books (pinned_books session version books) (λ w. make_pin w session asked) (reply.Pinned (next_token books.bare session) version) }
-    ensures release { (books : Books) (session token : ℕ) → ReleasesPin books session token → books.bare.closed ≡ None
-        → IsChange books (released_books session token books) (λ w. release_pin w session token) (reply.Released token) }
+    ensures pin { (sound : Bool) (books : Books) (session : ℕ) (asked : VersionWord) (version : ℕ) → MakesPin books session asked version → books.bare.closed ≡ None
+        → IsChange sound books (pinned_books session version books) (λ w. make_pin w session asked) (reply.Pinned (next_token books.bare session) version) }
+    ensures release { (sound : Bool) (books : Books) (session token : ℕ) → ReleasesPin books session token → books.bare.closed ≡ None
+        → IsChange sound books (released_books session token books) (λ w. release_pin w session token) (reply.Released token) }
 {}
