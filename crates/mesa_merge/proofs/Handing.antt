@@ -1,0 +1,37 @@
+-- A merge whose lists were lent and came back.
+use Rattle.std.proofs.Common.{◌≡◌, ℕ, ◌<◌, ◌≤◌, List, ◌++◌, sym, ◌∙◌, ap, subst, length, take, drop, arith, true, false}
+use Rattle.std.proofs.lemmas.List.{append-nil, drop_all, take_all}
+use Rattle.std.specs.Prelude.{Option, None}
+use Rattle.mesa_schema.specs.declared.rows.Row.{Row}
+use Rattle.mesa_schema.specs.Columns.{Columns, aggs_of}
+use Rattle.mesa_delta.specs.declared.input.Input.{Input}
+use Rattle.mesa_cursor.specs.declared.cursor.Cursor.{Cursor}
+use Rattle.mesa_merge.specs.Hands.{hands_of}
+use Rattle.mesa_merge.specs.Matches.{IsTree}
+use Rattle.mesa_merge.specs.Merged.{HasMerged}
+use Rattle.mesa_merge.specs.Merging.{IsMerging}
+use Rattle.mesa_merge.specs.declared.merge.Merge.{Merge}
+
+-- what was lent whole and came back as long is what came back
+pub refill : {X : Type 0} (len : ℕ) (old new : List X) → length old ≡ len → length new ≡ length old → take len (new ++ drop (length new) old) ≡ new
+refill len old new e f =
+    let all : length old ≤ length new = omega (arith, f) in
+    let whole : length new ≤ len = omega (arith, e, f) in
+    ap (λ rest. take len (new ++ rest)) (drop_all (length new) old all) ∙ ap (take len) (append-nil new) ∙ take_all len new whole
+
+-- of a merge with these lists just these rows were given
+pub merged_with : {R : Type 0} (bytes : R → Option (List ℕ)) (s : Columns) (m : Merge R) (inputs : List (Input R)) (cursors : List Cursor) (winners : List ℕ) (givens : List (List Row))
+    → m.inputs.items ≡ inputs → m.cursors.items ≡ cursors → m.winners.items ≡ winners → m.begun ≡ true → m.failed ≡ None → (0 < length inputs → m.aggs.items ≡ aggs_of s)
+    → IsTree (hands_of cursors) winners → IsMerging bytes s inputs cursors givens → HasMerged bytes s m givens
+merged_with bytes s m inputs cursors winners givens ei ec ew begun going columns tree merging =
+    let all : IsMerging bytes s m.inputs.items m.cursors.items givens = subst (λ is. IsMerging bytes s is m.cursors.items givens) (sym ei) (subst (λ cs. IsMerging bytes s inputs cs givens) (sym ec) merging) in
+    record {
+      going = going;
+      columns = λ some. columns (subst (λ is. 0 < length is) ei some);
+      tree = subst (λ cs. IsTree (hands_of cs) m.winners.items) (sym ec) (subst (IsTree (hands_of cursors)) (sym ew) tree);
+      alike = all.alike;
+      given = all.given;
+      none = λ no. let both : true ≡ false = sym begun ∙ no in cc;
+      fresh = λ no. let both : true ≡ false = sym begun ∙ no in cc;
+      merging = λ _. all;
+    }

@@ -1,0 +1,17 @@
+pub mod Cases
+pub mod Orders
+pub mod Trees
+pub mod Hands
+pub mod Inputs
+pub mod Causing
+pub mod Stages
+pub mod Taking
+pub mod Steps
+pub mod Ending
+pub mod Bounds
+pub mod Parts
+pub mod Combining
+pub mod Beginning
+pub mod Handing
+pub mod Held
+pub mod Newest

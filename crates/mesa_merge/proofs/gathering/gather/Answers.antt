@@ -1,0 +1,133 @@
+use Rattle.std.proofs.Common.{◌≡◌, ◌<◌, ◌+◌, ◌++◌, ◌∷◌, [], ℕ, get_or, length, set, refl, sym, ◌∙◌, ap, subst, arith, true, false}
+use Rattle.mesa_schema.specs.Columns.{aggs_of}
+use Rattle.mesa_schema.specs.Folded.{AllCombine, row_combined}
+use Rattle.mesa_delta.specs.declared.error.FileError.TheVariants.{Damaged, Read}
+use Rattle.mesa_merge.specs.Hands.{IsAhead, IsFrom, IsLeastOf, hands_of}
+use Rattle.mesa_merge.specs.Inputs.{AreTold, knowns_of, lifted_parts}
+use Rattle.mesa_merge.specs.Merging.{AreReady}
+use Rattle.mesa_merge.specs.Sums.{sum_damage}
+use Rattle.mesa_merge.proofs.Bounds.{sum_stays}
+use Rattle.mesa_merge.proofs.Causing.{cause_on, cause_other, cause_quiet}
+use Rattle.mesa_merge.proofs.Combining.{aggs_count, gather_done, gather_later, gather_more}
+use Rattle.mesa_merge.proofs.Ending.{AreFronts, givens_fronts}
+use Rattle.mesa_merge.proofs.Inputs.{givens_count, givens_inputs}
+use Rattle.mesa_merge.proofs.gathering.gather.Goals as goal
+
+pub same-preserved : goal.same-preserved
+same-preserved g c =
+    let bytes = g.R.FileReader.bytes in
+    let inv = c.same.invariant in
+    let i = c.in-Some.i in
+    let more = c.in-Some-taken.more in
+    let there = rw c.in-Some-taken.is at c.in-Ok.ensures.there in
+    let given = rw c.in-Some-taken.is at c.in-Ok.ensures.given in
+    let form = rw c.in-Some-taken.is at c.in-Ok.ensures.form in
+    let above = rw c.in-Some-taken.is at c.in-Ok.ensures.above in
+    let lt : i < length c.same.inputs = omega (arith, c.in-Some.ensures.within, inv.count) in
+    record {
+      within = omega (arith, lt, c.advance.auto.inputs);
+      count = omega (arith, inv.count, c.advance.auto.inputs, c.advance.auto.cursors);
+      tree = c.advance.ensures.tree;
+      known = c.in-Ok.ensures.known ∙ inv.known;
+      inputs = λ all. c.in-Ok.ensures.inputs (inv.inputs all);
+      faults = c.in-Ok.ensures.cause.quiet ∙ inv.faults;
+      stage = λ s front givens e start.
+          let now = inv.stage s front givens e start in
+          let least : IsLeastOf c.same.row.key i (hands_of c.same.cursors) = subst (λ k. IsLeastOf k i (hands_of c.same.cursors)) c.as_slice.ensures c.in-Some.ensures.least in
+          let made : record { key = c.same.row.key; values = c.combine_into.new.old } ≡ record c.same.row { values = row_combined (aggs_of s) c.same.row.values more.values } =
+          λ k. record { key = c.same.row.key; values = (c.combine_into.ensures ∙ (λ j. row_combined (e j) c.same.row.values (c.as_slice-in-Some-3.ensures j))) k } in (
+            set now.0 i (get_or now.0 i [] ++ more ∷ []),
+            gather_more c.folds_go_on.ensures.given bytes s c.same.inputs c.advance.new.inputs c.same.cursors c.advance.new.cursors (c.same.from + 1) i c.same.row more _ front now.0 now.1 least
+                (record {
+                  within = lt;
+                  rows = there.0;
+                  there = there.1;
+                  given = given now.0 now.1.given;
+                  form = form s now.0 now.1.alike now.1.given;
+                  ahead = above now.0 now.1.given;
+                  others = c.in-Ok.ensures.others;
+                  ready = subst (λ n. AreReady n c.advance.new.inputs c.advance.new.cursors) (sym c.advance.auto.inputs) (c.in-Ok.ensures.ready (length c.same.inputs) now.1.ready);
+                  known = c.in-Ok.ensures.known;
+                }) made,
+          );
+    }
+
+pub same-smaller : goal.same-smaller
+same-smaller g c =
+    let inv = c.same.invariant in
+    let start = c.requires.gathering in
+    let now = inv.stage start.0 start.1 start.2 start.3 start.4 in
+    let least : IsLeastOf c.same.row.key c.in-Some.i (hands_of c.same.cursors) = subst (λ k. IsLeastOf k c.in-Some.i (hands_of c.same.cursors)) c.as_slice.ensures c.in-Some.ensures.least in
+    let later = gather_later g.R.FileReader.bytes start.0 c.same.inputs c.same.cursors (c.same.from + 1) c.in-Some.i c.same.row start.1 now.0 now.1 least in
+    omega (arith, later, inv.within, inv.count, c.in-Some.ensures.within, c.advance.auto.inputs)
+
+pub combines_all-requires-clause-old_full : goal.combines_all-requires-clause-old_full
+combines_all-requires-clause-old_full g c =
+    let start = c.requires.gathering in
+    let now = c.same.invariant.stage start.0 start.1 start.2 start.3 start.4 in
+    ap length c.as_slice-in-Some.ensures ∙ now.1.form.values ∙ sym (aggs_count start.0) ∙ sym (ap length start.3)
+
+pub combines_all-requires-clause-new_full : goal.combines_all-requires-clause-new_full
+combines_all-requires-clause-new_full g c =
+    let start = c.requires.gathering in
+    let now = c.same.invariant.stage start.0 start.1 start.2 start.3 start.4 in
+    let form = rw c.in-Some-taken.is at c.in-Ok.ensures.form in
+    ap length c.as_slice-in-Some-2.ensures ∙ (form start.0 now.0 now.1.alike now.1.given).values ∙ sym (aggs_count start.0) ∙ sym (ap length start.3)
+
+pub combine_into-requires-clause-old_full : goal.combine_into-requires-clause-old_full
+combine_into-requires-clause-old_full g c =
+    let start = c.requires.gathering in
+    let now = c.same.invariant.stage start.0 start.1 start.2 start.3 start.4 in
+    now.1.form.values ∙ sym (aggs_count start.0) ∙ sym (ap length start.3)
+
+pub combine_into-requires-clause-new_full : goal.combine_into-requires-clause-new_full
+combine_into-requires-clause-new_full g c =
+    let start = c.requires.gathering in
+    let now = c.same.invariant.stage start.0 start.1 start.2 start.3 start.4 in
+    let form = rw c.in-Some-taken.is at c.in-Ok.ensures.form in
+    ap length c.as_slice-in-Some-3.ensures ∙ (form start.0 now.0 now.1.alike now.1.given).values ∙ sym (aggs_count start.0) ∙ sym (ap length start.3)
+
+pub returns-in-Err-clause-accepts : goal.returns-in-Err-clause-accepts
+returns-in-Err-clause-accepts g c = λ d e s front givens columns start contents told bound.
+    let bytes = g.R.FileReader.bytes in
+    c.in-Err.ensures.accepts d e (c.same.invariant.inputs (givens_inputs bytes c.args.inputs.now c.args.cursors.now givens start.given)) contents (subst (λ ks. AreTold ks contents) (sym c.same.invariant.known) told)
+
+pub returns-in-Err-clause-cause : goal.returns-in-Err-clause-cause
+returns-in-Err-clause-cause g c = cause_on _ _ _ _ _ c.same.invariant.faults c.in-Err.ensures.cause refl
+
+pub returns-then-not-combines_all-clause-accepts : goal.returns-then-not-combines_all-clause-accepts
+returns-then-not-combines_all-clause-accepts g c = λ d e s front givens columns start contents told bound.
+    let bytes = g.R.FileReader.bytes in
+    let inv = c.same.invariant in
+    let i = c.in-Some.i in
+    let more = c.in-Some-taken.more in
+    let now = inv.stage s front givens columns start in
+    let given = rw c.in-Some-taken.is at c.in-Ok.ensures.given in
+    let known : knowns_of bytes c.advance.new.inputs ≡ knowns_of bytes c.args.inputs.now = c.in-Ok.ensures.known ∙ inv.known in
+    let lt : i < length now.0 = omega (arith, c.in-Some.ensures.within, inv.count, givens_count bytes c.same.inputs c.same.cursors now.0 now.1.given) in
+    let fronts : AreFronts (set now.0 i (get_or now.0 i [] ++ more ∷ [])) (lifted_parts (knowns_of bytes c.args.inputs.now) contents) =
+    subst (λ ks. AreFronts (set now.0 i (get_or now.0 i [] ++ more ∷ [])) (lifted_parts ks contents)) known (givens_fronts bytes c.advance.new.inputs c.advance.new.cursors _ contents (given now.0 now.1.given) (subst (λ ks. AreTold ks contents) (sym known) told)) in
+    let stays : AllCombine (aggs_of s) c.same.row.values more.values = sum_stays c.folds_totals.ensures s now.0 _ front c.same.row more i (aggs_count s) now.1.formed now.1.fold lt fronts bound in
+    let both : AllCombine c.args.aggs.now c.as_slice-in-Some.result.now c.as_slice-in-Some-2.result.now =
+    subst (λ ags. AllCombine ags c.as_slice-in-Some.result.now c.as_slice-in-Some-2.result.now) (sym columns) (subst (λ vs. AllCombine (aggs_of s) vs c.as_slice-in-Some-2.result.now) (sym c.as_slice-in-Some.ensures) (subst (AllCombine (aggs_of s) c.same.row.values) (sym c.as_slice-in-Some-2.ensures) stays)) in
+    let no : false ≡ true = sym c.if-not-combines_all.true ∙ c.combines_all.ensures.1 both in cc
+
+pub returns-then-not-combines_all-clause-cause : goal.returns-then-not-combines_all-clause-cause
+returns-then-not-combines_all-clause-cause g c =
+    cause_other _ _ _ (c.in-Ok.ensures.cause.quiet ∙ c.same.invariant.faults) (λ read. let both : Damaged (sum_damage c.file_at.result) ≡ Read = sym c.sum_fault.ensures ∙ read in cc)
+
+pub returns-then-not-combines_all-clause-inputs : goal.returns-then-not-combines_all-clause-inputs
+returns-then-not-combines_all-clause-inputs g c = λ all. c.in-Ok.ensures.inputs (c.same.invariant.inputs all)
+
+pub returns-clause-merging : goal.returns-clause-merging
+returns-clause-merging g c = λ s front givens columns start.
+    let now = c.same.invariant.stage s front givens columns start in
+    let hands = hands_of c.same.cursors in
+    let none : ((j : ℕ) → IsFrom c.same.row.key (get_or hands j [])) → (j : ℕ) → IsAhead c.same.row.key (get_or hands j []) = subst (λ k. ((j : ℕ) → IsFrom k (get_or hands j [])) → (j : ℕ) → IsAhead k (get_or hands j [])) c.as_slice.ensures c.in_default.ensures.none in
+    (now.0, gather_done g.R.FileReader.bytes s c.same.inputs c.same.cursors (c.same.from + 1) c.same.row front now.0 now.1 none, now.1.fold, now.1.form)
+
+pub returns-clause-cause : goal.returns-clause-cause
+returns-clause-cause g c = cause_quiet _ _ _ c.same.invariant.faults
+
+pub file_at-requires : goal.file_at-requires
+file_at-requires g c = (c.type_bounds.send-R, omega (arith, c.newest_with-newest.ensures.within, c.same.invariant.count, c.advance.auto.inputs, c.advance.auto.cursors))

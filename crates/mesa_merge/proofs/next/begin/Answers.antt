@@ -1,0 +1,51 @@
+use Rattle.std.proofs.Common.{◌≡◌, ◌≢◌, ◌≤◌, [], get_or, length, refl, sym, ◌∙◌, subst, arith}
+use Rattle.mesa_merge.specs.Hands.{hands_of}
+use Rattle.mesa_merge.specs.Inputs.{AreAlike, AreTold}
+use Rattle.mesa_merge.specs.Merging.{AreReady}
+use Rattle.mesa_merge.proofs.Beginning.{begun_merging, none_taken}
+use Rattle.mesa_merge.proofs.Causing.{cause_on, cause_quiet}
+use Rattle.mesa_merge.proofs.next.begin.Goals as goal
+
+pub inputs-init : goal.inputs-init
+inputs-init g c = record {
+  count = c.requires.count;
+  tree = c.requires.tree;
+  none = λ j le. c.requires.none j;
+  given = λ givens h. h;
+  ready = tt;
+  known = refl;
+  kept = λ all. all;
+  faults = refl;
+}
+
+pub inputs-preserved : goal.inputs-preserved
+inputs-preserved g c =
+    let bytes = g.R.FileReader.bytes in
+    let inv = c.inputs.invariant in
+    let i = c.inputs.i in
+    record {
+      count = omega (arith, inv.count, c.advance.auto.inputs, c.advance.auto.cursors);
+      tree = c.in-Ok.ensures.tree;
+      none = λ j le. let ne : j ≢ i = omega (arith, le) in let was : i ≤ j = omega (arith, le) in c.in-Ok.ensures.others j ne ∙ inv.none j was;
+      given = λ givens h. none_taken c.in-Ok.field-0 (get_or (hands_of c.inputs.cursors) i []) _ (inv.none i (omega arith)) c.in-Ok.ensures.there c.in-Ok.ensures.began givens (inv.given givens h);
+      ready = c.in-Ok.ensures.more inv.ready;
+      known = c.in-Ok.ensures.known ∙ inv.known;
+      kept = λ all. c.in-Ok.ensures.inputs (inv.kept all);
+      faults = c.in-Ok.ensures.cause.quiet ∙ inv.faults;
+    }
+
+pub returns-in-Err-clause-cause : goal.returns-in-Err-clause-cause
+returns-in-Err-clause-cause g c = cause_on _ _ _ _ _ c.inputs.invariant.faults c.in-Err.ensures.cause refl
+
+pub returns-in-Err-clause-accepts : goal.returns-in-Err-clause-accepts
+returns-in-Err-clause-accepts g c = λ d e all contents told.
+    c.in-Err.ensures.accepts d e (c.inputs.invariant.kept all) contents (subst (λ ks. AreTold ks contents) (sym c.inputs.invariant.known) told)
+
+pub returns-clause-merging : goal.returns-clause-merging
+returns-clause-merging g c = λ s givens alike h none.
+    let inv = c.inputs.invariant in
+    let all : c.inputs.i ≡ length c.inputs.inputs = omega (arith, c.inputs-test.false, c.inputs.auto.inputs, c.inputs.auto.i-end) in
+    begun_merging g.R.FileReader.bytes s c.inputs.inputs c.inputs.cursors givens (subst (AreAlike s) (sym inv.known) alike) (inv.given givens h) none (subst (λ n. AreReady n c.inputs.inputs c.inputs.cursors) all inv.ready)
+
+pub returns-clause-cause : goal.returns-clause-cause
+returns-clause-cause g c = cause_quiet _ _ _ c.inputs.invariant.faults

@@ -1,0 +1,128 @@
+use Rattle.std.proofs.Common.{◌≡◌, ◌<◌, ◌++◌, ◌∷◌, [], get_or, length, set, refl, sym, subst, arith}
+use Rattle.mesa_schema.specs.Columns.{aggs_of}
+use Rattle.mesa_schema.specs.Folded.{folded, rows_of}
+use Rattle.mesa_fold.specs.Bound.{KeepsBound}
+use Rattle.mesa_merge.specs.Inputs.{AreTold, knowns_of, lifted_parts}
+use Rattle.mesa_merge.specs.Merging.{AreReady}
+use Rattle.mesa_merge.proofs.Causing.{cause_on, cause_quiet}
+use Rattle.mesa_merge.proofs.Combining.{gather_first}
+use Rattle.mesa_merge.proofs.Ending.{all_at_end}
+use Rattle.mesa_merge.proofs.Inputs.{cursors_count, givens_inputs}
+use Rattle.mesa_merge.proofs.next.next_row.Goals as goal
+
+pub advance-requires-clause-within : goal.advance-requires-clause-within
+advance-requires-clause-within g c =
+    let m = c.requires.merging in
+    omega (arith, c.in-Some.ensures.within, cursors_count g.R.FileReader.bytes c.args.inputs.now c.args.cursors.now m.1 m.3.given)
+
+pub advance-requires-clause-count : goal.advance-requires-clause-count
+advance-requires-clause-count g c = λ _ _.
+    let m = c.requires.merging in
+    cursors_count g.R.FileReader.bytes c.args.inputs.now c.args.cursors.now m.1 m.3.given
+
+pub gather-requires-clause-within : goal.gather-requires-clause-within
+gather-requires-clause-within g c =
+    let m = c.requires.merging in
+    omega (arith, c.in-Some.ensures.within, cursors_count g.R.FileReader.bytes c.args.inputs.now c.args.cursors.now m.1 m.3.given, c.advance.auto.inputs)
+
+pub gather-requires-clause-count : goal.gather-requires-clause-count
+gather-requires-clause-count g c =
+    let m = c.requires.merging in
+    omega (arith, cursors_count g.R.FileReader.bytes c.args.inputs.now c.args.cursors.now m.1 m.3.given, c.advance.auto.inputs, c.advance.auto.cursors)
+
+pub gather-requires-clause-gathering : goal.gather-requires-clause-gathering
+gather-requires-clause-gathering g c = λ _ _.
+    let bytes = g.R.FileReader.bytes in
+    let m = c.requires.merging in
+    let i = c.in-Some.i in
+    let first = c.in-Some-taken.first in
+    let there = rw c.in-Some-taken.is at c.in-Ok.ensures.there in
+    let given = rw c.in-Some-taken.is at c.in-Ok.ensures.given in
+    let form = rw c.in-Some-taken.is at c.in-Ok.ensures.form in
+    let above = rw c.in-Some-taken.is at c.in-Ok.ensures.above in
+    let lt : i < length c.args.inputs.now = omega (arith, c.in-Some.ensures.within, cursors_count bytes c.args.inputs.now c.args.cursors.now m.1 m.3.given) in (
+      m.0,
+      folded (aggs_of m.0) m.1,
+      set m.1 i (get_or m.1 i [] ++ first ∷ []),
+      m.2 (omega (arith, lt)),
+      gather_first c.folds_go_on.ensures.given bytes m.0 c.args.inputs.now c.advance.new.inputs c.args.cursors.now c.advance.new.cursors i m.1 first m.3 c.in-Some.ensures.least
+          (record {
+            within = lt;
+            rows = there.0;
+            there = there.1;
+            given = given m.1 m.3.given;
+            form = form m.0 m.1 m.3.alike m.3.given;
+            ahead = above m.1 m.3.given;
+            others = c.in-Ok.ensures.others;
+            ready = subst (λ n. AreReady n c.advance.new.inputs c.advance.new.cursors) (sym c.advance.auto.inputs) (c.in-Ok.ensures.ready (length c.args.inputs.now) m.3.ready);
+            known = c.in-Ok.ensures.known;
+          }),
+    )
+
+pub returns-in_default-clause-none : goal.returns-in_default-clause-none
+returns-in_default-clause-none g c = λ s givens m. (all_at_end g.R.FileReader.bytes c.args.inputs.now c.args.cursors.now givens m.given m.ready c.in_default.ensures.none, m)
+
+pub returns-in_default-clause-cause : goal.returns-in_default-clause-cause
+returns-in_default-clause-cause g c = cause_quiet _ _ _ refl
+
+pub returns-in-Err-clause-accepts : goal.returns-in-Err-clause-accepts
+returns-in-Err-clause-accepts g c = λ d e s givens columns m contents told bound.
+    c.in-Err.ensures.accepts d e (givens_inputs g.R.FileReader.bytes c.args.inputs.now c.args.cursors.now givens m.given) contents told
+
+pub returns-in-Err-clause-cause : goal.returns-in-Err-clause-cause
+returns-in-Err-clause-cause g c = cause_on _ _ _ _ _ refl c.in-Err.ensures.cause refl
+
+pub returns-in-Ok-gather-clause-cause : goal.returns-in-Ok-gather-clause-cause
+returns-in-Ok-gather-clause-cause g c = cause_on _ _ _ _ _ c.in-Ok.ensures.cause.quiet c.in-Ok-gather.ensures.cause tt
+
+pub returns-in-Err-gather-clause-cause : goal.returns-in-Err-gather-clause-cause
+returns-in-Err-gather-clause-cause g c = cause_on _ _ _ _ _ c.in-Ok.ensures.cause.quiet c.in-Err-gather.ensures.cause refl
+
+pub returns-in-Ok-gather-clause-some : goal.returns-in-Ok-gather-clause-some
+returns-in-Ok-gather-clause-some g c = λ s givens columns m.
+    let bytes = g.R.FileReader.bytes in
+    let i = c.in-Some.i in
+    let first = c.in-Some-taken.first in
+    let there = rw c.in-Some-taken.is at c.in-Ok.ensures.there in
+    let given = rw c.in-Some-taken.is at c.in-Ok.ensures.given in
+    let form = rw c.in-Some-taken.is at c.in-Ok.ensures.form in
+    let above = rw c.in-Some-taken.is at c.in-Ok.ensures.above in
+    let lt : i < length c.args.inputs.now = omega (arith, c.in-Some.ensures.within, cursors_count bytes c.args.inputs.now c.args.cursors.now givens m.given) in
+    c.in-Ok-gather.ensures.merging s (folded (aggs_of s) givens) (set givens i (get_or givens i [] ++ first ∷ [])) (columns (omega (arith, lt)))
+    (gather_first c.folds_go_on.ensures.given bytes s c.args.inputs.now c.advance.new.inputs c.args.cursors.now c.advance.new.cursors i givens first m c.in-Some.ensures.least
+    (record {
+      within = lt;
+      rows = there.0;
+      there = there.1;
+      given = given givens m.given;
+      form = form s givens m.alike m.given;
+      ahead = above givens m.given;
+      others = c.in-Ok.ensures.others;
+      ready = subst (λ n. AreReady n c.advance.new.inputs c.advance.new.cursors) (sym c.advance.auto.inputs) (c.in-Ok.ensures.ready (length c.args.inputs.now) m.ready);
+      known = c.in-Ok.ensures.known;
+    }))
+
+pub returns-in-Err-gather-clause-accepts : goal.returns-in-Err-gather-clause-accepts
+returns-in-Err-gather-clause-accepts g c = λ d e s givens columns m contents told bound.
+    let bytes = g.R.FileReader.bytes in
+    let i = c.in-Some.i in
+    let first = c.in-Some-taken.first in
+    let there = rw c.in-Some-taken.is at c.in-Ok.ensures.there in
+    let given = rw c.in-Some-taken.is at c.in-Ok.ensures.given in
+    let form = rw c.in-Some-taken.is at c.in-Ok.ensures.form in
+    let above = rw c.in-Some-taken.is at c.in-Ok.ensures.above in
+    let lt : i < length c.args.inputs.now = omega (arith, c.in-Some.ensures.within, cursors_count bytes c.args.inputs.now c.args.cursors.now givens m.given) in
+    let known : knowns_of bytes c.advance.new.inputs ≡ knowns_of bytes c.args.inputs.now = c.in-Ok.ensures.known in
+    c.in-Err-gather.ensures.accepts d e s (folded (aggs_of s) givens) (set givens i (get_or givens i [] ++ first ∷ [])) (columns (omega (arith, lt)))
+    (gather_first c.folds_go_on.ensures.given bytes s c.args.inputs.now c.advance.new.inputs c.args.cursors.now c.advance.new.cursors i givens first m c.in-Some.ensures.least
+    (record {
+      within = lt;
+      rows = there.0;
+      there = there.1;
+      given = given givens m.given;
+      form = form s givens m.alike m.given;
+      ahead = above givens m.given;
+      others = c.in-Ok.ensures.others;
+      ready = subst (λ n. AreReady n c.advance.new.inputs c.advance.new.cursors) (sym c.advance.auto.inputs) (c.in-Ok.ensures.ready (length c.args.inputs.now) m.ready);
+      known = c.in-Ok.ensures.known;
+    })) contents (subst (λ ks. AreTold ks contents) (sym known) told) (subst (λ ks. KeepsBound (aggs_of s) [] (rows_of (lifted_parts ks contents))) (sym known) bound)

@@ -1,0 +1,121 @@
+use Rattle.std.proofs.Common.{◌≡◌, ◌<◌, ◌≤◌, ◌+◌, ◌/◌, ℕ, [], ◌∷◌, ◌++◌, get_or, length, set, refl, sym, ◌∙◌, subst, arith, add-one}
+use Rattle.std.proofs.lemmas.List.{length-set}
+use Rattle.mesa_schema.specs.Rows.{AreRowsOf}
+use Rattle.mesa_cursor.specs.Cursors.{at_hand}
+use Rattle.mesa_merge.specs.Hands.{IsAhead, IsBefore, hands_of}
+use Rattle.mesa_merge.specs.Matches.{above}
+use Rattle.mesa_merge.specs.Merging.{AreReady, HasGivens}
+use Rattle.mesa_merge.proofs.Cases.{if_none, if_some}
+use Rattle.mesa_merge.proofs.Hands.{hand_of_get, hand_other, hand_same, hands_length}
+use Rattle.mesa_merge.proofs.Inputs.{alike_at, cause_at, given_at, given_set, inputs_at, inputs_set, known_set, ready_more, ready_set, set_same, told_at}
+use Rattle.mesa_merge.proofs.Stages.{ahead_of_hand}
+use Rattle.mesa_merge.proofs.Taking.{hand_form, not_taken, taken}
+use Rattle.mesa_merge.proofs.Trees.{changed_won}
+use Rattle.mesa_merge.proofs.streams.advance.Goals as goal
+
+pub play-requires-clause-won : goal.play-requires-clause-won
+play-requires-clause-won g c =
+    let cs = c.args.cursors.now in
+    let i = c.args.i in
+    let news = set cs i c.fill-filled.new.self in
+    let count : length (hands_of news) ≡ length (hands_of cs) = hands_length news ∙ length-set cs i _ ∙ sym (hands_length cs) in
+    let lt : i < length (hands_of cs) = omega (arith, hands_length cs, c.requires.count, c.requires.within) in
+    subst (λ n. (place : ℕ) → 2 ≤ place → place < n + n → ((steps : ℕ) → above steps ((n + i) / 2) ≡ place / 2 → ⊥) → IsBefore (hands_of news) (get_or c.args.winners.now (place / 2) 0) (get_or c.args.winners.now place 0))
+    (hands_length news)
+    (changed_won (hands_of cs) (hands_of news) i c.args.winners.now count lt c.requires.tree (λ j ne. hand_other cs i j c.fill-filled.new.self ne))
+
+pub returns-in-Ok-clause-others : goal.returns-in-Ok-clause-others
+returns-in-Ok-clause-others g c = λ j ne. hand_other c.args.cursors.now c.args.i j c.fill-filled.new.self ne
+
+pub returns-in-Err-clause-others : goal.returns-in-Err-clause-others
+returns-in-Err-clause-others g c = λ j ne. hand_other c.args.cursors.now c.args.i j c.fill-filled.new.self ne
+
+pub returns-in-Ok-clause-there : goal.returns-in-Ok-clause-there
+returns-in-Ok-clause-there g c =
+    let ltc : c.args.i < length c.args.cursors.now = omega (arith, c.requires.count, c.requires.within) in
+    if_some c.take-row.result _ _ (λ row hand. (at_hand c.take-row.new.self, hand_of_get c.args.cursors.now c.args.i c.index-cursors-i.result ltc ∙ hand)) c.take-row.ensures.some
+
+pub returns-in-Ok-clause-none : goal.returns-in-Ok-clause-none
+returns-in-Ok-clause-none g c =
+    let ltc : c.args.i < length c.args.cursors.now = omega (arith, c.requires.count, c.requires.within) in
+    if_none c.take-row.result _ _ (λ none. hand_of_get c.args.cursors.now c.args.i c.index-cursors-i.result ltc ∙ none.0) c.take-row.ensures.none
+
+pub returns-in-Ok-clause-given : goal.returns-in-Ok-clause-given
+returns-in-Ok-clause-given g c =
+    let bytes = g.R.FileReader.bytes in
+    let is = c.args.inputs.now in
+    let cs = c.args.cursors.now in
+    let i = c.args.i in
+    if_some c.take-row.result _ _ (λ row hand givens h.
+    let was = given_at bytes is cs givens i c.index-inputs-i.result c.index-cursors-i.result h c.requires.within in
+    given_set bytes is cs givens i c.fill-filled.new.input c.fill-filled.new.self (get_or givens i [] ++ row ∷ []) h
+    (c.in-Ok.ensures.given (get_or givens i [] ++ row ∷ []) (taken bytes _ _ c.take-row.new.self (get_or givens i []) row was hand c.take-row.ensures.lift c.take-row.ensures.next))) c.take-row.ensures.some
+
+pub returns-in-Ok-clause-began : goal.returns-in-Ok-clause-began
+returns-in-Ok-clause-began g c =
+    let bytes = g.R.FileReader.bytes in
+    let is = c.args.inputs.now in
+    let cs = c.args.cursors.now in
+    let i = c.args.i in
+    if_none c.take-row.result _ _ (λ none givens h.
+    let was = given_at bytes is cs givens i c.index-inputs-i.result c.index-cursors-i.result h c.requires.within in
+    subst (λ gs. HasGivens bytes (set is i c.fill-filled.new.input) (set cs i c.fill-filled.new.self) gs) (set_same givens i)
+    (given_set bytes is cs givens i c.fill-filled.new.input c.fill-filled.new.self (get_or givens i []) h
+    (c.in-Ok.ensures.given (get_or givens i []) (not_taken bytes _ _ c.take-row.new.self (get_or givens i []) was none.0 none.1 c.take-row.ensures.lift c.take-row.ensures.next)))) c.take-row.ensures.none
+
+pub returns-in-Ok-clause-form : goal.returns-in-Ok-clause-form
+returns-in-Ok-clause-form g c =
+    let bytes = g.R.FileReader.bytes in
+    let is = c.args.inputs.now in
+    let cs = c.args.cursors.now in
+    let i = c.args.i in
+    if_some c.take-row.result _ _ (λ row hand s givens alike h.
+    let was = given_at bytes is cs givens i c.index-inputs-i.result c.index-cursors-i.result h c.requires.within in
+    let form = c.rises.ensures.form (get_or givens i []) was in
+    let same = alike_at bytes s is i c.index-inputs-i.result alike c.requires.within in
+    hand_form s (get_or givens i []) (at_hand (get_or cs i c.index-cursors-i.result)) row (at_hand c.take-row.new.self) (subst (λ t. AreRowsOf t (get_or givens i [] ++ at_hand (get_or cs i c.index-cursors-i.result))) same form) hand) c.take-row.ensures.some
+
+pub returns-in-Ok-clause-above : goal.returns-in-Ok-clause-above
+returns-in-Ok-clause-above g c =
+    let bytes = g.R.FileReader.bytes in
+    let is = c.args.inputs.now in
+    let cs = c.args.cursors.now in
+    let i = c.args.i in
+    let ltc : i < length cs = omega (arith, c.requires.count, c.requires.within) in
+    if_some c.take-row.result _ _ (λ row hand givens h.
+    let was = given_at bytes is cs givens i c.index-inputs-i.result c.index-cursors-i.result h c.requires.within in
+    let now = c.in-Ok.ensures.given (get_or givens i [] ++ row ∷ []) (taken bytes _ _ c.take-row.new.self (get_or givens i []) row was hand c.take-row.ensures.lift c.take-row.ensures.next) in
+    subst (IsAhead row.key) (sym (hand_same cs i c.fill-filled.new.self ltc))
+    (ahead_of_hand row (get_or givens i []) (at_hand c.fill-filled.new.self) (λ next rows e. c.rises-2.ensures.above (get_or givens i [] ++ row ∷ []) next rows now e))) c.take-row.ensures.some
+
+pub returns-in-Ok-clause-ready : goal.returns-in-Ok-clause-ready
+returns-in-Ok-clause-ready g c = λ n ready. ready_set n c.args.inputs.now c.args.cursors.now c.args.i c.fill-filled.new.input c.fill-filled.new.self ready c.in-Ok.ensures.ready
+
+pub returns-in-Ok-clause-more : goal.returns-in-Ok-clause-more
+returns-in-Ok-clause-more g c = λ ready.
+    subst (λ n. AreReady n (set c.args.inputs.now c.args.i c.fill-filled.new.input) (set c.args.cursors.now c.args.i c.fill-filled.new.self)) (sym (add-one c.args.i))
+    (ready_more c.args.inputs.now c.args.cursors.now c.args.i c.fill-filled.new.input c.fill-filled.new.self ready c.in-Ok.ensures.ready)
+
+pub returns-in-Ok-clause-known : goal.returns-in-Ok-clause-known
+returns-in-Ok-clause-known g c = known_set g.R.FileReader.bytes c.args.inputs.now c.args.i c.fill-filled.new.input c.index-inputs-i.result c.requires.within c.fill-filled.ensures.same
+
+pub returns-in-Err-clause-known : goal.returns-in-Err-clause-known
+returns-in-Err-clause-known g c = known_set g.R.FileReader.bytes c.args.inputs.now c.args.i c.fill-filled.new.input c.index-inputs-i.result c.requires.within c.fill-filled.ensures.same
+
+pub returns-in-Ok-clause-inputs : goal.returns-in-Ok-clause-inputs
+returns-in-Ok-clause-inputs g c = λ all. inputs_set g.R.FileReader.bytes c.args.inputs.now c.args.i c.fill-filled.new.input c.index-inputs-i.result all c.requires.within c.fill-filled.ensures.input
+
+pub returns-in-Err-clause-inputs : goal.returns-in-Err-clause-inputs
+returns-in-Err-clause-inputs g c = λ all. inputs_set g.R.FileReader.bytes c.args.inputs.now c.args.i c.fill-filled.new.input c.index-inputs-i.result all c.requires.within c.fill-filled.ensures.input
+
+pub returns-in-Ok-clause-cause : goal.returns-in-Ok-clause-cause
+returns-in-Ok-clause-cause g c = cause_at g.R.FileReader.faults c.args.inputs.now c.args.i c.fill-filled.new.input c.index-inputs-i.result _ _ c.requires.within c.in-Ok.ensures.cause tt
+
+pub returns-in-Err-clause-cause : goal.returns-in-Err-clause-cause
+returns-in-Err-clause-cause g c = cause_at g.R.FileReader.faults c.args.inputs.now c.args.i c.fill-filled.new.input c.index-inputs-i.result _ _ c.requires.within c.in-Err.ensures.cause refl
+
+pub returns-in-Err-clause-accepts : goal.returns-in-Err-clause-accepts
+returns-in-Err-clause-accepts g c = λ d e all contents told.
+    let bytes = g.R.FileReader.bytes in
+    let one = told_at bytes c.args.inputs.now contents c.args.i c.index-inputs-i.result told c.requires.within in
+    c.in-Err.ensures.accepts d e (inputs_at bytes c.args.inputs.now c.args.i c.index-inputs-i.result all c.requires.within) one.0 (get_or contents c.args.i []) one.1 one.2

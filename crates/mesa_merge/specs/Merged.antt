@@ -1,0 +1,40 @@
+-- What a merge has given.
+use Rattle.std.specs.Prelude.{◌≡◌, ℕ, ◌<◌, List, [], length, map, get_or, Option, None, true, false}
+use Rattle.mesa_schema.specs.declared.rows.Row.{Row}
+use Rattle.mesa_schema.specs.Columns.{Columns, aggs_of}
+use Rattle.mesa_delta.specs.declared.error.FileError.{FileError}
+use Rattle.mesa_delta.specs.declared.input.Input.{Input}
+use Rattle.mesa_merge.specs.Hands.{hands_of}
+use Rattle.mesa_merge.specs.Inputs.{AreAlike, knowns_of}
+use Rattle.mesa_merge.specs.Matches.{IsTree}
+use Rattle.mesa_merge.specs.Merging.{HasGivens, IsMerging}
+use Rattle.mesa_merge.specs.declared.merge.Merge.{Merge}
+
+-- the inputs of a merge, why it failed, and the rows at hand of each input
+abbrev pub inputs_of : {R : Type 0} → Merge R → List (Input R)
+inputs_of m = m.inputs.items
+
+abbrev pub failed_of : {R : Type 0} → Merge R → Option FileError
+failed_of m = m.failed
+
+abbrev pub hands_in : {R : Type 0} → Merge R → List (List Row)
+hands_in m = hands_of m.cursors.items
+
+-- the first blocks were read
+abbrev pub IsBegun : {R : Type 0} → Merge R → Type 0
+IsBegun m = m.begun ≡ true
+
+-- no row of any input
+abbrev pub nothing_given : {R : Type 0} → List (Input R) → List (List Row)
+nothing_given inputs = map (λ i. []) inputs
+
+-- A merge of inputs that are lifted to these columns has not failed, and each input has given just these rows. All rows to come are above them.
+pub record HasMerged {R : Type 0} (bytes : R → Option (List ℕ)) (s : Columns) (m : Merge R) (givens : List (List Row)) : Type 0 where
+  pub going : m.failed ≡ None
+  pub columns : 0 < length m.inputs.items → m.aggs.items ≡ aggs_of s
+  pub tree : IsTree (hands_of m.cursors.items) m.winners.items
+  pub alike : AreAlike s (knowns_of bytes m.inputs.items)
+  pub given : HasGivens bytes m.inputs.items m.cursors.items givens
+  pub none : m.begun ≡ false → (j : ℕ) → get_or (hands_of m.cursors.items) j [] ≡ []
+  pub fresh : m.begun ≡ false → (j : ℕ) → get_or givens j [] ≡ []
+  pub merging : m.begun ≡ true → IsMerging bytes s m.inputs.items m.cursors.items givens

@@ -1,0 +1,87 @@
+// Rows of one key, combined.
+ghost use Rattle.std.specs.Prelude.{◌≡◌, ◌<◌, ◌+◌, ◌++◌, ◌∷◌, [], ℕ, List, length, IfOk, IfErr, IfSome, IfNone, OnOk, get_or};
+ghost use Rattle.std.specs.List.{AllByRecursion};
+ghost use Rattle.mesa_file.specs.declared.damage.Damage.{Damage as AnyDamage};
+ghost use Rattle.mesa_schema.specs.declared.rows.Row.{Row as AnyRow};
+ghost use Rattle.mesa_schema.specs.Columns.{Columns, aggs_of};
+ghost use Rattle.mesa_schema.specs.Folded.{folded, rows_of};
+ghost use Rattle.mesa_schema.specs.Rows.{IsRowOf};
+ghost use Rattle.mesa_fold.specs.Bound.{KeepsBound};
+ghost use Rattle.mesa_delta.specs.declared.error.FileError.TheVariants as file_error;
+ghost use Rattle.mesa_cursor.specs.Cursors.{IsInput};
+ghost use Rattle.mesa_merge.specs.Faults.{HaveFaultCause, faults_of};
+ghost use Rattle.mesa_merge.specs.Hands.{IsAhead, IsFrom, IsLeastOf, hands_of};
+ghost use Rattle.mesa_merge.specs.Inputs.{AreTold, knowns_of, lifted_parts};
+ghost use Rattle.mesa_merge.specs.Matches.{IsTree};
+ghost use Rattle.mesa_merge.specs.Merging.{IsGathering, IsMerging};
+
+use crate::matches::least;
+use crate::streams::advance;
+use crate::sums::{file_at, is_same, newest_with, sum_fault};
+use mesa_cursor::Cursor;
+use mesa_delta::{FileError, Input};
+use mesa_disk::FileReader;
+use mesa_fold::{combine_into, combines_all, folds_totals};
+use mesa_schema::{Row, folds_go_on};
+use mesa_value::Agg;
+
+// The first of the inputs whose row at hand has this key, where none has a lesser one.
+fn same_key(winners: &[usize], cursors: &[Cursor], key: &[u8]) -> Option<usize>
+    requires { IsTree (hands_of cursors.now) winners.now }
+    ensures within { IfSome result (λ i. i < length cursors.now) }
+    ensures least { IfSome result (λ i. IsLeastOf key.now i (hands_of cursors.now)) }
+    ensures none { IfNone result (((j : ℕ) → IsFrom key.now (get_or (hands_of cursors.now) j [])) → (j : ℕ) → IsAhead key.now (get_or (hands_of cursors.now) j [])) }
+{
+    let Some(i) = least(winners, cursors) else {
+        return None;
+    };
+    let Some(row) = cursors[i].head() else {
+        return None;
+    };
+    if is_same(row.key.as_slice(), key) {
+        Some(i)
+    } else {
+        None
+    }
+}
+
+// Takes the further rows of a row's key, and combines them with it in the order of the inputs. The row was taken from this input.
+pub(crate) fn gather<R: FileReader>(
+    inputs: &mut [Input<R>],
+    cursors: &mut [Cursor],
+    winners: &mut [usize],
+    aggs: &[Agg],
+    first: Row,
+    mut from: usize,
+) -> Result<Row, FileError>
+    requires within { from < length inputs.old }
+    requires count { length cursors.old ≡ length inputs.old }
+    requires tree { IsTree (hands_of cursors.old) winners.old }
+    requires gathering { (s : Columns) × (front : List AnyRow) × (givens : List (List AnyRow)) × (aggs.now ≡ aggs_of s) × IsGathering R.bytes s inputs.old cursors.old (from + 1) first front givens }
+    ensures tree { OnOk result (IsTree (hands_of cursors.new) winners.new) }
+    ensures merging { IfOk result (λ row. (s : Columns) (front : List AnyRow) (givens : List (List AnyRow)) → aggs.now ≡ aggs_of s → IsGathering R.bytes s inputs.old cursors.old (from + 1) first front givens
+        → (after : List (List AnyRow)) × IsMerging R.bytes s inputs.new cursors.new after × (folded (aggs_of s) after ≡ front ++ row ∷ []) × IsRowOf s row) }
+    ensures known { knowns_of R.bytes inputs.new ≡ knowns_of R.bytes inputs.old }
+    ensures inputs { AllByRecursion (IsInput R.bytes) inputs.old → AllByRecursion (IsInput R.bytes) inputs.new }
+    ensures cause { HaveFaultCause (λ e. e ≡ file_error.Read) (faults_of R.faults inputs.old) (faults_of R.faults inputs.new) result }
+    ensures accepts { IfErr result (λ e. (d : AnyDamage) → e ≡ file_error.Damaged d → (s : Columns) (front : List AnyRow) (givens : List (List AnyRow)) → aggs.now ≡ aggs_of s → IsGathering R.bytes s inputs.old cursors.old (from + 1) first front givens
+        → (contents : List (List AnyRow)) → AreTold (knowns_of R.bytes inputs.old) contents → KeepsBound (aggs_of s) [] (rows_of (lifted_parts (knowns_of R.bytes inputs.old) contents)) → ⊥) }
+{
+    folds_go_on();
+    folds_totals();
+    let mut row = first;
+    'same: while let Some(i) = same_key(winners, cursors, row.key.as_slice()) {
+        let taken = match advance(inputs, cursors, winners, i) {
+            Ok(taken) => taken,
+            Err(error) => return Err(error),
+        };
+        from = i;
+        let Some(more) = taken else { unreachable!() };
+        if !combines_all(aggs, row.values.as_slice(), more.values.as_slice()) {
+            let newest = newest_with(cursors, row.key.as_slice(), from);
+            return Err(sum_fault(file_at(inputs, newest)));
+        }
+        combine_into(aggs, &mut row.values, more.values.as_slice());
+    }
+    Ok(row)
+}

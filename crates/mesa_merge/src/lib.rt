@@ -1,0 +1,14 @@
+//! Files merged as streams: the rows of their fold, one by one.
+#![tactic(auto)]
+
+mod gathering;
+mod laws;
+mod making;
+mod matches;
+mod merge;
+mod next;
+mod streams;
+mod sums;
+
+pub use laws::all_are_told;
+pub use merge::Merge;

@@ -1,0 +1,199 @@
+// The fold of inputs as a stream.
+ghost use Rattle.std.specs.Prelude.{◌≡◌, ◌<◌, ◌≤◌, ◌*◌, ◌-◌, ◌^◌, ◌++◌, ◌∷◌, [], ℕ, List, length, min, sum_by, IfOk, IfErr, IfSome, IfNone, None, Some, Err, true};
+ghost use Rattle.std.specs.List.{AllByRecursion};
+ghost use Rattle.mesa_file.specs.declared.damage.Damage.{Damage as AnyDamage};
+ghost use Rattle.mesa_value.specs.declared.Agg.{Agg as AnyAgg};
+ghost use Rattle.mesa_schema.specs.declared.rows.Row.{Row as AnyRow};
+ghost use Rattle.mesa_schema.specs.Columns.{Columns, aggs_of};
+ghost use Rattle.mesa_schema.specs.Folded.{folded, rows_of};
+ghost use Rattle.mesa_schema.specs.Rows.{IsRowOf};
+ghost use Rattle.mesa_fold.specs.Bound.{KeepsBound};
+ghost use Rattle.mesa_delta.specs.declared.error.FileError.{FileError as AnyError};
+ghost use Rattle.mesa_delta.specs.declared.error.FileError.TheVariants as file_error;
+ghost use Rattle.mesa_cursor.specs.Cursors.{IsInput};
+ghost use Rattle.mesa_merge.specs.Faults.{HaveFaultCause, faults_of};
+ghost use Rattle.mesa_merge.specs.Inputs.{AreAll, AreInputs, AreTold, knowns_of, lifted_parts};
+
+use crate::making::{Parts, parts_of};
+use crate::next::{begin, next_row};
+use crate::streams::held_by;
+use mesa_cursor::Cursor;
+use mesa_delta::{FileError, Input};
+use mesa_disk::FileReader;
+use mesa_schema::Row;
+use mesa_value::Agg;
+use std::alloc::{AllocError, Global};
+
+/// The fold of files as a stream: its rows come one by one, in the order of their keys. The files stand in version order, and at most one block is held of each.
+#[derive(Drop)]
+pub struct Merge<R> {
+    inputs: Vec<Input<R>>,
+    cursors: Vec<Cursor>,
+    winners: Vec<usize>,
+    // The aggregations of the columns that the rows are lifted to.
+    aggs: Vec<Agg>,
+    // Whether the first blocks were read.
+    begun: bool,
+    failed: Option<FileError>,
+}
+
+impl<R: FileReader> Merge<R> {
+    ghost use Rattle.mesa_merge.specs.Merged.{HasMerged, IsBegun, failed_of, hands_in, inputs_of, nothing_given};
+
+    /// A merge of inputs in version order, whose rows are lifted to one schema. Nothing is read yet.
+    pub fn new(alloc: Global, inputs: Vec<Input<R>>) -> Result<Self, (AllocError, Vec<Input<R>>)>
+        requires { AllByRecursion (IsInput R.bytes) inputs.items }
+        ensures merged { IfOk result (λ m. (s : Columns) → AreInputs R.bytes s inputs.items → HasMerged R.bytes s m (nothing_given inputs.items)) }
+        ensures nothing { (aggs : List AnyAgg) → folded aggs (nothing_given inputs.items) ≡ [] }
+        ensures inputs { IfOk result (λ m. inputs_of m ≡ inputs.items) }
+        ensures given_back { IfErr result (λ e. e.1 ≡ inputs) }
+    {
+        let Ok(parts) = parts_of(alloc, &inputs) else {
+            return Err((AllocError, inputs));
+        };
+        let Parts {
+            cursors,
+            winners,
+            aggs,
+        } = parts;
+        Ok(Merge {
+            inputs,
+            cursors,
+            winners,
+            aggs,
+            begun: false,
+            failed: None,
+        })
+    }
+
+    /// The next row of the fold; None at the end of all inputs. After an Err each call answers the same Err.
+    pub fn next(&mut self) -> Result<Option<Row>, FileError>
+        requires { IfNone (failed_of self.old) ((s : Columns) × (givens : List (List AnyRow)) × HasMerged R.bytes s self.old givens) }
+
+        // What was given folds to one row more.
+        ensures some { IfOk result (λ o. IfSome o (λ row. (s : Columns) (givens : List (List AnyRow)) → HasMerged R.bytes s self.old givens
+            → (after : List (List AnyRow)) × HasMerged R.bytes s self.new after × (folded (aggs_of s) after ≡ folded (aggs_of s) givens ++ row ∷ []) × IsRowOf s row)) }
+
+        // Or each input has given all of its rows.
+        ensures none { IfOk result (λ o. IfNone o ((s : Columns) (givens : List (List AnyRow)) → HasMerged R.bytes s self.old givens
+            → HasMerged R.bytes s self.new givens × AreAll (knowns_of R.bytes (inputs_of self.new)) givens)) }
+
+        // An Err stays.
+        ensures failed { IfErr result (λ e. failed_of self.new ≡ Some e) }
+        ensures again { (e : AnyError) → failed_of self.old ≡ Some e → (result ≡ Err e) × (self.new ≡ self.old) }
+
+        // The inputs stay the same, whatever is answered.
+        ensures known { knowns_of R.bytes (inputs_of self.new) ≡ knowns_of R.bytes (inputs_of self.old) }
+        ensures inputs { AllByRecursion (IsInput R.bytes) (inputs_of self.old) → AllByRecursion (IsInput R.bytes) (inputs_of self.new) }
+
+        // Read comes where a count of the readers rose. Damaged never comes where the inputs are the recorded files
+        // and the absolute values of each sum column of their lifted rows keep the bound.
+        ensures cause { failed_of self.old ≡ None → HaveFaultCause (λ e. e ≡ file_error.Read) (faults_of R.faults (inputs_of self.old)) (faults_of R.faults (inputs_of self.new)) result }
+        ensures accepts { IfErr result (λ e. (d : AnyDamage) → e ≡ file_error.Damaged d → (s : Columns) (givens : List (List AnyRow)) → HasMerged R.bytes s self.old givens
+            → (contents : List (List AnyRow)) → AreTold (knowns_of R.bytes (inputs_of self.old)) contents → KeepsBound (aggs_of s) [] (rows_of (lifted_parts (knowns_of R.bytes (inputs_of self.old)) contents)) → ⊥) }
+    {
+        match self.failed {
+            Some(error) => Err(error),
+            None => self.go_on(),
+        }
+    }
+
+    // The next row of a merge that has not failed.
+    fn go_on(&mut self) -> Result<Option<Row>, FileError>
+        requires { (s : Columns) × (givens : List (List AnyRow)) × HasMerged R.bytes s self.old givens }
+        ensures some { IfOk result (λ o. IfSome o (λ row. (s : Columns) (givens : List (List AnyRow)) → HasMerged R.bytes s self.old givens
+            → (after : List (List AnyRow)) × HasMerged R.bytes s self.new after × (folded (aggs_of s) after ≡ folded (aggs_of s) givens ++ row ∷ []) × IsRowOf s row)) }
+        ensures none { IfOk result (λ o. IfNone o ((s : Columns) (givens : List (List AnyRow)) → HasMerged R.bytes s self.old givens
+            → HasMerged R.bytes s self.new givens × AreAll (knowns_of R.bytes (inputs_of self.new)) givens)) }
+        ensures failed { IfErr result (λ e. failed_of self.new ≡ Some e) }
+        ensures known { knowns_of R.bytes (inputs_of self.new) ≡ knowns_of R.bytes (inputs_of self.old) }
+        ensures inputs { AllByRecursion (IsInput R.bytes) (inputs_of self.old) → AllByRecursion (IsInput R.bytes) (inputs_of self.new) }
+        ensures cause { HaveFaultCause (λ e. e ≡ file_error.Read) (faults_of R.faults (inputs_of self.old)) (faults_of R.faults (inputs_of self.new)) result }
+        ensures accepts { IfErr result (λ e. (d : AnyDamage) → e ≡ file_error.Damaged d → (s : Columns) (givens : List (List AnyRow)) → HasMerged R.bytes s self.old givens
+            → (contents : List (List AnyRow)) → AreTold (knowns_of R.bytes (inputs_of self.old)) contents → KeepsBound (aggs_of s) [] (rows_of (lifted_parts (knowns_of R.bytes (inputs_of self.old)) contents)) → ⊥) }
+    {
+        match self.step() {
+            Ok(row) => Ok(row),
+            Err(error) => {
+                self.failed = Some(same(&error));
+                Err(error)
+            }
+        }
+    }
+
+    // The next row, after the first blocks were read.
+    fn step(&mut self) -> Result<Option<Row>, FileError>
+        requires { (s : Columns) × (givens : List (List AnyRow)) × HasMerged R.bytes s self.old givens }
+        ensures some { IfOk result (λ o. IfSome o (λ row. (s : Columns) (givens : List (List AnyRow)) → HasMerged R.bytes s self.old givens
+            → (after : List (List AnyRow)) × HasMerged R.bytes s self.new after × (folded (aggs_of s) after ≡ folded (aggs_of s) givens ++ row ∷ []) × IsRowOf s row)) }
+        ensures none { IfOk result (λ o. IfNone o ((s : Columns) (givens : List (List AnyRow)) → HasMerged R.bytes s self.old givens
+            → HasMerged R.bytes s self.new givens × AreAll (knowns_of R.bytes (inputs_of self.new)) givens)) }
+        ensures known { knowns_of R.bytes (inputs_of self.new) ≡ knowns_of R.bytes (inputs_of self.old) }
+        ensures inputs { AllByRecursion (IsInput R.bytes) (inputs_of self.old) → AllByRecursion (IsInput R.bytes) (inputs_of self.new) }
+        ensures cause { HaveFaultCause (λ e. e ≡ file_error.Read) (faults_of R.faults (inputs_of self.old)) (faults_of R.faults (inputs_of self.new)) result }
+        ensures accepts { IfErr result (λ e. (d : AnyDamage) → e ≡ file_error.Damaged d → (s : Columns) (givens : List (List AnyRow)) → HasMerged R.bytes s self.old givens
+            → (contents : List (List AnyRow)) → AreTold (knowns_of R.bytes (inputs_of self.old)) contents → KeepsBound (aggs_of s) [] (rows_of (lifted_parts (knowns_of R.bytes (inputs_of self.old)) contents)) → ⊥) }
+    {
+        if self.begun {
+            return self.further();
+        }
+        match begin(&mut self.inputs, &mut self.cursors, &mut self.winners) {
+            Ok(()) => {
+                self.begun = true;
+                self.further()
+            }
+            Err(error) => Err(error),
+        }
+    }
+
+    // The next row, where the first blocks were read.
+    fn further(&mut self) -> Result<Option<Row>, FileError>
+        requires { (s : Columns) × (givens : List (List AnyRow)) × HasMerged R.bytes s self.old givens × IsBegun self.old }
+        ensures some { IfOk result (λ o. IfSome o (λ row. (s : Columns) (givens : List (List AnyRow)) → HasMerged R.bytes s self.old givens
+            → (after : List (List AnyRow)) × HasMerged R.bytes s self.new after × (folded (aggs_of s) after ≡ folded (aggs_of s) givens ++ row ∷ []) × IsRowOf s row)) }
+        ensures none { IfOk result (λ o. IfNone o ((s : Columns) (givens : List (List AnyRow)) → HasMerged R.bytes s self.old givens
+            → HasMerged R.bytes s self.new givens × AreAll (knowns_of R.bytes (inputs_of self.new)) givens)) }
+        ensures known { knowns_of R.bytes (inputs_of self.new) ≡ knowns_of R.bytes (inputs_of self.old) }
+        ensures inputs { AllByRecursion (IsInput R.bytes) (inputs_of self.old) → AllByRecursion (IsInput R.bytes) (inputs_of self.new) }
+        ensures cause { HaveFaultCause (λ e. e ≡ file_error.Read) (faults_of R.faults (inputs_of self.old)) (faults_of R.faults (inputs_of self.new)) result }
+        ensures accepts { IfErr result (λ e. (d : AnyDamage) → e ≡ file_error.Damaged d → (s : Columns) (givens : List (List AnyRow)) → HasMerged R.bytes s self.old givens
+            → (contents : List (List AnyRow)) → AreTold (knowns_of R.bytes (inputs_of self.old)) contents → KeepsBound (aggs_of s) [] (rows_of (lifted_parts (knowns_of R.bytes (inputs_of self.old)) contents)) → ⊥) }
+    {
+        next_row(
+            &mut self.inputs,
+            &mut self.cursors,
+            &mut self.winners,
+            &self.aggs,
+        )
+    }
+
+    /// How many rows are held, at most those of one block of each input. It takes no memory.
+    pub fn held(&self) -> u64
+        ensures held { result ≡ min (sum_by length (hands_in self.now)) (2 ^ 64 - 1) }
+        ensures few { (s : Columns) (givens : List (List AnyRow)) → HasMerged R.bytes s self.now givens → result ≤ 1024 * length (inputs_of self.now) }
+    {
+        held_by(&self.cursors)
+    }
+
+    /// The inputs. It takes no memory.
+    pub fn into_inputs(self) -> Vec<Input<R>>
+        ensures { result.items ≡ inputs_of self }
+    {
+        let Merge {
+            inputs,
+            cursors: _cursors,
+            winners: _winners,
+            aggs: _aggs,
+            begun: _begun,
+            failed: _failed,
+        } = self;
+        inputs
+    }
+}
+
+// The error once more.
+fn same(error: &FileError) -> FileError
+    ensures { result ≡ error.now }
+{
+    *error
+}

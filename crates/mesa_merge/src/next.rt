@@ -1,0 +1,85 @@
+// The next row of a merge.
+ghost use Rattle.std.specs.Prelude.{◌≡◌, ◌<◌, ◌++◌, ◌∷◌, [], ℕ, List, length, IfOk, OnOk, IfErr, IfSome, IfNone, get_or};
+ghost use Rattle.std.specs.List.{AllByRecursion};
+ghost use Rattle.mesa_file.specs.declared.damage.Damage.{Damage as AnyDamage};
+ghost use Rattle.mesa_schema.specs.declared.rows.Row.{Row as AnyRow};
+ghost use Rattle.mesa_schema.specs.Columns.{Columns, aggs_of};
+ghost use Rattle.mesa_schema.specs.Folded.{folded, rows_of};
+ghost use Rattle.mesa_schema.specs.Rows.{IsRowOf};
+ghost use Rattle.mesa_fold.specs.Bound.{KeepsBound};
+ghost use Rattle.mesa_delta.specs.declared.error.FileError.TheVariants as file_error;
+ghost use Rattle.mesa_cursor.specs.Cursors.{IsInput};
+ghost use Rattle.mesa_merge.specs.Faults.{HaveFaultCause, faults_of};
+ghost use Rattle.mesa_merge.specs.Hands.{hands_of};
+ghost use Rattle.mesa_merge.specs.Inputs.{AreAlike, AreAll, AreTold, knowns_of, lifted_parts};
+ghost use Rattle.mesa_merge.specs.Matches.{IsTree};
+ghost use Rattle.mesa_merge.specs.Merging.{HasGivens, IsMerging};
+
+use crate::gathering::gather;
+use crate::matches::least;
+use crate::streams::advance;
+use mesa_cursor::Cursor;
+use mesa_delta::{FileError, Input};
+use mesa_disk::FileReader;
+use mesa_schema::{Row, folds_go_on};
+use mesa_value::Agg;
+
+// Reads the first block of each input.
+pub(crate) fn begin<R: FileReader>(
+    inputs: &mut [Input<R>],
+    cursors: &mut [Cursor],
+    winners: &mut [usize],
+) -> Result<(), FileError>
+    requires count { length cursors.old ≡ length inputs.old }
+    requires tree { IsTree (hands_of cursors.old) winners.old }
+    requires none { (j : ℕ) → get_or (hands_of cursors.old) j [] ≡ [] }
+    ensures tree { OnOk result (IsTree (hands_of cursors.new) winners.new) }
+    ensures merging { OnOk result ((s : Columns) (givens : List (List AnyRow)) → AreAlike s (knowns_of R.bytes inputs.old) → HasGivens R.bytes inputs.old cursors.old givens → ((j : ℕ) → get_or givens j [] ≡ [])
+        → IsMerging R.bytes s inputs.new cursors.new givens) }
+    ensures known { knowns_of R.bytes inputs.new ≡ knowns_of R.bytes inputs.old }
+    ensures inputs { AllByRecursion (IsInput R.bytes) inputs.old → AllByRecursion (IsInput R.bytes) inputs.new }
+    ensures cause { HaveFaultCause (λ e. e ≡ file_error.Read) (faults_of R.faults inputs.old) (faults_of R.faults inputs.new) result }
+    ensures accepts { IfErr result (λ e. (d : AnyDamage) → e ≡ file_error.Damaged d → AllByRecursion (IsInput R.bytes) inputs.old → (contents : List (List AnyRow)) → AreTold (knowns_of R.bytes inputs.old) contents → ⊥) }
+{
+    'inputs: for i in 0..inputs.len() {
+        match advance(inputs, cursors, winners, i) {
+            Ok(_) => {}
+            Err(error) => return Err(error),
+        }
+    }
+    Ok(())
+}
+
+// The next row of the fold.
+pub(crate) fn next_row<R: FileReader>(
+    inputs: &mut [Input<R>],
+    cursors: &mut [Cursor],
+    winners: &mut [usize],
+    aggs: &[Agg],
+) -> Result<Option<Row>, FileError>
+    requires tree { IsTree (hands_of cursors.old) winners.old }
+    requires merging { (s : Columns) × (givens : List (List AnyRow)) × (0 < length inputs.old → aggs.now ≡ aggs_of s) × IsMerging R.bytes s inputs.old cursors.old givens }
+    ensures tree { OnOk result (IsTree (hands_of cursors.new) winners.new) }
+    ensures some { IfOk result (λ o. IfSome o (λ row. (s : Columns) (givens : List (List AnyRow)) → (0 < length inputs.old → aggs.now ≡ aggs_of s) → IsMerging R.bytes s inputs.old cursors.old givens
+        → (after : List (List AnyRow)) × IsMerging R.bytes s inputs.new cursors.new after × (folded (aggs_of s) after ≡ folded (aggs_of s) givens ++ row ∷ []) × IsRowOf s row)) }
+    ensures none { IfOk result (λ o. IfNone o ((s : Columns) (givens : List (List AnyRow)) → IsMerging R.bytes s inputs.old cursors.old givens → AreAll (knowns_of R.bytes inputs.new) givens × IsMerging R.bytes s inputs.new cursors.new givens)) }
+    ensures known { knowns_of R.bytes inputs.new ≡ knowns_of R.bytes inputs.old }
+    ensures inputs { AllByRecursion (IsInput R.bytes) inputs.old → AllByRecursion (IsInput R.bytes) inputs.new }
+    ensures cause { HaveFaultCause (λ e. e ≡ file_error.Read) (faults_of R.faults inputs.old) (faults_of R.faults inputs.new) result }
+    ensures accepts { IfErr result (λ e. (d : AnyDamage) → e ≡ file_error.Damaged d → (s : Columns) (givens : List (List AnyRow)) → (0 < length inputs.old → aggs.now ≡ aggs_of s) → IsMerging R.bytes s inputs.old cursors.old givens
+        → (contents : List (List AnyRow)) → AreTold (knowns_of R.bytes inputs.old) contents → KeepsBound (aggs_of s) [] (rows_of (lifted_parts (knowns_of R.bytes inputs.old) contents)) → ⊥) }
+{
+    folds_go_on();
+    let Some(i) = least(winners, cursors) else {
+        return Ok(None);
+    };
+    let taken = match advance(inputs, cursors, winners, i) {
+        Ok(taken) => taken,
+        Err(error) => return Err(error),
+    };
+    let Some(first) = taken else { unreachable!() };
+    match gather(inputs, cursors, winners, aggs, first, i) {
+        Ok(row) => Ok(Some(row)),
+        Err(error) => Err(error),
+    }
+}

@@ -1,0 +1,78 @@
+// Inputs that are read row by row, each at its cursor.
+ghost use Rattle.std.specs.Prelude.{◌≡◌, ◌≢◌, ◌<◌, ◌+◌, ◌++◌, ◌∷◌, [], ℕ, List, length, IfOk, OnOk, IfErr, IfSome, IfNone, get_or, slice_set, min, sum_by, ◌^◌, ◌-◌};
+ghost use Rattle.std.specs.List.{AllByRecursion};
+ghost use Rattle.mesa_file.specs.declared.damage.Damage.{Damage as AnyDamage};
+ghost use Rattle.mesa_schema.specs.declared.rows.Row.{Row as AnyRow};
+ghost use Rattle.mesa_schema.specs.Columns.{Columns};
+ghost use Rattle.mesa_schema.specs.Rows.{IsRowOf};
+ghost use Rattle.mesa_delta.specs.declared.error.FileError.TheVariants as file_error;
+ghost use Rattle.mesa_cursor.specs.Cursors.{IsInput};
+ghost use Rattle.mesa_merge.specs.Faults.{HaveFaultCause, faults_of};
+ghost use Rattle.mesa_merge.specs.Hands.{IsAhead, hands_of};
+ghost use Rattle.mesa_merge.specs.Inputs.{AreAlike, AreTold, knowns_of};
+ghost use Rattle.mesa_merge.specs.Matches.{IsTree};
+ghost use Rattle.mesa_merge.specs.Merging.{AreReady, HasGivens};
+
+use crate::matches::play;
+use mesa_cursor::Cursor;
+use mesa_delta::{FileError, Input};
+use mesa_disk::FileReader;
+use mesa_schema::Row;
+
+// Takes the row at hand of an input, if there is one, and reads its next block where then none is.
+pub(crate) fn advance<R: FileReader>(
+    inputs: &mut [Input<R>],
+    cursors: &mut [Cursor],
+    winners: &mut [usize],
+    i: usize,
+) -> Result<Option<Row>, FileError>
+    requires within { i < length inputs.old }
+    requires count { length cursors.old ≡ length inputs.old }
+    requires tree { IsTree (hands_of cursors.old) winners.old }
+    ensures tree { IsTree (hands_of cursors.new) winners.new }
+    ensures others { (j : ℕ) → j ≢ i → get_or (hands_of cursors.new) j [] ≡ get_or (hands_of cursors.old) j [] }
+
+    // A row was at hand: it is given, and the row at hand then is above it.
+    ensures there { IfOk result (λ o. IfSome o (λ row. (rows : List AnyRow) × (get_or (hands_of cursors.old) i [] ≡ row ∷ rows))) }
+    ensures given { IfOk result (λ o. IfSome o (λ row. (givens : List (List AnyRow)) → HasGivens R.bytes inputs.old cursors.old givens
+        → HasGivens R.bytes inputs.new cursors.new (slice_set givens i (get_or givens i [] ++ row ∷ [])))) }
+    ensures form { IfOk result (λ o. IfSome o (λ row. (s : Columns) (givens : List (List AnyRow)) → AreAlike s (knowns_of R.bytes inputs.old) → HasGivens R.bytes inputs.old cursors.old givens → IsRowOf s row)) }
+    ensures above { IfOk result (λ o. IfSome o (λ row. (givens : List (List AnyRow)) → HasGivens R.bytes inputs.old cursors.old givens → IsAhead row.key (get_or (hands_of cursors.new) i []))) }
+
+    // None was at hand.
+    ensures none { IfOk result (λ o. IfNone o (get_or (hands_of cursors.old) i [] ≡ [])) }
+    ensures began { IfOk result (λ o. IfNone o ((givens : List (List AnyRow)) → HasGivens R.bytes inputs.old cursors.old givens → HasGivens R.bytes inputs.new cursors.new givens)) }
+
+    // Then one is, or the input is at its end.
+    ensures ready { OnOk result ((n : ℕ) → AreReady n inputs.old cursors.old → AreReady n inputs.new cursors.new) }
+    ensures more { OnOk result (AreReady i inputs.old cursors.old → AreReady (i + 1) inputs.new cursors.new) }
+
+    // The inputs stay the same, whatever is answered.
+    ensures known { knowns_of R.bytes inputs.new ≡ knowns_of R.bytes inputs.old }
+    ensures inputs { AllByRecursion (IsInput R.bytes) inputs.old → AllByRecursion (IsInput R.bytes) inputs.new }
+    ensures cause { HaveFaultCause (λ e. e ≡ file_error.Read) (faults_of R.faults inputs.old) (faults_of R.faults inputs.new) result }
+    ensures accepts { IfErr result (λ e. (d : AnyDamage) → e ≡ file_error.Damaged d → AllByRecursion (IsInput R.bytes) inputs.old → (contents : List (List AnyRow)) → AreTold (knowns_of R.bytes inputs.old) contents → ⊥) }
+{
+    let cursor = &mut cursors[i];
+    let input = &mut inputs[i];
+    cursor.rises(input);
+    let row = cursor.take();
+    let filled = cursor.fill(input);
+    cursor.rises(input);
+    play(winners, cursors, i);
+    match filled {
+        Ok(()) => Ok(row),
+        Err(error) => Err(error),
+    }
+}
+
+// How many rows the inputs have at hand.
+pub(crate) fn held_by(cursors: &[Cursor]) -> u64
+    ensures { result ≡ min (sum_by length (hands_of cursors.now)) (2 ^ 64 - 1) }
+{
+    let mut held: u64 = 0;
+    'cursors: for cursor in cursors {
+        held = held.saturating_add(cursor.held() as u64);
+    }
+    held
+}
