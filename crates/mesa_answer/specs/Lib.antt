@@ -2,3 +2,4 @@ pub mod Answering
 pub mod Gathered
 pub mod Gathering
 pub mod Held
+pub mod Regrouping

@@ -157,14 +157,14 @@ fn is_behind(resume: Option<&[u8]>, key: &[u8]) -> bool
 }
 
 // The types of key columns.
-fn kinds_in(alloc: Global, columns: &[KeyColumn]) -> Result<Vec<KeyType>, AllocError>
+pub(crate) fn kinds_in(alloc: Global, columns: &[KeyColumn]) -> Result<Vec<KeyType>, AllocError>
     ensures { IfOk result (λ kinds. kinds.items ≡ map (λ (c : Column). c.kind) columns.now) }
 {
     columns.iter().map(|column| column.kind).collect(alloc)
 }
 
 // How many columns stand before and at the last of these places.
-fn depth_of(places: &[u16]) -> usize
+pub(crate) fn depth_of(places: &[u16]) -> usize
     ensures { EachIndex places.now (λ k. slice_index places.now k < result) }
 {
     match greatest(places) {

@@ -9,6 +9,7 @@ mod hand;
 mod laws;
 mod page;
 mod putting;
+mod regrouping;
 mod views;
 
 pub use answering::answer;
@@ -16,4 +17,5 @@ pub use error::GroupError;
 pub use grouping::group;
 pub use groups::Groups;
 pub use laws::answer_over_parts;
+pub use regrouping::Regrouping;
 pub use views::view_rows;

@@ -33,7 +33,11 @@ pub fn view_rows(
 }
 
 // The places of these names among columns, for those that are there.
-fn places<C: Named>(alloc: Global, names: &[Name], columns: &[C]) -> Result<Vec<u16>, AllocError>
+pub(crate) fn places<C: Named>(
+    alloc: Global,
+    names: &[Name],
+    columns: &[C],
+) -> Result<Vec<u16>, AllocError>
     requires { length columns.now ≤ 2 ^ 16 }
     ensures places { IfOk result (λ found. found.items ≡ places_in (map C.name_of columns.now) names.now) }
     ensures within { IfOk result (λ found. IsTrue (are_places columns.now found.items)) }

@@ -1,0 +1,104 @@
+// Rows of a table as rows of one of its views.
+ghost use Rattle.std.specs.Prelude.{◌≡◌, ◌<◌, IsTrue, IfOk, IfSome, length, slice_get};
+ghost use Rattle.mesa_key.specs.Spelling.{is_spelling};
+ghost use Rattle.mesa_schema.specs.declared.views.View.{View as Chosen};
+ghost use Rattle.mesa_schema.specs.Changes.{columns_of};
+ghost use Rattle.mesa_schema.specs.Columns.{Columns};
+ghost use Rattle.mesa_schema.specs.Rows.{IsRowOf};
+ghost use Rattle.mesa_schema.specs.Views.{view_columns};
+ghost use Rattle.mesa_filter.specs.Query.{are_places};
+ghost use Rattle.mesa_answer.specs.Regrouping.{places_seen, row_under};
+
+use crate::groups::{depth_of, kinds_in};
+use crate::hand::Hand;
+use crate::views::places;
+use mesa_key::KeyType;
+use mesa_list::Items;
+use mesa_schema::{Evolving, Row};
+use std::alloc::{AllocError, Global};
+use std::marker::Model;
+
+/// How rows of a table become rows of one of its views: each by itself goes under the view's key, with the view's values. It is made once for many rows.
+#[derive(Drop)]
+pub struct Regrouping {
+    kinds: Vec<KeyType>,
+    columns: Vec<u16>,
+    values: Vec<u16>,
+    // How many columns of a row's key are looked at, and the row at hand.
+    depth: usize,
+    hand: Hand,
+}
+
+impl Model for Regrouping {
+    ghost use Rattle.std.specs.Prelude.{◌<◌, EachIndex, slice_index};
+    ghost use Rattle.mesa_answer.specs.Regrouping.{PlacesSeen};
+
+    ghost Value = { PlacesSeen };
+
+    ghost view = { λ r. record { kinds = r.kinds.items; columns = r.columns.items; values = r.values.items } };
+
+    ghost invariant = { λ r. EachIndex r.columns.items (λ k. slice_index r.columns.items k < r.depth) };
+}
+
+impl Regrouping {
+    /// By the columns of the view of a number.
+    pub fn of(alloc: Global, evolving: &Evolving, view: u8) -> Result<Self, AllocError>
+        requires there { view < length evolving.now.views }
+        ensures seen { IfOk result (λ r. IfSome (slice_get evolving.now.views view) (λ v. r ≡ places_seen (columns_of evolving.now) v)) }
+        ensures columns_there { IfOk result (λ r. IsTrue (are_places (columns_of evolving.now).keys r.columns)) }
+        ensures values_there { IfOk result (λ r. IsTrue (are_places (columns_of evolving.now).values r.values)) }
+    {
+        let schema = evolving.present();
+        let view = evolving.view(view);
+        let kinds = kinds_in(alloc, schema.keys())?;
+        let columns = places(alloc, view.keys.as_slice(), schema.keys())?;
+        let values = places(alloc, view.values.as_slice(), schema.values())?;
+        let depth = depth_of(&columns);
+        Ok(Regrouping {
+            kinds,
+            columns,
+            values,
+            depth,
+            hand: Hand::new(alloc),
+        })
+    }
+
+    /// The places of the view's key columns among the table's.
+    pub fn columns(&self) -> &[u16]
+        ensures { result.now ≡ self.now.columns }
+    {
+        &self.columns
+    }
+
+    /// The places of the view's value columns among the table's.
+    pub fn values(&self) -> &[u16]
+        ensures { result.now ≡ self.now.values }
+    {
+        &self.values
+    }
+
+    /// A row of the table as one of the view, in the room that it has.
+    pub fn row(&mut self, row: Row) -> Result<Row, AllocError>
+        requires { IsTrue (is_spelling self.old.kinds row.key) }
+        ensures regrouped { IfOk result (λ now. now ≡ row_under self.old row) }
+        ensures form { IfOk result (λ now. (s : Columns) (v : Chosen) → self.old ≡ places_seen s v → IsRowOf s row → IsRowOf (view_columns s v) now) }
+        ensures same { self.new ≡ self.old }
+    {
+        self.hand
+            .take(&self.kinds, self.depth, &self.columns, &self.values, &row)?;
+        let Row { key, values } = row;
+        let key = refilled(key, self.hand.key())?;
+        let values = refilled(values, self.hand.values())?;
+        Ok(Row { key, values })
+    }
+}
+
+// A list of other items, in the same room.
+fn refilled<T: Copy>(list: Items<T>, with: &[T]) -> Result<Items<T>, AllocError>
+    ensures { IfOk result (λ filled. filled ≡ with.now) }
+{
+    let mut items = list.into_vec();
+    items.clear();
+    items.extend_from_slice(with)?;
+    Ok(Items::from_vec(items))
+}

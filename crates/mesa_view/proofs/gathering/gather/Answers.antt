@@ -1,0 +1,95 @@
+use Rattle.std.proofs.Common.{◌≡◌, ◌∙◌, ◌++◌, List, append_assoc, ap, subst, sym, refl, inl, inr}
+use Rattle.std.proofs.lemmas.Result.{err_from_is_err_and}
+use Rattle.mesa_schema.specs.declared.rows.Row.{Row}
+use Rattle.mesa_schema.specs.Changes.{columns_of}
+use Rattle.mesa_schema.specs.Columns.{Columns}
+use Rattle.mesa_schema.specs.Rows.{AreRowsOf}
+use Rattle.mesa_delta.specs.Indexed.{Indexed}
+use Rattle.mesa_cursor.specs.Cursors.{reader_in}
+use Rattle.mesa_scan.proofs.Onwards.{damaged_before, same_input}
+use Rattle.mesa_answer.specs.Answering.{KeepsSums}
+use Rattle.mesa_answer.specs.Gathered.{HasPut, wanted_of}
+use Rattle.mesa_answer.specs.Gathering.{Wanted}
+use Rattle.mesa_view.specs.SumDamage.{IsSumDamage}
+use Rattle.mesa_view.proofs.Blocks.{given_all, given_bounded, more_form, more_rows, no_fault}
+use Rattle.mesa_view.proofs.gathering.gather.Goals as goal
+
+pub returns-in_err-block-clause-damaged : goal.returns-in_err-block-clause-damaged
+returns-in_err-block-clause-damaged g c =
+    let p = err_from_is_err_and c.from_residual-in_err-block.result c.from_residual-in_err-block.ensures.1 in
+    let inv = c.each_block.invariant in
+    rw (p.1, p.2) (λ d e. inl (damaged_before g.R.FileReader.bytes g.R.FileReader.size c.args.input.now c.each_block.input d inv.same inv.size (c.in_err-block.ensures.damaged d e)))
+
+pub returns-in_err-block-clause-never : goal.returns-in_err-block-clause-never
+returns-in_err-block-clause-never g c =
+    let p = err_from_is_err_and c.from_residual-in_err-block.result c.from_residual-in_err-block.ensures.1 in
+    let inv = c.each_block.invariant in
+    rw (p.1, p.2) (λ d e given h b all told indexed keeps. (damaged_before g.R.FileReader.bytes g.R.FileReader.size c.args.input.now c.each_block.input d inv.same inv.size (c.in_err-block.ensures.damaged d e)).unsound b all told indexed)
+
+pub put_rows-requires-clause-gathering : goal.put_rows-requires-clause-gathering
+put_rows-requires-clause-gathering g c = (c.requires.gathering.0 ++ c.each_block.invariant.given, c.each_block.invariant.put c.requires.gathering.0 c.requires.gathering.1)
+
+pub put_rows-requires-clause-form : goal.put_rows-requires-clause-form
+put_rows-requires-clause-form g c =
+    let bytes = g.R.FileReader.bytes in
+    let inv = c.each_block.invariant in
+    let start = c.args.input.now in
+    let now = c.block.new.input in
+    let rows = c.block.new.rows.items in
+    let scanned = more_rows bytes now c.block.new.self inv.given c.clear.new.self.items rows c.clear.ensures.items (c.in_ok-block.ensures.more inv.given inv.scanned) in
+    let form : AreRowsOf (columns_of now.evolving.value) rows = more_form bytes now c.block.new.self inv.given rows scanned in
+    let schema : (wanted_of c.each_block.groups).schema ≡ columns_of start.evolving.value = ap (λ (w : Wanted). w.schema) inv.wanted ∙ c.requires.columns in
+    let same = same_input bytes start c.each_block.input now inv.same c.block.ensures.same in
+    let columns : columns_of now.evolving.value ≡ columns_of start.evolving.value = λ k. columns_of (same.evolving k).value in
+    subst (λ (s : Columns). AreRowsOf s c.deref.result.now) (columns ∙ sym schema) (subst (AreRowsOf (columns_of now.evolving.value)) (sym c.deref.ensures.value) form)
+
+pub returns-in_err-put_rows-clause-cause : goal.returns-in_err-put_rows-clause-cause
+returns-in_err-put_rows-clause-cause g c =
+    let p = err_from_is_err_and c.from_residual-in_err-put_rows.result c.from_residual-in_err-put_rows.ensures.1 in
+    let faults = g.R.FileReader.faults in
+    rw (p.1, p.2) (no_fault {T = Unit {0}} c.in_err-put_rows.field-0.0 (faults (reader_in c.args.input.now)) (faults (reader_in c.block.new.input)) (c.in_ok-block.ensures.cause.quiet ∙ c.each_block.invariant.faults) c.in_err-put_rows.ensures.unread)
+
+pub returns-in_err-put_rows-clause-damaged : goal.returns-in_err-put_rows-clause-damaged
+returns-in_err-put_rows-clause-damaged g c =
+    let p = err_from_is_err_and c.from_residual-in_err-put_rows.result c.from_residual-in_err-put_rows.ensures.1 in
+    let file = c.file-file.ensures ∙ ap (λ (x : Indexed). x.file) c.index.ensures in
+    rw (p.1, p.2) (λ d e. inr (subst (λ n. IsSumDamage n d) file (c.in_err-put_rows.ensures.damaged d e)))
+
+pub returns-in_err-put_rows-clause-never : goal.returns-in_err-put_rows-clause-never
+returns-in_err-put_rows-clause-never g c =
+    let p = err_from_is_err_and c.from_residual-in_err-put_rows.result c.from_residual-in_err-put_rows.ensures.1 in
+    let bytes = g.R.FileReader.bytes in
+    let inv = c.each_block.invariant in
+    let start = c.args.input.now in
+    let now = c.block.new.input in
+    let rows = c.block.new.rows.items in
+    let scanned = more_rows bytes now c.block.new.self inv.given c.clear.new.self.items rows c.clear.ensures.items (c.in_ok-block.ensures.more inv.given inv.scanned) in
+    let schema : (wanted_of c.each_block.groups).schema ≡ columns_of start.evolving.value = ap (λ (w : Wanted). w.schema) inv.wanted ∙ c.requires.columns in
+    let same = same_input bytes start c.each_block.input now inv.same c.block.ensures.same in
+    rw (p.1, p.2) (λ d e given h b all told indexed keeps.
+    let bounded = given_bounded bytes start now c.args.filter.now c.block.new.self given (inv.given ++ rows) scanned (c.in_ok-block.ensures.filter ∙ inv.filter) same b all told indexed keeps in
+    let here : KeepsSums (columns_of start.evolving.value) ((given ++ inv.given) ++ c.deref.result.now) = subst (KeepsSums (columns_of start.evolving.value)) (sym (append_assoc given inv.given rows) ∙ ap (λ (more : List Row). (given ++ inv.given) ++ more) (sym c.deref.ensures.value)) bounded in
+    c.in_err-put_rows.ensures.never d e (given ++ inv.given) (inv.put given h) (subst (λ (s : Columns). KeepsSums s ((given ++ inv.given) ++ c.deref.result.now)) (sym schema) here))
+
+pub each_block-preserved : goal.each_block-preserved
+each_block-preserved g c =
+    let bytes = g.R.FileReader.bytes in
+    let inv = c.each_block.invariant in
+    let now = c.block.new.input in
+    let rows = c.block.new.rows.items in
+    record {
+      given = inv.given ++ rows;
+      scanned = more_rows bytes now c.block.new.self inv.given c.clear.new.self.items rows c.clear.ensures.items (c.in_ok-block.ensures.more inv.given inv.scanned);
+      filter = c.in_ok-block.ensures.filter ∙ inv.filter;
+      same = same_input bytes c.args.input.now c.each_block.input now inv.same c.block.ensures.same;
+      size = c.block.ensures.size ∙ inv.size;
+      faults = c.in_ok-block.ensures.cause.quiet ∙ inv.faults;
+      put = λ before h. subst (HasPut c.put_rows.new.groups) (append_assoc before inv.given c.deref.result.now ∙ ap (λ (more : List Row). before ++ (inv.given ++ more)) c.deref.ensures.value)
+          (c.in_ok-put_rows.ensures.put (before ++ inv.given) (inv.put before h));
+      wanted = c.in_ok-put_rows.ensures.wanted ∙ inv.wanted;
+    }
+
+pub returns-clause-put : goal.returns-clause-put
+returns-clause-put g c = λ given h.
+    let inv = c.each_block.invariant in
+    (inv.given, inv.put given h, λ b all told indexed. given_all g.R.FileReader.bytes c.args.input.now c.each_block.input c.args.filter.now c.each_block.scan inv.given inv.scanned inv.filter inv.same (c.each_block-test.ensures.0 refl) b all told indexed)

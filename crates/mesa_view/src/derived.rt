@@ -1,0 +1,82 @@
+// The rows of a view, derived from a file of its table.
+ghost use Rattle.std.specs.Prelude.{◌≡◌, ◌⊎◌, ◌<◌, ℕ, List, length, map, slice_get, IfOk, IfErr, IfSome, IsTrue, Some};
+ghost use Rattle.mesa_fault.specs.Causes.{HasFaultCause};
+ghost use Rattle.mesa_file.specs.declared.damage.Damage.{Damage as AnyDamage};
+ghost use Rattle.mesa_schema.specs.declared.rows.Row.{Row as AnyRow};
+ghost use Rattle.mesa_schema.specs.Changes.{columns_of};
+ghost use Rattle.mesa_schema.specs.Folded.{grouped};
+ghost use Rattle.mesa_schema.specs.Rows.{AreRowsOf};
+ghost use Rattle.mesa_schema.specs.Views.{view_columns, view_rows};
+ghost use Rattle.mesa_filter.specs.Query.{are_places};
+ghost use Rattle.mesa_delta.specs.declared.error.FileError.TheVariants as file_error;
+ghost use Rattle.mesa_delta.specs.Reading.{IsIndexed, index_of};
+ghost use Rattle.mesa_cursor.specs.Cursors.{IsInput, IsSameInput, lift_by, reader_in};
+ghost use Rattle.mesa_scan.specs.Damaged.{IsDamaged};
+ghost use Rattle.mesa_answer.specs.Answering.{KeepsSums, grouped_columns};
+ghost use Rattle.mesa_view.specs.SumDamage.{IsSumDamage};
+
+use crate::filters::every_row;
+use crate::gathering::gather;
+use mesa_answer::{Groups, Regrouping};
+use mesa_delta::{FileError, Input};
+use mesa_disk::FileReader;
+use mesa_list::TryCopy;
+use mesa_schema::{RowList, Schema};
+use std::alloc::Global;
+
+/// The rows of the view of a number that an input's rows come to, lifted to the present and grouped. Beside them at most a block of the file is held.
+pub fn derive<R: FileReader>(
+    alloc: Global,
+    input: &mut Input<R>,
+    view: u8,
+) -> Result<RowList, FileError>
+    requires input { IsInput R.bytes input.old }
+    requires there { view < length input.old.evolving.value.views }
+
+    // Where the file is told and its index is true of it, these are its rows, grouped.
+    ensures derived { IfOk result (λ rows. (b : List ℕ) (all : List AnyRow) → R.bytes (reader_in input.old) ≡ Some b → IsIndexed (index_of input.old.reader) all b
+        → IfSome (slice_get input.old.evolving.value.views view) (λ v. rows ≡ view_rows (columns_of input.old.evolving.value) v (map (lift_by input.old) all))) }
+    ensures form { IfOk result (λ rows. IfSome (slice_get input.old.evolving.value.views view) (λ v. AreRowsOf (view_columns (columns_of input.old.evolving.value) v) rows)) }
+
+    // The input stays one, of the same file.
+    ensures input { IsInput R.bytes input.new }
+    ensures same { IsSameInput R.bytes input.old input.new }
+
+    // Read comes where the count of faults rose, and Damaged where the file isn't the recorded one or a sum would leave its type.
+    ensures cause { HasFaultCause (λ e. e ≡ file_error.Read) (R.faults (reader_in input.old)) (R.faults (reader_in input.new)) result }
+    ensures damaged { IfErr result (λ e. (d : AnyDamage) → e ≡ file_error.Damaged d → IsDamaged R.bytes R.size input.old d ⊎ IsSumDamage (index_of input.old.reader).file d) }
+    ensures never { IfErr result (λ e. (d : AnyDamage) → e ≡ file_error.Damaged d → (b : List ℕ) (all : List AnyRow) → R.bytes (reader_in input.old) ≡ Some b → IsIndexed (index_of input.old.reader) all b
+        → KeepsSums (columns_of input.old.evolving.value) (map (lift_by input.old) all) → ⊥) }
+{
+    let table = input.evolving.present().copy()?;
+    let seen = Regrouping::of(alloc, &input.evolving, view)?;
+    group_file(alloc, input, &table, seen.columns(), seen.values())
+}
+
+// An input's rows, lifted to these columns and grouped by those at these places.
+fn group_file<R: FileReader>(
+    alloc: Global,
+    input: &mut Input<R>,
+    table: &Schema,
+    columns: &[u16],
+    values: &[u16],
+) -> Result<RowList, FileError>
+    requires input { IsInput R.bytes input.old }
+    requires table { table.now ≡ columns_of input.old.evolving.value }
+    requires columns_there { IsTrue (are_places table.now.keys columns.now) }
+    requires values_there { IsTrue (are_places table.now.values values.now) }
+    ensures rows { IfOk result (λ rows. (b : List ℕ) (all : List AnyRow) → R.bytes (reader_in input.old) ≡ Some b → IsIndexed (index_of input.old.reader) all b
+        → rows ≡ grouped table.now columns.now values.now (map (lift_by input.old) all)) }
+    ensures form { IfOk result (λ rows. AreRowsOf (grouped_columns table.now columns.now values.now) rows) }
+    ensures input { IsInput R.bytes input.new }
+    ensures same { IsSameInput R.bytes input.old input.new }
+    ensures cause { HasFaultCause (λ e. e ≡ file_error.Read) (R.faults (reader_in input.old)) (R.faults (reader_in input.new)) result }
+    ensures damaged { IfErr result (λ e. (d : AnyDamage) → e ≡ file_error.Damaged d → IsDamaged R.bytes R.size input.old d ⊎ IsSumDamage (index_of input.old.reader).file d) }
+    ensures never { IfErr result (λ e. (d : AnyDamage) → e ≡ file_error.Damaged d → (b : List ℕ) (all : List AnyRow) → R.bytes (reader_in input.old) ≡ Some b → IsIndexed (index_of input.old.reader) all b
+        → KeepsSums (columns_of input.old.evolving.value) (map (lift_by input.old) all) → ⊥) }
+{
+    let filter = every_row(alloc, table)?;
+    let mut groups = Groups::all(alloc, table, columns, values)?;
+    gather(alloc, &mut groups, input, &filter)?;
+    Ok(groups.into_rows()?)
+}
