@@ -13,8 +13,7 @@ use Rattle.mesa_schema.specs.Columns.{Columns, aggs_of}
 use Rattle.mesa_schema.specs.declared.columns.ValueColumn.{ValueColumn}
 use Rattle.mesa_schema.specs.Schema.{is_schema}
 use Rattle.mesa_schema.proofs.Passing.{passed_if}
-use Rattle.mesa_batch.specs.Totals.{abs_total, capped, over_bound, sum_places, totals_with}
-use Rattle.mesa_plain.specs.Sound.{AreAtMost}
+use Rattle.mesa_batch.specs.Totals.{AreAtMost, abs_total, capped, over_bound, sum_places, totals_with}
 
 -- what holds of each sum column holds of each of their places
 pub all_sums : (P : ℕ → Type 0) (aggs : List Agg) (i : ℕ) → ((c : ℕ) → slice_get aggs c ≡ Some agg.Sum → P (i + c)) → AllByRecursion P (sum_places i aggs)

@@ -90,10 +90,20 @@ pub within_known : {X : Type 0} (f : X → Known) (xs ys : List X) (found : Opti
 within_known f xs ys None same within = tt
 within_known f xs ys (Some place) same within = omega (arith, within, ap length same, length-map ys f)
 
--- the columns of a table through its life
+-- a part of a table
+part_kept : {X T : Type 0} (f : X → Known) (of_item : X → T) (of_known : Known → T) (of_table : Table → T) → ((x : X) → of_known (f x) ≡ of_item x) → ((n : ℕ) (totals : List (List ℕ)) (versions : List Contents) (k : Known) → of_table (table_in n totals versions k) ≡ of_known k)
+    → (xs : List X) (totals : List (List ℕ)) (versions : List Contents) (oldest i : ℕ) (read : T) → i < length xs → IfSome (slice_get xs i) (λ x. read ≡ of_item x) → read ≡ of_table (table_at (record { tables = tables_in 0 totals versions (map f xs); oldest = oldest }) i)
+part_kept {X = X} f of_item of_known of_table same known xs totals versions oldest i read lt is =
+    let there = some_there xs i lt in
+    let here : read ≡ of_item there.0 = subst (λ o. IfSome o (λ x. read ≡ of_item x)) there.1 is in
+    here ∙ sym (same there.0) ∙ sym (ap of_known (known_is f xs i there.0 there.1)) ∙ sym (known i totals versions (known_at i (map f xs))) ∙ sym (ap of_table (table_kept totals versions (map f xs) oldest i (omega (arith, lt, length-map xs f))))
+
+-- its columns through its life
 pub lineage_kept : {X : Type 0} (f : X → Known) (lineage : X → Lineage) → ((x : X) → (f x).lineage ≡ lineage x) → (xs : List X) (totals : List (List ℕ)) (versions : List Contents) (oldest i : ℕ) (read : Lineage) → i < length xs
     → IfSome (slice_get xs i) (λ x. read ≡ lineage x) → read ≡ (table_at (record { tables = tables_in 0 totals versions (map f xs); oldest = oldest }) i).lineage
-lineage_kept {X = X} f lineage same xs totals versions oldest i read lt is =
-    let there = some_there xs i lt in
-    let here : read ≡ lineage there.0 = subst (λ o. IfSome o (λ x. read ≡ lineage x)) there.1 is in
-    here ∙ sym (same there.0) ∙ sym (ap (λ (k : Known). k.lineage) (known_is f xs i there.0 there.1)) ∙ sym (ap (λ (t : Table). t.lineage) (table_kept totals versions (map f xs) oldest i (omega (arith, lt, length-map xs f))))
+lineage_kept f lineage same xs totals versions oldest i read lt is = part_kept f lineage (λ (k : Known). k.lineage) (λ (t : Table). t.lineage) same (λ n ts vs k. refl) xs totals versions oldest i read lt is
+
+-- its name
+pub name_kept : {X : Type 0} (f : X → Known) (name : X → List ℕ) → ((x : X) → (f x).name ≡ name x) → (xs : List X) (totals : List (List ℕ)) (versions : List Contents) (oldest i : ℕ) (read : List ℕ) → i < length xs
+    → IfSome (slice_get xs i) (λ x. read ≡ name x) → read ≡ (table_at (record { tables = tables_in 0 totals versions (map f xs); oldest = oldest }) i).name
+name_kept f name same xs totals versions oldest i read lt is = part_kept f name (λ (k : Known). k.name) (λ (t : Table). t.name) same (λ n ts vs k. refl) xs totals versions oldest i read lt is

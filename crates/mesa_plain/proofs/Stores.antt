@@ -16,7 +16,7 @@ use Rattle.mesa_schema.proofs.Refolds.{refolded}
 use Rattle.mesa_batch.specs.Batch.{Placed, rows_for}
 use Rattle.mesa_batch.specs.Gathered.{Batched, rows_at}
 use Rattle.mesa_batch.specs.Glance.{Known}
-use Rattle.mesa_batch.specs.Totals.{abs_total, abs_totals, over_bound, sum_places, totals_with}
+use Rattle.mesa_batch.specs.Totals.{AreAtMost, abs_total, abs_totals, over_bound, sum_places, totals_with}
 use Rattle.mesa_fold.specs.Bound.{KeepsBound}
 use Rattle.mesa_schema.proofs.Folds.{folded-folded}
 use Rattle.mesa_fold.proofs.Kept.{put_rows-fold}
@@ -24,7 +24,7 @@ use Rattle.mesa_fold.proofs.Merged.{abs_total-put_rows}
 use Rattle.mesa_model.specs.Load.{bound_checked, bounds_checked, newest_content, tables_loaded}
 use Rattle.mesa_model.specs.Warehouse.{Table}
 use Rattle.mesa_plain.specs.Kept.{Contents, content_in, contents_in, table_in, tables_in, totals_in}
-use Rattle.mesa_plain.specs.Sound.{AreAtMost, AreHeld, HasTotals, HaveTotals, IsHeld}
+use Rattle.mesa_plain.specs.Sound.{AreHeld, HasTotals, HaveTotals, IsHeld}
 use Rattle.mesa_plain.specs.Grown.{AreContentsWith, AreTotalsWith, CanTake, HasRows, IsBatchOf}
 use Rattle.mesa_plain.proofs.Tables.{bound_none}
 use Rattle.mesa_list.specs.Checks.{◌>>◌}

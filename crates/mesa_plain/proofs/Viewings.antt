@@ -1,21 +1,17 @@
 -- Views that are made.
-use Rattle.std.proofs.Common.{◌≡◌, ◌<◌, arith, ℕ, List, length, map, get_or, Bool, true, false, Option, Some, None, Result, Ok, Err, refl, sym, ◌∙◌, ap}
+use Rattle.std.proofs.Common.{◌≡◌, ◌<◌, arith, ℕ, List, length, get_or, Bool, true, false, Option, Some, None, Result, Ok, Err, refl, ◌∙◌, ap}
 use Rattle.std.specs.Prelude.{◌==◌, nat_le, is_some, ◌≢◌}
 use Rattle.std.specs.List.{list_all}
 use Rattle.std.specs.Option.{ok_or}
-use Rattle.std.proofs.Math.ListN.{get_or-map}
 use Rattle.std.proofs.lemmas.Bool.{leb-true}
 use Rattle.std.proofs.lemmas.List.Folds.{list_all_at}
-use Rattle.mesa_list.specs.Bytes.{same_bytes}
 use Rattle.mesa_list.specs.Checks.{◌>>=◌, ◌>>◌, refuse_if, refuse_unless, refused_as}
 use Rattle.mesa_schema.specs.declared.views.ViewError.{ViewError}
 use Rattle.mesa_schema.specs.declared.views.ViewError.TheVariants as view
 use Rattle.mesa_schema.specs.Changes.{Lineage, columns_of}
-use Rattle.mesa_schema.specs.Columns.{Columns, place_of, value_names}
+use Rattle.mesa_schema.specs.Columns.{Columns, value_names}
 use Rattle.mesa_schema.specs.Names.{has_name, is_name, repeated}
 use Rattle.mesa_schema.specs.Views.{choice_checked, chosen_values_checked, max_views, view_checked, with_view}
-use Rattle.mesa_schema.proofs.Maps.{is_some_position}
-use Rattle.mesa_schema.proofs.Places.{place_named}
 use Rattle.mesa_model.specs.declared.commands.ViewWords.{ViewWords}
 use Rattle.mesa_model.specs.declared.replies.Refusal.{Refusal}
 use Rattle.mesa_model.specs.declared.replies.Refusal.TheVariants as no
@@ -83,13 +79,17 @@ view_done s given pins words number named taken found checked =
 
 -- ---- the columns that it chooses
 
--- a column that is found by a word has it as its name
-pub column_named : {C : Type 0} (name_of : C → List ℕ) (columns : List C) (word : List ℕ) (place : ℕ) (column : C) → place_of word (map name_of columns) ≡ Some place → column ≡ get_or columns place column → name_of column ≡ word
-column_named name_of columns word place column found is = ap name_of is ∙ sym (get_or-map name_of columns place column) ∙ (place_named word (map name_of columns) place (name_of column) found).1
+gone : (there : Bool) (r : Refusal) → refuse_unless there no.NoColumn ≡ Err r → (there ≡ false) × (no.NoColumn ≡ r)
+gone true r due = absurd (cc)
+gone false r due = (refl, cc)
 
 -- a word that is no column
-pub word_missing : (names words : List (List ℕ)) (i : ℕ) (word : List ℕ) → i < length words → get_or words i word ≡ word → place_of word names ≡ None → list_all (λ w. has_name w names) words ≡ false
-word_missing names words i word lt is none = list_all_at (λ w. has_name w names) words i word lt (ap (λ w. has_name w names) is ∙ sym (is_some_position (same_bytes word) names) ∙ ap is_some none)
+pub word_missing : (names words : List (List ℕ)) (i : ℕ) (word : List ℕ) (failure : Failure) → i < length words → get_or words i word ≡ word → IsDue (refuse_unless (has_name word names) no.NoColumn) failure
+    → IsDue (refuse_unless (list_all (λ w. has_name w names) words) no.NoColumn) failure
+word_missing names words i word Memory lt is due = tt
+word_missing names words i word (Refused r) lt is due =
+    let none = gone (has_name word names) r due in
+    ap (λ all. refuse_unless all no.NoColumn) (list_all_at (λ w. has_name w names) words i word lt (ap (λ w. has_name w names) is ∙ none.0)) ∙ ap Err none.1
 
 missing : (all : Bool) (rest : Result (Unit {0}) ViewError) (r : Refusal) → refuse_unless all no.NoColumn ≡ Err r → refused_as view_refusal (refuse_unless all view.NoColumn >> rest) ≡ Err r
 missing true rest r e = absurd (cc)

@@ -2,12 +2,15 @@
 use Rattle.std.specs.Prelude.{ℕ, ◌+◌, List, [], ◌∷◌, ◌++◌, None, map, slice_index_or, slice_set}
 use Rattle.std.specs.declared.alloc.Global.{Global}
 use Rattle.std.specs.declared.sync.Arc.{Arc}
+use Rattle.mesa_schema.specs.declared.changes.Change.{Change}
+use Rattle.mesa_schema.specs.declared.lifting.Lift.{Lift}
 use Rattle.mesa_schema.specs.declared.rows.Row.{Row}
 use Rattle.mesa_schema.specs.Columns.{Columns}
 use Rattle.mesa_schema.specs.Changes.{Lineage}
+use Rattle.mesa_schema.specs.Lifting.{lifted_with}
 use Rattle.mesa_batch.specs.Batch.{Placed}
 use Rattle.mesa_batch.specs.Glance.{Known}
-use Rattle.mesa_model.specs.Tables.{new_table}
+use Rattle.mesa_model.specs.Tables.{new_table, table_changed}
 use Rattle.mesa_model.specs.Load.{tables_loaded}
 use Rattle.mesa_model.specs.Warehouse.{Table, Store, Warehouse, table_at}
 
@@ -23,6 +26,14 @@ Contents = List (Arc (List Row) Global)
 -- their rows
 abbrev pub shared : Contents → List (List Row)
 shared contents = map (λ (content : Arc (List Row) Global). content.value) contents
+
+-- the same at all versions
+abbrev pub all_shared : List Contents → List (List (List Row))
+all_shared versions = map shared versions
+
+-- the contents at one version, where the rows of the table of a number are lifted
+abbrev pub contents_lifted : ℕ → Lift → List (List Row) → List (List Row)
+contents_lifted number lift contents = slice_set contents number (map (lifted_with lift) (slice_index_or contents number []))
 
 -- the content of the table of a number; a table that was made later has no rows
 abbrev pub content_in : ℕ → Contents → List Row
@@ -64,3 +75,7 @@ with_table_more s name columns =
 -- the tables where the one of a number has these columns and views
 abbrev pub with_lineage : Versioned → ℕ → Lineage → Versioned
 with_lineage s number l = record s { store = record s.store { tables = slice_set s.store.tables number (record (table_at s.store number) { lineage = l }) } }
+
+-- the tables where the schema of the one of a number is changed
+abbrev pub with_schema_changed : Versioned → ℕ → Change → Versioned
+with_schema_changed s number c = record s { store = record s.store { tables = slice_set s.store.tables number (table_changed (table_at s.store number) c) } }

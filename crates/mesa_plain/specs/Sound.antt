@@ -1,22 +1,15 @@
 -- What holds of the tables of a plain warehouse, whatever was done to it.
-use Rattle.std.specs.Prelude.{◌≡◌, ℕ, ◌+◌, ◌^◌, ◌<◌, ◌≤◌, List, [], ◌∷◌, length, slice_get, Some, ⊤}
+use Rattle.std.specs.Prelude.{◌≡◌, ℕ, ◌+◌, ◌^◌, ◌<◌, ◌≤◌, List, length, slice_get, Some}
 use Rattle.std.specs.List.{AllByRecursion}
 use Rattle.mesa_schema.specs.declared.rows.Row.{Row}
 use Rattle.mesa_schema.specs.Columns.{Columns, aggs_of}
 use Rattle.mesa_schema.specs.Rows.{AreRowsOf}
 use Rattle.mesa_schema.specs.Changes.{columns_of}
 use Rattle.mesa_batch.specs.Glance.{Known}
-use Rattle.mesa_batch.specs.Totals.{abs_totals, sum_places}
+use Rattle.mesa_batch.specs.Totals.{AreAtMost, abs_totals, sums_in}
 use Rattle.mesa_fold.specs.Put.{IsFold}
 use Rattle.mesa_model.specs.Warehouse.{max_tables, max_versions}
 use Rattle.mesa_plain.specs.Kept.{Contents, contents_in, totals_in}
-
--- as many numbers, each at most the one at its place
-abbrev pub AreAtMost : List ℕ → List ℕ → Type 0
-AreAtMost [] [] = ⊤
-AreAtMost [] (y ∷ ys) = ⊥
-AreAtMost (x ∷ xs) [] = ⊥
-AreAtMost (x ∷ xs) (y ∷ ys) = (x ≤ y) × AreAtMost xs ys
 
 -- A table's content: rows of the form of its columns in the order of their keys, whose absolute values add up to at most its totals.
 pub record IsHeld (s : Columns) (totals : List ℕ) (rows : List Row) : Type 0 where
@@ -26,7 +19,7 @@ pub record IsHeld (s : Columns) (totals : List ℕ) (rows : List Row) : Type 0 w
 
 -- A table has a total for each sum column, at most 2^63 - 1.
 pub record HasTotals (s : Columns) (totals : List ℕ) : Type 0 where
-  pub count : length totals ≡ length (sum_places 0 (aggs_of s))
+  pub count : length totals ≡ sums_in (aggs_of s)
   pub bound : AllByRecursion (λ total. total < 2 ^ 63) totals
 
 -- each table has

@@ -1,7 +1,9 @@
 -- What a refusal tells.
-use Rattle.std.specs.Prelude.{◌≡◌, Result, Err, ⊤}
+use Rattle.std.specs.Prelude.{◌≡◌, ℕ, List, Result, Err, ⊤}
 use Rattle.mesa_batch.specs.declared.words.BatchError.{BatchError}
 use Rattle.mesa_batch.specs.declared.words.BatchError.TheVariants as batch
+use Rattle.mesa_schema.specs.declared.changes.ChangeError.{ChangeError}
+use Rattle.mesa_schema.specs.declared.changes.ChangeError.TheVariants as change
 use Rattle.mesa_schema.specs.declared.schema.SchemaError.{SchemaError}
 use Rattle.mesa_schema.specs.declared.schema.SchemaError.TheVariants as schema
 use Rattle.mesa_schema.specs.declared.views.ViewError.{ViewError}
@@ -9,7 +11,7 @@ use Rattle.mesa_schema.specs.declared.views.ViewError.TheVariants as view
 use Rattle.mesa_model.specs.declared.replies.Refusal.{Refusal}
 use Rattle.mesa_filter.specs.declared.words.QueryError.{QueryError}
 use Rattle.mesa_filter.specs.declared.words.QueryError.TheVariants as query
-use Rattle.mesa_model.specs.Refusals.{batch_refusal, query_refusal, schema_refusal, view_refusal}
+use Rattle.mesa_model.specs.Refusals.{batch_refusal, change_refusal, query_refusal, schema_refusal, view_refusal}
 use Rattle.mesa_plain.specs.declared.failure.Failure.{Failure}
 use Rattle.mesa_plain.specs.declared.failure.Failure.TheVariants.{Memory, Refused}
 
@@ -49,3 +51,14 @@ view_failure view.NoKey = Refused (view_refusal view.NoKey)
 view_failure view.NoValue = Refused (view_refusal view.NoValue)
 view_failure view.NameTwice = Refused (view_refusal view.NameTwice)
 view_failure (view.ReplaceInView column) = Refused (view_refusal (view.ReplaceInView column))
+
+-- why a schema isn't changed whose change of the column of this name is refused
+abbrev pub change_failure : List ℕ → ChangeError → Failure
+change_failure name change.Memory = Memory
+change_failure name change.NameTwice = Refused (change_refusal name change.NameTwice)
+change_failure name change.NoColumn = Refused (change_refusal name change.NoColumn)
+change_failure name change.BadDefault = Refused (change_refusal name change.BadDefault)
+change_failure name change.LastValue = Refused (change_refusal name change.LastValue)
+change_failure name (change.InView view) = Refused (change_refusal name (change.InView view))
+change_failure name change.TooManyColumns = Refused (change_refusal name change.TooManyColumns)
+change_failure name change.EpochsFull = Refused (change_refusal name change.EpochsFull)

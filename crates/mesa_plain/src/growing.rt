@@ -118,7 +118,7 @@ fn sum_column(schema: &Schema, place: usize) -> &Name
     unreachable!()
 }
 
-fn is_sum(agg: Agg) -> bool
+pub(crate) fn is_sum(agg: Agg) -> bool
     ensures { result ≡ adds agg }
 {
     matches!(agg, Agg::Sum)

@@ -1,6 +1,7 @@
 //! The plain warehouse: a slow program that is the reference warehouse, over whole lists in memory.
 #![tactic(auto)]
 
+mod changing;
 mod failure;
 mod gathering;
 mod growing;

@@ -7,8 +7,10 @@ ghost use Rattle.mesa_model.specs.Pins.{make_pin, next_token, release_pin};
 ghost use Rattle.mesa_model.specs.Warehouse.{empty_warehouse};
 ghost use Rattle.mesa_plain.specs.Told.{IsDue};
 
+mod altering;
 mod applying;
 mod making;
+mod naming;
 mod querying;
 mod viewing;
 

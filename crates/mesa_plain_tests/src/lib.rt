@@ -2,8 +2,16 @@
 #![tactic(auto)]
 
 #[cfg(test)]
+mod limits;
+#[cfg(test)]
+mod pins;
+#[cfg(test)]
+mod reading;
+#[cfg(test)]
 mod replies;
 #[cfg(test)]
 mod rows;
+#[cfg(test)]
+mod schemas;
 #[cfg(test)]
 mod trial;

@@ -50,13 +50,14 @@ fn push_page(
 /// Adds a reply's head line, and a page's rows.
 pub fn push_reply(
     alloc: Global,
+    session: u16,
     number: u32,
     reply: &Reply,
     kinds: &[KeyType],
     text: &mut Vec<u8>,
 ) -> Result<(), Fail> {
     let mut line = [0; HEAD_ROOM];
-    let length = head(0, number, 0, reply, &mut line);
+    let length = head(session, number, 0, reply, &mut line);
     text.extend_from_slice(&line[..length])?;
     match reply {
         Reply::Page(page) => push_page(alloc, kinds, page, text),

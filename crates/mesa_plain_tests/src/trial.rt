@@ -1,69 +1,125 @@
 // Scripts whose commands are done by a plain warehouse.
-ghost use Rattle.std.specs.Prelude.{◌≡◌, ℕ, IsTrue, true};
-ghost use Rattle.mesa_model.specs.Warehouse.{Warehouse};
-ghost use Rattle.mesa_plain.specs.Plain.{HasToken, is_plain};
+ghost use Rattle.std.specs.Prelude.{◌≡◌, ◌<◌, ◌+◌, ◌^◌, IfOk};
+ghost use Rattle.mesa_plain.specs.Plain.{GaveAtMost, is_plain};
 
+use crate::reading::sessions;
 use crate::replies::push_reply;
 use mesa_key::KeyType;
-use mesa_model::{Command, Script};
-use mesa_parse::parse;
+use mesa_model::Command;
 use mesa_plain::PlainWarehouse;
 use std::alloc::Global;
+use std::process::Abort;
 use std::test::Fail;
 
-// Whether a command is tried here: none that isn't done, and no pin, which has to have a token left.
-fn is_tried(command: &Command) -> bool
-    ensures plain { result ≡ true → IsTrue (is_plain command.now) }
-    ensures tokens { result ≡ true → (w : Warehouse) (session : ℕ) → HasToken w session command.now }
+// Whether the warehouse does a command itself.
+fn is_done(command: &Command) -> bool
+    ensures { result ≡ is_plain command.now }
 {
-    match command {
-        Command::Table(_)
-        | Command::View(_)
-        | Command::Load(_)
-        | Command::Query(_)
-        | Command::Expire(_) => true,
-        Command::Alter(_)
-        | Command::Explain(_)
-        | Command::Pin(_)
-        | Command::Release(_)
-        | Command::Work(_) => false,
+    !matches!(command, Command::Explain(_) | Command::Work(_))
+}
+
+// The types of the group columns of a query's rows; none where there is no page.
+fn kinds_asked(
+    alloc: Global,
+    warehouse: &PlainWarehouse,
+    session: u16,
+    command: &Command,
+) -> Result<Vec<KeyType>, Fail> {
+    let Command::Query(words) = command else {
+        return Ok(Vec::new(alloc));
+    };
+    match warehouse.query(session, words)? {
+        Ok((_, query)) => Ok(query.group_kinds().to_vec(alloc)?),
+        Err(_) => Ok(Vec::new(alloc)),
     }
 }
 
-fn read(alloc: Global, script: &str) -> Result<Script, Fail> {
-    match parse(alloc, script.as_bytes().to_vec(alloc)?) {
-        Ok(script) => Ok(script),
-        Err(_) => Err("no script")?,
-    }
-}
-
-// Does a command, and adds what is replied.
+// Does a command after so many others, and adds what is replied.
 fn apply(
     alloc: Global,
     warehouse: &mut PlainWarehouse,
+    done: u32,
+    session: u16,
     number: u32,
     command: &Command,
-    kinds: &[KeyType],
     text: &mut Vec<u8>,
-) -> Result<(), Fail> {
-    if !is_tried(command) {
-        return Err("a command that isn't tried")?;
+) -> Result<(), Fail>
+    requires few { GaveAtMost done warehouse.old }
+    requires room { done + 1 < 2 ^ 32 }
+    ensures { GaveAtMost (done + 1) warehouse.new }
+{
+    if !is_done(command) {
+        return Err("a command that isn't done")?;
     }
-    let reply = warehouse.apply(0, command)?;
-    push_reply(alloc, number, &reply, kinds, text)
+    let kinds = kinds_asked(alloc, warehouse, session, command)?;
+    let reply = warehouse.apply(session, command)?;
+    push_reply(alloc, session, number, &reply, &kinds, text)
 }
 
-/// What is replied to a script's commands, each as at position 0; the rows of a page have keys of these types.
-pub fn replies(alloc: Global, script: &str, kinds: &[KeyType]) -> Result<Vec<u8>, Fail> {
-    let script = read(alloc, script)?;
+// Does a session's commands after so many others; how many there are then.
+fn do_session(
+    alloc: Global,
+    warehouse: &mut PlainWarehouse,
+    before: u32,
+    session: u16,
+    commands: &[Command],
+    text: &mut Vec<u8>,
+) -> Result<u32, Fail>
+    requires { GaveAtMost before warehouse.old }
+    ensures { IfOk result (λ done. GaveAtMost done warehouse.new) }
+{
+    let mut done = before;
+    let mut number = 0u32;
+    'commands: for command in commands {
+        if done == u32::MAX {
+            return Err("too many commands")?;
+        }
+        number = number.wrapping_add(1);
+        apply(alloc, warehouse, done, session, number, command, text)?;
+        done += 1;
+    }
+    Ok(done)
+}
+
+/// What is replied to a script's commands, one session after another, each as at position 0.
+pub fn replies(alloc: Global, script: &str) -> Result<String, Fail> {
     let mut warehouse = PlainWarehouse::new(alloc);
     let mut text = Vec::new(alloc);
-    let mut number = 0u32;
-    for session in script.sessions.as_slice() {
-        for command in session.as_slice() {
-            number = number.wrapping_add(1);
-            apply(alloc, &mut warehouse, number, command, kinds, &mut text)?;
-        }
+    let mut done = 0;
+    let mut session = 0u16;
+    'sessions: for commands in &sessions(alloc, script)? {
+        done = do_session(alloc, &mut warehouse, done, session, commands, &mut text)?;
+        session = session.wrapping_add(1);
     }
-    Ok(text)
+    Ok(String::from_utf8(text).ok().ok_or("no text")?)
+}
+
+/// Stops the test of a case whose script is replied to otherwise.
+pub fn expect(
+    rt: &impl Abort,
+    alloc: Global,
+    case: &str,
+    script: &str,
+    text: &str,
+) -> Result<(), Fail> {
+    let replies = replies(alloc, script)?;
+    assert_eq!(rt; replies.as_str(), text, "what is replied in {case}");
+    Ok(())
+}
+
+/// The same of the reply to the last command.
+pub fn expect_last(
+    rt: &impl Abort,
+    alloc: Global,
+    case: &str,
+    script: &str,
+    line: &str,
+) -> Result<(), Fail> {
+    let replies = replies(alloc, script)?;
+    assert_eq!(rt;
+        replies.lines().last(),
+        Some(line),
+        "what is replied at last in {case}"
+    );
+    Ok(())
 }

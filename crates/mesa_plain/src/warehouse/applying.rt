@@ -1,8 +1,8 @@
 // Doing commands.
-ghost use Rattle.std.specs.Prelude.{◌≡◌, IfOk, IsTrue, OnErr};
+ghost use Rattle.std.specs.Prelude.{◌≡◌, ◌+◌, ℕ, IfOk, IsOk, IsTrue, OnErr};
 ghost use Rattle.mesa_model.specs.Query.{query_answer};
 ghost use Rattle.mesa_model.specs.Step.{reply_to_query, step};
-ghost use Rattle.mesa_plain.specs.Plain.{HasToken, is_plain};
+ghost use Rattle.mesa_plain.specs.Plain.{GaveAtMost, HasToken, is_plain};
 
 use crate::warehouse::PlainWarehouse;
 use mesa_filter::QueryWords;
@@ -10,23 +10,36 @@ use mesa_model::{Command, Reply};
 use std::alloc::AllocError;
 
 impl PlainWarehouse {
-    /// Does a command of a session, each but `alter`, `explain` and `work`. A query is answered by
-    /// its page.
+    /// Does a command of a session, each but `explain` and `work`, which the range machine answers. A query is answered by its page.
     pub fn apply(&mut self, session: u16, command: &Command) -> Result<Reply, AllocError>
         requires plain { IsTrue (is_plain command.now) }
         requires tokens { HasToken self.old session command.now }
         ensures step { IfOk result (λ reply. step self.old session command.now ≡ (self.new, reply)) }
         ensures kept { OnErr result (self.new ≡ self.old) }
+        ensures given { (count : ℕ) → GaveAtMost count self.old → GaveAtMost (count + 1) self.new }
+        ensures released { (token : ℕ) → command.now ≡ Command.Release token → IsOk result }
+    {
+        self.decide(session, command)
+    }
+
+    // What `apply` does, but for how many tokens it gives.
+    fn decide(&mut self, session: u16, command: &Command) -> Result<Reply, AllocError>
+        requires plain { IsTrue (is_plain command.now) }
+        requires tokens { HasToken self.old session command.now }
+        ensures step { IfOk result (λ reply. step self.old session command.now ≡ (self.new, reply)) }
+        ensures kept { OnErr result (self.new ≡ self.old) }
+        ensures released { (token : ℕ) → command.now ≡ Command.Release token → IsOk result }
     {
         match command {
             Command::Table(words) => self.make_table(words),
             Command::View(words) => self.make_view(words),
+            Command::Alter(words) => self.alter(words),
             Command::Load(rows) => self.load(rows),
             Command::Query(words) => self.reply_to_query(session, words),
             Command::Pin(version) => self.pin(session, *version),
             Command::Release(token) => Ok(self.release(session, *token)),
             Command::Expire(version) => Ok(self.expire(*version)),
-            Command::Alter(_) | Command::Explain(_) | Command::Work(_) => unreachable!(),
+            Command::Explain(_) | Command::Work(_) => unreachable!(),
         }
     }
 

@@ -12,11 +12,12 @@ ghost use Rattle.mesa_model.specs.Tables.{columns_asked, make_table as table_mad
 ghost use Rattle.mesa_plain.specs.Asked.{columns_checked, keys_asked, values_asked};
 ghost use Rattle.mesa_plain.specs.Told.{IsDue, schema_failure};
 
+use super::naming::read_name;
 use crate::failure::Failure;
 use crate::warehouse::PlainWarehouse;
 use mesa_list::{Items, TryCopy};
 use mesa_model::{KeyWords, Refusal, Reply, SchemaFault, TableWords, ValueWords};
-use mesa_schema::{KeyColumn, Name, NameError, Schema, SchemaError, ValueColumn};
+use mesa_schema::{KeyColumn, Schema, SchemaError, ValueColumn};
 use std::alloc::{AllocError, Global};
 
 /// How many tables there may be.
@@ -54,21 +55,6 @@ impl PlainWarehouse {
         let made = name.copy()?;
         self.store.add_table(self.alloc, name, schema)?;
         Ok(Reply::Table { name: made })
-    }
-}
-
-// The name of these bytes, which are refused where they break the rule of names.
-pub(super) fn read_name(alloc: Global, bytes: &[u8]) -> Result<Name, Failure>
-    ensures read { IfOk result (λ name. name ≡ bytes.now) }
-    ensures named { OnOk result (is_name bytes.now ≡ true) }
-    ensures refused { IfErr result (IsDue (refuse_unless (is_name bytes.now) (bad_schema fault.BadName))) }
-{
-    match Name::read(alloc, bytes) {
-        Ok(name) => Ok(name),
-        Err(NameError::Bad) => Err(Failure::Refused(Refusal::BadSchema {
-            reason: SchemaFault::BadName,
-        })),
-        Err(NameError::Memory) => Err(Failure::Memory),
     }
 }
 

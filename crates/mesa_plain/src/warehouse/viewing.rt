@@ -13,11 +13,11 @@ ghost use Rattle.mesa_plain.specs.Asked.{more_views_checked};
 ghost use Rattle.mesa_plain.specs.Told.{IsDue, view_failure};
 
 use super::PlainWarehouse;
-use super::making::read_name;
+use super::naming::{column_name, read_name};
 use crate::failure::Failure;
 use mesa_list::{Items, TryCopy};
 use mesa_model::{Refusal, Reply, SchemaFault, ViewWords};
-use mesa_schema::{Evolving, MAX_VIEWS, Name, Named, View, ViewError, Words, place_of};
+use mesa_schema::{Evolving, MAX_VIEWS, Name, Named, View, ViewError, Words};
 use std::alloc::{AllocError, Global};
 use std::sync::Arc;
 
@@ -141,10 +141,8 @@ fn names_of<C: Named>(alloc: Global, words: &[Words], columns: &[C]) -> Result<I
 {
     let mut names = Items::new(alloc);
     'words: for word in words {
-        let Some(place) = place_of(word.as_slice(), columns) else {
-            return Err(Failure::Refused(Refusal::NoColumn));
-        };
-        names.push(columns[place].name().copy()?)?;
+        let name = column_name(word.as_slice(), columns)?;
+        names.push(name)?;
     }
     Ok(names)
 }

@@ -1,9 +1,11 @@
-use Rattle.std.proofs.Common.{◌≡◌, ◌∙◌, ◌+◌, ◌++◌, ◌∷◌, [], List, ℕ, suc, ap, sym, drop, map, add-one, append_assoc}
+use Rattle.std.proofs.Common.{◌≡◌, ◌∙◌, ◌+◌, ◌++◌, ◌∷◌, [], List, ℕ, suc, ap, sym, subst, drop, map, add-one, append_assoc}
 use Rattle.std.proofs.Math.Seq.{drop-cons}
+use Rattle.std.proofs.lemmas.Result.{err_from_is_err_and}
 use Rattle.mesa_list.specs.Checks.{refuse_unless}
-use Rattle.mesa_schema.specs.Columns.{place_of}
+use Rattle.mesa_schema.specs.Names.{has_name}
 use Rattle.mesa_model.specs.declared.replies.Refusal.TheVariants as no
-use Rattle.mesa_plain.proofs.Viewings.{column_named, word_missing}
+use Rattle.mesa_plain.specs.Told.{IsDue}
+use Rattle.mesa_plain.proofs.Viewings.{word_missing}
 use Rattle.mesa_plain.proofs.warehouse.viewing.names_of.Goals as goal
 
 name_more : (names left rest all : List (List ℕ)) (name word : List ℕ) → name ≡ word → left ≡ word ∷ rest → names ++ left ≡ all → (names ++ name ∷ []) ++ rest ≡ all
@@ -13,19 +15,15 @@ pub words-preserved : goal.words-preserved
 words-preserved g c =
     let i = c.words.word-index in
     let words = c.args.words.now in
-    let columns = c.args.columns.now in
     let w = c.word-item.result in
     let next : drop i words ≡ w ∷ drop (i + 1) words = rw add-one (drop-cons words i w c.words-test.true ∙ ap (λ (v : List ℕ). v ∷ drop (suc i) words) (sym c.word-item.is)) in
-    let names = map g.C.Named.name_of columns in
-    let found = ap (λ n. place_of n names) (sym c.as_slice.ensures) ∙ sym c.place_of.ensures.place ∙ c.in-Some.is in
-    let column = c.index-columns-place.result in
-    let name = c.in_ok-copy.ensures ∙ c.name.ensures ∙ column_named g.C.Named.name_of columns w c.in-Some.place column found c.index-columns-place.is in
     ap (λ names. names ++ drop (i + 1) words) c.in_ok-push.ensures.ok
-    ∙ name_more c.words.names (drop i words) (drop (i + 1) words) words _ w name next c.words.invariant
+    ∙ name_more c.words.names (drop i words) (drop (i + 1) words) words _ w (c.in_ok-name.ensures.read ∙ c.as_slice.ensures) next c.words.invariant
 
-pub returns-in_default-clause-refused : goal.returns-in_default-clause-refused
-returns-in_default-clause-refused g c =
+pub returns-in_err-name-clause-refused : goal.returns-in_err-name-clause-refused
+returns-in_err-name-clause-refused g c =
+    let p = err_from_is_err_and c.from_residual.result c.from_residual.ensures.1 in
     let names = map g.C.Named.name_of c.args.columns.now in
-    let w = c.word-item.result in
-    let none = ap (λ n. place_of n names) (sym c.as_slice.ensures) ∙ sym c.place_of.ensures.place ∙ c.in_default.is in
-    ap (λ all. refuse_unless all no.NoColumn) (word_missing names c.args.words.now c.words.word-index w c.words-test.true (sym c.word-item.is) none)
+    let failure = c.in_err-name.field-0.0 in
+    let due = subst (λ n. IsDue (refuse_unless (has_name n names) no.NoColumn) failure) c.as_slice.ensures c.in_err-name.ensures.refused in
+    rw (p.1, p.2) (word_missing names c.args.words.now c.words.word-index c.word-item.result failure c.words-test.true (sym c.word-item.is) due)

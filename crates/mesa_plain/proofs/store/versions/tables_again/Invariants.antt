@@ -1,6 +1,6 @@
 use Rattle.std.proofs.Common.{◌≡◌, length, map, take}
 use Rattle.mesa_batch.specs.Numbers.{known_of}
-use Rattle.mesa_plain.proofs.store.tables_again.Given as goal
+use Rattle.mesa_plain.proofs.store.versions.tables_again.Given as goal
 
 -- the tables so far
 abbrev pub invariant-tables : goal.invariant-tables

@@ -1,6 +1,6 @@
 use Rattle.std.proofs.Common.{◌≡◌, take}
 use Rattle.mesa_plain.specs.Kept.{shared}
-use Rattle.mesa_plain.proofs.store.shared_again.Given as goal
+use Rattle.mesa_plain.proofs.store.versions.shared_again.Given as goal
 
 -- the contents so far
 abbrev pub invariant-tables : goal.invariant-tables

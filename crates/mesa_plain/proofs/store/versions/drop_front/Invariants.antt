@@ -1,5 +1,5 @@
 use Rattle.std.proofs.Common.{◌≡◌, drop}
-use Rattle.mesa_plain.proofs.store.drop_front.Given as goal
+use Rattle.mesa_plain.proofs.store.versions.drop_front.Given as goal
 
 -- so many are gone
 abbrev pub invariant-versions : goal.invariant-versions

@@ -1,0 +1,171 @@
+// Worked rows of schemas that change.
+use crate::trial::expect;
+use std::test::Fail;
+
+#[test]
+fn added_values(rt: HostRuntime) -> Result<(), Fail> {
+    expect(
+        &rt,
+        rt.alloc(),
+        "added values",
+        "table,t,k int,v sum\n\
+         row,t,1,5\n\
+         commit\n\
+         row,t,1,6\n\
+         commit\n\
+         row,t,1,-4\n\
+         commit\n\
+         alter,t,add_value,m min,7\n\
+         alter,t,add_value,s sum,7\n\
+         alter,t,add_value,s sum,0\n\
+         query,t\n\
+         row,t,1,0,9,2\n\
+         commit\n\
+         query,t\n\
+         row,t,1,0,3,0\n\
+         commit\n\
+         query,t\n",
+        "0.1@0 table t\n\
+         0.2@0 loaded version=0 rows=1\n\
+         0.3@0 loaded version=1 rows=1\n\
+         0.4@0 loaded version=2 rows=1\n\
+         0.5@0 altered t epoch=1\n\
+         0.6@0 refused bad_default column=s\n\
+         0.7@0 altered t epoch=2\n\
+         0.8@0 rows 1 version=2\n\
+         1,7,7,0\n\
+         0.9@0 loaded version=3 rows=1\n\
+         0.10@0 rows 1 version=3\n\
+         1,7,7,2\n\
+         0.11@0 loaded version=4 rows=1\n\
+         0.12@0 rows 1 version=4\n\
+         1,7,3,2\n",
+    )
+}
+
+#[test]
+fn added_key(rt: HostRuntime) -> Result<(), Fail> {
+    expect(
+        &rt,
+        rt.alloc(),
+        "an added key",
+        "table,t,k int,v sum\n\
+         row,t,1,5\n\
+         commit\n\
+         alter,t,add_key,c text,US\n\
+         row,t,1,UK,3\n\
+         commit\n\
+         query,t\n\
+         view,w,t,c,v\n\
+         query,w\n\
+         query,t,,c=US\n",
+        "0.1@0 table t\n\
+         0.2@0 loaded version=0 rows=1\n\
+         0.3@0 altered t epoch=1\n\
+         0.4@0 loaded version=1 rows=1\n\
+         0.5@0 rows 2 version=1\n\
+         1,UK,3\n\
+         1,US,5\n\
+         0.6@0 view w\n\
+         0.7@0 rows 2 version=1\n\
+         UK,3\n\
+         US,5\n\
+         0.8@0 rows 1 version=1\n\
+         1,US,5\n",
+    )
+}
+
+#[test]
+fn views_guard_columns(rt: HostRuntime) -> Result<(), Fail> {
+    expect(
+        &rt,
+        rt.alloc(),
+        "views that guard columns",
+        "table,t,k int;c text,v sum;r replace\n\
+         view,w,t,c,v\n\
+         view,x,t,c,r\n\
+         view,t,t,c,v\n\
+         alter,t,drop_value,v\n\
+         alter,t,drop_value,z\n\
+         query,t,,,c\n",
+        "0.1@0 table t\n\
+         0.2@0 view w\n\
+         0.3@0 refused replace_group column=r\n\
+         0.4@0 refused table_exists\n\
+         0.5@0 refused in_view view=w\n\
+         0.6@0 refused no_column\n\
+         0.7@0 refused replace_group column=r\n",
+    )
+}
+
+// Each refusal of a change, in the order in which they are looked at.
+#[test]
+fn changes_refused(rt: HostRuntime) -> Result<(), Fail> {
+    expect(
+        &rt,
+        rt.alloc(),
+        "changes that are refused",
+        "table,t,k int,v sum\n\
+         alter,u,add_value,w sum,0\n\
+         alter,t,add_value,W sum,x\n\
+         alter,t,add_value,v min,x\n\
+         alter,t,add_value,w min,x\n\
+         alter,t,add_value,w sum,1\n\
+         alter,t,add_key,c int,x\n\
+         alter,t,drop_value,w\n\
+         alter,t,drop_value,v\n\
+         alter,t,add_key,c int,-3\n",
+        "0.1@0 table t\n\
+         0.2@0 refused no_table\n\
+         0.3@0 refused bad_schema reason=bad_name\n\
+         0.4@0 refused bad_schema reason=name_twice\n\
+         0.5@0 refused bad_default column=w\n\
+         0.6@0 refused bad_default column=w\n\
+         0.7@0 refused bad_default column=c\n\
+         0.8@0 refused no_column\n\
+         0.9@0 refused bad_schema reason=last_value\n\
+         0.10@0 altered t epoch=1\n",
+    )
+}
+
+// A sum column that is added may have as much as any other; once it is dropped its total is gone.
+#[test]
+fn totals_follow_changes(rt: HostRuntime) -> Result<(), Fail> {
+    expect(
+        &rt,
+        rt.alloc(),
+        "totals through changes",
+        "table,t,k int,v sum\n\
+         row,t,1,9223372036854775807\n\
+         commit\n\
+         alter,t,add_value,w sum,0\n\
+         row,t,2,0,9223372036854775807\n\
+         commit\n\
+         row,t,3,0,1\n\
+         commit\n\
+         alter,t,drop_value,v\n\
+         row,t,3,1\n\
+         commit\n\
+         alter,t,drop_value,w\n\
+         alter,t,add_value,v sum,0\n\
+         alter,t,drop_value,w\n\
+         row,t,3,9223372036854775807\n\
+         commit\n\
+         query,t\n",
+        "0.1@0 table t\n\
+         0.2@0 loaded version=0 rows=1\n\
+         0.3@0 altered t epoch=1\n\
+         0.4@0 loaded version=1 rows=1\n\
+         0.5@0 refused sum_bound table=t column=w\n\
+         0.6@0 altered t epoch=2\n\
+         0.7@0 refused sum_bound table=t column=w\n\
+         0.8@0 refused bad_schema reason=last_value\n\
+         0.9@0 altered t epoch=3\n\
+         0.10@0 altered t epoch=4\n\
+         0.11@0 loaded version=2 rows=1\n\
+         0.12@0 rows 3 version=2\n\
+         1,0\n\
+         2,0\n\
+         3,9223372036854775807\n",
+    )
+}
