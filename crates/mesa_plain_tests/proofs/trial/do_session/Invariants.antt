@@ -1,0 +1,6 @@
+use Rattle.mesa_plain.specs.Plain.{GaveAtMost}
+use Rattle.mesa_plain_tests.proofs.trial.do_session.Given as goal
+
+-- no session was given more tokens than there were commands
+abbrev pub invariant-commands : goal.invariant-commands
+invariant-commands l = GaveAtMost l.done l.warehouse

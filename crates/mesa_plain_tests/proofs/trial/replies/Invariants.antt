@@ -1,0 +1,6 @@
+use Rattle.mesa_plain.specs.Plain.{GaveAtMost}
+use Rattle.mesa_plain_tests.proofs.trial.replies.Given as goal
+
+-- no session was given more tokens than there were commands
+abbrev pub invariant-sessions : goal.invariant-sessions
+invariant-sessions l = GaveAtMost l.done l.warehouse
