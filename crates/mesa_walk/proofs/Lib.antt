@@ -12,3 +12,4 @@ pub mod Working
 pub mod Beginning
 pub mod Going
 pub mod Alike
+pub mod Making

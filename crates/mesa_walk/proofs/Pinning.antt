@@ -66,7 +66,7 @@ pin_released w s token after r is = by w.closed (is_none (pin_of w s token)) is
     by None false e = let same : (record w { pins = without_pin s token w.pins }, reply.Released token) ≡ (after, r) = cc in (ap (λ (d : Warehouse × Reply). d.0) (sym same), ap (λ (d : Warehouse × Reply). d.1) (sym same))
 
 -- the skeleton after a command, by what the books say it is
-bare_after : (books : Books) (w : Warehouse) (f : Doing) → bare_result bare_done (f w) ≡ bare_result bare_done (f (bare w)) → bare w ≡ books.bare → (after made : Warehouse) (r : Reply) → f w ≡ Ok (after, r) → f books.bare ≡ Ok (made, r) → bare after ≡ bare made
+pub bare_after : (books : Books) (w : Warehouse) (f : Doing) → bare_result bare_done (f w) ≡ bare_result bare_done (f (bare w)) → bare w ≡ books.bare → (after made : Warehouse) (r : Reply) → f w ≡ Ok (after, r) → f books.bare ≡ Ok (made, r) → bare after ≡ bare made
 unfolding done_in
 bare_after books w f alike skeleton after made r one two = ap (λ q. done_in q after) (sym (ap (bare_result bare_done) one) ∙ (alike ∙ ap (λ x. bare_result bare_done (f x)) skeleton ∙ ap (bare_result bare_done) two))
 
