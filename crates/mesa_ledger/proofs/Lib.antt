@@ -9,3 +9,5 @@ pub mod Recording
 pub mod Beginning
 pub mod Pins
 pub mod Staying
+pub mod Agreeing
+pub mod Changing

@@ -17,14 +17,14 @@ use Rattle.mesa_ledger.specs.Turned.{pin_now, pinned_ledger, is_held_pin, releas
 -- ---- skeletons
 
 -- nothing is to be taken from tables without contents
-bare_tables : (ts : List Stock) → map bare_table (map skeleton_of ts) ≡ map skeleton_of ts
+pub bare_tables : (ts : List Stock) → map bare_table (map skeleton_of ts) ≡ map skeleton_of ts
 bare_tables [] = refl
 bare_tables (t ∷ ts) = ap (λ (x : List Table). skeleton_of t ∷ x) (bare_tables ts)
 
 bare_again : (version : ℕ) (c : Catalog) → bare_store (skeletons_from version c) ≡ skeletons_from version c
 bare_again version c = ap (λ (x : List Table). record { tables = x; oldest = version }) (bare_tables c.tables)
 
-bare_pins : (pins : List HeldPin) → map bare_pin (map bare_held pins) ≡ map bare_held pins
+pub bare_pins : (pins : List HeldPin) → map bare_pin (map bare_held pins) ≡ map bare_held pins
 bare_pins [] = refl
 bare_pins (p ∷ pins) = λ i. record { session = p.session; token = p.token; version = p.version; store = bare_again p.version p.copy i } ∷ bare_pins pins i
 
