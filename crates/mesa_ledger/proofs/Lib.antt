@@ -11,3 +11,4 @@ pub mod Pins
 pub mod Staying
 pub mod Agreeing
 pub mod Changing
+pub mod Sources
