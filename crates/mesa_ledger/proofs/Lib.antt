@@ -12,3 +12,4 @@ pub mod Staying
 pub mod Agreeing
 pub mod Changing
 pub mod Sources
+pub mod Writing

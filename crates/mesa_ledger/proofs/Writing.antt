@@ -1,0 +1,79 @@
+-- How a command that writes, and the swap of a work, keep a vault.
+use Rattle.std.proofs.Common.{◌≡◌, ℕ, ◌+◌, ◌<◌, ◌^◌, List, [], ◌∷◌, ◌++◌, length, Bool, true, false, ◌||◌, refl, sym, ap, subst, arith, Option, None, Some, IsTrue}
+use Rattle.mesa_fault.specs.Causes.{last}
+use Rattle.mesa_disk.specs.Files.{AreGone}
+use Rattle.mesa_disk.specs.Image.{Image}
+use Rattle.mesa_disk.specs.Story.{Story, Steps}
+use Rattle.mesa_disk.specs.declared.area.Area.TheVariants.{Zero}
+use Rattle.mesa_commit.specs.Turn.{MovesOnly}
+use Rattle.mesa_model.specs.declared.commands.Command.{Command}
+use Rattle.mesa_model.specs.declared.entries.Entry.{Entry}
+use Rattle.mesa_model.specs.declared.entries.Kind.TheVariants as kind
+use Rattle.mesa_model.specs.declared.entries.Outcome.{Outcome}
+use Rattle.mesa_model.specs.declared.entries.Outcome.TheVariants as outcome
+use Rattle.mesa_model.specs.declared.replies.Reply.{Reply}
+use Rattle.mesa_history.specs.Counting.{one_if}
+use Rattle.mesa_history.specs.Legal.{is_writing, is_written}
+use Rattle.mesa_history.specs.Refused.{is_refusal}
+use Rattle.mesa_history.specs.Replay.{told_by}
+use Rattle.mesa_history.specs.Run.{Stage}
+use Rattle.mesa_history.specs.Turns.{IsDue}
+use Rattle.mesa_image.specs.Catalog.{Catalog}
+use Rattle.mesa_image.specs.Contents.{kept_of}
+use Rattle.mesa_image.specs.Held.{IsHeld}
+use Rattle.mesa_image.specs.Sound.{AreStocked, StandsFor}
+use Rattle.mesa_image_laws.specs.Sourced.{HasSources}
+use Rattle.mesa_output.specs.Output.{block}
+use Rattle.mesa_skeleton.specs.Rows.{Rows}
+use Rattle.mesa_walk.specs.Causes.{Unwritten, reply_of, told_at}
+use Rattle.mesa_walk.specs.Changes.{Doing, IsChange, IsDecided}
+use Rattle.mesa_walk.specs.Printing.{IsPut}
+use Rattle.mesa_walk.specs.Sight.{is_of_schemas}
+use Rattle.mesa_walk.specs.Turns.{entry}
+use Rattle.mesa_walk.specs.Walk.{Outset, run_of, AllStand, Counts, Passes, WalksOn, WalksWith, Writes}
+use Rattle.mesa_walk.proofs.Changing.{unwritten_turn, written_turn}
+use Rattle.mesa_ledger.specs.Ledger.{Ledger, books_of}
+use Rattle.mesa_ledger.specs.Recorded.{Adopts, IsRecorded, failed_ledger, recorded_ledger, removed_by}
+use Rattle.mesa_ledger.specs.Vault.{Origin, IsVault, Starts, outset_of, written_by}
+use Rattle.mesa_ledger.proofs.Recording.{failed_vault, recorded_vault}
+use Rattle.mesa_ledger.proofs.Staying.{stands_now}
+use Rattle.mesa_ledger.proofs.Standing.{held_stand}
+
+-- a run of a family, where the files had these rows
+module _ (n : Starts) (w : Rows) (sound : Bool) (l : Ledger) (story : Story) (held : Option (List ℕ)) (h : List Entry) (running refused : Bool) (v : IsVault (outset_of n w) (n.origin w) sound l story held h running refused)
+    (session number : ℕ) (low : session < 2 ^ 16) (few : number < 2 ^ 32) (m : ℕ) (ran : running ≡ true) (at : ℕ) (place : at ≡ length h) (was_open : l.closed ≡ None)
+    (later : Rows) (x : Catalog) (made : List (ℕ × Option (List ℕ))) (gone : List ℕ) (adopted : ℕ) (adopts : Adopts l made adopted) (recorded : IsRecorded l v.rows later x made gone)
+    (new : Story) (moment : m ≡ new.moment) (passes : Passes story new) (only : Steps (MovesOnly made (removed_by l (length h) gone)) story.told new.told) (writes : Writes StandsFor story new (kept_of v.rows l.catalogue) (kept_of later x)) (now : Bool) (new_held : Option (List ℕ)) where
+  abbrev o : Outset
+  o = outset_of n w
+
+  abbrev g : Origin
+  g = n.origin w
+
+  module _ (c : Command) (stage : Stage) (f : Doing) (d : IsDecided session c stage f) (due : IsDue (outset_of n w).script (run_of (outset_of n w) h) session number c stage) (generation end : ℕ) (rep : Reply) (writes_is : is_written rep ≡ true)
+      (change : IsChange sound (books_of v.rows l) (books_of later (recorded_ledger l (length h) x generation gone l.leases adopted end)) f rep) where
+    abbrev turn_with : Outcome → Entry
+    turn_with out = entry session number kind.Decide out m
+
+    abbrev after : Ledger
+    after = recorded_ledger l (length h) x generation gone l.leases adopted end
+
+    -- Its device work is done.
+    pub written_vault : Counts story new false → (bodies : List (List ℕ)) → (IsTrue sound → new.moment < last → IsHeld new bodies end x later) → ((i : Image) → new.told ≡ Some i → AreGone (removed_by l (length h) gone) i) → (IsTrue sound → AreStocked later x) → end < new.len Zero
+        → generation ≡ l.generation + one_if (is_of_schemas rep) → (told_by o.script (run_of o h) (turn_with outcome.Stands) ≡ Some (told_at (run_of o h).position rep) → IsTrue sound → HasSources later (written_by o g.found (h ++ turn_with outcome.Stands ∷ [])) x)
+        → IsPut (block (turn_with outcome.Stands) (Some (told_at at rep))) now held new_held → IsVault o g sound after new new_held (h ++ turn_with outcome.Stands ∷ []) now (refused || is_refusal rep)
+    written_vault counts bodies holds gone_now stocked long risen sources put =
+        recorded_vault o g sound l story held h running refused v (turn_with outcome.Stands) new new_held now (refused || is_refusal rep) made gone adopted adopts only passes.later later x recorded gone_now generation l.leases end bodies rep
+        on (λ ok below is. holds ok below) stocked (λ is. long) (omega arith) risen (sources on.tells)
+      where
+        on : WalksWith o sound (books_of later after) new new_held h (turn_with outcome.Stands) now (refused || is_refusal rep) rep
+        on = written_turn o sound (books_of v.rows l) story held h running refused v.walk session number low few c stage f d due m ran at place (books_of later after) rep change writes_is new moment passes (stands_now o g sound l story held h running refused v was_open) writes now new_held
+            counts (λ ok below. held_stand new bodies end x later (holds ok below)) put
+
+    -- Its device work has failed.
+    pub unwritten_vault : is_writing c ≡ true → Counts story new true → IsPut (block (turn_with outcome.WriteFault) (Some (told_at at (reply_of Unwritten)))) now held new_held
+        → IsVault o g sound (failed_ledger l at l.leases adopted) new new_held (h ++ turn_with outcome.WriteFault ∷ []) now (refused || true)
+    unwritten_vault can counts put =
+        failed_vault o g sound l story held h running refused v (turn_with outcome.WriteFault) new new_held now (refused || true) made gone adopted adopts only passes.later at l.leases x recorded.renames
+        (unwritten_turn o sound (books_of v.rows l) story held h running refused v.walk session number low few c stage f d due m ran at place (books_of later after) rep change writes_is new moment passes (stands_now o g sound l story held h running refused v was_open) writes now new_held can counts put)
+        (omega arith)
