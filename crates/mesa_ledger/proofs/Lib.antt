@@ -12,4 +12,5 @@ pub mod Staying
 pub mod Agreeing
 pub mod Changing
 pub mod Sources
+pub mod Swapping
 pub mod Writing

@@ -1,12 +1,16 @@
 -- How a command that writes, and the swap of a work, keep a vault.
-use Rattle.std.proofs.Common.{◌≡◌, ℕ, ◌+◌, ◌<◌, ◌^◌, List, [], ◌∷◌, ◌++◌, length, Bool, true, false, ◌||◌, refl, sym, ap, subst, arith, Option, None, Some, IsTrue}
+use Rattle.std.proofs.Common.{◌≡◌, ℕ, ◌+◌, ◌<◌, ◌^◌, ◌≤◌, List, [], ◌∷◌, ◌++◌, length, Bool, true, false, ◌||◌, refl, sym, ◌∙◌, ap, subst, Ok, arith, Option, None, Some, IsTrue}
 use Rattle.mesa_fault.specs.Causes.{last}
 use Rattle.mesa_disk.specs.Files.{AreGone}
 use Rattle.mesa_disk.specs.Image.{Image}
 use Rattle.mesa_disk.specs.Story.{Story, Steps}
 use Rattle.mesa_disk.specs.declared.area.Area.TheVariants.{Zero}
 use Rattle.mesa_commit.specs.Turn.{MovesOnly}
+use Rattle.mesa_lease.specs.Book.{ended}
+use Rattle.mesa_span.specs.declared.works.Work.{Work}
+use Rattle.mesa_span.specs.declared.works.Work.TheVariants as range
 use Rattle.mesa_model.specs.declared.commands.Command.{Command}
+use Rattle.mesa_model.specs.declared.commands.Command.TheVariants as command
 use Rattle.mesa_model.specs.declared.entries.Entry.{Entry}
 use Rattle.mesa_model.specs.declared.entries.Kind.TheVariants as kind
 use Rattle.mesa_model.specs.declared.entries.Outcome.{Outcome}
@@ -14,9 +18,10 @@ use Rattle.mesa_model.specs.declared.entries.Outcome.TheVariants as outcome
 use Rattle.mesa_model.specs.declared.replies.Reply.{Reply}
 use Rattle.mesa_history.specs.Counting.{one_if}
 use Rattle.mesa_history.specs.Legal.{is_writing, is_written}
+use Rattle.mesa_history.specs.Machine.{Claim, claim_checked, swapped_reply}
 use Rattle.mesa_history.specs.Refused.{is_refusal}
 use Rattle.mesa_history.specs.Replay.{told_by}
-use Rattle.mesa_history.specs.Run.{Stage}
+use Rattle.mesa_history.specs.Run.{Renewed, Stage}
 use Rattle.mesa_history.specs.Turns.{IsDue}
 use Rattle.mesa_image.specs.Catalog.{Catalog}
 use Rattle.mesa_image.specs.Contents.{kept_of}
@@ -25,18 +30,22 @@ use Rattle.mesa_image.specs.Sound.{AreStocked, StandsFor}
 use Rattle.mesa_image_laws.specs.Sourced.{HasSources}
 use Rattle.mesa_output.specs.Output.{block}
 use Rattle.mesa_skeleton.specs.Rows.{Rows}
+use Rattle.mesa_walk.specs.Books.{swapped_books}
 use Rattle.mesa_walk.specs.Causes.{Unwritten, reply_of, told_at}
 use Rattle.mesa_walk.specs.Changes.{Doing, IsChange, IsDecided}
 use Rattle.mesa_walk.specs.Printing.{IsPut}
 use Rattle.mesa_walk.specs.Sight.{is_of_schemas}
 use Rattle.mesa_walk.specs.Turns.{entry}
 use Rattle.mesa_walk.specs.Walk.{Outset, run_of, AllStand, Counts, Passes, WalksOn, WalksWith, Writes}
+use Rattle.mesa_walk.specs.Works.{Swaps}
 use Rattle.mesa_walk.proofs.Changing.{unwritten_turn, written_turn}
+use Rattle.mesa_walk.proofs.Working.{swapped_turn, unswapped_turn}
 use Rattle.mesa_ledger.specs.Ledger.{Ledger, books_of}
 use Rattle.mesa_ledger.specs.Recorded.{Adopts, IsRecorded, failed_ledger, recorded_ledger, removed_by}
 use Rattle.mesa_ledger.specs.Vault.{Origin, IsVault, Starts, outset_of, written_by}
 use Rattle.mesa_ledger.proofs.Recording.{failed_vault, recorded_vault}
 use Rattle.mesa_ledger.proofs.Staying.{stands_now}
+use Rattle.mesa_ledger.proofs.Swapping.{ended_granted}
 use Rattle.mesa_ledger.proofs.Standing.{held_stand}
 
 -- a run of a family, where the files had these rows
@@ -77,3 +86,39 @@ module _ (n : Starts) (w : Rows) (sound : Bool) (l : Ledger) (story : Story) (he
         failed_vault o g sound l story held h running refused v (turn_with outcome.WriteFault) new new_held now (refused || true) made gone adopted adopts only passes.later at l.leases x recorded.renames
         (unwritten_turn o sound (books_of v.rows l) story held h running refused v.walk session number low few c stage f d due m ran at place (books_of later after) rep change writes_is new moment passes (stands_now o g sound l story held h running refused v was_open) writes now new_held can counts put)
         (omega arith)
+
+  -- ---- the swap of a work
+
+  module _ (name : List ℕ) (claim : Claim) (due : IsDue (outset_of n w).script (run_of (outset_of n w) h) session number (command.Work name) (Renewed claim)) (checked : claim_checked (books_of v.rows l).bare (books_of v.rows l).machine at claim ≡ Ok tt) (generation end : ℕ)
+      (swaps : Swaps sound (books_of v.rows l) claim (kept_of later x))
+      (books_are : books_of later (recorded_ledger l (length h) x generation gone (ended claim.table claim.lease l.leases) adopted end) ≡ swapped_books claim (kept_of later x) (books_of v.rows l)) where
+    abbrev closes_with : Outcome → Entry
+    closes_with out = entry session number kind.Close out m
+
+    abbrev swapped_ledger : Ledger
+    swapped_ledger = recorded_ledger l (length h) x generation gone (ended claim.table claim.lease l.leases) adopted end
+
+    -- Its device work is done: the lease has ended.
+    pub swapped_vault : Counts story new false → (bodies : List (List ℕ)) → (IsTrue sound → new.moment < last → IsHeld new bodies end x later) → ((i : Image) → new.told ≡ Some i → AreGone (removed_by l (length h) gone) i) → (IsTrue sound → AreStocked later x) → end < new.len Zero
+        → generation ≡ l.generation → (told_by o.script (run_of o h) (closes_with outcome.Stands) ≡ Some (told_at (run_of o h).position (swapped_reply claim.work)) → IsTrue sound → HasSources later (written_by o g.found (h ++ closes_with outcome.Stands ∷ [])) x)
+        → IsPut (block (closes_with outcome.Stands) (Some (told_at at (swapped_reply claim.work)))) now held new_held → IsVault o g sound swapped_ledger new new_held (h ++ closes_with outcome.Stands ∷ []) now (refused || false)
+    swapped_vault counts bodies holds gone_now stocked long same sources put =
+        recorded_vault o g sound l story held h running refused v (closes_with outcome.Stands) new new_held now (refused || false) made gone adopted adopts only passes.later later x recorded gone_now generation (ended claim.table claim.lease l.leases) end bodies (swapped_reply claim.work)
+        on (λ ok below is. holds ok below) stocked (λ is. long) (subst (λ q. q ≤ l.leases.granted) (sym (ended_granted claim.table claim.lease l.leases)) (omega arith)) (same ∙ no_schemas claim.work) (sources on.tells)
+      where
+        on : WalksWith o sound (books_of later swapped_ledger) new new_held h (closes_with outcome.Stands) now (refused || false) (swapped_reply claim.work)
+        on = subst (λ b. WalksWith o sound b new new_held h (closes_with outcome.Stands) now (refused || false) (swapped_reply claim.work)) (sym books_are)
+            (swapped_turn o sound (books_of v.rows l) story held h running refused v.walk session number low few name m ran at place claim due checked new moment passes (stands_now o g sound l story held h running refused v was_open) (kept_of later x) swaps writes now new_held
+            counts (λ ok below. held_stand new bodies end x later (holds ok below)) put)
+
+        no_schemas : (r : Work) → l.generation ≡ l.generation + one_if (is_of_schemas (swapped_reply r))
+        no_schemas (range.Base to) = omega arith
+        no_schemas (range.Cumulative from to) = omega arith
+
+    -- Its device work has failed: the lease has ended too.
+    pub unswapped_vault : Counts story new true → IsPut (block (closes_with outcome.WriteFault) (Some (told_at at (reply_of Unwritten)))) now held new_held
+        → IsVault o g sound (failed_ledger l at (ended claim.table claim.lease l.leases) adopted) new new_held (h ++ closes_with outcome.WriteFault ∷ []) now (refused || true)
+    unswapped_vault counts put =
+        failed_vault o g sound l story held h running refused v (closes_with outcome.WriteFault) new new_held now (refused || true) made gone adopted adopts only passes.later at (ended claim.table claim.lease l.leases) x recorded.renames
+        (unswapped_turn o sound (books_of v.rows l) story held h running refused v.walk session number low few name m ran at place claim due checked new moment passes (stands_now o g sound l story held h running refused v was_open) (kept_of later x) swaps writes now new_held counts put)
+        (subst (λ q. q ≤ l.leases.granted) (sym (ended_granted claim.table claim.lease l.leases)) (omega arith))
