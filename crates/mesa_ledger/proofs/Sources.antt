@@ -26,7 +26,6 @@ use Rattle.mesa_image_laws.specs.Sourced.{HasSources, Written, all_written, epoc
 use Rattle.mesa_skeleton.proofs.Lists.{maps_same}
 use Rattle.mesa_skeleton.specs.Bare.{bare_table}
 use Rattle.mesa_skeleton.specs.Rows.{Rows}
-use Rattle.mesa_walk.specs.Books.{AreBooksOf}
 use Rattle.mesa_walk.specs.Causes.{told_at}
 use Rattle.mesa_walk.specs.Walk.{Outset, run_of}
 use Rattle.mesa_walk.proofs.Skeletons.{named_is}

@@ -1,5 +1,5 @@
 -- What the record of a swap makes of a vault's books is what the range machine makes of a claim.
-use Rattle.std.proofs.Common.{◌≡◌, ℕ, ◌+◌, ◌<◌, ◌≤◌, List, map, Bool, true, false, refl, sym, ◌∙◌, ap, Option, Some, None, IsTrue}
+use Rattle.std.proofs.Common.{◌≡◌, ℕ, ◌<◌, List, map, Bool, true, false, refl, sym, ◌∙◌, ap, Option, Some, None, IsTrue}
 use Rattle.std.specs.Prelude.{slice_set, slice_index_or, if◌then◌else◌, ◌==◌}
 use Rattle.std.proofs.lemmas.List.{map-set}
 use Rattle.mesa_lease.specs.Book.{Book, ended, last_of, with_last}
@@ -10,7 +10,6 @@ use Rattle.mesa_span.specs.declared.works.Work.TheVariants as range
 use Rattle.mesa_span.specs.Work.{swapped}
 use Rattle.mesa_disk.specs.Story.{Story}
 use Rattle.mesa_model.specs.declared.entries.Entry.{Entry}
-use Rattle.mesa_model.specs.Warehouse.{Table}
 use Rattle.mesa_history.specs.Machine.{Claim, swapped_reply}
 use Rattle.mesa_record.specs.declared.record.Files.{Files}
 use Rattle.mesa_record.specs.declared.record.Record.TheVariants as record_of

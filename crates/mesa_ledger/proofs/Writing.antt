@@ -1,5 +1,5 @@
 -- How a command that writes, and the swap of a work, keep a vault.
-use Rattle.std.proofs.Common.{◌≡◌, ℕ, ◌+◌, ◌<◌, ◌^◌, ◌≤◌, List, [], ◌∷◌, ◌++◌, length, Bool, true, false, ◌||◌, refl, sym, ◌∙◌, ap, subst, Ok, arith, Option, None, Some, IsTrue}
+use Rattle.std.proofs.Common.{◌≡◌, ℕ, ◌+◌, ◌<◌, ◌^◌, ◌≤◌, List, [], ◌∷◌, ◌++◌, length, Bool, true, false, ◌||◌, sym, ◌∙◌, subst, Ok, arith, Option, None, Some, IsTrue}
 use Rattle.mesa_fault.specs.Causes.{last}
 use Rattle.mesa_disk.specs.Files.{AreGone}
 use Rattle.mesa_disk.specs.Image.{Image}
@@ -36,7 +36,7 @@ use Rattle.mesa_walk.specs.Changes.{Doing, IsChange, IsDecided}
 use Rattle.mesa_walk.specs.Printing.{IsPut}
 use Rattle.mesa_walk.specs.Sight.{is_of_schemas}
 use Rattle.mesa_walk.specs.Turns.{entry}
-use Rattle.mesa_walk.specs.Walk.{Outset, run_of, AllStand, Counts, Passes, WalksOn, WalksWith, Writes}
+use Rattle.mesa_walk.specs.Walk.{Outset, run_of, Counts, Passes, WalksWith, Writes}
 use Rattle.mesa_walk.specs.Works.{Swaps}
 use Rattle.mesa_walk.proofs.Changing.{unwritten_turn, written_turn}
 use Rattle.mesa_walk.proofs.Working.{swapped_turn, unswapped_turn}
