@@ -117,6 +117,14 @@ module _ (o : Outset) (sound : Bool) (books : Books) (story : Story) (held : Opt
         cause_turn o sound books story held h running refused v (decides_with outcome.Memory) asks First due (short _ refl refl) moment new unmoved
         (comes_without_memory r asks First s n kind.Decide m refl refl (fits_open r.state.warehouse.closed false false false false (opened o sound books story held h running refused v has))) ran NoMemory refl tt refl r.state refl refl counts at place now new_held put books v.state refl
 
+    -- and is over
+    pub unpinned_ends : (cause : Cause) → HasNoAnswer books s words cause → (turn_of r asks (decides_with (outcome_of cause)) First (outcome_of cause)).stage ≡ Finished
+    unpinned_ends (Replies rep) has = ap (λ q. (decided_query r.position r.state q).stage) (err_of bare_answer (query_answer r.state.warehouse s words) has.0 (same_answer ∙ ap (bare_result bare_answer) has.1))
+    unpinned_ends Unread has = refl
+    unpinned_ends (Damaged damage) has = refl
+    unpinned_ends Unwritten has = refl
+    unpinned_ends NoMemory has = refl
+
   -- ---- its close
 
   module _ (at : ℕ) (tells : Answer → Type 0) (open' : IsOpenFrom o.script (run_of o h) s n words at tells) where

@@ -1,5 +1,5 @@
 -- Where a turn takes its session.
-use Rattle.std.proofs.Common.{◌≡◌, ℕ, false, IsTrue, refl, ◌∙◌, ap, Result, Ok, Err}
+use Rattle.std.proofs.Common.{◌≡◌, ℕ, [], ◌∷◌, ◌++◌, true, false, not, IsTrue, refl, ◌∙◌, ap, Result, Ok, Err}
 use Rattle.mesa_model.specs.declared.commands.Command.{Command}
 use Rattle.mesa_model.specs.declared.commands.Command.TheVariants as command
 use Rattle.mesa_model.specs.declared.commands.Script.{Script}
@@ -131,3 +131,12 @@ module _ (script : Script) (start : State) (old new : Shown) (s n : ℕ) where
 
   pub unmerged_takes : (c : Command) (claim : Claim) → IsDue script (run_at script start old.history) s n c (Granted claim) → IsTurn old new s n kind.Close → IsSeen script start new → Takes script start old new s n kind.Close Finished
   unmerged_takes c claim due turn seen = takes c (Granted claim) kind.Close Finished due (granted_ends (run_at script start old.history) c s n new.clock claim) turn seen
+
+  -- Where the turn's outcome is known, what it leaves says where its session is.
+  pub takes_as : (c : Command) (stage : Stage) (k : Kind) (to : Stage) → IsDue script (run_at script start old.history) s n c stage → (out : Outcome) → (turn_of (run_at script start old.history) c (entry s n k out new.clock) stage out).stage ≡ to
+      → new.history ≡ old.history ++ entry s n k out new.clock ∷ [] → is_skip out ≡ not old.running → (new.running ≡ true → old.running ≡ true) → IsSeen script start new → Takes script start old new s n k to
+  takes_as c stage k to due out ends grew skipped still seen = record {
+    turn = record { outcome = out; grew = grew; skipped = skipped; still = still };
+    place = ap (λ l. place_of (run_at script start l) s) grew ∙ turn_goes script (begins start) old.history (entry s n k out new.clock) c stage due to (λ is. ends) ∙ ap (λ b. place_then b n to) skipped;
+    seen = seen;
+  }

@@ -1,5 +1,5 @@
 -- The turns of a work.
-use Rattle.std.proofs.Common.{◌≡◌, ℕ, ◌+◌, ◌<◌, ◌≤◌, ◌^◌, List, length, Bool, true, false, not, ◌||◌, IsTrue, refl, sym, ◌∙◌, ap, subst, arith, Option, None, Some, Result, Ok, Err, ok_or}
+use Rattle.std.proofs.Common.{◌≡◌, ℕ, ◌+◌, ◌<◌, ◌≤◌, ◌^◌, List, [], ◌∷◌, ◌++◌, length, Bool, true, false, not, ◌||◌, ◌&&◌, ◌==◌, IsTrue, refl, sym, ◌∙◌, ap, subst, arith, Option, None, Some, Result, Ok, Err, ok_or}
 use Rattle.std.specs.Prelude.{is_none, is_some}
 use Rattle.mesa_list.specs.Checks.{◌>>=◌, ◌>>◌, refused_as}
 use Rattle.mesa_fault.specs.Causes.{Rose, last}
@@ -10,6 +10,7 @@ use Rattle.mesa_lease.specs.Book.{holder}
 use Rattle.mesa_span.specs.Work.{next_work}
 use Rattle.mesa_model.specs.declared.commands.Command.{Command}
 use Rattle.mesa_model.specs.declared.commands.Command.TheVariants as command
+use Rattle.mesa_model.specs.declared.commands.Script.{Script}
 use Rattle.mesa_model.specs.declared.entries.Entry.{Entry}
 use Rattle.mesa_model.specs.declared.entries.Kind.{Kind}
 use Rattle.mesa_model.specs.declared.entries.Kind.TheVariants as kind
@@ -24,25 +25,36 @@ use Rattle.mesa_model.specs.Refusals.{no_such_table, refuse_closed}
 use Rattle.mesa_model.specs.Relations.{table_number}
 use Rattle.mesa_model.specs.Warehouse.{Warehouse, newest_of}
 use Rattle.mesa_history.specs.Machine.{Machine, Claim, ranges_at, refuse_busy, claim_of, claimed, claim_checked, claim_renewed, claim_ended, claim_done, swapped_reply}
-use Rattle.mesa_history.specs.Run.{State, First, Granted, Renewed, Run}
-use Rattle.mesa_history.specs.Replay.{Turned, turn_of, prints, refuses, grants, renews, completes, closed_off, closed_if, closes, with_machine, stood}
+use Rattle.mesa_history.specs.Run.{State, Stage, First, Granted, Renewed, Finished, Run, begins}
+use Rattle.mesa_history.specs.Replay.{Turned, turn_of, leaves, place_after, prints, refuses, grants, renews, completes, closed_off, closed_if, closes, with_machine, stood}
 use Rattle.mesa_history.specs.Legal.{is_written, wrote}
 use Rattle.mesa_history.specs.Found.{Kept, kept_of}
 use Rattle.mesa_history.specs.Refused.{is_refusal}
 use Rattle.mesa_history.specs.Turns.{IsDue, would_print}
-use Rattle.mesa_history.proofs.More.{kept_after}
-use Rattle.mesa_history.proofs.Turns.{turned_at}
+use Rattle.mesa_history.proofs.More.{kept_after, runs_more}
+use Rattle.mesa_history.proofs.Turns.{goes_to, prologue_after, turned_at}
 use Rattle.mesa_output.specs.Output.{block}
 use Rattle.mesa_skeleton.proofs.Steps.{claim-bare}
 use Rattle.mesa_walk.specs.Books.{Books, AreBooksOf, closed_books, closed_books_if, granted_books, renewed_books, ended_books, swapped_books}
 use Rattle.mesa_walk.specs.Causes.{Cause, Replies, Unread, Damaged, Unwritten, NoMemory, is_read_fault, outcome_of, reply_of, told_at}
 use Rattle.mesa_walk.specs.Printing.{IsPut}
 use Rattle.mesa_walk.specs.Turns.{entry}
-use Rattle.mesa_walk.specs.Walk.{Outset, run_of, IsWalk, WalksOn, WalksWith, Counts, AllStand, Passes, Writes, StandsForEither}
+use Rattle.mesa_walk.specs.Walk.{Outset, run_at, run_of, IsWalk, WalksOn, WalksWith, Counts, AllStand, Passes, Writes, StandsForEither}
 use Rattle.mesa_walk.specs.Works.{HasNoClaim, HasNotMerged, Swaps, unmerged_books}
 use Rattle.mesa_walk.proofs.Clock.{same_moment, not_closing, begun_moment, closing}
 use Rattle.mesa_walk.proofs.Coming.{fits_open, renewal_open, comes_standing, comes_without_memory, comes_unread, comes_damaged, comes_unwritten, comes_undrafted}
 use Rattle.mesa_walk.proofs.Turning.{counts_any, counts_below, opened, position_at, puts_reply, puts_cause, mute_turn, cause_turn, wrote_turn, failed_turn}
+
+-- ---- places
+
+-- A command goes on to the stage that its turn leaves.
+pub due_after : (script : Script) (start : State) (h : List Entry) (e : Entry) (c : Command) (stage : Stage) → IsDue script (run_at script start h) e.session e.command c stage → (made : Turned) → turn_of (run_at script start h) c e stage e.outcome ≡ made → place_after e.command made.stage ≡ record { number = e.command; stage = made.stage }
+    → IsDue script (run_at script start (h ++ e ∷ [])) e.session e.command c made.stage
+due_after script start h e c stage due made is goes = record {
+  known = due.known;
+  place = goes_to script (begins start) h e c stage due made (turned_at script (run_at script start h) e c stage due ∙ is) ∙ goes;
+  prologue = subst (λ (x : Run). IsTrue (not (x.prologue_over && (e.session == 0)))) (sym (runs_more script (begins start) h e)) (prologue_after script (run_at script start h) e due.prologue);
+}
 
 -- ---- claims
 
@@ -139,6 +151,10 @@ module _ (o : Outset) (sound : Bool) (books : Books) (story : Story) (held : Opt
           (comes_standing r works First s n kind.Grant m refl (renewal_open w.closed First kind.Grant outcome.Stands refl)) (ap not (sym ran)) (with_machine r.state (claimed r.state.machine r.position claim)) (Granted claim) (grant_is (Ok claim) is) counts
           (granted_books at claim books) (machine_stands _ _ (λ i. claimed (v.state.machine i) (sym at_is i) claim) refl) refl
 
+      -- and its lease may be renewed
+      pub granted_due : (claim : Claim) → claim_of books.bare books.machine at name ≡ Ok claim → IsDue o.script (run_of o (h ++ entry s n kind.Grant outcome.Stands m ∷ [])) s n (command.Work name) (Granted claim)
+      granted_due claim is = due_after o.script o.start h (entry s n kind.Grant outcome.Stands m) works First due (leaves (with_machine r.state (claimed r.state.machine r.position claim)) (Granted claim)) (grant_is (Ok claim) is) refl
+
       prints_none : (claim : Claim) → claim_of books.bare books.machine at name ≡ Ok claim → is_none (would_print r s works kind.Grant First) ≡ true
       prints_none claim is = ap (λ q. is_none (grants r.position r.state q).told) (claim_is ∙ is)
 
@@ -160,6 +176,14 @@ module _ (o : Outset) (sound : Bool) (books : Books) (story : Story) (held : Opt
           cause_turn o sound books story held h running refused v (entry s n kind.Grant outcome.Memory m) works First due (short kind.Grant outcome.Memory) moment new unmoved
           (comes_without_memory r works First s n kind.Grant m refl refl (fits_open w.closed false false false false (opened o sound books story held h running refused v has))) ran NoMemory refl tt refl r.state refl refl counts at place now new_held put books v.state refl
 
+      -- and is over
+      pub ungranted_ends : (cause : Cause) → HasNoClaim books at name cause → (turn_of r works (entry s n kind.Grant (outcome_of cause) m) First (outcome_of cause)).stage ≡ Finished
+      ungranted_ends (Replies rep) has = ap (λ (t : Turned). t.stage) (grant_is (Err rep) has)
+      ungranted_ends Unread has = refl
+      ungranted_ends (Damaged damage) has = refl
+      ungranted_ends Unwritten has = refl
+      ungranted_ends NoMemory has = refl
+
     -- -- its second turn, and its close where the merge failed
 
     module _ (claim : Claim) (due : IsDue o.script (run_of o h) s n (command.Work name) (Granted claim)) where
@@ -171,12 +195,20 @@ module _ (o : Outset) (sound : Bool) (books : Books) (story : Story) (held : Opt
           (comes_standing r works (Granted claim) s n kind.Renew m refl refl) (ap not (sym ran)) (with_machine r.state (claim_renewed r.state.machine r.position claim)) (Renewed claim) (ap (renews r.position r.state claim) (checked_is claim ∙ holds)) counts
           (renewed_books at claim books) (machine_stands _ _ (λ i. claim_renewed (v.state.machine i) (sym at_is i) claim) refl) refl
 
+      -- and it may be closed
+      pub renewed_due : claim_checked books.bare books.machine at claim ≡ Ok tt → IsDue o.script (run_of o (h ++ entry s n kind.Renew outcome.Stands m ∷ [])) s n (command.Work name) (Renewed claim)
+      renewed_due holds = due_after o.script o.start h (entry s n kind.Renew outcome.Stands m) works (Granted claim) due (leaves (with_machine r.state (claim_renewed r.state.machine r.position claim)) (Renewed claim)) (ap (renews r.position r.state claim) (checked_is claim ∙ holds)) refl
+
       -- it is lost, or the books are closed
       pub unrenewed_turn : (x : Refusal) → claim_checked books.bare books.machine at claim ≡ Err x → Counts story new false → (now : Bool) (new_held : Option (List ℕ)) → IsPut (block (entry s n kind.Renew outcome.Stands m) (Some (told_at at (reply.Refused x)))) now held new_held
           → WalksOn o sound books new new_held h (entry s n kind.Renew outcome.Stands m) now (refused || true)
       unrenewed_turn x lost counts now new_held put =
           cause_turn o sound books story held h running refused v (entry s n kind.Renew outcome.Stands m) works (Granted claim) due (short kind.Renew outcome.Stands) moment new unmoved
           (comes_standing r works (Granted claim) s n kind.Renew m refl refl) ran (Replies (reply.Refused x)) refl tt refl r.state (ap (renews r.position r.state claim) (checked_is claim ∙ lost)) refl counts at place now new_held put books v.state refl
+
+      -- and is over
+      pub unrenewed_ends : (x : Refusal) → claim_checked books.bare books.machine at claim ≡ Err x → (turn_of r works (entry s n kind.Renew outcome.Stands m) (Granted claim) outcome.Stands).stage ≡ Finished
+      unrenewed_ends x lost = ap (λ q. (renews r.position r.state claim q).stage) (checked_is claim ∙ lost)
 
       -- the merge failed, and the books are closed: nothing changes
       pub shut_turn : (p : ℕ) → books.bare.closed ≡ Some p → Counts story new false → (now : Bool) (new_held : Option (List ℕ)) → IsPut (block (entry s n kind.Close outcome.Stands m) (Some (told_at at (reply.Refused (no.Closed p))))) now held new_held
