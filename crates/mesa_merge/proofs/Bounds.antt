@@ -27,7 +27,7 @@ abs_set c (g ∷ gs) zero row lt = omega (arith, abs_append c (g ++ row ∷ []) 
 abs_set c (g ∷ gs) (suc i) row lt = omega (arith, abs_append c g (rows_of (set gs i (get_or gs i [] ++ row ∷ []))), abs_append c g (rows_of gs), abs_set c gs i row (omega (arith, lt)))
 
 -- fronts have at most as much
-abs_fronts : (c : ℕ) (gs parts : List (List Row)) → AreFronts gs parts → abs_total c (rows_of gs) ≤ abs_total c (rows_of parts)
+pub abs_fronts : (c : ℕ) (gs parts : List (List Row)) → AreFronts gs parts → abs_total c (rows_of gs) ≤ abs_total c (rows_of parts)
 abs_fronts c [] parts fronts = omega arith
 abs_fronts c (g ∷ gs) [] fronts = absurd fronts
 abs_fronts c (g ∷ gs) (part ∷ parts) fronts =
