@@ -1,0 +1,127 @@
+-- Sums of a file's rows that stay in their type.
+use Rattle.std.proofs.Common.{◌≡◌, ℕ, zero, suc, ◌+◌, ◌^◌, ◌<◌, ◌≤◌, ℤ, pos, negsuc, ◌+ℤ◌, List, [], ◌∷◌, ◌++◌, length, map, get_or, refl, sym, ap, ◌∙◌, arith, zero-add, true}
+use Rattle.std.specs.List.{AllByRecursion}
+use Rattle.std.specs.Prelude.{Some, slice_get, nat_abs}
+use Rattle.std.proofs.lemmas.Bool.{and_parts}
+use Rattle.std.proofs.lemmas.Int.{ints}
+use Rattle.std.proofs.lemmas.List.{length-map}
+use Rattle.std.proofs.lemmas.List.Sums.{sum_by-append}
+use Rattle.std.specs.Ordering.{is_lt}
+use Rattle.std.specs.declared.cmp.Ordering.{Ordering}
+use Rattle.std.specs.declared.cmp.Ordering.TheVariants.{Less, Equal, Greater}
+use Rattle.mesa_key.specs.Order.{byte_cmp}
+use Rattle.mesa_value.specs.declared.Agg.{Agg}
+use Rattle.mesa_value.specs.declared.Agg.TheVariants.{Sum, Min, Max, Replace}
+use Rattle.mesa_value.specs.Agg.{Combines}
+use Rattle.mesa_schema.specs.declared.rows.Row.{Row}
+use Rattle.mesa_schema.specs.declared.columns.ValueColumn.{ValueColumn}
+use Rattle.mesa_schema.specs.Columns.{Columns, aggs_of}
+use Rattle.mesa_schema.specs.Folded.{row_combined, combined_from, folded, rows_of}
+use Rattle.mesa_schema.specs.Rows.{AreRowsOf, IsRowOf, keys_rise}
+use Rattle.mesa_batch.specs.Totals.{abs_total}
+use Rattle.mesa_fold.specs.Bound.{FoldsTotals, KeepsBound}
+use Rattle.mesa_block.specs.Rows.{IsRow, Rise}
+use Rattle.mesa_block.specs.Spelling.{key_of}
+use Rattle.mesa_delta.specs.Summary.{all_noted, aggregates, values_of, AllCombine}
+use Rattle.mesa_merge.proofs.Bounds.{abs_fronts, full_all}
+use Rattle.mesa_merge.proofs.Combining.{aggs_count}
+use Rattle.mesa_merge.proofs.Ending.{AreFronts}
+
+sum_fits : (o n : ℤ) → nat_abs o + nat_abs n < 2 ^ 63 → Combines Sum o n
+sum_fits (pos a) (pos b) h = omega (arith, ints)
+sum_fits (pos a) (negsuc b) h = omega (arith, ints)
+sum_fits (negsuc a) (pos b) h = omega (arith, ints)
+sum_fits (negsuc a) (negsuc b) h = omega (arith, ints)
+
+combines_one : (agg : Agg) (o n : ℤ) → (agg ≡ Sum → nat_abs o + nat_abs n < 2 ^ 63) → Combines agg o n
+combines_one Sum o n h = sum_fits o n (h refl)
+combines_one Min o n h = tt
+combines_one Max o n h = tt
+combines_one Replace o n h = tt
+
+combine_from : (aggs : List Agg) (os ns : List ℤ) → ((c : ℕ) → slice_get aggs c ≡ Some Sum → nat_abs (get_or os c (pos 0)) + nat_abs (get_or ns c (pos 0)) < 2 ^ 63) → AllCombine aggs os ns
+combine_from [] os ns h = tt
+combine_from (g ∷ aggs) [] ns h = tt
+combine_from (g ∷ aggs) (o ∷ os) [] h = tt
+combine_from (g ∷ aggs) (o ∷ os) (n ∷ ns) h = (combines_one g o n (λ e. h zero (ap Some e)), combine_from aggs os ns (λ c p. h (suc c) p))
+
+sum_abs : (o n : ℤ) → nat_abs (o +ℤ n) ≤ nat_abs o + nat_abs n
+sum_abs (pos a) (pos b) = omega arith
+sum_abs (pos a) (negsuc b) = grind (arith, ints)
+sum_abs (negsuc a) (pos b) = grind (arith, ints)
+sum_abs (negsuc a) (negsuc b) = omega arith
+
+combined_abs : (aggs : List Agg) (os ns : List ℤ) (c : ℕ) → slice_get aggs c ≡ Some Sum → length os ≡ length aggs → length ns ≡ length aggs
+    → nat_abs (get_or (row_combined aggs os ns) c (pos 0)) ≤ nat_abs (get_or os c (pos 0)) + nat_abs (get_or ns c (pos 0))
+combined_abs [] os ns c p a b = omega arith
+combined_abs (g ∷ aggs) [] ns c p a b = absurd (omega arith)
+combined_abs (g ∷ aggs) (o ∷ os) [] c p a b = absurd (omega arith)
+combined_abs (g ∷ aggs) (o ∷ os) (n ∷ ns) zero p a b =
+    let sum : g ≡ Sum = cc p in
+    rw sum (sum_abs o n)
+combined_abs (g ∷ aggs) (o ∷ os) (n ∷ ns) (suc c) p a b = combined_abs aggs os ns c p (omega arith) (omega arith)
+
+length_combined : (aggs : List Agg) (os ns : List ℤ) → length os ≡ length aggs → length ns ≡ length aggs → length (row_combined aggs os ns) ≡ length aggs
+length_combined [] os ns a b = refl
+length_combined (g ∷ aggs) [] ns a b = absurd (omega arith)
+length_combined (g ∷ aggs) (o ∷ os) [] a b = absurd (omega arith)
+length_combined (g ∷ aggs) (o ∷ os) (n ∷ ns) a b = ap suc (length_combined aggs os ns (omega arith) (omega arith))
+
+abbrev abs_at : ℕ → Row → ℕ
+abs_at c row = nat_abs (get_or row.values c (pos 0))
+
+total_next : (c : ℕ) (row : Row) (rows : List Row) → abs_total c (row ∷ rows) ≡ abs_at c row + abs_total c rows
+total_next c row rows = sum_by-append (abs_at c) (row ∷ []) rows ∙ ap (λ n. n + abs_total c rows) (zero-add (abs_at c row))
+
+full : (s : Columns) (row : Row) → IsRowOf s row → length row.values ≡ length (aggs_of s)
+full s row h = h.values ∙ sym (length-map s.values (λ (c : ValueColumn). c.agg))
+
+-- the sum so far is at most the absolute values so far
+all_abs : (s : Columns) (first : List ℤ) (rest : List Row) (c : ℕ) → slice_get (aggs_of s) c ≡ Some Sum → length first ≡ length (aggs_of s) → AreRowsOf s rest
+    → nat_abs (get_or (combined_from (aggs_of s) first (map values_of rest)) c (pos 0)) ≤ nat_abs (get_or first c (pos 0)) + abs_total c rest
+all_abs s first [] c p a h = omega arith
+all_abs s first (x ∷ rest) c p a h =
+    let b = full s x h.0 in
+    omega (arith, total_next c x rest, combined_abs (aggs_of s) first x.values c p a b, all_abs s (row_combined (aggs_of s) first x.values) rest c p (length_combined (aggs_of s) first x.values a b) h.1)
+
+noted_abs : (aggs : List Agg) (vs : List ℤ) (c : ℕ) → slice_get aggs c ≡ Some Sum → nat_abs (get_or (all_noted aggs vs) c (pos 0)) ≤ nat_abs (get_or vs c (pos 0))
+noted_abs [] vs c p = absurd cc
+noted_abs (g ∷ aggs) [] c p = omega arith
+noted_abs (g ∷ aggs) (v ∷ vs) zero p =
+    let sum : g ≡ Sum = cc p in
+    rw sum (omega arith)
+noted_abs (g ∷ aggs) (v ∷ vs) (suc c) p = noted_abs aggs vs c p
+
+aggregates_abs : (s : Columns) (rows : List Row) (c : ℕ) → slice_get (aggs_of s) c ≡ Some Sum → AreRowsOf s rows → nat_abs (get_or (aggregates (aggs_of s) rows) c (pos 0)) ≤ abs_total c rows
+aggregates_abs s [] c p h = omega (arith, noted_abs (aggs_of s) [] c p)
+aggregates_abs s (x ∷ rows) c p h =
+    omega (arith, noted_abs (aggs_of s) (combined_from (aggs_of s) x.values (map values_of rows)) c p, all_abs s x.values rows c p (full s x h.0) h.1, total_next c x rows)
+
+total_append : (c : ℕ) (xs ys : List Row) → abs_total c (xs ++ ys) ≡ abs_total c xs + abs_total c ys
+total_append c xs ys = sum_by-append (abs_at c) xs ys
+
+-- a row more keeps the sums where all rows keep the bound
+pub sums_follow : (s : Columns) (rows : List Row) (row : Row) → AreRowsOf s rows → ((c : ℕ) → slice_get (aggs_of s) c ≡ Some Sum → abs_total c (rows ++ row ∷ []) < 2 ^ 63) → AllCombine (aggs_of s) (aggregates (aggs_of s) rows) row.values
+sums_follow s rows row form bound = combine_from (aggs_of s) _ _ (λ c p. omega (arith, bound c p, total_append c rows (row ∷ []), total_next c row [], aggregates_abs s rows c p form))
+
+-- rows that stand in a file have its form
+pub taken_form : (s : Columns) (rows : List Row) → AllByRecursion (IsRow s) rows → AreRowsOf s rows
+taken_form s [] all = tt
+taken_form s (row ∷ rows) all = (all.0.form, taken_form s rows all.1)
+
+is_less : (o : Ordering) → is_lt o ≡ true → o ≡ Less
+is_less Less e = refl
+is_less Equal e = cc
+is_less Greater e = cc
+
+-- keys that rise, as a file has them
+pub rises : (rows : List Row) → keys_rise rows ≡ true → Rise (map key_of rows)
+rises [] r = tt
+rises (row ∷ []) r = tt
+rises (row ∷ next ∷ rows) r = let parts = and_parts (is_lt (byte_cmp row.key next.key)) _ r in (is_less _ parts.0, rises (next ∷ rows) parts.1)
+
+-- the fold of what was given keeps the bound that the inputs keep
+pub folded_bound : FoldsTotals → (s : Columns) (givens parts : List (List Row)) → ((j : ℕ) → AreRowsOf s (get_or givens j [])) → AreFronts givens parts → KeepsBound (aggs_of s) [] (rows_of parts)
+    → (c : ℕ) → slice_get (aggs_of s) c ≡ Some Sum → abs_total c (folded (aggs_of s) givens) < 2 ^ 63
+folded_bound law s givens parts formed fronts bound c p =
+    omega (arith, law (aggs_of s) givens c p (full_all s givens formed (aggs_count s)), abs_fronts c givens parts fronts, bound c p)

@@ -1,0 +1,3 @@
+pub mod Following
+pub mod Poured
+pub mod Whole

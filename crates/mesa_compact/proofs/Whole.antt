@@ -1,0 +1,83 @@
+-- All rows of inputs, as a file.
+use Rattle.std.proofs.Common.{◌≡◌, ℕ, ◌<◌, ◌≤◌, List, [], ◌∷◌, ◌++◌, refl, sym, ◌∙◌, ap, subst, length, arith, length-append}
+use Rattle.std.proofs.lemmas.List.{length-map}
+use Rattle.std.specs.Prelude.{Option, map, Result, Ok, Err, IfErr, IfOk}
+use Rattle.std.specs.FinMap.Entries.{by_order}
+use Rattle.std.specs.declared.cmp.Ordering.{Ordering}
+use Rattle.std.specs.declared.cmp.Ordering.TheVariants.{Less, Equal, Greater}
+use Rattle.mesa_fault.specs.Causes.{HasFaultCause, Rose}
+use Rattle.mesa_key.specs.Order.{byte_cmp}
+use Rattle.mesa_value.specs.declared.Agg.{Agg}
+use Rattle.mesa_schema.specs.declared.rows.Row.{Row}
+use Rattle.mesa_schema.specs.Columns.{Columns, aggs_of}
+use Rattle.mesa_schema.specs.Folded.{folded, folded_at, keys_of, rows_of, with_key}
+use Rattle.mesa_delta.specs.declared.input.Input.{Input}
+use Rattle.mesa_merge.specs.Inputs.{AreAll, Known, knowns_of, lifted_in}
+use Rattle.mesa_tasks.specs.Inputs.{HaveRows, IsMergeOf, lifted_parts}
+use Rattle.mesa_tasks.specs.declared.merging.CompactError.{CompactError}
+use Rattle.mesa_compact.specs.Writing.{IsDraftFault}
+
+-- ---- some rows
+
+some_key : (k : List ℕ) (keys : List (List ℕ)) → 0 < length (with_key k keys)
+some_key k [] = omega arith
+some_key k (x ∷ xs) = elim (byte_cmp k x) as (λ (o : Ordering). 0 < length (by_order o (k ∷ x ∷ xs) (x ∷ xs) (x ∷ with_key k xs))) [
+  | Less ↦ omega arith
+  | Equal ↦ omega arith
+  | Greater ↦ omega arith
+]
+
+some_folded : (aggs : List Agg) (rows : List Row) → 0 < length rows → 0 < length (map (folded_at aggs rows) (keys_of rows))
+some_folded aggs [] some = absurd (omega (arith, some))
+some_folded aggs (row ∷ rows) some = subst (λ n. 0 < n) (sym (length-map (keys_of (row ∷ rows)) (folded_at aggs (row ∷ rows)))) (some_key row.key (keys_of rows))
+
+-- all rows of some inputs are some, and so is their fold
+pub some_all : (aggs : List Agg) (ks : List Known) (gs : List (List Row)) → AreAll ks gs → 0 < length ks → 0 < length (folded aggs gs)
+some_all aggs [] gs all some = absurd (omega (arith, some))
+some_all aggs (k ∷ ks) [] all some = absurd all
+some_all aggs (k ∷ ks) (g ∷ gs) all some =
+    let one : length g ≡ length all.0.rows = ap length all.0.lifts ∙ length-map all.0.rows (lifted_in k) in
+    some_folded aggs (g ++ rows_of gs) (omega (arith, one, all.0.whole.file.some, length-append g (rows_of gs)))
+
+-- as many inputs are known as there are
+known_count : {R : Type 0} (bytes : R → Option (List ℕ)) (is : List (Input R)) → length (knowns_of bytes is) ≡ length is
+known_count bytes is = length-map is _
+
+pub some_known : {R : Type 0} (bytes : R → Option (List ℕ)) (before now : List (Input R)) → knowns_of bytes now ≡ knowns_of bytes before → 0 < length before → 0 < length (knowns_of bytes now)
+some_known bytes before now same some = subst (λ n. 0 < n) (sym (ap length same ∙ known_count bytes before)) some
+
+-- ---- the merge of inputs
+
+parts_of : {R : Type 0} (bytes : R → Option (List ℕ)) (is : List (Input R)) (gs : List (List Row)) → AreAll (knowns_of bytes is) gs → (parts : List (List Row)) × HaveRows bytes is parts × (gs ≡ lifted_parts is parts)
+parts_of bytes [] [] all = ([], tt, refl)
+parts_of bytes [] (g ∷ gs) all = absurd all
+parts_of bytes (i ∷ is) [] all = absurd all
+parts_of bytes (i ∷ is) (g ∷ gs) all =
+    let more = parts_of bytes is gs all.1 in
+    (all.0.rows ∷ more.0, (all.0.whole, more.1), (λ k. all.0.lifts k ∷ more.2 k))
+
+-- what all inputs have given folds to their merge
+pub merge_of : {R : Type 0} (bytes : R → Option (List ℕ)) (s : Columns) (is : List (Input R)) (gs : List (List Row)) → AreAll (knowns_of bytes is) gs → IsMergeOf bytes s is (folded (aggs_of s) gs)
+merge_of bytes s is gs all = let parts = parts_of bytes is gs all in record { parts = parts.0; whole = parts.1; fold = ap (folded (aggs_of s)) parts.2 }
+
+-- ---- the bench
+
+-- a draft that is given back has its bench count its fault
+pub bench_counts : {T U : Type 0} (before between now fresh failed : ℕ) (e : CompactError) → between ≡ before → fresh ≡ 0 → HasFaultCause {T = T} IsDraftFault fresh failed (Err e)
+    → (0 < failed → Rose between now) → (failed ≡ 0 → now ≡ between) → between ≤ now → HasFaultCause {T = U} IsDraftFault before now (Err e)
+bench_counts before between now fresh failed e stay none cause counted quiet later = record {
+  later = omega (arith, stay, later);
+  failed = λ fault. subst (λ b. Rose b now) stay (counted (omega (arith, none, cause.failed fault)));
+  quiet = tt;
+  other = λ never. quiet (cause.other never ∙ none) ∙ stay;
+}
+
+-- ---- what a result has
+
+pub if_ok_map : {T E : Type 0} (r : Result T E) (P Q : T → Type 0) → ((x : T) → P x → Q x) → IfOk r P → IfOk r Q
+if_ok_map (Ok x) P Q f p = f x p
+if_ok_map (Err e) P Q f p = tt
+
+pub if_err_map : {T E : Type 0} (r : Result T E) (P Q : E → Type 0) → ((e : E) → P e → Q e) → IfErr r P → IfErr r Q
+if_err_map (Ok x) P Q f p = tt
+if_err_map (Err e) P Q f p = f e p

@@ -1,0 +1,77 @@
+// One file: begun through a new draft, finished, or given up.
+ghost use Rattle.std.specs.Prelude.{◌≡◌, ◌≢◌, ◌<◌, ◌≤◌, ℕ, List, [], length, IfOk, IfErr, OnOk};
+ghost use Rattle.mesa_fault.specs.Causes.{HasFaultCause, Rose};
+ghost use Rattle.mesa_schema.specs.declared.rows.Row.{Row as AnyRow};
+ghost use Rattle.mesa_delta.specs.Writing.{HasTaken, columns_of, draft_of, id_of};
+ghost use Rattle.mesa_tasks.specs.Made.{IsMadeFile};
+ghost use Rattle.mesa_compact.specs.Writing.{IsDraftFault, IsReadFault};
+ghost use Rattle.mesa_file.specs.declared.damage.Damage.{Damage as AnyDamage};
+ghost use Rattle.mesa_delta.specs.declared.error.FileError.TheVariants as file_error;
+
+use mesa_delta::{DeltaWriter, FileError};
+use mesa_disk::{Bench, DraftError, Made};
+use mesa_file::FileId;
+use mesa_schema::Schema;
+use mesa_tasks::{CompactError, MadeFile};
+use std::alloc::Global;
+
+// A file of no rows yet, through a new draft under this id.
+pub(crate) fn begin_file<M: Made, B: Bench<M>>(
+    alloc: Global,
+    bench: &mut B,
+    id: FileId,
+    schema: &Schema,
+) -> Result<DeltaWriter<M, B::Draft>, CompactError>
+    ensures taken { IfOk result (λ w. HasTaken B.Draft.bytes w []) }
+    ensures columns { IfOk result (λ w. columns_of w ≡ schema.now) }
+    ensures own { IfOk result (λ w. B.Draft.id_of (draft_of w) ≡ id_of w) }
+    ensures fresh { IfOk result (λ w. B.Draft.faults (draft_of w) ≡ 0) }
+    ensures cause { HasFaultCause IsDraftFault (B.faults bench.old) (B.faults bench.new) result }
+    ensures unread { IfErr result (λ e. IsReadFault e → ⊥) }
+    ensures undamaged { IfErr result (λ e. (d : AnyDamage) → e ≡ CompactError.File (file_error.Damaged d) → ⊥) }
+{
+    let draft = match bench.draft(id) {
+        Ok(draft) => draft,
+        Err(DraftError::Failed) => return Err(CompactError::Draft),
+        Err(DraftError::Memory) => return Err(CompactError::File(FileError::Memory)),
+    };
+    match DeltaWriter::new(alloc, draft, id, schema) {
+        Ok(writer) => Ok(writer),
+        Err((_, draft)) => {
+            bench.spoil(draft);
+            Err(CompactError::File(FileError::Memory))
+        }
+    }
+}
+
+// The file of all rows that a writer has taken.
+pub(crate) fn end_file<M: Made, B: Bench<M>>(
+    bench: &mut B,
+    writer: DeltaWriter<M, B::Draft>,
+) -> Result<MadeFile<M>, CompactError>
+    requires taken { (rows : List AnyRow) × (0 < length rows) × HasTaken B.Draft.bytes writer rows }
+    requires own { B.Draft.id_of (draft_of writer) ≡ id_of writer }
+    requires fresh { B.Draft.faults (draft_of writer) ≡ 0 }
+    ensures made { IfOk result (λ made. (rows : List AnyRow) → 0 < length rows → HasTaken B.Draft.bytes writer rows → IsMadeFile M.bytes M.id_of (record { columns = columns_of writer; rows = rows }) made) }
+    ensures cause { HasFaultCause IsDraftFault (B.faults bench.old) (B.faults bench.new) result }
+    ensures unread { IfErr result (λ e. IsReadFault e → ⊥) }
+    ensures undamaged { IfErr result (λ e. (d : AnyDamage) → e ≡ CompactError.File (file_error.Damaged d) → ⊥) }
+{
+    writer.held();
+    match writer.finish() {
+        Ok((made, file)) => Ok(MadeFile { made, file }),
+        Err((error, draft)) => {
+            bench.spoil(draft);
+            Err(CompactError::from(error))
+        }
+    }
+}
+
+// Gives back the draft of a file that isn't finished.
+pub(crate) fn give_up<M: Made, B: Bench<M>>(bench: &mut B, writer: DeltaWriter<M, B::Draft>)
+    ensures counted { 0 < B.Draft.faults (draft_of writer) → Rose (B.faults bench.old) (B.faults bench.new) }
+    ensures quiet { B.Draft.faults (draft_of writer) ≡ 0 → B.faults bench.new ≡ B.faults bench.old }
+    ensures later { B.faults bench.old ≤ B.faults bench.new }
+{
+    bench.spoil(writer.abandon());
+}
