@@ -1,0 +1,68 @@
+-- The generation through records.
+use Rattle.std.proofs.Common.{◌≡◌, ℕ, zero, suc, ◌+◌, ◌≤◌, ◌<◌, List, [], ◌∷◌, ◌++◌, length, map, drop, get_or, refl, sym, ◌∙◌, ap, subst, arith, Bool, true, false}
+use Rattle.std.specs.Prelude.{Option, Some, None, sum_by, slice_set, nat_lt}
+use Rattle.std.proofs.lemmas.Bool.Decides.{nat_tests}
+use Rattle.std.proofs.lemmas.List.{length_push}
+use Rattle.std.proofs.lemmas.List.Sums.{sum_by-cons, sum_by-set, sum_by_push}
+use Rattle.mesa_schema.specs.declared.views.View.{View}
+use Rattle.mesa_record.specs.declared.record.Record.{Record}
+use Rattle.mesa_record.specs.declared.record.Record.TheVariants as record_of
+use Rattle.mesa_record.specs.declared.record.Files.{Files}
+use Rattle.mesa_record.specs.declared.record.Part.{Part}
+use Rattle.mesa_image.specs.Catalog.{Catalog, Stock, applied, merged_delta, new_stock, no_stock, part_of, stock_at, stock_changed, stock_loaded, stock_swapped, stock_viewed, stocks_loaded, with_stock}
+use Rattle.mesa_image.specs.Fitting.{fits, is_there, kind_fits, swap_fits}
+use Rattle.mesa_catalog.specs.Lookups.{changes_in, changes_of, generation_of, known_as, known_in, turns_generation}
+use Rattle.mesa_catalog.specs.declared.table.Table.{Table}
+use Rattle.mesa_catalog.specs.Meaning.{stock_of}
+use Rattle.mesa_catalog.proofs.Made.{change_there, view_there}
+use Rattle.mesa_catalog.proofs.Tests.{both}
+
+within : (c : Catalog) (i : ℕ) → is_there c i ≡ true → i < length c.tables
+within c i e = grind (arith, nat_tests)
+
+put : (c : Catalog) (i : ℕ) (t : Stock) (n : ℕ) → i < length c.tables → changes_in t ≡ changes_in (stock_at c i) + n → generation_of (with_stock c i t) ≡ generation_of c + n
+put c i t n h e = let sums = sum_by-set changes_in c.tables i t no_stock h in omega arith
+
+loaded_same : (t : Stock) (p : Option Part) → changes_in (stock_loaded t p) ≡ changes_in t
+loaded_same t None = refl
+loaded_same t (Some p) = refl
+
+batch_same : (parts : List Part) (number : ℕ) (tables : List Stock) → sum_by changes_in (stocks_loaded parts number tables) ≡ sum_by changes_in tables
+batch_same parts number [] = refl
+batch_same parts number (t ∷ tables) =
+    sum_by-cons changes_in (stock_loaded t (part_of number parts)) (stocks_loaded parts (number + 1) tables)
+    ∙ (λ i. loaded_same t (part_of number parts) i + batch_same parts (number + 1) tables i)
+    ∙ sym (sum_by-cons changes_in t tables)
+
+swapped_same : (t : Stock) (base : Bool) (to epoch : ℕ) (files : Option Files) → changes_in (stock_swapped t base to (merged_delta epoch files)) ≡ changes_in t
+swapped_same t true to epoch files = refl
+swapped_same t false to epoch files = refl
+
+-- A record that fits turns the generation on as its kind says.
+pub generation_turned : (c : Catalog) (r : Record) → kind_fits c r ≡ true → generation_of (applied c r) ≡ generation_of c + turns_generation r
+generation_turned c (record_of.Run number) e = omega arith
+generation_turned c (record_of.Table name keys values) e = sum_by_push changes_in c.tables (new_stock c name (record { keys = keys; values = values }))
+generation_turned c (record_of.View table name keys values) e =
+    let t = stock_at c table in
+    let view : View = record { name = name; keys = keys; values = values } in
+    let more : changes_in (stock_viewed t name keys values) ≡ changes_in t + 1 = let count = length_push t.lineage.views view in omega arith in
+    put c table (stock_viewed t name keys values) 1 (within c table (view_there c table name keys values e).0) more
+generation_turned c (record_of.Alter table change) e =
+    let t = stock_at c table in
+    let more : changes_in (stock_changed t change) ≡ changes_in t + 1 = let count = length_push t.lineage.changes change in omega arith in
+    put c table (stock_changed t change) 1 (within c table (change_there c table change e)) more
+generation_turned c (record_of.Publish version parts) e = batch_same parts 0 c.tables ∙ omega arith
+generation_turned c (record_of.Swap table base from to epoch files) e =
+    let t = stock_at c table in
+    let there = (both (is_there c table) (swap_fits c t base from to epoch files) e).0 in
+    put c table (stock_swapped t base to (merged_delta epoch files)) 0 (within c table there) (swapped_same t base to epoch files ∙ omega arith)
+generation_turned c (record_of.Expire version) e = omega arith
+
+-- as the tables that are held count it
+pub generation_held : (next : ℕ) (tables : List Table) → sum_by changes_of tables ≡ sum_by changes_in (map (stock_of next) tables)
+generation_held next [] = refl
+generation_held next (t ∷ tables) = sum_by-cons changes_of t tables ∙ ap (λ n. changes_of t + n) (generation_held next tables) ∙ sym (sum_by-cons changes_in (stock_of next t) (map (stock_of next) tables))
+
+pub known_held : (next : ℕ) (tables : List Table) → map known_in tables ≡ map known_as (map (stock_of next) tables)
+known_held next [] = refl
+known_held next (t ∷ tables) = ap (λ ks. known_in t ∷ ks) (known_held next tables)

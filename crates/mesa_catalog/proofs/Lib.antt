@@ -1,0 +1,12 @@
+pub mod Applies
+pub mod Counts
+pub mod Generation
+pub mod Loads
+pub mod Made
+pub mod Relations
+pub mod Roomier
+pub mod Singles
+pub mod Stocks
+pub mod Tens
+pub mod Tests
+pub mod Works

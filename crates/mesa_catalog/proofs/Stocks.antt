@@ -1,0 +1,43 @@
+-- Tables that are held, as tables of the catalogue.
+use Rattle.std.proofs.Common.{◌≡◌, ℕ, zero, suc, ◌+◌, ◌-◌, ◌≤◌, ◌<◌, List, [], ◌∷◌, ◌++◌, length, map, refl, sym, ◌∙◌, ap, subst, arith, Bool, true, false, get_or, set}
+use Rattle.std.specs.Prelude.{nat_lt, slice_index_or, slice_get, slice_set, Option, Some, None, is_some, ◌&&◌}
+use Rattle.std.specs.List.{AllByRecursion}
+use Rattle.std.proofs.lemmas.Bool.Decides.{nat_tests}
+use Rattle.std.proofs.lemmas.List.{length-map, get_or-map, map-set}
+use Rattle.mesa_image.specs.Catalog.{Stock, Catalog, no_stock, stock_at, with_stock}
+use Rattle.mesa_image.specs.Fitting.{is_there}
+use Rattle.mesa_catalog.specs.declared.table.Table.{Table}
+use Rattle.mesa_catalog.specs.declared.shelves.Shelves.{Shelves}
+use Rattle.mesa_catalog.specs.Meaning.{IsShelved, IsTable, catalogue_of, stock_of}
+
+-- a table that is there
+pub there : (s : Shelves) (i : ℕ) → i < length s.tables.items → is_there (catalogue_of s) i ≡ true
+there s i h = let count = length-map s.tables.items (stock_of s.next) in grind (arith, nat_tests)
+
+pub not_there : (s : Shelves) (i : ℕ) → length s.tables.items ≤ i → is_there (catalogue_of s) i ≡ false
+not_there s i h = let count = length-map s.tables.items (stock_of s.next) in grind (arith, nat_tests)
+
+pub there_within : (s : Shelves) (i : ℕ) → is_there (catalogue_of s) i ≡ true → i < length s.tables.items
+there_within s i e = let count = length-map s.tables.items (stock_of s.next) in grind (arith, nat_tests)
+
+-- the table of a number
+pub stock_here : (s : Shelves) (i : ℕ) (t : Table) → i < length s.tables.items → stock_at (catalogue_of s) i ≡ stock_of s.next (get_or s.tables.items i t)
+stock_here s i t h = get_or-map (stock_of s.next) s.tables.items i t no_stock h
+
+pub all_at : {X : Type 0} (P : X → Type 0) (xs : List X) (i : ℕ) (d : X) → AllByRecursion P xs → i < length xs → P (get_or xs i d)
+all_at P [] i d all h = absurd (omega arith)
+all_at P (x ∷ xs) zero d all h = all.0
+all_at P (x ∷ xs) (suc i) d all h = all_at P xs i d all.1 (omega arith)
+
+pub all_set : {X : Type 0} (P : X → Type 0) (xs : List X) (i : ℕ) (y : X) → AllByRecursion P xs → P y → AllByRecursion P (set xs i y)
+all_set P [] i y all h = tt
+all_set P (x ∷ xs) zero y all h = (h, all.1)
+all_set P (x ∷ xs) (suc i) y all h = (all.0, all_set P xs i y all.1 h)
+
+pub all_pushed : {X : Type 0} (P : X → Type 0) (xs : List X) (y : X) → AllByRecursion P xs → P y → AllByRecursion P (xs ++ y ∷ [])
+all_pushed P [] y all h = (h, tt)
+all_pushed P (x ∷ xs) y all h = (all.0, all_pushed P xs y all.1 h)
+
+-- a table put in the place of another
+pub put_at : (s : Shelves) (i : ℕ) (t : Table) → map (stock_of s.next) (set s.tables.items i t) ≡ (with_stock (catalogue_of s) i (stock_of s.next t)).tables
+put_at s i t = map-set (stock_of s.next) s.tables.items i t

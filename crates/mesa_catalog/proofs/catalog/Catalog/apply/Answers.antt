@@ -1,0 +1,34 @@
+use Rattle.std.proofs.Common.{◌≡◌, ◌∙◌, ◌+◌, ap, sym, subst, true}
+use Rattle.std.specs.Prelude.{Option, Some, None, IfSome, option_map}
+use Rattle.mesa_record.specs.declared.record.Record.{Record}
+use Rattle.mesa_image.specs.Catalog.{applied}
+use Rattle.mesa_image.specs.Fitting.{kind_fits}
+use Rattle.mesa_catalog.specs.Kept.{Reserved}
+use Rattle.mesa_catalog.specs.declared.ready.Ready.{Ready}
+use Rattle.mesa_catalog.specs.Lookups.{generation_of, turns_generation}
+use Rattle.mesa_catalog.specs.Meaning.{catalogue_of}
+use Rattle.mesa_catalog.specs.Readied.{IsReady, record_in}
+use Rattle.mesa_catalog.proofs.Applies.{kind_of_fits}
+use Rattle.mesa_catalog.proofs.Generation.{generation_turned}
+use Rattle.mesa_catalog.proofs.catalog.Catalog.apply.Goals as goal
+
+pub invariant_of-self : goal.invariant_of-self
+invariant_of-self c = record {
+  shelves = c.take_in.ensures.shelved;
+  ready = subst (λ (y : Option Ready). IfSome y (IsReady c.take_in.new.self)) (sym c.take.ensures.after) tt;
+}
+
+some_same : (a b : Record) → Some a ≡ Some b → a ≡ b
+some_same a b e = cc
+
+pub returns-in-Some-clause-generation : goal.returns-in-Some-clause-generation
+returns-in-Some-clause-generation c =
+    let s = c.self.inside.shelves in
+    let y = c.in-Some.ready in
+    let was = c.in-Some.ensures.value in
+    let ready = subst (λ (o : Option Ready). IfSome o (IsReady s)) (sym was) c.self.invariant.ready in
+    let same = some_same (record_in y) c.args.r (ap (option_map record_in) was ∙ ap (λ (k : Reserved). k.reserved) c.self.view_is ∙ c.requires) in
+    let kept = ap (λ (k : Reserved). k.catalogue) c.self.view_is in
+    ap generation_of c.take_in.ensures.applied
+    ∙ generation_turned (catalogue_of s) (record_in y) (kind_of_fits (catalogue_of s) (record_in y) ready.fits)
+    ∙ (λ i. generation_of (kept i) + turns_generation (same i))

@@ -1,0 +1,14 @@
+use Rattle.std.proofs.Common.{◌≡◌, ◌<◌, ◌∙◌, ap, sym, arith, length, true}
+use Rattle.std.proofs.lemmas.Bool.Decides.{nat_tests}
+use Rattle.mesa_image.specs.Catalog.{ranges_of, stock_at}
+use Rattle.mesa_catalog.specs.Kept.{Reserved}
+use Rattle.mesa_catalog.proofs.Tests.{if_ok}
+use Rattle.mesa_catalog.proofs.catalog.Catalog.ranges.Goals as goal
+
+pub table-requires-clause-there : goal.table-requires-clause-there
+table-requires-clause-there c = let count = ap (λ (k : Reserved). length k.catalogue.tables) c.self.view_is in grind (arith, nat_tests)
+
+pub returns-clause-ranges : goal.returns-clause-ranges
+returns-clause-ranges c =
+    let same = ap ranges_of (sym c.table.ensures.stock) ∙ ap (λ (k : Reserved). ranges_of (stock_at k.catalogue c.args.table)) c.self.view_is in
+    if_ok c.ranges-2.result _ _ (λ r is. is ∙ same) (c.ranges-2.ensures.ranges c.self.inside.shelves.next)

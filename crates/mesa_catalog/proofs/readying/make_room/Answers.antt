@@ -1,0 +1,40 @@
+use Rattle.std.proofs.Common.{◌≡◌, ◌≤◌, ◌<◌, ◌+◌, ◌∙◌, ap, sym, subst, arith, length, map, List}
+use Rattle.std.specs.List.{AllByRecursion}
+use Rattle.std.proofs.lemmas.List.{with_items_is}
+use Rattle.mesa_catalog.specs.declared.table.Table.{Table}
+use Rattle.mesa_catalog.specs.Meaning.{IsTable, stock_of}
+use Rattle.mesa_catalog.specs.Readied.{AreRoomier, HasSpare}
+use Rattle.mesa_catalog.proofs.Roomier.{roomier_length, roomier_spares, roomier_stocks, roomier_tables}
+use Rattle.mesa_catalog.proofs.readying.make_room.Goals as goal
+
+pub returns-clause-same : goal.returns-clause-same
+returns-clause-same c =
+    let s = c.args.shelves.now in
+    let items = with_items_is c.reserve.new.self c.make_spares.new.tables (omega arith) in
+    let old = c.deref_mut.ensures.value ∙ c.in_ok-reserve.ensures.items in
+    let tables = ap (map (stock_of s.next)) items ∙ roomier_stocks s.next c.deref_mut.result.now c.make_spares.new.tables c.make_spares.ensures.roomier ∙ ap (map (stock_of s.next)) old in
+    λ i. record { tables = tables i; oldest = s.oldest; next = s.next; run = s.run }
+
+pub returns-clause-shelved : goal.returns-clause-shelved
+returns-clause-shelved c =
+    let s = c.args.shelves.now in
+    let items = with_items_is c.reserve.new.self c.make_spares.new.tables (omega arith) in
+    let old = c.deref_mut.ensures.value ∙ c.in_ok-reserve.ensures.items in
+    let count = ap length items ∙ roomier_length c.deref_mut.result.now c.make_spares.new.tables c.make_spares.ensures.roomier ∙ ap length old in
+    let few = c.requires.few in
+    record {
+      few = omega arith;
+      most = c.requires.most;
+      oldest = c.requires.oldest;
+      tables = subst (AllByRecursion (IsTable s.next)) (sym items) (roomier_tables s.next c.deref_mut.result.now c.make_spares.new.tables c.make_spares.ensures.roomier (subst (AllByRecursion (IsTable s.next)) (sym old) c.requires.tables));
+    }
+
+pub returns-clause-kept : goal.returns-clause-kept
+returns-clause-kept c = λ room.
+    let items = with_items_is c.reserve.new.self c.make_spares.new.tables (omega arith) in
+    let old = c.deref_mut.ensures.value ∙ c.in_ok-reserve.ensures.items in
+    let more = c.in_ok-reserve.ensures.ok in
+    record {
+      table = omega arith;
+      deltas = subst (AllByRecursion HasSpare) (sym items) (roomier_spares c.deref_mut.result.now c.make_spares.new.tables c.make_spares.ensures.roomier (subst (AllByRecursion HasSpare) (sym old) room.deltas));
+    }

@@ -1,0 +1,11 @@
+use Rattle.std.proofs.Common.{take}
+use Rattle.std.specs.List.{AllByRecursion}
+use Rattle.mesa_catalog.specs.Readied.{AreRoomier, HasSpare}
+use Rattle.mesa_catalog.proofs.readying.make_spares.Given as goal
+
+-- the tables so far have room
+abbrev pub invariant-loop-table : goal.invariant-loop-table
+invariant-loop-table l = record {
+  roomier : AreRoomier l.initial.tables l.tables;
+  spare : AllByRecursion HasSpare (take l.table-index l.tables);
+}

@@ -1,0 +1,42 @@
+use Rattle.std.proofs.Common.{◌≡◌, ◌≤◌, ◌<◌, ◌∙◌, ap, sym, subst, arith, length, set}
+use Rattle.std.specs.List.{AllByRecursion}
+use Rattle.std.proofs.lemmas.List.{length-set}
+use Rattle.mesa_catalog.specs.Meaning.{IsTable, catalogue_of, stock_of}
+use Rattle.mesa_catalog.specs.Readied.{last_change, record_in}
+use Rattle.mesa_catalog.specs.declared.ready.Ready.TheVariants as ready_of
+use Rattle.mesa_catalog.proofs.Applies.{changed_stock, kind_of_fits, put_stock}
+use Rattle.mesa_catalog.proofs.Made.{change_there}
+use Rattle.mesa_catalog.proofs.Stocks.{all_at, all_set, stock_here, there_within}
+use Rattle.mesa_catalog.proofs.shelves.Shelves.take_change.Goals as goal
+
+pub index_mut-table-requires : goal.index_mut-table-requires
+index_mut-table-requires c =
+    let s = c.args.self.now in
+    let fits = kind_of_fits (catalogue_of s) (record_in (ready_of.Alter c.args.table c.args.evolving c.args.widths c.args.totals)) c.requires.ready.fits in
+    let within = there_within s c.args.table (change_there (catalogue_of s) c.args.table (last_change c.args.evolving.value) fits) in
+    omega arith
+
+pub returns-clause-applied : goal.returns-clause-applied
+returns-clause-applied c =
+    let s = c.args.self.now in
+    let t = c.index_mut-table.result.now in
+    let fits = kind_of_fits (catalogue_of s) (record_in (ready_of.Alter c.args.table c.args.evolving c.args.widths c.args.totals)) c.requires.ready.fits in
+    let within = there_within s c.args.table (change_there (catalogue_of s) c.args.table (last_change c.args.evolving.value) fits) in
+    let same = stock_here s c.args.table t within ∙ ap (stock_of s.next) (sym c.index_mut-table.ensures.value) in
+    put_stock s c.args.table _ _ (changed_stock s.next t _ c.args.evolving c.args.widths c.args.totals same c.requires.ready.made.0 c.requires.ready.made.2)
+
+pub returns-clause-shelved : goal.returns-clause-shelved
+returns-clause-shelved c =
+    let s = c.args.self.now in
+    let t = c.index_mut-table.result.now in
+    let fits = kind_of_fits (catalogue_of s) (record_in (ready_of.Alter c.args.table c.args.evolving c.args.widths c.args.totals)) c.requires.ready.fits in
+    let within = there_within s c.args.table (change_there (catalogue_of s) c.args.table (last_change c.args.evolving.value) fits) in
+    let table = subst (IsTable s.next) (sym c.index_mut-table.ensures.value) (all_at (IsTable s.next) s.tables.items c.args.table t c.requires.shelved.tables within) in
+    let few = c.requires.shelved.few in
+    let count = length-set s.tables.items c.args.table (record t { evolving = c.args.evolving; widths = c.args.widths; totals = c.args.totals }) in
+    record {
+      few = omega arith;
+      most = c.requires.shelved.most;
+      oldest = c.requires.shelved.oldest;
+      tables = all_set (IsTable s.next) s.tables.items c.args.table _ c.requires.shelved.tables (record { tens = table.tens; loaded = table.loaded; widths = c.requires.ready.made.1 });
+    }

@@ -1,0 +1,71 @@
+-- What a catalogue is asked for.
+use Rattle.std.specs.Prelude.{ℕ, ◌+◌, List, [], ◌∷◌, map, length, sum_by, if◌then◌else◌, Option, Some, None, option_map}
+use Rattle.std.specs.Option.{option_or}
+use Rattle.mesa_list.specs.Bytes.{same_bytes}
+use Rattle.mesa_schema.specs.declared.views.View.{View}
+use Rattle.mesa_schema.specs.Columns.{place_of}
+use Rattle.mesa_schema.specs.Changes.{Lineage, epoch_of}
+use Rattle.mesa_batch.specs.Glance.{Known, Sight}
+use Rattle.mesa_record.specs.declared.record.Record.{Record}
+use Rattle.mesa_record.specs.declared.record.Record.TheVariants as record_of
+use Rattle.mesa_image.specs.Catalog.{Catalog, Stock}
+use Rattle.mesa_catalog.specs.declared.relation.Relation.{Relation}
+use Rattle.mesa_catalog.specs.declared.table.Table.{Table}
+
+-- ---- relations
+
+-- the names of a table's views, by their numbers
+abbrev pub view_names : Lineage → List (List ℕ)
+view_names l = map (λ (v : View). v.name) l.views
+
+-- the table of a number, or the view of it, that has this name
+abbrev pub relation_in : ℕ → List ℕ → Stock → Option Relation
+relation_in number name t =
+    if same_bytes name t.name then Some (record { table = number; view = None })
+    else option_map (λ view. record { table = number; view = Some view }) (place_of name (view_names t.lineage))
+
+-- the same among the tables from a number on
+abbrev pub relation_from : ℕ → List ℕ → List Stock → Option Relation
+relation_from number name [] = None
+relation_from number name (t ∷ tables) = option_or (relation_in number name t) (relation_from (number + 1) name tables)
+
+-- The table or the view of a name: tables and views share one space of names.
+abbrev pub relation_of : Catalog → List ℕ → Option Relation
+relation_of c name = relation_from 0 name c.tables
+
+-- ---- the generation
+
+-- a table counts once, each of its views once, and each of its changes once
+abbrev pub changes_in : Stock → ℕ
+changes_in t = 1 + length t.lineage.views + epoch_of t.lineage
+
+-- the same of a table that is held
+abbrev pub changes_of : Table → ℕ
+changes_of t = 1 + length t.evolving.value.views + epoch_of t.evolving.value
+
+-- Generation: how often tables, views and columns were made or changed.
+abbrev pub generation_of : Catalog → ℕ
+generation_of c = sum_by changes_in c.tables
+
+-- how much the generation rises by a record: by 1 where it makes a table or a view, or changes columns
+abbrev pub turns_generation : Record → ℕ
+turns_generation (record_of.Run number) = 0
+turns_generation (record_of.Table name keys values) = 1
+turns_generation (record_of.View table name keys values) = 1
+turns_generation (record_of.Alter table change) = 1
+turns_generation (record_of.Publish version parts) = 0
+turns_generation (record_of.Swap table base from to epoch files) = 0
+turns_generation (record_of.Expire version) = 0
+
+-- ---- glances
+
+abbrev pub known_as : Stock → Known
+known_as t = record { name = t.name; lineage = t.lineage }
+
+-- the same of a table that is held
+abbrev pub known_in : Table → Known
+known_in t = record { name = t.name; lineage = t.evolving.value }
+
+-- What a load sees of a catalogue.
+abbrev pub sight_of : Catalog → Sight
+sight_of c = record { generation = generation_of c; tables = map known_as c.tables }

@@ -1,0 +1,116 @@
+// Taking a record in, without memory.
+ghost use Rattle.std.specs.Prelude.{◌≡◌, ◌≢◌, ℕ, ◌==◌, find, None};
+ghost use Rattle.mesa_image.specs.Catalog.{applied};
+ghost use Rattle.mesa_catalog.specs.declared.ready.Ready.TheVariants as ready_of;
+ghost use Rattle.mesa_catalog.specs.Meaning.{IsShelved, catalogue_of};
+ghost use Rattle.mesa_catalog.specs.Readied.{IsReady, record_in};
+
+mod loading;
+mod swapping;
+
+use crate::Delta;
+use crate::ready::{Ready, ReadyPart};
+use crate::shelves::Shelves;
+use crate::table::Table;
+use loading::load;
+use mesa_list::Items;
+use mesa_schema::{Evolving, Totals};
+use std::sync::Arc;
+use swapping::swap;
+
+impl Shelves {
+    // Puts the pieces of a record in.
+    pub(crate) fn take_in(&mut self, ready: Ready)
+        requires shelved { IsShelved self.old }
+        requires ready { IsReady self.old ready }
+        ensures applied { catalogue_of self.new ≡ applied (catalogue_of self.old) (record_in ready) }
+        ensures shelved { IsShelved self.new }
+    {
+        match ready {
+            Ready::Run { number } => self.run = number,
+            Ready::Table { made } => self.take_table(made),
+            Ready::View { table, evolving } => self.take_view(table, evolving),
+            Ready::Alter {
+                table,
+                evolving,
+                widths,
+                totals,
+            } => self.take_change(table, evolving, widths, totals),
+            Ready::Publish { version, parts } => self.take_batch(version, parts),
+            Ready::Swap {
+                table,
+                base,
+                from,
+                to,
+                delta,
+            } => self.take_merged(table, base, from, to, delta),
+            Ready::Expire { version } => self.take_oldest(version),
+        }
+    }
+
+    fn take_table(&mut self, made: Table)
+        requires shelved { IsShelved self.old }
+        requires ready { IsReady self.old (ready_of.Table made) }
+        ensures applied { catalogue_of self.new ≡ applied (catalogue_of self.old) (record_in (ready_of.Table made)) }
+        ensures shelved { IsShelved self.new }
+    {
+        self.tables.push_reserved(made);
+    }
+
+    fn take_view(&mut self, table: u16, evolving: Arc<Evolving>)
+        requires shelved { IsShelved self.old }
+        requires ready { IsReady self.old (ready_of.View table evolving) }
+        ensures applied { catalogue_of self.new ≡ applied (catalogue_of self.old) (record_in (ready_of.View table evolving)) }
+        ensures shelved { IsShelved self.new }
+    {
+        let table = &mut self.tables[table as usize];
+        table.evolving = evolving;
+    }
+
+    fn take_change(
+        &mut self,
+        table: u16,
+        evolving: Arc<Evolving>,
+        widths: Items<u8>,
+        totals: Totals,
+    )
+        requires shelved { IsShelved self.old }
+        requires ready { IsReady self.old (ready_of.Alter table evolving widths totals) }
+        ensures applied { catalogue_of self.new ≡ applied (catalogue_of self.old) (record_in (ready_of.Alter table evolving widths totals)) }
+        ensures shelved { IsShelved self.new }
+    {
+        let table = &mut self.tables[table as usize];
+        table.evolving = evolving;
+        table.widths = widths;
+        table.totals = totals;
+    }
+
+    fn take_batch(&mut self, version: u32, parts: Vec<ReadyPart>)
+        requires shelved { IsShelved self.old }
+        requires ready { IsReady self.old (ready_of.Publish version parts) }
+        ensures applied { catalogue_of self.new ≡ applied (catalogue_of self.old) (record_in (ready_of.Publish version parts)) }
+        ensures shelved { IsShelved self.new }
+    {
+        load(&mut self.tables, version, parts);
+        self.next += 1;
+    }
+
+    fn take_merged(&mut self, table: u16, base: bool, from: u32, to: u32, delta: Arc<Delta>)
+        requires shelved { IsShelved self.old }
+        requires ready { IsReady self.old (ready_of.Swap table base from to delta) }
+        ensures applied { catalogue_of self.new ≡ applied (catalogue_of self.old) (record_in (ready_of.Swap table base from to delta)) }
+        ensures shelved { IsShelved self.new }
+    {
+        let table = &mut self.tables[table as usize];
+        swap(table, base, to, delta);
+    }
+
+    fn take_oldest(&mut self, version: u32)
+        requires shelved { IsShelved self.old }
+        requires ready { IsReady self.old (ready_of.Expire version) }
+        ensures applied { catalogue_of self.new ≡ applied (catalogue_of self.old) (record_in (ready_of.Expire version)) }
+        ensures shelved { IsShelved self.new }
+    {
+        self.oldest = version;
+    }
+}

@@ -1,0 +1,103 @@
+// The catalogue.
+ghost use Rattle.std.specs.Prelude.{◌≡◌, ◌+◌, None, Some, OnOk, OnErr, IfOk, IsTrue, length};
+ghost use Rattle.mesa_span.specs.Ranges.{base_before};
+ghost use Rattle.mesa_record.specs.declared.record.Record.{Record as AnyRecord};
+ghost use Rattle.mesa_image.specs.Catalog.{applied, empty_catalog};
+ghost use Rattle.mesa_image.specs.Fitting.{fits as fits_catalog, kind_fits};
+ghost use Rattle.mesa_catalog.specs.Lookups.{generation_of, turns_generation};
+
+use crate::ready::Ready;
+use crate::readying::make_room;
+use crate::shelves::Shelves;
+use mesa_record::Record;
+use std::alloc::{AllocError, Global};
+use std::marker::Model;
+
+/// The catalogue: the tables with their deltas, the oldest version, how many versions there are, and the last run. A version that brought a table nothing costs nothing.
+#[derive(Drop)]
+pub struct Catalog {
+    pub(crate) shelves: Shelves,
+    pub(crate) ready: Option<Ready>,
+}
+
+impl Model for Catalog {
+    ghost use Rattle.mesa_catalog.specs.Kept.{IsKept, Reserved, reserved_of};
+
+    ghost Value = { Reserved };
+
+    ghost view = { λ c. reserved_of c.shelves c.ready };
+
+    ghost invariant = { λ c. IsKept c.shelves c.ready };
+}
+
+impl Catalog {
+    /// The catalogue before any record.
+    pub fn new(alloc: Global) -> Catalog
+        ensures { result ≡ record { catalogue = empty_catalog; reserved = None } }
+    {
+        Catalog {
+            shelves: Shelves {
+                tables: Vec::new(alloc),
+                oldest: 0,
+                next: 0,
+                run: 0,
+            },
+            ready: None,
+        }
+    }
+
+    /// The oldest version that can be queried.
+    pub fn oldest(&self) -> u32
+        ensures { result ≡ self.now.catalogue.oldest }
+    {
+        self.shelves.oldest
+    }
+
+    /// The newest version.
+    pub fn newest(&self) -> Option<u32>
+        ensures { result ≡ base_before self.now.catalogue.next }
+    {
+        self.shelves.next.checked_sub(1)
+    }
+
+    /// The number of the last run, 0 before the first.
+    pub fn run(&self) -> u32
+        ensures { result ≡ self.now.catalogue.run }
+    {
+        self.shelves.run
+    }
+}
+
+impl Catalog {
+    /// Whether a record keeps the rules of its kind: it fits where its files are new too. Takes no memory.
+    pub fn allows(&self, r: &Record) -> bool
+        ensures { result ≡ kind_fits self.now.catalogue r.now }
+    {
+        self.shelves.allows(r)
+    }
+
+    /// Takes all memory that it takes to take in a record. Another record that was reserved for is forgotten.
+    pub fn reserve(&mut self, r: &Record) -> Result<(), AllocError>
+        requires { IsTrue (fits_catalog self.old.catalogue r.now) }
+        ensures same { self.new.catalogue ≡ self.old.catalogue }
+        ensures reserved { OnOk result (self.new.reserved ≡ Some r.now) }
+        ensures err { OnErr result (self.new ≡ self.old) }
+    {
+        make_room(&mut self.shelves)?;
+        let ready = self.shelves.make_ready(r)?;
+        self.ready = Some(ready);
+        Ok(())
+    }
+
+    /// Takes a record in. Takes no memory.
+    pub fn apply(&mut self, r: Record)
+        requires { self.old.reserved ≡ Some r }
+        ensures applied { self.new.catalogue ≡ applied self.old.catalogue r }
+        ensures spent { self.new.reserved ≡ None }
+        ensures generation { generation_of self.new.catalogue ≡ generation_of self.old.catalogue + turns_generation r }
+    {
+        if let Some(ready) = self.ready.take() {
+            self.shelves.take_in(ready);
+        }
+    }
+}

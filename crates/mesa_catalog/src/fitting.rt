@@ -1,0 +1,190 @@
+// Which records keep the rules of their kind. Takes no memory.
+ghost use Rattle.std.specs.Prelude.{◌≡◌, ◌≤◌, ◌&&◌, ℕ};
+ghost use Rattle.std.specs.List.{list_all};
+ghost use Rattle.mesa_image.specs.Catalog.{ranges_of, stock_at};
+ghost use Rattle.mesa_image.specs.Fitting.{may_be_base as is_base_work, may_be_cumulative as is_cumulative_work, alter_fits, files_fit_if_any, is_new_name, is_there, kind_fits, may_be_work, part_fits, publish_fits, run_fits, swap_fits, table_fits, view_fits};
+ghost use Rattle.mesa_schema.specs.Changes.{epoch_of};
+ghost use Rattle.mesa_catalog.specs.Meaning.{IsShelved, IsTable, catalogue_of, stock_of, widths_of};
+
+mod counting;
+
+use crate::shelves::{MAX_TABLES, Shelves};
+use crate::table::Table;
+pub(crate) use counting::{is_sum, sums_among};
+use counting::{counts_files, counts_totals, keeps_bound};
+use mesa_record::{Files, Part, Record};
+use mesa_schema::{Change, KeyColumn, MAX_VIEWS, Name, Schema, ValueColumn};
+
+// The number of the last run that there may be.
+const MAX_RUNS: u32 = (1 << 24) - 1;
+
+impl Shelves {
+    // Whether a record keeps the rules of its kind.
+    pub(crate) fn allows(&self, r: &Record) -> bool
+        requires { IsShelved self.now }
+        ensures { result ≡ kind_fits (catalogue_of self.now) r.now }
+    {
+        match r {
+            Record::Run { number } => self.allows_run(*number),
+            Record::Table { name, keys, values } => {
+                self.allows_table(name, keys.as_slice(), values.as_slice())
+            }
+            Record::View {
+                table,
+                name,
+                keys,
+                values,
+            } => self.allows_view(*table, name, keys.as_slice(), values.as_slice()),
+            Record::Alter { table, change } => self.allows_change(*table, change),
+            Record::Publish { version, parts } => self.allows_batch(*version, parts.as_slice()),
+            Record::Swap {
+                table,
+                base,
+                from,
+                to,
+                epoch,
+                files,
+            } => self.allows_swap(*table, *base, *from, *to, *epoch, files),
+            Record::Expire { version } => self.oldest <= *version && *version < self.next,
+        }
+    }
+
+    fn allows_run(&self, number: u32) -> bool
+        ensures { result ≡ run_fits (catalogue_of self.now) number }
+    {
+        number as u64 == self.run as u64 + 1 && number <= MAX_RUNS
+    }
+
+    fn allows_table(&self, name: &Name, keys: &[KeyColumn], values: &[ValueColumn]) -> bool
+        requires { IsShelved self.now }
+        ensures { result ≡ table_fits (catalogue_of self.now) name.now (record { keys = keys.now; values = values.now }) }
+    {
+        self.is_new_name(name) && Schema::allows(keys, values) && self.tables.len() < MAX_TABLES
+    }
+
+    fn allows_view(&self, table: u16, name: &Name, keys: &[Name], values: &[Name]) -> bool
+        requires { IsShelved self.now }
+        ensures { result ≡ view_fits (catalogue_of self.now) table name.now keys.now values.now }
+    {
+        match self.get(table) {
+            None => false,
+            Some(t) => {
+                self.is_new_name(name)
+                    && t.evolving.allows_view(name, keys, values)
+                    && (t.evolving.views() as usize) < MAX_VIEWS
+            }
+        }
+    }
+
+    fn allows_change(&self, table: u16, change: &Change) -> bool
+        requires { IsShelved self.now }
+        ensures { result ≡ alter_fits (catalogue_of self.now) table change.now }
+    {
+        match self.get(table) {
+            None => false,
+            Some(t) => t.evolving.allows(change),
+        }
+    }
+
+    fn allows_batch(&self, version: u32, parts: &[Part]) -> bool
+        requires { IsShelved self.now }
+        ensures { result ≡ publish_fits (catalogue_of self.now) version parts.now }
+    {
+        version == self.next && version < u32::MAX && self.allows_parts(parts)
+    }
+
+    fn allows_parts(&self, parts: &[Part]) -> bool
+        requires { IsShelved self.now }
+        ensures { result ≡ list_all (λ p. is_there (catalogue_of self.now) p.table && part_fits (stock_at (catalogue_of self.now) p.table) p) parts.now }
+    {
+        parts.iter().all(|part| self.allows_part(part))
+    }
+
+    fn allows_part(&self, part: &Part) -> bool
+        requires { IsShelved self.now }
+        ensures { result ≡ (is_there (catalogue_of self.now) part.now.table && part_fits (stock_at (catalogue_of self.now) part.now.table) part.now) }
+    {
+        match self.get(part.table) {
+            None => false,
+            Some(t) => {
+                part.epoch == t.evolving.epoch()
+                    && counts_files(&t.evolving, t.widths.as_slice(), part.epoch, &part.files)
+                    && counts_totals(&t.evolving, &part.totals)
+                    && keeps_bound(t.totals.as_slice(), part.totals.as_slice())
+            }
+        }
+    }
+
+    fn allows_swap(
+        &self,
+        table: u16,
+        base: bool,
+        from: u32,
+        to: u32,
+        epoch: u32,
+        files: &Option<Files>,
+    ) -> bool
+        requires { IsShelved self.now }
+        ensures { result ≡ (is_there (catalogue_of self.now) table && swap_fits (catalogue_of self.now) (stock_at (catalogue_of self.now) table) base from to epoch files.now) }
+    {
+        match self.get(table) {
+            None => false,
+            Some(t) => {
+                self.may_be_work(t, base, from, to)
+                    && epoch <= t.evolving.epoch()
+                    && counts_files_if_any(t, epoch, files)
+            }
+        }
+    }
+
+    // Whether work may give this range.
+    fn may_be_work(&self, t: &Table, base: bool, from: u32, to: u32) -> bool
+        requires { IsTable self.now.next t.now }
+        ensures { result ≡ may_be_work (catalogue_of self.now) (stock_of self.now.next t.now) base from to }
+    {
+        if base {
+            return may_be_base(t, self.oldest, from, to);
+        }
+        may_be_cumulative(t, self.next, from, to)
+    }
+
+    // Whether no table and no view has this name.
+    fn is_new_name(&self, name: &Name) -> bool
+        requires { IsShelved self.now }
+        ensures { result ≡ is_new_name (catalogue_of self.now) name.now }
+    {
+        self.find(name).is_none()
+    }
+}
+
+fn counts_files_if_any(t: &Table, epoch: u32, files: &Option<Files>) -> bool
+    requires widths { t.now.widths ≡ widths_of t.now.evolving.value }
+    requires epoch { epoch ≤ epoch_of t.now.evolving.value }
+    ensures { result ≡ files_fit_if_any t.now.evolving.value epoch files.now }
+{
+    match files {
+        None => true,
+        Some(files) => counts_files(&t.evolving, t.widths.as_slice(), epoch, files),
+    }
+}
+
+// Whether work may give a base to this version: it is behind the present base, not the first version, and at most the oldest.
+fn may_be_base(t: &Table, oldest: u32, from: u32, to: u32) -> bool
+    ensures { (next : ℕ) → result ≡ is_base_work (ranges_of (stock_of next t.now)) oldest from to }
+{
+    let start = t.start();
+    from == 0 && to >= 1 && start <= to as u64 && to <= oldest
+}
+
+// Whether work may give this cumulative: it is the ten behind those that are there.
+fn may_be_cumulative(t: &Table, next: u32, from: u32, to: u32) -> bool
+    requires { IsTable next t.now }
+    ensures { result ≡ is_cumulative_work (ranges_of (stock_of next t.now)) next from to }
+{
+    let start = t.start();
+    if from as u64 != start {
+        return false;
+    }
+    let end = start + 10 * t.cumulatives.len() as u64 + 9;
+    end < next as u64 && end == to as u64
+}

@@ -1,0 +1,129 @@
+// What is asked of the catalogue. Where no error is told, nothing takes memory.
+ghost use Rattle.std.specs.Prelude.{◌≡◌, ◌<◌, ◌≤◌, ◌^◌, IfOk, length, map, ℕ, sum_by};
+ghost use Rattle.mesa_span.specs.Ranges.{IsInOrder};
+ghost use Rattle.mesa_batch.specs.Numbers.{known_of};
+ghost use Rattle.mesa_image.specs.Catalog.{ranges_of, stock_at};
+ghost use Rattle.mesa_catalog.specs.Lookups.{changes_of, generation_of, known_in, relation_of, sight_of};
+ghost use Rattle.mesa_catalog.specs.Meaning.{IsTable, stock_of};
+
+use crate::table::Table;
+use crate::{Catalog, Relation};
+use mesa_batch::{Glance, Glanced};
+use mesa_list::{Items, TryCopy};
+use mesa_schema::{Evolving, Name, Totals};
+use mesa_span::Ranges;
+use std::alloc::{AllocError, Global};
+use std::sync::Arc;
+
+impl Catalog {
+    /// How many tables there are.
+    pub fn tables(&self) -> u16
+        ensures { result ≡ length self.now.catalogue.tables }
+    {
+        self.shelves.tables.len() as u16
+    }
+
+    /// How often tables, views and columns were made or changed.
+    pub fn generation(&self) -> u64
+        ensures { result ≡ generation_of self.now.catalogue }
+    {
+        generation(&self.shelves.tables)
+    }
+
+    /// The table or the view of a name.
+    pub fn find(&self, name: &Name) -> Option<Relation>
+        ensures { result ≡ relation_of self.now.catalogue name.now }
+    {
+        self.shelves.find(name)
+    }
+
+    /// The name of the table of a number.
+    pub fn name(&self, table: u16) -> &Name
+        requires { table < length self.now.catalogue.tables }
+        ensures { result.now ≡ (stock_at self.now.catalogue table).name }
+    {
+        &self.shelves.tables[table as usize].name
+    }
+
+    /// The columns of the table of a number, through its life, and its views.
+    pub fn evolving(&self, table: u16) -> &Arc<Evolving>
+        requires { table < length self.now.catalogue.tables }
+        ensures { result.now.value ≡ (stock_at self.now.catalogue table).lineage }
+    {
+        &self.shelves.tables[table as usize].evolving
+    }
+
+    /// The absolute totals of the table of a number, one for each sum column.
+    pub fn totals(&self, table: u16) -> &Totals
+        requires { table < length self.now.catalogue.tables }
+        ensures { result.now ≡ (stock_at self.now.catalogue table).totals }
+    {
+        &self.shelves.tables[table as usize].totals
+    }
+
+    /// The ranges of a table's deltas.
+    pub fn ranges(&self, table: u16) -> Result<Ranges, AllocError>
+        requires { table < length self.now.catalogue.tables }
+        ensures ranges { IfOk result (λ r. r ≡ ranges_of (stock_at self.now.catalogue table)) }
+        ensures in_order { IfOk result IsInOrder }
+    {
+        let alloc = *self.shelves.tables.allocator();
+        ranges(alloc, self.shelves.table(table))
+    }
+
+    /// What a load sees of the catalogue.
+    pub fn glance(&self) -> Result<Glance, AllocError>
+        ensures { IfOk result (λ g. g ≡ sight_of self.now.catalogue) }
+    {
+        let alloc = *self.shelves.tables.allocator();
+        Glance::new(
+            alloc,
+            self.generation(),
+            glanced(alloc, &self.shelves.tables)?,
+        )
+    }
+}
+
+// How often tables, views and columns were made or changed.
+fn generation(tables: &[Table]) -> u64
+    requires { length tables.now ≤ 32 }
+    ensures { result ≡ sum_by changes_of tables.now }
+{
+    let mut changes = 0;
+    for table in tables {
+        changes += 1 + table.evolving.views() as u64 + table.evolving.epoch() as u64;
+    }
+    changes
+}
+
+// The ranges of a table's deltas.
+fn ranges(alloc: Global, table: &Table) -> Result<Ranges, AllocError>
+    requires { (next : ℕ) × (next < 2 ^ 32) × IsTable next table.now }
+    ensures ranges { (next : ℕ) → IfOk result (λ r. r ≡ ranges_of (stock_of next table.now)) }
+    ensures in_order { IfOk result IsInOrder }
+{
+    let start = table.start();
+    let mut ends = Vec::with_capacity(alloc, table.cumulatives.len())?;
+    for ten in 0..table.cumulatives.len() as u64 {
+        ends.push((start + 10 * ten + 9) as u32)?;
+    }
+    Ok(Ranges {
+        base_to: table.base_to(),
+        cumulatives: Items::from_vec(ends),
+    })
+}
+
+// The tables as a glance has them; their columns are shared.
+fn glanced(alloc: Global, tables: &[Table]) -> Result<Vec<Glanced>, AllocError>
+    ensures known { IfOk result (λ known. map known_of known.items ≡ map known_in tables.now) }
+    ensures len { IfOk result (λ known. length known.items ≡ length tables.now) }
+{
+    let mut known = Vec::with_capacity(alloc, tables.len())?;
+    for table in tables {
+        known.push(Glanced {
+            name: table.name.copy()?,
+            evolving: table.evolving.clone()?,
+        })?;
+    }
+    Ok(known)
+}

@@ -1,0 +1,248 @@
+// Making a record ready: all memory that it takes is taken here.
+ghost use Rattle.std.specs.Prelude.{◌≡◌, ◌&&◌, IsTrue, IfOk, OnOk, length, map, option_map};
+ghost use Rattle.std.specs.List.{AllByRecursion, list_all};
+ghost use Rattle.mesa_record.specs.declared.record.Part.{Part as PartOf};
+ghost use Rattle.mesa_span.specs.Ranges.{base_before};
+ghost use Rattle.mesa_record.specs.declared.record.Record.TheVariants as record_of;
+ghost use Rattle.mesa_image.specs.Catalog.{empty_base, merged_delta, stock_at};
+ghost use Rattle.mesa_image.specs.Fitting.{alter_fits, is_there, kind_fits, part_fits, table_fits, view_fits};
+ghost use Rattle.mesa_catalog.specs.Meaning.{IsShelved, catalogue_of, ending_of};
+ghost use Rattle.mesa_catalog.specs.Readied.{AreRoomier, HasRoom, HasSpare, IsRoomier, IsMade, IsMadePart, part_in, record_in};
+
+mod totals;
+
+use crate::Delta;
+use crate::ready::{Ready, ReadyPart};
+use crate::shelves::Shelves;
+use crate::table::{Base, Table};
+use mesa_list::{Items, TryCopy};
+use mesa_record::{Files, Part, Record};
+use mesa_schema::{Change, Evolving, KeyColumn, Name, Schema, ValueColumn};
+use std::alloc::{AllocError, Global};
+use std::sync::Arc;
+use totals::{no_totals, totals_changed, totals_with};
+
+// Makes room for a table more, and in each table for a delta more.
+pub(crate) fn make_room(shelves: &mut Shelves) -> Result<(), AllocError>
+    requires { IsShelved shelves.old }
+    ensures same { catalogue_of shelves.new ≡ catalogue_of shelves.old }
+    ensures shelved { IsShelved shelves.new }
+    ensures room { OnOk result (HasRoom shelves.new) }
+    ensures kept { HasRoom shelves.old → HasRoom shelves.new }
+{
+    shelves.tables.reserve(1)?;
+    make_spares(&mut shelves.tables)
+}
+
+fn make_spares(tables: &mut [Table]) -> Result<(), AllocError>
+    ensures roomier { AreRoomier tables.old tables.new }
+    ensures spare { OnOk result (AllByRecursion HasSpare tables.new) }
+{
+    for table in tables.iter_mut() {
+        make_spare(table)?;
+    }
+    Ok(())
+}
+
+// Makes room in a table for a cumulative and a singleton more.
+fn make_spare(table: &mut Table) -> Result<(), AllocError>
+    ensures roomier { IsRoomier table.old table.new }
+    ensures spare { OnOk result (HasSpare table.new) }
+{
+    table.cumulatives.reserve(1)?;
+    table.loaded.reserve(1)
+}
+
+impl Shelves {
+    // The pieces of a record.
+    pub(crate) fn make_ready(&self, r: &Record) -> Result<Ready, AllocError>
+        requires shelved { IsShelved self.now }
+        requires fits { IsTrue (kind_fits (catalogue_of self.now) r.now) }
+        ensures record { IfOk result (λ y. record_in y ≡ r.now) }
+        ensures made { IfOk result (IsMade (catalogue_of self.now)) }
+    {
+        match r {
+            Record::Run { number } => Ok(Ready::Run { number: *number }),
+            Record::Table { name, keys, values } => self.make_table(name, keys, values),
+            Record::View {
+                table,
+                name,
+                keys,
+                values,
+            } => self.make_view(*table, name, keys, values),
+            Record::Alter { table, change } => self.make_change(*table, change),
+            Record::Publish { version, parts } => {
+                let parts = self.make_parts(parts.as_slice())?;
+                Ok(Ready::Publish {
+                    version: *version,
+                    parts,
+                })
+            }
+            Record::Swap {
+                table,
+                base,
+                from,
+                to,
+                epoch,
+                files,
+            } => {
+                let delta = self.make_merged(*epoch, files)?;
+                Ok(Ready::Swap {
+                    table: *table,
+                    base: *base,
+                    from: *from,
+                    to: *to,
+                    delta,
+                })
+            }
+            Record::Expire { version } => Ok(Ready::Expire { version: *version }),
+        }
+    }
+
+    fn alloc(&self) -> Global {
+        *self.tables.allocator()
+    }
+
+    fn make_table(
+        &self,
+        name: &Name,
+        keys: &Items<KeyColumn>,
+        values: &Items<ValueColumn>,
+    ) -> Result<Ready, AllocError>
+        requires shelved { IsShelved self.now }
+        requires fits { IsTrue (table_fits (catalogue_of self.now) name.now (record { keys = keys.now; values = values.now })) }
+        ensures record { IfOk result (λ y. record_in y ≡ record_of.Table name.now keys.now values.now) }
+        ensures made { IfOk result (IsMade (catalogue_of self.now)) }
+    {
+        let alloc = self.alloc();
+        let keys = keys.copy()?.into_vec();
+        let values = values.copy()?.into_vec();
+        let Ok(first) = Schema::build(keys, values) else {
+            return Err(AllocError);
+        };
+        let mut widths = Items::new(alloc);
+        widths.push(width_of(&first))?;
+        let totals = no_totals(alloc, first.values())?;
+        let made = Table {
+            name: name.copy()?,
+            evolving: Arc::new(alloc, Evolving::new(alloc, first))?,
+            widths,
+            totals,
+            base: self.base_before_oldest(),
+            cumulatives: Vec::new(alloc),
+            loaded: Vec::new(alloc),
+        };
+        Ok(Ready::Table { made })
+    }
+
+    // The base of a table that is made now: it has no rows.
+    fn base_before_oldest(&self) -> Option<Base>
+        ensures { option_map ending_of result ≡ option_map empty_base (base_before self.now.oldest) }
+    {
+        let to = self.oldest.checked_sub(1)?;
+        Some(Base { to, delta: None })
+    }
+
+    fn make_view(
+        &self,
+        table: u16,
+        name: &Name,
+        keys: &Items<Name>,
+        values: &Items<Name>,
+    ) -> Result<Ready, AllocError>
+        requires shelved { IsShelved self.now }
+        requires fits { IsTrue (view_fits (catalogue_of self.now) table name.now keys.now values.now) }
+        ensures record { IfOk result (λ y. record_in y ≡ record_of.View table name.now keys.now values.now) }
+        ensures made { IfOk result (IsMade (catalogue_of self.now)) }
+    {
+        let mut evolving = self.table(table).evolving.copy()?;
+        let keys = keys.copy()?.into_vec();
+        let values = values.copy()?.into_vec();
+        match evolving.add_view(name.copy()?, keys, values) {
+            Ok(()) => {
+                let evolving = Arc::new(self.alloc(), evolving)?;
+                Ok(Ready::View { table, evolving })
+            }
+            Err(_) => Err(AllocError),
+        }
+    }
+
+    fn make_change(&self, table: u16, change: &Change) -> Result<Ready, AllocError>
+        requires shelved { IsShelved self.now }
+        requires fits { IsTrue (alter_fits (catalogue_of self.now) table change.now) }
+        ensures record { IfOk result (λ y. record_in y ≡ record_of.Alter table change.now) }
+        ensures made { IfOk result (IsMade (catalogue_of self.now)) }
+    {
+        let old = self.table(table);
+        let totals = totals_changed(&old.evolving, change, &old.totals)?;
+        let mut evolving = old.evolving.copy()?;
+        match evolving.change(change.copy()?) {
+            Ok(()) => {
+                let mut widths = old.widths.copy()?;
+                widths.push(width_of(evolving.present()))?;
+                let evolving = Arc::new(self.alloc(), evolving)?;
+                Ok(Ready::Alter {
+                    table,
+                    evolving,
+                    widths,
+                    totals,
+                })
+            }
+            Err(_) => Err(AllocError),
+        }
+    }
+
+    fn make_parts(&self, parts: &[Part]) -> Result<Vec<ReadyPart>, AllocError>
+        requires shelved { IsShelved self.now }
+        requires fits { IsTrue (list_all (λ (p : PartOf). is_there (catalogue_of self.now) p.table && part_fits (stock_at (catalogue_of self.now) p.table) p) parts.now) }
+        ensures parts { IfOk result (λ made. map part_in made.items ≡ parts.now) }
+        ensures made { IfOk result (λ made. AllByRecursion (IsMadePart (catalogue_of self.now)) made.items) }
+    {
+        let mut made = Vec::with_capacity(self.alloc(), parts.len())?;
+        for part in parts {
+            made.push(self.make_part(part)?)?;
+        }
+        Ok(made)
+    }
+
+    fn make_part(&self, part: &Part) -> Result<ReadyPart, AllocError>
+        requires shelved { IsShelved self.now }
+        requires fits { IsTrue (is_there (catalogue_of self.now) part.now.table && part_fits (stock_at (catalogue_of self.now) part.now.table) part.now) }
+        ensures part { IfOk result (λ made. part_in made ≡ part.now) }
+        ensures made { IfOk result (IsMadePart (catalogue_of self.now)) }
+    {
+        let totals = totals_with(&self.table(part.table).totals, &part.totals)?;
+        let delta = Delta {
+            epoch: part.epoch,
+            files: Some(part.files.copy()?),
+            totals: Some(part.totals.copy()?),
+        };
+        Ok(ReadyPart {
+            table: part.table,
+            delta: Arc::new(self.alloc(), delta)?,
+            totals,
+        })
+    }
+
+    fn make_merged(&self, epoch: u32, files: &Option<Files>) -> Result<Arc<Delta>, AllocError>
+        ensures { IfOk result (λ d. d.value ≡ merged_delta epoch files.now) }
+    {
+        let files = match files {
+            None => None,
+            Some(files) => Some(files.copy()?),
+        };
+        let delta = Delta {
+            epoch,
+            files,
+            totals: None,
+        };
+        Ok(Arc::new(self.alloc(), delta)?)
+    }
+}
+
+// How many value columns there are; a schema has few.
+fn width_of(schema: &Schema) -> u8
+    ensures { result ≡ length schema.now.values }
+{
+    schema.values().len() as u8
+}

@@ -1,0 +1,41 @@
+// All that the catalogue holds.
+ghost use Rattle.std.specs.Prelude.{◌≡◌, is_some, true, IfSome};
+ghost use Rattle.mesa_image.specs.Catalog.{stock_at};
+ghost use Rattle.mesa_image.specs.Fitting.{is_there};
+ghost use Rattle.mesa_catalog.specs.Meaning.{IsShelved, IsTable, catalogue_of, stock_of};
+
+use crate::table::Table;
+
+// How many tables there may be.
+pub(crate) const MAX_TABLES: usize = 32;
+
+// The tables by their numbers, the oldest version, how many versions there were, and the last run.
+#[derive(Drop)]
+pub(crate) struct Shelves {
+    pub(crate) tables: Vec<Table>,
+    pub(crate) oldest: u32,
+    pub(crate) next: u32,
+    pub(crate) run: u32,
+}
+
+impl Shelves {
+    // The table of a number, if it is there.
+    pub(crate) fn get(&self, table: u16) -> Option<&Table>
+        requires { IsShelved self.now }
+        ensures there { is_there (catalogue_of self.now) table ≡ is_some result }
+        ensures stock { IfSome result (λ t. stock_at (catalogue_of self.now) table ≡ stock_of self.now.next t.now) }
+        ensures table { IfSome result (λ t. IsTable self.now.next t.now) }
+    {
+        self.tables.get(table as usize)
+    }
+
+    // The table of a number.
+    pub(crate) fn table(&self, table: u16) -> &Table
+        requires shelved { IsShelved self.now }
+        requires there { is_there (catalogue_of self.now) table ≡ true }
+        ensures stock { stock_at (catalogue_of self.now) table ≡ stock_of self.now.next result.now }
+        ensures table { IsTable self.now.next result.now }
+    {
+        &self.tables[table as usize]
+    }
+}
