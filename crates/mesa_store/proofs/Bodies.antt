@@ -24,3 +24,10 @@ catalog_more bodies body c r is reads good =
     from-append empty_catalog bodies (body ∷ [])
     ∙ ap (λ o. then_bodies o (λ d. catalog_from d (body ∷ []))) is
     ∙ one_body c (applied c r) body (ap (read_record c) reads ∙ ap (applied_if c r) good)
+
+-- What a body makes is applied.
+pub body_more : (bodies : List (List ℕ)) (body : List ℕ) (c d : Catalog) → catalog bodies ≡ Some c → with_body c body ≡ Some d → catalog (bodies ++ body ∷ []) ≡ Some d
+body_more bodies body c d is made =
+    from-append empty_catalog bodies (body ∷ [])
+    ∙ ap (λ o. then_bodies o (λ e. catalog_from e (body ∷ []))) is
+    ∙ one_body c d body made
