@@ -1,0 +1,6 @@
+pub mod Files
+pub mod Damages
+pub mod Checking
+pub mod Misfits
+pub mod Strays
+pub mod Opening

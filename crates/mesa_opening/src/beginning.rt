@@ -1,0 +1,65 @@
+// Beginning a run.
+ghost use Rattle.std.specs.Prelude.{◌≡◌, ◌<◌, ◌≤◌, ℕ, List, [], IfOk, OnOk, Ok, IsTrue};
+ghost use Rattle.mesa_key.specs.Spelling.{AreBytes};
+ghost use Rattle.mesa_fault.specs.Causes.{HasCause};
+ghost use Rattle.mesa_disk.specs.Story.{Spans};
+ghost use Rattle.mesa_disk.specs.declared.area.Area.TheVariants.{Zero};
+ghost use Rattle.mesa_trash.specs.Filed.{AreNamedOrWait};
+ghost use Rattle.mesa_record.specs.Reading.{record_at};
+ghost use Rattle.mesa_record.specs.Rules.{keeps_rules};
+ghost use Rattle.mesa_image.specs.Catalog.{Catalog as AnyCatalog, applied};
+ghost use Rattle.mesa_image.specs.Contents.{Rows, kept_of};
+ghost use Rattle.mesa_image.specs.Sound.{StandsFor};
+ghost use Rattle.mesa_image_laws.specs.Ids.{named};
+ghost use Rattle.mesa_store.specs.Store.{IsFound};
+ghost use Rattle.mesa_opening.specs.Strays.{AreStrays};
+ghost use Rattle.mesa_opening.specs.Opening.{BeginsRun, IsHeldAs, run_record};
+
+use mesa_disk::{Disk, DiskFailed, FileId, Made};
+use mesa_journal::Framed;
+use mesa_record::{Record, encode};
+use mesa_store::{settle, write_record};
+use std::alloc::{AllocError, Global};
+
+/// Makes what is read stay, appends the record of a run, and removes strays. Gives the journal's new end.
+pub fn write_run<M: Made, D: Disk<M>>(
+    alloc: Global,
+    disk: &mut D,
+    end: u64,
+    framed: &Framed,
+    strays: &[FileId],
+) -> Result<u64, DiskFailed>
+    requires gate { 1 < (D.story disk.old).len Zero → end < (D.story disk.old).len Zero }
+    requires none { (D.story disk.old).len Zero ≤ 1 → end ≡ 0 }
+    ensures images { (bodies : List (List ℕ)) (c : AnyCatalog) (rows : Rows) (number : ℕ) → IsFound (D.story disk.old) bodies end c rows → BeginsRun c number framed.now strays.now
+        → Spans (λ x. StandsFor x (kept_of rows c)) (D.story disk.old) (D.story disk.new) }
+    ensures held { IfOk result (λ new_end. (bodies : List (List ℕ)) (c : AnyCatalog) (rows : Rows) (number : ℕ) → IsFound (D.story disk.old) bodies end c rows → BeginsRun c number framed.now strays.now
+        → IsHeldAs (D.story disk.new) new_end (applied c (run_record number)) rows) }
+    ensures named { OnOk result ((c : AnyCatalog) → AreStrays (D.story disk.old) c strays.now → AreNamedOrWait (named c) [] (D.story disk.new).told) }
+    ensures room { IfOk result (λ new_end. new_end < (D.story disk.new).len Zero) }
+    ensures clock { (D.story disk.old).moment ≤ (D.story disk.new).moment }
+    ensures cause { HasCause (D.story disk.old).faults (D.story disk.new).faults result }
+    ensures read_cause { (D.story disk.new).read_faults ≡ (D.story disk.old).read_faults }
+{
+    settle(disk)?;
+    let end = write_record(disk, Vec::new(alloc), end, framed, strays)?;
+    Ok(end)
+}
+
+/// A record's body in its frame.
+pub fn frame(alloc: Global, record: &Record) -> Result<Framed, AllocError>
+    requires { IsTrue (keeps_rules «record».now) }
+    ensures reads { IfOk result (λ framed. record_at framed ≡ Ok «record».now) }
+    ensures bytes { IfOk result (λ framed. AreBytes framed) }
+{
+    let body = encode(alloc, record)?;
+    frame_bytes(alloc, &body)
+}
+
+fn frame_bytes(alloc: Global, body: &[u8]) -> Result<Framed, AllocError>
+    ensures body { IfOk result (λ framed. framed ≡ body.now) }
+    ensures bytes { IfOk result (λ framed. AreBytes framed) }
+{
+    let framed = Framed::new(alloc, body)?;
+    Ok(framed)
+}
