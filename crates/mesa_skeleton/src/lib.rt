@@ -1,10 +1,8 @@
 //! Skeletons: what of a warehouse, of a turn and of a run doesn't hang on the stored rows. Which turn
 //! is due, what is refused and what is legal hang on the skeleton alone, so they are known of a store
-//! whose rows nobody has read. A run is named by its script and by its start, which the rows complete.
+//! whose rows nobody has read.
 #![tactic(auto)]
 
 mod laws;
-mod naming;
 
 pub use laws::{commands_see_no_rows, runs_are_alike};
-pub use naming::Naming;

@@ -4,6 +4,7 @@ ghost use Rattle.mesa_history.specs.Run.{State, nothing_there};
 ghost use Rattle.mesa_model.specs.declared.commands.Script.{Script as AnyScript};
 ghost use Rattle.mesa_skeleton.specs.Bare.{bare_state};
 ghost use Rattle.mesa_skeleton.specs.Rows.{Rows, no_rows};
+ghost use Rattle.mesa_ledger.specs.Vault.{Origin};
 
 use std::marker::Brand;
 
@@ -21,6 +22,9 @@ pub trait Naming {
 
     /// Whether the store was sound when the run began, and its files had these rows.
     ghost sound: { Rows → Type 0 };
+
+    /// What had been written of each table by then, and how often tables, views and columns had changed.
+    ghost origin: { Rows → Origin };
 
     /// The disk's clock when the run began.
     ghost since: { ℕ };
@@ -43,6 +47,8 @@ impl Naming for Brand {
     ghost alike = { λ rows. refl };
 
     ghost sound = { λ rows. ⊥ };
+
+    ghost origin = { λ rows. record { found = λ table. []; generation = 0 } };
 
     ghost since = { 0 };
 
