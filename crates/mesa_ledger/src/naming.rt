@@ -37,6 +37,9 @@ pub trait Naming {
 
     /// What the sink had been given then, if that is known.
     ghost at_start: { Option (List ℕ) };
+
+    /// Its count of faults then.
+    ghost sink_faults: { ℕ };
 }
 
 impl Naming for Brand {
@@ -57,4 +60,6 @@ impl Naming for Brand {
     ghost room = { 0 };
 
     ghost at_start = { None };
+
+    ghost sink_faults = { 0 };
 }
