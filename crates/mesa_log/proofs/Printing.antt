@@ -1,0 +1,47 @@
+-- What a turn prints.
+use Rattle.std.proofs.Common.{◌≡◌, ℕ, List, [], ◌++◌, Bool, true, false, not, refl, sym, ◌∙◌, ap, subst, Option}
+use Rattle.mesa_model.specs.declared.entries.Entry.{Entry}
+use Rattle.mesa_history.specs.Run.{Told}
+use Rattle.mesa_output.specs.Output.{block}
+use Rattle.mesa_printer.specs.declared.printer.Printer.{Printer}
+use Rattle.mesa_printer.specs.Printed.{Printed}
+use Rattle.mesa_script.specs.Replies.{head_line}
+use Rattle.mesa_script.specs.Rows.{body_of}
+use Rattle.mesa_walk.specs.Printing.{IsPut}
+use Rattle.mesa_history.specs.Replay.{no_rows}
+use Rattle.mesa_walk.specs.Causes.{reply_of}
+use Rattle.mesa_log.specs.declared.failure.Failure.{Failure}
+use Rattle.mesa_log.specs.declared.failure.Failure.TheVariants as failure
+use Rattle.mesa_log.specs.Failure.{cause_in}
+use Rattle.mesa_log.specs.Printing.{GoesOn, PrintsBlock}
+
+-- A text that is the block of a turn was printed.
+pub tells : {K : Type 0} (held : K → Option (List ℕ)) (faults : K → ℕ) (old new : Printer K) (e : Entry) (told : Told) (body : List ℕ) → body ≡ body_of told.heading told.reply
+    → Printed held faults old new (head_line e.session e.command told.at told.reply ++ body) → PrintsBlock held faults old new e told
+unfolding block
+tells held faults old new e told body is p = record {
+  put = subst (λ x. IsPut (head_line e.session e.command told.at told.reply ++ x) (not new.broken) (held old.sink) (held new.sink)) is (by new.broken refl);
+  goes = record { still = λ whole. (p.whole whole).0; cause = p.cause; quiet = p.quiet };
+}
+  where
+    by : (b : Bool) → new.broken ≡ b → IsPut (head_line e.session e.command told.at told.reply ++ body) (not b) (held old.sink) (held new.sink)
+    by false whole = (p.whole whole).1
+    by true broken = p.front
+
+-- A printer that is the same has gone on.
+pub same_goes : {K : Type 0} (faults : K → ℕ) (old new : Printer K) → new ≡ old → GoesOn faults old new
+same_goes {K = K} faults old new is = record {
+  still = λ whole. ap (λ (p : Printer K). p.broken) (sym is) ∙ whole;
+  cause = λ whole broken. absurd (let never : false ≡ true = sym whole ∙ ap (λ (p : Printer K). p.broken) (sym is) ∙ broken in cc);
+  quiet = λ same. ap (λ (p : Printer K). faults p.sink) is;
+}
+
+-- No line stands behind the head line of a failure.
+pub no_body : (f : Failure) → [] ≡ body_of no_rows (reply_of (cause_in f))
+no_body (failure.Refused refusal) = refl
+no_body failure.Idle = refl
+no_body (failure.Busy lease) = refl
+no_body failure.Unread = refl
+no_body (failure.Damaged damage) = refl
+no_body failure.Unwritten = refl
+no_body failure.Memory = refl

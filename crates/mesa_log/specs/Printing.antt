@@ -1,0 +1,19 @@
+-- What a turn prints, and what it leaves of a sink.
+use Rattle.std.specs.Prelude.{◌≡◌, ℕ, List, true, false, not, Option, Some}
+use Rattle.mesa_fault.specs.Causes.{Rose}
+use Rattle.mesa_model.specs.declared.entries.Entry.{Entry}
+use Rattle.mesa_history.specs.Run.{Told}
+use Rattle.mesa_output.specs.Output.{block}
+use Rattle.mesa_printer.specs.declared.printer.Printer.{Printer}
+use Rattle.mesa_walk.specs.Printing.{IsPut}
+
+-- A printer goes on: once broken it stays so; it breaks only where its sink's count of faults rose; and else the count stays.
+pub record GoesOn {K : Type 0} (faults : K → ℕ) (old new : Printer K) : Type 0 where
+  pub still : new.broken ≡ false → old.broken ≡ false
+  pub cause : old.broken ≡ false → new.broken ≡ true → Rose (faults old.sink) (faults new.sink)
+  pub quiet : new.broken ≡ old.broken → faults new.sink ≡ faults old.sink
+
+-- A printer was given the block of a turn that tells this: its sink has it whole, or a front of it where the sink failed.
+pub record PrintsBlock {K : Type 0} (held : K → Option (List ℕ)) (faults : K → ℕ) (old new : Printer K) (e : Entry) (told : Told) : Type 0 where
+  pub put : IsPut (block e (Some told)) (not new.broken) (held old.sink) (held new.sink)
+  pub goes : GoesOn faults old new
