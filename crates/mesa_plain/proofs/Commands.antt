@@ -15,11 +15,11 @@ use Rattle.mesa_model.specs.Refusals.{batch_refusal}
 use Rattle.mesa_model.specs.Versions.{expire_to, store_from, version_checked}
 use Rattle.mesa_model.specs.Pins.{is_pin, release_pin, pin_of}
 use Rattle.mesa_model.specs.Warehouse.{Pin, Store, Table, Warehouse, max_versions}
-use Rattle.mesa_plain.specs.declared.failure.Failure.{Failure}
-use Rattle.mesa_plain.specs.declared.failure.Failure.TheVariants.{Memory, Refused}
+use Rattle.mesa_asked.specs.declared.failure.Failure.{Failure}
+use Rattle.mesa_asked.specs.declared.failure.Failure.TheVariants.{Memory, Refused}
 use Rattle.mesa_plain.specs.Kept.{Versioned, known_in, with_batch}
 use Rattle.mesa_plain.specs.Pinned.{warehouse_of}
-use Rattle.mesa_plain.specs.Told.{IsDue}
+use Rattle.mesa_asked.specs.Told.{IsDue}
 
 -- ---- loads
 

@@ -15,8 +15,8 @@ use Rattle.mesa_batch.specs.Gathered.{Batched, rows_at, with_row}
 use Rattle.mesa_batch.specs.Glance.{Known, Sight, columns_in, tables_of}
 use Rattle.mesa_batch.proofs.RowForms.{batch_forms}
 use Rattle.mesa_model.specs.Refusals.{batch_refusal}
-use Rattle.mesa_plain.specs.declared.failure.Failure.{Failure}
-use Rattle.mesa_plain.specs.Told.{IsDue, batch_failure}
+use Rattle.mesa_asked.specs.declared.failure.Failure.{Failure}
+use Rattle.mesa_asked.specs.Told.{IsDue, batch_failure}
 use Rattle.mesa_plain.specs.Grown.{IsBatchOf}
 
 -- a refused row refuses the load

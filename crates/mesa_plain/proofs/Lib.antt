@@ -1,17 +1,14 @@
 pub mod Adding
-pub mod Alterings
 pub mod Bounds
 pub mod Changes
 pub mod Commands
 pub mod Gathers
 pub mod Items
-pub mod Makings
 pub mod Namings
 pub mod Newest
 pub mod Pinnings
 pub mod Relations
 pub mod Stores
-pub mod SumColumns
 pub mod SumNames
 pub mod Tables
 pub mod Tokens
@@ -19,4 +16,3 @@ pub mod Seen
 pub mod Viewed
 pub mod Queries
 pub mod Lineages
-pub mod Viewings

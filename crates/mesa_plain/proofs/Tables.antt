@@ -16,12 +16,12 @@ use Rattle.mesa_model.specs.declared.replies.Refusal.{Refusal}
 use Rattle.mesa_model.specs.declared.replies.Refusal.TheVariants as no
 use Rattle.mesa_model.specs.Load.{bound_checked, bounds_checked, sum_name}
 use Rattle.mesa_model.specs.Warehouse.{Table}
-use Rattle.mesa_plain.specs.declared.failure.Failure.{Failure}
-use Rattle.mesa_plain.specs.declared.failure.Failure.TheVariants.{Memory, Refused}
+use Rattle.mesa_asked.specs.declared.failure.Failure.{Failure}
+use Rattle.mesa_asked.specs.declared.failure.Failure.TheVariants.{Memory, Refused}
 use Rattle.mesa_plain.specs.Kept.{table_in, tables_in, totals_in}
 use Rattle.mesa_plain.specs.Grown.{HasRows, with_totals}
 use Rattle.mesa_plain.specs.Sound.{HasTotals}
-use Rattle.mesa_plain.specs.Told.{IsDue}
+use Rattle.mesa_asked.specs.Told.{IsDue}
 use Rattle.mesa_plain.proofs.Bounds.{over-capped, with_nothing, within_bound}
 use Rattle.mesa_plain.proofs.Items.{drop_from}
 

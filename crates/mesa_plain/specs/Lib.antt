@@ -3,7 +3,4 @@ pub mod Kept
 pub mod Sound
 pub mod Grown
 pub mod Found
-pub mod Told
 pub mod Pinned
-pub mod Asked
-pub mod Built

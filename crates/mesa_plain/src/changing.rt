@@ -1,19 +1,13 @@
-// What a change of a schema makes of a table: of its columns, its totals and its contents.
-ghost use Rattle.std.specs.Prelude.{◌≡◌, ◌≢◌, ◌++◌, ◌∷◌, ◌<◌, [], length, map, count_by, if◌then◌else◌, Ok, Err, IfOk, IfErr, OnOk};
-ghost use Rattle.mesa_schema.specs.declared.columns.ValueColumn.{ValueColumn as Column};
+// What a change of a schema makes of a table: of its columns and its contents.
+ghost use Rattle.std.specs.Prelude.{◌≡◌, ◌≢◌, map, Ok, Err, IfOk, IfErr, OnOk};
 ghost use Rattle.mesa_schema.specs.Changes.{change_checked, with_change};
-ghost use Rattle.mesa_schema.specs.Columns.{aggs_of};
 ghost use Rattle.mesa_schema.specs.Lifting.{lifted_with};
 ghost use Rattle.mesa_schema.specs.Lineages.{HasDefault};
-ghost use Rattle.mesa_batch.specs.Totals.{is_sum as adds, sums_in, totals_after, totals_without};
 ghost use Rattle.mesa_plain.specs.Kept.{all_shared, contents_lifted, shared};
 
-use crate::growing::is_sum;
 use crate::store::{Contents, push_contents, shared_again};
 use mesa_list::{Items, TryCopy};
-use mesa_schema::{
-    Change, ChangeError, Evolving, Lift, Row, RowList, Schema, Totals, ValueColumn, place_of,
-};
+use mesa_schema::{Change, ChangeError, Evolving, Lift, Row, RowList};
 use std::alloc::{AllocError, Global};
 use std::collections::VecDeque;
 use std::sync::Arc;
@@ -36,64 +30,6 @@ pub(crate) fn changed(
         Ok(after) => Ok(after),
         Err(_) => Err(ChangeError::Memory),
     }
-}
-
-// The totals of a table with these columns after a change of them.
-pub(crate) fn totals_changed(
-    schema: &Schema,
-    change: &Change,
-    totals: &Totals,
-) -> Result<Totals, AllocError>
-    requires { length totals.now ≡ sums_in (aggs_of schema.now) }
-    ensures { IfOk result (λ after. after ≡ totals_after schema.now change.now totals.now) }
-{
-    let columns = schema.values();
-    match change {
-        Change::AddValue { column, .. } => totals_more(totals, column),
-        Change::DropValue { name } => match place_of(name.bytes(), columns) {
-            Some(place) => totals_less(totals, columns, place),
-            None => totals.copy(),
-        },
-        Change::AddKey { .. } => totals.copy(),
-    }
-}
-
-// The totals with that of a new column, if it is a sum.
-fn totals_more(totals: &Totals, column: &ValueColumn) -> Result<Totals, AllocError>
-    ensures { IfOk result (λ after. after ≡ (if adds column.now.agg then totals.now ++ 0 ∷ [] else totals.now)) }
-{
-    let mut after = totals.copy()?;
-    if is_sum(column.agg) {
-        after.push(0)?;
-    }
-    Ok(after)
-}
-
-// The totals without that of the column at a place, if it is a sum.
-fn totals_less(totals: &Totals, columns: &[ValueColumn], place: usize) -> Result<Totals, AllocError>
-    requires place { place < length columns.now }
-    requires count { length totals.now ≡ sums_in (map (λ (c : Column). c.agg) columns.now) }
-    ensures { IfOk result (λ after. after ≡ totals_without (map (λ (c : Column). c.agg) columns.now) place totals.now) }
-{
-    let mut after = totals.copy()?.into_vec();
-    if is_sum(columns[place].agg) {
-        after.remove(sums_among(&columns[..place]));
-    }
-    Ok(Items::from_vec(after))
-}
-
-// How many of the columns are sums.
-#[tactic(auto, using(crate::proofs::SumColumns::counted))]
-fn sums_among(columns: &[ValueColumn]) -> usize
-    ensures { result ≡ sums_in (map (λ (c : Column). c.agg) columns.now) }
-{
-    count_sums(columns)
-}
-
-fn count_sums(columns: &[ValueColumn]) -> usize
-    ensures { result ≡ count_by (λ (c : Column). adds c.agg) columns.now }
-{
-    columns.iter().filter(|column| is_sum(column.agg)).count()
 }
 
 // The contents at all versions, where the rows of the table of a number are lifted.

@@ -5,9 +5,9 @@ ghost use Rattle.mesa_batch.specs.Batch.{Placed as PlacedRow, batch_of};
 ghost use Rattle.mesa_batch.specs.Glance.{tables_of};
 ghost use Rattle.mesa_model.specs.Refusals.{batch_refusal};
 ghost use Rattle.mesa_plain.specs.Grown.{HasRows, IsBatchOf};
-ghost use Rattle.mesa_plain.specs.Told.{IsDue, batch_failure};
+ghost use Rattle.mesa_asked.specs.Told.{IsDue, batch_failure};
 
-use crate::failure::Failure;
+use mesa_asked::Failure;
 use mesa_batch::{Batch, BatchBuilder, BatchError, Glance, LoadRows};
 use mesa_model::Refusal;
 use std::alloc::{AllocError, Global};

@@ -17,10 +17,10 @@ ghost use Rattle.mesa_model.specs.Load.{bound_checked, bounds_checked, newest_co
 ghost use Rattle.mesa_plain.specs.Kept.{content_in, contents_in, tables_in};
 ghost use Rattle.mesa_plain.specs.Grown.{AreContentsWith, AreTotalsWith, CanTake, HasRows, IsBatchOf, with_totals};
 ghost use Rattle.mesa_plain.specs.Sound.{HaveTotals, HasTotals};
-ghost use Rattle.mesa_plain.specs.Told.{IsDue};
+ghost use Rattle.mesa_asked.specs.Told.{IsDue};
 
-use crate::failure::Failure;
 use crate::store::Contents;
+use mesa_asked::Failure;
 use mesa_batch::{Batch, Glanced, fits};
 use mesa_fold::merge;
 use mesa_list::{Items, TryCopy};
@@ -118,7 +118,7 @@ fn sum_column(schema: &Schema, place: usize) -> &Name
     unreachable!()
 }
 
-pub(crate) fn is_sum(agg: Agg) -> bool
+fn is_sum(agg: Agg) -> bool
     ensures { result ≡ adds agg }
 {
     matches!(agg, Agg::Sum)

@@ -2,7 +2,6 @@
 #![tactic(auto)]
 
 mod changing;
-mod failure;
 mod gathering;
 mod growing;
 mod names;

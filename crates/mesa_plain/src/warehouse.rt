@@ -5,19 +5,18 @@ ghost use Rattle.mesa_model.specs.Step.{done_or_refused};
 ghost use Rattle.mesa_model.specs.Versions.{expire_to, version_asked as version_of, version_checked};
 ghost use Rattle.mesa_model.specs.Pins.{make_pin, next_token, release_pin};
 ghost use Rattle.mesa_model.specs.Warehouse.{empty_warehouse};
-ghost use Rattle.mesa_plain.specs.Told.{IsDue};
+ghost use Rattle.mesa_asked.specs.Told.{IsDue};
 
 mod altering;
 mod applying;
 mod making;
-mod naming;
 mod querying;
 mod viewing;
 
-use crate::failure::Failure;
 use crate::gathering::gather;
 use crate::pins::{PlainPin, counted, is_held, let_go, push_pin};
 use crate::store::PlainStore;
+use mesa_asked::Failure;
 use mesa_batch::LoadRows;
 use mesa_filter::VersionWord;
 use mesa_list::Items;

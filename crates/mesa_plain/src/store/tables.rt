@@ -4,9 +4,10 @@ ghost use Rattle.mesa_schema.specs.Changes.{change_checked, columns_of};
 ghost use Rattle.mesa_model.specs.Warehouse.{max_tables, table_at};
 ghost use Rattle.mesa_plain.specs.Kept.{with_lineage, with_schema_changed, with_table_more};
 
-use crate::changing::{changed, totals_changed, versions_lifted};
+use crate::changing::{changed, versions_lifted};
 use crate::growing::zeros;
 use crate::store::PlainStore;
+use mesa_asked::totals_changed;
 use mesa_batch::Glanced;
 use mesa_schema::{Change, ChangeError, Evolving, Name, Schema, Totals};
 use std::alloc::{AllocError, Global};

@@ -8,11 +8,11 @@ ghost use Rattle.mesa_model.specs.Versions.{store_from};
 ghost use Rattle.mesa_model.specs.Warehouse.{max_versions};
 ghost use Rattle.mesa_plain.specs.Grown.{HasRows, IsBatchOf};
 ghost use Rattle.mesa_plain.specs.Kept.{known_in, shared, with_batch};
-ghost use Rattle.mesa_plain.specs.Told.{IsDue};
+ghost use Rattle.mesa_asked.specs.Told.{IsDue};
 
-use crate::failure::Failure;
 use crate::growing::{contents_with_batch, totals_with_batch};
 use crate::store::{Contents, PlainStore};
+use mesa_asked::Failure;
 use mesa_batch::{Batch, Glance, Glanced};
 use mesa_list::TryCopy;
 use mesa_schema::RowList;

@@ -1,35 +1,29 @@
 // Answering queries.
-ghost use Rattle.std.specs.Prelude.{◌≡◌, ◌<◌, length, None, Ok, Err, IfOk, IfErr, IsOk, IsTrue, MatchResult, OnOk};
+ghost use Rattle.std.specs.Prelude.{◌≡◌, None, Ok, Err, IfOk, IfErr, IsTrue, MatchResult};
 ghost use Rattle.std.specs.List.{AllByRecursion};
 ghost use Rattle.mesa_key.specs.Spelling.{is_spelling};
 ghost use Rattle.mesa_schema.specs.declared.rows.Row.{Row as AnyRow};
-ghost use Rattle.mesa_filter.specs.Asked.{asked_of};
-ghost use Rattle.mesa_list.specs.Checks.{refused_as};
-ghost use Rattle.mesa_schema.specs.Changes.{epoch_of};
 ghost use Rattle.mesa_schema.specs.Rows.{AreRowsOf};
 ghost use Rattle.mesa_answer.specs.Answering.{grouped_columns};
-ghost use Rattle.mesa_filter.specs.Query.{IsQueryOf, group_kinds, query_of};
-ghost use Rattle.mesa_model.specs.Refusals.{query_refusal};
-ghost use Rattle.mesa_model.specs.Warehouse.{table_at};
+ghost use Rattle.mesa_filter.specs.Query.{IsQueryOf, group_kinds};
 ghost use Rattle.mesa_model.specs.Page.{page_of};
 ghost use Rattle.mesa_model.specs.Query.{answer_rows, query_answer, store_asked as tables_asked, version_seen as version_of};
 ghost use Rattle.mesa_model.specs.Relations.{relation_columns, relation_content};
 ghost use Rattle.mesa_plain.specs.Found.{IsThere, relation_seen};
 ghost use Rattle.mesa_plain.specs.Plain.{answer_as, answer_of};
-ghost use Rattle.mesa_plain.specs.Told.{IsDue, query_failure};
-ghost use Rattle.mesa_plain.specs.Built.{IsBuiltOf};
+ghost use Rattle.mesa_asked.specs.Told.{IsDue};
 
 use super::PlainWarehouse;
-use crate::failure::Failure;
 use crate::names::Place;
 use crate::pins::find_pin;
 use crate::store::PlainStore;
 use mesa_answer::{answer, view_rows};
-use mesa_filter::{Query, QueryError, QueryWords, VersionWord};
+use mesa_asked::{Failure, build_query, check_query};
+use mesa_filter::{Query, QueryWords, VersionWord};
 use mesa_key::reads_back;
 use mesa_list::TryCopy;
 use mesa_model::{Page, Refusal};
-use mesa_schema::{Name, Schema};
+use mesa_schema::Schema;
 use std::alloc::{AllocError, Global};
 
 impl PlainWarehouse {
@@ -59,9 +53,10 @@ impl PlainWarehouse {
             return Err(Failure::Refused(Refusal::NoTable { row: None }));
         };
         let schema = schema_at(self.alloc, store, place)?;
-        check(self.alloc, &schema, words)?;
+        check_query(self.alloc, &schema, words)?;
         let version = self.version_seen(store, words.version)?;
-        let query = build(self.alloc, store, place, &schema, version, words)?;
+        let epoch = store.evolving(place.table).epoch();
+        let query = build_query(self.alloc, &schema, version, epoch, words)?;
         let page = page(self.alloc, store, place, &schema, &query)?;
         Ok((page, query))
     }
@@ -100,53 +95,6 @@ fn schema_at(alloc: Global, store: &PlainStore, place: Place) -> Result<Schema, 
     match place.view {
         Some(view) => evolving.view_schema(view),
         None => evolving.present().copy(),
-    }
-}
-
-// Whether the relation has what a query asks of it.
-fn check(alloc: Global, schema: &Schema, words: &QueryWords) -> Result<(), Failure>
-    ensures passes { OnOk result (IsOk (asked_of schema.now words.now)) }
-    ensures refused { IfErr result (IsDue (refused_as query_refusal (asked_of schema.now words.now))) }
-{
-    match Query::check(alloc, schema, words) {
-        Ok(()) => Ok(()),
-        Err(error) => Err(failure_of(error)),
-    }
-}
-
-// A query of a relation that is there, whose name is a name then.
-fn build(
-    alloc: Global,
-    store: &PlainStore,
-    place: Place,
-    schema: &Schema,
-    version: u32,
-    words: &QueryWords,
-) -> Result<Query, Failure>
-    requires { place.table < length store.now.store.tables }
-    ensures built { IfOk result (IsBuiltOf schema.now version (epoch_of (table_at store.now.store place.table).lineage) words.now) }
-    ensures sound { IfOk result (λ q. IsQueryOf schema.now q) }
-    ensures refused { IfErr result (IsDue (refused_as query_refusal (query_of schema.now words.now.relation version (epoch_of (table_at store.now.store place.table).lineage) words.now))) }
-{
-    let epoch = store.evolving(place.table).epoch();
-    let Ok(name) = Name::read(alloc, words.relation.as_slice()) else {
-        return Err(Failure::Memory);
-    };
-    match Query::build(alloc, schema, &name, version, epoch, words) {
-        Ok(query) => Ok(query),
-        Err(error) => Err(failure_of(error)),
-    }
-}
-
-fn failure_of(error: QueryError) -> Failure
-    ensures { result ≡ query_failure error }
-{
-    match error {
-        QueryError::NoColumn => Failure::Refused(Refusal::NoColumn),
-        QueryError::ReplaceGroup { column } => Failure::Refused(Refusal::ReplaceGroup { column }),
-        QueryError::BadFilter { term } => Failure::Refused(Refusal::BadFilter { term }),
-        QueryError::BadResume => Failure::Refused(Refusal::BadResume),
-        QueryError::Memory => Failure::Memory,
     }
 }
 

@@ -1,14 +1,13 @@
 use Rattle.std.proofs.Common.{◌≡◌, ◌∙◌, ◌<◌, [], ap, get_or, length, map, set, subst, sym, arith}
 use Rattle.std.proofs.lemmas.List.{length-map}
 use Rattle.mesa_batch.specs.Numbers.{known_of}
-use Rattle.mesa_batch.specs.Totals.{sums_in, totals_after}
-use Rattle.mesa_schema.specs.Changes.{Lineage, columns_of}
-use Rattle.mesa_schema.specs.Columns.{Columns, aggs_of}
+use Rattle.mesa_batch.specs.Totals.{totals_after}
+use Rattle.mesa_schema.specs.Changes.{Lineage}
 use Rattle.mesa_model.specs.Tables.{table_changed}
 use Rattle.mesa_model.specs.Warehouse.{Table, table_at}
 use Rattle.mesa_plain.specs.Found.{known_at}
 use Rattle.mesa_plain.specs.Kept.{Versioned, tables_in, with_schema_changed}
-use Rattle.mesa_plain.proofs.Changes.{kept_after, own_count, tables_after}
+use Rattle.mesa_plain.proofs.Changes.{kept_after, tables_after}
 use Rattle.mesa_plain.proofs.Lineages.{put_known}
 use Rattle.mesa_plain.proofs.Pinnings.{length-tables_in}
 use Rattle.mesa_plain.proofs.Seen.{table_kept}
@@ -20,16 +19,6 @@ totals_of-own-requires c =
     let s = c.self.inside in
     let tables = map known_of s.tables.items in
     omega (arith, c.requires.there, ap (λ (v : Versioned). length v.store.tables) c.self.view_is, length-tables_in 0 s.totals s.versions.items tables, c.self.invariant.count, ap length c.as_slice.ensures)
-
-pub totals_changed-requires : goal.totals_changed-requires
-totals_changed-requires c =
-    let s = c.self.inside in
-    let i = c.args.table in
-    let tables = map known_of s.tables.items in
-    let lt : i < length tables = omega (arith, c.requires.there, ap (λ (v : Versioned). length v.store.tables) c.self.view_is, length-tables_in 0 s.totals s.versions.items tables) in
-    let before = c.evolving-before.ensures ∙ sym (ap (λ (v : Versioned). (table_at v.store i).lineage) c.self.view_is) ∙ ap (λ (t : Table). t.lineage) (table_kept s.totals s.versions.items tables s.oldest i lt) in
-    let own = c.totals_of-own.ensures ∙ ap (λ ts. get_or ts i []) c.as_slice.ensures in
-    ap length own ∙ own_count tables s.totals s.versions.items s.oldest s.next i c.self.invariant lt ∙ ap (λ (l : Lineage). sums_in (aggs_of (columns_of l))) (sym before) ∙ ap (λ (p : Columns). sums_in (aggs_of p)) (sym c.present.ensures.columns)
 
 pub put_evolving-requires : goal.put_evolving-requires
 put_evolving-requires c =

@@ -4,7 +4,7 @@ use Rattle.mesa_batch.specs.Numbers.{known_of}
 use Rattle.mesa_model.specs.Load.{bounds_checked}
 use Rattle.mesa_plain.specs.Kept.{Versioned, known_in, tables_in, with_batch}
 use Rattle.mesa_plain.specs.Grown.{AreContentsWith, AreTotalsWith, IsBatchOf}
-use Rattle.mesa_plain.specs.Told.{IsDue}
+use Rattle.mesa_asked.specs.Told.{IsDue}
 use Rattle.mesa_plain.proofs.Stores.{bounds_any, bounds_passed, can_take, have_after, held_after, known_again, loaded, widths_after}
 use Rattle.mesa_plain.proofs.store.PlainStore.load.Goals as goal
 

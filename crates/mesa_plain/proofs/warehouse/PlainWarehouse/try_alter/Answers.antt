@@ -1,15 +1,15 @@
-use Rattle.std.proofs.Common.{◌≡◌, ◌∙◌, ◌+◌, ap, map, subst, sym, Some, Ok}
+use Rattle.std.proofs.Common.{◌≡◌, refl, ◌∙◌, ◌+◌, ap, map, subst, sym, Some, Ok}
 use Rattle.std.proofs.lemmas.Result.{err_from_is_err_and}
 use Rattle.mesa_schema.specs.Changes.{Lineage, columns_of, epoch_of}
 use Rattle.mesa_model.specs.declared.replies.Reply.TheVariants as reply
 use Rattle.mesa_model.specs.Relations.{table_number}
 use Rattle.mesa_model.specs.Tables.{alter_table, change_asked}
 use Rattle.mesa_model.specs.Warehouse.{Warehouse, table_at}
-use Rattle.mesa_plain.specs.declared.failure.Failure.{Failure}
-use Rattle.mesa_plain.specs.Asked.{change_allowed}
+use Rattle.mesa_asked.specs.declared.failure.Failure.{Failure}
+use Rattle.mesa_asked.specs.Asked.{change_allowed}
 use Rattle.mesa_plain.specs.Pinned.{pin_seen, warehouse_of}
-use Rattle.mesa_plain.specs.Told.{IsDue, change_failure}
-use Rattle.mesa_plain.proofs.Alterings.{alter_done, alter_refused, change_due}
+use Rattle.mesa_asked.specs.Told.{IsDue, change_failure}
+use Rattle.mesa_asked.proofs.Alterings.{alter_done, alter_refused, change_due}
 use Rattle.mesa_plain.proofs.Namings.{table_named}
 use Rattle.mesa_plain.proofs.warehouse.PlainWarehouse.try_alter.Goals as goal
 
@@ -22,7 +22,7 @@ returns-in_err-change-clause-refused c =
     let failure = c.in_err-change.field-0.0 in
     let found : table_number w.store.store words.table ≡ Some number = ap (table_number w.store.store) (sym c.as_slice.ensures) ∙ sym c.number.ensures.number ∙ c.in-Some.is in
     let due = subst (λ (l : Lineage). IsDue (change_allowed l words.change) failure) c.evolving-evolving.ensures c.in_err-change.ensures.refused in
-    rw (p.1, p.2) (subst (λ (v : Warehouse). IsDue (alter_table v words) failure) c.self.view_is (alter_refused w.store w.given (map pin_seen w.pins.items) words number failure found due))
+    rw (p.1, p.2) (subst (λ (v : Warehouse). IsDue (alter_table v words) failure) c.self.view_is (alter_refused (warehouse_of w.store w.given (map pin_seen w.pins.items)) refl words number failure found due))
 
 pub returns-in-Err-clause-refused : goal.returns-in-Err-clause-refused
 returns-in-Err-clause-refused c =
@@ -35,9 +35,9 @@ returns-in-Err-clause-refused c =
     let found : table_number w.store.store words.table ≡ Some number = ap (table_number w.store.store) (sym c.as_slice.ensures) ∙ sym c.number.ensures.number ∙ c.in-Some.is in
     let asked : change_asked (columns_of l) words.change ≡ Ok change = ap (λ (e : Lineage). change_asked (columns_of e) words.change) (sym c.evolving-evolving.ensures) ∙ c.in_ok-change.ensures.asked in
     let column = c.in_ok-column.ensures ∙ c.changed_name.ensures in
-    let failure = c.refusal_of.ensures ∙ ap (λ n. change_failure n error) column in
+    let failure = c.change_failure.ensures ∙ ap (λ n. change_failure n error) column in
     let due = subst (λ (f : Failure). IsDue (change_allowed l words.change) f) (sym failure) (change_due l words.change change error asked c.in-Err.ensures.refused) in
-    subst (λ (v : Warehouse). IsDue (alter_table v words) c.refusal_of.result) c.self.view_is (alter_refused w.store w.given (map pin_seen w.pins.items) words number c.refusal_of.result found due)
+    subst (λ (v : Warehouse). IsDue (alter_table v words) c.change_failure.result) c.self.view_is (alter_refused (warehouse_of w.store w.given (map pin_seen w.pins.items)) refl words number c.change_failure.result found due)
 
 pub returns-clause-done : goal.returns-clause-done
 returns-clause-done c =
@@ -52,5 +52,5 @@ returns-clause-done c =
     let table = c.in_ok-table.ensures ∙ c.name.ensures ∙ table_named w.store.store words.table number found in
     let epoch : c.epoch-epoch.result + 1 ≡ epoch_of l + 1 = ap (λ e. e + 1) (c.epoch-epoch.ensures.count ∙ ap epoch_of c.evolving-evolving.ensures) in
     let made = c.in_default-change.ensures.changed in
-    sym (ap (λ (v : Warehouse). alter_table v words) c.self.view_is) ∙ alter_done w.store w.given pins words number change found asked c.in_default-change.ensures.allowed
+    sym (ap (λ (v : Warehouse). alter_table v words) c.self.view_is) ∙ alter_done (warehouse_of w.store w.given pins) refl words number change found asked c.in_default-change.ensures.allowed
     ∙ (λ j. Ok (warehouse_of (sym made j) w.given pins, reply.Altered (sym table j) (sym epoch j)))

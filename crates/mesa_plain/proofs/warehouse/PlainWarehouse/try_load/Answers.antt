@@ -10,7 +10,7 @@ use Rattle.mesa_model.specs.Load.{load_batch}
 use Rattle.mesa_model.specs.Refusals.{batch_refusal}
 use Rattle.mesa_model.specs.Warehouse.{Warehouse, max_versions}
 use Rattle.mesa_plain.specs.Pinned.{pin_seen, warehouse_of}
-use Rattle.mesa_plain.specs.Told.{IsDue}
+use Rattle.mesa_asked.specs.Told.{IsDue}
 use Rattle.mesa_plain.proofs.Bounds.{not_full}
 use Rattle.mesa_plain.proofs.Commands.{glance_named, load_done, load_full, load_over, load_unread}
 use Rattle.mesa_plain.proofs.warehouse.PlainWarehouse.try_load.Goals as goal

@@ -1,4 +1,4 @@
-use Rattle.std.proofs.Common.{◌≡◌, ◌∙◌, ap, sym, subst, map, Ok, Err, arith, true, false, rules}
+use Rattle.std.proofs.Common.{◌≡◌, refl, ◌∙◌, ap, sym, subst, map, Ok, Err, arith, true, false, rules}
 use Rattle.std.specs.Prelude.{length, nat_le}
 use Rattle.std.proofs.lemmas.Bool.{le-leb}
 use Rattle.std.proofs.lemmas.Result.{err_from_is_err_and}
@@ -13,8 +13,8 @@ use Rattle.mesa_model.specs.Tables.{make_table}
 use Rattle.mesa_model.specs.Warehouse.{Warehouse, max_tables}
 use Rattle.mesa_plain.specs.Kept.{with_table_more}
 use Rattle.mesa_plain.specs.Pinned.{pin_seen, warehouse_of}
-use Rattle.mesa_plain.specs.Told.{IsDue}
-use Rattle.mesa_plain.proofs.Makings.{room_left, table_bad, table_done, table_full, table_taken, table_unnamed}
+use Rattle.mesa_asked.specs.Told.{IsDue}
+use Rattle.mesa_asked.proofs.Makings.{room_left, table_bad, table_done, table_full, table_taken, table_unnamed}
 use Rattle.mesa_plain.proofs.warehouse.PlainWarehouse.try_make_table.Goals as goal
 
 pub returns-in_err-name-clause-refused : goal.returns-in_err-name-clause-refused
@@ -25,7 +25,7 @@ returns-in_err-name-clause-refused c =
     let failure = c.in_err-name.field-0.0 in
     let due = subst (λ n. IsDue (refuse_unless (is_name n) (bad_schema fault.BadName)) failure) c.as_slice-asked.ensures c.in_err-name.ensures.refused in
     rw (p.1, p.2) (subst (λ (v : Warehouse). IsDue (make_table v words) failure) c.self.view_is
-    (table_unnamed w.store w.given (map pin_seen w.pins.items) words failure due))
+    (table_unnamed (warehouse_of w.store w.given (map pin_seen w.pins.items)) refl words failure due))
 
 pub returns-then-is_taken-clause-refused : goal.returns-then-is_taken-clause-refused
 returns-then-is_taken-clause-refused c =
@@ -34,7 +34,7 @@ returns-then-is_taken-clause-refused c =
     let named = ap is_name (sym c.as_slice-asked.ensures) ∙ c.in_ok-name.ensures.named in
     let there : c.is_taken.result ≡ true = search rules in
     let taken : is_taken w.store.store words.table ≡ true = ap (is_taken w.store.store) (sym c.as_slice-asked.ensures) ∙ sym c.is_taken.ensures ∙ there in
-    subst (λ (v : Warehouse). make_table v words ≡ Err no.TableExists) c.self.view_is (table_taken w.store w.given (map pin_seen w.pins.items) words named taken)
+    subst (λ (v : Warehouse). make_table v words ≡ Err no.TableExists) c.self.view_is (table_taken (warehouse_of w.store w.given (map pin_seen w.pins.items)) refl words named taken)
 
 pub returns-in_err-schema-clause-refused : goal.returns-in_err-schema-clause-refused
 returns-in_err-schema-clause-refused c =
@@ -46,7 +46,7 @@ returns-in_err-schema-clause-refused c =
     let free : c.is_taken.result ≡ false = search rules in
     let taken : is_taken w.store.store words.table ≡ false = ap (is_taken w.store.store) (sym c.as_slice-asked.ensures) ∙ sym c.is_taken.ensures ∙ free in
     rw (p.1, p.2) (subst (λ (v : Warehouse). IsDue (make_table v words) failure) c.self.view_is
-    (table_bad w.store w.given (map pin_seen w.pins.items) words failure named taken c.in_err-schema.ensures.refused))
+    (table_bad (warehouse_of w.store w.given (map pin_seen w.pins.items)) refl words failure named taken c.in_err-schema.ensures.refused))
 
 pub returns-then-tables-ge-MAX_TABLES-clause-refused : goal.returns-then-tables-ge-MAX_TABLES-clause-refused
 returns-then-tables-ge-MAX_TABLES-clause-refused c =
@@ -56,7 +56,7 @@ returns-then-tables-ge-MAX_TABLES-clause-refused c =
     let free : c.is_taken.result ≡ false = search rules in
     let taken : is_taken w.store.store words.table ≡ false = ap (is_taken w.store.store) (sym c.as_slice-asked.ensures) ∙ sym c.is_taken.ensures ∙ free in
     let full : nat_le max_tables (length w.store.store.tables) ≡ true = le-leb max_tables (length w.store.store.tables) (omega (arith, c.len-tables.ensures, c.if-tables-ge-MAX_TABLES.true)) in
-    subst (λ (v : Warehouse). make_table v words ≡ Err (no.TablesFull max_tables)) c.self.view_is (table_full w.store w.given (map pin_seen w.pins.items) words named taken c.in_ok-schema.ensures.checked full)
+    subst (λ (v : Warehouse). make_table v words ≡ Err (no.TablesFull max_tables)) c.self.view_is (table_full (warehouse_of w.store w.given (map pin_seen w.pins.items)) refl words named taken c.in_ok-schema.ensures.checked full)
 
 pub returns-clause-done : goal.returns-clause-done
 returns-clause-done c =
@@ -69,5 +69,5 @@ returns-clause-done c =
     let room : nat_le max_tables (length w.store.store.tables) ≡ false = room_left (length w.store.store.tables) (omega (arith, c.len-tables.ensures, c.if-tables-ge-MAX_TABLES.false)) in
     let name = c.in_ok-name.ensures.read ∙ c.as_slice-asked.ensures in
     let made = c.in_ok-add_table.ensures.added ∙ (λ j. with_table_more w.store (name j) (c.in_ok-schema.ensures.asked j)) in
-    sym (ap (λ (v : Warehouse). make_table v words) c.self.view_is) ∙ table_done w.store w.given pins words named taken c.in_ok-schema.ensures.checked room
+    sym (ap (λ (v : Warehouse). make_table v words) c.self.view_is) ∙ table_done (warehouse_of w.store w.given pins) refl words named taken c.in_ok-schema.ensures.checked room
     ∙ (λ j. Ok (warehouse_of (sym made j) w.given pins, reply.Table (sym (c.in_ok-made.ensures ∙ name) j)))

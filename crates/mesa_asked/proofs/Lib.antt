@@ -1,0 +1,6 @@
+pub mod Alterings
+pub mod Makings
+pub mod Namings
+pub mod Queries
+pub mod SumColumns
+pub mod Viewings
