@@ -1,0 +1,52 @@
+// Leases, and the end of a vault's work.
+ghost use Rattle.std.specs.Prelude.{◌≡◌, ◌+◌, ◌<◌, ◌≤◌, ◌^◌, IsTrue, IfOk, IfErr, OnErr, OnOk, None};
+ghost use Rattle.mesa_lease.specs.Book.{ended, granted, holder, is_held, IsLost, renewed};
+ghost use Rattle.mesa_ledger.specs.Turned.{closed_ledger, leased_ledger};
+ghost use Rattle.mesa_metadata.specs.Memory.{with_leases, with_ledger};
+
+use crate::Metadata;
+use mesa_lease::{Busy, Lost, TABLES};
+
+impl Metadata {
+    /// Grants a lease on the table, unless it has one that holds.
+    pub fn grant(&mut self, table: u16, worker: u16, position: u64) -> Result<u64, Busy>
+        requires table { table < TABLES }
+        requires position { position < 2 ^ 60 }
+        requires rising { self.old.leased ≤ position }
+        ensures free { OnOk result (holder self.old.ledger.leases table position ≡ None) }
+        ensures number { IfOk result (λ lease. lease ≡ self.old.ledger.leases.granted + 1) }
+        ensures granted { OnOk result (self.new ≡ with_leases (granted table position self.old.ledger.leases) (position + 1) self.old) }
+        ensures busy { IfErr result (λ b. holder self.old.ledger.leases table position ≡ Some b.lease) }
+        ensures unchanged { OnErr result (self.new ≡ with_leases self.old.ledger.leases (position + 1) self.old) }
+    {
+        self.leases.grant(table, worker, position)
+    }
+
+    /// Lets a lease hold anew from this turn on.
+    pub fn renew(&mut self, table: u16, lease: u64, position: u64) -> Result<(), Lost>
+        requires table { table < TABLES }
+        requires position { position < 2 ^ 60 }
+        requires rising { self.old.leased ≤ position }
+        ensures held { OnOk result (IsTrue (is_held self.old.ledger.leases table lease position)) }
+        ensures renewed { OnOk result (self.new ≡ with_leases (renewed table lease position self.old.ledger.leases) (position + 1) self.old) }
+        ensures lost { IfErr result (IsLost self.old.ledger.leases table lease position) }
+        ensures unchanged { OnErr result (self.new ≡ with_leases self.old.ledger.leases (position + 1) self.old) }
+    {
+        self.leases.renew(table, lease, position)
+    }
+
+    /// Ends a lease, where it is the table's last one.
+    pub fn end_lease(&mut self, table: u16, lease: u64)
+        requires { table < TABLES }
+        ensures { self.new ≡ with_ledger (leased_ledger self.old.ledger (ended table lease self.old.ledger.leases)) self.old }
+    {
+        self.leases.give_up(table, lease);
+    }
+
+    /// Closes the vault in the turn at the position.
+    pub fn close(&mut self, position: u64)
+        ensures { self.new ≡ with_ledger (closed_ledger self.old.ledger position) self.old }
+    {
+        self.closed = Some(position);
+    }
+}

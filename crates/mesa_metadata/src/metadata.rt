@@ -1,0 +1,153 @@
+// A vault's memory, and what it is asked.
+ghost use Rattle.std.specs.Prelude.{◌≡◌, ◌+◌, ◌<◌, ◌≤◌, ◌^◌, find, length, option_map, None};
+ghost use Rattle.mesa_lease.specs.Book.{holder};
+ghost use Rattle.mesa_ledger.specs.Ledger.{next_id};
+ghost use Rattle.mesa_ledger.specs.Turned.{is_held_pin};
+ghost use Rattle.mesa_metadata.specs.Meaning.{pin_as};
+ghost use Rattle.mesa_metadata.specs.Memory.{opened_ledger};
+
+use crate::holders::{Holders, Pin};
+use mesa_catalog::Catalog;
+use mesa_file::FileId;
+use mesa_lease::{Leases, TABLES};
+use mesa_trash::{Dropped, Hold};
+use std::alloc::Global;
+use std::marker::Model;
+
+/// What a vault has in its memory between turns.
+#[derive(Drop)]
+pub struct Metadata {
+    pub(crate) alloc: Global,
+    pub(crate) catalog: Catalog,
+    pub(crate) holders: Holders,
+    // Files that are named no more and that a hold is on.
+    pub(crate) trash: Vec<Dropped>,
+    // How many files there is room for in the trash beside those that are there.
+    pub(crate) room: usize,
+    pub(crate) leases: Leases,
+    // How many pins each session was given.
+    pub(crate) given: Vec<u32>,
+    // The position of the turn that closed the vault.
+    pub(crate) closed: Option<u64>,
+    // How many files the run has adopted.
+    pub(crate) adopted: u64,
+    // Where the journal's next body goes.
+    pub(crate) end: u64,
+}
+
+impl Model for Metadata {
+    ghost use Rattle.std.specs.Prelude.{option_map};
+    ghost use Rattle.mesa_catalog.specs.Lookups.{generation_of};
+    ghost use Rattle.mesa_metadata.specs.Meaning.{IsKept, pins_in, queries_in, readied};
+    ghost use Rattle.mesa_metadata.specs.Memory.{Memory};
+
+    ghost Value = { Memory };
+
+    ghost view = { λ m. record {
+      ledger = record {
+        catalogue = m.catalog.catalogue;
+        generation = generation_of m.catalog.catalogue;
+        pins = pins_in m.holders;
+        queries = queries_in m.holders;
+        trash = m.trash.items;
+        leases = m.leases.book;
+        given = m.given.items;
+        closed = m.closed;
+        adopted = m.adopted;
+        end = m.end;
+      };
+      reserved = option_map (readied m.room) m.catalog.reserved;
+      leased = m.leases.next;
+    } };
+
+    ghost invariant = { λ m. IsKept m.catalog m.trash m.room m.adopted };
+}
+
+impl Metadata {
+    /// The memory of a vault whose catalogue has this run as its last, before its first turn: `end` is where the journal's next body goes, and a lease will hold for `turns`.
+    pub fn new(alloc: Global, catalog: Catalog, end: u64, turns: u32) -> Self
+        requires run { catalog.catalogue.run < 2 ^ 24 }
+        requires free { catalog.reserved ≡ None }
+        ensures { result ≡ record { ledger = opened_ledger catalog.catalogue end turns; reserved = None; leased = 0 } }
+    {
+        Metadata {
+            alloc,
+            catalog,
+            holders: Holders {
+                pins: Vec::new(alloc),
+                queries: Vec::new(alloc),
+            },
+            trash: Vec::new(alloc),
+            room: 0,
+            leases: Leases::new(turns),
+            given: Vec::new(alloc),
+            closed: None,
+            adopted: 0,
+            end,
+        }
+    }
+
+    /// The catalogue.
+    pub fn catalog(&self) -> &Catalog
+        ensures { result.now.catalogue ≡ self.now.ledger.catalogue }
+    {
+        &self.catalog
+    }
+
+    /// The position of the turn that closed the vault, if it is closed.
+    pub fn closed(&self) -> Option<u64>
+        ensures { result ≡ self.now.ledger.closed }
+    {
+        self.closed
+    }
+
+    /// Where the journal's next body goes.
+    pub fn end(&self) -> u64
+        ensures { result ≡ self.now.ledger.end }
+    {
+        self.end
+    }
+
+    /// How many files the run has adopted.
+    pub fn adopted(&self) -> u64
+        ensures adopted { result ≡ self.now.ledger.adopted }
+        ensures few { result < 2 ^ 40 }
+        ensures run { self.now.ledger.catalogue.run < 2 ^ 24 }
+    {
+        self.adopted
+    }
+
+    /// The pin of a session with this token.
+    pub fn pin_of(&self, session: u16, token: u32) -> Option<&Pin>
+        ensures { option_map (λ p. pin_as p.now) result ≡ find (is_held_pin session token) self.now.ledger.pins }
+    {
+        self.holders.pin(session, token)
+    }
+
+    /// How many pins are held.
+    pub fn pins(&self) -> usize
+        ensures { result ≡ length self.now.ledger.pins }
+    {
+        self.holders.pins.len()
+    }
+
+    /// The table's lease that holds at the position.
+    pub fn holder(&self, table: u16, position: u64) -> Option<u64>
+        requires { table < TABLES }
+        ensures { result ≡ holder self.now.ledger.leases table position }
+    {
+        self.leases.holds(table, position)
+    }
+
+    // A hold of the turn at the position, on all files that are named in it.
+    pub(crate) fn hold_now(&self, position: u64) -> Hold
+        ensures at { result.at ≡ position }
+        ensures next { result.next ≡ next_id self.now.ledger }
+    {
+        let next = FileId::adopted(self.catalog.run(), self.adopted);
+        Hold {
+            at: position,
+            next: next.number(),
+        }
+    }
+}

@@ -1,0 +1,35 @@
+// Pins and open queries.
+ghost use Rattle.std.specs.Prelude.{◌≡◌, ◌+◌, ◌<◌, ◌^◌, is_some, find, IfOk, OnErr, OnOk};
+ghost use Rattle.mesa_model.specs.Pins.{count_at};
+ghost use Rattle.mesa_ledger.specs.Turned.{answered_ledger, is_held_pin, pinned_ledger, queried_ledger, released_ledger};
+ghost use Rattle.mesa_metadata.specs.Memory.{hold_now, is_of_another, with_ledger};
+
+use crate::Metadata;
+use crate::holders::Query;
+use std::alloc::AllocError;
+
+impl Metadata {
+    /// Lets a session's pin with this token go, if it is held.
+    pub fn release(&mut self, session: u16, token: u32)
+        ensures { self.new ≡ with_ledger (released_ledger self.old.ledger session token) self.old }
+    {
+        self.holders.release(session, token);
+    }
+
+    /// Holds the files that are named in the turn at the position, for a query of the session.
+    pub fn open_query(&mut self, session: u16, position: u64) -> Result<(), AllocError>
+        ensures queried { OnOk result (self.new ≡ with_ledger (queried_ledger self.old.ledger session (hold_now self.old.ledger position)) self.old) }
+        ensures err { OnErr result (self.new ≡ self.old) }
+    {
+        let hold = self.hold_now(position);
+        self.holders.queries.push(Query { session, hold })?;
+        Ok(())
+    }
+
+    /// Gives back what the session's query holds.
+    pub fn close_query(&mut self, session: u16)
+        ensures { self.new ≡ with_ledger (answered_ledger self.old.ledger (is_of_another session)) self.old }
+    {
+        self.holders.answer(session);
+    }
+}
