@@ -94,6 +94,13 @@ impl Metadata {
         &self.catalog
     }
 
+    /// How often the catalogue's tables, views and columns were made or changed.
+    pub fn generation(&self) -> u64
+        ensures { result ≡ self.now.ledger.generation }
+    {
+        self.catalog.generation()
+    }
+
     /// The position of the turn that closed the vault, if it is closed.
     pub fn closed(&self) -> Option<u64>
         ensures { result ≡ self.now.ledger.closed }
@@ -138,6 +145,9 @@ impl Metadata {
     {
         self.leases.holds(table, position)
     }
+
+    /// Lets all of it go.
+    pub fn discard(self) {}
 
     // A hold of the turn at the position, on all files that are named in it.
     pub(crate) fn hold_now(&self, position: u64) -> Hold

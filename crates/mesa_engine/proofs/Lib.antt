@@ -1,0 +1,4 @@
+pub mod Turning
+pub mod Undone
+pub mod Beginning
+pub mod Seeing

@@ -1,0 +1,48 @@
+use Rattle.std.proofs.Common.{◌≡◌, true, false, not, refl, subst, IsTrue}
+use Rattle.mesa_fault.specs.Causes.{Rose}
+use Rattle.mesa_history.specs.Legal.{fits_sink}
+use Rattle.mesa_history.specs.Run.{begins}
+use Rattle.mesa_walk.specs.Printing.{IsPrinted}
+use Rattle.mesa_walk.specs.Walk.{run_at}
+use Rattle.mesa_skeleton.specs.Rows.{no_rows}
+use Rattle.mesa_engine.specs.Engine.{Standing}
+use Rattle.mesa_engine.proofs.engine.Engine.stop.Goals as goal
+
+pub returns-clause-legal : goal.returns-clause-legal
+returns-clause-legal g c w = (c.self.invariant.vault w false (λ is. absurd cc)).walk.legal
+
+pub returns-clause-sink : goal.returns-clause-sink
+returns-clause-sink g c w =
+    subst (λ (s : Standing). IsTrue (fits_sink (run_at g.N.Naming.script (g.N.Naming.start w) c.self.inside.log.history.items).last (not s.shown.running))) c.self.view_is (c.self.invariant.vault w false (λ is. absurd cc)).walk.sink
+
+pub returns-clause-since : goal.returns-clause-since
+returns-clause-since g c = c.self.invariant.begun
+
+pub returns-clause-until : goal.returns-clause-until
+returns-clause-until g c = (c.self.invariant.vault no_rows false (λ is. absurd cc)).walk.by
+
+pub returns-clause-counts : goal.returns-clause-counts
+returns-clause-counts g c w = (c.self.invariant.vault w false (λ is. absurd cc)).walk.counts
+
+pub returns-clause-failed : goal.returns-clause-failed
+returns-clause-failed g c =
+    subst (λ (s : Standing). s.shown.running ≡ false → Rose g.N.Naming.sink_faults (g.K.Sink.faults c.self.inside.log.printer.sink)) c.self.view_is (λ is. c.self.invariant.failed (not_false c.self.inside.log.printer.broken is))
+  where
+    not_false : (b : _) → not b ≡ false → b ≡ true
+    not_false true is = refl
+    not_false false is = cc
+
+pub returns-clause-whole : goal.returns-clause-whole
+returns-clause-whole g c =
+    subst (λ (s : Standing). s.shown.running ≡ true → g.K.Sink.faults c.self.inside.log.printer.sink ≡ g.N.Naming.sink_faults) c.self.view_is (λ is. c.self.invariant.whole (not_true c.self.inside.log.printer.broken is))
+  where
+    not_true : (b : _) → not b ≡ true → b ≡ false
+    not_true true is = cc
+    not_true false is = refl
+
+pub returns-clause-printed : goal.returns-clause-printed
+returns-clause-printed g c w is =
+    subst (λ (s : Standing). IsPrinted g.N.Naming.script (begins (g.N.Naming.start w)) c.self.inside.log.history.items s.shown.running g.N.Naming.at_start (g.K.Sink.held c.self.inside.log.printer.sink)) c.self.view_is ((c.self.invariant.vault w true (λ ok. is)).walk.printed refl)
+
+pub returns-clause-found : goal.returns-clause-found
+returns-clause-found g c w is = (c.self.invariant.vault w true (λ ok. is)).walk.found refl

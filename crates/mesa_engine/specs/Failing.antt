@@ -1,0 +1,63 @@
+-- Turns that do nothing for their command.
+use Rattle.std.specs.Prelude.{◌≡◌, ℕ, Bool, true, false, IsTrue}
+use Rattle.mesa_model.specs.declared.commands.Command.{Command}
+use Rattle.mesa_model.specs.declared.commands.Command.TheVariants as command
+use Rattle.mesa_model.specs.declared.commands.Script.{Script}
+use Rattle.mesa_model.specs.declared.entries.Kind.{Kind}
+use Rattle.mesa_model.specs.declared.entries.Kind.TheVariants as kind
+use Rattle.mesa_model.specs.Load.{load_batch}
+use Rattle.mesa_model.specs.Tables.{alter_table, make_table, make_view}
+use Rattle.mesa_model.specs.Pins.{make_pin, release_pin}
+use Rattle.mesa_model.specs.Versions.{expire_to}
+use Rattle.mesa_history.specs.Run.{Stage, First, Looked, Run}
+use Rattle.mesa_history.specs.Legal.{is_due_at}
+use Rattle.mesa_history.specs.Turns.{IsDue}
+use Rattle.mesa_walk.specs.Books.{Books}
+use Rattle.mesa_walk.specs.Causes.{Cause, Unread, Unwritten}
+use Rattle.mesa_walk.specs.Changes.{HasFailed, HasNoPlan}
+use Rattle.mesa_walk.specs.Queries.{HasNoAnswer}
+use Rattle.mesa_walk.specs.Works.{HasNoClaim}
+
+-- A turn of this kind is due to a session's command.
+pub record Comes (script : Script) (r : Run) (session number : ℕ) (k : Kind) : Type 0 where
+  pub asked : Command
+  pub stage : Stage
+  pub due : IsDue script r session number asked stage
+  pub comes : IsTrue (is_due_at asked stage k)
+
+-- the stage at which a command is decided: a load has looked before
+abbrev pub deciding_stage : Command → Stage
+deciding_stage (command.Load rows) = Looked
+deciding_stage c = First
+
+-- the kind of the turn that decides it
+abbrev pub deciding_kind : Command → Kind
+deciding_kind (command.Work name) = kind.Grant
+deciding_kind c = kind.Decide
+
+-- Why the turn that decides a command does nothing for it: it is refused as the books say, or a fault or want of memory stands in its way.
+abbrev pub HasNotDone : Books → ℕ → ℕ → Command → Cause → Type 0
+HasNotDone books position session (command.Load rows) cause = HasFailed books (command.Load rows) (λ w. load_batch w rows) cause
+HasNotDone books position session (command.Table words) cause = HasFailed books (command.Table words) (λ w. make_table w words) cause
+HasNotDone books position session (command.View words) cause = HasFailed books (command.View words) (λ w. make_view w words) cause
+HasNotDone books position session (command.Alter words) cause = HasFailed books (command.Alter words) (λ w. alter_table w words) cause
+HasNotDone books position session (command.Pin asked) cause = HasFailed books (command.Pin asked) (λ w. make_pin w session asked) cause
+HasNotDone books position session (command.Release token) cause = HasFailed books (command.Release token) (λ w. release_pin w session token) cause
+HasNotDone books position session (command.Expire version) cause = HasFailed books (command.Expire version) (λ w. expire_to w version) cause
+HasNotDone books position session (command.Explain words) cause = HasNoPlan books words cause
+HasNotDone books position session (command.Query words) cause = HasNoAnswer books session words cause
+HasNotDone books position session (command.Work name) cause = HasNoClaim books position name cause
+
+-- whether a device has to have failed for a cause
+abbrev pub is_of_device : Cause → Bool
+is_of_device Unread = true
+is_of_device Unwritten = true
+is_of_device cause = false
+
+-- The turn that decides a command does nothing for it, for a cause for which no device has to have failed.
+pub record Fails (script : Script) (r : Run) (books : Books) (position session number : ℕ) (k : Kind) (cause : Cause) : Type 0 where
+  pub asked : Command
+  pub due : IsDue script r session number asked (deciding_stage asked)
+  pub decides : k ≡ deciding_kind asked
+  pub why : HasNotDone books position session asked cause
+  pub quiet : is_of_device cause ≡ false
