@@ -1,5 +1,5 @@
 -- Records that are taken in.
-use Rattle.std.proofs.Common.{◌≡◌, ℕ, ◌+◌, ◌-◌, ◌*◌, ◌≤◌, ◌<◌, ◌^◌, List, [], ◌∷◌, length, map, set, get_or, refl, sym, ◌∙◌, ap, subst, arith, Bool, true, false}
+use Rattle.std.proofs.Common.{◌≡◌, ℕ, ◌-◌, ◌<◌, ◌^◌, List, [], ◌∷◌, length, map, set, refl, sym, ◌∙◌, ap, arith, Bool, true, false}
 use Rattle.std.specs.Prelude.{◌==◌, ◌&&◌, nat_lt, nat_le, Option, Some, None, slice_get, IfSome}
 use Rattle.std.specs.List.{AllByRecursion, list_all}
 use Rattle.std.specs.declared.alloc.Global.{Global}
@@ -7,8 +7,6 @@ use Rattle.std.specs.declared.sync.Arc.{Arc}
 use Rattle.std.proofs.lemmas.Bool.Decides.{nat_tests}
 use Rattle.std.proofs.lemmas.List.{length-map, map-set}
 use Rattle.std.proofs.lemmas.Option.{get_or_from_slice_get, slice_get_within}
-use Rattle.mesa_schema.specs.declared.changes.Change.{Change}
-use Rattle.mesa_schema.specs.declared.views.View.{View}
 use Rattle.mesa_schema.specs.Columns.{Columns}
 use Rattle.mesa_schema.specs.Schema.{is_schema}
 use Rattle.mesa_schema.specs.Changes.{Lineage, columns_of, epoch_of, with_change}
@@ -21,13 +19,15 @@ use Rattle.mesa_span.specs.Ranges.{end_of}
 use Rattle.mesa_image.specs.Catalog.{Catalog, Stock, stock_at, stock_changed, stock_viewed, with_stock}
 use Rattle.mesa_image.specs.Fitting.{brings_new_files, files_fit_if_any, fits, is_new_name, is_there, kind_fits, may_be_work, part_fits, publish_fits, swap_fits, table_fits}
 use Rattle.mesa_catalog.specs.declared.shelves.Shelves.{Shelves}
-use Rattle.mesa_catalog.specs.declared.table.Table.{Table}
-use Rattle.mesa_catalog.specs.declared.ready.ReadyPart.{ReadyPart}
-use Rattle.mesa_catalog.specs.Meaning.{IsShelved, IsTable, catalogue_of, start_of_base, stock_of, widths_of}
-use Rattle.mesa_catalog.specs.Readied.{IsMadePart, IsPartOf, IsSwapOf, last_change, last_view, part_in}
+use Rattle.mesa_shelf.specs.declared.table.Table.{Table}
+use Rattle.mesa_shelf.specs.declared.ready.ReadyPart.{ReadyPart}
+use Rattle.mesa_catalog.specs.Meaning.{IsShelved, catalogue_of}
+use Rattle.mesa_shelf.specs.Meaning.{IsTable, start_of_base, stock_of, widths_of}
+use Rattle.mesa_catalog.specs.Readied.{IsMadePart, last_change, last_view}
+use Rattle.mesa_shelf.specs.Readied.{IsPartOf, IsSwapOf, part_in}
 use Rattle.mesa_catalog.proofs.Stocks.{stock_here}
-use Rattle.mesa_catalog.proofs.Tests.{both}
-use Rattle.mesa_catalog.proofs.Works.{base_work, cumulative_work}
+use Rattle.mesa_shelf.proofs.Tests.{both}
+use Rattle.mesa_shelf.proofs.Works.{base_work, cumulative_work}
 
 pub kind_of_fits : (c : Catalog) (r : Record) → fits c r ≡ true → kind_fits c r ≡ true
 unfolding fits

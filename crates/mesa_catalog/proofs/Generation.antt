@@ -1,6 +1,6 @@
 -- The generation through records.
-use Rattle.std.proofs.Common.{◌≡◌, ℕ, zero, suc, ◌+◌, ◌≤◌, ◌<◌, List, [], ◌∷◌, ◌++◌, length, map, drop, get_or, refl, sym, ◌∙◌, ap, subst, arith, Bool, true, false}
-use Rattle.std.specs.Prelude.{Option, Some, None, sum_by, slice_set, nat_lt}
+use Rattle.std.proofs.Common.{◌≡◌, ℕ, ◌+◌, ◌<◌, List, [], ◌∷◌, length, map, refl, sym, ◌∙◌, ap, arith, Bool, true, false}
+use Rattle.std.specs.Prelude.{Option, Some, None, sum_by}
 use Rattle.std.proofs.lemmas.Bool.Decides.{nat_tests}
 use Rattle.std.proofs.lemmas.List.{length_push}
 use Rattle.std.proofs.lemmas.List.Sums.{sum_by-cons, sum_by-set, sum_by_push}
@@ -12,10 +12,10 @@ use Rattle.mesa_record.specs.declared.record.Part.{Part}
 use Rattle.mesa_image.specs.Catalog.{Catalog, Stock, applied, merged_delta, new_stock, no_stock, part_of, stock_at, stock_changed, stock_loaded, stock_swapped, stock_viewed, stocks_loaded, with_stock}
 use Rattle.mesa_image.specs.Fitting.{fits, is_there, kind_fits, swap_fits}
 use Rattle.mesa_catalog.specs.Lookups.{changes_in, changes_of, generation_of, known_as, known_in, turns_generation}
-use Rattle.mesa_catalog.specs.declared.table.Table.{Table}
-use Rattle.mesa_catalog.specs.Meaning.{stock_of}
+use Rattle.mesa_shelf.specs.declared.table.Table.{Table}
+use Rattle.mesa_shelf.specs.Meaning.{stock_of}
 use Rattle.mesa_catalog.proofs.Made.{change_there, view_there}
-use Rattle.mesa_catalog.proofs.Tests.{both}
+use Rattle.mesa_shelf.proofs.Tests.{both}
 
 within : (c : Catalog) (i : ℕ) → is_there c i ≡ true → i < length c.tables
 within c i e = grind (arith, nat_tests)

@@ -1,12 +1,12 @@
 pub mod Applies
-pub mod Counts
+pub mod Counted
+pub mod Dropped
 pub mod Generation
+pub mod Ids
+pub mod Keeping
 pub mod Loads
 pub mod Made
+pub mod Sorting
 pub mod Relations
 pub mod Roomier
-pub mod Singles
 pub mod Stocks
-pub mod Tens
-pub mod Tests
-pub mod Works

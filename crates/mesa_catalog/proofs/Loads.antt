@@ -1,55 +1,18 @@
 -- What a batch brings to the tables, one after the other.
-use Rattle.std.proofs.Common.{◌≡◌, ◌≢◌, ℕ, zero, suc, ◌+◌, ◌-◌, ◌*◌, ◌≤◌, ◌<◌, List, [], ◌∷◌, ◌++◌, length, map, take, drop, get_or, set, refl, sym, ◌∙◌, ap, subst, arith, append_assoc, Bool, true, false, cond}
-use Rattle.std.specs.Prelude.{◌==◌, Option, Some, None, option_map, find, slice_get, IfSome, Vec, position}
+use Rattle.std.proofs.Common.{◌≡◌, ℕ, zero, suc, ◌+◌, ◌-◌, ◌≤◌, ◌<◌, List, [], ◌∷◌, ◌++◌, length, map, take, drop, get_or, set, refl, sym, ◌∙◌, ap, subst, arith, append_assoc, Bool, true, false, cond}
+use Rattle.std.specs.Prelude.{◌==◌, Option, Some, None, option_map, find, slice_get, IfSome, position}
 use Rattle.std.specs.List.{AllByRecursion, position_from, remove}
-use Rattle.std.specs.declared.alloc.Global.{Global}
 use Rattle.std.proofs.lemmas.Bool.Decides.{nat_tests}
 use Rattle.std.proofs.lemmas.Iterator.Adapters.{position_from-zero}
 use Rattle.std.proofs.lemmas.List.{drop-drop, drop-set-lt, drop_more, map_push, take_more_set}
 use Rattle.std.proofs.lemmas.Option.{slice_get-get_or}
 use Rattle.mesa_record.specs.declared.record.Part.{Part}
-use Rattle.mesa_image.specs.Catalog.{Stock, part_of, stock_loaded, stocks_loaded}
-use Rattle.mesa_catalog.specs.declared.table.Loaded.{Loaded}
-use Rattle.mesa_catalog.specs.declared.table.Table.{Table}
-use Rattle.mesa_catalog.specs.declared.ready.ReadyPart.{ReadyPart}
-use Rattle.mesa_catalog.specs.Meaning.{AreLoaded, IsTable, singles_from, start_of_base, stock_of}
-use Rattle.mesa_catalog.specs.Readied.{IsPartOf, is_part_of, part_in}
-use Rattle.mesa_catalog.proofs.Singles.{loaded_next, loaded_pushed, singles_next, singles_pushed}
+use Rattle.mesa_image.specs.Catalog.{part_of, stock_loaded, stocks_loaded}
+use Rattle.mesa_shelf.specs.declared.table.Table.{Table}
+use Rattle.mesa_shelf.specs.declared.ready.ReadyPart.{ReadyPart}
+use Rattle.mesa_shelf.specs.Meaning.{IsTable, stock_of}
+use Rattle.mesa_shelf.specs.Readied.{IsPartOf, is_part_of}
 use Rattle.mesa_catalog.proofs.Stocks.{all_pushed}
-
--- ---- one table
-
-behind : (next : ℕ) (t : Table) → IsTable next t → start_of_base t.base ≤ next
-behind next t table = let tens = table.tens in omega arith
-
-pub loaded_nothing : (next : ℕ) (t : Table) → IsTable next t → stock_of (next + 1) t ≡ stock_loaded (stock_of next t) None
-loaded_nothing next t table =
-    let singles = singles_next (start_of_base t.base) next t.loaded.items (behind next t table) table.loaded in
-    λ i. record (stock_of next t) { singles = singles i }
-
-pub table_next : (next : ℕ) (t : Table) → IsTable next t → IsTable (next + 1) t
-table_next next t table = record {
-  tens = let tens = table.tens in omega arith;
-  loaded = loaded_next (start_of_base t.base) next t.loaded.items table.loaded;
-  widths = table.widths;
-}
-
-pub loaded_part : (next : ℕ) (t : Table) (p : ReadyPart) (loaded : Vec Loaded Global) → IsTable next t → IsPartOf t p → loaded.items ≡ t.loaded.items ++ record { version = next; delta = p.delta } ∷ []
-    → stock_of (next + 1) (record t { totals = p.totals; loaded = loaded }) ≡ stock_loaded (stock_of next t) (Some (part_in p))
-loaded_part next t p loaded table part is =
-    let singles =
-    ap (singles_from (start_of_base t.base) (next + 1)) is
-    ∙ singles_pushed (start_of_base t.base) next t.loaded.items (record { version = next; delta = p.delta }) (behind next t table) table.loaded refl
-    ∙ ap (λ d. singles_from (start_of_base t.base) next t.loaded.items ++ d ∷ []) part.delta in
-    λ i. record (stock_of next t) { totals = part.totals i; singles = singles i }
-
-pub table_part : (next : ℕ) (t : Table) (p : ReadyPart) (loaded : Vec Loaded Global) → IsTable next t → loaded.items ≡ t.loaded.items ++ record { version = next; delta = p.delta } ∷ []
-    → IsTable (next + 1) (record t { totals = p.totals; loaded = loaded })
-table_part next t p loaded table is = record {
-  tens = let tens = table.tens in omega arith;
-  loaded = subst (AreLoaded (start_of_base t.base) (next + 1)) (sym is) (loaded_pushed (start_of_base t.base) next t.loaded.items (record { version = next; delta = p.delta }) (behind next t table) table.loaded refl);
-  widths = table.widths;
-}
 
 -- ---- the first part of a table
 

@@ -1,32 +1,29 @@
 -- The pieces of records.
-use Rattle.std.proofs.Common.{◌≡◌, ℕ, zero, suc, ◌+◌, ◌-◌, ◌≤◌, ◌<◌, List, [], ◌∷◌, ◌++◌, length, map, take, refl, sym, ◌∙◌, ap, subst, arith, Bool, true, false, cond}
-use Rattle.std.specs.Prelude.{◌&&◌, ◌==◌, ◌||◌, ◌^◌, not, nat_lt, nat_le, min, zip, is_ok, is_none, replicate, Option, Some, None, option_map}
-use Rattle.std.specs.List.{list_any, range_with_len, AllByRecursion}
+use Rattle.std.proofs.Common.{◌≡◌, ℕ, zero, suc, ◌+◌, ◌-◌, ◌≤◌, ◌<◌, List, [], ◌∷◌, ◌++◌, length, map, refl, sym, ◌∙◌, ap, subst, arith, true, false, cond}
+use Rattle.std.specs.Prelude.{◌==◌, replicate, Option, Some, None, option_map}
+use Rattle.std.specs.List.{range_with_len}
 use Rattle.std.proofs.lemmas.Bool.Decides.{nat_tests}
 use Rattle.std.proofs.lemmas.List.{length_push, take_all, take-append-le}
 use Rattle.std.proofs.lemmas.List.FromFn.{map-range_with_len_more}
 use Rattle.mesa_schema.specs.declared.changes.Change.{Change}
 use Rattle.mesa_schema.specs.declared.changes.Change.TheVariants.{DropValue}
 use Rattle.mesa_schema.specs.declared.views.View.{View}
-use Rattle.mesa_schema.specs.Columns.{Columns, aggs_of}
-use Rattle.mesa_schema.specs.Schema.{is_schema}
+use Rattle.mesa_schema.specs.Columns.{aggs_of}
 use Rattle.mesa_schema.specs.Changes.{Lineage, columns_after, columns_at, columns_of, epoch_of, with_change}
 use Rattle.mesa_schema.specs.Views.{with_view}
-use Rattle.mesa_schema.proofs.Passing.{passed_if}
-use Rattle.mesa_batch.specs.Totals.{over_bound, sums_in, totals_with}
+use Rattle.mesa_batch.specs.Totals.{sums_in}
 use Rattle.mesa_span.specs.Ranges.{base_before, start_behind}
-use Rattle.mesa_record.specs.declared.record.Record.{Record}
 use Rattle.mesa_record.specs.declared.record.Record.TheVariants as record_of
 use Rattle.mesa_image.specs.Catalog.{Catalog, empty_base, end_in, new_stock, stock_at}
-use Rattle.mesa_image.specs.Fitting.{alter_fits, is_there, table_fits, view_fits}
+use Rattle.mesa_image.specs.Fitting.{alter_fits, is_there, view_fits}
 use Rattle.mesa_catalog.specs.declared.shelves.Shelves.{Shelves}
-use Rattle.mesa_catalog.specs.declared.table.Base.{Base}
-use Rattle.mesa_catalog.specs.declared.table.Table.{Table}
-use Rattle.mesa_catalog.specs.Meaning.{AreLoaded, IsShelved, IsTable, catalogue_of, ending_of, singles_from, start_of_base, stock_of, tens_from, widths_of}
+use Rattle.mesa_shelf.specs.declared.table.Base.{Base}
+use Rattle.mesa_shelf.specs.declared.table.Table.{Table}
+use Rattle.mesa_shelf.specs.Meaning.{AreLoaded, IsTable, ending_of, singles_from, start_of_base, stock_of, tens_from, widths_of}
+use Rattle.mesa_catalog.specs.Meaning.{IsShelved, catalogue_of}
 use Rattle.mesa_catalog.specs.Readied.{last_change, last_or, last_view}
-use Rattle.mesa_catalog.proofs.Counts.{none_over}
-use Rattle.mesa_catalog.proofs.Tens.{base_ends}
-use Rattle.mesa_catalog.proofs.Tests.{both}
+use Rattle.mesa_shelf.proofs.Tens.{base_ends}
+use Rattle.mesa_shelf.proofs.Tests.{both}
 
 last_pushed : {X : Type 0} (d : X) (xs : List X) (x : X) → last_or d (xs ++ x ∷ []) ≡ x
 last_pushed d [] x = refl
@@ -81,36 +78,7 @@ widths_changed l c =
     ∙ map-range_with_len_more (λ e. length (columns_at (with_change l c) e).values) 0 (epoch_of l + 1) (epoch_of l + 1) (omega arith)
     ∙ (λ i. widths_stay l c 0 (epoch_of l + 1) (omega arith) i ++ length (now i).values ∷ [])
 
--- ---- tables
-
-pub few_values : (s : Columns) → is_schema s ≡ true → length s.values ≤ 16
-few_values s h =
-    let first = passed_if (length s.keys == 0) _ _ h in
-    let second = passed_if (length s.values == 0) _ _ first.1 in
-    let third = passed_if (nat_lt 16 (length s.keys) || nat_lt 16 (length s.values)) _ _ second.1 in
-    let bounds = third.0 in
-    grind (arith, nat_tests)
-
 -- ---- totals
-
-bounded : (pairs : List (ℕ × ℕ)) → list_any (λ (p : ℕ × ℕ). nat_le (2 ^ 63) (p.0 + p.1)) pairs ≡ false → map (λ (p : ℕ × ℕ). min (2 ^ 64 - 1) (p.0 + p.1)) pairs ≡ map (λ (p : ℕ × ℕ). p.0 + p.1) pairs
-bounded [] e = refl
-bounded (p ∷ pairs) e =
-    elim (nat_le (2 ^ 63) (p.0 + p.1)) as (λ b. nat_le (2 ^ 63) (p.0 + p.1) ≡ b → (b || list_any (λ (q : ℕ × ℕ). nat_le (2 ^ 63) (q.0 + q.1)) pairs) ≡ false
-    → min (2 ^ 64 - 1) (p.0 + p.1) ∷ map (λ (q : ℕ × ℕ). min (2 ^ 64 - 1) (q.0 + q.1)) pairs ≡ (p.0 + p.1) ∷ map (λ (q : ℕ × ℕ). q.0 + q.1) pairs) [
-      | true ↦ λ _ f. absurd (cc)
-      | false ↦ λ small rest.
-          let first : min (2 ^ 64 - 1) (p.0 + p.1) ≡ p.0 + p.1 = grind (arith, nat_tests) in
-          λ i. first i ∷ bounded pairs rest i
-    ] refl e
-
-not_true : (b : Bool) → not b ≡ true → b ≡ false
-not_true true e = absurd (cc)
-not_true false e = refl
-
--- totals that keep their bound don't leave their type
-pub totals_bounded : (totals more : List ℕ) → is_none (over_bound totals more) ≡ true → map (λ (p : ℕ × ℕ). min (2 ^ 64 - 1) (p.0 + p.1)) (zip totals more) ≡ totals_with totals more
-totals_bounded totals more h = bounded (zip totals more) (not_true _ (sym (none_over totals more) ∙ h))
 
 -- a base to the version before the oldest
 start_new : (b : Option Base) (oldest : ℕ) → option_map ending_of b ≡ option_map empty_base (base_before oldest) → start_of_base b ≡ oldest

@@ -1,7 +1,7 @@
 -- Looking names up.
 use Rattle.std.proofs.Common.{◌≡◌, ℕ, ◌+◌, ◌≤◌, ◌<◌, List, [], ◌∷◌, ◌++◌, length, map, drop, get_or, refl, sym, ◌∙◌, ap, Bool, true, false, cond}
-use Rattle.std.specs.Prelude.{◌||◌, ◌&&◌, not, Option, Some, None, option_map, is_some, is_none, flat_map}
-use Rattle.std.specs.List.{list_any, position_from}
+use Rattle.std.specs.Prelude.{◌||◌, not, Option, Some, None, option_map, is_some, flat_map}
+use Rattle.std.specs.List.{list_any}
 use Rattle.std.specs.Option.{option_or}
 use Rattle.std.proofs.lemmas.List.{at_drop_more, at_drop_all}
 use Rattle.mesa_list.specs.Bytes.{same_bytes}
@@ -10,21 +10,11 @@ use Rattle.mesa_schema.specs.Columns.{place_of}
 use Rattle.mesa_schema.proofs.Maps.{is_some_position}
 use Rattle.mesa_image.specs.Catalog.{Stock}
 use Rattle.mesa_image.specs.Fitting.{names_in}
-use Rattle.mesa_catalog.specs.declared.relation.Relation.{Relation}
-use Rattle.mesa_catalog.specs.declared.table.Table.{Table}
-use Rattle.mesa_catalog.specs.Lookups.{relation_from, relation_in, view_names}
-use Rattle.mesa_catalog.specs.Meaning.{stock_of}
-
--- ---- the place of the first that passes, from a place on
-
-pub place_here : {X : Type 0} (p : X → Bool) (xs : List X) (i : ℕ) (d : X) → i < length xs → p (get_or xs i d) ≡ true → position_from p i (drop i xs) ≡ Some i
-place_here p xs i d h e = at_drop_more (position_from p i) xs i d h ∙ ap (λ b. cond b (Some i) (position_from p (i + 1) (drop (i + 1) xs))) e
-
-pub place_later : {X : Type 0} (p : X → Bool) (xs : List X) (i : ℕ) (d : X) → i < length xs → p (get_or xs i d) ≡ false → position_from p i (drop i xs) ≡ position_from p (i + 1) (drop (i + 1) xs)
-place_later p xs i d h e = at_drop_more (position_from p i) xs i d h ∙ ap (λ b. cond b (Some i) (position_from p (i + 1) (drop (i + 1) xs))) e
-
-pub place_nowhere : {X : Type 0} (p : X → Bool) (xs : List X) (i : ℕ) → length xs ≤ i → position_from p i (drop i xs) ≡ None
-place_nowhere p xs i h = at_drop_all (position_from p i) xs i h
+use Rattle.mesa_shelf.specs.declared.relation.Relation.{Relation}
+use Rattle.mesa_shelf.specs.declared.table.Table.{Table}
+use Rattle.mesa_catalog.specs.Lookups.{relation_from}
+use Rattle.mesa_shelf.specs.Lookups.{relation_in, view_names}
+use Rattle.mesa_shelf.specs.Meaning.{stock_of}
 
 -- ---- relations
 

@@ -1,14 +1,14 @@
 -- Tables that are held, as tables of the catalogue.
-use Rattle.std.proofs.Common.{◌≡◌, ℕ, zero, suc, ◌+◌, ◌-◌, ◌≤◌, ◌<◌, List, [], ◌∷◌, ◌++◌, length, map, refl, sym, ◌∙◌, ap, subst, arith, Bool, true, false, get_or, set}
-use Rattle.std.specs.Prelude.{nat_lt, slice_index_or, slice_get, slice_set, Option, Some, None, is_some, ◌&&◌}
+use Rattle.std.proofs.Common.{◌≡◌, ℕ, zero, suc, ◌+◌, ◌-◌, ◌≤◌, ◌<◌, List, [], ◌∷◌, ◌++◌, length, map, arith, true, false, get_or, set}
 use Rattle.std.specs.List.{AllByRecursion}
 use Rattle.std.proofs.lemmas.Bool.Decides.{nat_tests}
 use Rattle.std.proofs.lemmas.List.{length-map, get_or-map, map-set}
-use Rattle.mesa_image.specs.Catalog.{Stock, Catalog, no_stock, stock_at, with_stock}
+use Rattle.mesa_image.specs.Catalog.{no_stock, stock_at, with_stock}
 use Rattle.mesa_image.specs.Fitting.{is_there}
-use Rattle.mesa_catalog.specs.declared.table.Table.{Table}
+use Rattle.mesa_shelf.specs.declared.table.Table.{Table}
 use Rattle.mesa_catalog.specs.declared.shelves.Shelves.{Shelves}
-use Rattle.mesa_catalog.specs.Meaning.{IsShelved, IsTable, catalogue_of, stock_of}
+use Rattle.mesa_catalog.specs.Meaning.{catalogue_of}
+use Rattle.mesa_shelf.specs.Meaning.{stock_of}
 
 -- a table that is there
 pub there : (s : Shelves) (i : ℕ) → i < length s.tables.items → is_there (catalogue_of s) i ≡ true

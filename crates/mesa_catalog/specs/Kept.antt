@@ -1,7 +1,9 @@
 -- What a catalogue is, and what holds of its parts.
-use Rattle.std.specs.Prelude.{Option, IfSome, option_map}
+use Rattle.std.specs.Prelude.{ℕ, ◌≤◌, Option, IfSome, option_map}
+use Rattle.std.specs.List.{AllByRecursion}
 use Rattle.mesa_record.specs.declared.record.Record.{Record}
 use Rattle.mesa_image.specs.Catalog.{Catalog}
+use Rattle.mesa_image_laws.specs.Ids.{named, times}
 use Rattle.mesa_catalog.specs.declared.shelves.Shelves.{Shelves}
 use Rattle.mesa_catalog.specs.declared.ready.Ready.{Ready}
 use Rattle.mesa_catalog.specs.Meaning.{IsShelved, catalogue_of}
@@ -15,7 +17,9 @@ pub record Reserved : Type 0 where
 abbrev pub reserved_of : Shelves → Option Ready → Reserved
 reserved_of s ready = record { catalogue = catalogue_of s; reserved = option_map record_in ready }
 
--- what a catalogue's parts keep
-pub record IsKept (s : Shelves) (made : Option Ready) : Type 0 where
+-- what a catalogue's parts keep: no id is named twice, and none is greater than the greatest that was named
+pub record IsKept (s : Shelves) (made : Option Ready) (greatest : ℕ) : Type 0 where
   pub shelves : IsShelved s
   pub ready : IfSome made (IsReady s)
+  pub once : (id : ℕ) → times id (named (catalogue_of s)) ≤ 1
+  pub most : AllByRecursion (λ id. id ≤ greatest) (named (catalogue_of s))

@@ -1,4 +1,5 @@
 pub mod Meaning
 pub mod Lookups
+pub mod Named
 pub mod Readied
 pub mod Kept

@@ -1,28 +1,17 @@
 -- What a catalogue is asked for.
-use Rattle.std.specs.Prelude.{ℕ, ◌+◌, List, [], ◌∷◌, map, length, sum_by, if◌then◌else◌, Option, Some, None, option_map}
+use Rattle.std.specs.Prelude.{ℕ, ◌+◌, List, [], ◌∷◌, map, length, sum_by, Option, None}
 use Rattle.std.specs.Option.{option_or}
-use Rattle.mesa_list.specs.Bytes.{same_bytes}
 use Rattle.mesa_schema.specs.declared.views.View.{View}
-use Rattle.mesa_schema.specs.Columns.{place_of}
-use Rattle.mesa_schema.specs.Changes.{Lineage, epoch_of}
+use Rattle.mesa_schema.specs.Changes.{epoch_of}
 use Rattle.mesa_batch.specs.Glance.{Known, Sight}
 use Rattle.mesa_record.specs.declared.record.Record.{Record}
 use Rattle.mesa_record.specs.declared.record.Record.TheVariants as record_of
 use Rattle.mesa_image.specs.Catalog.{Catalog, Stock}
-use Rattle.mesa_catalog.specs.declared.relation.Relation.{Relation}
-use Rattle.mesa_catalog.specs.declared.table.Table.{Table}
+use Rattle.mesa_shelf.specs.declared.relation.Relation.{Relation}
+use Rattle.mesa_shelf.specs.Lookups.{relation_in}
+use Rattle.mesa_shelf.specs.declared.table.Table.{Table}
 
 -- ---- relations
-
--- the names of a table's views, by their numbers
-abbrev pub view_names : Lineage → List (List ℕ)
-view_names l = map (λ (v : View). v.name) l.views
-
--- the table of a number, or the view of it, that has this name
-abbrev pub relation_in : ℕ → List ℕ → Stock → Option Relation
-relation_in number name t =
-    if same_bytes name t.name then Some (record { table = number; view = None })
-    else option_map (λ view. record { table = number; view = Some view }) (place_of name (view_names t.lineage))
 
 -- the same among the tables from a number on
 abbrev pub relation_from : ℕ → List ℕ → List Stock → Option Relation

@@ -1,69 +1,15 @@
--- What the tables that are held stand for.
-use Rattle.std.specs.Prelude.{◌≡◌, ℕ, ◌+◌, ◌-◌, ◌*◌, ◌^◌, ◌≤◌, ◌<◌, List, [], ◌∷◌, ◌++◌, map, length, replicate, Option, Some, None, option_map, ⊤}
-use Rattle.std.specs.List.{AllByRecursion, range_with_len}
-use Rattle.std.specs.declared.alloc.Global.{Global}
-use Rattle.std.specs.declared.sync.Arc.{Arc}
-use Rattle.mesa_schema.specs.Changes.{Lineage, columns_at, epoch_of}
-use Rattle.mesa_span.specs.Ranges.{start_behind}
-use Rattle.mesa_image.specs.Catalog.{Delta, Ending, Stock, Catalog, empty_delta}
-use Rattle.mesa_catalog.specs.declared.table.Base.{Base}
-use Rattle.mesa_catalog.specs.declared.table.Loaded.{Loaded}
-use Rattle.mesa_catalog.specs.declared.table.Table.{Table}
+-- What all the tables that are held stand for.
+use Rattle.std.specs.Prelude.{◌-◌, ◌^◌, ◌≤◌, map, length}
+use Rattle.std.specs.List.{AllByRecursion}
+use Rattle.mesa_image.specs.Catalog.{Catalog}
+use Rattle.mesa_shelf.specs.Meaning.{IsTable, stock_of}
 use Rattle.mesa_catalog.specs.declared.shelves.Shelves.{Shelves}
-
--- a delta that is held, or one without rows
-abbrev pub delta_or_empty : Option (Arc Delta Global) → Delta
-delta_or_empty None = empty_delta
-delta_or_empty (Some d) = d.value
-
-abbrev pub ending_of : Base → Ending
-ending_of b = record { to = b.to; delta = delta_or_empty b.delta }
-
--- the first version behind a base
-abbrev pub start_of_base : Option Base → ℕ
-start_of_base b = start_behind (option_map (λ (base : Base). base.to) b)
-
--- cumulatives of ten, twenty and so on versions from a version on
-abbrev pub tens_from : ℕ → List (Arc Delta Global) → List Ending
-tens_from start [] = []
-tens_from start (d ∷ ds) = record { to = start + 9; delta = d.value } ∷ tens_from (start + 10) ds
-
--- a singleton for each version from one on and below another: what was loaded, and a delta without rows for each version that brought nothing
-abbrev pub singles_from : ℕ → ℕ → List Loaded → List Delta
-singles_from from next [] = replicate (next - from) empty_delta
-singles_from from next (l ∷ loaded) = replicate (l.version - from) empty_delta ++ l.delta.value ∷ singles_from (l.version + 1) next loaded
-
--- A table that is held, where there were so many versions, stands for a table of the catalogue.
-abbrev pub stock_of : ℕ → Table → Stock
-stock_of next t = record {
-  name = t.name;
-  lineage = t.evolving.value;
-  totals = t.totals;
-  base = option_map ending_of t.base;
-  cumulatives = tens_from (start_of_base t.base) t.cumulatives.items;
-  singles = singles_from (start_of_base t.base) next t.loaded.items;
-}
 
 -- What all that is held stands for.
 abbrev pub catalogue_of : Shelves → Catalog
 catalogue_of s = record { tables = map (stock_of s.next) s.tables.items; oldest = s.oldest; next = s.next; run = s.run }
 
 -- ---- what holds of what is held
-
--- the versions rise from one on, all of them below another
-abbrev pub AreLoaded : ℕ → ℕ → List Loaded → Type 0
-AreLoaded from next [] = ⊤
-AreLoaded from next (l ∷ loaded) = (from ≤ l.version) × (l.version < next) × AreLoaded (l.version + 1) next loaded
-
--- how many value columns there were in each epoch
-abbrev pub widths_of : Lineage → List ℕ
-widths_of l = map (λ epoch. length (columns_at l epoch).values) (range_with_len 0 (epoch_of l + 1))
-
--- A table whose cumulatives and singletons are of versions that are there.
-pub record IsTable (next : ℕ) (t : Table) : Type 0 where
-  pub tens : start_of_base t.base + 10 * length t.cumulatives.items ≤ next
-  pub loaded : AreLoaded (start_of_base t.base) next t.loaded.items
-  pub widths : t.widths ≡ widths_of t.evolving.value
 
 -- Not too many tables and versions, an oldest version that is there where there is any, and tables of these versions.
 pub record IsShelved (s : Shelves) : Type 0 where

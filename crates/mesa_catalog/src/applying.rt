@@ -1,22 +1,19 @@
 // Taking a record in, without memory.
-ghost use Rattle.std.specs.Prelude.{◌≡◌, ◌≢◌, ℕ, ◌==◌, find, None};
+ghost use Rattle.std.specs.Prelude.{◌≡◌};
 ghost use Rattle.mesa_image.specs.Catalog.{applied};
 ghost use Rattle.mesa_catalog.specs.declared.ready.Ready.TheVariants as ready_of;
 ghost use Rattle.mesa_catalog.specs.Meaning.{IsShelved, catalogue_of};
 ghost use Rattle.mesa_catalog.specs.Readied.{IsReady, record_in};
 
 mod loading;
-mod swapping;
 
-use crate::Delta;
-use crate::ready::{Ready, ReadyPart};
+use crate::ready::Ready;
 use crate::shelves::Shelves;
-use crate::table::Table;
 use loading::load;
 use mesa_list::Items;
 use mesa_schema::{Evolving, Totals};
+use mesa_shelf::{Delta, ReadyPart, Table, swap};
 use std::sync::Arc;
-use swapping::swap;
 
 impl Shelves {
     // Puts the pieces of a record in.

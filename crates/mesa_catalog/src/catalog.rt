@@ -1,11 +1,11 @@
 // The catalogue.
-ghost use Rattle.std.specs.Prelude.{◌≡◌, ◌+◌, None, Some, OnOk, OnErr, IfOk, IsTrue, length};
+ghost use Rattle.std.specs.Prelude.{◌≡◌, ◌+◌, None, Some, OnOk, OnErr, IsTrue};
 ghost use Rattle.mesa_span.specs.Ranges.{base_before};
-ghost use Rattle.mesa_record.specs.declared.record.Record.{Record as AnyRecord};
 ghost use Rattle.mesa_image.specs.Catalog.{applied, empty_catalog};
-ghost use Rattle.mesa_image.specs.Fitting.{fits as fits_catalog, kind_fits};
+ghost use Rattle.mesa_image.specs.Fitting.{brings_new_files, fits as fits_catalog, kind_fits};
 ghost use Rattle.mesa_catalog.specs.Lookups.{generation_of, turns_generation};
 
+use crate::newness::{brings_new, brings_rising, greatest_with};
 use crate::ready::Ready;
 use crate::readying::make_room;
 use crate::shelves::Shelves;
@@ -18,6 +18,8 @@ use std::marker::Model;
 pub struct Catalog {
     pub(crate) shelves: Shelves,
     pub(crate) ready: Option<Ready>,
+    // No file that is named has a greater id.
+    pub(crate) greatest: u64,
 }
 
 impl Model for Catalog {
@@ -27,7 +29,7 @@ impl Model for Catalog {
 
     ghost view = { λ c. reserved_of c.shelves c.ready };
 
-    ghost invariant = { λ c. IsKept c.shelves c.ready };
+    ghost invariant = { λ c. IsKept c.shelves c.ready c.greatest };
 }
 
 impl Catalog {
@@ -43,6 +45,7 @@ impl Catalog {
                 run: 0,
             },
             ready: None,
+            greatest: 0,
         }
     }
 
@@ -76,6 +79,23 @@ impl Catalog {
         self.shelves.allows(r)
     }
 
+    /// Whether a record fits: it keeps the rules of its kind, and its files are new. Takes no memory. What a run adopts has rising ids, so that the test costs what the record brings; only other ids are looked for among all that are named.
+    pub fn fits(&self, r: &Record) -> bool
+        ensures { result ≡ fits_catalog self.now.catalogue r.now }
+    {
+        self.allows(r) && self.brings_new_files(r)
+    }
+
+    // Whether the files that a record brings are new.
+    fn brings_new_files(&self, r: &Record) -> bool
+        ensures { result ≡ brings_new_files self.now.catalogue r.now }
+    {
+        if brings_rising(self.shelves.run, self.greatest, r) {
+            return true;
+        }
+        brings_new(&self.shelves, r)
+    }
+
     /// Takes all memory that it takes to take in a record. Another record that was reserved for is forgotten.
     pub fn reserve(&mut self, r: &Record) -> Result<(), AllocError>
         requires { IsTrue (fits_catalog self.old.catalogue r.now) }
@@ -97,6 +117,7 @@ impl Catalog {
         ensures generation { generation_of self.new.catalogue ≡ generation_of self.old.catalogue + turns_generation r }
     {
         if let Some(ready) = self.ready.take() {
+            self.greatest = greatest_with(self.greatest, &r);
             self.shelves.take_in(ready);
         }
     }

@@ -1,19 +1,18 @@
 // Which records keep the rules of their kind. Takes no memory.
-ghost use Rattle.std.specs.Prelude.{◌≡◌, ◌≤◌, ◌&&◌, ℕ};
+ghost use Rattle.std.specs.Prelude.{◌≡◌, ◌&&◌};
 ghost use Rattle.std.specs.List.{list_all};
-ghost use Rattle.mesa_image.specs.Catalog.{ranges_of, stock_at};
-ghost use Rattle.mesa_image.specs.Fitting.{may_be_base as is_base_work, may_be_cumulative as is_cumulative_work, alter_fits, files_fit_if_any, is_new_name, is_there, kind_fits, may_be_work, part_fits, publish_fits, run_fits, swap_fits, table_fits, view_fits};
-ghost use Rattle.mesa_schema.specs.Changes.{epoch_of};
-ghost use Rattle.mesa_catalog.specs.Meaning.{IsShelved, IsTable, catalogue_of, stock_of, widths_of};
-
-mod counting;
+ghost use Rattle.mesa_image.specs.Catalog.{stock_at};
+ghost use Rattle.mesa_image.specs.Fitting.{alter_fits, is_new_name, is_there, kind_fits, may_be_work, part_fits, publish_fits, run_fits, swap_fits, table_fits, view_fits};
+ghost use Rattle.mesa_catalog.specs.Meaning.{IsShelved, catalogue_of};
+ghost use Rattle.mesa_shelf.specs.Meaning.{IsTable, stock_of};
 
 use crate::shelves::{MAX_TABLES, Shelves};
-use crate::table::Table;
-pub(crate) use counting::{is_sum, sums_among};
-use counting::{counts_files, counts_totals, keeps_bound};
 use mesa_record::{Files, Part, Record};
 use mesa_schema::{Change, KeyColumn, MAX_VIEWS, Name, Schema, ValueColumn};
+use mesa_shelf::{
+    Table, counts_files, counts_files_if_any, counts_totals, keeps_bound, may_be_base,
+    may_be_cumulative,
+};
 
 // The number of the last run that there may be.
 const MAX_RUNS: u32 = (1 << 24) - 1;
@@ -155,36 +154,4 @@ impl Shelves {
     {
         self.find(name).is_none()
     }
-}
-
-fn counts_files_if_any(t: &Table, epoch: u32, files: &Option<Files>) -> bool
-    requires widths { t.now.widths ≡ widths_of t.now.evolving.value }
-    requires epoch { epoch ≤ epoch_of t.now.evolving.value }
-    ensures { result ≡ files_fit_if_any t.now.evolving.value epoch files.now }
-{
-    match files {
-        None => true,
-        Some(files) => counts_files(&t.evolving, t.widths.as_slice(), epoch, files),
-    }
-}
-
-// Whether work may give a base to this version: it is behind the present base, not the first version, and at most the oldest.
-fn may_be_base(t: &Table, oldest: u32, from: u32, to: u32) -> bool
-    ensures { (next : ℕ) → result ≡ is_base_work (ranges_of (stock_of next t.now)) oldest from to }
-{
-    let start = t.start();
-    from == 0 && to >= 1 && start <= to as u64 && to <= oldest
-}
-
-// Whether work may give this cumulative: it is the ten behind those that are there.
-fn may_be_cumulative(t: &Table, next: u32, from: u32, to: u32) -> bool
-    requires { IsTable next t.now }
-    ensures { result ≡ is_cumulative_work (ranges_of (stock_of next t.now)) next from to }
-{
-    let start = t.start();
-    if from as u64 != start {
-        return false;
-    }
-    let end = start + 10 * t.cumulatives.len() as u64 + 9;
-    end < next as u64 && end == to as u64
 }

@@ -3,16 +3,14 @@
 
 mod applying;
 mod catalog;
-mod delta;
+mod files;
 mod finding;
 mod fitting;
 mod lookups;
+mod newness;
 mod ready;
 mod readying;
-mod relation;
 mod shelves;
-mod table;
 
 pub use catalog::Catalog;
-pub use delta::Delta;
-pub use relation::Relation;
+pub use mesa_shelf::{Delta, Recorded, Relation};

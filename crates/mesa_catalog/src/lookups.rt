@@ -1,16 +1,15 @@
 // What is asked of the catalogue. Where no error is told, nothing takes memory.
-ghost use Rattle.std.specs.Prelude.{◌≡◌, ◌<◌, ◌≤◌, ◌^◌, IfOk, length, map, ℕ, sum_by};
+ghost use Rattle.std.specs.Prelude.{◌≡◌, ◌<◌, ◌≤◌, IfOk, length, map, sum_by};
 ghost use Rattle.mesa_span.specs.Ranges.{IsInOrder};
 ghost use Rattle.mesa_batch.specs.Numbers.{known_of};
 ghost use Rattle.mesa_image.specs.Catalog.{ranges_of, stock_at};
 ghost use Rattle.mesa_catalog.specs.Lookups.{changes_of, generation_of, known_in, relation_of, sight_of};
-ghost use Rattle.mesa_catalog.specs.Meaning.{IsTable, stock_of};
 
-use crate::table::Table;
-use crate::{Catalog, Relation};
+use crate::Catalog;
 use mesa_batch::{Glance, Glanced};
-use mesa_list::{Items, TryCopy};
+use mesa_list::TryCopy;
 use mesa_schema::{Evolving, Name, Totals};
+use mesa_shelf::{Relation, Table, ranges};
 use mesa_span::Ranges;
 use std::alloc::{AllocError, Global};
 use std::sync::Arc;
@@ -94,23 +93,6 @@ fn generation(tables: &[Table]) -> u64
         changes += 1 + table.evolving.views() as u64 + table.evolving.epoch() as u64;
     }
     changes
-}
-
-// The ranges of a table's deltas.
-fn ranges(alloc: Global, table: &Table) -> Result<Ranges, AllocError>
-    requires { (next : ℕ) × (next < 2 ^ 32) × IsTable next table.now }
-    ensures ranges { (next : ℕ) → IfOk result (λ r. r ≡ ranges_of (stock_of next table.now)) }
-    ensures in_order { IfOk result IsInOrder }
-{
-    let start = table.start();
-    let mut ends = Vec::with_capacity(alloc, table.cumulatives.len())?;
-    for ten in 0..table.cumulatives.len() as u64 {
-        ends.push((start + 10 * ten + 9) as u32)?;
-    }
-    Ok(Ranges {
-        base_to: table.base_to(),
-        cumulatives: Items::from_vec(ends),
-    })
 }
 
 // The tables as a glance has them; their columns are shared.

@@ -1,17 +1,8 @@
 // Records in the form in which they are taken in.
-use crate::Delta;
-use crate::table::Table;
 use mesa_list::Items;
 use mesa_schema::{Evolving, Totals};
+use mesa_shelf::{Delta, ReadyPart, Table};
 use std::sync::Arc;
-
-// A part of a batch: what it brings to a table, and the table's totals with it.
-#[derive(Drop)]
-pub(crate) struct ReadyPart {
-    pub(crate) table: u16,
-    pub(crate) delta: Arc<Delta>,
-    pub(crate) totals: Totals,
-}
 
 // A record, with all made that takes memory.
 #[derive(Drop)]

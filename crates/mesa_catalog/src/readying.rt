@@ -1,26 +1,26 @@
 // Making a record ready: all memory that it takes is taken here.
-ghost use Rattle.std.specs.Prelude.{◌≡◌, ◌&&◌, IsTrue, IfOk, OnOk, length, map, option_map};
+ghost use Rattle.std.specs.Prelude.{◌≡◌, ◌&&◌, IsTrue, IfOk, OnOk, map, option_map};
 ghost use Rattle.std.specs.List.{AllByRecursion, list_all};
 ghost use Rattle.mesa_record.specs.declared.record.Part.{Part as PartOf};
 ghost use Rattle.mesa_span.specs.Ranges.{base_before};
 ghost use Rattle.mesa_record.specs.declared.record.Record.TheVariants as record_of;
 ghost use Rattle.mesa_image.specs.Catalog.{empty_base, merged_delta, stock_at};
 ghost use Rattle.mesa_image.specs.Fitting.{alter_fits, is_there, kind_fits, part_fits, table_fits, view_fits};
-ghost use Rattle.mesa_catalog.specs.Meaning.{IsShelved, catalogue_of, ending_of};
-ghost use Rattle.mesa_catalog.specs.Readied.{AreRoomier, HasRoom, HasSpare, IsRoomier, IsMade, IsMadePart, part_in, record_in};
+ghost use Rattle.mesa_catalog.specs.Meaning.{IsShelved, catalogue_of};
+ghost use Rattle.mesa_shelf.specs.Meaning.{ending_of};
+ghost use Rattle.mesa_catalog.specs.Readied.{AreRoomier, HasRoom, IsMade, IsMadePart, record_in};
+ghost use Rattle.mesa_shelf.specs.Readied.{HasSpare, part_in};
 
-mod totals;
-
-use crate::Delta;
-use crate::ready::{Ready, ReadyPart};
+use crate::ready::Ready;
 use crate::shelves::Shelves;
-use crate::table::{Base, Table};
 use mesa_list::{Items, TryCopy};
 use mesa_record::{Files, Part, Record};
 use mesa_schema::{Change, Evolving, KeyColumn, Name, Schema, ValueColumn};
+use mesa_shelf::{
+    Base, Delta, ReadyPart, Table, make_spare, no_totals, totals_changed, totals_with, width_of,
+};
 use std::alloc::{AllocError, Global};
 use std::sync::Arc;
-use totals::{no_totals, totals_changed, totals_with};
 
 // Makes room for a table more, and in each table for a delta more.
 pub(crate) fn make_room(shelves: &mut Shelves) -> Result<(), AllocError>
@@ -42,15 +42,6 @@ fn make_spares(tables: &mut [Table]) -> Result<(), AllocError>
         make_spare(table)?;
     }
     Ok(())
-}
-
-// Makes room in a table for a cumulative and a singleton more.
-fn make_spare(table: &mut Table) -> Result<(), AllocError>
-    ensures roomier { IsRoomier table.old table.new }
-    ensures spare { OnOk result (HasSpare table.new) }
-{
-    table.cumulatives.reserve(1)?;
-    table.loaded.reserve(1)
 }
 
 impl Shelves {
@@ -238,11 +229,4 @@ impl Shelves {
         };
         Ok(Arc::new(self.alloc(), delta)?)
     }
-}
-
-// How many value columns there are; a schema has few.
-fn width_of(schema: &Schema) -> u8
-    ensures { result ≡ length schema.now.values }
-{
-    schema.values().len() as u8
 }

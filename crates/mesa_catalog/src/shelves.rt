@@ -2,9 +2,10 @@
 ghost use Rattle.std.specs.Prelude.{◌≡◌, is_some, true, IfSome};
 ghost use Rattle.mesa_image.specs.Catalog.{stock_at};
 ghost use Rattle.mesa_image.specs.Fitting.{is_there};
-ghost use Rattle.mesa_catalog.specs.Meaning.{IsShelved, IsTable, catalogue_of, stock_of};
+ghost use Rattle.mesa_catalog.specs.Meaning.{IsShelved, catalogue_of};
+ghost use Rattle.mesa_shelf.specs.Meaning.{IsTable, stock_of};
 
-use crate::table::Table;
+use mesa_shelf::Table;
 
 // How many tables there may be.
 pub(crate) const MAX_TABLES: usize = 32;

@@ -14,7 +14,7 @@ use Rattle.mesa_record.specs.Reading.{record_at}
 use Rattle.mesa_image.specs.Catalog.{Catalog, empty_catalog}
 use Rattle.mesa_image.specs.Fitting.{catalog, catalog_from, with_body}
 use Rattle.mesa_store.proofs.Bodies.{body_more}
-use Rattle.mesa_opening.specs.declared.recorded.Recorded.{Recorded}
+use Rattle.mesa_shelf.specs.declared.recorded.Recorded.{Recorded}
 use Rattle.mesa_opening.specs.declared.error.OpenError.{OpenError}
 use Rattle.mesa_opening.specs.Damages.{IsAsRecorded, IsFileDamage, IsFirstDamage, IsFirstMisfit, misfit_of}
 use Rattle.mesa_opening.specs.Misfits.{IsMisfitAt, IsMisfitIn}

@@ -17,8 +17,8 @@ use Rattle.mesa_journal.specs.declared.reading.JournalError.{JournalError}
 use Rattle.mesa_journal.specs.declared.reading.JournalError.TheVariants as journal
 use Rattle.mesa_image.specs.Catalog.{Catalog}
 use Rattle.mesa_image.specs.Fitting.{catalog, shelved}
-use Rattle.mesa_opening.specs.declared.recorded.Recorded.{Recorded}
-use Rattle.mesa_opening.specs.Files.{AreRecorded, recorded_of}
+use Rattle.mesa_shelf.specs.declared.recorded.Recorded.{Recorded}
+use Rattle.mesa_shelf.specs.Files.{AreRecorded, recorded_of}
 use Rattle.mesa_opening.specs.declared.error.OpenError.{OpenError}
 use Rattle.mesa_opening.specs.declared.error.OpenError.TheVariants as open_error
 use Rattle.mesa_opening.specs.Damages.{IsFirstDamage, HasMisfit, IsFirstMisfit}

@@ -20,8 +20,8 @@ use Rattle.mesa_image.specs.Catalog.{Catalog}
 use Rattle.mesa_image.specs.Fitting.{Shelved, has_number, shelved, shelved_id}
 use Rattle.mesa_image.specs.Held.{IsUnnamed}
 use Rattle.mesa_image_laws.specs.Ids.{named}
-use Rattle.mesa_opening.specs.declared.recorded.Recorded.{Recorded}
-use Rattle.mesa_opening.specs.Files.{AreRecorded, RiseFrom, recorded_of, recorded_id}
+use Rattle.mesa_shelf.specs.declared.recorded.Recorded.{Recorded}
+use Rattle.mesa_shelf.specs.Files.{AreRecorded, RiseFrom, recorded_of, recorded_id}
 use Rattle.mesa_opening.specs.Strays.{AreStrays}
 use Rattle.mesa_opening.proofs.Reasons.{all_recorded, recorded_all}
 

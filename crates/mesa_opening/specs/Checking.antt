@@ -3,7 +3,7 @@ use Rattle.std.specs.Prelude.{◌≡◌, ◌⊎◌, ℕ, ◌≤◌, List, length
 use Rattle.sha2.specs.Sha256.{sha256}
 use Rattle.mesa_fault.specs.Causes.{Rose}
 use Rattle.mesa_disk.specs.Story.{Story}
-use Rattle.mesa_opening.specs.declared.recorded.Recorded.{Recorded}
+use Rattle.mesa_shelf.specs.declared.recorded.Recorded.{Recorded}
 use Rattle.mesa_disk.specs.declared.failures.ListFault.{ListFault}
 use Rattle.mesa_disk.specs.declared.failures.ListFault.TheVariants as list_fault
 use Rattle.mesa_opening.specs.declared.error.OpenError.{OpenError}

@@ -14,8 +14,8 @@ use Rattle.mesa_record.specs.Reading.{record_at}
 use Rattle.mesa_delta.specs.Damages.{IsWrongLength, IsWrongDigest}
 use Rattle.mesa_image.specs.Catalog.{Catalog}
 use Rattle.mesa_image.specs.Fitting.{fits, catalog}
-use Rattle.mesa_opening.specs.declared.recorded.Recorded.{Recorded}
-use Rattle.mesa_opening.specs.Files.{AreRecorded}
+use Rattle.mesa_shelf.specs.declared.recorded.Recorded.{Recorded}
+use Rattle.mesa_shelf.specs.Files.{AreRecorded}
 
 -- ---- files
 

@@ -1,4 +1,3 @@
-pub mod Files
 pub mod Damages
 pub mod Checking
 pub mod Misfits

@@ -16,7 +16,7 @@ use Rattle.mesa_record.specs.declared.record.Record.{Record}
 use Rattle.mesa_record.specs.declared.record.Record.TheVariants as record_of
 use Rattle.mesa_image.specs.Sound.{IsSoundAs, StandsFor}
 use Rattle.mesa_image.specs.Held.{IsHeld, IsUnnamed}
-use Rattle.mesa_opening.specs.Files.{recorded_of}
+use Rattle.mesa_shelf.specs.Files.{recorded_of}
 use Rattle.mesa_opening.specs.declared.error.OpenError.{OpenError}
 use Rattle.mesa_opening.specs.declared.error.OpenError.TheVariants as open_error
 use Rattle.mesa_opening.specs.Damages.{IsAsRecorded, IsCutOff, HasMisfit, HasDamagedFile}

@@ -5,8 +5,8 @@ use Rattle.mesa_disk.specs.Image.{Image}
 use Rattle.mesa_disk.specs.Story.{Story}
 use Rattle.mesa_image.specs.Catalog.{Catalog}
 use Rattle.mesa_image.specs.Fitting.{has_number}
-use Rattle.mesa_opening.specs.declared.recorded.Recorded.{Recorded}
-use Rattle.mesa_opening.specs.Files.{AreRecorded, recorded_id}
+use Rattle.mesa_shelf.specs.declared.recorded.Recorded.{Recorded}
+use Rattle.mesa_shelf.specs.Files.{AreRecorded, recorded_id}
 
 -- those of some ids that are among no others
 abbrev pub unnamed_of : List ℕ → List ℕ → List ℕ

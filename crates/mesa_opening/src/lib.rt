@@ -6,11 +6,10 @@
 mod beginning;
 mod checking;
 mod error;
-mod recorded;
 mod strays;
 
 pub use beginning::{frame, write_run};
 pub use checking::check_files;
 pub use error::OpenError;
-pub use recorded::Recorded;
+pub use mesa_shelf::Recorded;
 pub use strays::find_strays;

@@ -2,7 +2,7 @@
 ghost use Rattle.std.specs.Prelude.{◌≡◌, map, IfOk, IfErr};
 ghost use Rattle.mesa_disk.specs.Story.{Unmoved};
 ghost use Rattle.mesa_image.specs.Fitting.{has_number};
-ghost use Rattle.mesa_opening.specs.Files.{RiseFrom, recorded_id};
+ghost use Rattle.mesa_shelf.specs.Files.{RiseFrom, recorded_id};
 ghost use Rattle.mesa_opening.specs.Checking.{Counts, IsFaultOrMemory};
 ghost use Rattle.mesa_opening.specs.Strays.{AreUnrecorded, unnamed_of};
 

@@ -1,13 +1,12 @@
 // Taking in what a batch brings.
-ghost use Rattle.std.specs.Prelude.{◌≡◌, ◌≢◌, ◌+◌, ◌<◌, ℕ, find, length, map, option_map, position, slice_get, IfSome};
+ghost use Rattle.std.specs.Prelude.{◌≡◌, ◌≢◌, ◌+◌, ◌<◌, ℕ, find, length, map, position, slice_get, IfSome};
 ghost use Rattle.std.specs.List.{AllByRecursion};
-ghost use Rattle.mesa_image.specs.Catalog.{stock_loaded, stocks_loaded};
-ghost use Rattle.mesa_catalog.specs.declared.ready.ReadyPart.{ReadyPart as Piece};
-ghost use Rattle.mesa_catalog.specs.Meaning.{IsTable, stock_of};
-ghost use Rattle.mesa_catalog.specs.Readied.{HasSpare, IsPartOf, is_part_of, part_in};
+ghost use Rattle.mesa_image.specs.Catalog.{stocks_loaded};
+ghost use Rattle.mesa_shelf.specs.declared.ready.ReadyPart.{ReadyPart as Piece};
+ghost use Rattle.mesa_shelf.specs.Meaning.{IsTable, stock_of};
+ghost use Rattle.mesa_shelf.specs.Readied.{HasSpare, IsPartOf, is_part_of, part_in};
 
-use crate::ready::ReadyPart;
-use crate::table::{Loaded, Table};
+use mesa_shelf::{ReadyPart, Table, load_part};
 
 // Puts what a version brings into the tables: each looks for its part, which is the first that is left.
 pub(super) fn load(tables: &mut [Table], version: u32, mut parts: Vec<ReadyPart>)
@@ -40,21 +39,4 @@ fn place_of_part(parts: &[ReadyPart], number: usize) -> Option<usize>
     ensures place { result ≡ position (is_part_of number) parts.now }
 {
     parts.iter().position(|part| part.table as usize == number)
-}
-
-// Puts what a version brings into a table, if anything.
-fn load_part(table: &mut Table, version: u32, part: Option<ReadyPart>)
-    requires table { IsTable version table.old }
-    requires spare { HasSpare table.old }
-    requires part { IfSome part (IsPartOf table.old) }
-    ensures loaded { stock_of (version + 1) table.new ≡ stock_loaded (stock_of version table.old) (option_map part_in part) }
-    ensures table { IsTable (version + 1) table.new }
-{
-    if let Some(part) = part {
-        table.totals = part.totals;
-        table.loaded.push_reserved(Loaded {
-            version,
-            delta: part.delta,
-        });
-    }
 }

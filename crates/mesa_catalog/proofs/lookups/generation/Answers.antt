@@ -1,9 +1,8 @@
-use Rattle.std.proofs.Common.{◌≡◌, ◌≤◌, ◌+◌, ◌*◌, ◌<◌, ◌∙◌, ap, sym, arith, length, drop, get_or}
+use Rattle.std.proofs.Common.{◌≡◌, ◌∙◌, ap, sym, arith, length, get_or}
 use Rattle.std.specs.Prelude.{sum_by}
 use Rattle.std.proofs.lemmas.List.{drop_all}
 use Rattle.std.proofs.lemmas.List.Sums.{sum_by-drop_more}
 use Rattle.mesa_schema.specs.Changes.{Lineage, epoch_of}
-use Rattle.mesa_catalog.specs.declared.table.Table.{Table}
 use Rattle.mesa_catalog.specs.Lookups.{changes_of}
 use Rattle.mesa_catalog.proofs.lookups.generation.Goals as goal
 

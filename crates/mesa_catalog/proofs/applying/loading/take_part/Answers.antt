@@ -1,8 +1,8 @@
-use Rattle.std.proofs.Common.{◌≡◌, ◌<◌, ◌∙◌, ap, sym, arith, length, get_or, true, false, refl}
-use Rattle.std.specs.Prelude.{◌==◌, find, position, slice_get}
+use Rattle.std.proofs.Common.{◌≡◌, ◌<◌, ◌∙◌, ap, sym, arith, length, true, false, refl}
+use Rattle.std.specs.Prelude.{◌==◌, find, position}
 use Rattle.std.proofs.lemmas.Bool.Decides.{nat_tests}
 use Rattle.std.proofs.lemmas.Option.{slice_get_read}
-use Rattle.mesa_catalog.specs.Readied.{is_part_of}
+use Rattle.mesa_shelf.specs.Readied.{is_part_of}
 use Rattle.mesa_catalog.proofs.Loads.{find_without, found_at, found_nowhere, found_passes}
 use Rattle.mesa_catalog.proofs.applying.loading.take_part.Goals as goal
 

@@ -1,4 +1,4 @@
-use Rattle.std.proofs.Common.{◌≡◌, ◌<◌, ◌∙◌, ap, sym, arith, length}
+use Rattle.std.proofs.Common.{◌∙◌, ap, sym, arith, length}
 use Rattle.mesa_schema.specs.declared.views.View.{View}
 use Rattle.mesa_schema.specs.Changes.{Lineage}
 use Rattle.mesa_image.specs.Catalog.{Stock}

@@ -1,7 +1,7 @@
-use Rattle.std.proofs.Common.{◌≡◌, ◌≤◌, ◌<◌, ◌∙◌, ap, sym, subst, arith, length, set}
-use Rattle.std.specs.List.{AllByRecursion}
+use Rattle.std.proofs.Common.{◌∙◌, ap, sym, subst, arith}
 use Rattle.std.proofs.lemmas.List.{length-set}
-use Rattle.mesa_catalog.specs.Meaning.{IsTable, catalogue_of, stock_of}
+use Rattle.mesa_shelf.specs.Meaning.{IsTable, stock_of}
+use Rattle.mesa_catalog.specs.Meaning.{catalogue_of}
 use Rattle.mesa_catalog.specs.Readied.{last_change, record_in}
 use Rattle.mesa_catalog.specs.declared.ready.Ready.TheVariants as ready_of
 use Rattle.mesa_catalog.proofs.Applies.{changed_stock, kind_of_fits, put_stock}

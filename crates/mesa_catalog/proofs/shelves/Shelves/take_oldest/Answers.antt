@@ -1,11 +1,11 @@
-use Rattle.std.proofs.Common.{◌≡◌, ◌<◌, arith, true}
+use Rattle.std.proofs.Common.{◌<◌, arith}
 use Rattle.std.specs.Prelude.{nat_le, nat_lt}
 use Rattle.std.proofs.lemmas.Bool.Decides.{nat_tests}
 use Rattle.mesa_catalog.specs.Meaning.{catalogue_of}
 use Rattle.mesa_catalog.specs.Readied.{record_in}
 use Rattle.mesa_catalog.specs.declared.ready.Ready.TheVariants as ready_of
 use Rattle.mesa_catalog.proofs.Applies.{kind_of_fits}
-use Rattle.mesa_catalog.proofs.Tests.{both}
+use Rattle.mesa_shelf.proofs.Tests.{both}
 use Rattle.mesa_catalog.proofs.shelves.Shelves.take_oldest.Goals as goal
 
 pub returns-clause-shelved : goal.returns-clause-shelved

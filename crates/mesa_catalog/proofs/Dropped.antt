@@ -1,0 +1,39 @@
+-- What a record lets go.
+use Rattle.std.proofs.Common.{◌≡◌, ℕ, ◌+◌, ◌-◌, ◌≤◌, ◌++◌, map, take, refl, ◌∙◌, ap}
+use Rattle.std.specs.Prelude.{Option, Some, None, flat_map}
+use Rattle.std.specs.declared.alloc.Global.{Global}
+use Rattle.std.specs.declared.sync.Arc.{Arc}
+use Rattle.mesa_record.specs.declared.record.Files.{Files}
+use Rattle.mesa_image.specs.Catalog.{Delta, start_in}
+use Rattle.mesa_image.specs.Fitting.{base_deltas, delta_in}
+use Rattle.mesa_image_laws.specs.Ids.{delta_ids, dropped_deltas, file_ids}
+use Rattle.mesa_shelf.specs.declared.table.Table.{Table}
+use Rattle.mesa_shelf.specs.Meaning.{IsTable, start_of_base, stock_of}
+use Rattle.mesa_shelf.specs.Named.{base_ids, ids_if_any, ids_through, shared_ids, single_ids, table_ids, through}
+use Rattle.mesa_shelf.specs.Named as held
+use Rattle.mesa_shelf.proofs.Named.{all_through, base_held, flat_map-map, flat_map-same, singles_through}
+use Rattle.mesa_shelf.proofs.Singles.{flat_map-append}
+use Rattle.mesa_shelf.proofs.Tens.{tens_deltas}
+use Rattle.mesa_shelf.proofs.Works.{starts}
+
+files_same : (files : Option Files) → file_ids files ≡ ids_if_any files
+files_same None = refl
+files_same (Some f) = refl
+
+-- the files of the deltas whose place a new base takes are those that are held up to its end
+pub dropped_held : (next : ℕ) (t : Table) (to : ℕ) → IsTable next t → flat_map delta_ids (dropped_deltas (stock_of next t) to) ≡ ids_through t to
+dropped_held next t to table =
+    let u = stock_of next t in
+    let start = start_of_base t.base in
+    let gone = take (to + 1 - start_in u) u.singles in
+    let singles : flat_map held.delta_ids gone ≡ flat_map single_ids (through to t.loaded.items) =
+    ap (λ n. flat_map held.delta_ids (take (to + 1 - n) u.singles)) (starts next t) ∙ singles_through held.delta_ids start to next t.loaded.items refl table.loaded in
+    let cumulatives = ap (flat_map held.delta_ids) (tens_deltas start t.cumulatives.items) ∙ flat_map-map held.delta_ids (λ (d : Arc Delta Global). d.value) t.cumulatives.items in
+    flat_map-same delta_ids held.delta_ids (dropped_deltas u to) (λ d. files_same d.files)
+    ∙ flat_map-append held.delta_ids (base_deltas u.base) (map delta_in u.cumulatives ++ gone)
+    ∙ (λ i. base_held t.base i ++ flat_map-append held.delta_ids (map delta_in u.cumulatives) gone i)
+    ∙ (λ i. base_ids t.base ++ (cumulatives i ++ singles i))
+
+-- all files are held up to a version behind which there is none
+pub all_held : (next to : ℕ) (t : Table) → next ≤ to + 1 → IsTable next t → ids_through t to ≡ table_ids t
+all_held next to t h table = ap (λ ls. base_ids t.base ++ (flat_map shared_ids t.cumulatives.items ++ flat_map single_ids ls)) (all_through to (start_of_base t.base) next t.loaded.items h table.loaded)

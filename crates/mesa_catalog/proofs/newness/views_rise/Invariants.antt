@@ -1,0 +1,7 @@
+use Rattle.std.proofs.Common.{map, take}
+use Rattle.mesa_shelf.specs.Named.{view_id}
+use Rattle.mesa_catalog.specs.Named.{RiseTo}
+use Rattle.mesa_catalog.proofs.newness.views_rise.Given as goal
+
+abbrev pub invariant-loop-view : goal.invariant-loop-view
+invariant-loop-view l = RiseTo l.run l.above (map view_id (take l.view-index l.views)) l.last

@@ -1,0 +1,97 @@
+// The files that a catalogue names.
+ghost use Rattle.std.specs.Prelude.{◌≡◌, ◌++◌, ◌≤◌, ◌^◌, ℕ, flat_map, map, IfOk, IsTrue, OnOk};
+ghost use Rattle.std.specs.List.{AllByRecursion};
+ghost use Rattle.mesa_image.specs.Fitting.{fits as fits_catalog, kind_fits, stock_shelved};
+ghost use Rattle.mesa_image_laws.specs.Ids.{dropped_ids, named};
+ghost use Rattle.mesa_shelf.specs.declared.table.Table.{Table as Held};
+ghost use Rattle.mesa_shelf.specs.Files.{AreRecorded, recorded_of};
+ghost use Rattle.mesa_shelf.specs.Meaning.{IsTable, stock_of};
+ghost use Rattle.mesa_shelf.specs.Named.{table_ids};
+ghost use Rattle.mesa_catalog.specs.Meaning.{IsShelved, catalogue_of};
+
+use crate::Catalog;
+use crate::shelves::Shelves;
+use mesa_file::FileId;
+use mesa_record::Record;
+use mesa_shelf::{Recorded, Table};
+use std::alloc::{AllocError, Global};
+
+impl Catalog {
+    /// The ids of all files that are named, table by table.
+    pub fn named_files(&self, alloc: Global) -> Result<Vec<FileId>, AllocError>
+        ensures { IfOk result (λ ids. ids.items ≡ named self.now.catalogue) }
+    {
+        let mut ids = Vec::new(alloc);
+        push_ids(&self.shelves.tables, &mut ids)?;
+        Ok(ids)
+    }
+
+    /// What is recorded of each file that is named, by rising ids.
+    pub fn recorded_files(&self, alloc: Global) -> Result<Vec<Recorded>, AllocError>
+        ensures { IfOk result (λ files. AreRecorded self.now.catalogue files.items) }
+    {
+        let mut files = Vec::new(alloc);
+        push_recorded(&self.shelves.tables, &mut files)?;
+        files.sort_unstable_by_key(|file| file.id.number());
+        Ok(files)
+    }
+
+    /// The ids of the files that a record lets go: they are named now, and no more after it. A base lets go those of the deltas whose place it takes, with their views' files, and no other record any.
+    pub fn dropped(&self, r: &Record, alloc: Global) -> Result<Vec<FileId>, AllocError>
+        requires { IsTrue (fits_catalog self.now.catalogue r.now) }
+        ensures { IfOk result (λ ids. ids.items ≡ dropped_ids self.now.catalogue r.now) }
+    {
+        let mut ids = Vec::new(alloc);
+        self.shelves.push_dropped(r, &mut ids)?;
+        Ok(ids)
+    }
+}
+
+impl Shelves {
+    fn push_dropped(&self, r: &Record, ids: &mut Vec<FileId>) -> Result<(), AllocError>
+        requires shelved { IsShelved self.now }
+        requires fits { IsTrue (kind_fits (catalogue_of self.now) r.now) }
+        ensures { OnOk result (ids.new.items ≡ ids.old.items ++ dropped_ids (catalogue_of self.now) r.now) }
+    {
+        match r {
+            Record::Swap {
+                table,
+                base,
+                to,
+                ..
+            } => {
+                if *base {
+                    self.table(*table).push_ids(*to, ids)
+                } else {
+                    Ok(())
+                }
+            }
+            Record::Run { .. }
+            | Record::Table { .. }
+            | Record::View { .. }
+            | Record::Alter { .. }
+            | Record::Publish { .. }
+            | Record::Expire { .. } => Ok(()),
+        }
+    }
+}
+
+fn push_ids(tables: &[Table], ids: &mut Vec<FileId>) -> Result<(), AllocError>
+    requires { (next : ℕ) × (next ≤ 2 ^ 32) × AllByRecursion (IsTable next) tables.now }
+    ensures { OnOk result (ids.new.items ≡ ids.old.items ++ flat_map table_ids tables.now) }
+{
+    for table in tables {
+        table.push_ids(u32::MAX, ids)?;
+    }
+    Ok(())
+}
+
+fn push_recorded(tables: &[Table], files: &mut Vec<Recorded>) -> Result<(), AllocError>
+    requires { (next : ℕ) × AllByRecursion (IsTable next) tables.now }
+    ensures { (next : ℕ) → OnOk result (files.new.items ≡ files.old.items ++ flat_map (λ (t : Held). map recorded_of (stock_shelved (stock_of next t))) tables.now) }
+{
+    for table in tables {
+        table.push_recorded(files)?;
+    }
+    Ok(())
+}

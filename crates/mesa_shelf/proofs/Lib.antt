@@ -1,0 +1,10 @@
+pub mod Tests
+pub mod Counts
+pub mod Singles
+pub mod Tens
+pub mod Works
+pub mod Loads
+pub mod Bounds
+pub mod Places
+pub mod Named
+pub mod Pushes

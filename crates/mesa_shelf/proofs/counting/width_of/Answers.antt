@@ -1,0 +1,1 @@
+use Rattle.mesa_shelf.proofs.counting.width_of.Goals as goal

@@ -1,0 +1,5 @@
+pub mod Meaning
+pub mod Lookups
+pub mod Readied
+pub mod Named
+pub mod Files

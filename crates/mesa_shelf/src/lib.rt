@@ -1,0 +1,29 @@
+//! A table as a catalogue in memory holds it: its name, its columns through its life, its totals, and its deltas with their files. It says what the table stands for, what each record makes of it, and what is asked of it.
+#![tactic(auto)]
+
+mod counting;
+mod delta;
+mod finding;
+mod fitting;
+mod loading;
+mod lookups;
+mod naming;
+mod ready;
+mod recorded;
+mod recording;
+mod relation;
+mod swapping;
+mod table;
+mod totals;
+
+pub use counting::{counts_files, counts_totals, keeps_bound, width_of};
+pub use delta::Delta;
+pub use fitting::{counts_files_if_any, may_be_base, may_be_cumulative};
+pub use loading::load_part;
+pub use lookups::ranges;
+pub use ready::{ReadyPart, make_spare};
+pub use recorded::Recorded;
+pub use relation::Relation;
+pub use swapping::swap;
+pub use table::{Base, Loaded, Table};
+pub use totals::{no_totals, totals_changed, totals_with};

@@ -1,0 +1,59 @@
+// A table as the catalogue holds it.
+ghost use Rattle.std.specs.Prelude.{◌≡◌, ◌≤◌, ◌^◌, option_map};
+ghost use Rattle.mesa_shelf.specs.declared.table.Base.{Base as BaseOf};
+ghost use Rattle.mesa_shelf.specs.Meaning.{start_of_base};
+
+use crate::Delta;
+use mesa_list::Items;
+use mesa_schema::{Evolving, Name, Totals};
+use std::sync::Arc;
+
+/// The delta from version 0 on.
+#[derive(Drop)]
+pub struct Base {
+    pub to: u32,
+    /// None for a base that was there when the table was made.
+    pub delta: Option<Arc<Delta>>,
+}
+
+/// What a version brought.
+#[derive(Drop)]
+pub struct Loaded {
+    pub version: u32,
+    pub delta: Arc<Delta>,
+}
+
+/// A table: its deltas are shared with the copies that pins have.
+#[derive(Drop)]
+pub struct Table {
+    pub name: Name,
+    pub evolving: Arc<Evolving>,
+    /// How many value columns there were in each epoch.
+    pub widths: Items<u8>,
+    pub totals: Totals,
+    pub base: Option<Base>,
+    /// They end ten, twenty and so on versions behind the base.
+    pub cumulatives: Vec<Arc<Delta>>,
+    /// By rising versions. A version that brought the table nothing isn't among them, so that it costs nothing.
+    pub loaded: Vec<Loaded>,
+}
+
+impl Table {
+    /// The first version behind the base.
+    pub fn start(&self) -> u64
+        ensures start { result ≡ start_of_base self.now.base }
+        ensures small { result ≤ 2 ^ 32 }
+    {
+        match &self.base {
+            None => 0,
+            Some(base) => base.to as u64 + 1,
+        }
+    }
+
+    /// The last version of the base.
+    pub fn base_to(&self) -> Option<u32>
+        ensures { result ≡ option_map (λ (b : BaseOf). b.to) self.now.base }
+    {
+        self.base.as_ref().map(|base| base.to)
+    }
+}
