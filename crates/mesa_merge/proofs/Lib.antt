@@ -15,3 +15,4 @@ pub mod Beginning
 pub mod Handing
 pub mod Held
 pub mod Newest
+pub mod Damages

@@ -4,4 +4,6 @@ pub mod Inputs
 pub mod Faults
 pub mod Sums
 pub mod Merging
+pub mod Damaged
 pub mod Merged
+pub mod Calls

@@ -1,18 +1,13 @@
 // The fold of inputs as a stream.
-ghost use Rattle.std.specs.Prelude.{◌≡◌, ◌<◌, ◌≤◌, ◌*◌, ◌-◌, ◌^◌, ◌++◌, ◌∷◌, [], ℕ, List, length, min, sum_by, IfOk, IfErr, IfSome, IfNone, None, Some, Err, true};
+ghost use Rattle.std.specs.Prelude.{◌≡◌, ◌≤◌, ◌*◌, ◌-◌, ◌^◌, [], List, length, min, sum_by, IfOk, IfErr, IfNone, None, Some, Err};
 ghost use Rattle.std.specs.List.{AllByRecursion};
-ghost use Rattle.mesa_file.specs.declared.damage.Damage.{Damage as AnyDamage};
 ghost use Rattle.mesa_value.specs.declared.Agg.{Agg as AnyAgg};
 ghost use Rattle.mesa_schema.specs.declared.rows.Row.{Row as AnyRow};
-ghost use Rattle.mesa_schema.specs.Columns.{Columns, aggs_of};
-ghost use Rattle.mesa_schema.specs.Folded.{folded, rows_of};
-ghost use Rattle.mesa_schema.specs.Rows.{IsRowOf};
-ghost use Rattle.mesa_fold.specs.Bound.{KeepsBound};
+ghost use Rattle.mesa_schema.specs.Columns.{Columns};
+ghost use Rattle.mesa_schema.specs.Folded.{folded};
 ghost use Rattle.mesa_delta.specs.declared.error.FileError.{FileError as AnyError};
-ghost use Rattle.mesa_delta.specs.declared.error.FileError.TheVariants as file_error;
 ghost use Rattle.mesa_cursor.specs.Cursors.{IsInput};
-ghost use Rattle.mesa_merge.specs.Faults.{HaveFaultCause, faults_of};
-ghost use Rattle.mesa_merge.specs.Inputs.{AreAll, AreInputs, AreTold, knowns_of, lifted_parts};
+ghost use Rattle.mesa_merge.specs.Inputs.{AreInputs};
 
 use crate::making::{Parts, parts_of};
 use crate::next::{begin, next_row};
@@ -38,6 +33,7 @@ pub struct Merge<R> {
 }
 
 impl<R: FileReader> Merge<R> {
+    ghost use Rattle.mesa_merge.specs.Calls.{IsNextOf};
     ghost use Rattle.mesa_merge.specs.Merged.{HasMerged, IsBegun, failed_of, hands_in, inputs_of, nothing_given};
 
     /// A merge of inputs in version order, whose rows are lifted to one schema. Nothing is read yet.
@@ -69,28 +65,9 @@ impl<R: FileReader> Merge<R> {
     /// The next row of the fold; None at the end of all inputs. After an Err each call answers the same Err.
     pub fn next(&mut self) -> Result<Option<Row>, FileError>
         requires { IfNone (failed_of self.old) ((s : Columns) × (givens : List (List AnyRow)) × HasMerged R.bytes s self.old givens) }
-
-        // What was given folds to one row more.
-        ensures some { IfOk result (λ o. IfSome o (λ row. (s : Columns) (givens : List (List AnyRow)) → HasMerged R.bytes s self.old givens
-            → (after : List (List AnyRow)) × HasMerged R.bytes s self.new after × (folded (aggs_of s) after ≡ folded (aggs_of s) givens ++ row ∷ []) × IsRowOf s row)) }
-
-        // Or each input has given all of its rows.
-        ensures none { IfOk result (λ o. IfNone o ((s : Columns) (givens : List (List AnyRow)) → HasMerged R.bytes s self.old givens
-            → HasMerged R.bytes s self.new givens × AreAll (knowns_of R.bytes (inputs_of self.new)) givens)) }
-
-        // An Err stays.
+        ensures next { failed_of self.old ≡ None → IsNextOf R.bytes R.faults R.size self.old self.new result }
         ensures failed { IfErr result (λ e. failed_of self.new ≡ Some e) }
         ensures again { (e : AnyError) → failed_of self.old ≡ Some e → (result ≡ Err e) × (self.new ≡ self.old) }
-
-        // The inputs stay the same, whatever is answered.
-        ensures known { knowns_of R.bytes (inputs_of self.new) ≡ knowns_of R.bytes (inputs_of self.old) }
-        ensures inputs { AllByRecursion (IsInput R.bytes) (inputs_of self.old) → AllByRecursion (IsInput R.bytes) (inputs_of self.new) }
-
-        // Read comes where a count of the readers rose. Damaged never comes where the inputs are the recorded files
-        // and the absolute values of each sum column of their lifted rows keep the bound.
-        ensures cause { failed_of self.old ≡ None → HaveFaultCause (λ e. e ≡ file_error.Read) (faults_of R.faults (inputs_of self.old)) (faults_of R.faults (inputs_of self.new)) result }
-        ensures accepts { IfErr result (λ e. (d : AnyDamage) → e ≡ file_error.Damaged d → (s : Columns) (givens : List (List AnyRow)) → HasMerged R.bytes s self.old givens
-            → (contents : List (List AnyRow)) → AreTold (knowns_of R.bytes (inputs_of self.old)) contents → KeepsBound (aggs_of s) [] (rows_of (lifted_parts (knowns_of R.bytes (inputs_of self.old)) contents)) → ⊥) }
     {
         match self.failed {
             Some(error) => Err(error),
@@ -98,19 +75,11 @@ impl<R: FileReader> Merge<R> {
         }
     }
 
-    // The next row of a merge that has not failed.
+    // The next row of a merge that has not failed. An Err is kept.
     fn go_on(&mut self) -> Result<Option<Row>, FileError>
         requires { (s : Columns) × (givens : List (List AnyRow)) × HasMerged R.bytes s self.old givens }
-        ensures some { IfOk result (λ o. IfSome o (λ row. (s : Columns) (givens : List (List AnyRow)) → HasMerged R.bytes s self.old givens
-            → (after : List (List AnyRow)) × HasMerged R.bytes s self.new after × (folded (aggs_of s) after ≡ folded (aggs_of s) givens ++ row ∷ []) × IsRowOf s row)) }
-        ensures none { IfOk result (λ o. IfNone o ((s : Columns) (givens : List (List AnyRow)) → HasMerged R.bytes s self.old givens
-            → HasMerged R.bytes s self.new givens × AreAll (knowns_of R.bytes (inputs_of self.new)) givens)) }
+        ensures next { IsNextOf R.bytes R.faults R.size self.old self.new result }
         ensures failed { IfErr result (λ e. failed_of self.new ≡ Some e) }
-        ensures known { knowns_of R.bytes (inputs_of self.new) ≡ knowns_of R.bytes (inputs_of self.old) }
-        ensures inputs { AllByRecursion (IsInput R.bytes) (inputs_of self.old) → AllByRecursion (IsInput R.bytes) (inputs_of self.new) }
-        ensures cause { HaveFaultCause (λ e. e ≡ file_error.Read) (faults_of R.faults (inputs_of self.old)) (faults_of R.faults (inputs_of self.new)) result }
-        ensures accepts { IfErr result (λ e. (d : AnyDamage) → e ≡ file_error.Damaged d → (s : Columns) (givens : List (List AnyRow)) → HasMerged R.bytes s self.old givens
-            → (contents : List (List AnyRow)) → AreTold (knowns_of R.bytes (inputs_of self.old)) contents → KeepsBound (aggs_of s) [] (rows_of (lifted_parts (knowns_of R.bytes (inputs_of self.old)) contents)) → ⊥) }
     {
         match self.step() {
             Ok(row) => Ok(row),
@@ -124,15 +93,7 @@ impl<R: FileReader> Merge<R> {
     // The next row, after the first blocks were read.
     fn step(&mut self) -> Result<Option<Row>, FileError>
         requires { (s : Columns) × (givens : List (List AnyRow)) × HasMerged R.bytes s self.old givens }
-        ensures some { IfOk result (λ o. IfSome o (λ row. (s : Columns) (givens : List (List AnyRow)) → HasMerged R.bytes s self.old givens
-            → (after : List (List AnyRow)) × HasMerged R.bytes s self.new after × (folded (aggs_of s) after ≡ folded (aggs_of s) givens ++ row ∷ []) × IsRowOf s row)) }
-        ensures none { IfOk result (λ o. IfNone o ((s : Columns) (givens : List (List AnyRow)) → HasMerged R.bytes s self.old givens
-            → HasMerged R.bytes s self.new givens × AreAll (knowns_of R.bytes (inputs_of self.new)) givens)) }
-        ensures known { knowns_of R.bytes (inputs_of self.new) ≡ knowns_of R.bytes (inputs_of self.old) }
-        ensures inputs { AllByRecursion (IsInput R.bytes) (inputs_of self.old) → AllByRecursion (IsInput R.bytes) (inputs_of self.new) }
-        ensures cause { HaveFaultCause (λ e. e ≡ file_error.Read) (faults_of R.faults (inputs_of self.old)) (faults_of R.faults (inputs_of self.new)) result }
-        ensures accepts { IfErr result (λ e. (d : AnyDamage) → e ≡ file_error.Damaged d → (s : Columns) (givens : List (List AnyRow)) → HasMerged R.bytes s self.old givens
-            → (contents : List (List AnyRow)) → AreTold (knowns_of R.bytes (inputs_of self.old)) contents → KeepsBound (aggs_of s) [] (rows_of (lifted_parts (knowns_of R.bytes (inputs_of self.old)) contents)) → ⊥) }
+        ensures { IsNextOf R.bytes R.faults R.size self.old self.new result }
     {
         if self.begun {
             return self.further();
@@ -149,15 +110,7 @@ impl<R: FileReader> Merge<R> {
     // The next row, where the first blocks were read.
     fn further(&mut self) -> Result<Option<Row>, FileError>
         requires { (s : Columns) × (givens : List (List AnyRow)) × HasMerged R.bytes s self.old givens × IsBegun self.old }
-        ensures some { IfOk result (λ o. IfSome o (λ row. (s : Columns) (givens : List (List AnyRow)) → HasMerged R.bytes s self.old givens
-            → (after : List (List AnyRow)) × HasMerged R.bytes s self.new after × (folded (aggs_of s) after ≡ folded (aggs_of s) givens ++ row ∷ []) × IsRowOf s row)) }
-        ensures none { IfOk result (λ o. IfNone o ((s : Columns) (givens : List (List AnyRow)) → HasMerged R.bytes s self.old givens
-            → HasMerged R.bytes s self.new givens × AreAll (knowns_of R.bytes (inputs_of self.new)) givens)) }
-        ensures known { knowns_of R.bytes (inputs_of self.new) ≡ knowns_of R.bytes (inputs_of self.old) }
-        ensures inputs { AllByRecursion (IsInput R.bytes) (inputs_of self.old) → AllByRecursion (IsInput R.bytes) (inputs_of self.new) }
-        ensures cause { HaveFaultCause (λ e. e ≡ file_error.Read) (faults_of R.faults (inputs_of self.old)) (faults_of R.faults (inputs_of self.new)) result }
-        ensures accepts { IfErr result (λ e. (d : AnyDamage) → e ≡ file_error.Damaged d → (s : Columns) (givens : List (List AnyRow)) → HasMerged R.bytes s self.old givens
-            → (contents : List (List AnyRow)) → AreTold (knowns_of R.bytes (inputs_of self.old)) contents → KeepsBound (aggs_of s) [] (rows_of (lifted_parts (knowns_of R.bytes (inputs_of self.old)) contents)) → ⊥) }
+        ensures { IsNextOf R.bytes R.faults R.size self.old self.new result }
     {
         next_row(
             &mut self.inputs,

@@ -9,6 +9,7 @@ ghost use Rattle.mesa_schema.specs.Rows.{IsRowOf};
 ghost use Rattle.mesa_fold.specs.Bound.{KeepsBound};
 ghost use Rattle.mesa_delta.specs.declared.error.FileError.TheVariants as file_error;
 ghost use Rattle.mesa_cursor.specs.Cursors.{IsInput};
+ghost use Rattle.mesa_merge.specs.Damaged.{IsBlockOf, IsDamageOf};
 ghost use Rattle.mesa_merge.specs.Faults.{HaveFaultCause, faults_of};
 ghost use Rattle.mesa_merge.specs.Hands.{hands_of};
 ghost use Rattle.mesa_merge.specs.Inputs.{AreAlike, AreAll, AreTold, knowns_of, lifted_parts};
@@ -39,6 +40,7 @@ pub(crate) fn begin<R: FileReader>(
     ensures known { knowns_of R.bytes inputs.new ≡ knowns_of R.bytes inputs.old }
     ensures inputs { AllByRecursion (IsInput R.bytes) inputs.old → AllByRecursion (IsInput R.bytes) inputs.new }
     ensures cause { HaveFaultCause (λ e. e ≡ file_error.Read) (faults_of R.faults inputs.old) (faults_of R.faults inputs.new) result }
+    ensures damaged { IfErr result (λ e. (d : AnyDamage) → e ≡ file_error.Damaged d → AllByRecursion (IsInput R.bytes) inputs.old → IsBlockOf R.bytes R.size (knowns_of R.bytes inputs.old) d) }
     ensures accepts { IfErr result (λ e. (d : AnyDamage) → e ≡ file_error.Damaged d → AllByRecursion (IsInput R.bytes) inputs.old → (contents : List (List AnyRow)) → AreTold (knowns_of R.bytes inputs.old) contents → ⊥) }
 {
     'inputs: for i in 0..inputs.len() {
@@ -66,6 +68,7 @@ pub(crate) fn next_row<R: FileReader>(
     ensures known { knowns_of R.bytes inputs.new ≡ knowns_of R.bytes inputs.old }
     ensures inputs { AllByRecursion (IsInput R.bytes) inputs.old → AllByRecursion (IsInput R.bytes) inputs.new }
     ensures cause { HaveFaultCause (λ e. e ≡ file_error.Read) (faults_of R.faults inputs.old) (faults_of R.faults inputs.new) result }
+    ensures damaged { IfErr result (λ e. (d : AnyDamage) → e ≡ file_error.Damaged d → IsDamageOf R.bytes R.size inputs.new d) }
     ensures accepts { IfErr result (λ e. (d : AnyDamage) → e ≡ file_error.Damaged d → (s : Columns) (givens : List (List AnyRow)) → (0 < length inputs.old → aggs.now ≡ aggs_of s) → IsMerging R.bytes s inputs.old cursors.old givens
         → (contents : List (List AnyRow)) → AreTold (knowns_of R.bytes inputs.old) contents → KeepsBound (aggs_of s) [] (rows_of (lifted_parts (knowns_of R.bytes inputs.old) contents)) → ⊥) }
 {

@@ -7,6 +7,7 @@ ghost use Rattle.mesa_schema.specs.Columns.{Columns};
 ghost use Rattle.mesa_schema.specs.Rows.{IsRowOf};
 ghost use Rattle.mesa_delta.specs.declared.error.FileError.TheVariants as file_error;
 ghost use Rattle.mesa_cursor.specs.Cursors.{IsInput};
+ghost use Rattle.mesa_merge.specs.Damaged.{IsBlockOf};
 ghost use Rattle.mesa_merge.specs.Faults.{HaveFaultCause, faults_of};
 ghost use Rattle.mesa_merge.specs.Hands.{IsAhead, hands_of};
 ghost use Rattle.mesa_merge.specs.Inputs.{AreAlike, AreTold, knowns_of};
@@ -51,6 +52,7 @@ pub(crate) fn advance<R: FileReader>(
     ensures known { knowns_of R.bytes inputs.new ≡ knowns_of R.bytes inputs.old }
     ensures inputs { AllByRecursion (IsInput R.bytes) inputs.old → AllByRecursion (IsInput R.bytes) inputs.new }
     ensures cause { HaveFaultCause (λ e. e ≡ file_error.Read) (faults_of R.faults inputs.old) (faults_of R.faults inputs.new) result }
+    ensures damaged { IfErr result (λ e. (d : AnyDamage) → e ≡ file_error.Damaged d → AllByRecursion (IsInput R.bytes) inputs.old → IsBlockOf R.bytes R.size (knowns_of R.bytes inputs.old) d) }
     ensures accepts { IfErr result (λ e. (d : AnyDamage) → e ≡ file_error.Damaged d → AllByRecursion (IsInput R.bytes) inputs.old → (contents : List (List AnyRow)) → AreTold (knowns_of R.bytes inputs.old) contents → ⊥) }
 {
     let cursor = &mut cursors[i];

@@ -1,14 +1,17 @@
-use Rattle.std.proofs.Common.{◌≡◌, ◌<◌, ◌+◌, ◌++◌, ◌∷◌, [], ℕ, get_or, length, set, refl, sym, ◌∙◌, ap, subst, arith, true, false}
+use Rattle.std.proofs.Common.{◌≡◌, inl, inr, ◌<◌, ◌+◌, ◌++◌, ◌∷◌, [], ℕ, get_or, length, set, refl, sym, ◌∙◌, ap, subst, arith, true, false}
+use Rattle.mesa_schema.specs.declared.rows.Row.{Row}
 use Rattle.mesa_schema.specs.Columns.{aggs_of}
 use Rattle.mesa_schema.specs.Folded.{AllCombine, row_combined}
 use Rattle.mesa_delta.specs.declared.error.FileError.TheVariants.{Damaged, Read}
+use Rattle.mesa_merge.specs.Damaged.{IsBlockOf}
 use Rattle.mesa_merge.specs.Hands.{IsAhead, IsFrom, IsLeastOf, hands_of}
 use Rattle.mesa_merge.specs.Inputs.{AreTold, knowns_of, lifted_parts}
 use Rattle.mesa_merge.specs.Merging.{AreReady}
-use Rattle.mesa_merge.specs.Sums.{sum_damage}
+use Rattle.mesa_merge.specs.Sums.{IsNewest, sum_damage}
 use Rattle.mesa_merge.proofs.Bounds.{sum_stays}
 use Rattle.mesa_merge.proofs.Causing.{cause_on, cause_other, cause_quiet}
 use Rattle.mesa_merge.proofs.Combining.{aggs_count, gather_done, gather_later, gather_more}
+use Rattle.mesa_merge.proofs.Damages.{sum_of, taken_key}
 use Rattle.mesa_merge.proofs.Ending.{AreFronts, givens_fronts}
 use Rattle.mesa_merge.proofs.Inputs.{givens_count, givens_inputs}
 use Rattle.mesa_merge.proofs.gathering.gather.Goals as goal
@@ -131,3 +134,43 @@ returns-clause-cause g c = cause_quiet _ _ _ c.same.invariant.faults
 
 pub file_at-requires : goal.file_at-requires
 file_at-requires g c = (c.type_bounds.send-R, omega (arith, c.newest_with-newest.ensures.within, c.same.invariant.count, c.advance.auto.inputs, c.advance.auto.cursors))
+
+pub returns-in-Err-clause-damaged : goal.returns-in-Err-clause-damaged
+returns-in-Err-clause-damaged g c = λ d e.
+    let bytes = g.R.FileReader.bytes in
+    let start = c.requires.gathering in
+    inl (subst (λ ks. IsBlockOf bytes g.R.FileReader.size ks d) (sym c.in-Err.ensures.known) (c.in-Err.ensures.damaged d e (c.same.invariant.inputs (givens_inputs bytes c.args.inputs.now c.args.cursors.now start.2 start.4.given))))
+
+pub returns-then-not-combines_all-clause-damaged : goal.returns-then-not-combines_all-clause-damaged
+returns-then-not-combines_all-clause-damaged g c = λ d e.
+    let bytes = g.R.FileReader.bytes in
+    let start = c.requires.gathering in
+    let inv = c.same.invariant in
+    let i = c.in-Some.i in
+    let more = c.in-Some-taken.more in
+    let s = start.0 in
+    let now = inv.stage s start.1 start.2 start.3 start.4 in
+    let there = rw c.in-Some-taken.is at c.in-Ok.ensures.there in
+    let given = rw c.in-Some-taken.is at c.in-Ok.ensures.given in
+    let form = rw c.in-Some-taken.is at c.in-Ok.ensures.form in
+    let above = rw c.in-Some-taken.is at c.in-Ok.ensures.above in
+    let lt : i < length c.same.inputs = omega (arith, c.in-Some.ensures.within, inv.count) in
+    let within : i < length now.0 = omega (arith, lt, givens_count bytes c.same.inputs c.same.cursors now.0 now.1.given) in
+    let least : IsLeastOf c.same.row.key i (hands_of c.same.cursors) = subst (λ k. IsLeastOf k i (hands_of c.same.cursors)) c.as_slice.ensures c.in-Some.ensures.least in
+    let next : Row = record c.same.row { values = row_combined (aggs_of s) c.same.row.values more.values } in
+    let after = gather_more c.folds_go_on.ensures.given bytes s c.same.inputs c.advance.new.inputs c.same.cursors c.advance.new.cursors (c.same.from + 1) i c.same.row more next start.1 now.0 now.1 least
+    (record {
+      within = lt;
+      rows = there.0;
+      there = there.1;
+      given = given now.0 now.1.given;
+      form = form s now.0 now.1.alike now.1.given;
+      ahead = above now.0 now.1.given;
+      others = c.in-Ok.ensures.others;
+      ready = subst (λ n. AreReady n c.advance.new.inputs c.advance.new.cursors) (sym c.advance.auto.inputs) (c.in-Ok.ensures.ready (length c.same.inputs) now.1.ready);
+      known = c.in-Ok.ensures.known;
+    }) refl in
+    let file = c.file_at.ensures in
+    let newest = subst (λ k. IsNewest k i c.newest_with-newest.result (hands_of c.advance.new.cursors)) c.as_slice-then-not-combines_all.ensures c.newest_with-newest.ensures.newest in
+    let told : d ≡ sum_damage file.0.file.file = let both : Damaged (sum_damage c.file_at.result) ≡ Damaged d = sym c.sum_fault.ensures ∙ e in let one : d ≡ sum_damage c.file_at.result = cc in one ∙ ap sum_damage file.2 in
+    inr (sum_of bytes s c.advance.new.inputs c.advance.new.cursors i c.newest_with-newest.result next start.1 _ file.0 d after (taken_key c.same.row.key i (hands_of c.same.cursors) now.0 more there.0 least there.1 within) newest file.1 told)

@@ -1,4 +1,5 @@
 use Rattle.std.proofs.Common.{◌≡◌, ◌≢◌, ◌≤◌, [], get_or, length, refl, sym, ◌∙◌, subst, arith}
+use Rattle.mesa_merge.specs.Damaged.{IsBlockOf}
 use Rattle.mesa_merge.specs.Hands.{hands_of}
 use Rattle.mesa_merge.specs.Inputs.{AreAlike, AreTold}
 use Rattle.mesa_merge.specs.Merging.{AreReady}
@@ -49,3 +50,8 @@ returns-clause-merging g c = λ s givens alike h none.
 
 pub returns-clause-cause : goal.returns-clause-cause
 returns-clause-cause g c = cause_quiet _ _ _ c.inputs.invariant.faults
+
+pub returns-in-Err-clause-damaged : goal.returns-in-Err-clause-damaged
+returns-in-Err-clause-damaged g c = λ d e all.
+    let inv = c.inputs.invariant in
+    subst (λ ks. IsBlockOf g.R.FileReader.bytes g.R.FileReader.size ks d) inv.known (c.in-Err.ensures.damaged d e (inv.kept all))

@@ -1,7 +1,8 @@
-use Rattle.std.proofs.Common.{◌≡◌, ◌<◌, ◌++◌, ◌∷◌, [], get_or, length, set, refl, sym, subst, arith}
+use Rattle.std.proofs.Common.{inl, ◌≡◌, ◌<◌, ◌++◌, ◌∷◌, [], get_or, length, set, refl, sym, subst, arith}
 use Rattle.mesa_schema.specs.Columns.{aggs_of}
 use Rattle.mesa_schema.specs.Folded.{folded, rows_of}
 use Rattle.mesa_fold.specs.Bound.{KeepsBound}
+use Rattle.mesa_merge.specs.Damaged.{IsBlockOf}
 use Rattle.mesa_merge.specs.Inputs.{AreTold, knowns_of, lifted_parts}
 use Rattle.mesa_merge.specs.Merging.{AreReady}
 use Rattle.mesa_merge.proofs.Causing.{cause_on, cause_quiet}
@@ -126,3 +127,9 @@ returns-in-Err-gather-clause-accepts g c = λ d e s givens columns m contents to
       ready = subst (λ n. AreReady n c.advance.new.inputs c.advance.new.cursors) (sym c.advance.auto.inputs) (c.in-Ok.ensures.ready (length c.args.inputs.now) m.ready);
       known = c.in-Ok.ensures.known;
     })) contents (subst (λ ks. AreTold ks contents) (sym known) told) (subst (λ ks. KeepsBound (aggs_of s) [] (rows_of (lifted_parts ks contents))) (sym known) bound)
+
+pub returns-in-Err-clause-damaged : goal.returns-in-Err-clause-damaged
+returns-in-Err-clause-damaged g c = λ d e.
+    let bytes = g.R.FileReader.bytes in
+    let m = c.requires.merging in
+    inl (subst (λ ks. IsBlockOf bytes g.R.FileReader.size ks d) (sym c.in-Err.ensures.known) (c.in-Err.ensures.damaged d e (givens_inputs bytes c.args.inputs.now c.args.cursors.now m.1 m.3.given)))

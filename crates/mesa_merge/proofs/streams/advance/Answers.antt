@@ -1,13 +1,13 @@
 use Rattle.std.proofs.Common.{◌≡◌, ◌<◌, ◌≤◌, ◌+◌, ◌/◌, ℕ, [], ◌∷◌, ◌++◌, get_or, length, set, refl, sym, ◌∙◌, subst, arith, add-one}
 use Rattle.std.proofs.lemmas.List.{length-set}
 use Rattle.mesa_schema.specs.Rows.{AreRowsOf}
-use Rattle.mesa_cursor.specs.Cursors.{at_hand}
+use Rattle.mesa_cursor.specs.Cursors.{at_hand, next_of}
 use Rattle.mesa_merge.specs.Hands.{IsAhead, IsBefore, hands_of}
 use Rattle.mesa_merge.specs.Matches.{above}
 use Rattle.mesa_merge.specs.Merging.{AreReady, HasGivens}
 use Rattle.mesa_merge.proofs.Cases.{if_none, if_some}
 use Rattle.mesa_merge.proofs.Hands.{hand_of_get, hand_other, hand_same, hands_length}
-use Rattle.mesa_merge.proofs.Inputs.{alike_at, cause_at, given_at, given_set, inputs_at, inputs_set, known_set, ready_more, ready_set, set_same, told_at}
+use Rattle.mesa_merge.proofs.Inputs.{alike_at, cause_at, given_at, given_set, inputs_at, inputs_set, known_get, known_set, ready_more, ready_set, set_same, told_at}
 use Rattle.mesa_merge.proofs.Stages.{ahead_of_hand}
 use Rattle.mesa_merge.proofs.Taking.{hand_form, not_taken, taken}
 use Rattle.mesa_merge.proofs.Trees.{changed_won}
@@ -119,3 +119,17 @@ returns-in-Err-clause-accepts g c = λ d e all contents told.
     let bytes = g.R.FileReader.bytes in
     let one = told_at bytes c.args.inputs.now contents c.args.i c.index-inputs-i.result told c.requires.within in
     c.in-Err.ensures.accepts d e (inputs_at bytes c.args.inputs.now c.args.i c.index-inputs-i.result all c.requires.within) one.0 (get_or contents c.args.i []) one.1 one.2
+
+pub returns-in-Err-clause-damaged : goal.returns-in-Err-clause-damaged
+returns-in-Err-clause-damaged g c = λ d e all.
+    let bytes = g.R.FileReader.bytes in
+    let is = c.args.inputs.now in
+    let i = c.args.i in
+    let input = inputs_at bytes is i c.index-inputs-i.result all c.requires.within in
+    let told = c.in-Err.ensures.damaged d e input in
+    record {
+      at = i;
+      input = get_or is i c.index-inputs-i.result;
+      one = known_get bytes is i c.index-inputs-i.result c.requires.within;
+      damaged = record { block = next_of c.take-row.new.self; before = told.0; shown = told.1; unsound = c.in-Err.ensures.accepts d e input };
+    }

@@ -5,6 +5,7 @@ use Rattle.mesa_schema.specs.Folded.{rows_of}
 use Rattle.mesa_fold.specs.Bound.{KeepsBound}
 use Rattle.mesa_cursor.specs.declared.cursor.Cursor.{Cursor}
 use Rattle.mesa_cursor.specs.Cursors.{IsInput}
+use Rattle.mesa_merge.specs.Damaged.{IsDamageOf}
 use Rattle.mesa_merge.specs.Faults.{faults_of}
 use Rattle.mesa_merge.specs.Hands.{hands_of}
 use Rattle.mesa_merge.specs.Inputs.{AreAll, AreTold, knowns_of, lifted_parts}
@@ -32,56 +33,39 @@ next_row-requires-clause-merging g c = λ _ _.
       subst (λ is. IsMerging bytes s is c.deref_mut-2.result.now c.requires.1) (sym c.deref_mut.ensures.value) (subst (λ cs. IsMerging bytes s m.inputs.items cs c.requires.1) (sym c.deref_mut-2.ensures.value) (h.merging c.requires.3)),
     )
 
-pub returns-clause-some : goal.returns-clause-some
-returns-clause-some g c =
+pub returns : goal.returns
+returns g c =
     let bytes = g.R.FileReader.bytes in
     let m = c.args.self.now in
     let ei = refill m.inputs.len m.inputs.items c.next_row.new.inputs (sym m.inputs.ok.0) (c.next_row.auto.inputs ∙ ap length c.deref_mut.ensures.value) in
     let ec = refill m.cursors.len m.cursors.items c.next_row.new.cursors (sym m.cursors.ok.0) (c.next_row.auto.cursors ∙ ap length c.deref_mut-2.ensures.value) in
     let ew = refill m.winners.len m.winners.items c.next_row.new.winners (sym m.winners.ok.0) (c.next_row.auto.winners ∙ ap length c.deref_mut-3.ensures.value) in
-    if_ok2 c.next_row.result _ _ _ (λ o tree some. if_some o _ _ (λ row more s givens h.
-    let merging = subst (λ is. IsMerging bytes s is c.deref_mut-2.result.now givens) (sym c.deref_mut.ensures.value) (subst (λ cs. IsMerging bytes s m.inputs.items cs givens) (sym c.deref_mut-2.ensures.value) (h.merging c.requires.3)) in
-    let next = more s givens (λ any. c.deref.ensures.value ∙ h.columns (subst (λ is. 0 < length is) c.deref_mut.ensures.value any)) merging in
-    let columns : 0 < length c.next_row.new.inputs → m.aggs.items ≡ aggs_of s = λ any. h.columns (omega (arith, any, c.next_row.auto.inputs, ap length c.deref_mut.ensures.value)) in
-    (next.0, merged_with bytes s _ c.next_row.new.inputs c.next_row.new.cursors c.next_row.new.winners next.0 ei ec ew c.requires.3 h.going columns tree next.1, next.2, next.3)) some) c.next_row.ensures.tree c.next_row.ensures.some
-
-pub returns-clause-none : goal.returns-clause-none
-returns-clause-none g c =
-    let bytes = g.R.FileReader.bytes in
-    let m = c.args.self.now in
-    let ei = refill m.inputs.len m.inputs.items c.next_row.new.inputs (sym m.inputs.ok.0) (c.next_row.auto.inputs ∙ ap length c.deref_mut.ensures.value) in
-    let ec = refill m.cursors.len m.cursors.items c.next_row.new.cursors (sym m.cursors.ok.0) (c.next_row.auto.cursors ∙ ap length c.deref_mut-2.ensures.value) in
-    let ew = refill m.winners.len m.winners.items c.next_row.new.winners (sym m.winners.ok.0) (c.next_row.auto.winners ∙ ap length c.deref_mut-3.ensures.value) in
-    if_ok2 c.next_row.result _ _ _ (λ o tree none. if_none o _ _ (λ more s givens h.
-    let merging = subst (λ is. IsMerging bytes s is c.deref_mut-2.result.now givens) (sym c.deref_mut.ensures.value) (subst (λ cs. IsMerging bytes s m.inputs.items cs givens) (sym c.deref_mut-2.ensures.value) (h.merging c.requires.3)) in
-    let all = more s givens merging in
-    let columns : 0 < length c.next_row.new.inputs → m.aggs.items ≡ aggs_of s = λ any. h.columns (omega (arith, any, c.next_row.auto.inputs, ap length c.deref_mut.ensures.value)) in
-    (merged_with bytes s _ c.next_row.new.inputs c.next_row.new.cursors c.next_row.new.winners givens ei ec ew c.requires.3 h.going columns tree all.1, subst (λ is. AreAll (knowns_of bytes is) givens) (sym ei) all.0)) none) c.next_row.ensures.tree c.next_row.ensures.none
-
-pub returns-clause-known : goal.returns-clause-known
-returns-clause-known g c =
-    let m = c.args.self.now in
-    let ei = refill m.inputs.len m.inputs.items c.next_row.new.inputs (sym m.inputs.ok.0) (c.next_row.auto.inputs ∙ ap length c.deref_mut.ensures.value) in
-    ap (knowns_of g.R.FileReader.bytes) ei ∙ c.next_row.ensures.known ∙ ap (knowns_of g.R.FileReader.bytes) c.deref_mut.ensures.value
-
-pub returns-clause-inputs : goal.returns-clause-inputs
-returns-clause-inputs g c = λ all.
-    let m = c.args.self.now in
-    let ei = refill m.inputs.len m.inputs.items c.next_row.new.inputs (sym m.inputs.ok.0) (c.next_row.auto.inputs ∙ ap length c.deref_mut.ensures.value) in
-    subst (AllByRecursion (IsInput g.R.FileReader.bytes)) (sym ei) (c.next_row.ensures.inputs (subst (AllByRecursion (IsInput g.R.FileReader.bytes)) (sym c.deref_mut.ensures.value) all))
-
-pub returns-clause-cause : goal.returns-clause-cause
-returns-clause-cause g c =
-    let m = c.args.self.now in
-    let ei = refill m.inputs.len m.inputs.items c.next_row.new.inputs (sym m.inputs.ok.0) (c.next_row.auto.inputs ∙ ap length c.deref_mut.ensures.value) in
-    cause_kept c.next_row.result _ _ _ _ (ap (faults_of g.R.FileReader.faults) c.deref_mut.ensures.value) (sym (ap (faults_of g.R.FileReader.faults) ei)) c.next_row.ensures.cause
-
-pub returns-clause-accepts : goal.returns-clause-accepts
-returns-clause-accepts g c =
-    let bytes = g.R.FileReader.bytes in
-    let m = c.args.self.now in
-    if_err c.next_row.result _ _ (λ e accepts d is s givens h contents told bound.
-    let merging = subst (λ xs. IsMerging bytes s xs c.deref_mut-2.result.now givens) (sym c.deref_mut.ensures.value) (subst (λ cs. IsMerging bytes s m.inputs.items cs givens) (sym c.deref_mut-2.ensures.value) (h.merging c.requires.3)) in
-    accepts d is s givens (λ any. c.deref.ensures.value ∙ h.columns (subst (λ xs. 0 < length xs) c.deref_mut.ensures.value any)) merging contents
-    (subst (λ xs. AreTold (knowns_of bytes xs) contents) (sym c.deref_mut.ensures.value) told)
-    (subst (λ xs. KeepsBound (aggs_of s) [] (rows_of (lifted_parts (knowns_of bytes xs) contents))) (sym c.deref_mut.ensures.value) bound)) c.next_row.ensures.accepts
+    record {
+      some =
+      if_ok2 c.next_row.result _ _ _ (λ o tree some. if_some o _ _ (λ row more s givens h.
+      let merging = subst (λ is. IsMerging bytes s is c.deref_mut-2.result.now givens) (sym c.deref_mut.ensures.value) (subst (λ cs. IsMerging bytes s m.inputs.items cs givens) (sym c.deref_mut-2.ensures.value) (h.merging c.requires.3)) in
+      let next = more s givens (λ any. c.deref.ensures.value ∙ h.columns (subst (λ is. 0 < length is) c.deref_mut.ensures.value any)) merging in
+      let columns : 0 < length c.next_row.new.inputs → m.aggs.items ≡ aggs_of s = λ any. h.columns (omega (arith, any, c.next_row.auto.inputs, ap length c.deref_mut.ensures.value)) in
+      (next.0, merged_with bytes s _ c.next_row.new.inputs c.next_row.new.cursors c.next_row.new.winners next.0 ei ec ew c.requires.3 h.going columns tree next.1, next.2, next.3)) some) c.next_row.ensures.tree c.next_row.ensures.some;
+      none =
+      if_ok2 c.next_row.result _ _ _ (λ o tree none. if_none o _ _ (λ more s givens h.
+      let merging = subst (λ is. IsMerging bytes s is c.deref_mut-2.result.now givens) (sym c.deref_mut.ensures.value) (subst (λ cs. IsMerging bytes s m.inputs.items cs givens) (sym c.deref_mut-2.ensures.value) (h.merging c.requires.3)) in
+      let all = more s givens merging in
+      let columns : 0 < length c.next_row.new.inputs → m.aggs.items ≡ aggs_of s = λ any. h.columns (omega (arith, any, c.next_row.auto.inputs, ap length c.deref_mut.ensures.value)) in
+      (merged_with bytes s _ c.next_row.new.inputs c.next_row.new.cursors c.next_row.new.winners givens ei ec ew c.requires.3 h.going columns tree all.1, subst (λ is. AreAll (knowns_of bytes is) givens) (sym ei) all.0)) none) c.next_row.ensures.tree c.next_row.ensures.none;
+      known =
+      ap (knowns_of g.R.FileReader.bytes) ei ∙ c.next_row.ensures.known ∙ ap (knowns_of g.R.FileReader.bytes) c.deref_mut.ensures.value;
+      inputs =
+      λ all.
+      subst (AllByRecursion (IsInput g.R.FileReader.bytes)) (sym ei) (c.next_row.ensures.inputs (subst (AllByRecursion (IsInput g.R.FileReader.bytes)) (sym c.deref_mut.ensures.value) all));
+      cause =
+      cause_kept c.next_row.result _ _ _ _ (ap (faults_of g.R.FileReader.faults) c.deref_mut.ensures.value) (sym (ap (faults_of g.R.FileReader.faults) ei)) c.next_row.ensures.cause;
+      accepts =
+      if_err c.next_row.result _ _ (λ e accepts d is s givens h contents told bound.
+      let merging = subst (λ xs. IsMerging bytes s xs c.deref_mut-2.result.now givens) (sym c.deref_mut.ensures.value) (subst (λ cs. IsMerging bytes s m.inputs.items cs givens) (sym c.deref_mut-2.ensures.value) (h.merging c.requires.3)) in
+      accepts d is s givens (λ any. c.deref.ensures.value ∙ h.columns (subst (λ xs. 0 < length xs) c.deref_mut.ensures.value any)) merging contents
+      (subst (λ xs. AreTold (knowns_of bytes xs) contents) (sym c.deref_mut.ensures.value) told)
+      (subst (λ xs. KeepsBound (aggs_of s) [] (rows_of (lifted_parts (knowns_of bytes xs) contents))) (sym c.deref_mut.ensures.value) bound)) c.next_row.ensures.accepts;
+      damaged =
+      if_err c.next_row.result _ _ (λ e damaged d is. subst (λ xs. IsDamageOf bytes g.R.FileReader.size xs d) (sym ei) (damaged d is)) c.next_row.ensures.damaged;
+    }

@@ -1,10 +1,11 @@
-use Rattle.std.proofs.Common.{◌≡◌, [], ℕ, List, length, get_or, refl, sym, ◌∙◌, ap, subst, arith}
+use Rattle.std.proofs.Common.{inl, ◌≡◌, [], ℕ, List, length, get_or, refl, sym, ◌∙◌, ap, subst, arith}
 use Rattle.std.specs.List.{AllByRecursion}
 use Rattle.mesa_schema.specs.Columns.{aggs_of}
 use Rattle.mesa_schema.specs.Folded.{rows_of}
 use Rattle.mesa_fold.specs.Bound.{KeepsBound}
 use Rattle.mesa_cursor.specs.declared.cursor.Cursor.{Cursor}
 use Rattle.mesa_cursor.specs.Cursors.{IsInput}
+use Rattle.mesa_merge.specs.Damaged.{IsBlockOf}
 use Rattle.mesa_merge.specs.Faults.{faults_of}
 use Rattle.mesa_merge.specs.Hands.{hands_of}
 use Rattle.mesa_merge.specs.Inputs.{AreAlike, AreTold, knowns_of, lifted_parts}
@@ -50,83 +51,60 @@ further-requires-in-Ok-after_bounds g c = λ _ _.
       refl,
     )
 
-pub returns-in-Ok-clause-some : goal.returns-in-Ok-clause-some
-returns-in-Ok-clause-some g c =
+pub returns-in-Ok : goal.returns-in-Ok
+returns-in-Ok g c =
     let bytes = g.R.FileReader.bytes in
-    let m = c.args.self.now in
-    let ei = refill m.inputs.len m.inputs.items c.begin.new.inputs (sym m.inputs.ok.0) (c.begin.auto.inputs ∙ ap length c.deref_mut.ensures.value) in
-    let ec = refill m.cursors.len m.cursors.items c.begin.new.cursors (sym m.cursors.ok.0) (c.begin.auto.cursors ∙ ap length c.deref_mut-2.ensures.value) in
-    let ew = refill m.winners.len m.winners.items c.begin.new.winners (sym m.winners.ok.0) (c.begin.auto.winners ∙ ap length c.deref_mut-3.ensures.value) in
-    if_ok c.further-in-Ok.result _ _ (λ o some. if_some o _ _ (λ row more s givens h. more s givens (merged_with bytes s _ c.begin.new.inputs c.begin.new.cursors c.begin.new.winners givens ei ec ew refl h.going (λ any. h.columns (omega (arith, any, c.begin.auto.inputs, ap length c.deref_mut.ensures.value))) c.in-Ok.ensures.tree
-    (c.in-Ok.ensures.merging s givens (subst (λ xs. AreAlike s (knowns_of bytes xs)) (sym c.deref_mut.ensures.value) h.alike)
-    (subst (λ xs. HasGivens bytes xs c.deref_mut-2.result.now givens) (sym c.deref_mut.ensures.value) (subst (λ cs. HasGivens bytes m.inputs.items cs givens) (sym c.deref_mut-2.ensures.value) h.given)) (h.fresh c.if-self.false)))) some) c.further-in-Ok.ensures.some
-
-pub returns-in-Ok-clause-none : goal.returns-in-Ok-clause-none
-returns-in-Ok-clause-none g c =
-    let bytes = g.R.FileReader.bytes in
-    let m = c.args.self.now in
-    let ei = refill m.inputs.len m.inputs.items c.begin.new.inputs (sym m.inputs.ok.0) (c.begin.auto.inputs ∙ ap length c.deref_mut.ensures.value) in
-    let ec = refill m.cursors.len m.cursors.items c.begin.new.cursors (sym m.cursors.ok.0) (c.begin.auto.cursors ∙ ap length c.deref_mut-2.ensures.value) in
-    let ew = refill m.winners.len m.winners.items c.begin.new.winners (sym m.winners.ok.0) (c.begin.auto.winners ∙ ap length c.deref_mut-3.ensures.value) in
-    if_ok c.further-in-Ok.result _ _ (λ o none. if_none o _ _ (λ more s givens h. more s givens (merged_with bytes s _ c.begin.new.inputs c.begin.new.cursors c.begin.new.winners givens ei ec ew refl h.going (λ any. h.columns (omega (arith, any, c.begin.auto.inputs, ap length c.deref_mut.ensures.value))) c.in-Ok.ensures.tree
-    (c.in-Ok.ensures.merging s givens (subst (λ xs. AreAlike s (knowns_of bytes xs)) (sym c.deref_mut.ensures.value) h.alike)
-    (subst (λ xs. HasGivens bytes xs c.deref_mut-2.result.now givens) (sym c.deref_mut.ensures.value) (subst (λ cs. HasGivens bytes m.inputs.items cs givens) (sym c.deref_mut-2.ensures.value) h.given)) (h.fresh c.if-self.false)))) none) c.further-in-Ok.ensures.none
-
-pub returns-in-Ok-clause-known : goal.returns-in-Ok-clause-known
-returns-in-Ok-clause-known g c =
-    let bytes = g.R.FileReader.bytes in
-    let m = c.args.self.now in
-    let ei = refill m.inputs.len m.inputs.items c.begin.new.inputs (sym m.inputs.ok.0) (c.begin.auto.inputs ∙ ap length c.deref_mut.ensures.value) in
-    c.further-in-Ok.ensures.known ∙ ap (knowns_of bytes) ei ∙ c.in-Ok.ensures.known ∙ ap (knowns_of bytes) c.deref_mut.ensures.value
-
-pub returns-in-Ok-clause-inputs : goal.returns-in-Ok-clause-inputs
-returns-in-Ok-clause-inputs g c = λ all.
-    let m = c.args.self.now in
-    let ei = refill m.inputs.len m.inputs.items c.begin.new.inputs (sym m.inputs.ok.0) (c.begin.auto.inputs ∙ ap length c.deref_mut.ensures.value) in
-    c.further-in-Ok.ensures.inputs (subst (AllByRecursion (IsInput g.R.FileReader.bytes)) (sym ei) (c.in-Ok.ensures.inputs (subst (AllByRecursion (IsInput g.R.FileReader.bytes)) (sym c.deref_mut.ensures.value) all)))
-
-pub returns-in-Ok-clause-cause : goal.returns-in-Ok-clause-cause
-returns-in-Ok-clause-cause g c =
     let faults = g.R.FileReader.faults in
     let m = c.args.self.now in
     let ei = refill m.inputs.len m.inputs.items c.begin.new.inputs (sym m.inputs.ok.0) (c.begin.auto.inputs ∙ ap length c.deref_mut.ensures.value) in
-    cause_kept c.further-in-Ok.result _ _ _ _ (ap (faults_of faults) ei ∙ c.in-Ok.ensures.cause.quiet ∙ ap (faults_of faults) c.deref_mut.ensures.value) refl c.further-in-Ok.ensures.cause
-
-pub returns-in-Ok-clause-accepts : goal.returns-in-Ok-clause-accepts
-returns-in-Ok-clause-accepts g c =
-    let bytes = g.R.FileReader.bytes in
-    let m = c.args.self.now in
-    let ei = refill m.inputs.len m.inputs.items c.begin.new.inputs (sym m.inputs.ok.0) (c.begin.auto.inputs ∙ ap length c.deref_mut.ensures.value) in
     let ec = refill m.cursors.len m.cursors.items c.begin.new.cursors (sym m.cursors.ok.0) (c.begin.auto.cursors ∙ ap length c.deref_mut-2.ensures.value) in
     let ew = refill m.winners.len m.winners.items c.begin.new.winners (sym m.winners.ok.0) (c.begin.auto.winners ∙ ap length c.deref_mut-3.ensures.value) in
-    let known = ap (knowns_of bytes) ei ∙ c.in-Ok.ensures.known ∙ ap (knowns_of bytes) c.deref_mut.ensures.value in
-    if_err c.further-in-Ok.result _ _ (λ e accepts d is s givens h contents told bound. accepts d is s givens (merged_with bytes s _ c.begin.new.inputs c.begin.new.cursors c.begin.new.winners givens ei ec ew refl h.going (λ any. h.columns (omega (arith, any, c.begin.auto.inputs, ap length c.deref_mut.ensures.value))) c.in-Ok.ensures.tree
-    (c.in-Ok.ensures.merging s givens (subst (λ xs. AreAlike s (knowns_of bytes xs)) (sym c.deref_mut.ensures.value) h.alike)
-    (subst (λ xs. HasGivens bytes xs c.deref_mut-2.result.now givens) (sym c.deref_mut.ensures.value) (subst (λ cs. HasGivens bytes m.inputs.items cs givens) (sym c.deref_mut-2.ensures.value) h.given)) (h.fresh c.if-self.false))) contents
-    (subst (λ ks. AreTold ks contents) (sym known) told) (subst (λ ks. KeepsBound (aggs_of s) [] (rows_of (lifted_parts ks contents))) (sym known) bound)) c.further-in-Ok.ensures.accepts
+    record {
+      some =
+      if_ok c.further-in-Ok.result _ _ (λ o some. if_some o _ _ (λ row more s givens h. more s givens (merged_with bytes s _ c.begin.new.inputs c.begin.new.cursors c.begin.new.winners givens ei ec ew refl h.going (λ any. h.columns (omega (arith, any, c.begin.auto.inputs, ap length c.deref_mut.ensures.value))) c.in-Ok.ensures.tree
+      (c.in-Ok.ensures.merging s givens (subst (λ xs. AreAlike s (knowns_of bytes xs)) (sym c.deref_mut.ensures.value) h.alike)
+      (subst (λ xs. HasGivens bytes xs c.deref_mut-2.result.now givens) (sym c.deref_mut.ensures.value) (subst (λ cs. HasGivens bytes m.inputs.items cs givens) (sym c.deref_mut-2.ensures.value) h.given)) (h.fresh c.if-self.false)))) some) c.further-in-Ok.ensures.some;
+      none =
+      if_ok c.further-in-Ok.result _ _ (λ o none. if_none o _ _ (λ more s givens h. more s givens (merged_with bytes s _ c.begin.new.inputs c.begin.new.cursors c.begin.new.winners givens ei ec ew refl h.going (λ any. h.columns (omega (arith, any, c.begin.auto.inputs, ap length c.deref_mut.ensures.value))) c.in-Ok.ensures.tree
+      (c.in-Ok.ensures.merging s givens (subst (λ xs. AreAlike s (knowns_of bytes xs)) (sym c.deref_mut.ensures.value) h.alike)
+      (subst (λ xs. HasGivens bytes xs c.deref_mut-2.result.now givens) (sym c.deref_mut.ensures.value) (subst (λ cs. HasGivens bytes m.inputs.items cs givens) (sym c.deref_mut-2.ensures.value) h.given)) (h.fresh c.if-self.false)))) none) c.further-in-Ok.ensures.none;
+      known =
+      c.further-in-Ok.ensures.known ∙ ap (knowns_of bytes) ei ∙ c.in-Ok.ensures.known ∙ ap (knowns_of bytes) c.deref_mut.ensures.value;
+      inputs =
+      λ all.
+      c.further-in-Ok.ensures.inputs (subst (AllByRecursion (IsInput g.R.FileReader.bytes)) (sym ei) (c.in-Ok.ensures.inputs (subst (AllByRecursion (IsInput g.R.FileReader.bytes)) (sym c.deref_mut.ensures.value) all)));
+      cause =
+      cause_kept c.further-in-Ok.result _ _ _ _ (ap (faults_of faults) ei ∙ c.in-Ok.ensures.cause.quiet ∙ ap (faults_of faults) c.deref_mut.ensures.value) refl c.further-in-Ok.ensures.cause;
+      damaged = c.further-in-Ok.ensures.damaged;
+      accepts =
+      let known = ap (knowns_of bytes) ei ∙ c.in-Ok.ensures.known ∙ ap (knowns_of bytes) c.deref_mut.ensures.value in
+      if_err c.further-in-Ok.result _ _ (λ e accepts d is s givens h contents told bound. accepts d is s givens (merged_with bytes s _ c.begin.new.inputs c.begin.new.cursors c.begin.new.winners givens ei ec ew refl h.going (λ any. h.columns (omega (arith, any, c.begin.auto.inputs, ap length c.deref_mut.ensures.value))) c.in-Ok.ensures.tree
+      (c.in-Ok.ensures.merging s givens (subst (λ xs. AreAlike s (knowns_of bytes xs)) (sym c.deref_mut.ensures.value) h.alike)
+      (subst (λ xs. HasGivens bytes xs c.deref_mut-2.result.now givens) (sym c.deref_mut.ensures.value) (subst (λ cs. HasGivens bytes m.inputs.items cs givens) (sym c.deref_mut-2.ensures.value) h.given)) (h.fresh c.if-self.false))) contents
+      (subst (λ ks. AreTold ks contents) (sym known) told) (subst (λ ks. KeepsBound (aggs_of s) [] (rows_of (lifted_parts ks contents))) (sym known) bound)) c.further-in-Ok.ensures.accepts;
+    }
 
-pub returns-in-Err-clause-known : goal.returns-in-Err-clause-known
-returns-in-Err-clause-known g c =
+pub returns-in-Err : goal.returns-in-Err
+returns-in-Err g c =
     let bytes = g.R.FileReader.bytes in
-    let m = c.args.self.now in
-    let ei = refill m.inputs.len m.inputs.items c.begin.new.inputs (sym m.inputs.ok.0) (c.begin.auto.inputs ∙ ap length c.deref_mut.ensures.value) in
-    ap (knowns_of bytes) ei ∙ c.in-Err.ensures.known ∙ ap (knowns_of bytes) c.deref_mut.ensures.value
-
-pub returns-in-Err-clause-inputs : goal.returns-in-Err-clause-inputs
-returns-in-Err-clause-inputs g c = λ all.
-    let m = c.args.self.now in
-    let ei = refill m.inputs.len m.inputs.items c.begin.new.inputs (sym m.inputs.ok.0) (c.begin.auto.inputs ∙ ap length c.deref_mut.ensures.value) in
-    subst (AllByRecursion (IsInput g.R.FileReader.bytes)) (sym ei) (c.in-Err.ensures.inputs (subst (AllByRecursion (IsInput g.R.FileReader.bytes)) (sym c.deref_mut.ensures.value) all))
-
-pub returns-in-Err-clause-cause : goal.returns-in-Err-clause-cause
-returns-in-Err-clause-cause g c =
     let faults = g.R.FileReader.faults in
     let m = c.args.self.now in
     let ei = refill m.inputs.len m.inputs.items c.begin.new.inputs (sym m.inputs.ok.0) (c.begin.auto.inputs ∙ ap length c.deref_mut.ensures.value) in
-    cause_on _ _ _ _ _ refl (cause_kept _ _ _ _ _ (ap (faults_of faults) c.deref_mut.ensures.value) (sym (ap (faults_of faults) ei)) c.in-Err.ensures.cause) refl
+    record {
+      some = tt;
+      none = tt;
+      known =
+      ap (knowns_of bytes) ei ∙ c.in-Err.ensures.known ∙ ap (knowns_of bytes) c.deref_mut.ensures.value;
+      inputs =
+      λ all.
+      subst (AllByRecursion (IsInput g.R.FileReader.bytes)) (sym ei) (c.in-Err.ensures.inputs (subst (AllByRecursion (IsInput g.R.FileReader.bytes)) (sym c.deref_mut.ensures.value) all));
+      cause =
+      cause_on _ _ _ _ _ refl (cause_kept _ _ _ _ _ (ap (faults_of faults) c.deref_mut.ensures.value) (sym (ap (faults_of faults) ei)) c.in-Err.ensures.cause) refl;
+      damaged = λ d is.
+      let known = ap (knowns_of bytes) ei ∙ c.in-Err.ensures.known in
+      inl (subst (λ ks. IsBlockOf bytes g.R.FileReader.size ks d) (sym known) (c.in-Err.ensures.damaged d is (subst (AllByRecursion (IsInput bytes)) (sym c.deref_mut.ensures.value) (givens_inputs bytes m.inputs.items m.cursors.items c.requires.1 c.requires.2.given))));
+      accepts =
+      λ d is s givens h contents told bound.
+      c.in-Err.ensures.accepts d is (subst (AllByRecursion (IsInput bytes)) (sym c.deref_mut.ensures.value) (givens_inputs bytes m.inputs.items m.cursors.items givens h.given)) contents (subst (λ xs. AreTold (knowns_of bytes xs) contents) (sym c.deref_mut.ensures.value) told);
+    }
 
-pub returns-in-Err-clause-accepts : goal.returns-in-Err-clause-accepts
-returns-in-Err-clause-accepts g c = λ d is s givens h contents told bound.
-    let bytes = g.R.FileReader.bytes in
-    let m = c.args.self.now in
-    c.in-Err.ensures.accepts d is (subst (AllByRecursion (IsInput bytes)) (sym c.deref_mut.ensures.value) (givens_inputs bytes m.inputs.items m.cursors.items givens h.given)) contents (subst (λ xs. AreTold (knowns_of bytes xs) contents) (sym c.deref_mut.ensures.value) told)

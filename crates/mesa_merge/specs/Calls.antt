@@ -1,0 +1,35 @@
+-- What a call of a merge answers.
+use Rattle.std.specs.Prelude.{◌≡◌, ℕ, List, [], ◌∷◌, ◌++◌, Option, Result, IfOk, IfErr, IfSome, IfNone}
+use Rattle.std.specs.List.{AllByRecursion}
+use Rattle.mesa_file.specs.declared.damage.Damage.{Damage}
+use Rattle.mesa_schema.specs.declared.rows.Row.{Row}
+use Rattle.mesa_schema.specs.Columns.{Columns, aggs_of}
+use Rattle.mesa_schema.specs.Folded.{folded, rows_of}
+use Rattle.mesa_schema.specs.Rows.{IsRowOf}
+use Rattle.mesa_fold.specs.Bound.{KeepsBound}
+use Rattle.mesa_delta.specs.declared.error.FileError.{FileError}
+use Rattle.mesa_delta.specs.declared.error.FileError.TheVariants.{Damaged, Read}
+use Rattle.mesa_cursor.specs.Cursors.{IsInput}
+use Rattle.mesa_merge.specs.Damaged.{IsDamageOf}
+use Rattle.mesa_merge.specs.Faults.{HaveFaultCause, faults_of}
+use Rattle.mesa_merge.specs.Inputs.{AreAll, AreTold, knowns_of, lifted_parts}
+use Rattle.mesa_merge.specs.Merged.{HasMerged, inputs_of}
+use Rattle.mesa_merge.specs.declared.merge.Merge.{Merge}
+
+-- The answer of a merge that has not failed.
+pub record IsNextOf {R : Type 0} (bytes : R → Option (List ℕ)) (faults size : R → ℕ) (old new : Merge R) (answer : Result (Option Row) FileError) : Type 0 where
+  -- What was given folds to one row more.
+  pub some : IfOk answer (λ o. IfSome o (λ row. (s : Columns) (givens : List (List Row)) → HasMerged bytes s old givens
+      → (after : List (List Row)) × HasMerged bytes s new after × (folded (aggs_of s) after ≡ folded (aggs_of s) givens ++ row ∷ []) × IsRowOf s row))
+  -- Or each input has given all of its rows.
+  pub none : IfOk answer (λ o. IfNone o ((s : Columns) (givens : List (List Row)) → HasMerged bytes s old givens
+      → HasMerged bytes s new givens × AreAll (knowns_of bytes (inputs_of new)) givens))
+  -- The inputs stay the same, whatever is answered.
+  pub known : knowns_of bytes (inputs_of new) ≡ knowns_of bytes (inputs_of old)
+  pub inputs : AllByRecursion (IsInput bytes) (inputs_of old) → AllByRecursion (IsInput bytes) (inputs_of new)
+  -- Read comes where a count of the readers rose. Damaged comes where a block isn't the recorded one or a sum would leave its type, and
+  -- never where the inputs are the recorded files and the absolute values of each sum column of their lifted rows keep the bound.
+  pub cause : HaveFaultCause (λ e. e ≡ Read) (faults_of faults (inputs_of old)) (faults_of faults (inputs_of new)) answer
+  pub damaged : IfErr answer (λ e. (d : Damage) → e ≡ Damaged d → IsDamageOf bytes size (inputs_of new) d)
+  pub accepts : IfErr answer (λ e. (d : Damage) → e ≡ Damaged d → (s : Columns) (givens : List (List Row)) → HasMerged bytes s old givens
+      → (contents : List (List Row)) → AreTold (knowns_of bytes (inputs_of old)) contents → KeepsBound (aggs_of s) [] (rows_of (lifted_parts (knowns_of bytes (inputs_of old)) contents)) → ⊥)

@@ -1,0 +1,42 @@
+-- What damage a merge tells of.
+use Rattle.std.specs.Prelude.{◌≡◌, ◌⊎◌, ℕ, ◌<◌, List, [], ◌∷◌, ◌++◌, length, get_or, slice_get, Option, Some}
+use Rattle.mesa_file.specs.declared.damage.Damage.{Damage}
+use Rattle.mesa_schema.specs.declared.rows.Row.{Row}
+use Rattle.mesa_schema.specs.Laws.{AreUnder}
+use Rattle.mesa_delta.specs.declared.input.Input.{Input}
+use Rattle.mesa_cursor.specs.declared.cursor.Cursor.{Cursor}
+use Rattle.mesa_scan.specs.Damaged.{IsDamaged}
+use Rattle.mesa_merge.specs.Hands.{IsAhead, hands_of}
+use Rattle.mesa_merge.specs.Inputs.{Known, known_of, knowns_of}
+use Rattle.mesa_merge.specs.Merging.{AreReady, HasGivens}
+use Rattle.mesa_merge.specs.Sums.{sum_damage}
+
+-- one of the rows has this key
+abbrev pub HasKey : List ℕ → List Row → Type 0
+HasKey key [] = ⊥
+HasKey key (row ∷ rows) = (row.key ≡ key) ⊎ HasKey key rows
+
+-- Damage of a block of one of the inputs: as its reader told it when the block was read, and never of a file whose index is true of it.
+pub record IsBlockOf {R : Type 0} (bytes : R → Option (List ℕ)) (size : R → ℕ) (knowns : List Known) (d : Damage) : Type 0 where
+  pub at : ℕ
+  pub input : Input R
+  pub one : slice_get knowns at ≡ Some (known_of bytes input)
+  pub damaged : IsDamaged bytes size input d
+
+-- A sum of the rows of a key would leave its type, which is told of the newest file that holds the key: it has given a row of it or has one at hand, and each newer one has given lesser keys alone, and has a greater one at hand or is at its end.
+pub record IsSumOf {R : Type 0} (bytes : R → Option (List ℕ)) (inputs : List (Input R)) (d : Damage) : Type 0 where
+  pub cursors : List Cursor
+  pub givens : List (List Row)
+  pub given : HasGivens bytes inputs cursors givens
+  pub ready : AreReady (length inputs) inputs cursors
+  pub key : List ℕ
+  pub at : ℕ
+  pub holds : HasKey key (get_or givens at [] ++ get_or (hands_of cursors) at [])
+  pub newer : (j : ℕ) → at < j → AreUnder key (get_or givens j []) × IsAhead key (get_or (hands_of cursors) j [])
+  pub file : Known
+  pub one : slice_get (knowns_of bytes inputs) at ≡ Some file
+  pub told : d ≡ sum_damage file.file.file
+
+-- which damage a merge tells of: a block's of one of the inputs, or a sum's
+abbrev pub IsDamageOf : {R : Type 0} → (R → Option (List ℕ)) → (R → ℕ) → List (Input R) → Damage → Type 0
+IsDamageOf bytes size inputs d = IsBlockOf bytes size (knowns_of bytes inputs) d ⊎ IsSumOf bytes inputs d
