@@ -1,11 +1,10 @@
 -- All rows of inputs, as a file.
-use Rattle.std.proofs.Common.{◌≡◌, ℕ, ◌<◌, ◌≤◌, List, [], ◌∷◌, ◌++◌, refl, sym, ◌∙◌, ap, subst, length, arith, length-append}
+use Rattle.std.proofs.Common.{◌≡◌, ℕ, ◌<◌, List, [], ◌∷◌, ◌++◌, refl, sym, ◌∙◌, ap, subst, length, arith, length-append}
 use Rattle.std.proofs.lemmas.List.{length-map}
 use Rattle.std.specs.Prelude.{Option, map, Result, Ok, Err, IfErr, IfOk}
 use Rattle.std.specs.FinMap.Entries.{by_order}
 use Rattle.std.specs.declared.cmp.Ordering.{Ordering}
 use Rattle.std.specs.declared.cmp.Ordering.TheVariants.{Less, Equal, Greater}
-use Rattle.mesa_fault.specs.Causes.{HasFaultCause, Rose}
 use Rattle.mesa_key.specs.Order.{byte_cmp}
 use Rattle.mesa_value.specs.declared.Agg.{Agg}
 use Rattle.mesa_schema.specs.declared.rows.Row.{Row}
@@ -13,9 +12,8 @@ use Rattle.mesa_schema.specs.Columns.{Columns, aggs_of}
 use Rattle.mesa_schema.specs.Folded.{folded, folded_at, keys_of, rows_of, with_key}
 use Rattle.mesa_delta.specs.declared.input.Input.{Input}
 use Rattle.mesa_merge.specs.Inputs.{AreAll, Known, knowns_of, lifted_in}
+use Rattle.mesa_compact.specs.Damaged.{IsNewestOf}
 use Rattle.mesa_tasks.specs.Inputs.{HaveRows, IsMergeOf, lifted_parts}
-use Rattle.mesa_tasks.specs.declared.merging.CompactError.{CompactError}
-use Rattle.mesa_compact.specs.Writing.{IsDraftFault}
 
 -- ---- some rows
 
@@ -40,11 +38,15 @@ some_all aggs (k ∷ ks) (g ∷ gs) all some =
     some_folded aggs (g ++ rows_of gs) (omega (arith, one, all.0.whole.file.some, length-append g (rows_of gs)))
 
 -- as many inputs are known as there are
-known_count : {R : Type 0} (bytes : R → Option (List ℕ)) (is : List (Input R)) → length (knowns_of bytes is) ≡ length is
+pub known_count : {R : Type 0} (bytes : R → Option (List ℕ)) (is : List (Input R)) → length (knowns_of bytes is) ≡ length is
 known_count bytes is = length-map is _
 
 pub some_known : {R : Type 0} (bytes : R → Option (List ℕ)) (before now : List (Input R)) → knowns_of bytes now ≡ knowns_of bytes before → 0 < length before → 0 < length (knowns_of bytes now)
 some_known bytes before now same some = subst (λ n. 0 < n) (sym (ap length same ∙ known_count bytes before)) some
+
+-- the newest is still the newest
+pub newest_kept : {R : Type 0} (bytes : R → Option (List ℕ)) (before now : List (Input R)) (id : ℕ) → knowns_of bytes now ≡ knowns_of bytes before → IsNewestOf (knowns_of bytes before) id → IsNewestOf (knowns_of bytes now) id
+newest_kept bytes before now id same newest = subst (λ (ks : List Known). IsNewestOf ks id) (sym same) newest
 
 -- ---- the merge of inputs
 
@@ -59,18 +61,6 @@ parts_of bytes (i ∷ is) (g ∷ gs) all =
 -- what all inputs have given folds to their merge
 pub merge_of : {R : Type 0} (bytes : R → Option (List ℕ)) (s : Columns) (is : List (Input R)) (gs : List (List Row)) → AreAll (knowns_of bytes is) gs → IsMergeOf bytes s is (folded (aggs_of s) gs)
 merge_of bytes s is gs all = let parts = parts_of bytes is gs all in record { parts = parts.0; whole = parts.1; fold = ap (folded (aggs_of s)) parts.2 }
-
--- ---- the bench
-
--- a draft that is given back has its bench count its fault
-pub bench_counts : {T U : Type 0} (before between now fresh failed : ℕ) (e : CompactError) → between ≡ before → fresh ≡ 0 → HasFaultCause {T = T} IsDraftFault fresh failed (Err e)
-    → (0 < failed → Rose between now) → (failed ≡ 0 → now ≡ between) → between ≤ now → HasFaultCause {T = U} IsDraftFault before now (Err e)
-bench_counts before between now fresh failed e stay none cause counted quiet later = record {
-  later = omega (arith, stay, later);
-  failed = λ fault. subst (λ b. Rose b now) stay (counted (omega (arith, none, cause.failed fault)));
-  quiet = tt;
-  other = λ never. quiet (cause.other never ∙ none) ∙ stay;
-}
 
 -- ---- what a result has
 

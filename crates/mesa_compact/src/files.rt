@@ -1,23 +1,24 @@
 // The file of merged inputs.
-ghost use Rattle.std.specs.Prelude.{◌≡◌, ◌<◌, ℕ, List, [], length, IfOk, IfErr};
+ghost use Rattle.std.specs.Prelude.{◌≡◌, ◌<◌, ℕ, List, [], length, map, IfOk, IfErr};
 ghost use Rattle.std.specs.List.{AllByRecursion};
-ghost use Rattle.mesa_fault.specs.Causes.{HasFaultCause};
 ghost use Rattle.mesa_file.specs.declared.damage.Damage.{Damage as AnyDamage};
 ghost use Rattle.mesa_schema.specs.declared.rows.Row.{Row as AnyRow};
 ghost use Rattle.mesa_schema.specs.Columns.{aggs_of};
 ghost use Rattle.mesa_schema.specs.Folded.{folded, rows_of};
 ghost use Rattle.mesa_fold.specs.Bound.{KeepsBound};
-ghost use Rattle.mesa_delta.specs.declared.error.FileError.TheVariants as file_error;
 ghost use Rattle.mesa_cursor.specs.Cursors.{IsInput};
-ghost use Rattle.mesa_merge.specs.Faults.{HaveFaultCause, faults_of};
+ghost use Rattle.mesa_merge.specs.Faults.{faults_of};
 ghost use Rattle.mesa_merge.specs.Inputs.{AreAll, AreInputs, AreTold, knowns_of, lifted_parts};
 ghost use Rattle.mesa_merge.specs.Merged.{HasMerged, inputs_of};
 ghost use Rattle.mesa_tasks.specs.Inputs.{IsMergeOf};
 ghost use Rattle.mesa_tasks.specs.Made.{IsMadeFile};
-ghost use Rattle.mesa_compact.specs.Writing.{IsDraftFault, IsReadFault};
+ghost use Rattle.mesa_compact.specs.Damaged.{IsMergeDamage, IsNewestOf};
+ghost use Rattle.mesa_compact.specs.Grouping.{HavePut, TakesRows, wanted_in};
+ghost use Rattle.mesa_compact.specs.Writing.{HasCauses, damaged_by};
 
 use crate::filing::{begin_file, end_file, give_up};
 use crate::pouring::pour;
+use mesa_answer::Groups;
 use mesa_delta::{FileError, Input};
 use mesa_disk::{Bench, FileReader, Made};
 use mesa_file::FileId;
@@ -25,41 +26,78 @@ use mesa_merge::Merge;
 use mesa_schema::Schema;
 use mesa_tasks::{CompactError, MadeFile};
 use std::alloc::Global;
+use std::mem;
 
-/// Merges inputs in version order into one file, through a new draft under this id. The inputs are given back, whatever becomes of the file.
-/// A sum that leaves its type is told as damage of the newest input.
+/// Merges inputs in version order into one file, through a new draft under this id, and puts the rows into groups as they come. The inputs are there still, whatever becomes of the file.
+/// A total that leaves its type is told as damage of the newest input.
 pub fn merged_file<M: Made, B: Bench<M>, R: FileReader>(
     alloc: Global,
     bench: &mut B,
     id: FileId,
     schema: &Schema,
+    inputs: &mut Vec<Input<R>>,
+    groups: &mut [Option<Groups>],
+) -> Result<MadeFile<M>, CompactError>
+    requires some { 0 < length inputs.old.items }
+    requires inputs { AreInputs R.bytes schema.now inputs.old.items }
+    requires none { HavePut groups.old [] }
+    requires takes { AllByRecursion (TakesRows schema.now) groups.old }
+    ensures known { knowns_of R.bytes inputs.new.items ≡ knowns_of R.bytes inputs.old.items }
+    ensures kept { AllByRecursion (IsInput R.bytes) inputs.new.items }
+    ensures made { IfOk result (λ made. (rows : List AnyRow) × IsMergeOf R.bytes schema.now inputs.old.items rows × IsMadeFile M.bytes M.id_of (record { columns = schema.now; rows = rows }) made × HavePut groups.new rows) }
+    ensures id { IfOk result (λ made. M.id_of made.made ≡ id) }
+    ensures wanted { map wanted_in groups.new ≡ map wanted_in groups.old }
+    ensures causes { HasCauses (B.faults bench.old) (B.faults bench.new) (faults_of R.faults inputs.old.items) (faults_of R.faults inputs.new.items) (IsMergeDamage R.bytes R.size inputs.new.items) result }
+    ensures accepts { IfErr result (λ e. (d : AnyDamage) → e ≡ damaged_by d → (contents : List (List AnyRow)) → AreTold (knowns_of R.bytes inputs.old.items) contents
+        → KeepsBound (aggs_of schema.now) [] (rows_of (lifted_parts (knowns_of R.bytes inputs.old.items) contents)) → ⊥) }
+{
+    let newest = newest_of(inputs);
+    let taken = mem::replace(inputs, Vec::new(alloc));
+    let (back, made) = merge_into(alloc, bench, id, schema, taken, groups, newest);
+    let empty = mem::replace(inputs, back);
+    empty.destroy_empty();
+    made
+}
+
+// The newest file of inputs.
+pub(crate) fn newest_of<R: FileReader>(inputs: &[Input<R>]) -> FileId
+    requires { 0 < length inputs.now }
+    ensures { IsNewestOf (knowns_of R.bytes inputs.now) result }
+{
+    inputs[inputs.len() - 1].reader.index().file()
+}
+
+// The file of inputs, and the inputs again.
+fn merge_into<M: Made, B: Bench<M>, R: FileReader>(
+    alloc: Global,
+    bench: &mut B,
+    id: FileId,
+    schema: &Schema,
     inputs: Vec<Input<R>>,
+    groups: &mut [Option<Groups>],
+    newest: FileId,
 ) -> (Vec<Input<R>>, Result<MadeFile<M>, CompactError>)
     requires some { 0 < length inputs.items }
     requires inputs { AreInputs R.bytes schema.now inputs.items }
+    requires none { HavePut groups.old [] }
+    requires takes { AllByRecursion (TakesRows schema.now) groups.old }
+    requires newest { IsNewestOf (knowns_of R.bytes inputs.items) newest }
     ensures known { knowns_of R.bytes result.0.items ≡ knowns_of R.bytes inputs.items }
     ensures kept { AllByRecursion (IsInput R.bytes) result.0.items }
-    ensures made { IfOk result.1 (λ made. (rows : List AnyRow) × IsMergeOf R.bytes schema.now inputs.items rows × IsMadeFile M.bytes M.id_of (record { columns = schema.now; rows = rows }) made) }
-    ensures faults { HasFaultCause IsDraftFault (B.faults bench.old) (B.faults bench.new) result.1 }
-    ensures reads { HaveFaultCause IsReadFault (faults_of R.faults inputs.items) (faults_of R.faults result.0.items) result.1 }
-    ensures accepts { IfErr result.1 (λ e. (d : AnyDamage) → e ≡ CompactError.File (file_error.Damaged d) → (contents : List (List AnyRow)) → AreTold (knowns_of R.bytes inputs.items) contents
+    ensures made { IfOk result.1 (λ made. (rows : List AnyRow) × IsMergeOf R.bytes schema.now inputs.items rows × IsMadeFile M.bytes M.id_of (record { columns = schema.now; rows = rows }) made × HavePut groups.new rows) }
+    ensures id { IfOk result.1 (λ made. M.id_of made.made ≡ id) }
+    ensures wanted { map wanted_in groups.new ≡ map wanted_in groups.old }
+    ensures causes { HasCauses (B.faults bench.old) (B.faults bench.new) (faults_of R.faults inputs.items) (faults_of R.faults result.0.items) (IsMergeDamage R.bytes R.size result.0.items) result.1 }
+    ensures accepts { IfErr result.1 (λ e. (d : AnyDamage) → e ≡ damaged_by d → (contents : List (List AnyRow)) → AreTold (knowns_of R.bytes inputs.items) contents
         → KeepsBound (aggs_of schema.now) [] (rows_of (lifted_parts (knowns_of R.bytes inputs.items) contents)) → ⊥) }
 {
-    let newest = newest_of(&inputs);
     match Merge::new(alloc, inputs) {
         Ok(mut merge) => {
-            let made = file_of(alloc, bench, id, schema, &mut merge, newest);
+            let made = file_of(alloc, bench, id, schema, &mut merge, groups, newest);
             (merge.into_inputs(), made)
         }
         Err((_, inputs)) => (inputs, Err(CompactError::File(FileError::Memory))),
     }
-}
-
-// The newest file of inputs.
-fn newest_of<R: FileReader>(inputs: &[Input<R>]) -> FileId
-    requires { 0 < length inputs.now }
-{
-    inputs[inputs.len() - 1].reader.index().file()
 }
 
 // The file of all rows of a merge that has given none yet.
@@ -69,23 +107,29 @@ fn file_of<M: Made, B: Bench<M>, R: FileReader>(
     id: FileId,
     schema: &Schema,
     merge: &mut Merge<R>,
+    groups: &mut [Option<Groups>],
     newest: FileId,
 ) -> Result<MadeFile<M>, CompactError>
     requires some { 0 < length (inputs_of merge.old) }
     requires merging { (givens : List (List AnyRow)) × HasMerged R.bytes schema.now merge.old givens × (folded (aggs_of schema.now) givens ≡ []) }
+    requires none { HavePut groups.old [] }
+    requires takes { AllByRecursion (TakesRows schema.now) groups.old }
+    requires newest { IsNewestOf (knowns_of R.bytes (inputs_of merge.old)) newest }
     ensures known { knowns_of R.bytes (inputs_of merge.new) ≡ knowns_of R.bytes (inputs_of merge.old) }
     ensures kept { AllByRecursion (IsInput R.bytes) (inputs_of merge.old) → AllByRecursion (IsInput R.bytes) (inputs_of merge.new) }
-    ensures made { IfOk result (λ made. (after : List (List AnyRow)) × AreAll (knowns_of R.bytes (inputs_of merge.new)) after × IsMadeFile M.bytes M.id_of (record { columns = schema.now; rows = folded (aggs_of schema.now) after }) made) }
-    ensures faults { HasFaultCause IsDraftFault (B.faults bench.old) (B.faults bench.new) result }
-    ensures reads { HaveFaultCause IsReadFault (faults_of R.faults (inputs_of merge.old)) (faults_of R.faults (inputs_of merge.new)) result }
-    ensures accepts { IfErr result (λ e. (d : AnyDamage) → e ≡ CompactError.File (file_error.Damaged d) → (givens : List (List AnyRow)) → HasMerged R.bytes schema.now merge.old givens → folded (aggs_of schema.now) givens ≡ []
+    ensures made { IfOk result (λ made. (after : List (List AnyRow)) × AreAll (knowns_of R.bytes (inputs_of merge.new)) after
+        × IsMadeFile M.bytes M.id_of (record { columns = schema.now; rows = folded (aggs_of schema.now) after }) made × HavePut groups.new (folded (aggs_of schema.now) after)) }
+    ensures id { IfOk result (λ made. M.id_of made.made ≡ id) }
+    ensures wanted { map wanted_in groups.new ≡ map wanted_in groups.old }
+    ensures causes { HasCauses (B.faults bench.old) (B.faults bench.new) (faults_of R.faults (inputs_of merge.old)) (faults_of R.faults (inputs_of merge.new)) (IsMergeDamage R.bytes R.size (inputs_of merge.new)) result }
+    ensures accepts { IfErr result (λ e. (d : AnyDamage) → e ≡ damaged_by d → (givens : List (List AnyRow)) → HasMerged R.bytes schema.now merge.old givens → folded (aggs_of schema.now) givens ≡ []
         → (contents : List (List AnyRow)) → AreTold (knowns_of R.bytes (inputs_of merge.old)) contents → KeepsBound (aggs_of schema.now) [] (rows_of (lifted_parts (knowns_of R.bytes (inputs_of merge.old)) contents)) → ⊥) }
 {
     let mut writer = match begin_file(alloc, bench, id, schema) {
         Ok(writer) => writer,
         Err(error) => return Err(error),
     };
-    match pour(merge, &mut writer, newest) {
+    match pour(merge, &mut writer, groups, newest) {
         Ok(()) => end_file(bench, writer),
         Err(error) => {
             give_up(bench, writer);

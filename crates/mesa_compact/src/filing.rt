@@ -1,12 +1,10 @@
 // One file: begun through a new draft, finished, or given up.
-ghost use Rattle.std.specs.Prelude.{◌≡◌, ◌≢◌, ◌<◌, ◌≤◌, ℕ, List, [], length, IfOk, IfErr, OnOk};
-ghost use Rattle.mesa_fault.specs.Causes.{HasFaultCause, Rose};
+ghost use Rattle.std.specs.Prelude.{◌≡◌, ◌<◌, ◌≤◌, ℕ, List, [], length, IfOk};
+ghost use Rattle.mesa_fault.specs.Causes.{Rose};
 ghost use Rattle.mesa_schema.specs.declared.rows.Row.{Row as AnyRow};
 ghost use Rattle.mesa_delta.specs.Writing.{HasTaken, columns_of, draft_of, id_of};
 ghost use Rattle.mesa_tasks.specs.Made.{IsMadeFile};
-ghost use Rattle.mesa_compact.specs.Writing.{IsDraftFault, IsReadFault};
-ghost use Rattle.mesa_file.specs.declared.damage.Damage.{Damage as AnyDamage};
-ghost use Rattle.mesa_delta.specs.declared.error.FileError.TheVariants as file_error;
+ghost use Rattle.mesa_compact.specs.Writing.{HasCauses};
 
 use mesa_delta::{DeltaWriter, FileError};
 use mesa_disk::{Bench, DraftError, Made};
@@ -25,10 +23,9 @@ pub(crate) fn begin_file<M: Made, B: Bench<M>>(
     ensures taken { IfOk result (λ w. HasTaken B.Draft.bytes w []) }
     ensures columns { IfOk result (λ w. columns_of w ≡ schema.now) }
     ensures own { IfOk result (λ w. B.Draft.id_of (draft_of w) ≡ id_of w) }
+    ensures id { IfOk result (λ w. id_of w ≡ id) }
     ensures fresh { IfOk result (λ w. B.Draft.faults (draft_of w) ≡ 0) }
-    ensures cause { HasFaultCause IsDraftFault (B.faults bench.old) (B.faults bench.new) result }
-    ensures unread { IfErr result (λ e. IsReadFault e → ⊥) }
-    ensures undamaged { IfErr result (λ e. (d : AnyDamage) → e ≡ CompactError.File (file_error.Damaged d) → ⊥) }
+    ensures causes { (reads : List ℕ) → HasCauses (B.faults bench.old) (B.faults bench.new) reads reads (λ d. ⊥) result }
 {
     let draft = match bench.draft(id) {
         Ok(draft) => draft,
@@ -53,9 +50,8 @@ pub(crate) fn end_file<M: Made, B: Bench<M>>(
     requires own { B.Draft.id_of (draft_of writer) ≡ id_of writer }
     requires fresh { B.Draft.faults (draft_of writer) ≡ 0 }
     ensures made { IfOk result (λ made. (rows : List AnyRow) → 0 < length rows → HasTaken B.Draft.bytes writer rows → IsMadeFile M.bytes M.id_of (record { columns = columns_of writer; rows = rows }) made) }
-    ensures cause { HasFaultCause IsDraftFault (B.faults bench.old) (B.faults bench.new) result }
-    ensures unread { IfErr result (λ e. IsReadFault e → ⊥) }
-    ensures undamaged { IfErr result (λ e. (d : AnyDamage) → e ≡ CompactError.File (file_error.Damaged d) → ⊥) }
+    ensures id { IfOk result (λ made. M.id_of made.made ≡ id_of writer) }
+    ensures causes { (reads : List ℕ) → HasCauses (B.faults bench.old) (B.faults bench.new) reads reads (λ d. ⊥) result }
 {
     writer.held();
     match writer.finish() {

@@ -3,6 +3,7 @@
 
 mod files;
 mod filing;
+mod grouping;
 mod pouring;
 
 pub use files::merged_file;

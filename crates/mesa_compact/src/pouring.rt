@@ -1,45 +1,53 @@
 // Rows that are written as they are merged.
-ghost use Rattle.std.specs.Prelude.{◌≡◌, ◌<◌, ℕ, List, [], length, IfOk, IfErr, OnOk};
+ghost use Rattle.std.specs.Prelude.{◌≡◌, ◌⊎◌, ℕ, List, [], map, IfErr, OnOk};
 ghost use Rattle.std.specs.List.{AllByRecursion};
-ghost use Rattle.mesa_fault.specs.Causes.{HasFaultCause};
 ghost use Rattle.mesa_file.specs.declared.damage.Damage.{Damage as AnyDamage};
 ghost use Rattle.mesa_schema.specs.declared.rows.Row.{Row as AnyRow};
 ghost use Rattle.mesa_schema.specs.Columns.{Columns, aggs_of};
 ghost use Rattle.mesa_schema.specs.Folded.{folded, rows_of};
 ghost use Rattle.mesa_fold.specs.Bound.{KeepsBound};
-ghost use Rattle.mesa_delta.specs.declared.error.FileError.TheVariants as file_error;
 ghost use Rattle.mesa_delta.specs.Writing.{HasTaken, columns_of, draft_of, id_of};
 ghost use Rattle.mesa_cursor.specs.Cursors.{IsInput};
-ghost use Rattle.mesa_merge.specs.Faults.{HaveFaultCause, faults_of};
+ghost use Rattle.mesa_merge.specs.Damaged.{IsDamageOf};
+ghost use Rattle.mesa_merge.specs.Faults.{faults_of};
 ghost use Rattle.mesa_merge.specs.Inputs.{AreAll, AreTold, knowns_of, lifted_parts};
-ghost use Rattle.mesa_merge.specs.Merged.{HasMerged, failed_of, inputs_of};
-ghost use Rattle.mesa_compact.specs.Writing.{IsDraftFault, IsReadFault};
+ghost use Rattle.mesa_merge.specs.Merged.{HasMerged, inputs_of};
+ghost use Rattle.mesa_merge.specs.Sums.{sum_damage};
+ghost use Rattle.mesa_compact.specs.Grouping.{HavePut, TakesRows, wanted_in};
+ghost use Rattle.mesa_compact.specs.Writing.{HasCauses, damaged_by};
 
+use crate::grouping::put_all;
+use mesa_answer::Groups;
 use mesa_delta::{DeltaWriter, FileError};
 use mesa_disk::{Damage, Draft, FileReader, Made, Seen};
 use mesa_file::FileId;
 use mesa_fold::folds_totals;
 use mesa_merge::Merge;
-use mesa_schema::{Row, folds_by_key};
+use mesa_schema::folds_by_key;
 use mesa_tasks::CompactError;
 
-// Gives a writer all rows of a merge. A file has fewer rows than a number of 64 bits can count.
+// Gives a writer all rows of a merge, and puts them into the groups. A file has fewer rows than a number of 64 bits can count.
 pub(crate) fn pour<M: Made, T: Draft<M>, R: FileReader>(
     merge: &mut Merge<R>,
     writer: &mut DeltaWriter<M, T>,
+    groups: &mut [Option<Groups>],
     newest: FileId,
 ) -> Result<(), CompactError>
-    requires pouring { (givens : List (List AnyRow)) × HasMerged R.bytes (columns_of writer.old) merge.old givens × HasTaken T.bytes writer.old (folded (aggs_of (columns_of writer.old)) givens) }
-    ensures taken { OnOk result ((givens : List (List AnyRow)) → HasMerged R.bytes (columns_of writer.old) merge.old givens → HasTaken T.bytes writer.old (folded (aggs_of (columns_of writer.old)) givens)
-        → (after : List (List AnyRow)) × AreAll (knowns_of R.bytes (inputs_of merge.new)) after × HasTaken T.bytes writer.new (folded (aggs_of (columns_of writer.old)) after)) }
+    requires pouring { (givens : List (List AnyRow)) × HasMerged R.bytes (columns_of writer.old) merge.old givens × HasTaken T.bytes writer.old (folded (aggs_of (columns_of writer.old)) givens) × HavePut groups.old (folded (aggs_of (columns_of writer.old)) givens) }
+    requires takes { AllByRecursion (TakesRows (columns_of writer.old)) groups.old }
+    ensures taken { OnOk result ((givens : List (List AnyRow)) → HasMerged R.bytes (columns_of writer.old) merge.old givens
+        → HasTaken T.bytes writer.old (folded (aggs_of (columns_of writer.old)) givens) → HavePut groups.old (folded (aggs_of (columns_of writer.old)) givens)
+        → (after : List (List AnyRow)) × AreAll (knowns_of R.bytes (inputs_of merge.new)) after
+        × HasTaken T.bytes writer.new (folded (aggs_of (columns_of writer.old)) after) × HavePut groups.new (folded (aggs_of (columns_of writer.old)) after)) }
     ensures columns { columns_of writer.new ≡ columns_of writer.old }
     ensures id { id_of writer.new ≡ id_of writer.old }
     ensures draft { T.id_of (draft_of writer.new) ≡ T.id_of (draft_of writer.old) }
+    ensures wanted { map wanted_in groups.new ≡ map wanted_in groups.old }
     ensures known { knowns_of R.bytes (inputs_of merge.new) ≡ knowns_of R.bytes (inputs_of merge.old) }
     ensures inputs { AllByRecursion (IsInput R.bytes) (inputs_of merge.old) → AllByRecursion (IsInput R.bytes) (inputs_of merge.new) }
-    ensures faults { HasFaultCause IsDraftFault (T.faults (draft_of writer.old)) (T.faults (draft_of writer.new)) result }
-    ensures reads { HaveFaultCause IsReadFault (faults_of R.faults (inputs_of merge.old)) (faults_of R.faults (inputs_of merge.new)) result }
-    ensures accepts { IfErr result (λ e. (d : AnyDamage) → e ≡ CompactError.File (file_error.Damaged d) → (givens : List (List AnyRow)) → HasMerged R.bytes (columns_of writer.old) merge.old givens → HasTaken T.bytes writer.old (folded (aggs_of (columns_of writer.old)) givens)
+    ensures causes { HasCauses (T.faults (draft_of writer.old)) (T.faults (draft_of writer.new)) (faults_of R.faults (inputs_of merge.old)) (faults_of R.faults (inputs_of merge.new)) (λ d. IsDamageOf R.bytes R.size (inputs_of merge.new) d ⊎ (d ≡ sum_damage newest)) result }
+    ensures accepts { IfErr result (λ e. (d : AnyDamage) → e ≡ damaged_by d → (givens : List (List AnyRow)) → HasMerged R.bytes (columns_of writer.old) merge.old givens
+        → HasTaken T.bytes writer.old (folded (aggs_of (columns_of writer.old)) givens) → HavePut groups.old (folded (aggs_of (columns_of writer.old)) givens)
         → (contents : List (List AnyRow)) → AreTold (knowns_of R.bytes (inputs_of merge.old)) contents → KeepsBound (aggs_of (columns_of writer.old)) [] (rows_of (lifted_parts (knowns_of R.bytes (inputs_of merge.old)) contents)) → ⊥) }
 {
     folds_by_key();
@@ -55,6 +63,10 @@ pub(crate) fn pour<M: Made, T: Draft<M>, R: FileReader>(
         if !writer.allows(&row) {
             return Err(sum_fault(newest));
         }
+        match put_all(groups, newest, &row) {
+            Ok(()) => {}
+            Err(unfit) => return Err(CompactError::File(unfit)),
+        }
         match writer.push(&row) {
             Ok(()) => {}
             Err(error) => return Err(CompactError::from(error)),
@@ -64,8 +76,8 @@ pub(crate) fn pour<M: Made, T: Draft<M>, R: FileReader>(
 }
 
 // The damage of a file with which a sum leaves its type.
-fn sum_fault(file: FileId) -> CompactError
-    ensures { result ≡ CompactError.File (file_error.Damaged (record { file = file; place = 0; want = Seen.Fits; found = Seen.Misfit 0 })) }
+pub(crate) fn sum_fault(file: FileId) -> CompactError
+    ensures { result ≡ damaged_by (sum_damage file) }
 {
     CompactError::File(FileError::Damaged(Damage {
         file,

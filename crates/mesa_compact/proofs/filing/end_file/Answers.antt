@@ -1,6 +1,7 @@
 use Rattle.std.proofs.Common.{◌≡◌, ℕ, ◌∙◌, refl, sym, subst}
 use Rattle.mesa_delta.specs.Summary.{IsReferenceOf}
 use Rattle.mesa_delta.specs.Writing.{columns_of, id_of}
+use Rattle.mesa_compact.proofs.Causing.{caused_finish, caused_ok}
 use Rattle.mesa_compact.proofs.filing.end_file.Goals as goal
 
 pub returns-in-Ok-clause-made : goal.returns-in-Ok-clause-made
@@ -13,3 +14,9 @@ returns-in-Ok-clause-made g c =
       told = λ bytes told. (c.in-Ok.ensures.file rows taken bytes told).spelled;
       reference = subst (λ (n : ℕ). IsReferenceOf (columns_of c.args.writer) n rows c.in-Ok.file) (sym own) (c.in-Ok.ensures.reference rows taken);
     }
+
+pub returns-in-Ok-clause-causes : goal.returns-in-Ok-clause-causes
+returns-in-Ok-clause-causes g c = λ reads. caused_ok _ _ _ reads reads _ refl refl
+
+pub returns-in-Err-clause-causes : goal.returns-in-Err-clause-causes
+returns-in-Err-clause-causes g c = λ reads. caused_finish _ _ _ _ _ reads c.in-Err.error c.from.result c.requires.fresh c.in-Err.ensures.cause.1 c.in-Err.ensures.quiet c.from.ensures c.spoil.ensures.counted c.spoil.ensures.quiet c.spoil.ensures.later

@@ -1,4 +1,5 @@
-use Rattle.std.proofs.Common.{◌≡◌, ◌<◌, ◌^◌, ◌++◌, ◌∷◌, [], ℕ, List, map, sym, ◌∙◌, subst, true, false}
+use Rattle.std.proofs.Common.{◌≡◌, ◌<◌, ◌^◌, ◌++◌, ◌∷◌, [], inl, inr, ℕ, List, map, refl, sym, ◌∙◌, subst, true, false}
+use Rattle.std.specs.List.{AllByRecursion}
 use Rattle.std.specs.Prelude.{slice_get, Some}
 use Rattle.mesa_value.specs.declared.Agg.TheVariants.{Sum}
 use Rattle.mesa_batch.specs.Totals.{abs_total}
@@ -8,29 +9,49 @@ use Rattle.mesa_schema.specs.declared.rows.Row.{Row}
 use Rattle.mesa_schema.specs.Columns.{Columns, aggs_of}
 use Rattle.mesa_schema.specs.Folded.{folded, rows_of}
 use Rattle.mesa_fold.specs.Bound.{KeepsBound}
-use Rattle.mesa_delta.specs.declared.error.FileError.TheVariants.{Damaged, Memory, Read}
+use Rattle.mesa_delta.specs.declared.error.FileError.TheVariants.{Damaged}
 use Rattle.mesa_delta.specs.Writing.{HasTaken, columns_of}
-use Rattle.mesa_tasks.specs.declared.merging.CompactError.TheVariants.{Draft, File}
+use Rattle.mesa_answer.specs.Answering.{KeepsSums}
 use Rattle.mesa_merge.specs.Inputs.{AreTold, knowns_of, lifted_parts}
 use Rattle.mesa_merge.specs.Merged.{HasMerged, failed_of, inputs_of}
+use Rattle.mesa_merge.specs.Sums.{sum_damage}
 use Rattle.mesa_merge.proofs.Ending.{AreFronts, givens_fronts}
+use Rattle.mesa_compact.specs.Grouping.{HavePut, TakesRows}
+use Rattle.mesa_compact.proofs.Causing.{caused_damage, caused_file, caused_memory, caused_ok, caused_unread, caused_write, no_write_damage}
 use Rattle.mesa_compact.proofs.Following.{folded_bound, rises, sums_follow, taken_form}
-use Rattle.mesa_compact.proofs.Poured.{draft_on, draft_other, if_none_from, merged_formed, no_damage, no_read, read_on, read_other, read_quiet}
+use Rattle.mesa_compact.proofs.Poured.{if_none_from, merged_formed}
+use Rattle.mesa_compact.proofs.Putting.{takes_kept}
 use Rattle.mesa_compact.proofs.pouring.pour.Goals as goal
 
 pub next-requires-after_bounds : goal.next-requires-after_bounds
 next-requires-after_bounds g c = λ _ _.
     let start = c.requires.pouring in
-    let now = c.rows.invariant.poured start.0 start.1 start.2 in
+    let now = c.rows.invariant.poured start.0 start.1 start.2 start.3 in
     let all : (s : Columns) × (givens : List (List Row)) × HasMerged g.R.FileReader.bytes s c.rows.merge givens = (columns_of c.rows.writer, now.0, now.1) in
     (if_none_from (failed_of c.rows.merge) ((s : Columns) × (givens : List (List Row)) × HasMerged g.R.FileReader.bytes s c.rows.merge givens) all)
+
+pub put_all-requires-clause-gathering : goal.put_all-requires-clause-gathering
+put_all-requires-clause-gathering g c =
+    let start = c.requires.pouring in
+    let now = c.rows.invariant.poured start.0 start.1 start.2 start.3 in
+    (folded (aggs_of (columns_of c.rows.writer)) now.0, now.3)
+
+pub put_all-requires-clause-form : goal.put_all-requires-clause-form
+put_all-requires-clause-form g c =
+    let start = c.requires.pouring in
+    let inv = c.rows.invariant in
+    let s = columns_of c.rows.writer in
+    let now = inv.poured start.0 start.1 start.2 start.3 in
+    let some = rw c.in-Some.is at (c.in-Ok.ensures.next now.1.going).some in
+    let next = some s now.0 now.1 in
+    (s, next.3, takes_kept s c.args.groups.now c.rows.groups inv.wanted (subst (λ (t : Columns). AllByRecursion (TakesRows t) c.args.groups.now) (sym inv.columns) c.requires.takes))
 
 pub push-requires-after_bounds : goal.push-requires-after_bounds
 push-requires-after_bounds g c = λ _ _.
     let start = c.requires.pouring in
     let s = columns_of c.rows.writer in
-    let now = c.rows.invariant.poured start.0 start.1 start.2 in
-    let some = rw c.in-Some.is at c.in-Ok.ensures.some in
+    let now = c.rows.invariant.poured start.0 start.1 start.2 start.3 in
+    let some = rw c.in-Some.is at (c.in-Ok.ensures.next now.1.going).some in
     let next = some s now.0 now.1 in (
       folded (aggs_of s) now.0,
       now.2,
@@ -46,73 +67,108 @@ rows-preserved g c =
     let bytes = g.R.FileReader.bytes in
     let inv = c.rows.invariant in
     let start = c.requires.pouring in
-    let first = inv.poured start.0 start.1 start.2 in
-    let some = rw c.in-Some.is at c.in-Ok.ensures.some in
+    let first = inv.poured start.0 start.1 start.2 start.3 in
+    let answer = c.in-Ok.ensures.next first.1.going in
+    let some = rw c.in-Some.is at answer.some in
     let cols : columns_of c.push.new.self ≡ columns_of c.rows.writer = c.in-Ok-push.ensures.columns in
     record {
       columns = cols ∙ inv.columns;
       id = c.in-Ok-push.ensures.id ∙ inv.id;
       draft = c.in-Ok-push.ensures.draft ∙ inv.draft;
       faults = c.in-Ok-push.ensures.cause.quiet ∙ inv.faults;
-      known = c.in-Ok.ensures.known ∙ inv.known;
-      inputs = λ all. c.in-Ok.ensures.inputs (inv.inputs all);
-      reads = (c.in-Ok.ensures.cause first.1.going).quiet ∙ inv.reads;
-      poured = λ givens h taken.
+      known = answer.known ∙ inv.known;
+      inputs = λ all. answer.inputs (inv.inputs all);
+      reads = answer.cause.quiet ∙ inv.reads;
+      wanted = c.in-Ok-put_all.ensures.wanted ∙ inv.wanted;
+      poured = λ givens h taken put.
           let s = columns_of c.rows.writer in
-          let now = inv.poured givens h taken in
+          let now = inv.poured givens h taken put in
           let next = some s now.0 now.1 in
-          let more : HasTaken g.T.Draft.bytes c.push.new.self (folded (aggs_of s) now.0 ++ c.in-Some.row ∷ []) = c.in-Ok-push.ensures.taken (folded (aggs_of s) now.0) now.2 in (
+          let more : HasTaken g.T.Draft.bytes c.push.new.self (folded (aggs_of s) now.0 ++ c.in-Some.row ∷ []) = c.in-Ok-push.ensures.taken (folded (aggs_of s) now.0) now.2 in
+          let grouped : HavePut c.put_all.new.groups (folded (aggs_of s) now.0 ++ c.in-Some.row ∷ []) = c.in-Ok-put_all.ensures.put (folded (aggs_of s) now.0) now.3 in (
             next.0,
             subst (λ (t : Columns). HasMerged bytes t c.next.new.self next.0) (sym cols) next.1,
             subst (λ (t : Columns). HasTaken g.T.Draft.bytes c.push.new.self (folded (aggs_of t) next.0)) (sym cols) (subst (HasTaken g.T.Draft.bytes c.push.new.self) (sym next.2) more),
+            subst (λ (t : Columns). HavePut c.put_all.new.groups (folded (aggs_of t) next.0)) (sym cols) (subst (HavePut c.put_all.new.groups) (sym next.2) grouped),
           );
     }
 
+-- ---- a failed read, or damage, of an input
+
 pub returns-in-Err-clause-accepts : goal.returns-in-Err-clause-accepts
-returns-in-Err-clause-accepts g c = λ d e givens h taken contents told bound.
+returns-in-Err-clause-accepts g c = λ d e givens h taken put contents told bound.
     let bytes = g.R.FileReader.bytes in
     let inv = c.rows.invariant in
     let s = columns_of c.rows.writer in
-    let now = inv.poured givens h taken in
+    let now = inv.poured givens h taken put in
     let is : c.in-Err.error ≡ Damaged d = cc in
-    c.in-Err.ensures.accepts d is s now.0 now.1 contents (subst (λ ks. AreTold ks contents) (sym inv.known) told)
+    (c.in-Err.ensures.next now.1.going).accepts d is s now.0 now.1 contents (subst (λ ks. AreTold ks contents) (sym inv.known) told)
     (subst (λ (t : Columns). KeepsBound (aggs_of t) [] (rows_of (lifted_parts (knowns_of bytes (inputs_of c.rows.merge)) contents))) (sym inv.columns)
     (subst (λ ks. KeepsBound (aggs_of (columns_of c.args.writer.now)) [] (rows_of (lifted_parts ks contents))) (sym inv.known) bound))
 
-pub returns-in-Err-clause-reads : goal.returns-in-Err-clause-reads
-returns-in-Err-clause-reads g c =
+pub returns-in-Err-clause-causes : goal.returns-in-Err-clause-causes
+returns-in-Err-clause-causes g c =
     let start = c.requires.pouring in
-    let now = c.rows.invariant.poured start.0 start.1 start.2 in
-    read_on _ _ _ c.in-Err.error c.rows.invariant.reads (c.in-Err.ensures.cause now.1.going)
+    let inv = c.rows.invariant in
+    let now = inv.poured start.0 start.1 start.2 start.3 in
+    let answer = c.in-Err.ensures.next now.1.going in
+    caused_file _ _ _ _ _ _ c.in-Err.error inv.faults inv.reads answer.cause (λ d is. inl (answer.damaged d is))
 
-pub returns-in-Err-clause-faults : goal.returns-in-Err-clause-faults
-returns-in-Err-clause-faults g c = draft_other _ _ _ c.rows.invariant.faults (λ fault. let both : File c.in-Err.error ≡ Draft = fault in cc)
+pub returns-in-Err-clause-known : goal.returns-in-Err-clause-known
+returns-in-Err-clause-known g c =
+    let start = c.requires.pouring in
+    let inv = c.rows.invariant in
+    (c.in-Err.ensures.next (inv.poured start.0 start.1 start.2 start.3).1.going).known ∙ inv.known
+
+pub returns-in-Err-clause-inputs : goal.returns-in-Err-clause-inputs
+returns-in-Err-clause-inputs g c = λ all.
+    let start = c.requires.pouring in
+    let inv = c.rows.invariant in
+    (c.in-Err.ensures.next (inv.poured start.0 start.1 start.2 start.3).1.going).inputs (inv.inputs all)
+
+-- ---- the end
 
 pub returns-in_default-clause-taken : goal.returns-in_default-clause-taken
-returns-in_default-clause-taken g c = λ givens h taken.
+returns-in_default-clause-taken g c = λ givens h taken put.
     let inv = c.rows.invariant in
     let s = columns_of c.rows.writer in
-    let now = inv.poured givens h taken in
-    let none = rw c.in_default.is at c.in-Ok.ensures.none in
+    let now = inv.poured givens h taken put in
+    let none = rw c.in_default.is at (c.in-Ok.ensures.next now.1.going).none in
     let all = none s now.0 now.1 in
-    (now.0, all.1, subst (λ (t : Columns). HasTaken g.T.Draft.bytes c.rows.writer (folded (aggs_of t) now.0)) inv.columns now.2)
+    (now.0, all.1, subst (λ (t : Columns). HasTaken g.T.Draft.bytes c.rows.writer (folded (aggs_of t) now.0)) inv.columns now.2, subst (λ (t : Columns). HavePut c.rows.groups (folded (aggs_of t) now.0)) inv.columns now.3)
 
-pub returns-in_default-clause-reads : goal.returns-in_default-clause-reads
-returns-in_default-clause-reads g c =
+pub returns-in_default-clause-causes : goal.returns-in_default-clause-causes
+returns-in_default-clause-causes g c =
     let start = c.requires.pouring in
-    let now = c.rows.invariant.poured start.0 start.1 start.2 in
-    read_quiet _ _ _ ((c.in-Ok.ensures.cause now.1.going).quiet ∙ c.rows.invariant.reads)
+    let inv = c.rows.invariant in
+    let now = inv.poured start.0 start.1 start.2 start.3 in
+    caused_ok _ _ _ _ _ _ inv.faults ((c.in-Ok.ensures.next now.1.going).cause.quiet ∙ inv.reads)
+
+pub returns-in_default-clause-known : goal.returns-in_default-clause-known
+returns-in_default-clause-known g c =
+    let start = c.requires.pouring in
+    let inv = c.rows.invariant in
+    (c.in-Ok.ensures.next (inv.poured start.0 start.1 start.2 start.3).1.going).known ∙ inv.known
+
+pub returns-in_default-clause-inputs : goal.returns-in_default-clause-inputs
+returns-in_default-clause-inputs g c = λ all.
+    let start = c.requires.pouring in
+    let inv = c.rows.invariant in
+    (c.in-Ok.ensures.next (inv.poured start.0 start.1 start.2 start.3).1.going).inputs (inv.inputs all)
+
+-- ---- a total that leaves its type
 
 pub returns-then-not-allows-clause-accepts : goal.returns-then-not-allows-clause-accepts
-returns-then-not-allows-clause-accepts g c = λ d e givens h taken contents told bound.
+returns-then-not-allows-clause-accepts g c = λ d e givens h taken put contents told bound.
     let bytes = g.R.FileReader.bytes in
     let inv = c.rows.invariant in
     let s : Columns = columns_of c.rows.writer in
     let row = c.in-Some.row in
-    let now = inv.poured givens h taken in
-    let some = rw c.in-Some.is at c.in-Ok.ensures.some in
+    let now = inv.poured givens h taken put in
+    let answer = c.in-Ok.ensures.next now.1.going in
+    let some = rw c.in-Some.is at answer.some in
     let next = some s now.0 now.1 in
-    let known : knowns_of bytes (inputs_of c.next.new.self) ≡ knowns_of bytes (inputs_of c.args.merge.now) = c.in-Ok.ensures.known ∙ inv.known in
+    let known : knowns_of bytes (inputs_of c.next.new.self) ≡ knowns_of bytes (inputs_of c.args.merge.now) = answer.known ∙ inv.known in
     let parts : List (List Row) = lifted_parts (knowns_of bytes (inputs_of c.next.new.self)) contents in
     let fronts : AreFronts next.0 parts = givens_fronts bytes (inputs_of c.next.new.self) _ next.0 contents next.1.given (subst (λ ks. AreTold ks contents) (sym known) told) in
     let keeps : KeepsBound (aggs_of s) [] (rows_of parts) = subst (λ (t : Columns). KeepsBound (aggs_of t) [] (rows_of parts)) (sym inv.columns)
@@ -122,29 +178,91 @@ returns-then-not-allows-clause-accepts g c = λ d e givens h taken contents told
     let no : false ≡ true = sym c.if-not-allows.true ∙ (c.allows.ensures (folded (aggs_of s) now.0) now.2).1 (λ _. sums_follow s (folded (aggs_of s) now.0) row (taken_form s _ now.2.good) all) in
     cc
 
-pub returns-then-not-allows-clause-reads : goal.returns-then-not-allows-clause-reads
-returns-then-not-allows-clause-reads g c =
+pub returns-then-not-allows-clause-causes : goal.returns-then-not-allows-clause-causes
+returns-then-not-allows-clause-causes g c =
     let start = c.requires.pouring in
-    let now = c.rows.invariant.poured start.0 start.1 start.2 in
-    read_other _ _ _ ((c.in-Ok.ensures.cause now.1.going).quiet ∙ c.rows.invariant.reads) (λ read. let both = sym c.sum_fault.ensures ∙ read in cc)
+    let inv = c.rows.invariant in
+    let now = inv.poured start.0 start.1 start.2 start.3 in
+    caused_damage _ _ _ _ _ _ (sum_damage c.args.newest) inv.faults ((c.in-Ok.ensures.next now.1.going).cause.quiet ∙ inv.reads) c.sum_fault.ensures (inr refl)
 
-pub returns-then-not-allows-clause-faults : goal.returns-then-not-allows-clause-faults
-returns-then-not-allows-clause-faults g c = draft_other _ _ _ c.rows.invariant.faults (λ fault. let both = sym c.sum_fault.ensures ∙ fault in cc)
+pub returns-then-not-allows-clause-known : goal.returns-then-not-allows-clause-known
+returns-then-not-allows-clause-known g c =
+    let start = c.requires.pouring in
+    let inv = c.rows.invariant in
+    (c.in-Ok.ensures.next (inv.poured start.0 start.1 start.2 start.3).1.going).known ∙ inv.known
+
+pub returns-then-not-allows-clause-inputs : goal.returns-then-not-allows-clause-inputs
+returns-then-not-allows-clause-inputs g c = λ all.
+    let start = c.requires.pouring in
+    let inv = c.rows.invariant in
+    (c.in-Ok.ensures.next (inv.poured start.0 start.1 start.2 start.3).1.going).inputs (inv.inputs all)
+
+-- ---- a sum of a group that leaves its type
+
+pub returns-in-Err-put_all-clause-accepts : goal.returns-in-Err-put_all-clause-accepts
+returns-in-Err-put_all-clause-accepts g c = λ d e givens h taken put contents told bound.
+    let bytes = g.R.FileReader.bytes in
+    let inv = c.rows.invariant in
+    let s : Columns = columns_of c.rows.writer in
+    let row = c.in-Some.row in
+    let now = inv.poured givens h taken put in
+    let answer = c.in-Ok.ensures.next now.1.going in
+    let some = rw c.in-Some.is at answer.some in
+    let next = some s now.0 now.1 in
+    let known : knowns_of bytes (inputs_of c.next.new.self) ≡ knowns_of bytes (inputs_of c.args.merge.now) = answer.known ∙ inv.known in
+    let parts : List (List Row) = lifted_parts (knowns_of bytes (inputs_of c.next.new.self)) contents in
+    let fronts : AreFronts next.0 parts = givens_fronts bytes (inputs_of c.next.new.self) _ next.0 contents next.1.given (subst (λ ks. AreTold ks contents) (sym known) told) in
+    let keeps : KeepsBound (aggs_of s) [] (rows_of parts) = subst (λ (t : Columns). KeepsBound (aggs_of t) [] (rows_of parts)) (sym inv.columns)
+    (subst (λ ks. KeepsBound (aggs_of (columns_of c.args.writer.now)) [] (rows_of (lifted_parts ks contents))) (sym known) bound) in
+    let all : KeepsSums s (folded (aggs_of s) now.0 ++ row ∷ []) =
+    subst (KeepsSums s) next.2 (folded_bound c.folds_totals.ensures s next.0 parts (merged_formed bytes s c.next.new.self next.0 next.1) fronts keeps) in
+    let is : c.in-Err-put_all.unfit ≡ Damaged d = cc in
+    c.in-Err-put_all.ensures.never d is s (folded (aggs_of s) now.0) now.3 (takes_kept s c.args.groups.now c.rows.groups inv.wanted (subst (λ (t : Columns). AllByRecursion (TakesRows t) c.args.groups.now) (sym inv.columns) c.requires.takes)) all
+
+pub returns-in-Err-put_all-clause-causes : goal.returns-in-Err-put_all-clause-causes
+returns-in-Err-put_all-clause-causes g c =
+    let start = c.requires.pouring in
+    let inv = c.rows.invariant in
+    let now = inv.poured start.0 start.1 start.2 start.3 in
+    caused_unread _ _ _ _ _ c.in-Err-put_all.unfit inv.faults ((c.in-Ok.ensures.next now.1.going).cause.quiet ∙ inv.reads) c.in-Err-put_all.ensures.unread (λ d is. inr (c.in-Err-put_all.ensures.damaged d is))
+
+pub returns-in-Err-put_all-clause-known : goal.returns-in-Err-put_all-clause-known
+returns-in-Err-put_all-clause-known g c =
+    let start = c.requires.pouring in
+    let inv = c.rows.invariant in
+    (c.in-Ok.ensures.next (inv.poured start.0 start.1 start.2 start.3).1.going).known ∙ inv.known
+
+pub returns-in-Err-put_all-clause-inputs : goal.returns-in-Err-put_all-clause-inputs
+returns-in-Err-put_all-clause-inputs g c = λ all.
+    let start = c.requires.pouring in
+    let inv = c.rows.invariant in
+    (c.in-Ok.ensures.next (inv.poured start.0 start.1 start.2 start.3).1.going).inputs (inv.inputs all)
+
+-- ---- a draft that fails
 
 pub returns-in-Err-push-clause-accepts : goal.returns-in-Err-push-clause-accepts
-returns-in-Err-push-clause-accepts g c = λ d e givens h taken contents told bound. no_damage c.in-Err-push.error c.from.result c.from.ensures d e
+returns-in-Err-push-clause-accepts g c = λ d e givens h taken put contents told bound. no_write_damage c.in-Err-push.error c.from.result c.from.ensures d e
 
-pub returns-in-Err-push-clause-reads : goal.returns-in-Err-push-clause-reads
-returns-in-Err-push-clause-reads g c =
+pub returns-in-Err-push-clause-causes : goal.returns-in-Err-push-clause-causes
+returns-in-Err-push-clause-causes g c =
     let start = c.requires.pouring in
-    let now = c.rows.invariant.poured start.0 start.1 start.2 in
-    read_other _ _ _ ((c.in-Ok.ensures.cause now.1.going).quiet ∙ c.rows.invariant.reads) (no_read c.in-Err-push.error c.from.result c.from.ensures)
+    let inv = c.rows.invariant in
+    let now = inv.poured start.0 start.1 start.2 start.3 in
+    caused_write _ _ _ _ _ _ c.in-Err-push.error c.from.result inv.faults ((c.in-Ok.ensures.next now.1.going).cause.quiet ∙ inv.reads) c.from.ensures c.in-Err-push.ensures.cause
 
-pub returns-in-Err-push-clause-faults : goal.returns-in-Err-push-clause-faults
-returns-in-Err-push-clause-faults g c = draft_on _ _ _ c.in-Err-push.error c.from.result c.rows.invariant.faults c.from.ensures c.in-Err-push.ensures.cause
+pub returns-in-Err-push-clause-known : goal.returns-in-Err-push-clause-known
+returns-in-Err-push-clause-known g c =
+    let start = c.requires.pouring in
+    let inv = c.rows.invariant in
+    (c.in-Ok.ensures.next (inv.poured start.0 start.1 start.2 start.3).1.going).known ∙ inv.known
 
-pub returns-clause-reads : goal.returns-clause-reads
-returns-clause-reads g c = read_other _ _ _ c.rows.invariant.reads (λ read. let both : File Memory ≡ File Read = read in cc)
+pub returns-in-Err-push-clause-inputs : goal.returns-in-Err-push-clause-inputs
+returns-in-Err-push-clause-inputs g c = λ all.
+    let start = c.requires.pouring in
+    let inv = c.rows.invariant in
+    (c.in-Ok.ensures.next (inv.poured start.0 start.1 start.2 start.3).1.going).inputs (inv.inputs all)
 
-pub returns-clause-faults : goal.returns-clause-faults
-returns-clause-faults g c = draft_other _ _ _ c.rows.invariant.faults (λ fault. let both : File Memory ≡ Draft = fault in cc)
+-- ---- too many rows
+
+pub returns-clause-causes : goal.returns-clause-causes
+returns-clause-causes g c = caused_memory _ _ _ _ _ c.rows.invariant.faults c.rows.invariant.reads
