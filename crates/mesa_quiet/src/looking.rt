@@ -1,0 +1,62 @@
+// A load's first turn.
+ghost use Rattle.std.specs.Prelude.{◌≡◌, ◌<◌, true, length, IfOk, OnOk};
+ghost use Rattle.mesa_batch.specs.Glance.{tables_of};
+ghost use Rattle.mesa_catalog.specs.Lookups.{sight_of};
+ghost use Rattle.mesa_history.specs.Run.{First, Looked};
+ghost use Rattle.mesa_model.specs.declared.entries.Kind.TheVariants as kind;
+ghost use Rattle.mesa_skeleton.specs.Rows.{no_rows};
+ghost use Rattle.mesa_walk.specs.Sight.{tables_seen};
+ghost use Rattle.mesa_walk.specs.Turns as spec;
+ghost use Rattle.mesa_walk.specs.Turns.{Asks, Takes, is_load};
+ghost use Rattle.mesa_walk.specs.Walk.{run_at};
+
+use mesa_batch::Glance;
+use mesa_disk::{Disk, Made};
+use mesa_engine::Engine;
+use mesa_io::Sink;
+use mesa_ledger::Naming;
+use mesa_log::Who;
+use mesa_model::{Kind, Outcome};
+use std::alloc::AllocError;
+
+// How a look ends.
+fn looking(running: bool, found: bool) -> Outcome
+    ensures { result ≡ spec.looking running found }
+{
+    if !running {
+        return Outcome::Skipped;
+    }
+    if found {
+        Outcome::Stands
+    } else {
+        Outcome::Memory
+    }
+}
+
+/// A load's first turn: what it sees of the tables, unless the sink has failed or there is no memory.
+pub fn look<N: Naming, M: Made, D: Disk<M>, K: Sink>(
+    engine: &mut Engine<N, M, D, K>,
+    who: Who,
+) -> Result<Glance, AllocError>
+    requires due { Asks N.script (run_at N.script (N.start no_rows) engine.old.shown.history) who.session who.command First is_load }
+    requires room { length engine.old.shown.history < N.room }
+    ensures turn { Takes N.script (N.start no_rows) engine.old.shown engine.new.shown who.session who.command kind.Look Looked }
+    ensures glance { IfOk result (λ g. g ≡ sight_of engine.new.ledger.catalogue) }
+    ensures tables { IfOk result (λ g. tables_of g ≡ tables_seen (run_at N.script (N.start no_rows) engine.new.shown.history)) }
+    ensures ran { OnOk result (engine.old.shown.running ≡ true) }
+    ensures ledger { engine.new.ledger ≡ engine.old.ledger }
+{
+    let running = engine.running();
+    let glance = if running {
+        engine.glance()
+    } else {
+        Err(AllocError)
+    };
+    let turn = who.turn(
+        Kind::Look,
+        looking(running, glance.is_ok()),
+        engine.disk.clock(),
+    );
+    engine.log.pass(turn);
+    glance
+}

@@ -1,0 +1,61 @@
+// A pin's release.
+ghost use Rattle.std.specs.Prelude.{◌≡◌, ◌<◌, length, IfNone, IfSome, None, Err};
+ghost use Rattle.mesa_history.specs.Run.{First, Finished};
+ghost use Rattle.mesa_history.specs.Turns.{IsDue};
+ghost use Rattle.mesa_ledger.specs.Ledger.{books_of};
+ghost use Rattle.mesa_model.specs.Pins.{release_pin};
+ghost use Rattle.mesa_model.specs.declared.commands.Command.TheVariants as command;
+ghost use Rattle.mesa_model.specs.declared.entries.Kind.TheVariants as kind;
+ghost use Rattle.mesa_skeleton.specs.Rows.{no_rows};
+ghost use Rattle.mesa_walk.specs.Changes.{ReleasesPin};
+ghost use Rattle.mesa_walk.specs.Turns.{Takes};
+ghost use Rattle.mesa_walk.specs.Walk.{run_at};
+
+use mesa_disk::{Disk, Made};
+use mesa_engine::Engine;
+use mesa_io::Sink;
+use mesa_ledger::Naming;
+use mesa_log::{Failure, Who};
+use mesa_metadata::Metadata;
+use mesa_model::{Kind, Outcome, Refusal, Reply};
+
+// Why a session's pin isn't released, if it isn't.
+fn unreleased(metadata: &Metadata, session: u16, token: u32) -> Option<Refusal>
+    ensures refused { IfSome result (λ x. release_pin (books_of no_rows metadata.now.ledger).bare session token ≡ Err x) }
+    ensures released { IfNone result (ReleasesPin (books_of no_rows metadata.now.ledger) session token) }
+    ensures opened { IfNone result (metadata.now.ledger.closed ≡ None) }
+{
+    if let Some(position) = metadata.closed() {
+        return Some(Refusal::Closed { position });
+    }
+    if metadata.pin_of(session, token).is_none() {
+        return Some(Refusal::NoPin { token });
+    }
+    None
+}
+
+/// The turn of a release: the session's pin goes, and what it held may be removed by a later turn.
+pub fn release<N: Naming, M: Made, D: Disk<M>, K: Sink>(
+    engine: &mut Engine<N, M, D, K>,
+    who: Who,
+    token: u32,
+) -> Reply
+    requires due { IsDue N.script (run_at N.script (N.start no_rows) engine.old.shown.history) who.session who.command (command.Release token) First }
+    requires room { length engine.old.shown.history < N.room }
+    ensures turn { Takes N.script (N.start no_rows) engine.old.shown engine.new.shown who.session who.command kind.Decide Finished }
+    ensures catalogue { engine.new.ledger.catalogue ≡ engine.old.ledger.catalogue }
+{
+    if !engine.running() {
+        engine.skip(who, Kind::Decide);
+        return Reply::Refused(Refusal::Memory);
+    }
+    if let Some(refusal) = unreleased(&engine.metadata, who.session, token) {
+        return engine.fail(who, Kind::Decide, Failure::Refused(refusal));
+    }
+    engine.metadata.release(who.session, token);
+    let at = engine.log.position();
+    let turn = who.turn(Kind::Decide, Outcome::Stands, engine.disk.clock());
+    let reply = Reply::Released { token };
+    engine.log.tell(turn, at, &reply, b"");
+    reply
+}
