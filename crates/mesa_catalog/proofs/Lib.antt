@@ -1,4 +1,5 @@
 pub mod Applies
+pub mod Copies
 pub mod Counted
 pub mod Dropped
 pub mod Generation

@@ -3,3 +3,4 @@ pub mod Lookups
 pub mod Named
 pub mod Readied
 pub mod Kept
+pub mod Copied

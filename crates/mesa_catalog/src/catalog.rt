@@ -1,10 +1,11 @@
 // The catalogue.
-ghost use Rattle.std.specs.Prelude.{◌≡◌, ◌+◌, None, Some, OnOk, OnErr, IsTrue};
+ghost use Rattle.std.specs.Prelude.{◌≡◌, ◌+◌, None, Some, OnOk, OnErr, IsTrue, IfOk};
 ghost use Rattle.mesa_span.specs.Ranges.{base_before};
 ghost use Rattle.mesa_image.specs.Catalog.{applied, empty_catalog};
 ghost use Rattle.mesa_image.specs.Fitting.{brings_new_files, fits as fits_catalog, kind_fits};
 ghost use Rattle.mesa_catalog.specs.Lookups.{generation_of, turns_generation};
 
+use crate::copying::share_tables;
 use crate::newness::{brings_new, brings_rising, greatest_with};
 use crate::ready::Ready;
 use crate::readying::make_room;
@@ -47,6 +48,24 @@ impl Catalog {
             ready: None,
             greatest: 0,
         }
+    }
+
+    /// The same catalogue, for which nothing is reserved. It shares its deltas with this one: it is a list of pointers to them.
+    pub fn copy(&self, alloc: Global) -> Result<Catalog, AllocError>
+        ensures { IfOk result (λ copy. copy ≡ record { catalogue = self.now.catalogue; reserved = None }) }
+    {
+        let tables = share_tables(alloc, &self.shelves.tables)?;
+        let copy = Catalog {
+            shelves: Shelves {
+                tables,
+                oldest: self.shelves.oldest,
+                next: self.shelves.next,
+                run: self.shelves.run,
+            },
+            ready: None,
+            greatest: self.greatest,
+        };
+        Ok(copy)
     }
 
     /// The oldest version that can be queried.

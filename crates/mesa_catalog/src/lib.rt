@@ -2,7 +2,9 @@
 #![tactic(auto)]
 
 mod applying;
+mod begun;
 mod catalog;
+mod copying;
 mod files;
 mod finding;
 mod fitting;
@@ -12,5 +14,6 @@ mod ready;
 mod readying;
 mod shelves;
 
+pub use begun::Begun;
 pub use catalog::Catalog;
 pub use mesa_shelf::{Delta, Recorded, Relation};

@@ -1,0 +1,39 @@
+use Rattle.std.proofs.Common.{◌≡◌, ◌≤◌, ◌∙◌, ap, sym, subst, arith, length, map}
+use Rattle.std.specs.Prelude.{None}
+use Rattle.std.specs.List.{AllByRecursion}
+use Rattle.std.proofs.lemmas.List.{length-map}
+use Rattle.mesa_image.specs.Catalog.{Catalog}
+use Rattle.mesa_image_laws.specs.Ids.{named, times}
+use Rattle.mesa_shelf.specs.Meaning.{IsTable, stock_of}
+use Rattle.mesa_catalog.specs.declared.shelves.Shelves.{Shelves}
+use Rattle.mesa_catalog.specs.Kept.{Reserved}
+use Rattle.mesa_catalog.specs.Meaning.{catalogue_of}
+use Rattle.mesa_catalog.proofs.catalog.Catalog.copy.Goals as goal
+
+pub invariant_of-copy : goal.invariant_of-copy
+invariant_of-copy c =
+    let s = c.self.inside.shelves in
+    let kept = c.self.invariant in
+    let new : Shelves = record { tables = c.in_ok-tables.tables; oldest = s.oldest; next = s.next; run = s.run } in
+    let tables = c.in_ok-tables.ensures.same s.next ∙ ap (map (stock_of s.next)) c.deref.ensures.value in
+    let same : catalogue_of new ≡ catalogue_of s = (λ i. record { tables = tables i; oldest = s.oldest; next = s.next; run = s.run }) in
+    let count : length new.tables.items ≡ length s.tables.items = sym (length-map new.tables.items (stock_of s.next)) ∙ ap length tables ∙ length-map s.tables.items (stock_of s.next) in
+    let few = kept.shelves.few in
+    record {
+      shelves = record {
+        few = omega (arith, few, count);
+        most = kept.shelves.most;
+        oldest = kept.shelves.oldest;
+        tables = c.in_ok-tables.ensures.tables s.next (subst (AllByRecursion (IsTable s.next)) (sym c.deref.ensures.value) kept.shelves.tables);
+      };
+      ready = tt;
+      once = λ id. subst (λ (k : Catalog). times id (named k) ≤ 1) (sym same) (kept.once id);
+      most = subst (λ (k : Catalog). AllByRecursion (λ id. id ≤ c.self.inside.greatest) (named k)) (sym same) kept.most;
+    }
+
+pub returns : goal.returns
+returns c =
+    let s = c.self.inside.shelves in
+    let tables = c.in_ok-tables.ensures.same s.next ∙ ap (map (stock_of s.next)) c.deref.ensures.value in
+    let same = (λ i. record { tables = tables i; oldest = s.oldest; next = s.next; run = s.run }) ∙ ap (λ (k : Reserved). k.catalogue) c.self.view_is in
+    λ i. record { catalogue = same i; reserved = None }
