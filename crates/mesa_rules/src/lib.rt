@@ -1,0 +1,11 @@
+//! The rules over the catalogue: what a command may do, decided by the catalogue alone and never by rows, with the record that the journal takes for it; or why it is refused.
+#![tactic(auto)]
+
+mod lookups;
+mod ruled;
+mod schemas;
+mod versions;
+
+pub use ruled::Ruled;
+pub use schemas::{alter, table, view};
+pub use versions::{expire, pin, version_asked};
