@@ -1,0 +1,6 @@
+pub mod Blocks
+pub mod Ungrouped
+pub mod Files
+pub mod Contents
+pub mod Owned
+pub mod Answered

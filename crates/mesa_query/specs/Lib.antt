@@ -1,0 +1,3 @@
+pub mod Relation
+pub mod Files
+pub mod Laws

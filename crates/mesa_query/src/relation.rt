@@ -1,0 +1,29 @@
+// The columns of the queried relation.
+ghost use Rattle.std.specs.Prelude.{◌≡◌, ℕ, IfOk, Option, List};
+ghost use Rattle.mesa_schema.specs.Changes.{columns_of};
+ghost use Rattle.mesa_schema.specs.Columns.{Columns};
+ghost use Rattle.mesa_tasks.specs.Inputs.{lineage_of};
+ghost use Rattle.mesa_tasks.specs.Pins.{IsOfRelation};
+
+use mesa_disk::FileReader;
+use mesa_list::TryCopy;
+use mesa_schema::Schema;
+use mesa_tasks::PinnedInput;
+use std::alloc::AllocError;
+
+// The columns of the relation of this file: its own, or those of its table's view of this number.
+pub(crate) fn relation_columns<R: FileReader>(
+    view: Option<u8>,
+    one: &PinnedInput<R>,
+) -> Result<Schema, AllocError>
+    requires { (s : Columns) × IsOfRelation s view (lineage_of one.now.input) one.now.own }
+    ensures { IfOk result (λ found. (s : Columns) → IsOfRelation s view (lineage_of one.now.input) one.now.own → found ≡ s) }
+{
+    if one.own {
+        return one.input.evolving.present().copy();
+    }
+    match view {
+        Some(view) => one.input.evolving.view_schema(view),
+        None => unreachable!(),
+    }
+}
