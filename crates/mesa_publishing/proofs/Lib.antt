@@ -1,0 +1,10 @@
+pub mod KeysOnce
+pub mod SumNames
+pub mod Lists
+pub mod Parts
+pub mod Totals
+pub mod Loads
+pub mod Checked
+pub mod Ids
+pub mod Steps
+pub mod Told

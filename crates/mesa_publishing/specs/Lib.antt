@@ -1,0 +1,4 @@
+pub mod Batches
+pub mod Adopted
+pub mod Bounds
+pub mod Published
