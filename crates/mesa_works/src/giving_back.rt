@@ -1,0 +1,18 @@
+// Giving back what a work was handed.
+ghost use Rattle.std.specs.Prelude.{◌≡◌};
+
+use mesa_disk::{Disk, Made};
+use mesa_engine::Engine;
+use mesa_io::Sink;
+use mesa_ledger::Naming;
+use mesa_tasks::{Task, retire_task};
+
+/// Gives back the readers of a task. Those that have failed are counted by the disk.
+pub fn give_back<N: Naming, M: Made, D: Disk<M>, K: Sink>(
+    engine: &mut Engine<N, M, D, K>,
+    task: Task<D::Reader>,
+)
+    ensures { engine.new ≡ engine.old }
+{
+    retire_task(&mut engine.disk, task);
+}
