@@ -1,0 +1,47 @@
+use Rattle.std.proofs.Common.{◌+◌, sym, ◌∙◌, subst}
+use Rattle.std.proofs.lemmas.Result.{err_from_is_err_and}
+use Rattle.mesa_opening.specs.Strays.{AreStrays}
+use Rattle.mesa_opening.proofs.Beginnings.{begins_run, counts_err, found_unmoved, images_after}
+use Rattle.mesa_recover.proofs.beginning.begin_run.Goals as goal
+
+pub returns-in_err-framed-clause-counts : goal.returns-in_err-framed-clause-counts
+returns-in_err-framed-clause-counts g c =
+    let p = err_from_is_err_and c.from_residual.result c.from_residual.ensures.1 in
+    rw (p.1, p.2) (counts_err (g.D.Disk.story c.args.disk.now) (g.D.Disk.story c.ready_run.new.disk) _ c.in_err-framed.ensures.counts)
+
+pub returns-in_err-end-clause-images : goal.returns-in_err-end-clause-images
+returns-in_err-end-clause-images g c bodies rows found =
+    let s0 = g.D.Disk.story c.args.disk.now in
+    let s1 = g.D.Disk.story c.ready_run.new.disk in
+    let k = c.args.catalog.now.catalogue in
+    let begins = begins_run s0 k (c.args.last_run + 1) c.in_ok-framed.framed c.deref.result.now c.in_ok-framed.ensures.body.1 c.in_ok-framed.ensures.body.0 c.next_run_fits.ensures (subst (AreStrays s0 k) (sym c.deref.ensures.value) c.in_ok-framed.ensures.strays) in
+    images_after rows k s0 s1 (g.D.Disk.story c.write_run.new.disk) c.ready_run.ensures.unmoved found.left
+    (c.write_run.ensures.images bodies k rows (c.args.last_run + 1) (found_unmoved s0 s1 bodies c.args.end k rows c.ready_run.ensures.unmoved found) begins)
+
+pub returns-clause-images : goal.returns-clause-images
+returns-clause-images g c bodies rows found =
+    let s0 = g.D.Disk.story c.args.disk.now in
+    let s1 = g.D.Disk.story c.ready_run.new.disk in
+    let k = c.args.catalog.now.catalogue in
+    let begins = begins_run s0 k (c.args.last_run + 1) c.in_ok-framed.framed c.deref.result.now c.in_ok-framed.ensures.body.1 c.in_ok-framed.ensures.body.0 c.next_run_fits.ensures (subst (AreStrays s0 k) (sym c.deref.ensures.value) c.in_ok-framed.ensures.strays) in
+    images_after rows k s0 s1 (g.D.Disk.story c.write_run.new.disk) c.ready_run.ensures.unmoved found.left
+    (c.write_run.ensures.images bodies k rows (c.args.last_run + 1) (found_unmoved s0 s1 bodies c.args.end k rows c.ready_run.ensures.unmoved found) begins)
+
+pub returns-clause-held : goal.returns-clause-held
+returns-clause-held g c bodies rows found =
+    let s0 = g.D.Disk.story c.args.disk.now in
+    let s1 = g.D.Disk.story c.ready_run.new.disk in
+    let k = c.args.catalog.now.catalogue in
+    let begins = begins_run s0 k (c.args.last_run + 1) c.in_ok-framed.framed c.deref.result.now c.in_ok-framed.ensures.body.1 c.in_ok-framed.ensures.body.0 c.next_run_fits.ensures (subst (AreStrays s0 k) (sym c.deref.ensures.value) c.in_ok-framed.ensures.strays) in
+    c.in_ok-end.ensures.held bodies k rows (c.args.last_run + 1) (found_unmoved s0 s1 bodies c.args.end k rows c.ready_run.ensures.unmoved found) begins
+
+pub returns-clause-named : goal.returns-clause-named
+returns-clause-named g c =
+    let s0 = g.D.Disk.story c.args.disk.now in
+    let k = c.args.catalog.now.catalogue in
+    let strays = subst (AreStrays s0 k) (sym c.deref.ensures.value) c.in_ok-framed.ensures.strays in
+    c.in_ok-end.ensures.named k (record {
+      files = strays.files;
+      recorded = strays.recorded;
+      among = record { ids = strays.among.ids; listed = λ i told. strays.among.listed i (sym c.ready_run.ensures.unmoved.told ∙ told); are = strays.among.are };
+    })

@@ -1,0 +1,149 @@
+// Beginning a run.
+ghost use Rattle.std.specs.Prelude.{◌≡◌, ◌⊎◌, ◌+◌, ◌*◌, ◌^◌, ◌<◌, ◌≤◌, ℕ, List, [], IfOk, IfErr, OnOk, Err, Ok, Some, None, IsTrue};
+ghost use Rattle.mesa_key.specs.Spelling.{AreBytes};
+ghost use Rattle.mesa_fault.specs.Causes.{HasCause};
+ghost use Rattle.mesa_disk.specs.Story.{Spans, Unmoved};
+ghost use Rattle.mesa_disk.specs.declared.area.Area.TheVariants.{Zero};
+ghost use Rattle.mesa_trash.specs.Filed.{AreNamedOrWait, FilesAdopted};
+ghost use Rattle.mesa_record.specs.Reading.{record_at};
+ghost use Rattle.mesa_record.specs.Rules.{keeps_rules};
+ghost use Rattle.mesa_image.specs.Catalog.{Catalog as AnyCatalog, applied};
+ghost use Rattle.mesa_image.specs.Fitting.{fits};
+ghost use Rattle.mesa_image.specs.Contents.{Rows, kept_of};
+ghost use Rattle.mesa_image.specs.Sound.{StandsFor};
+ghost use Rattle.mesa_image_laws.specs.Ids.{named};
+ghost use Rattle.mesa_store.specs.Store.{IsFound};
+ghost use Rattle.mesa_opening.specs.declared.error.OpenError.TheVariants as open_error;
+ghost use Rattle.mesa_opening.specs.Checking.{Counts, IsFaultOrMemory};
+ghost use Rattle.mesa_opening.specs.Strays.{AreStrays};
+ghost use Rattle.mesa_opening.specs.Opening.{HasReason, IsHeldAs, IsSoundStart, Keeps, first_id, most_runs, run_record};
+ghost use Rattle.mesa_recover.specs.Opened.{IsOpened};
+
+use crate::{Begun, Opened};
+use mesa_catalog::Catalog;
+use mesa_disk::{Disk, FileId, Made};
+use mesa_image_laws::catalogs_own_ids;
+use mesa_journal::Framed;
+use mesa_opening::{OpenError, find_strays, frame, write_run};
+use mesa_record::Record;
+use std::alloc::Global;
+
+// The number of the last run that there may be.
+const MOST_RUNS: u32 = (1 << 24) - 1;
+
+/// Begins a run: makes all that was read stay, appends the run's record, and removes each adopted file that
+/// the catalogue doesn't name. Where there was a last run, nothing is written.
+pub fn begin<M: Made, D: Disk<M>>(
+    alloc: Global,
+    opened: Opened<D>,
+) -> Result<Begun<D>, (OpenError, D)>
+    requires { IsOpened (D.story opened.disk) opened }
+
+    // The run is the next one, and its record is applied.
+    ensures run { IfOk result (λ b. b.run ≡ opened.last_run + 1) }
+    ensures catalog { IfOk result (λ b. b.catalog.catalogue ≡ applied opened.catalog.catalogue (run_record b.run)) }
+    ensures place { IfOk result (λ b. (b.area ≡ Zero) × (b.since ≡ opened.since)) }
+    ensures room { IfOk result (λ b. b.end < (D.story b.disk).len Zero) }
+
+    // From a sound start the disk holds the store after the record, and whatever it answers each image keeps the state.
+    ensures held { IfOk result (λ b. (rows : Rows) → IsSoundStart (D.story opened.disk) opened.catalog.catalogue rows → IsHeldAs (D.story b.disk) b.end b.catalog.catalogue rows) }
+    ensures keeps { IfOk result (λ b. Keeps (D.story opened.disk) (D.story b.disk)) }
+    ensures keeps_err { IfErr result (λ e. Keeps (D.story opened.disk) (D.story e.1)) }
+
+    // Each adopted file is one that the catalogue names, and no id of this run is taken.
+    ensures filed { IfOk result (λ b. FilesAdopted 0 (first_id b.run) (first_id (b.run + 1)) (named b.catalog.catalogue) [] [] (D.story b.disk).told) }
+
+    ensures reason { IfErr result (λ e. HasReason (D.story opened.disk) (D.story e.1) e.0) }
+    ensures full { opened.last_run ≡ most_runs → result ≡ Err (open_error.RunsFull, opened.disk) }
+    ensures not_full { opened.last_run < most_runs → IfErr result (λ e. e.0 ≡ open_error.RunsFull → ⊥) }
+    ensures quiet { IfOk result (λ b. ((D.story b.disk).faults ≡ (D.story opened.disk).faults) × ((D.story b.disk).read_faults ≡ (D.story opened.disk).read_faults)) }
+    ensures clock { IfOk result (λ b. (D.story opened.disk).moment ≤ (D.story b.disk).moment) }
+    ensures clock_err { IfErr result (λ e. (D.story opened.disk).moment ≤ (D.story e.1).moment) }
+{
+    catalogs_own_ids();
+    let Opened {
+        mut disk,
+        mut catalog,
+        last_run,
+        area,
+        end,
+        since,
+    } = opened;
+    if last_run >= MOST_RUNS {
+        return Err((OpenError::RunsFull, disk));
+    }
+    match begin_run(alloc, &mut disk, &mut catalog, last_run, end) {
+        Ok(end) => Ok(Begun {
+            disk,
+            catalog,
+            run: last_run + 1,
+            area,
+            end,
+            since,
+        }),
+        Err(error) => Err((error, disk)),
+    }
+}
+
+// Takes in the record of the next run, and removes strays. Gives the journal's new end.
+fn begin_run<M: Made, D: Disk<M>>(
+    alloc: Global,
+    disk: &mut D,
+    catalog: &mut Catalog,
+    last_run: u32,
+    end: u64,
+) -> Result<u64, OpenError>
+    requires run { last_run ≡ catalog.old.catalogue.run }
+    requires few { last_run < most_runs }
+    requires gate { 1 < (D.story disk.old).len Zero → end < (D.story disk.old).len Zero }
+    requires none { (D.story disk.old).len Zero ≤ 1 → end ≡ 0 }
+    ensures catalog { OnOk result (catalog.new.catalogue ≡ applied catalog.old.catalogue (run_record (last_run + 1))) }
+    ensures room { IfOk result (λ new_end. new_end < (D.story disk.new).len Zero) }
+    ensures images { (bodies : List (List ℕ)) (rows : Rows) → IsFound (D.story disk.old) bodies end catalog.old.catalogue rows → Spans (λ x. StandsFor x (kept_of rows catalog.old.catalogue)) (D.story disk.old) (D.story disk.new) }
+    ensures held { IfOk result (λ new_end. (bodies : List (List ℕ)) (rows : Rows) → IsFound (D.story disk.old) bodies end catalog.old.catalogue rows → IsHeldAs (D.story disk.new) new_end (applied catalog.old.catalogue (run_record (last_run + 1))) rows) }
+    ensures named { OnOk result (AreNamedOrWait (named catalog.old.catalogue) [] (D.story disk.new).told) }
+    ensures kind { IfErr result IsFaultOrMemory }
+    ensures clock { (D.story disk.old).moment ≤ (D.story disk.new).moment }
+    ensures counts { Counts (D.story disk.old) (D.story disk.new) result }
+{
+    next_run_fits(catalog, last_run);
+    let record = Record::Run {
+        number: last_run + 1,
+    };
+    let (framed, strays) = ready_run(alloc, disk, catalog, &record)?;
+    let end = write_run(alloc, disk, end, &framed, &strays)?;
+    catalog.apply(record);
+    Ok(end)
+}
+
+// The record of the next run fits, while there is a number for it.
+fn next_run_fits(catalog: &Catalog, last_run: u32)
+    requires run { last_run ≡ catalog.now.catalogue.run }
+    requires few { last_run < most_runs }
+    ensures { IsTrue (fits catalog.now.catalogue (run_record (last_run + 1))) }
+{}
+
+// Takes all memory that a run's record needs, before anything is written: its frame, room in the catalogue,
+// and the ids of the files that no record names.
+fn ready_run<M: Made, D: Disk<M>>(
+    alloc: Global,
+    disk: &mut D,
+    catalog: &mut Catalog,
+    record: &Record,
+) -> Result<(Framed, Vec<FileId>), OpenError>
+    requires rules { IsTrue (keeps_rules «record».now) }
+    requires fits { IsTrue (fits catalog.old.catalogue «record».now) }
+    ensures body { IfOk result (λ x. (record_at x.0 ≡ Ok «record».now) × AreBytes x.0) }
+    ensures strays { IfOk result (λ x. AreStrays (D.story disk.old) catalog.old.catalogue x.1.items) }
+    ensures same { catalog.new.catalogue ≡ catalog.old.catalogue }
+    ensures reserved { OnOk result (catalog.new.reserved ≡ Some «record».now) }
+    ensures unmoved { Unmoved (D.story disk.old) (D.story disk.new) }
+    ensures kind { IfErr result IsFaultOrMemory }
+    ensures counts { Counts (D.story disk.old) (D.story disk.new) result }
+{
+    let framed = frame(alloc, record)?;
+    catalog.reserve(record)?;
+    let files = catalog.recorded_files(alloc)?;
+    let strays = find_strays(alloc, disk, &files)?;
+    Ok((framed, strays))
+}

@@ -1,0 +1,81 @@
+// Reading a store.
+ghost use Rattle.std.specs.Prelude.{◌≡◌, ℕ, List, IfOk, IfErr};
+ghost use Rattle.mesa_disk.specs.Story.{Unmoved};
+ghost use Rattle.mesa_opening.specs.declared.error.OpenError.TheVariants as open_error;
+ghost use Rattle.mesa_opening.specs.Checking.{Counts};
+ghost use Rattle.mesa_opening.specs.Misfits.{journal_refusal};
+ghost use Rattle.mesa_opening.specs.Opening.{HasReason, IsRead};
+ghost use Rattle.mesa_recover.specs.Opened.{IsOpened};
+
+use crate::Opened;
+use crate::records::read_records;
+use mesa_catalog::Catalog;
+use mesa_disk::{Area, Disk, Made, Seen};
+use mesa_journal::{JournalError, read_journal};
+use mesa_opening::{OpenError, check_files};
+use std::alloc::Global;
+
+/// Reads a store: the journal, then each record, and then each file that the catalogue names, by rising
+/// ids. It writes nothing.
+pub fn read<M: Made, D: Disk<M>>(alloc: Global, disk: D) -> Result<Opened<D>, (OpenError, D)>
+    ensures opened { IfOk result (λ o. IsOpened (D.story o.disk) o) }
+    ensures reason { IfErr result (λ e. HasReason (D.story disk) (D.story e.1) e.0) }
+    ensures full { IfErr result (λ e. e.0 ≡ open_error.RunsFull → ⊥) }
+
+    // The disk stays as it was, and where it reads without a fault, so do its counts.
+    ensures unmoved { IfOk result (λ o. Unmoved (D.story disk) (D.story o.disk)) }
+    ensures unmoved_err { IfErr result (λ e. Unmoved (D.story disk) (D.story e.1)) }
+    ensures quiet { IfOk result (λ o. ((D.story o.disk).faults ≡ (D.story disk).faults) × ((D.story o.disk).read_faults ≡ (D.story disk).read_faults)) }
+    ensures other { IfErr result (λ e. (e.0 ≡ open_error.Fault → ⊥) → ((D.story e.1).faults ≡ (D.story disk).faults) × ((D.story e.1).read_faults ≡ (D.story disk).read_faults)) }
+{
+    let mut disk = disk;
+    let since = disk.clock();
+    match read_store(alloc, &mut disk) {
+        Ok((catalog, end)) => {
+            let last_run = catalog.run();
+            Ok(Opened {
+                disk,
+                catalog,
+                last_run,
+                area: Area::Zero,
+                end,
+                since,
+            })
+        }
+        Err(error) => Err((error, disk)),
+    }
+}
+
+// The catalogue that the journal makes, and where the journal ends.
+fn read_store<M: Made, D: Disk<M>>(alloc: Global, disk: &mut D) -> Result<(Catalog, u64), OpenError>
+    ensures found { IfOk result (λ x. (bodies : List (List ℕ)) × IsRead (D.story disk.old) bodies x.1 x.0.catalogue) }
+    ensures reason { IfErr result (HasReason (D.story disk.old) (D.story disk.new)) }
+    ensures full { IfErr result (λ e. e ≡ open_error.RunsFull → ⊥) }
+    ensures unmoved { Unmoved (D.story disk.old) (D.story disk.new) }
+    ensures counts { Counts (D.story disk.old) (D.story disk.new) result }
+{
+    let journal = match read_journal(alloc, disk, Area::Zero) {
+        Ok(journal) => journal,
+        Err(error) => return Err(cut_off(error)),
+    };
+    let catalog = read_records(alloc, journal.bodies.as_slice())?;
+    let files = catalog.recorded_files(alloc)?;
+    check_files(alloc, disk, files.as_slice())?;
+    Ok((catalog, journal.end))
+}
+
+// Why a journal isn't read.
+fn cut_off(error: JournalError) -> OpenError
+    ensures { result ≡ journal_refusal error }
+{
+    match error {
+        JournalError::Fault => OpenError::Fault,
+        JournalError::Damaged { at, want, found } => OpenError::Journal {
+            area: 0,
+            at,
+            want: Seen::Length(want),
+            found: Seen::Length(found),
+        },
+        JournalError::Memory => OpenError::Memory,
+    }
+}
