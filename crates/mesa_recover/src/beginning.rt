@@ -19,8 +19,8 @@ ghost use Rattle.mesa_opening.specs.Strays.{AreStrays};
 ghost use Rattle.mesa_opening.specs.Opening.{HasReason, IsHeldAs, IsSoundStart, Keeps, first_id, most_runs, run_record};
 ghost use Rattle.mesa_recover.specs.Opened.{IsOpened};
 
-use crate::{Begun, Opened};
-use mesa_catalog::Catalog;
+use crate::Opened;
+use mesa_catalog::{Begun, Catalog};
 use mesa_disk::{Disk, FileId, Made};
 use mesa_image_laws::catalogs_own_ids;
 use mesa_journal::Framed;

@@ -6,13 +6,12 @@
 #![tactic(auto)]
 
 mod beginning;
-mod begun;
 mod opened;
 mod reading;
 mod records;
 
 pub use beginning::begin;
-pub use begun::Begun;
+pub use mesa_catalog::Begun;
 pub use mesa_opening::OpenError;
 pub use opened::Opened;
 pub use reading::read;
