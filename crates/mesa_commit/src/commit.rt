@@ -1,5 +1,5 @@
 ghost use Rattle.std.specs.Prelude.{◌≡◌, ◌+◌, ◌<◌, ◌≤◌, ℕ, List, [], ◌∷◌, ◌++◌, map, length, IfOk, OnOk, Some};
-ghost use Rattle.mesa_fault.specs.Causes.{HasCause};
+ghost use Rattle.mesa_fault.specs.Causes.{HasCause, Rose};
 ghost use Rattle.mesa_key.specs.Spelling.{AreBytes};
 ghost use Rattle.mesa_disk.specs.Image.{Image};
 ghost use Rattle.mesa_disk.specs.Files.{files_of, AreAbsent, AreGone, AreThere, HasDistinctIds};
@@ -46,6 +46,7 @@ pub fn commit_turn<M: Made, D: Disk<M>>(
 
     ensures other { (a : Area) → (a ≡ area → ⊥) → (D.story disk.new).len a ≡ (D.story disk.old).len a }
     ensures clock { (D.story disk.old).moment ≤ (D.story disk.new).moment }
+    ensures risen { Rose (D.story disk.old).moment (D.story disk.new).moment }
     ensures cause { HasCause (D.story disk.old).faults (D.story disk.new).faults result }
     ensures read_cause { (D.story disk.new).read_faults ≡ (D.story disk.old).read_faults }
 {

@@ -1,9 +1,9 @@
-ghost use Rattle.std.specs.Prelude.{◌≡◌, ◌≤◌, ℕ, List, Some, OnOk};
+ghost use Rattle.std.specs.Prelude.{◌≡◌, ◌≤◌, ℕ, List, Some, OnOk, OnErr};
 ghost use Rattle.mesa_disk.specs.declared.area.Area.{Area};
 ghost use Rattle.mesa_disk.specs.Image.{Image};
 ghost use Rattle.mesa_disk.specs.Files.{files_of, AddsAll, AddsFirst, AreAbsent, AreGone, AreThere, HasDistinctIds, HasOtherIds, IsNoneOf, LosesAll, LosesFirst, LosesSome, OthersStay};
 ghost use Rattle.mesa_disk.specs.Story.{Steps, After, Follows, Elapses};
-ghost use Rattle.mesa_fault.specs.Causes.{HasCause};
+ghost use Rattle.mesa_fault.specs.Causes.{HasCause, Rose};
 
 use crate::{Disk, DiskFailed, FileId, Made};
 
@@ -37,6 +37,7 @@ pub fn adopt_all<M: Made, D: Disk<M>>(
     ensures left { Follows (AddsFirst (files_of M.bytes made.items)) (D.story disk.old).may_leave (D.story disk.new).may_leave }
 
     ensures len { (a : Area) → (D.story disk.new).len a ≡ (D.story disk.old).len a }
+    ensures clock { OnErr result (Rose (D.story disk.old).moment (D.story disk.new).moment) }
     ensures cause { HasCause (D.story disk.old).faults (D.story disk.new).faults result }
     ensures read_cause { (D.story disk.new).read_faults ≡ (D.story disk.old).read_faults }
 {

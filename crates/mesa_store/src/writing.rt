@@ -1,5 +1,5 @@
 ghost use Rattle.std.specs.Prelude.{◌≡◌, ◌+◌, ◌<◌, ◌≤◌, ℕ, List, [], ◌∷◌, ◌++◌, length, IfOk, OnOk, Some};
-ghost use Rattle.mesa_fault.specs.Causes.{HasCause};
+ghost use Rattle.mesa_fault.specs.Causes.{HasCause, Rose};
 ghost use Rattle.mesa_key.specs.Spelling.{AreBytes};
 ghost use Rattle.mesa_disk.specs.Image.{Image};
 ghost use Rattle.mesa_disk.specs.Files.{files_of, AreAbsent, AreGone, AreThere, HasDistinctIds};
@@ -48,6 +48,7 @@ pub fn write_record<M: Made, D: Disk<M>>(
 
     ensures other { (a : Area) → (a ≡ Zero → ⊥) → (D.story disk.new).len a ≡ (D.story disk.old).len a }
     ensures clock { (D.story disk.old).moment ≤ (D.story disk.new).moment }
+    ensures risen { Rose (D.story disk.old).moment (D.story disk.new).moment }
     ensures cause { HasCause (D.story disk.old).faults (D.story disk.new).faults result }
     ensures read_cause { (D.story disk.new).read_faults ≡ (D.story disk.old).read_faults }
 {

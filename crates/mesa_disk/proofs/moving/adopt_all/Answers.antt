@@ -187,3 +187,9 @@ returns-clause-any_moment g c =
     let all : at.yielded ≡ c.args.made.items = sym (append-nil at.yielded) ∙ rw empty at at.invariant.items ∙ c.into_iter-adoption-iterator.ensures.into_iter_gives.0 in
     let moving = subst (λ l. Moving Adopts Adopts AddsFirst (files at.yielded) (files l) start new) empty at.invariant.moving in
     subst (λ l. Elapses (After (AddsFirst l) start.may_leave) start new) (append-nil (files at.yielded) ∙ ap files all) moving.run
+
+pub returns-in_err-adopt-clause-clock : goal.returns-in_err-adopt-clause-clock
+returns-in_err-adopt-clause-clock g c =
+    let later = c.loop-adoption.invariant.moving.run.later in
+    let rose = c.adopt.ensures.clock in
+    omega arith
