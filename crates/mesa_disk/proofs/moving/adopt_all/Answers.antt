@@ -1,4 +1,4 @@
-use Rattle.std.proofs.Common.{◌≡◌, inr, ℕ, List, Option, ◌++◌, [], ◌∷◌, length, refl, sym, ◌∙◌, ap, subst, arith, rules, append_assoc}
+use Rattle.std.proofs.Common.{◌≡◌, inr, Result, Ok, Err, OnErr, ℕ, List, Option, ◌++◌, [], ◌∷◌, length, refl, sym, ◌∙◌, ap, subst, arith, rules, append_assoc}
 use Rattle.std.proofs.lemmas.List.{append-nil, map-append, nil_from_length}
 use Rattle.std.specs.Vec.Iter.{into_iter_items}
 use Rattle.mesa_disk.specs.Story.{Steps, After, Follows, Elapses}
@@ -188,8 +188,12 @@ returns-clause-any_moment g c =
     let moving = subst (λ l. Moving Adopts Adopts AddsFirst (files at.yielded) (files l) start new) empty at.invariant.moving in
     subst (λ l. Elapses (After (AddsFirst l) start.may_leave) start new) (append-nil (files at.yielded) ∙ ap files all) moving.run
 
+on_err : {T E P : Type 0} (r : Result T E) → P → OnErr r P
+on_err (Ok x) p = tt
+on_err (Err e) p = p
+
 pub returns-in_err-adopt-clause-clock : goal.returns-in_err-adopt-clause-clock
 returns-in_err-adopt-clause-clock g c =
     let later = c.loop-adoption.invariant.moving.run.later in
     let rose = c.adopt.ensures.clock in
-    omega arith
+    on_err c.from_residual.result (omega arith)
