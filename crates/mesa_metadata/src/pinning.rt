@@ -5,10 +5,33 @@ ghost use Rattle.mesa_ledger.specs.Turned.{answered_ledger, is_held_pin, pinned_
 ghost use Rattle.mesa_metadata.specs.Memory.{hold_now, is_of_another, with_ledger};
 
 use crate::Metadata;
-use crate::holders::Query;
+use crate::counts::count;
+use crate::holders::{Pin, Query};
 use std::alloc::AllocError;
 
 impl Metadata {
+    /// Pins a version for a session in the turn at the position, with a copy of the catalogue: gives its token.
+    pub fn pin(&mut self, session: u16, version: u32, position: u64) -> Result<u32, AllocError>
+        // A token is a number of 32 bits.
+        requires { count_at self.old.ledger.given session + 1 < 2 ^ 32 }
+        ensures token { IfOk result (λ token. token ≡ count_at self.old.ledger.given session + 1) }
+        ensures pinned { OnOk result (self.new ≡ with_ledger (pinned_ledger self.old.ledger session version (hold_now self.old.ledger position)) self.old) }
+        ensures err { OnErr result (self.new ≡ self.old) }
+    {
+        let hold = self.hold_now(position);
+        let copy = self.catalog.copy(self.alloc)?;
+        self.holders.pins.reserve(1)?;
+        let token = count(&mut self.given, session)?;
+        self.holders.pins.push_reserved(Pin {
+            session,
+            token,
+            version,
+            hold,
+            copy,
+        });
+        Ok(token)
+    }
+
     /// Lets a session's pin with this token go, if it is held.
     pub fn release(&mut self, session: u16, token: u32)
         ensures { self.new ≡ with_ledger (released_ledger self.old.ledger session token) self.old }
