@@ -1,8 +1,9 @@
 // What is asked of the catalogue. Where no error is told, nothing takes memory.
-ghost use Rattle.std.specs.Prelude.{◌≡◌, ◌<◌, ◌≤◌, IfOk, length, map, sum_by};
+ghost use Rattle.std.specs.Prelude.{◌≡◌, ◌<◌, ◌≤◌, ◌^◌, IfOk, length, map, sum_by};
 ghost use Rattle.mesa_span.specs.Ranges.{IsInOrder};
 ghost use Rattle.mesa_batch.specs.Numbers.{known_of};
 ghost use Rattle.mesa_image.specs.Catalog.{ranges_of, stock_at};
+ghost use Rattle.mesa_shelf.specs.Meaning.{IsTable, stock_of};
 ghost use Rattle.mesa_catalog.specs.Lookups.{changes_of, generation_of, known_in, relation_of, sight_of};
 
 use crate::Catalog;
@@ -42,6 +43,16 @@ impl Catalog {
         ensures { result.now ≡ (stock_at self.now.catalogue table).name }
     {
         &self.shelves.tables[table as usize].name
+    }
+
+    /// The table of a number, as it is held.
+    pub fn table(&self, table: u16) -> &Table
+        requires { table < length self.now.catalogue.tables }
+        ensures stock { stock_of self.now.catalogue.next result.now ≡ stock_at self.now.catalogue table }
+        ensures held { IsTable self.now.catalogue.next result.now }
+        ensures few { self.now.catalogue.next < 2 ^ 32 }
+    {
+        self.shelves.table(table)
     }
 
     /// The columns of the table of a number, through its life, and its views.
