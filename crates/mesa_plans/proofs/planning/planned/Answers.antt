@@ -1,0 +1,30 @@
+use Rattle.std.proofs.Common.{◌+◌, ◌*◌, ◌++◌, ◌∙◌, sym, ap, subst, arith, map}
+use Rattle.std.specs.Prelude.{option_map}
+use Rattle.mesa_image.specs.Fitting.{base_deltas}
+use Rattle.mesa_image_laws.specs.Planned.{behind_base, longest_to}
+use Rattle.mesa_shelf.specs.Meaning.{AreLoaded, ending_of, stock_of}
+use Rattle.mesa_shelf.specs.Named.{through}
+use Rattle.mesa_plans.specs.Lent.{lent_if_any, loaded_from, single_delta, ten_deltas, with_rows}
+use Rattle.mesa_plans.proofs.Lending.{behind_lent, rows_join}
+use Rattle.mesa_plans.proofs.Parted.{loaded_on}
+use Rattle.mesa_plans.proofs.planning.planned.Goals as goal
+
+pub from_on-requires : goal.from_on-requires
+from_on-requires c = let is = c.requires.2 in (_, _, subst (AreLoaded _ _) (sym c.deref-2.ensures.value) is.loaded)
+
+pub up_to-requires : goal.up_to-requires
+up_to-requires c =
+    let is = c.requires.2 in
+    (_, _, subst (AreLoaded _ _) (sym (c.from_on.ensures ∙ ap (loaded_from _) c.deref-2.ensures.value)) (loaded_on _ _ _ c.args.table.now.loaded.items is.loaded))
+
+pub returns : goal.returns
+returns c = λ next is.
+    let t = c.args.table.now in
+    let v = c.args.version in
+    let k = c.tens_within-tens.result in
+    let tens = c.tens_within-tens.ensures in
+    let behind = behind_lent next v k t is (omega (arith, tens)) (λ some. omega (arith, tens, some)) (λ more. omega (arith, tens, more)) in
+    let ten = c.last_of.ensures ∙ ap (ten_deltas k) c.deref.ensures.value in
+    let singles = c.up_to.ensures ∙ ap (through v) (c.from_on.ensures ∙ (λ i. loaded_from (c.start.ensures.start i + 10 * k) (c.deref-2.ensures.value i))) in
+    let rest = (λ i. with_rows (ten i ++ map single_delta (singles i))) ∙ sym behind in
+    rows_join (lent_if_any c.base_delta.result) (base_deltas (option_map ending_of t.base)) (lent_if_any c.last_of.result ++ map single_delta c.up_to.result.now) (behind_base (stock_of next t) v (longest_to (stock_of next t) v)) c.base_delta.ensures rest
