@@ -3,7 +3,7 @@ ghost use Rattle.std.specs.Prelude.{◌≡◌, ◌<◌, ◌≤◌, ◌^◌, [], 
 ghost use Rattle.std.specs.List.{AllByRecursion};
 ghost use Rattle.mesa_engine.specs.Beginning.{IsBegun};
 ghost use Rattle.mesa_engine.specs.Engine.{most_turns, starts_of};
-ghost use Rattle.mesa_fault.specs.Causes.{Rose};
+ghost use Rattle.mesa_fault.specs.Causes.{last, Rose};
 ghost use Rattle.mesa_history.specs.Legal.{AllFit, fits_sink};
 ghost use Rattle.mesa_history.specs.Run.{begins};
 ghost use Rattle.mesa_ledger.specs.Vault.{outset_of};
@@ -80,8 +80,8 @@ impl<N: Naming, M: Made, D: Disk<M>, K: Sink> Engine<N, M, D, K> {
         ensures failed { self.shown.running ≡ false → Rose N.sink_faults (K.faults result.1) }
         ensures whole { self.shown.running ≡ true → K.faults result.1 ≡ N.sink_faults }
 
-        // On a sound store, what was printed is its output, and what a crash may have left is found.
-        ensures printed { (w : Rows) → N.sound w → IsPrinted N.script (begins (N.start w)) result.2.items self.shown.running N.at_start (K.held result.1) }
+        // On a sound store, while the clock is below its last value, what was printed is its output, and what a crash may have left is found.
+        ensures printed { (w : Rows) → N.sound w → (D.story result.0).moment < last → IsPrinted N.script (begins (N.start w)) result.2.items self.shown.running N.at_start (K.held result.1) }
         ensures found { (w : Rows) → N.sound w → AllFound (outset_of (starts_of N.script N.start N.sound N.origin N.since N.counted N.at_start) w) result.2.items (D.story result.0) }
     {
         let Engine {

@@ -1,6 +1,7 @@
 -- The turns of a query.
 use Rattle.std.proofs.Common.{◌≡◌, ℕ, ◌<◌, ◌^◌, List, [], ◌∷◌, ◌++◌, length, Bool, true, false, not, ◌||◌, ◌&&◌, ◌==◌, IsTrue, refl, sym, ◌∙◌, ap, subst, Option, None, Some, Ok}
 use Rattle.std.specs.Prelude.{is_none, is_some}
+use Rattle.mesa_fault.specs.Causes.{last}
 use Rattle.mesa_disk.specs.Story.{Story, Unmoved}
 use Rattle.mesa_filter.specs.declared.words.QueryWords.{QueryWords}
 use Rattle.mesa_model.specs.declared.commands.Command.{Command}
@@ -150,7 +151,7 @@ module _ (o : Outset) (sound : Bool) (books : Books) (story : Story) (held : Opt
     open_still = or_right (is_none r.state.warehouse.closed || false || false || false) true refl
 
     pub close_turn : (cause : Option Cause) → MayClose cause → Counts story new (closing_fault cause) → (now : Bool) (new_held : Option (List ℕ)) (piece : List ℕ)
-        → (IsTrue sound → piece ≡ block (closes_with (closing_outcome cause)) (Some (closing_told at open'.answer cause))) → IsPut piece now held new_held
+        → (IsTrue sound → m < last → piece ≡ block (closes_with (closing_outcome cause)) (Some (closing_told at open'.answer cause))) → IsPut piece now held new_held
         → WalksOn o sound books new new_held h (closes_with (closing_outcome cause)) now (refused || is_some cause)
     close_turn None may counts now new_held piece is put =
         quiet_turn o sound books story held h running refused v (closes_with outcome.Stands) asks stage open'.due (short _ refl refl) moment new unmoved
@@ -164,7 +165,7 @@ module _ (o : Outset) (sound : Bool) (books : Books) (story : Story) (held : Opt
     close_turn (Some (Damaged damage)) may counts now new_held piece is put =
         quiet_turn o sound books story held h running refused v (closes_with outcome.Damaged) asks stage open'.due (short _ refl refl) moment new unmoved
         (comes_damaged r asks stage s n kind.Close m refl refl refl open_still) (ap not (sym ran)) (closed_turned (Some (Damaged damage))) refl refl counts now new_held
-        (ran, record { piece = piece; block = λ ok. record { damage = damage; is = may; same = is ok }; put = put }) books v.state refl
+        (ran, record { piece = piece; block = λ ok low. record { damage = damage; is = may; same = is ok low }; put = put }) books v.state refl
     close_turn (Some Unwritten) may counts now new_held piece is put = absurd may
     close_turn (Some NoMemory) may counts now new_held piece is put =
         quiet_turn o sound books story held h running refused v (closes_with outcome.Memory) asks stage open'.due (short _ refl refl) moment new unmoved

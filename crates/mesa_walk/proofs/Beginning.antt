@@ -27,7 +27,7 @@ started o sound books story held state begun counted found same = record {
   sink = refl;
   told = refl;
   counts = λ low below under. omega (arith, counted);
-  printed = λ ok. record { text = []; output = refl; held = subst (λ x. Appends x held []) same (Appends-nil held) };
+  printed = λ ok low. record { text = []; output = refl; held = subst (λ x. Appends x held []) same (Appends-nil held) };
   found = found;
 }
 
@@ -43,6 +43,6 @@ unmoved_walk o sound books story new held h running refused same counts v = reco
   sink = v.sink;
   told = v.told;
   counts = λ low below under. (let had = v.counts (subst (λ m. m < last) same.moment low) (omega (arith, below, counts.faults)) (omega (arith, under, counts.reads)) in omega (arith, had, counts.faults, counts.reads));
-  printed = v.printed;
+  printed = λ ok low. v.printed ok (subst (λ m. m < last) same.moment low);
   found = λ ok below t c from to left. v.found ok (subst (λ m. m < last) same.moment below) t c from (subst (λ m. t ≤ m) same.moment to) ((same.may_have_left t c).0 left);
 }

@@ -1,7 +1,8 @@
 -- What is on a sink with one entry more.
-use Rattle.std.proofs.Common.{◌≡◌, ℕ, List, [], ◌∷◌, ◌++◌, Bool, true, false, not, IsTrue, refl, sym, ◌∙◌, ap, subst, arith, append_assoc, Option, None, Some}
+use Rattle.std.proofs.Common.{◌≡◌, ◌<◌, ℕ, List, [], ◌∷◌, ◌++◌, Bool, true, false, not, IsTrue, refl, sym, ◌∙◌, ap, subst, arith, append_assoc, Option, None, Some}
 use Rattle.std.specs.Io.KnownBytes.{Appends}
 use Rattle.std.proofs.KnownBytes.{Appends-trans, Appends-nil}
+use Rattle.mesa_fault.specs.Causes.{last}
 use Rattle.mesa_model.specs.declared.commands.Script.{Script}
 use Rattle.mesa_model.specs.declared.entries.Entry.{Entry}
 use Rattle.mesa_model.specs.declared.entries.Outcome.{Outcome}
@@ -99,12 +100,12 @@ put_more script r h e true at old new piece had more put = whole_more script r h
 put_more script r h e false at old new piece had more put = front_here script r h e at old new piece had more put
 
 -- What is on the sink behind a turn.
-pub printed_more : (sound : Bool) (script : Script) (r : Run) (h : List Entry) (e : Entry) (told : Option Told) (before now : Bool) (at old new : Option (List ℕ)) → IsTrue sound
+pub printed_more : (sound : Bool) (script : Script) (r : Run) (h : List Entry) (e : Entry) (told : Option Told) (before now : Bool) (at old new : Option (List ℕ)) → IsTrue sound → e.moment < last
     → told_by script (runs script r h) e ≡ told → IsPrinted script r h before at old → Prints sound e told before now old new → IsPrinted script r (h ++ e ∷ []) now at new
-printed_more sound script r h e None before now at old new ok is had prints =
+printed_more sound script r h e None before now at old new ok low is had prints =
     subst (λ n. IsPrinted script r (h ++ e ∷ []) n at new) (sym prints.0) (subst (IsPrinted script r (h ++ e ∷ []) before at) (sym prints.1) (silent_more script r h e before at old had is))
-printed_more sound script r h e (Some told) before now at old new ok is had prints =
-    put_more script r h e now at old new prints.1.piece (subst (λ b. IsPrinted script r h b at old) prints.0 had) (subst (λ t. IsBlock e t prints.1.piece) (sym is) (prints.1.block ok)) prints.1.put
+printed_more sound script r h e (Some told) before now at old new ok low is had prints =
+    put_more script r h e now at old new prints.1.piece (subst (λ b. IsPrinted script r h b at old) prints.0 had) (subst (λ t. IsBlock e t prints.1.piece) (sym is) (prints.1.block ok low)) prints.1.put
 
 -- ---- the sink
 

@@ -98,7 +98,7 @@ module _ (o : Outset) (sound : Bool) (books : Books) (old : Story) (held : Optio
       sink = subst (λ l. IsTrue (fits_sink l (not now))) (sym last_is) (sink_more sound e made.told running now held new_held step.skipped step.prints);
       told = (λ i. v.told i || tells_refusal made.told) ∙ sym (refused_more o.script b h e ∙ ap (λ t. some_refused o.script b h || tells_refusal t) told_is);
       counts = subst (HasCounted o.counted new) (sym (count_more is_disk_fault o.script b h e)) (counted_more o.counted (faults_in o h) old new (is_disk_fault r e) later counts v.counts);
-      printed = λ ok. printed_more sound o.script b h e made.told running now o.at_start held new_held ok told_is (v.printed ok) step.prints;
+      printed = λ ok low. printed_more sound o.script b h e made.told running now o.at_start held new_held ok (omega (arith, moment, low)) told_is (v.printed ok (omega (arith, later, low))) step.prints;
       found = found;
     }
 

@@ -71,7 +71,7 @@ module _ (o : Outset) (sound : Bool) (books : Books) (story : Story) (held : Opt
   pub puts_reply : (e : Entry) (rep : Reply) (at : ℕ) → at ≡ length h → e.outcome ≡ outcome.Stands → (now : Bool) (new_held : Option (List ℕ)) → IsPut (block e (Some (told_at at rep))) now held new_held → Puts sound e (told_at r.position rep) now held new_held
   puts_reply e rep at place stands now new_held put = record {
     piece = block e (Some (told_at at rep));
-    block = λ ok. standing_block e (told_at r.position rep) _ stands (ap (λ p. block e (Some (told_at p rep))) (position_at at place));
+    block = λ ok low. standing_block e (told_at r.position rep) _ stands (ap (λ p. block e (Some (told_at p rep))) (position_at at place));
     put = put;
   }
 
@@ -80,7 +80,7 @@ module _ (o : Outset) (sound : Bool) (books : Books) (story : Story) (held : Opt
       → Puts sound e (told_at r.position (replayed cause)) now held new_held
   puts_cause e cause at place ends can now new_held put = record {
     piece = block e (Some (told_at at (reply_of cause)));
-    block = λ ok. cause_block e cause r.position _ ends can (ap (λ p. block e (Some (told_at p (reply_of cause)))) (position_at at place));
+    block = λ ok low. cause_block e cause r.position _ ends can (ap (λ p. block e (Some (told_at p (reply_of cause)))) (position_at at place));
     put = put;
   }
 

@@ -1,6 +1,7 @@
 -- What a run has put on its sink.
-use Rattle.std.specs.Prelude.{◌≡◌, ℕ, List, ◌∷◌, ◌++◌, Bool, true, false, Option, None, Some, IsTrue, take}
+use Rattle.std.specs.Prelude.{◌≡◌, ◌<◌, ℕ, List, ◌∷◌, ◌++◌, Bool, true, false, Option, None, Some, IsTrue, take}
 use Rattle.std.specs.Io.KnownBytes.{Appends}
+use Rattle.mesa_fault.specs.Causes.{last}
 use Rattle.mesa_model.specs.declared.commands.Script.{Script}
 use Rattle.mesa_model.specs.declared.entries.Entry.{Entry}
 use Rattle.mesa_history.specs.Run.{Run, Told}
@@ -36,10 +37,10 @@ abbrev pub IsPut : List ℕ → Bool → Option (List ℕ) → Option (List ℕ)
 IsPut piece true before now = Appends before now piece
 IsPut piece false before now = (count : ℕ) × Appends before now (take count piece)
 
--- What a turn put on a sink that hadn't failed: the block of what it tells.
+-- What a turn put on a sink that hadn't failed: the block of what it tells, while the clock is below its last value.
 pub record Puts (sound : Bool) (e : Entry) (told : Told) (running : Bool) (before now : Option (List ℕ)) : Type 0 where
   pub piece : List ℕ
-  pub block : IsTrue sound → IsBlock e (Some told) piece
+  pub block : IsTrue sound → e.moment < last → IsBlock e (Some told) piece
   pub put : IsPut piece running before now
 
 -- What a turn did to the sink: nothing where it tells nothing, and else the sink hadn't failed and was given its block.

@@ -58,7 +58,7 @@ abbrev pub HasCounted : ℕ → Story → ℕ → Type 0
 HasCounted counted story answered =
     story.moment < last → story.faults < last → story.read_faults < last → counted + answered ≤ story.faults + story.read_faults
 
--- The walk: after a history the books are those of the state that Replay gives, and the history is legal so far; the last entry's moment is the disk's clock; what was printed, what a crash may have left, and how many faults were answered, is what the history says; so is whether the sink has failed, and whether some reply was a refusal.
+-- The walk: after a history the books are those of the state that Replay gives, and the history is legal so far; the last entry's moment is the disk's clock; what was printed and what a crash may have left, while the clock is below its last value, and how many faults were answered, is what the history says; so is whether the sink has failed, and whether some reply was a refusal.
 pub record IsWalk (o : Outset) (sound : Bool) (books : Books) (story : Story) (held : Option (List ℕ)) (h : List Entry) (running refused : Bool) : Type 0 where
   pub state : AreBooksOf sound books (run_of o h).state
   pub legal : AllFit o.script (begins o.start) h
@@ -69,7 +69,7 @@ pub record IsWalk (o : Outset) (sound : Bool) (books : Books) (story : Story) (h
   pub sink : IsTrue (fits_sink (run_of o h).last (not running))
   pub told : refused ≡ some_refused o.script (begins o.start) h
   pub counts : HasCounted o.counted story (faults_in o h)
-  pub printed : IsTrue sound → IsPrinted o.script (begins o.start) h running o.at_start held
+  pub printed : IsTrue sound → story.moment < last → IsPrinted o.script (begins o.start) h running o.at_start held
   pub found : IsTrue sound → AllFound o h story
 
 -- ---- what a turn does to the disk

@@ -41,8 +41,8 @@ returns-clause-whole g c =
     not_true false is = refl
 
 pub returns-clause-printed : goal.returns-clause-printed
-returns-clause-printed g c w is =
-    subst (λ (s : Standing). IsPrinted g.N.Naming.script (begins (g.N.Naming.start w)) c.self.inside.log.history.items s.shown.running g.N.Naming.at_start (g.K.Sink.held c.self.inside.log.printer.sink)) c.self.view_is ((c.self.invariant.vault w true (λ ok. is)).walk.printed refl)
+returns-clause-printed g c w is low =
+    subst (λ (s : Standing). IsPrinted g.N.Naming.script (begins (g.N.Naming.start w)) c.self.inside.log.history.items s.shown.running g.N.Naming.at_start (g.K.Sink.held c.self.inside.log.printer.sink)) c.self.view_is ((c.self.invariant.vault w true (λ ok. is)).walk.printed refl low)
 
 pub returns-clause-found : goal.returns-clause-found
 returns-clause-found g c w is = (c.self.invariant.vault w true (λ ok. is)).walk.found refl
