@@ -4,15 +4,17 @@ ghost use Rattle.mesa_history.specs.Refused.{is_refusal as refuses};
 ghost use Rattle.mesa_model.specs.Entry.{IsShort};
 ghost use Rattle.mesa_model.specs.Query.{Heading};
 ghost use Rattle.mesa_log.specs.Failure.{cause_in};
-ghost use Rattle.mesa_log.specs.Printing.{PrintsBlock};
+ghost use Rattle.mesa_log.specs.Printing.{GoesOn, PrintsBlock, page_text};
 ghost use Rattle.mesa_script.specs.Rows.{body_of};
 ghost use Rattle.mesa_walk.specs.Causes.{outcome_of, reply_of, told_at};
+ghost use Rattle.mesa_walk.specs.Printing.{IsPut};
 ghost use Rattle.mesa_walk.specs.Turns.{entry};
 
 use crate::{Failure, Who};
 use mesa_io::Sink;
 use mesa_model::{Entry, Kind, Reply};
 use mesa_printer::Printer;
+use mesa_script::Rendered;
 
 /// The turns of a run, and the sink that their blocks are printed on.
 #[derive(Drop)]
@@ -69,6 +71,27 @@ impl<K: Sink> Log<K> {
         self.printer
             .put_block(turn.session, turn.command, at, reply, body);
         self.refused = self.refused || is_refusal(reply);
+    }
+
+    /// Adds the turn that closes a query, and prints the page that answers it at a position. There is
+    /// room for it.
+    pub fn answer(&mut self, turn: Entry, at: u64, version: u32, page: &Rendered)
+        requires { vec_len self.old.history < vec_capacity self.old.history }
+        ensures items { self.new.history.items ≡ self.old.history.items ++ turn ∷ [] }
+        ensures room { vec_capacity self.old.history ≤ vec_capacity self.new.history }
+        ensures put { IsPut (page_text turn at version page.now) (not self.new.printer.broken) (K.held self.old.printer.sink) (K.held self.new.printer.sink) }
+        ensures goes { GoesOn K.faults self.old.printer self.new.printer }
+        ensures refused { self.new.refused ≡ self.old.refused }
+    {
+        self.pass(turn);
+        let reply = Reply::Rows {
+            rows: page.rows,
+            version,
+            more: page.more,
+        };
+        let body = page.body.as_slice();
+        self.printer
+            .put_block(turn.session, turn.command, at, &reply, body);
     }
 
     /// Adds a turn that did nothing for its command, and prints why. There is room for it.
