@@ -4,7 +4,7 @@ use Rattle.std.specs.Prelude.{vec_capacity}
 use Rattle.std.specs.List.{AllByRecursion}
 use Rattle.std.proofs.lemmas.List.{length-append}
 use Rattle.mesa_fault.specs.Causes.{Rose}
-use Rattle.mesa_disk.specs.Story.{Story}
+use Rattle.mesa_disk.specs.Story.{Story, Unmoved}
 use Rattle.mesa_model.specs.declared.commands.Command.{Command}
 use Rattle.mesa_model.specs.declared.commands.Script.{Script}
 use Rattle.mesa_model.specs.declared.entries.Entry.{Entry}
@@ -19,11 +19,12 @@ use Rattle.mesa_printer.specs.declared.printer.Printer.{Printer}
 use Rattle.mesa_skeleton.specs.Rows.{no_rows}
 use Rattle.mesa_walk.specs.Printing.{IsPut}
 use Rattle.mesa_walk.specs.Turns.{Shown, IsSeen, Takes, entry}
-use Rattle.mesa_walk.specs.Walk.{run_at}
+use Rattle.mesa_walk.specs.Walk.{Counts, run_at}
 use Rattle.mesa_log.specs.declared.log.Log.{Log}
 use Rattle.mesa_log.specs.Printing.{GoesOn, PrintsBlock}
 use Rattle.mesa_log.proofs.Printing.{same_goes}
-use Rattle.mesa_ledger.specs.Vault.{Starts, IsVaultAt}
+use Rattle.mesa_ledger.specs.Vault.{Starts, IsVaultAt, outset_of}
+use Rattle.mesa_ledger.proofs.Beginning.{unmoved_vault}
 use Rattle.mesa_metadata.specs.Memory.{Memory}
 use Rattle.mesa_engine.specs.Engine.{IsEngine}
 
@@ -72,6 +73,20 @@ module _ {K : Type 0} (held : K → Option (List ℕ)) (faults : K → ℕ) (n :
       → IsEngine held faults n turns sinks after new later
   told_engine told refuses tells refused vault =
       turned_engine tells.goes (subst (IsVaultAt n after.ledger new (held later.printer.sink) (log.history.items ++ e ∷ []) (not later.printer.broken)) (sym refused) (vault tells.put))
+
+-- ---- between turns
+
+-- Readers that are given back keep an engine.
+pub unmoved_engine : {K : Type 0} (held : K → Option (List ℕ)) (faults : K → ℕ) (n : Starts) (turns sinks : ℕ) (m : Memory) (story new : Story) (log : Log K) → Unmoved story new → Counts story new false → IsEngine held faults n turns sinks m story log → IsEngine held faults n turns sinks m new log
+unmoved_engine held faults n turns sinks m story new log same counts v = record {
+  vault = λ w b is. unmoved_vault (outset_of n w) (n.origin w) b m.ledger story new (held log.printer.sink) log.history.items (not log.printer.broken) log.refused same counts (v.vault w b is);
+  room = v.room;
+  few = v.few;
+  leased = v.leased;
+  begun = v.begun;
+  failed = v.failed;
+  whole = v.whole;
+}
 
 -- ---- places
 

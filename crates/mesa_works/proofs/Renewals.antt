@@ -2,7 +2,7 @@
 use Rattle.std.proofs.Common.{◌≡◌, ◌∙◌, ℕ, ◌<◌, ◌^◌, ◌≤◌, ◌+◌, List, [], ◌∷◌, ◌++◌, length, Bool, true, false, ◌||◌, not, sym, ap, subst, arith, Option, None, Some, Ok, Err}
 use Rattle.std.specs.Prelude.{vec_capacity}
 use Rattle.mesa_list.specs.Checks.{◌>>◌, refuse_unless}
-use Rattle.mesa_disk.specs.Story.{Story, Unmoved}
+use Rattle.mesa_disk.specs.Story.{Story}
 use Rattle.mesa_history.specs.Machine.{Claim, claim_checked}
 use Rattle.mesa_history.specs.Replay.{renews}
 use Rattle.mesa_history.specs.Run.{Granted, Renewed, Finished}
@@ -23,32 +23,19 @@ use Rattle.mesa_skeleton.specs.Rows.{Rows, no_rows}
 use Rattle.mesa_walk.specs.Causes.{told_at}
 use Rattle.mesa_walk.specs.Printing.{IsPut}
 use Rattle.mesa_walk.specs.Turns.{Shown, IsSeen, Takes, entry}
-use Rattle.mesa_walk.specs.Walk.{Outset, Counts, run_at, run_of}
+use Rattle.mesa_walk.specs.Walk.{Outset, run_at, run_of}
 use Rattle.mesa_walk.proofs.Turning.{stays, counts_same}
 use Rattle.mesa_walk.proofs.Going.{takes_as}
 use Rattle.mesa_walk.proofs.Working.{checked_is, renewed_turn, unrenewed_ends, unrenewed_turn}
 use Rattle.mesa_ledger.specs.Ledger.{Ledger, books_of}
 use Rattle.mesa_ledger.specs.Turned.{leased_ledger}
 use Rattle.mesa_ledger.specs.Vault.{Origin, Starts, IsVault, outset_of}
-use Rattle.mesa_ledger.proofs.Beginning.{unmoved_vault}
 use Rattle.mesa_ledger.proofs.Staying.{leased_vault, still_vault}
 use Rattle.mesa_log.specs.declared.log.Log.{Log}
 use Rattle.mesa_log.specs.Printing.{PrintsBlock}
 use Rattle.mesa_metadata.specs.Memory.{Memory, with_leases}
 use Rattle.mesa_engine.specs.Engine.{IsEngine}
 use Rattle.mesa_engine.proofs.Turning.{passed_engine, told_engine}
-
--- Readers that are given back keep an engine.
-pub unmoved_engine : {K : Type 0} (held : K → Option (List ℕ)) (faults : K → ℕ) (n : Starts) (turns sinks : ℕ) (m : Memory) (story new : Story) (log : Log K) → Unmoved story new → Counts story new false → IsEngine held faults n turns sinks m story log → IsEngine held faults n turns sinks m new log
-unmoved_engine held faults n turns sinks m story new log same counts v = record {
-  vault = λ w b is. unmoved_vault (outset_of n w) (n.origin w) b m.ledger story new (held log.printer.sink) log.history.items (not log.printer.broken) log.refused same counts (v.vault w b is);
-  room = v.room;
-  few = v.few;
-  leased = v.leased;
-  begun = v.begun;
-  failed = v.failed;
-  whole = v.whole;
-}
 
 -- ---- what the books say of a claim
 

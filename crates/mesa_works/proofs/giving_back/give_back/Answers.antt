@@ -1,7 +1,7 @@
 use Rattle.std.proofs.Common.{arith}
 use Rattle.mesa_ledger.specs.Vault.{Starts}
 use Rattle.mesa_engine.specs.Engine.{starts_of}
-use Rattle.mesa_works.proofs.Renewals.{unmoved_engine}
+use Rattle.mesa_engine.proofs.Turning.{unmoved_engine}
 use Rattle.mesa_works.proofs.giving_back.give_back.Goals as goal
 
 pub invariant_of-engine : goal.invariant_of-engine
