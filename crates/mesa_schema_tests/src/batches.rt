@@ -7,16 +7,21 @@ use mesa_batch::{Batch, BatchBuilder, BatchError, Glance, Glanced, LoadRows, fit
 use mesa_list::{Fields, Items, TryCopy};
 use mesa_schema::Name;
 use std::alloc::{AllocError, Global};
+use std::process::Abort;
 use std::sync::Arc;
 use std::test::Fail;
 
+fn glanced(alloc: Global, name: Name) -> Result<Glanced, Fail> {
+    let table = table(alloc)?;
+    let evolving = Arc::new(alloc, table)?;
+    Ok(Glanced { name, evolving })
+}
+
 // What a load sees where the table `t` is there.
 fn glance(alloc: Global) -> Result<Glance, Fail> {
+    let glanced = glanced(alloc, Name::read(alloc, b"t")?)?;
     let mut tables = Vec::new(alloc);
-    tables.push(Glanced {
-        name: Name::read(alloc, b"t")?,
-        evolving: Arc::new(alloc, table(alloc)?)?,
-    })?;
+    tables.push(glanced)?;
     Ok(Glance::new(alloc, 1, tables)?)
 }
 
@@ -37,11 +42,15 @@ fn row(alloc: Global, name: &[u8], fields: &[u8]) -> Result<LoadRows, AllocError
 }
 
 // Why a load of one row makes no batch.
-fn fault_of(alloc: Global, name: &[u8], fields: &[u8]) -> Result<Option<BatchError>, Fail> {
-    let glance = glance(alloc)?;
+fn fault_of(
+    alloc: Global,
+    glance: &Glance,
+    name: &[u8],
+    fields: &[u8],
+) -> Result<Option<BatchError>, AllocError> {
     let rows = row(alloc, name, fields)?;
     let mut builder = BatchBuilder::new(alloc);
-    Ok(builder.row(&glance, &rows.row(0)).err())
+    Ok(builder.row(glance, &rows.row(0)).err())
 }
 
 const NO_TABLE: Option<BatchError> = Some(BatchError::NoTable { row: 1 });
@@ -89,38 +98,60 @@ static COUNTS: [Load; 5] = [
     (b"t", b"1;1;1;1;1", BAD_5),
 ];
 
-#[test]
-fn rows_of_one_load(rt: HostRuntime) -> Result<(), Fail> {
-    for (name, fields, fault) in &ROWS {
-        assert_eq!(rt; fault_of(rt.alloc(), name, fields)?, *fault);
+// Stops the test of a load of one row that is taken or refused otherwise.
+fn expect(rt: &impl Abort, alloc: Global, glance: &Glance, loads: &[Load]) -> Result<(), Fail> {
+    for (name, fields, fault) in loads {
+        let found = fault_of(alloc, glance, name, fields)?;
+        assert_eq!(rt; found, *fault, "of {fields:?} in {name:?}");
     }
     Ok(())
+}
+
+#[test]
+fn rows_of_one_load(rt: HostRuntime) -> Result<(), Fail> {
+    let glance = glance(rt.alloc())?;
+    expect(&rt, rt.alloc(), &glance, &ROWS)
 }
 
 #[test]
 fn rows_with_too_few_and_too_many_fields(rt: HostRuntime) -> Result<(), Fail> {
-    for (name, fields, fault) in &COUNTS {
-        assert_eq!(rt; fault_of(rt.alloc(), name, fields)?, *fault);
+    let glance = glance(rt.alloc())?;
+    expect(&rt, rt.alloc(), &glance, &COUNTS)
+}
+
+// The fields of a row whose text has so many bytes.
+fn fields_of_length(alloc: Global, length: u16) -> Result<Vec<u8>, AllocError> {
+    let mut fields = Vec::from_slice(alloc, b"1;")?;
+    fields.resize(2 + usize::from(length), b'x')?;
+    fields.extend_from_slice(b";5;7")?;
+    Ok(fields)
+}
+
+// The length of a text, and why a load of one row with it makes no batch.
+static LENGTHS: [(u16, Option<BatchError>); 2] = [(255, None), (256, BAD_2)];
+
+fn fault_of_length(
+    alloc: Global,
+    glance: &Glance,
+    length: u16,
+) -> Result<Option<BatchError>, AllocError> {
+    let fields = fields_of_length(alloc, length)?;
+    fault_of(alloc, glance, b"t", &fields)
+}
+
+// Stops the test of a text that is taken or refused otherwise.
+fn expect_lengths(rt: &impl Abort, alloc: Global, glance: &Glance) -> Result<(), Fail> {
+    for (length, fault) in &LENGTHS {
+        let found = fault_of_length(alloc, glance, *length)?;
+        assert_eq!(rt; found, *fault, "of {length} bytes");
     }
     Ok(())
 }
 
-// Why a load makes no batch whose one row has a text of so many bytes.
-fn fault_of_length(alloc: Global, length: usize) -> Result<Option<BatchError>, Fail> {
-    let mut text = Vec::new(alloc);
-    text.resize(length, b'x')?;
-    let mut fields = Vec::from_slice(alloc, b"1;")?;
-    fields.extend_from_slice(&text)?;
-    fields.extend_from_slice(b";5;7")?;
-    fault_of(alloc, b"t", &fields)
-}
-
 #[test]
 fn texts_of_255_bytes_at_most(rt: HostRuntime) -> Result<(), Fail> {
-    let alloc = rt.alloc();
-    assert_eq!(rt; fault_of_length(alloc, 255)?, None);
-    assert_eq!(rt; fault_of_length(alloc, 256)?, BAD_2);
-    Ok(())
+    let glance = glance(rt.alloc())?;
+    expect_lengths(&rt, rt.alloc(), &glance)
 }
 
 const TWICE: Option<BatchError> = Some(BatchError::DuplicateKey {
@@ -179,6 +210,14 @@ fn is_finished(builder: BatchBuilder) -> Result<bool, AllocError> {
     is_copied(&batch)
 }
 
+// Whether a load takes a key once, and what it took is finished.
+fn takes_a_key_once(alloc: Global, glance: &Glance) -> Result<bool, AllocError> {
+    let mut builder = BatchBuilder::new(alloc);
+    let refuses = refuses_a_key_twice(alloc, glance, &mut builder)?;
+    let finished = is_finished(builder)?;
+    Ok(refuses && finished)
+}
+
 fn copied_glance(alloc: Global) -> Result<Glance, Fail> {
     let glance = glance(alloc)?;
     Ok(glance.copy()?)
@@ -186,11 +225,8 @@ fn copied_glance(alloc: Global) -> Result<Glance, Fail> {
 
 #[test]
 fn a_key_comes_once(rt: HostRuntime) -> Result<(), Fail> {
-    let alloc = rt.alloc();
-    let glance = copied_glance(alloc)?;
-    let mut builder = BatchBuilder::new(alloc);
-    assert!(rt; refuses_a_key_twice(alloc, &glance, &mut builder)?);
-    assert!(rt; is_finished(builder)?);
+    let glance = copied_glance(rt.alloc())?;
+    assert!(rt; takes_a_key_once(rt.alloc(), &glance)?);
     Ok(())
 }
 
@@ -210,7 +246,8 @@ fn fit(alloc: Global, total: u64, more: u64) -> Result<Result<(), u16>, AllocErr
 #[test]
 fn totals_within_the_bound(rt: HostRuntime) -> Result<(), Fail> {
     for (total, more, answer) in &BOUNDS {
-        assert_eq!(rt; fit(rt.alloc(), *total, *more)?, *answer);
+        let found = fit(rt.alloc(), *total, *more)?;
+        assert_eq!(rt; found, *answer, "of {more} more");
     }
     Ok(())
 }

@@ -1,6 +1,6 @@
 // Names, and columns that make a schema.
 use crate::columns::{keys, values};
-use mesa_schema::{Name, Schema, SchemaError};
+use mesa_schema::{KeyColumn, Name, Schema, SchemaError, ValueColumn};
 use std::alloc::Global;
 use std::test::Fail;
 
@@ -23,61 +23,62 @@ static NAMES: [(&[u8], bool); 12] = [
 #[test]
 fn bytes_that_are_names(rt: HostRuntime) {
     for (bytes, is_name) in &NAMES {
-        assert_eq!(rt; Name::allows(bytes), *is_name);
+        assert_eq!(rt; Name::allows(bytes), *is_name, "of {bytes:?}");
     }
 }
 
 // The name of a refusal.
-fn told(error: &SchemaError) -> &'static [u8] {
+fn told(error: &SchemaError) -> &'static str {
     match error {
-        SchemaError::NoKey => b"no_key",
-        SchemaError::NoValue => b"no_value",
-        SchemaError::TooManyColumns => b"too_many_columns",
-        SchemaError::NameTwice { .. } => b"name_twice",
-        SchemaError::Memory => b"memory",
+        SchemaError::NoKey => "no_key",
+        SchemaError::NoValue => "no_value",
+        SchemaError::TooManyColumns => "too_many_columns",
+        SchemaError::NameTwice { .. } => "name_twice",
+        SchemaError::Memory => "memory",
     }
 }
 
 // Key columns, value columns, and why they make no schema; nothing where they make one.
-type Columns = (&'static [u8], &'static [u8], &'static [u8]);
+type Columns = (&'static str, &'static str, &'static str);
 
 static COLUMNS: [Columns; 10] = [
-    (b"k", b"v", b""),
+    ("k", "v", ""),
     // A key column and a value column may have one name.
-    (b"k", b"k", b""),
-    (b"", b"v", b"no_key"),
-    (b"", b"", b"no_key"),
-    (b"k", b"", b"no_value"),
-    (b"k;k", b"v", b"name_twice"),
-    (b"k", b"v;w;v", b"name_twice"),
-    (b"a;b;c;d;e;f;g;h;i;j;k;l;m;n;o;p", b"v", b""),
-    (
-        b"a;b;c;d;e;f;g;h;i;j;k;l;m;n;o;p;q",
-        b"v",
-        b"too_many_columns",
-    ),
+    ("k", "k", ""),
+    ("", "v", "no_key"),
+    ("", "", "no_key"),
+    ("k", "", "no_value"),
+    ("k;k", "v", "name_twice"),
+    ("k", "v;w;v", "name_twice"),
+    ("a;b;c;d;e;f;g;h;i;j;k;l;m;n;o;p", "v", ""),
+    ("a;b;c;d;e;f;g;h;i;j;k;l;m;n;o;p;q", "v", "too_many_columns"),
     // Too many is told before a name that stands twice.
     (
-        b"k;k",
-        b"a;b;c;d;e;f;g;h;i;j;k;l;m;n;o;p;q",
-        b"too_many_columns",
+        "k;k",
+        "a;b;c;d;e;f;g;h;i;j;k;l;m;n;o;p;q",
+        "too_many_columns",
     ),
 ];
 
-// Whether building a schema answers so.
-fn is_answered(alloc: Global, case: &Columns) -> Result<bool, Fail> {
-    let (key_names, value_names, fault) = *case;
-    let (keys, values) = (keys(alloc, key_names)?, values(alloc, value_names)?);
+// Why columns make no schema; nothing where they make one.
+fn fault_of(keys: Vec<KeyColumn>, values: Vec<ValueColumn>) -> &'static str {
     match Schema::build(keys, values) {
-        Ok(_) => Ok(fault.is_empty()),
-        Err(error) => Ok(told(&error) == fault),
+        Ok(_) => "",
+        Err(error) => told(&error),
     }
+}
+
+fn built(alloc: Global, case: &Columns) -> Result<&'static str, Fail> {
+    let keys = keys(alloc, case.0)?;
+    let values = values(alloc, case.1)?;
+    Ok(fault_of(keys, values))
 }
 
 #[test]
 fn columns_that_make_schemas(rt: HostRuntime) -> Result<(), Fail> {
     for case in &COLUMNS {
-        assert!(rt; is_answered(rt.alloc(), case)?);
+        let found = built(rt.alloc(), case)?;
+        assert_eq!(rt; found, case.2, "{} with {}", case.0, case.1);
     }
     Ok(())
 }

@@ -6,7 +6,7 @@ use mesa_key::KeyType;
 use mesa_list::TryCopy;
 use mesa_schema::{Change, Evolving, KeyColumn, Name, Schema, ValueColumn, ViewError};
 use mesa_value::Agg;
-use std::alloc::{AllocError, Global};
+use std::alloc::Global;
 use std::test::Fail;
 
 /// The table `k int;c text,v sum;r replace`.
@@ -38,139 +38,118 @@ pub fn table(alloc: Global) -> Result<Evolving, Fail>
 }
 
 // The name of a refusal; nothing where there is none.
-fn told(answer: Result<(), ViewError>) -> &'static [u8] {
+fn told(answer: Result<(), ViewError>) -> &'static str {
     match answer {
-        Ok(()) => b"",
-        Err(ViewError::NoColumn) => b"no_column",
-        Err(ViewError::NoKey) => b"no_key",
-        Err(ViewError::NoValue) => b"no_value",
-        Err(ViewError::NameTwice) => b"name_twice",
-        Err(ViewError::ReplaceInView { .. }) => b"replace_group",
-        Err(ViewError::Memory) => b"memory",
+        Ok(()) => "",
+        Err(ViewError::NoColumn) => "no_column",
+        Err(ViewError::NoKey) => "no_key",
+        Err(ViewError::NoValue) => "no_value",
+        Err(ViewError::NameTwice) => "name_twice",
+        Err(ViewError::ReplaceInView { .. }) => "replace_group",
+        Err(ViewError::Memory) => "memory",
     }
 }
 
 // The key columns and the value columns of a view, and why a table allows no such key columns and no such value columns; nothing where it does.
-type Choice = (&'static [u8], &'static [u8], &'static [u8], &'static [u8]);
+type Choice = (&'static str, &'static str, &'static str, &'static str);
 
 static CHOICES: [Choice; 11] = [
-    (b"c", b"v", b"", b""),
-    (b"c;k", b"v", b"", b""),
-    (b"c", b"r", b"", b"replace_group"),
-    (b"c", b"v;r", b"", b"replace_group"),
-    (b"z", b"v", b"no_column", b""),
-    (b"", b"v", b"no_key", b""),
-    (b"c;c", b"v", b"name_twice", b""),
-    (b"c", b"z", b"", b"no_column"),
-    (b"c", b"", b"", b"no_value"),
-    (b"c", b"v;v", b"", b"name_twice"),
+    ("c", "v", "", ""),
+    ("c;k", "v", "", ""),
+    ("c", "r", "", "replace_group"),
+    ("c", "v;r", "", "replace_group"),
+    ("z", "v", "no_column", ""),
+    ("", "v", "no_key", ""),
+    ("c;c", "v", "name_twice", ""),
+    ("c", "z", "", "no_column"),
+    ("c", "", "", "no_value"),
+    ("c", "v;v", "", "name_twice"),
     // What is wrong with the key columns is told first.
-    (b"c;c", b"z", b"name_twice", b"no_column"),
+    ("c;c", "z", "name_twice", "no_column"),
 ];
 
-// What is wrong with the key columns of a view.
-fn key_fault(table: &Evolving, keys: &[Name]) -> &'static [u8] {
-    told(checked_keys(table, keys))
+// What is wrong with a view: with its key columns, else with its value columns.
+fn fault_of(case: &Choice) -> &'static str {
+    if case.2.is_empty() { case.3 } else { case.2 }
 }
 
-fn checked_keys(table: &Evolving, keys: &[Name]) -> Result<(), ViewError> {
-    table.check_view_keys(keys)
+// What is wrong with the key columns of a view.
+fn key_fault(table: &Evolving, keys: &[Name]) -> &'static str {
+    told(table.check_view_keys(keys))
 }
 
 // What is wrong with the value columns of a view.
-fn value_fault(table: &Evolving, values: &[Name]) -> &'static [u8] {
-    told(checked_values(table, values))
+fn value_fault(table: &Evolving, values: &[Name]) -> &'static str {
+    told(table.check_view_values(values))
 }
 
-fn checked_values(table: &Evolving, values: &[Name]) -> Result<(), ViewError> {
-    table.check_view_values(values)
+// What is wrong with the key columns and with the value columns of a view, and whether a table allows it.
+type Seen = (&'static str, &'static str, bool);
+
+// What a table says of a view `w` of these columns.
+fn seen_by(alloc: Global, table: &Evolving, case: &Choice) -> Result<Seen, Fail> {
+    let name = Name::read(alloc, b"w")?;
+    let keys = names(alloc, case.0)?;
+    let values = names(alloc, case.1)?;
+    let allowed = table.allows_view(&name, &keys, &values);
+    Ok((
+        key_fault(table, &keys),
+        value_fault(table, &values),
+        allowed,
+    ))
 }
 
-// Whether looking at a view's columns answers so.
-fn is_checked(table: &Evolving, keys: &[Name], values: &[Name], case: &Choice) -> bool {
-    key_fault(table, keys) == case.2 && value_fault(table, values) == case.3
+fn seen(alloc: Global, case: &Choice) -> Result<Seen, Fail> {
+    let table = table(alloc)?;
+    seen_by(alloc, &table, case)
 }
 
-// What adding a view answers.
-fn adding(table: &mut Evolving, name: Name, keys: Vec<Name>, values: Vec<Name>) -> &'static [u8]
+// Adds a view, and gives what is wrong with it.
+fn adding(table: &mut Evolving, name: Name, keys: Vec<Name>, values: Vec<Name>) -> &'static str
     requires { table.old.views ≡ [] }
 {
     told(table.add_view(name, keys, values))
 }
 
-// What adding a view `w` of these columns to the table answers.
-fn added(alloc: Global, keys: Vec<Name>, values: Vec<Name>) -> Result<&'static [u8], Fail> {
+// Adds a view `w` of these columns to a table, and gives what is wrong with it.
+fn add(alloc: Global, table: &mut Evolving, keys: &str, values: &str) -> Result<&'static str, Fail>
+    requires { table.old.views ≡ [] }
+{
+    let name = Name::read(alloc, b"w")?;
+    let keys = names(alloc, keys)?;
+    let values = names(alloc, values)?;
+    Ok(adding(table, name, keys, values))
+}
+
+fn added(alloc: Global, case: &Choice) -> Result<&'static str, Fail> {
     let mut table = table(alloc)?;
-    let name = Name::read(alloc, b"w")?;
-    Ok(adding(&mut table, name, keys, values))
-}
-
-// What is wrong with a view: with its key columns, else with its value columns.
-fn fault_of(case: &Choice) -> &'static [u8] {
-    if case.2.is_empty() { case.3 } else { case.2 }
-}
-
-// Whether a table allows just the views that nothing is wrong with.
-fn is_allowed(
-    table: &Evolving,
-    name: &Name,
-    keys: &[Name],
-    values: &[Name],
-    case: &Choice,
-) -> bool {
-    table.allows_view(name, keys, values) == fault_of(case).is_empty()
-}
-
-// Whether looking at a view's columns, and asking whether it may be added, answer so.
-fn is_seen(alloc: Global, keys: &[Name], values: &[Name], case: &Choice) -> Result<bool, Fail> {
-    let table = table(alloc)?;
-    let name = Name::read(alloc, b"w")?;
-    let checked = is_checked(&table, keys, values, case);
-    Ok(checked && is_allowed(&table, &name, keys, values, case))
-}
-
-// Whether looking at a view and adding it answer so.
-fn is_answered(alloc: Global, case: &Choice) -> Result<bool, Fail> {
-    let keys = names(alloc, case.0)?;
-    let values = names(alloc, case.1)?;
-    let seen = is_seen(alloc, &keys, &values, case)?;
-    let found = added(alloc, keys, values)?;
-    Ok(seen && found == fault_of(case))
+    add(alloc, &mut table, case.0, case.1)
 }
 
 #[test]
 fn views_of_a_table(rt: HostRuntime) -> Result<(), Fail> {
+    let alloc = rt.alloc();
     for case in &CHOICES {
-        assert!(rt; is_answered(rt.alloc(), case)?);
+        let fault = fault_of(case);
+        let want = (case.2, case.3, fault.is_empty());
+        assert_eq!(rt; seen(alloc, case)?, want, "{} with {}", case.0, case.1);
+        assert_eq!(rt; added(alloc, case)?, fault, "{} with {}", case.0, case.1);
     }
     Ok(())
 }
 
-// The table with this view.
-fn with_view(
-    alloc: Global,
-    name: Name,
-    keys: Vec<Name>,
-    values: Vec<Name>,
-) -> Result<Evolving, Fail> {
+// The table with a view `w` of these columns.
+fn viewed(alloc: Global, keys: &str, values: &str) -> Result<Evolving, Fail> {
     let mut table = table(alloc)?;
-    if adding(&mut table, name, keys, values).is_empty() {
+    if add(alloc, &mut table, keys, values)?.is_empty() {
         Ok(table)
     } else {
         Err("no view")?
     }
 }
 
-// The table with a view `w` of these columns.
-fn viewed(alloc: Global, keys: &[u8], values: &[u8]) -> Result<Evolving, Fail> {
-    let name = Name::read(alloc, b"w")?;
-    let keys = names(alloc, keys)?;
-    let values = names(alloc, values)?;
-    with_view(alloc, name, keys, values)
-}
-
 // Whether a table's one view is `w`, with two key columns and a value column.
-fn has_view(table: &Evolving) -> Result<bool, AllocError> {
+fn has_view(table: &Evolving) -> Result<bool, Fail> {
     if table.views() != 1 {
         return Ok(false);
     }
@@ -180,22 +159,25 @@ fn has_view(table: &Evolving) -> Result<bool, AllocError> {
 }
 
 // Whether a table is still as it was made.
-fn is_unchanged(table: &Evolving) -> Result<bool, AllocError> {
+fn is_unchanged(table: &Evolving) -> Result<bool, Fail> {
     let first = table.schema_at(0)?;
     Ok(table.epoch() == 0 && first.values().len() == 2)
 }
 
-// Whether a copy of a table has the view, and the table's own columns as they were.
-fn is_copied(table: &Evolving) -> Result<bool, AllocError> {
+// Whether a table has the view, and its own columns as they were.
+fn shows(table: &Evolving) -> Result<bool, Fail> {
+    Ok(has_view(table)? && is_unchanged(table)?)
+}
+
+fn copy_shows(table: &Evolving) -> Result<bool, Fail> {
     let copy = table.copy()?;
-    let shows = has_view(&copy)?;
-    Ok(shows && is_unchanged(&copy)?)
+    shows(&copy)
 }
 
 // Whether a view of two key columns and a value column is there once it was added.
 fn view_is_there(alloc: Global) -> Result<bool, Fail> {
-    let table = viewed(alloc, b"c;k", b"v")?;
-    Ok(is_copied(&table)?)
+    let table = viewed(alloc, "c;k", "v")?;
+    copy_shows(&table)
 }
 
 #[test]
@@ -204,34 +186,29 @@ fn a_view_has_its_columns_in_its_order(rt: HostRuntime) -> Result<(), Fail> {
     Ok(())
 }
 
-// Whether a table allows a value column to be dropped.
-fn allows_drop(table: &Evolving, name: Name) -> bool {
-    table.allows(&Change::DropValue { name })
-}
-
 // Whether a table lets a value column of this name go.
-fn lets_go(alloc: Global, table: &Evolving, name: &[u8]) -> Result<bool, Fail> {
-    let name = Name::read(alloc, name)?;
-    Ok(allows_drop(table, name))
+fn lets_go(alloc: Global, table: &Evolving, name: &str) -> Result<bool, Fail> {
+    let name = Name::read(alloc, name.as_bytes())?;
+    Ok(table.allows(&Change::DropValue { name }))
 }
 
 // Whether the table without a view lets a value column of this name go.
-fn goes_without_view(alloc: Global, name: &[u8]) -> Result<bool, Fail> {
+fn goes_without_view(alloc: Global, name: &str) -> Result<bool, Fail> {
     let table = table(alloc)?;
     lets_go(alloc, &table, name)
 }
 
 // Whether the table with a view of the value column `v` lets a value column of this name go.
-fn goes_with_view(alloc: Global, name: &[u8]) -> Result<bool, Fail> {
-    let table = viewed(alloc, b"c", b"v")?;
+fn goes_with_view(alloc: Global, name: &str) -> Result<bool, Fail> {
+    let table = viewed(alloc, "c", "v")?;
     lets_go(alloc, &table, name)
 }
 
 #[test]
 fn a_views_column_may_not_go(rt: HostRuntime) -> Result<(), Fail> {
     let alloc = rt.alloc();
-    assert!(rt; goes_without_view(alloc, b"v")?);
-    assert!(rt; !goes_without_view(alloc, b"z")?);
-    assert!(rt; !goes_with_view(alloc, b"v")?);
+    assert!(rt; goes_without_view(alloc, "v")?);
+    assert!(rt; !goes_without_view(alloc, "z")?);
+    assert!(rt; !goes_with_view(alloc, "v")?);
     Ok(())
 }
