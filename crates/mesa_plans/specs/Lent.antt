@@ -1,6 +1,7 @@
 -- Deltas that a table lends.
 use denote.Bor.{Bor}
-use Rattle.std.specs.Prelude.{ℕ, suc, zero, List, [], ◌∷◌, ◌++◌, map, filter, is_some, nat_le, Option, Some, None, slice_get}
+use Rattle.std.specs.Prelude.{ℕ, ◌≤◌, suc, zero, List, [], ◌∷◌, ◌++◌, map, filter, is_some, nat_le, Option, Some, None, slice_get}
+use Rattle.std.specs.List.{AllByRecursion}
 use Rattle.std.specs.declared.alloc.Global.{Global}
 use Rattle.std.specs.declared.sync.Arc.{Arc}
 use Rattle.mesa_image.specs.Catalog.{Delta}
@@ -34,3 +35,11 @@ shared_if_any (Some d) = d.value ∷ []
 abbrev pub ten_deltas : ℕ → List (Arc Delta Global) → List Delta
 ten_deltas zero ds = []
 ten_deltas (suc n) ds = shared_if_any (slice_get ds n)
+
+-- the deltas with rows are of epochs up to this one
+abbrev pub AreOfEpochs : ℕ → List Delta → Type 0
+AreOfEpochs epoch deltas = AllByRecursion (λ (d : Delta). d.epoch ≤ epoch) (with_rows deltas)
+
+abbrev pub now_if_any : {X : Type 0} → Option (Bor X) → Option X
+now_if_any None = None
+now_if_any (Some x) = Some x.now

@@ -3,9 +3,13 @@
 
 mod between;
 mod deltas;
+mod files;
 mod folding;
 mod planning;
+mod views;
 
 pub use deltas::Deltas;
+pub use files::table_files;
 pub use folding::merged;
 pub use planning::planned;
+pub use views::{Sources, Viewed, own_columns, view_files};

@@ -1,8 +1,10 @@
 // The deltas that a query reads.
 ghost use Rattle.std.specs.Prelude.{◌≡◌, ◌+◌, ◌-◌, ◌*◌, ◌/◌, ◌≤◌, ◌<◌, ◌^◌, ℕ, length, min};
+ghost use Rattle.std.specs.List.{AllByRecursion};
+ghost use Rattle.mesa_image.specs.Fitting.{deltas_of};
 ghost use Rattle.mesa_image_laws.specs.Planned.{planned as planned_of};
 ghost use Rattle.mesa_shelf.specs.Meaning.{IsTable, start_of_base, stock_of};
-ghost use Rattle.mesa_plans.specs.Lent.{lent_if_any, lent_in, ten_deltas, with_rows};
+ghost use Rattle.mesa_plans.specs.Lent.{AreOfEpochs, lent_if_any, lent_in, ten_deltas, with_rows};
 
 use crate::Deltas;
 use crate::between::{from_on, up_to};
@@ -13,7 +15,8 @@ use std::sync::Arc;
 /// The deltas that a query at a version reads: the base, the longest cumulative that ends at or before it, and then singletons. Takes no memory.
 pub fn planned<'a>(table: &'a Table, version: u32) -> Deltas<'a>
     requires { (next : ℕ) × (next < 2 ^ 32) × IsTable next table.now }
-    ensures { (next : ℕ) → IsTable next table.now → with_rows (lent_in result) ≡ with_rows (planned_of (stock_of next table.now) version) }
+    ensures plan { (next : ℕ) → IsTable next table.now → with_rows (lent_in result) ≡ with_rows (planned_of (stock_of next table.now) version) }
+    ensures epochs { (next epoch : ℕ) → IsTable next table.now → AllByRecursion (λ d. d.epoch ≤ epoch) (deltas_of (stock_of next table.now)) → AreOfEpochs epoch (lent_in result) }
 {
     let tens = tens_within(table, version);
     let behind = table.start() + 10 * tens as u64;

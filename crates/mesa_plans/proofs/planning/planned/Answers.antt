@@ -1,10 +1,13 @@
-use Rattle.std.proofs.Common.{◌+◌, ◌*◌, ◌++◌, ◌∙◌, sym, ap, subst, arith, map}
+use Rattle.std.proofs.Common.{◌+◌, ◌≤◌, ◌*◌, ◌++◌, ◌∙◌, sym, ap, subst, arith, map}
 use Rattle.std.specs.Prelude.{option_map}
+use Rattle.std.specs.List.{AllByRecursion}
+use Rattle.mesa_image.specs.Catalog.{Delta}
 use Rattle.mesa_image.specs.Fitting.{base_deltas}
-use Rattle.mesa_image_laws.specs.Planned.{behind_base, longest_to}
+use Rattle.mesa_image_laws.specs.Planned.{behind_base, longest_to, planned}
 use Rattle.mesa_shelf.specs.Meaning.{AreLoaded, ending_of, stock_of}
 use Rattle.mesa_shelf.specs.Named.{through}
 use Rattle.mesa_plans.specs.Lent.{lent_if_any, loaded_from, single_delta, ten_deltas, with_rows}
+use Rattle.mesa_plans.proofs.Among.{all_planned, epochs_chosen}
 use Rattle.mesa_plans.proofs.Lending.{behind_lent, rows_join}
 use Rattle.mesa_plans.proofs.Parted.{loaded_on}
 use Rattle.mesa_plans.proofs.planning.planned.Goals as goal
@@ -17,8 +20,8 @@ up_to-requires c =
     let is = c.requires.2 in
     (_, _, subst (AreLoaded _ _) (sym (c.from_on.ensures ∙ ap (loaded_from _) c.deref-2.ensures.value)) (loaded_on _ _ _ c.args.table.now.loaded.items is.loaded))
 
-pub returns : goal.returns
-returns c = λ next is.
+pub returns-clause-plan : goal.returns-clause-plan
+returns-clause-plan c = λ next is.
     let t = c.args.table.now in
     let v = c.args.version in
     let k = c.tens_within-tens.result in
@@ -28,3 +31,8 @@ returns c = λ next is.
     let singles = c.up_to.ensures ∙ ap (through v) (c.from_on.ensures ∙ (λ i. loaded_from (c.start.ensures.start i + 10 * k) (c.deref-2.ensures.value i))) in
     let rest = (λ i. with_rows (ten i ++ map single_delta (singles i))) ∙ sym behind in
     rows_join (lent_if_any c.base_delta.result) (base_deltas (option_map ending_of t.base)) (lent_if_any c.last_of.result ++ map single_delta c.up_to.result.now) (behind_base (stock_of next t) v (longest_to (stock_of next t) v)) c.base_delta.ensures rest
+
+pub returns-clause-epochs : goal.returns-clause-epochs
+returns-clause-epochs c = λ next epoch is all.
+    let u = stock_of next c.args.table.now in
+    subst (AllByRecursion (λ (d : Delta). d.epoch ≤ epoch)) (sym (returns-clause-plan c next is)) (epochs_chosen epoch (planned u c.args.version) (all_planned (λ (d : Delta). d.epoch ≤ epoch) u all c.args.version))
