@@ -3,6 +3,7 @@ use crate::places::schema;
 use mesa_filter::{Filter, FilterError};
 use mesa_schema::Schema;
 use std::alloc::{AllocError, Global};
+use std::process::Abort;
 use std::test::Fail;
 
 // Why a text is no filter.
@@ -52,13 +53,17 @@ static TEXTS: [(&str, Option<FilterError>); 35] = [
     ("name<a|b", None),
 ];
 
+// Stops the test of a text that is taken or refused otherwise.
+fn expect_texts(rt: &impl Abort, alloc: Global, schema: &Schema) {
+    for (text, fault) in &TEXTS {
+        assert_eq!(rt; fault_of(alloc, schema, text), *fault, "of {text}");
+    }
+}
+
 #[test]
 fn texts_of_filters(rt: HostRuntime) -> Result<(), Fail> {
-    let alloc = rt.alloc();
-    let schema = schema(alloc)?;
-    for (text, fault) in &TEXTS {
-        assert_eq!(rt; fault_of(alloc, &schema, text), *fault, "of {text}");
-    }
+    let schema = schema(rt.alloc())?;
+    expect_texts(&rt, rt.alloc(), &schema);
     Ok(())
 }
 
@@ -92,17 +97,27 @@ static COUNTS: [Counted; 6] = [
     ("name<", "1", '|', 65, None),
 ];
 
-#[test]
-fn counts_of_terms_and_literals(rt: HostRuntime) -> Result<(), Fail> {
-    let alloc = rt.alloc();
-    let schema = schema(alloc)?;
-    for (front, part, separator, count, fault) in &COUNTS {
-        let text = repeated(alloc, front, part, *separator, *count)?;
-        assert_eq!(rt;
-            fault_of(alloc, &schema, text.as_str()),
-            *fault,
-            "of {count} times {part}"
-        );
+// Why a text with so many parts is no filter.
+fn fault_at(
+    alloc: Global,
+    schema: &Schema,
+    case: &Counted,
+) -> Result<Option<FilterError>, AllocError> {
+    let text = repeated(alloc, case.0, case.1, case.2, case.3)?;
+    Ok(fault_of(alloc, schema, text.as_str()))
+}
+
+// Stops the test of a count that is taken or refused otherwise.
+fn expect_counts(rt: &impl Abort, alloc: Global, schema: &Schema) -> Result<(), Fail> {
+    for case in &COUNTS {
+        let fault = fault_at(alloc, schema, case)?;
+        assert_eq!(rt; fault, case.4, "of {} times {}", case.3, case.1);
     }
     Ok(())
+}
+
+#[test]
+fn counts_of_terms_and_literals(rt: HostRuntime) -> Result<(), Fail> {
+    let schema = schema(rt.alloc())?;
+    expect_counts(&rt, rt.alloc(), &schema)
 }

@@ -4,6 +4,7 @@ use mesa_filter::{Query, QueryError, QueryWords, VersionWord};
 use mesa_list::{Items, TryCopy};
 use mesa_schema::{Name, Schema, Words};
 use std::alloc::{AllocError, Global};
+use std::process::Abort;
 use std::test::Fail;
 
 fn words_of(alloc: Global, text: &str) -> Result<Words, AllocError> {
@@ -13,21 +14,20 @@ fn words_of(alloc: Global, text: &str) -> Result<Words, AllocError> {
 // The words of two texts.
 fn two_words(alloc: Global, one: &str, other: &str) -> Result<(Words, Words), AllocError> {
     let one = words_of(alloc, one)?;
-    Ok((one, words_of(alloc, other)?))
+    let other = words_of(alloc, other)?;
+    Ok((one, other))
 }
 
+// A query's group columns, value columns, filter and resume key.
+type Asked = (&'static str, &'static str, &'static str, &'static str);
+
 // A query of the relation `t`.
-fn asks(
-    alloc: Global,
-    group: &str,
-    values: &str,
-    filter: &str,
-    resume: &str,
-) -> Result<QueryWords, AllocError> {
-    let (group, values) = two_words(alloc, group, values)?;
-    let (filter, resume) = two_words(alloc, filter, resume)?;
+fn asks(alloc: Global, asked: &Asked) -> Result<QueryWords, AllocError> {
+    let relation = words_of(alloc, "t")?;
+    let (group, values) = two_words(alloc, asked.0, asked.1)?;
+    let (filter, resume) = two_words(alloc, asked.2, asked.3)?;
     Ok(QueryWords {
-        relation: words_of(alloc, "t")?,
+        relation,
         version: VersionWord::Latest,
         filter,
         group,
@@ -56,98 +56,125 @@ fn told<T: Drop>(answer: Result<T, QueryError>) -> Told {
 }
 
 // What checking a query answers.
-fn checked(alloc: Global, schema: &Schema, words: &QueryWords) -> Told {
-    told(Query::check(alloc, schema, words))
+fn checked(alloc: Global, schema: &Schema, asked: &Asked) -> Result<Told, AllocError> {
+    let words = asks(alloc, asked)?;
+    Ok(told(Query::check(alloc, schema, &words)))
 }
 
-// What building a copy of a query of `t` at version 1 and epoch 0 answers.
-fn built(alloc: Global, schema: &Schema, words: &QueryWords) -> Result<Told, Fail> {
-    let words = words.copy()?;
+// What building a query of `t` at version 1 and epoch 0 answers.
+fn built_of(alloc: Global, schema: &Schema, words: &QueryWords) -> Result<Told, Fail> {
     let t = Name::read(alloc, b"t")?;
-    Ok(told(Query::build(alloc, schema, &t, 1, 0, &words)))
+    Ok(told(Query::build(alloc, schema, &t, 1, 0, words)))
+}
+
+fn copied(alloc: Global, asked: &Asked) -> Result<QueryWords, AllocError> {
+    let words = asks(alloc, asked)?;
+    words.copy()
+}
+
+// What building a copy of a query answers.
+fn built(alloc: Global, schema: &Schema, asked: &Asked) -> Result<Told, Fail> {
+    let words = copied(alloc, asked)?;
+    built_of(alloc, schema, &words)
 }
 
 // The first byte of the replace column's name.
 const R: u16 = 114;
 
-// The group columns, the value columns and the filter of a query, and what its checks answer.
-type Asked = (&'static str, &'static str, &'static str, Told);
+// A query, and what its checks answer.
+type Case = (Asked, Told);
 
-static REFUSALS: [Asked; 16] = [
-    ("", "", "", ("", 0)),
-    ("-", "v", "", ("", 0)),
-    ("-", "", "", ("replace_group", R)),
-    ("k", "v;r", "", ("replace_group", R)),
-    ("k;k", "r", "", ("replace_group", R)),
-    ("name;k;k", "r;r;v", "", ("", 0)),
-    ("z", "", "", ("no_column", 0)),
-    ("k;", "v", "", ("no_column", 0)),
-    ("v", "v", "", ("no_column", 0)),
-    ("k", "k", "", ("no_column", 0)),
-    ("-", "z", "&", ("no_column", 0)),
-    ("k", "r", "&", ("replace_group", R)),
-    ("k", "v", "&", ("bad_filter", 1)),
-    ("k", "v", "k=1&k=x", ("bad_filter", 2)),
-    ("k", "v", "kk=1", ("no_column", 0)),
-    ("k", "v", "k=x", ("bad_filter", 1)),
+static REFUSALS: [Case; 16] = [
+    (("", "", "", ""), ("", 0)),
+    (("-", "v", "", ""), ("", 0)),
+    (("-", "", "", ""), ("replace_group", R)),
+    (("k", "v;r", "", ""), ("replace_group", R)),
+    (("k;k", "r", "", ""), ("replace_group", R)),
+    (("name;k;k", "r;r;v", "", ""), ("", 0)),
+    (("z", "", "", ""), ("no_column", 0)),
+    (("k;", "v", "", ""), ("no_column", 0)),
+    (("v", "v", "", ""), ("no_column", 0)),
+    (("k", "k", "", ""), ("no_column", 0)),
+    (("-", "z", "&", ""), ("no_column", 0)),
+    (("k", "r", "&", ""), ("replace_group", R)),
+    (("k", "v", "&", ""), ("bad_filter", 1)),
+    (("k", "v", "k=1&k=x", ""), ("bad_filter", 2)),
+    (("k", "v", "kk=1", ""), ("no_column", 0)),
+    (("k", "v", "k=x", ""), ("bad_filter", 1)),
 ];
+
+// Stops the test of a query that is refused otherwise.
+fn expect_refusals(rt: &impl Abort, alloc: Global, schema: &Schema) -> Result<(), Fail> {
+    for (asked, want) in &REFUSALS {
+        let found = checked(alloc, schema, asked)?;
+        assert_eq!(rt;
+            found,
+            *want,
+            "checking {},{},{}",
+            asked.0, asked.1, asked.2
+        );
+        let found = built(alloc, schema, asked)?;
+        assert_eq!(rt;
+            found,
+            *want,
+            "building {},{},{}",
+            asked.0, asked.1, asked.2
+        );
+    }
+    Ok(())
+}
 
 #[test]
 fn refusals_in_their_order(rt: HostRuntime) -> Result<(), Fail> {
-    let alloc = rt.alloc();
-    let schema = schema(alloc)?;
-    for (group, values, filter, want) in &REFUSALS {
-        let words = asks(alloc, group, values, filter, "")?;
-        let found = checked(alloc, &schema, &words);
-        assert_eq!(rt; found, *want, "checking {group},{values},{filter}");
-        let found = built(alloc, &schema, &words)?;
-        assert_eq!(rt; found, *want, "building {group},{values},{filter}");
-    }
-    Ok(())
+    let schema = schema(rt.alloc())?;
+    expect_refusals(&rt, rt.alloc(), &schema)
 }
 
 const PASSES: Told = ("", 0);
 
 const BAD: Told = ("bad_resume", 0);
 
-// The group columns and the resume key of a query, and what building it answers.
-type Resumed = (&'static str, &'static str, Told);
-
-static RESUMED: [Resumed; 20] = [
-    ("k", "", PASSES),
-    ("k", "t/1/0/k/8000000000000002", PASSES),
-    ("k", "t/1/0/k/800000000000000a", PASSES),
-    ("k", "t/1/0/k/800000000000000A", BAD),
-    ("k", "t/1/0/k/80000000000000", BAD),
-    ("k", "t/1/0/k/800000000000000", BAD),
-    ("k", "t/1/0/k/800000000000000200", BAD),
-    ("k", "t/1/0/k/800000000000000g", BAD),
-    ("k", "t/1/0/k/", BAD),
-    ("k", "t/1/0/k", BAD),
-    ("k", "u/1/0/k/8000000000000002", BAD),
-    ("k", "t/2/0/k/8000000000000002", BAD),
-    ("k", "t/1/1/k/8000000000000002", BAD),
-    ("k;k", "t/1/0/k/8000000000000002", BAD),
-    ("name;k", "t/1/0/name;k/6162008000000000000002", PASSES),
-    ("name", "t/1/0/name/616200", PASSES),
-    ("name", "t/1/0/name/6162", BAD),
-    ("name", "t/1/0/name/ff00", BAD),
-    ("-", "t/1/0//", PASSES),
-    ("-", "t/1/0//00", BAD),
+static RESUMED: [Case; 20] = [
+    (("k", "v", "", ""), PASSES),
+    (("k", "v", "", "t/1/0/k/8000000000000002"), PASSES),
+    (("k", "v", "", "t/1/0/k/800000000000000a"), PASSES),
+    (("k", "v", "", "t/1/0/k/800000000000000A"), BAD),
+    (("k", "v", "", "t/1/0/k/80000000000000"), BAD),
+    (("k", "v", "", "t/1/0/k/800000000000000"), BAD),
+    (("k", "v", "", "t/1/0/k/800000000000000200"), BAD),
+    (("k", "v", "", "t/1/0/k/800000000000000g"), BAD),
+    (("k", "v", "", "t/1/0/k/"), BAD),
+    (("k", "v", "", "t/1/0/k"), BAD),
+    (("k", "v", "", "u/1/0/k/8000000000000002"), BAD),
+    (("k", "v", "", "t/2/0/k/8000000000000002"), BAD),
+    (("k", "v", "", "t/1/1/k/8000000000000002"), BAD),
+    (("k;k", "v", "", "t/1/0/k/8000000000000002"), BAD),
+    (
+        ("name;k", "v", "", "t/1/0/name;k/6162008000000000000002"),
+        PASSES,
+    ),
+    (("name", "v", "", "t/1/0/name/616200"), PASSES),
+    (("name", "v", "", "t/1/0/name/6162"), BAD),
+    (("name", "v", "", "t/1/0/name/ff00"), BAD),
+    (("-", "v", "", "t/1/0//"), PASSES),
+    (("-", "v", "", "t/1/0//00"), BAD),
 ];
+
+// Stops the test of a resume key that is taken or refused otherwise; checking asks nothing of it.
+fn expect_resumed(rt: &impl Abort, alloc: Global, schema: &Schema) -> Result<(), Fail> {
+    for (asked, want) in &RESUMED {
+        let found = checked(alloc, schema, asked)?;
+        assert_eq!(rt; found, PASSES, "checking {} with {}", asked.0, asked.3);
+        let found = built(alloc, schema, asked)?;
+        assert_eq!(rt; found, *want, "building {} with {}", asked.0, asked.3);
+    }
+    Ok(())
+}
 
 #[test]
 fn resume_keys(rt: HostRuntime) -> Result<(), Fail> {
-    let alloc = rt.alloc();
-    let schema = schema(alloc)?;
-    for (group, resume, want) in &RESUMED {
-        let words = asks(alloc, group, "v", "", resume)?;
-        let found = checked(alloc, &schema, &words);
-        assert_eq!(rt; found, PASSES, "checking {group}");
-        let found = built(alloc, &schema, &words)?;
-        assert_eq!(rt; found, *want, "building {group} with {resume}");
-    }
-    Ok(())
+    let schema = schema(rt.alloc())?;
+    expect_resumed(&rt, rt.alloc(), &schema)
 }
 
 static COLUMNS: [u16; 2] = [1, 0];
@@ -156,7 +183,7 @@ static VALUES: [u16; 1] = [1];
 
 static PREFIX: &[u8] = b"t/7/3/name;k/";
 
-static RESUME: &str = "t/7/3/name;k/6162008000000000000002";
+static ASKED: Asked = ("name;k", "r", "", "t/7/3/name;k/6162008000000000000002");
 
 static KEY: [u8; 11] = [0x61, 0x62, 0, 0x80, 0, 0, 0, 0, 0, 0, 2];
 
@@ -199,18 +226,20 @@ fn is_built(answer: Result<Query, QueryError>) -> Result<bool, AllocError> {
     }
 }
 
-// Whether building the query of `t` at a version and an epoch gives the one that is asked.
-fn is_built_at(alloc: Global, version: u32, epoch: u32, words: &QueryWords) -> Result<bool, Fail> {
-    let schema = schema(alloc)?;
+// Whether building the query of `t` at version 7 and epoch 3 gives the one that is asked.
+fn is_built_by(alloc: Global, schema: &Schema, words: &QueryWords) -> Result<bool, Fail> {
     let t = Name::read(alloc, b"t")?;
-    let answer = Query::build(alloc, &schema, &t, version, epoch, words);
-    Ok(is_built(answer)?)
+    Ok(is_built(Query::build(alloc, schema, &t, 7, 3, words))?)
+}
+
+fn parts_stand(alloc: Global, schema: &Schema) -> Result<bool, Fail> {
+    let words = asks(alloc, &ASKED)?;
+    is_built_by(alloc, schema, &words)
 }
 
 #[test]
 fn parts_of_a_query(rt: HostRuntime) -> Result<(), Fail> {
-    let alloc = rt.alloc();
-    let words = asks(alloc, "name;k", "r", "", RESUME)?;
-    assert!(rt; is_built_at(alloc, 7, 3, &words)?);
+    let schema = schema(rt.alloc())?;
+    assert!(rt; parts_stand(rt.alloc(), &schema)?);
     Ok(())
 }
