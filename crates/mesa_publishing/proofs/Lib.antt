@@ -7,4 +7,5 @@ pub mod Loads
 pub mod Checked
 pub mod Ids
 pub mod Steps
+pub mod Rules
 pub mod Told

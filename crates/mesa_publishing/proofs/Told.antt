@@ -25,6 +25,7 @@ use Rattle.mesa_model.specs.declared.replies.Reply.TheVariants as reply
 use Rattle.mesa_record.specs.declared.record.Part.{Part}
 use Rattle.mesa_record.specs.declared.record.Record.{Record}
 use Rattle.mesa_record.specs.declared.record.Record.TheVariants as record_of
+use Rattle.mesa_record.specs.Rules.{keeps_rules}
 use Rattle.mesa_image.specs.Catalog.{Catalog, Stock, no_stock, stock_at}
 use Rattle.mesa_image.specs.Fitting.{are_new_ids, brings_new_files, brought, fits, is_there, part_fits, publish_fits}
 use Rattle.mesa_image.specs.Shape.{IsCatalog}
@@ -51,6 +52,7 @@ use Rattle.mesa_publishing.proofs.KeysOnce.{totals_by_key}
 use Rattle.mesa_publishing.proofs.Lists.{AreFrom, from_first, got_at}
 use Rattle.mesa_publishing.proofs.Loads.{AreBrought, AreTables, all_brought}
 use Rattle.mesa_publishing.proofs.Parts.{AreTold as AreToldFiles}
+use Rattle.mesa_publishing.proofs.Rules.{parts_rules}
 
 -- ---- the tables of a catalogue
 
@@ -185,6 +187,7 @@ module _ {M : Type 0} (bytes : M → Option (List ℕ)) (id_of : M → ℕ) (l :
       is_published = record {
         parts = named_parts;
         entry = entry;
+        rules = ap keeps_rules entry ∙ parts_rules bytes id_of over c batch (next_id l) parts shaped (all_tables c) are_there is.parts;
         fitting = ap (fits c) entry ∙ fits_record;
         brings = λ rows. (brought_all rows).brings;
         told = λ rows. subst (λ (r : Record). AreTold (rows_later l batch rows) c r) (sym entry) (brought_all rows).told;

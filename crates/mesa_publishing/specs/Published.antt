@@ -14,6 +14,7 @@ use Rattle.mesa_model.specs.Warehouse.{Warehouse}
 use Rattle.mesa_model.specs.declared.replies.Reply.TheVariants as reply
 use Rattle.mesa_record.specs.declared.record.Part.{Part}
 use Rattle.mesa_record.specs.declared.record.Record.TheVariants as record_of
+use Rattle.mesa_record.specs.Rules.{keeps_rules}
 use Rattle.mesa_image.specs.Catalog.{Catalog}
 use Rattle.mesa_image.specs.Contents.{Rows}
 use Rattle.mesa_image.specs.Fitting.{brought, fits}
@@ -56,10 +57,11 @@ abbrev pub AllTell : {M : Type 0} → (M → Option (List ℕ)) → List (Adopti
 AllTell bytes [] = ⊤
 AllTell bytes (a ∷ made) = ((b : List ℕ) × (bytes a.made ≡ Some b)) × AllTell bytes made
 
--- A batch is published by a record that fits: its parts bring the batch's rows to the tables, and its files have true references, are those that are made, each with its bytes where they are told, and get the next ids.
+-- A batch is published by a record that keeps the rules of records and fits: its parts bring the batch's rows to the tables, and its files have true references, are those that are made, each with its bytes where they are told, and get the next ids.
 pub record IsPublished {M : Type 0} (bytes : M → Option (List ℕ)) (l : Ledger) (batch : List Placed) (p : Published M) : Type 0 where
   pub parts : List Part
   pub entry : p.entry ≡ record_of.Publish l.catalogue.next parts
+  pub rules : keeps_rules p.entry ≡ true
   pub fitting : fits l.catalogue p.entry ≡ true
   pub brings : (rows : Rows) → BringsAll (rows_later l batch rows) parts batch 0 l.catalogue.tables
   pub told : (rows : Rows) → AreTold (rows_later l batch rows) l.catalogue p.entry
