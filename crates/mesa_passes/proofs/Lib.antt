@@ -1,0 +1,4 @@
+pub mod Behind
+pub mod Turning
+pub mod Ending
+pub mod Dividing
