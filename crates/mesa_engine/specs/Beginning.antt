@@ -16,11 +16,11 @@ use Rattle.mesa_trash.specs.Holding.{Among}
 use Rattle.mesa_walk.specs.Books.{AreBooksOf}
 use Rattle.mesa_walk.specs.Walk.{AllFound}
 use Rattle.mesa_ledger.specs.Ledger.{books_of, first_id}
-use Rattle.mesa_ledger.specs.Vault.{Starts, IsReady, outset_of}
+use Rattle.mesa_ledger.specs.Vault.{Starts, IsRead, IsReady, outset_of}
 use Rattle.mesa_catalog.specs.Lookups.{generation_of}
 use Rattle.mesa_metadata.specs.Memory.{opened_ledger}
 
--- What a run of a family finds at its start, where the files have these rows. On every store: the catalogue is that of its start's skeleton, and has the shape and the ids of one; the disk's clock and counts aren't behind those of the start; the sink has what the start says; and the disk is ready for the run's first record. On a sound store: the journal that ends here holds the catalogue with these rows, and whatever a crash since the start may have left is found.
+-- What a run of a family finds at its start, where the files have these rows. On every store: the catalogue is that of its start's skeleton, and has the shape and the ids of one; the disk's clock and counts aren't behind those of the start; the sink has what the start says; and the disk is ready for the run's first record. On a sound store: a read gives an image, the journal that ends here holds the catalogue with these rows, and whatever a crash since the start may have left is found.
 pub record IsBegun (n : Starts) (w : Rows) (sound : Bool) (c : Catalog) (end turns : ℕ) (story : Story) (held : Option (List ℕ)) : Type 0 where
   pub bodies : List (List ℕ)
   pub state : AreBooksOf sound (books_of w (opened_ledger c end turns)) (n.start w)
@@ -37,4 +37,5 @@ pub record IsBegun (n : Starts) (w : Rows) (sound : Bool) (c : Catalog) (end tur
   pub holds : IsTrue sound → story.moment < last → IsHeld story bodies end c w
   pub found : IsTrue sound → AllFound (outset_of n w) [] story
   pub stocked : IsTrue sound → AreStocked w c
+  pub read : IsTrue sound → IsRead story
   pub sourced : IsTrue sound → HasSources w (all_written (n.origin w).found []) c

@@ -1,5 +1,5 @@
 -- A vault before its first turn, one whose disk gave readers back, and what a session sees of one.
-use Rattle.std.proofs.Common.{◌≡◌, ℕ, ◌<◌, List, [], Bool, true, false, subst, arith, Option, None, IsTrue}
+use Rattle.std.proofs.Common.{◌≡◌, ℕ, ◌<◌, List, [], Bool, true, false, ◌∙◌, subst, arith, Option, None, IsTrue}
 use Rattle.mesa_fault.specs.Causes.{last}
 use Rattle.mesa_disk.specs.Story.{Story, Unmoved}
 use Rattle.mesa_model.specs.declared.entries.Entry.{Entry}
@@ -21,7 +21,7 @@ use Rattle.mesa_walk.specs.Walk.{Outset, IsWalk, Counts, run_of}
 use Rattle.mesa_walk.proofs.Beginning.{unmoved_walk}
 use Rattle.mesa_ledger.specs.Ledger.{Ledger, books_of, next_id}
 use Rattle.mesa_image_laws.specs.Sourced.{HasSources, all_written}
-use Rattle.mesa_ledger.specs.Vault.{Origin, IsReady, IsVault, Starts, IsVaultAt, outset_of}
+use Rattle.mesa_ledger.specs.Vault.{Origin, IsRead, IsReady, IsVault, Starts, IsVaultAt, outset_of}
 use Rattle.mesa_ledger.proofs.Standing.{held_unmoved, ready_unmoved, there_unmoved}
 
 -- a ledger of a catalogue, in which nothing was done yet
@@ -31,9 +31,9 @@ first_ledger o c generation end = record { catalogue = c; generation = generatio
 -- Before the first turn.
 pub started_vault : (o : Outset) (g : Origin) (sound : Bool) (c : Catalog) (end : ℕ) (story : Story) (held : Option (List ℕ)) (rows : Rows) (bodies : List (List ℕ)) → IsWalk o sound (books_of rows (first_ledger o c g.generation end)) story held [] true false
     → HasRanges o.start → o.start.machine.leases.granted ≡ 0 → (IsTrue sound → story.moment < last → IsHeld story bodies end c rows) → IsCatalog c → HasOwnIds c → ((id : ℕ) → Among id (named c) → id < next_id (first_ledger o c g.generation end))
-    → IsReady (first_ledger o c g.generation end) story → (IsTrue sound → AreStocked rows c) → (IsTrue sound → HasSources rows (all_written g.found []) c) → IsVault o g sound (first_ledger o c g.generation end) story held [] true false
+    → IsReady (first_ledger o c g.generation end) story → (IsTrue sound → AreStocked rows c) → (IsTrue sound → HasSources rows (all_written g.found []) c) → (IsTrue sound → IsRead story) → IsVault o g sound (first_ledger o c g.generation end) story held [] true false
 unfolding count_in accepted_in
-started_vault o g sound c end story held rows bodies walk ranges none stands shaped own named_given ready stocked sourced = record {
+started_vault o g sound c end story held rows bodies walk ranges none stands shaped own named_given ready stocked sourced read = record {
   rows = rows;
   bodies = bodies;
   seen = λ position. c;
@@ -47,6 +47,7 @@ started_vault o g sound c end story held rows bodies walk ranges none stands sha
   counts = record { leases = omega (arith, none); given = tt; adopted = omega arith; generation = omega arith };
   filed = filed_first 0 (next_id (first_ledger o c g.generation end)) (named c) named_given;
   ready = λ is. ready;
+  read = read;
   there = λ ok low i is. tt;
   stocked = λ ok. (stocked ok, tt);
   sourced = sourced;
@@ -68,6 +69,7 @@ unmoved_vault o g sound l story new held h running refused same counts v = recor
   counts = v.counts;
   filed = v.filed;
   ready = λ is. ready_unmoved story new same l (v.ready is);
+  read = λ ok. let was = v.read ok in (was.0, same.told ∙ was.1);
   there = λ ok low. there_unmoved story new same v.rows v.seen l (v.there ok (subst (λ m. m < last) same.moment low));
   stocked = v.stocked;
   sourced = v.sourced;

@@ -50,6 +50,7 @@ module _ (o : Outset) (g : Origin) (sound : Bool) (l : Ledger) (story : Story) (
       };
       filed = subst (λ n. AreFiled n (next_id l) (named l.catalogue) l.trash (map ids_held (holders seen after))) (sym more) kept.filed;
       ready = λ is. ready_unmoved story new same after (was_ready is);
+      read = λ ok. let was = v.read ok in (was.0, same.told ∙ was.1);
       there = λ ok below i is. kept.there ok (subst (λ m. m < last) same.moment below) i (sym same.told ∙ is);
       stocked = λ ok. ((v.stocked ok).0, kept.stocked ok);
       sourced = λ ok. subst (λ a. HasSources v.rows (all_written g.found a) l.catalogue) (sym (silent_accepts o.script (begins o.start) h e on.silent)) (v.sourced ok);

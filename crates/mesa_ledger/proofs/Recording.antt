@@ -29,7 +29,7 @@ use Rattle.mesa_walk.specs.Walk.{Outset, WalksOn, WalksWith}
 use Rattle.mesa_ledger.specs.Ledger.{Ledger, books_of, first_id, next_id, past_id, most_files, Holder, holders, ids_held, files_held}
 use Rattle.mesa_ledger.specs.Recorded.{holds_in, waiting, removed_by, Adopts, IsRecorded, recorded_ledger, failed_ledger}
 use Rattle.mesa_image_laws.specs.Sourced.{HasSources, all_written}
-use Rattle.mesa_ledger.specs.Vault.{Origin, AreThere, IsVault, written_by}
+use Rattle.mesa_ledger.specs.Vault.{Origin, IsRead, AreThere, IsVault, written_by}
 use Rattle.mesa_ledger.proofs.Accepting.{silent_accepts, silent_changes, changes_more}
 use Rattle.mesa_ledger.proofs.Filing.{holds_are, filed_lost, filed_moved, filed_recorded, still_waits, old_agree, files_stay}
 use Rattle.mesa_ledger.proofs.Lists.{map_all, all_also}
@@ -65,6 +65,9 @@ module _ (o : Outset) (g : Origin) (sound : Bool) (l : Ledger) (story : Story) (
   unheld_by c renames id is =
       freed_unheld (length h + 1) later_id (named c) (waiting l (length h) gone) pins (filed_moved (length h) (next_id l) (named l.catalogue) l.trash pins v.filed made later_id adopts.given later_le (named c) gone renames)
       id (subst (λ hs. Among id (ids_of (freed hs (waiting l (length h) gone)))) (sym (holds_are v.seen l)) is)
+
+  read_stays : IsTrue sound → IsRead new
+  read_stays ok = let was = v.read ok in let now = only.on was.0 was.1 in (now.0, now.1)
 
   -- files of holds stay where what is removed had no hold
   module _ (later : Rows) (agree : (id : ℕ) → id < next_id l → later id ≡ v.rows id) (unheld : (id : ℕ) → Among id (removed_by l (length h) gone) → AllByRecursion (λ (p : Held). Among id p.1 → ⊥) pins) where
@@ -134,6 +137,7 @@ module _ (o : Outset) (g : Origin) (sound : Bool) (l : Ledger) (story : Story) (
               (fresh_stays made (removed_by l (length h) gone) (next_id l) later_id (past_id l) story.told new.told adopts.given later_le only (v.ready is).fresh);
           strays = named_stays made (removed_by l (length h) gone) (named l.catalogue) (named c) (ids_of l.trash) (ids_of after.trash) story.told new.told moved recorded.brings goes (v.ready is).strays;
         };
+        read = read_stays;
         there = there_stays later recorded.agree unheld;
         stocked = λ ok. (stocked ok, stocked_stays later recorded.agree unheld ok);
         sourced = sourced;
@@ -166,6 +170,7 @@ module _ (o : Outset) (g : Origin) (sound : Bool) (l : Ledger) (story : Story) (
     };
     filed = subst (λ n. AreFiled n later_id (named l.catalogue) l.trash pins) (sym more) (filed_lost (length h) (next_id l) (named l.catalogue) l.trash pins v.filed made later_id adopts.given later_le);
     ready = λ is. absurd (let never : Some position ≡ None = is in cc);
+    read = read_stays;
     there = there_stays v.rows (λ id low. refl) (unheld_by c renames);
     stocked = λ ok. v.stocked ok;
     sourced = λ ok. subst (λ a. HasSources v.rows (all_written g.found a) l.catalogue) (sym (silent_accepts o.script (begins o.start) h e on.silent)) (v.sourced ok);

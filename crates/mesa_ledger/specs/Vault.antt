@@ -42,6 +42,10 @@ pub record IsReady (l : Ledger) (story : Story) : Type 0 where
   pub fresh : AreFresh (next_id l) (past_id l) story.told
   pub strays : AreNamedOrWait (named l.catalogue) (ids_of l.trash) story.told
 
+-- A read gives an image.
+abbrev pub IsRead : Story → Type 0
+IsRead story = (i : Image) × (story.told ≡ Some i)
+
 -- Where the store was sound, and while the clock is below its last value, the files of every pin and every open query are there with the bytes of their rows.
 abbrev pub AreThere : Rows → (ℕ → Catalog) → Ledger → Story → Type 0
 AreThere rows seen l story = (i : Image) → story.told ≡ Some i → AllByRecursion (λ (p : PinFiles). Has p.1 i) (map (files_held rows) (holders seen l))
@@ -70,7 +74,7 @@ pub record AreCounted (o : Outset) (g : Origin) (l : Ledger) (h : List Entry) : 
   pub adopted : l.adopted ≤ most_files * length h
   pub generation : l.generation ≡ g.generation + schema_changes o.script (begins o.start) h
 
--- What a vault keeps, for rows that its files may have, and the catalogues that stood at its open queries' positions: the walk of its history with the books of its ledger; that each image stands for its catalogue while it is open; the shape of its catalogues, and its counts; its files; and what its rows are and were made of.
+-- What a vault keeps, for rows that its files may have, and the catalogues that stood at its open queries' positions: the walk of its history with the books of its ledger; that each image stands for its catalogue while it is open; the shape of its catalogues, and its counts; its files, which a read gives where the store was sound; and what its rows are and were made of.
 pub record IsVault (o : Outset) (g : Origin) (sound : Bool) (l : Ledger) (story : Story) (held : Option (List ℕ)) (h : List Entry) (running refused : Bool) : Type 0 where
   pub rows : Rows
   pub bodies : List (List ℕ)
@@ -85,6 +89,7 @@ pub record IsVault (o : Outset) (g : Origin) (sound : Bool) (l : Ledger) (story 
   pub counts : AreCounted o g l h
   pub filed : IsFiled seen l h
   pub ready : l.closed ≡ None → IsReady l story
+  pub read : IsTrue sound → IsRead story
   pub there : IsTrue sound → story.moment < last → AreThere rows seen l story
   pub stocked : IsTrue sound → AllStocked rows seen l
   pub sourced : IsTrue sound → HasSources rows (written_by o g.found h) l.catalogue
