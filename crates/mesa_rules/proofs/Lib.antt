@@ -1,3 +1,6 @@
 pub mod Doing
 pub mod Fits
 pub mod Seen
+pub mod Answering
+pub mod Explaining
+pub mod Finding

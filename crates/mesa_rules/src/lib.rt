@@ -1,11 +1,15 @@
 //! The rules over the catalogue: what a command may do, decided by the catalogue alone and never by rows, with the record that the journal takes for it; or why it is refused.
 #![tactic(auto)]
 
+mod found;
 mod lookups;
+mod queries;
 mod ruled;
 mod schemas;
 mod versions;
 
+pub use found::Found;
+pub use queries::{explain, query};
 pub use ruled::Ruled;
 pub use schemas::{alter, table, view};
 pub use versions::{expire, pin, version_asked};

@@ -1,8 +1,13 @@
-// Looking tables up by their names.
+// Looking tables and views up by their names.
 ghost use Rattle.std.specs.Prelude.{◌≡◌, ◌<◌, IfSome, length};
+ghost use Rattle.mesa_schema.specs.Columns.{place_of};
+ghost use Rattle.mesa_image.specs.Catalog.{stock_at};
+ghost use Rattle.mesa_catalog.specs.Lookups.{relation_of};
+ghost use Rattle.mesa_shelf.specs.Lookups.{view_names};
 ghost use Rattle.mesa_rules.specs.Seen.{number_of};
 
-use mesa_catalog::Catalog;
+use mesa_catalog::{Catalog, Relation};
+use mesa_schema::Evolving;
 
 // The number of the table of a name; a view is no table.
 pub(crate) fn table_number(catalog: &Catalog, name: &[u8]) -> Option<u16>
@@ -12,6 +17,39 @@ pub(crate) fn table_number(catalog: &Catalog, name: &[u8]) -> Option<u16>
     for table in 0..catalog.tables() {
         if name == catalog.name(table).bytes() {
             return Some(table);
+        }
+    }
+    None
+}
+
+// The table or the view of a name: tables and views share one space of names.
+pub(crate) fn relation_asked(catalog: &Catalog, name: &[u8]) -> Option<Relation>
+    ensures found { result ≡ relation_of catalog.now.catalogue name.now }
+    ensures table { IfSome result (λ r. r.table < length catalog.now.catalogue.tables) }
+    ensures view { IfSome result (λ r. IfSome r.view (λ view. view < length (stock_at catalog.now.catalogue r.table).lineage.views)) }
+{
+    for table in 0..catalog.tables() {
+        if name == catalog.name(table).bytes() {
+            return Some(Relation { table, view: None });
+        }
+        if let Some(view) = view_place(catalog.evolving(table), name) {
+            return Some(Relation {
+                table,
+                view: Some(view),
+            });
+        }
+    }
+    None
+}
+
+// The number of the view of a name.
+fn view_place(evolving: &Evolving, name: &[u8]) -> Option<u8>
+    ensures found { result ≡ place_of name.now (view_names evolving.now) }
+    ensures there { IfSome result (λ view. view < length evolving.now.views) }
+{
+    for view in 0..evolving.views() {
+        if name == evolving.view_name(view).bytes() {
+            return Some(view);
         }
     }
     None

@@ -5,6 +5,7 @@ ghost use Rattle.mesa_model.specs.declared.replies.Reply.TheVariants as reply;
 ghost use Rattle.mesa_model.specs.Pins.{make_pin, next_token, with_pin};
 ghost use Rattle.mesa_model.specs.Versions.{expire_to, version_asked as version_of, version_checked};
 ghost use Rattle.mesa_model.specs.Warehouse.{Warehouse};
+ghost use Rattle.mesa_image.specs.Shape.{IsCatalog};
 ghost use Rattle.mesa_rules.specs.Ruled.{IsRuled};
 ghost use Rattle.mesa_rules.specs.Seen.{HasCatalog};
 
@@ -46,7 +47,8 @@ pub fn pin(catalog: &Catalog, asked: VersionWord, pins: usize) -> Result<u32, Re
 
 /// The version that is asked for, or its refusal. A pin's version is asked of the pin.
 pub fn version_asked(catalog: &Catalog, asked: VersionWord) -> Result<u32, Refusal>
-    ensures { (w : Warehouse) → HasCatalog catalog.now.catalogue w → result ≡ version_of w asked }
+    ensures asked { (w : Warehouse) → HasCatalog catalog.now.catalogue w → result ≡ version_of w asked }
+    ensures low { IsCatalog catalog.now.catalogue → IfOk result (λ version. catalog.now.catalogue.oldest ≤ version) }
 {
     match asked {
         VersionWord::Latest => match catalog.newest() {

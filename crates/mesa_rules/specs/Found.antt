@@ -1,0 +1,60 @@
+-- What a query finds in a catalogue, and the answer that it stands for.
+use Rattle.std.specs.Prelude.{◌≡◌, ℕ, [], map, option_and_then, slice_get, None, Result, Ok}
+use Rattle.mesa_schema.specs.Changes.{epoch_of}
+use Rattle.mesa_schema.specs.Columns.{Columns}
+use Rattle.mesa_filter.specs.declared.words.QueryWords.{QueryWords}
+use Rattle.mesa_filter.specs.Query.{group_kinds}
+use Rattle.mesa_model.specs.declared.replies.Refusal.{Refusal}
+use Rattle.mesa_model.specs.Page.{page_of}
+use Rattle.mesa_model.specs.Query.{Answer, answer_rows, query_answer, store_asked, version_seen}
+use Rattle.mesa_model.specs.Relations.{Relation, relation_columns, relation_content}
+use Rattle.mesa_model.specs.Warehouse.{Store, Table, Warehouse, table_at}
+use Rattle.mesa_image.specs.Catalog.{Stock, Catalog, stock_at}
+use Rattle.mesa_shelf.specs.declared.relation.Relation.{Relation as Place}
+use Rattle.mesa_catalog.specs.Lookups.{known_as}
+use Rattle.mesa_asked.specs.Built.{IsBuiltOf}
+use Rattle.mesa_rules.specs.declared.found.Found.{Found}
+use Rattle.mesa_rules.specs.Seen.{known_in}
+
+-- ---- relations
+
+-- the view at a place of a table, if the place is a view's
+abbrev pub relation_with : Table → Place → Relation
+relation_with t p = record { number = p.table; table = t; view = option_and_then (slice_get t.lineage.views) p.view }
+
+-- the relation at a place of a store
+abbrev pub relation_seen : Store → Place → Relation
+relation_seen s p = relation_with (table_at s p.table) p
+
+-- a table without rows
+abbrev pub without_rows : Stock → Table
+without_rows t = record { name = t.name; lineage = t.lineage; totals = t.totals; contents = [] }
+
+-- the columns of the relation at a place of a catalogue
+abbrev pub columns_at : Catalog → Place → Columns
+columns_at c p = relation_columns (relation_with (without_rows (stock_at c p.table)) p)
+
+-- ---- what is seen
+
+-- A session's query sees the catalogue's tables in a warehouse, present ones or those of a pin, and this version of them, or no version for this refusal.
+pub record Sees (c : Catalog) (version : Result ℕ Refusal) (words : QueryWords) (session : ℕ) (w : Warehouse) : Type 0 where
+  pub opened : w.closed ≡ None
+  pub store : Store
+  pub asked : store_asked w session words.version ≡ Ok store
+  pub tables : known_in store ≡ map known_as c.tables
+  pub seen : version_seen w store words.version ≡ version
+
+-- What is found is what the words ask of its relation.
+abbrev pub IsFound : Catalog → QueryWords → Found → Type 0
+IsFound c words f = IsBuiltOf (columns_at c f.relation) f.query.version (epoch_of (stock_at c f.relation.table).lineage) words f.query
+
+-- the answer to a query over a store
+abbrev pub answer_found : Store → Found → Answer
+answer_found s f = record {
+  page = page_of f.query.version f.query.limit f.query.resume (answer_rows (relation_columns (relation_seen s f.relation)) f.query.asked (relation_content s (relation_seen s f.relation) f.query.version));
+  heading = record { kinds = group_kinds f.query; prefix = f.query.prefix };
+}
+
+-- Every warehouse in which the query sees the catalogue's tables answers it so.
+abbrev pub IsAnswered : Catalog → Result ℕ Refusal → QueryWords → Found → Type 0
+IsAnswered c version words f = (w : Warehouse) (session : ℕ) (s : Sees c version words session w) → query_answer w session words ≡ Ok (answer_found s.store f)

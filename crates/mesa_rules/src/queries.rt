@@ -1,0 +1,77 @@
+// Queries, and what is told of how they would be answered.
+ghost use Rattle.std.specs.Prelude.{◌≡◌, ◌<◌, ℕ, map, Ok, Some, IfOk, IfErr, IfSome, length};
+ghost use Rattle.mesa_filter.specs.Query.{IsQueryOf};
+ghost use Rattle.mesa_model.specs.Query.{query_answer};
+ghost use Rattle.mesa_model.specs.Warehouse.{Warehouse};
+ghost use Rattle.mesa_history.specs.Machine.{Machine, explained};
+ghost use Rattle.mesa_image.specs.Catalog.{ranges_of, stock_at};
+ghost use Rattle.mesa_image.specs.Shape.{IsCatalog};
+ghost use Rattle.mesa_catalog.specs.Lookups.{relation_of};
+ghost use Rattle.mesa_asked.specs.Told.{IsDue};
+ghost use Rattle.mesa_rules.specs.Found.{IsAnswered, IsFound, Sees, columns_at};
+ghost use Rattle.mesa_rules.specs.Seen.{HasCatalog};
+
+use crate::Found;
+use crate::lookups::relation_asked;
+use crate::versions::version_asked;
+use mesa_asked::{Failure, build_query, check_query};
+use mesa_catalog::{Catalog, Relation};
+use mesa_filter::QueryWords;
+use mesa_list::{Items, TryCopy};
+use mesa_model::{ExplainWords, Refusal, Reply};
+use mesa_schema::Schema;
+use mesa_span::plan;
+use std::alloc::{AllocError, Global};
+
+/// What a query asks of the catalogue's tables: the vault's, or a pin's own copy. The version is the one that it sees, or why there is none.
+pub fn query(
+    alloc: Global,
+    catalog: &Catalog,
+    version: Result<u32, Refusal>,
+    words: &QueryWords,
+) -> Result<Found, Failure>
+    ensures relation { IfOk result (λ found. relation_of catalog.now.catalogue words.now.relation ≡ Some found.relation) }
+    ensures version { IfOk result (λ found. version ≡ Ok found.query.version) }
+    ensures asked { IfOk result (IsFound catalog.now.catalogue words.now) }
+    ensures sound { IfOk result (λ found. IsQueryOf (columns_at catalog.now.catalogue found.relation) found.query) }
+    ensures answered { IfOk result (IsAnswered catalog.now.catalogue version words.now) }
+    ensures refused { IfErr result (λ failure. (w : Warehouse) (session : ℕ) → Sees catalog.now.catalogue version words.now session w → IsDue (query_answer w session words.now) failure) }
+{
+    let Some(relation) = relation_asked(catalog, words.relation.as_slice()) else {
+        return Err(Failure::Refused(Refusal::NoTable { row: None }));
+    };
+    let schema = schema_of(catalog, relation)?;
+    check_query(alloc, &schema, words)?;
+    let version = version?;
+    let epoch = catalog.evolving(relation.table).epoch();
+    let query = build_query(alloc, &schema, version, epoch, words)?;
+    Ok(Found { relation, query })
+}
+
+// The columns of a relation.
+fn schema_of(catalog: &Catalog, relation: Relation) -> Result<Schema, AllocError>
+    requires table { relation.table < length catalog.now.catalogue.tables }
+    requires view { IfSome relation.view (λ view. view < length (stock_at catalog.now.catalogue relation.table).lineage.views) }
+    ensures { IfOk result (λ s. s ≡ columns_at catalog.now.catalogue relation) }
+{
+    let evolving = catalog.evolving(relation.table);
+    match relation.view {
+        Some(view) => evolving.view_schema(view),
+        None => evolving.present().copy(),
+    }
+}
+
+/// The ranges that a query of a relation would read.
+pub fn explain(alloc: Global, catalog: &Catalog, words: &ExplainWords) -> Result<Reply, Failure>
+    requires { IsCatalog catalog.now.catalogue }
+    ensures explained { IfOk result (λ told. (w : Warehouse) (m : Machine) → HasCatalog catalog.now.catalogue w → m.ranges ≡ map ranges_of catalog.now.catalogue.tables → explained w m words.now ≡ Ok told) }
+    ensures refused { IfErr result (λ failure. (w : Warehouse) (m : Machine) → HasCatalog catalog.now.catalogue w → IsDue (explained w m words.now) failure) }
+{
+    let Some(relation) = relation_asked(catalog, words.relation.as_slice()) else {
+        return Err(Failure::Refused(Refusal::NoTable { row: None }));
+    };
+    let version = version_asked(catalog, words.version)?;
+    let ranges = catalog.ranges(relation.table)?;
+    let spans = plan(alloc, &ranges, version)?;
+    Ok(Reply::Spans(Items::from_vec(spans)))
+}
