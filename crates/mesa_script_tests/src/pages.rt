@@ -12,6 +12,7 @@ use mesa_model::Page;
 use mesa_print::render;
 use mesa_schema::{Row, RowList};
 use std::alloc::{AllocError, Global};
+use std::process::Abort;
 use std::test::Fail;
 
 // The types of a number and a text.
@@ -57,24 +58,43 @@ fn rows(alloc: Global) -> Result<Option<RowList>, AllocError>
     Ok(Some(rows))
 }
 
+// A page's prefix of its resume key, how many rows it has, whether more follow, and its lines.
+type Printed = (&'static [u8], u32, bool, &'static str);
+
+// Stops the test of a page that is printed otherwise.
+fn expect(rt: &impl Abort, alloc: Global, page: &Page, want: &Printed) -> Result<(), Fail>
+    requires { AllByRecursion (λ (row : AnyRow). IsTrue (is_spelling (KeyType.Int ∷ KeyType.Text ∷ []) row.key)) page.now.rows }
+{
+    let printed = render(alloc, page, &TYPES, want.0)?;
+    assert_eq!(rt; (printed.rows, printed.more), (want.1, want.2));
+    let lines = text_of(alloc, printed.body.as_slice())?;
+    assert_eq!(rt; lines.as_str(), want.3);
+    Ok(())
+}
+
+static TWO_ROWS: Printed = (
+    b"a/1/0/day;country/",
+    2,
+    true,
+    "20131231,US,10\n-5,\"a,\"\"b\"\"\",-1\nresume a/1/0/day;country/7ffffffffffffffb612c22622200\n",
+);
+
+static LAST: &[u8] = b"\x7f\xff\xff\xff\xff\xff\xff\xfba,\"b\"\0";
+
 #[test]
 fn prints_pages(rt: HostRuntime) -> Result<(), Fail> {
     let alloc = rt.alloc();
+    let resume = Items::from_bytes(alloc, LAST)?;
     let rows = rows(alloc)?.ok_or("not a text")?;
-    let last = b"\x7f\xff\xff\xff\xff\xff\xff\xfba,\"b\"\0";
     let page = Page {
         version: 1,
         rows,
-        resume: Some(Items::from_bytes(alloc, last)?),
+        resume: Some(resume),
     };
-    let printed = render(alloc, &page, &TYPES, b"a/1/0/day;country/")?;
-    assert_eq!(rt; printed.rows, 2);
-    assert!(rt; printed.more);
-    let lines =
-        "20131231,US,10\n-5,\"a,\"\"b\"\"\",-1\nresume a/1/0/day;country/7ffffffffffffffb612c22622200\n";
-    assert_eq!(rt; text_of(alloc, printed.body.as_slice())?.as_str(), lines);
-    Ok(())
+    expect(&rt, alloc, &page, &TWO_ROWS)
 }
+
+static NO_ROWS: Printed = (b"a/0/0/day;country/", 0, false, "");
 
 #[test]
 fn prints_empty_pages(rt: HostRuntime) -> Result<(), Fail> {
@@ -84,9 +104,5 @@ fn prints_empty_pages(rt: HostRuntime) -> Result<(), Fail> {
         rows: Items::new(alloc),
         resume: None,
     };
-    let printed = render(alloc, &page, &TYPES, b"a/0/0/day;country/")?;
-    assert_eq!(rt; printed.rows, 0);
-    assert!(rt; !printed.more);
-    assert!(rt; printed.body.is_empty());
-    Ok(())
+    expect(&rt, alloc, &page, &NO_ROWS)
 }
