@@ -1,6 +1,6 @@
 -- All rows of inputs, as a file.
-use Rattle.std.proofs.Common.{◌≡◌, ℕ, ◌<◌, List, [], ◌∷◌, ◌++◌, refl, sym, ◌∙◌, ap, subst, length, arith, length-append}
-use Rattle.std.proofs.lemmas.List.{length-map}
+use Rattle.std.proofs.Common.{◌≡◌, ℕ, ◌<◌, List, [], ◌∷◌, ◌++◌, refl, sym, ◌∙◌, ap, subst, length, get_or, arith, length-append}
+use Rattle.std.proofs.lemmas.List.{append-nil, length-map}
 use Rattle.std.specs.Prelude.{Option, map, Result, Ok, Err, IfErr, IfOk}
 use Rattle.std.specs.FinMap.Entries.{by_order}
 use Rattle.std.specs.declared.cmp.Ordering.{Ordering}
@@ -12,6 +12,13 @@ use Rattle.mesa_schema.specs.Columns.{Columns, aggs_of}
 use Rattle.mesa_schema.specs.Folded.{folded, folded_at, keys_of, rows_of, with_key}
 use Rattle.mesa_delta.specs.declared.input.Input.{Input}
 use Rattle.mesa_merge.specs.Inputs.{AreAll, Known, knowns_of, lifted_in}
+use Rattle.mesa_merge.specs.Inputs.{lifted_parts as known_parts}
+use Rattle.mesa_merge.proofs.Ending.{AreFronts, all_told}
+use Rattle.mesa_fold.specs.Bound.{FoldsTotals}
+use Rattle.mesa_answer.specs.Answering.{KeepsSums}
+use Rattle.mesa_compact.specs.Bounded.{AreBounded}
+use Rattle.mesa_compact.proofs.Following.{folded_bound}
+use Rattle.mesa_schema.specs.Rows.{AreRowsOf}
 use Rattle.mesa_compact.specs.Damaged.{IsNewestOf}
 use Rattle.mesa_tasks.specs.Inputs.{HaveRows, IsMergeOf, lifted_parts}
 
@@ -25,7 +32,7 @@ some_key k (x ∷ xs) = elim (byte_cmp k x) as (λ (o : Ordering). 0 < length (b
   | Greater ↦ omega arith
 ]
 
-some_folded : (aggs : List Agg) (rows : List Row) → 0 < length rows → 0 < length (map (folded_at aggs rows) (keys_of rows))
+pub some_folded : (aggs : List Agg) (rows : List Row) → 0 < length rows → 0 < length (map (folded_at aggs rows) (keys_of rows))
 some_folded aggs [] some = absurd (omega (arith, some))
 some_folded aggs (row ∷ rows) some = subst (λ n. 0 < n) (sym (length-map (keys_of (row ∷ rows)) (folded_at aggs (row ∷ rows)))) (some_key row.key (keys_of rows))
 
@@ -61,6 +68,16 @@ parts_of bytes (i ∷ is) (g ∷ gs) all =
 -- what all inputs have given folds to their merge
 pub merge_of : {R : Type 0} (bytes : R → Option (List ℕ)) (s : Columns) (is : List (Input R)) (gs : List (List Row)) → AreAll (knowns_of bytes is) gs → IsMergeOf bytes s is (folded (aggs_of s) gs)
 merge_of bytes s is gs all = let parts = parts_of bytes is gs all in record { parts = parts.0; whole = parts.1; fold = ap (folded (aggs_of s)) parts.2 }
+
+-- ---- sums
+
+fronts_same : (gs : List (List Row)) → AreFronts gs gs
+fronts_same [] = tt
+fronts_same (g ∷ gs) = (([], sym (append-nil g)), fronts_same gs)
+
+-- all rows of inputs whose sums stay in their type fold to rows whose sums do
+pub told_sums : FoldsTotals → (s : Columns) (ks : List Known) (gs : List (List Row)) → ((j : ℕ) → AreRowsOf s (get_or gs j [])) → AreAll ks gs → AreBounded s ks → KeepsSums s (folded (aggs_of s) gs)
+told_sums law s ks gs formed all b = folded_bound law s gs (known_parts ks b.contents) formed (subst (AreFronts gs) (all_told ks gs b.contents all b.told) (fronts_same gs)) b.bound
 
 -- ---- what a result has
 

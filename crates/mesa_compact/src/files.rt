@@ -6,12 +6,14 @@ ghost use Rattle.mesa_schema.specs.declared.rows.Row.{Row as AnyRow};
 ghost use Rattle.mesa_schema.specs.Columns.{aggs_of};
 ghost use Rattle.mesa_schema.specs.Folded.{folded, rows_of};
 ghost use Rattle.mesa_fold.specs.Bound.{KeepsBound};
+ghost use Rattle.mesa_answer.specs.Answering.{KeepsSums};
 ghost use Rattle.mesa_cursor.specs.Cursors.{IsInput};
 ghost use Rattle.mesa_merge.specs.Faults.{faults_of};
 ghost use Rattle.mesa_merge.specs.Inputs.{AreAll, AreInputs, AreTold, knowns_of, lifted_parts};
 ghost use Rattle.mesa_merge.specs.Merged.{HasMerged, inputs_of};
 ghost use Rattle.mesa_tasks.specs.Inputs.{IsMergeOf};
 ghost use Rattle.mesa_tasks.specs.Made.{IsMadeFile};
+ghost use Rattle.mesa_compact.specs.Bounded.{AreBounded};
 ghost use Rattle.mesa_compact.specs.Damaged.{IsMergeDamage, IsNewestOf};
 ghost use Rattle.mesa_compact.specs.Grouping.{HavePut, TakesRows, wanted_in};
 ghost use Rattle.mesa_compact.specs.Writing.{HasCauses, damaged_by};
@@ -44,7 +46,8 @@ pub fn merged_file<M: Made, B: Bench<M>, R: FileReader>(
     requires takes { AllByRecursion (TakesRows schema.now) groups.old }
     ensures known { knowns_of R.bytes inputs.new.items ≡ knowns_of R.bytes inputs.old.items }
     ensures kept { AllByRecursion (IsInput R.bytes) inputs.new.items }
-    ensures made { IfOk result (λ made. (rows : List AnyRow) × IsMergeOf R.bytes schema.now inputs.old.items rows × IsMadeFile M.bytes M.id_of (record { columns = schema.now; rows = rows }) made × HavePut groups.new rows) }
+    ensures made { IfOk result (λ made. (rows : List AnyRow) × IsMergeOf R.bytes schema.now inputs.old.items rows × IsMadeFile M.bytes M.id_of (record { columns = schema.now; rows = rows }) made × HavePut groups.new rows
+        × (AreBounded schema.now (knowns_of R.bytes inputs.old.items) → KeepsSums schema.now rows)) }
     ensures id { IfOk result (λ made. M.id_of made.made ≡ id) }
     ensures wanted { map wanted_in groups.new ≡ map wanted_in groups.old }
     ensures causes { HasCauses (B.faults bench.old) (B.faults bench.new) (faults_of R.faults inputs.old.items) (faults_of R.faults inputs.new.items) (IsMergeDamage R.bytes R.size inputs.new.items) result }
@@ -84,7 +87,8 @@ fn merge_into<M: Made, B: Bench<M>, R: FileReader>(
     requires newest { IsNewestOf (knowns_of R.bytes inputs.items) newest }
     ensures known { knowns_of R.bytes result.0.items ≡ knowns_of R.bytes inputs.items }
     ensures kept { AllByRecursion (IsInput R.bytes) result.0.items }
-    ensures made { IfOk result.1 (λ made. (rows : List AnyRow) × IsMergeOf R.bytes schema.now inputs.items rows × IsMadeFile M.bytes M.id_of (record { columns = schema.now; rows = rows }) made × HavePut groups.new rows) }
+    ensures made { IfOk result.1 (λ made. (rows : List AnyRow) × IsMergeOf R.bytes schema.now inputs.items rows × IsMadeFile M.bytes M.id_of (record { columns = schema.now; rows = rows }) made × HavePut groups.new rows
+        × (AreBounded schema.now (knowns_of R.bytes inputs.items) → KeepsSums schema.now rows)) }
     ensures id { IfOk result.1 (λ made. M.id_of made.made ≡ id) }
     ensures wanted { map wanted_in groups.new ≡ map wanted_in groups.old }
     ensures causes { HasCauses (B.faults bench.old) (B.faults bench.new) (faults_of R.faults inputs.items) (faults_of R.faults result.0.items) (IsMergeDamage R.bytes R.size result.0.items) result.1 }
@@ -118,7 +122,8 @@ fn file_of<M: Made, B: Bench<M>, R: FileReader>(
     ensures known { knowns_of R.bytes (inputs_of merge.new) ≡ knowns_of R.bytes (inputs_of merge.old) }
     ensures kept { AllByRecursion (IsInput R.bytes) (inputs_of merge.old) → AllByRecursion (IsInput R.bytes) (inputs_of merge.new) }
     ensures made { IfOk result (λ made. (after : List (List AnyRow)) × AreAll (knowns_of R.bytes (inputs_of merge.new)) after
-        × IsMadeFile M.bytes M.id_of (record { columns = schema.now; rows = folded (aggs_of schema.now) after }) made × HavePut groups.new (folded (aggs_of schema.now) after)) }
+        × IsMadeFile M.bytes M.id_of (record { columns = schema.now; rows = folded (aggs_of schema.now) after }) made × HavePut groups.new (folded (aggs_of schema.now) after)
+        × (AreBounded schema.now (knowns_of R.bytes (inputs_of merge.new)) → KeepsSums schema.now (folded (aggs_of schema.now) after))) }
     ensures id { IfOk result (λ made. M.id_of made.made ≡ id) }
     ensures wanted { map wanted_in groups.new ≡ map wanted_in groups.old }
     ensures causes { HasCauses (B.faults bench.old) (B.faults bench.new) (faults_of R.faults (inputs_of merge.old)) (faults_of R.faults (inputs_of merge.new)) (IsMergeDamage R.bytes R.size (inputs_of merge.new)) result }

@@ -3,7 +3,12 @@
 
 mod files;
 mod filing;
+mod gatherers;
+mod grouped;
 mod grouping;
 mod pouring;
+mod task;
+mod views;
 
 pub use files::merged_file;
+pub use task::merge_task;

@@ -7,12 +7,14 @@ ghost use Rattle.mesa_schema.specs.Columns.{Columns, aggs_of};
 ghost use Rattle.mesa_schema.specs.Folded.{folded, rows_of};
 ghost use Rattle.mesa_fold.specs.Bound.{KeepsBound};
 ghost use Rattle.mesa_delta.specs.Writing.{HasTaken, columns_of, draft_of, id_of};
+ghost use Rattle.mesa_answer.specs.Answering.{KeepsSums};
 ghost use Rattle.mesa_cursor.specs.Cursors.{IsInput};
 ghost use Rattle.mesa_merge.specs.Damaged.{IsDamageOf};
 ghost use Rattle.mesa_merge.specs.Faults.{faults_of};
 ghost use Rattle.mesa_merge.specs.Inputs.{AreAll, AreTold, knowns_of, lifted_parts};
 ghost use Rattle.mesa_merge.specs.Merged.{HasMerged, inputs_of};
 ghost use Rattle.mesa_merge.specs.Sums.{sum_damage};
+ghost use Rattle.mesa_compact.specs.Bounded.{AreBounded};
 ghost use Rattle.mesa_compact.specs.Grouping.{HavePut, TakesRows, wanted_in};
 ghost use Rattle.mesa_compact.specs.Writing.{HasCauses, damaged_by};
 
@@ -38,7 +40,8 @@ pub(crate) fn pour<M: Made, T: Draft<M>, R: FileReader>(
     ensures taken { OnOk result ((givens : List (List AnyRow)) → HasMerged R.bytes (columns_of writer.old) merge.old givens
         → HasTaken T.bytes writer.old (folded (aggs_of (columns_of writer.old)) givens) → HavePut groups.old (folded (aggs_of (columns_of writer.old)) givens)
         → (after : List (List AnyRow)) × AreAll (knowns_of R.bytes (inputs_of merge.new)) after
-        × HasTaken T.bytes writer.new (folded (aggs_of (columns_of writer.old)) after) × HavePut groups.new (folded (aggs_of (columns_of writer.old)) after)) }
+        × HasTaken T.bytes writer.new (folded (aggs_of (columns_of writer.old)) after) × HavePut groups.new (folded (aggs_of (columns_of writer.old)) after)
+        × (AreBounded (columns_of writer.old) (knowns_of R.bytes (inputs_of merge.new)) → KeepsSums (columns_of writer.old) (folded (aggs_of (columns_of writer.old)) after))) }
     ensures columns { columns_of writer.new ≡ columns_of writer.old }
     ensures id { id_of writer.new ≡ id_of writer.old }
     ensures draft { T.id_of (draft_of writer.new) ≡ T.id_of (draft_of writer.old) }

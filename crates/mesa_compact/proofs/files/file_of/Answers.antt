@@ -9,6 +9,8 @@ use Rattle.mesa_tasks.specs.Made.{IsMadeFile}
 use Rattle.mesa_merge.specs.Faults.{faults_of}
 use Rattle.mesa_merge.specs.Inputs.{AreAll, knowns_of, lifted_parts}
 use Rattle.mesa_merge.specs.Merged.{HasMerged, inputs_of}
+use Rattle.mesa_answer.specs.Answering.{KeepsSums}
+use Rattle.mesa_compact.specs.Bounded.{AreBounded}
 use Rattle.mesa_compact.specs.Grouping.{HavePut, TakesRows}
 use Rattle.mesa_compact.proofs.Causing.{caused_bench, caused_on, same_end}
 use Rattle.mesa_compact.proofs.Whole.{if_err_map, if_ok_map, newest_kept, some_all, some_known}
@@ -65,13 +67,14 @@ returns-in-Ok-pour-clause-made g c =
     let now : columns_of c.pour.new.writer ≡ s = c.in-Ok-pour.ensures.columns in
     if_ok_map c.end_file.result
     (λ made. (rows : List Row) → 0 < length rows → HasTaken g.B.Draft.Draft.bytes c.pour.new.writer rows → IsMadeFile g.M.Made.bytes g.M.Made.id_of (record { columns = columns_of c.pour.new.writer; rows = rows }) made)
-    (λ made. (x : List (List Row)) × AreAll (knowns_of g.R.FileReader.bytes (inputs_of c.pour.new.merge)) x × IsMadeFile g.M.Made.bytes g.M.Made.id_of (record { columns = c.args.schema.now; rows = folded (aggs_of c.args.schema.now) x }) made × HavePut c.pour.new.groups (folded (aggs_of c.args.schema.now) x))
+    (λ made. (x : List (List Row)) × AreAll (knowns_of g.R.FileReader.bytes (inputs_of c.pour.new.merge)) x × IsMadeFile g.M.Made.bytes g.M.Made.id_of (record { columns = c.args.schema.now; rows = folded (aggs_of c.args.schema.now) x }) made × HavePut c.pour.new.groups (folded (aggs_of c.args.schema.now) x) × (AreBounded c.args.schema.now (knowns_of g.R.FileReader.bytes (inputs_of c.pour.new.merge)) → KeepsSums c.args.schema.now (folded (aggs_of c.args.schema.now) x)))
     (λ made file. (
       after.0,
       after.1,
       subst (λ (t : Columns). IsMadeFile g.M.Made.bytes g.M.Made.id_of (record { columns = t; rows = folded (aggs_of t) after.0 }) made) cols
           (subst (λ (t : Columns). IsMadeFile g.M.Made.bytes g.M.Made.id_of (record { columns = t; rows = folded (aggs_of s) after.0 }) made) now (file (folded (aggs_of s) after.0) some after.2)),
       subst (λ (t : Columns). HavePut c.pour.new.groups (folded (aggs_of t) after.0)) cols after.3,
+      subst (λ (t : Columns). AreBounded t (knowns_of g.R.FileReader.bytes (inputs_of c.pour.new.merge)) → KeepsSums t (folded (aggs_of t) after.0)) cols after.4,
     ))
     c.end_file.ensures.made
 

@@ -10,6 +10,8 @@ use Rattle.mesa_tasks.specs.Inputs.{IsMergeOf}
 use Rattle.mesa_tasks.specs.Made.{IsMadeFile}
 use Rattle.mesa_merge.specs.Inputs.{AreAll, AreTold, knowns_of, lifted_parts}
 use Rattle.mesa_merge.specs.Merged.{HasMerged, inputs_of, nothing_given}
+use Rattle.mesa_answer.specs.Answering.{KeepsSums}
+use Rattle.mesa_compact.specs.Bounded.{AreBounded}
 use Rattle.mesa_compact.specs.Grouping.{HavePut}
 use Rattle.mesa_compact.specs.Writing.{damaged_by}
 use Rattle.mesa_compact.proofs.Causing.{caused_memory}
@@ -25,9 +27,9 @@ returns-in-Ok-clause-made g c =
     let s = c.args.schema.now in
     let known : knowns_of bytes (inputs_of c.file_of-made.new.merge) ≡ knowns_of bytes c.args.inputs.items = c.file_of-made.ensures.known ∙ ap (knowns_of bytes) c.in-Ok.ensures.inputs in
     if_ok_map c.file_of-made.result
-    (λ made. (x : List (List Row)) × AreAll (knowns_of bytes (inputs_of c.file_of-made.new.merge)) x × IsMadeFile g.M.Made.bytes g.M.Made.id_of (record { columns = s; rows = folded (aggs_of s) x }) made × HavePut c.file_of-made.new.groups (folded (aggs_of s) x))
-    (λ made. (x : List Row) × IsMergeOf bytes s c.args.inputs.items x × IsMadeFile g.M.Made.bytes g.M.Made.id_of (record { columns = s; rows = x }) made × HavePut c.file_of-made.new.groups x)
-    (λ made all. (folded (aggs_of s) all.0, merge_of bytes s c.args.inputs.items all.0 (subst (λ ks. AreAll ks all.0) known all.1), all.2, all.3))
+    (λ made. (x : List (List Row)) × AreAll (knowns_of bytes (inputs_of c.file_of-made.new.merge)) x × IsMadeFile g.M.Made.bytes g.M.Made.id_of (record { columns = s; rows = folded (aggs_of s) x }) made × HavePut c.file_of-made.new.groups (folded (aggs_of s) x) × (AreBounded s (knowns_of bytes (inputs_of c.file_of-made.new.merge)) → KeepsSums s (folded (aggs_of s) x)))
+    (λ made. (x : List Row) × IsMergeOf bytes s c.args.inputs.items x × IsMadeFile g.M.Made.bytes g.M.Made.id_of (record { columns = s; rows = x }) made × HavePut c.file_of-made.new.groups x × (AreBounded s (knowns_of bytes c.args.inputs.items) → KeepsSums s x))
+    (λ made all. (folded (aggs_of s) all.0, merge_of bytes s c.args.inputs.items all.0 (subst (λ ks. AreAll ks all.0) known all.1), all.2, all.3, subst (λ ks. AreBounded s ks → KeepsSums s (folded (aggs_of s) all.0)) known all.4))
     c.file_of-made.ensures.made
 
 pub returns-in-Err-clause-causes : goal.returns-in-Err-clause-causes

@@ -19,6 +19,8 @@ use Rattle.mesa_merge.proofs.Ending.{AreFronts, givens_fronts}
 use Rattle.mesa_compact.specs.Grouping.{HavePut, TakesRows}
 use Rattle.mesa_compact.proofs.Causing.{caused_damage, caused_file, caused_memory, caused_ok, caused_unread, caused_write, no_write_damage}
 use Rattle.mesa_compact.proofs.Following.{folded_bound, rises, sums_follow, taken_form}
+use Rattle.mesa_compact.specs.Bounded.{AreBounded}
+use Rattle.mesa_compact.proofs.Whole.{told_sums}
 use Rattle.mesa_compact.proofs.Poured.{if_none_from, merged_formed}
 use Rattle.mesa_compact.proofs.Putting.{takes_kept}
 use Rattle.mesa_compact.proofs.pouring.pour.Goals as goal
@@ -134,8 +136,13 @@ returns-in_default-clause-taken g c = λ givens h taken put.
     let s = columns_of c.rows.writer in
     let now = inv.poured givens h taken put in
     let none = rw c.in_default.is at (c.in-Ok.ensures.next now.1.going).none in
-    let all = none s now.0 now.1 in
-    (now.0, all.1, subst (λ (t : Columns). HasTaken g.T.Draft.bytes c.rows.writer (folded (aggs_of t) now.0)) inv.columns now.2, subst (λ (t : Columns). HavePut c.rows.groups (folded (aggs_of t) now.0)) inv.columns now.3)
+    let all = none s now.0 now.1 in (
+      now.0,
+      all.1,
+      subst (λ (t : Columns). HasTaken g.T.Draft.bytes c.rows.writer (folded (aggs_of t) now.0)) inv.columns now.2,
+      subst (λ (t : Columns). HavePut c.rows.groups (folded (aggs_of t) now.0)) inv.columns now.3,
+      subst (λ (t : Columns). AreBounded t (knowns_of g.R.FileReader.bytes (inputs_of c.next.new.self)) → KeepsSums t (folded (aggs_of t) now.0)) inv.columns (told_sums c.folds_totals.ensures s _ now.0 (merged_formed g.R.FileReader.bytes s c.rows.merge now.0 now.1) all.1),
+    )
 
 pub returns-in_default-clause-causes : goal.returns-in_default-clause-causes
 returns-in_default-clause-causes g c =
