@@ -2,7 +2,9 @@
 #![tactic(auto)]
 
 mod looking;
+mod pinning;
 mod releasing;
 
 pub use looking::look;
+pub use pinning::pin;
 pub use releasing::release;
