@@ -1,0 +1,101 @@
+// A query's last turn.
+ghost use Rattle.std.specs.Prelude.{◌≡◌, ◌<◌, ◌≤◌, ◌||◌, ◌++◌, ◌∷◌, [], true, not, is_some, length, vec_capacity, vec_len};
+ghost use Rattle.mesa_asking.specs.Closing.{IsPageOf, IsToClose, SomeFailed, cause_if, cause_of, closing_entry, closing_text};
+ghost use Rattle.mesa_fault.specs.Causes.{last};
+ghost use Rattle.mesa_history.specs.Run.{Finished};
+ghost use Rattle.mesa_ledger.specs.Turned.{answered_ledger};
+ghost use Rattle.mesa_log.specs.Failure.{cause_in};
+ghost use Rattle.mesa_log.specs.Printing.{GoesOn};
+ghost use Rattle.mesa_metadata.specs.Memory.{is_of_another};
+ghost use Rattle.mesa_model.specs.Entry.{IsShort};
+ghost use Rattle.mesa_model.specs.declared.entries.Kind.TheVariants as kind;
+ghost use Rattle.mesa_skeleton.specs.Rows.{Rows, no_rows};
+ghost use Rattle.mesa_tasks.specs.GivingBack.{pinned_inputs};
+ghost use Rattle.mesa_walk.specs.Printing.{IsPut};
+ghost use Rattle.mesa_walk.specs.Queries.{MayClose, closing_fault};
+ghost use Rattle.mesa_walk.specs.Turns.{Takes};
+ghost use Rattle.mesa_walk.specs.Walk.{run_at};
+
+use crate::give_back;
+use mesa_delta::FileError;
+use mesa_disk::{Disk, Made};
+use mesa_engine::Engine;
+use mesa_io::Sink;
+use mesa_ledger::Naming;
+use mesa_log::{Failure, Log, Who};
+use mesa_model::{Kind, Outcome};
+use mesa_script::Rendered;
+use mesa_tasks::{Pinned, retire_pinned};
+
+// Why a query has no answer.
+fn failed(error: FileError) -> Failure
+    ensures { cause_in result ≡ cause_of error }
+{
+    match error {
+        FileError::Read => Failure::Unread,
+        FileError::Damaged(damage) => Failure::Damaged(damage),
+        FileError::Memory => Failure::Memory,
+    }
+}
+
+// Adds the turn that closes a query, and prints its page under a position, or why there is none.
+fn print<K: Sink>(
+    log: &mut Log<K>,
+    who: Who,
+    moment: u64,
+    at: u64,
+    version: u32,
+    answered: Result<Rendered, FileError>,
+)
+    requires { vec_len log.old.history < vec_capacity log.old.history }
+    ensures items { log.new.history.items ≡ log.old.history.items ++ closing_entry who.session who.command answered moment ∷ [] }
+    ensures short { IsShort (closing_entry who.session who.command answered moment) }
+    ensures room { vec_capacity log.old.history ≤ vec_capacity log.new.history }
+    ensures put { IsPut (closing_text (closing_entry who.session who.command answered moment) at version answered) (not log.new.printer.broken) (K.held log.old.printer.sink) (K.held log.new.printer.sink) }
+    ensures goes { GoesOn K.faults log.old.printer log.new.printer }
+    ensures refused { log.new.refused ≡ (log.old.refused || is_some (cause_if answered)) }
+{
+    match answered {
+        Ok(page) => {
+            let turn = who.turn(Kind::Close, Outcome::Stands, moment);
+            log.answer(turn, at, version, &page);
+        }
+        Err(error) => {
+            let failure = failed(error);
+            let turn = who.turn(Kind::Close, failure.outcome(), moment);
+            let reply = failure.into_reply();
+            log.tell(turn, at, &reply, b"");
+        }
+    }
+}
+
+/// The turn that closes a query: its page, or why there is none, is printed under the position of the
+/// query's first turn, and all that was held for it is given back. Takes no memory.
+pub fn close_query<N: Naming, M: Made, D: Disk<M>, K: Sink>(
+    engine: &mut Engine<N, M, D, K>,
+    who: Who,
+    pinned: Pinned<D::Reader>,
+    answered: Result<Rendered, FileError>,
+)
+    // On a sound store, while the clock is below its last value, the page is that of the answer, whatever rows the files had when the run began.
+    requires due { (w : Rows) → IsToClose N.script (run_at N.script (N.start w) engine.old.shown.history) who.session who.command pinned.at (λ answer. N.sound w → engine.old.shown.clock < last → IsPageOf answered pinned.version answer) }
+    requires may { MayClose (cause_if answered) }
+    requires read { closing_fault (cause_if answered) ≡ true → SomeFailed D.Reader.faults (pinned_inputs pinned) }
+    requires room { length engine.old.shown.history < N.room }
+    ensures turn { Takes N.script (N.start no_rows) engine.old.shown engine.new.shown who.session who.command kind.Close Finished }
+    // What the query held is given back, unless the sink had failed.
+    ensures ledger { engine.old.shown.running ≡ true → engine.new.ledger ≡ answered_ledger engine.old.ledger (is_of_another who.session) }
+    ensures catalogue { engine.new.ledger.catalogue ≡ engine.old.ledger.catalogue }
+{
+    if !engine.running() {
+        engine.skip(who, Kind::Close);
+        give_back(engine, pinned);
+        return;
+    }
+    let at = pinned.at;
+    let version = pinned.version;
+    retire_pinned(&mut engine.disk, pinned);
+    engine.metadata.close_query(who.session);
+    let moment = engine.disk.clock();
+    print(&mut engine.log, who, moment, at, version, answered);
+}

@@ -1,0 +1,8 @@
+//! The turns of a query: the first opens the files that answer it, and the last prints its page.
+#![tactic(auto)]
+
+mod closing;
+mod giving_back;
+
+pub use closing::close_query;
+pub use giving_back::give_back;
