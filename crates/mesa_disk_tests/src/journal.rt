@@ -6,13 +6,9 @@ use std::process::Abort;
 use std::test::Fail;
 
 fn disk_of(alloc: Global, zero: &[u8], fails: &[u64]) -> Result<MemDisk, Fail> {
-    Ok(MemDisk::new(
-        alloc,
-        zero.to_vec(alloc)?,
-        Vec::new(alloc),
-        Vec::new(alloc),
-        fails.to_vec(alloc)?,
-    ))
+    let zero = zero.to_vec(alloc)?;
+    let fails = fails.to_vec(alloc)?;
+    Ok(MemDisk::new(alloc, zero, Vec::new(alloc), Vec::new(alloc), fails))
 }
 
 fn read(alloc: Global, disk: &mut MemDisk) -> Result<JournalRead, Fail> {
@@ -37,47 +33,67 @@ fn closed(rt: &impl Abort, disk: &mut MemDisk) -> bool {
     close_gate(disk, Area::Zero).is_ok()
 }
 
+// The end and the bodies of an area.
+fn read_of(alloc: Global, zero: &[u8]) -> Result<JournalRead, Fail> {
+    let mut disk = disk_of(alloc, zero, &[])?;
+    read(alloc, &mut disk)
+}
+
 #[test]
 fn a_shut_gate_ends_the_journal(rt: HostRuntime) -> Result<(), Fail> {
-    let alloc = rt.alloc();
     let area = [1, 0, 0, 0, 5, 1, 0, 0, 0, 1, 2, 0, 0, 0, 5, 1, 0];
-    let mut disk = disk_of(alloc, &area, &[])?;
-    let read = read(alloc, &mut disk)?;
-    assert_eq!(rt; read.end, 10);
-    let [body] = read.bodies.as_slice() else {
-        return Err("another count of bodies")?;
-    };
+    let read = read_of(rt.alloc(), &area)?;
+    assert_eq!(rt; (read.end, read.bodies.len()), (10, 1));
+    let body = &read.bodies.as_slice()[0];
     assert_eq!(rt; body.at, 0);
     assert_eq!(rt; body.bytes.as_slice(), [1, 0, 0, 0, 1].as_slice());
     Ok(())
 }
 
-#[test]
-fn a_record_cut_short_is_damage(rt: HostRuntime) -> Result<(), Fail> {
-    let alloc = rt.alloc();
-    let area = [1, 0, 0, 0, 5, 1, 0, 0, 0, 1, 1, 0, 0, 0, 5, 1, 0];
-    let mut disk = disk_of(alloc, &area, &[])?;
+// At which place an area is damaged, and how many bytes were wanted and found.
+fn damage_of(alloc: Global, zero: &[u8]) -> Result<Option<(u64, u64, u64)>, Fail> {
+    let mut disk = disk_of(alloc, zero, &[])?;
     match read_journal(alloc, &mut disk, Area::Zero) {
-        Err(JournalError::Damaged { at, want, found }) => {
-            assert_eq!(rt; (at, want, found), (10, 21, 17));
-        }
-        _ => return Err("no damage")?,
+        Err(JournalError::Damaged { at, want, found }) => Ok(Some((at, want, found))),
+        _ => Ok(None),
     }
-    Ok(())
 }
 
 #[test]
-fn the_first_run_takes_eleven_bytes(rt: HostRuntime) -> Result<(), Fail> {
-    let alloc = rt.alloc();
-    let mut disk = disk_of(alloc, &[], &[])?;
-    assert!(rt; closed(&rt, &mut disk));
-    assert!(rt; appended(&rt, alloc, &mut disk)?);
-    assert_eq!(rt; disk.clock(), 6);
+fn a_record_cut_short_is_damage(rt: HostRuntime) -> Result<(), Fail> {
+    let area = [1, 0, 0, 0, 5, 1, 0, 0, 0, 1, 1, 0, 0, 0, 5, 1, 0];
+    let damage = damage_of(rt.alloc(), &area)?;
+    assert_eq!(rt; damage, Some((10, 21, 17)));
+    Ok(())
+}
+
+// Stops the test of an area that isn't the first run's.
+fn expect_first_run(rt: &impl Abort, disk: &mut MemDisk) {
     let mut bytes = [9; 11];
     assert!(rt; disk.journal_len(Area::Zero) == 11);
     assert!(rt; disk.journal_read(Area::Zero, 0, &mut bytes).is_ok());
     assert_eq!(rt; bytes, [1, 0, 0, 0, 5, 1, 0, 0, 0, 1, 0]);
-    images(&rt, alloc, &disk)
+}
+
+fn begin(rt: &impl Abort, alloc: Global, disk: &mut MemDisk) -> Result<(), Fail> {
+    assert!(rt; closed(rt, disk));
+    assert!(rt; appended(rt, alloc, disk)?);
+    assert_eq!(rt; disk.clock(), 6);
+    expect_first_run(rt, disk);
+    images(rt, alloc, disk)
+}
+
+#[test]
+fn the_first_run_takes_eleven_bytes(rt: HostRuntime) -> Result<(), Fail> {
+    let mut disk = disk_of(rt.alloc(), &[], &[])?;
+    begin(&rt, rt.alloc(), &mut disk)
+}
+
+// How many bodies an image has.
+fn bodies(alloc: Global, disk: &MemDisk, moment: u64, pick: u8) -> Result<usize, Fail> {
+    let mut image = disk.image(moment, pick)?;
+    let read = read(alloc, &mut image)?;
+    Ok(read.bodies.len())
 }
 
 // The calls are: the closed gate and a sync, the body and a sync, the open gate and a sync. So the body
@@ -85,8 +101,7 @@ fn the_first_run_takes_eleven_bytes(rt: HostRuntime) -> Result<(), Fail> {
 fn images(rt: &impl Abort, alloc: Global, disk: &MemDisk) -> Result<(), Fail> {
     for moment in 0..7_u64 {
         for pick in 0..3_u8 {
-            let mut image = disk.image(moment, pick)?;
-            let count = read(alloc, &mut image)?.bodies.len();
+            let count = bodies(alloc, disk, moment, pick)?;
             let there = moment == 6 || (moment == 5 && pick != 0);
             assert_eq!(rt; count, usize::from(there), "moment {moment} pick {pick}");
         }
@@ -94,20 +109,26 @@ fn images(rt: &impl Abort, alloc: Global, disk: &MemDisk) -> Result<(), Fail> {
     Ok(())
 }
 
+// How many bodies are found once an append was stopped at its only fault.
+fn found_after(rt: &impl Abort, alloc: Global, disk: &mut MemDisk) -> Result<usize, Fail> {
+    assert!(rt; !appended(rt, alloc, disk)?);
+    let read = read(alloc, disk)?;
+    Ok(read.bodies.len())
+}
+
+// How many bodies an append leaves on the disk whose call fails, and in its image at last.
+fn stopped(rt: &impl Abort, alloc: Global, call: u64) -> Result<(usize, usize), Fail> {
+    let mut disk = disk_of(alloc, &[0], &[call])?;
+    let found = found_after(rt, alloc, &mut disk)?;
+    let image = bodies(alloc, &disk, 4, 0)?;
+    Ok((found, image))
+}
+
 #[test]
 fn an_append_that_is_stopped_leaves_no_body(rt: HostRuntime) -> Result<(), Fail> {
-    let alloc = rt.alloc();
     for call in 0..4_u64 {
-        let mut disk = disk_of(alloc, &[0], &[call])?;
-        assert!(rt; !appended(&rt, alloc, &mut disk)?);
-        let read = read(alloc, &mut disk)?;
-        let gate = call == 3;
-        assert_eq!(rt; read.bodies.len(), usize::from(gate), "call {call}");
-        let mut image = disk.image(4, 0)?;
-        assert_eq!(rt;
-            read_journal(alloc, &mut image, Area::Zero)?.bodies.len(),
-            0
-        );
+        let found = stopped(&rt, rt.alloc(), call)?;
+        assert_eq!(rt; found, (usize::from(call == 3), 0), "call {call}");
     }
     Ok(())
 }
