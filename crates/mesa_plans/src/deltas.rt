@@ -8,6 +8,7 @@ ghost use Rattle.mesa_plans.specs.Lent.{lent_if_any, with_rows};
 use mesa_shelf::{Base, Delta, Loaded};
 
 /// Deltas of a table, in version order. A version that brought the table nothing isn't among them.
+#[derive(Clone, Copy)]
 pub struct Deltas<'a> {
     pub base: Option<&'a Delta>,
     pub cumulative: Option<&'a Delta>,
