@@ -80,7 +80,7 @@ pub brought_ids_are : {M : Type 0} (l : Lineage) (epoch id : ℕ) (made : MadeFi
 brought_ids_are l epoch id made = ap (λ ids. id ∷ ids) (view_ids l (id + 1) made.views.items)
 
 -- a made file under its id is told
-told_one : {M : Type 0} (bytes : M → Option (List ℕ)) (id_of : M → ℕ) (rows : Rows) (id : ℕ) (s : Columns) (its : List Row) (f : MadeFile M) → IsMadeFile bytes id_of (record { columns = s; rows = its }) f → rows id ≡ its
+pub told_one : {M : Type 0} (bytes : M → Option (List ℕ)) (id_of : M → ℕ) (rows : Rows) (id : ℕ) (s : Columns) (its : List Row) (f : MadeFile M) → IsMadeFile bytes id_of (record { columns = s; rows = its }) f → rows id ≡ its
     → IsTold rows (record { columns = s; file = ref_under id f })
 told_one bytes id_of rows id s its f made at =
     subst (λ (its : List Row). IsMadeFile bytes id_of (record { columns = s; rows = its }) f → IsTold rows (record { columns = s; file = ref_under id f })) at

@@ -72,6 +72,15 @@ abbrev other_files : List (ℕ × Option (List ℕ)) → List (ℕ × Option (Li
 other_files [] = []
 other_files (x ∷ xs) = xs
 
+-- files that tell their bytes once they are adopted told them before
+pub files_tell : {M : Type 0} (bytes : M → Option (List ℕ)) (made : List (Adoption M)) (id : ℕ) (files : List (MadeFile M)) → files_of bytes made ≡ told_under bytes id files → AllTell bytes made → AreToldFiles bytes files
+files_tell bytes [] id [] e all = tt
+files_tell bytes [] id (f ∷ files) e all = absurd (cc)
+files_tell bytes (a ∷ made) id [] e all = absurd (cc)
+files_tell bytes (a ∷ made) id (f ∷ files) e all =
+    let one : (a.id, bytes a.made) ≡ (id, bytes f.made) = ap first_file e in
+    ((all.0.0, sym (ap (λ (x : ℕ × Option (List ℕ)). x.1) one) ∙ all.0.1), files_tell bytes made (id + 1) files (ap other_files e) all.1)
+
 -- ---- the model's load
 
 abbrev Done : Type 0
@@ -175,14 +184,6 @@ module _ {M : Type 0} (bytes : M → Option (List ℕ)) (id_of : M → ℕ) (l :
           new : brings_new_files c (record_of.Publish c.next named_parts) ≡ true
           new = ap (are_new_ids c.run (named c)) some.ids ∙ new_ids c.run l.adopted (named c) (files_of_parts parts) given (let n = few_there in omega (arith, n, room))
 
-      tell : (made : List (Adoption M)) (id : ℕ) (files : List (MadeFile M)) → files_of bytes made ≡ told_under bytes id files → AllTell bytes made → AreToldFiles bytes files
-      tell [] id [] e all = tt
-      tell [] id (f ∷ files) e all = absurd (cc)
-      tell (a ∷ made) id [] e all = absurd (cc)
-      tell (a ∷ made) id (f ∷ files) e all =
-          let one : (a.id, bytes a.made) ≡ (id, bytes f.made) = ap first_file e in
-          ((all.0.0, sym (ap (λ (x : ℕ × Option (List ℕ)). x.1) one) ∙ all.0.1), tell made (id + 1) files (ap other_files e) all.1)
-
       pub is_published : IsPublished bytes l batch p
       is_published = record {
         parts = named_parts;
@@ -192,7 +193,7 @@ module _ {M : Type 0} (bytes : M → Option (List ℕ)) (id_of : M → ℕ) (l :
         brings = λ rows. (brought_all rows).brings;
         told = λ rows. subst (λ (r : Record). AreTold (rows_later l batch rows) c r) (sym entry) (brought_all rows).told;
         agree = λ rows id lt. rows_stay rows (next_id l) (rows_brought c batch) id lt;
-        files = λ rows all. made ∙ (brought_all rows).files (tell p.made.items (next_id l) (files_of_parts parts) made all) ∙ ap (λ (r : Record). told_files (wants (rows_later l batch rows) (brought c r))) (sym entry);
+        files = λ rows all. made ∙ (brought_all rows).files (files_tell bytes p.made.items (next_id l) (files_of_parts parts) made all) ∙ ap (λ (r : Record). told_files (wants (rows_later l batch rows) (brought c r))) (sym entry);
         ids = ap made_ids made ∙ under_ids bytes (next_id l) (files_of_parts parts) ∙ sym some.ids ∙ ap (brought_ids c) (sym entry);
         distinct = subst HasDistinctIds (sym made) (under_distinct bytes (next_id l) (files_of_parts parts));
         adopts = record {

@@ -13,12 +13,12 @@ use mesa_tasks::{MadeFile, MadeFiles, MadeView, PreparedPart};
 use std::alloc::{AllocError, Global};
 use std::collections::VecDeque;
 
-// The files that a turn will adopt so far, and the number of the next one's id.
+/// The files that a turn will adopt so far, and the number of the next one's id.
 #[derive(Drop)]
-pub(crate) struct Adopting<M: Drop> {
-    pub(crate) alloc: Global,
-    pub(crate) made: Vec<Adoption<M>>,
-    pub(crate) next: u64,
+pub struct Adopting<M: Drop> {
+    pub alloc: Global,
+    pub made: Vec<Adoption<M>>,
+    pub next: u64,
 }
 
 impl<M: Made> Adopting<M> {
@@ -40,8 +40,8 @@ impl<M: Made> Adopting<M> {
         Ok(reference)
     }
 
-    // Gives the files of some of a table's rows the next ids, the table's own first.
-    pub(crate) fn files(&mut self, files: MadeFiles<M>) -> Result<Files, AllocError>
+    /// Gives the files of some of a table's rows the next ids, the table's own first.
+    pub fn files(&mut self, files: MadeFiles<M>) -> Result<Files, AllocError>
         requires { self.old.next + length (files_in files) < 2 ^ 64 }
         ensures files { IfOk result (λ f. f ≡ files_under self.old.next files) }
         ensures made { OnOk result (files_of M.bytes self.new.made.items ≡ files_of M.bytes self.old.made.items ++ told_under M.bytes self.old.next (files_in files)) }

@@ -7,6 +7,7 @@ mod failure;
 mod laws;
 mod publishing;
 
+pub use adopting::Adopting;
 pub use failure::Unpublished;
 pub use laws::totals_stay;
 pub use publishing::{Published, publish};
