@@ -1,0 +1,5 @@
+pub mod Growing
+pub mod Ranges
+pub mod Keeping
+pub mod Merging
+pub mod Records

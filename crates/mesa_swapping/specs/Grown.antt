@@ -1,0 +1,33 @@
+-- What stays of a table's columns and views while they are changed.
+use Rattle.std.specs.Prelude.{◌≡◌, ℕ, List, map, take, IsTrue, is_ok, Some, slice_get}
+use Rattle.mesa_schema.specs.declared.changes.Change.{Change}
+use Rattle.mesa_schema.specs.declared.rows.Row.{Row}
+use Rattle.mesa_schema.specs.declared.views.View.{View}
+use Rattle.mesa_schema.specs.Changes.{Lineage, columns_of, epoch_of, lifted, rule_checked, with_change}
+use Rattle.mesa_schema.specs.Lineages.{IsLineage}
+use Rattle.mesa_schema.specs.Rows.{AreRowsOf}
+use Rattle.mesa_schema.specs.Views.{view_columns, view_rows, with_view}
+
+-- The view of a number is there still: it has the columns that it had, and lifted rows are grouped to what the rows were grouped to.
+pub record HasOutlived (was now : Lineage) (number : ℕ) (v : View) : Type 0 where
+  pub there : slice_get now.views number ≡ Some v
+  pub columns : view_columns (columns_of now) v ≡ view_columns (columns_of was) v
+  pub rows : (rows : List Row) → AreRowsOf (columns_of was) rows → view_rows (columns_of now) v (map (lifted now (epoch_of was) (epoch_of now)) rows) ≡ view_rows (columns_of was) v rows
+
+-- A table's columns and views have become these: the changes that there were stand before those that came since, and each view that there was is there still.
+pub record HasGrown (was now : Lineage) : Type 0 where
+  pub first : now.first ≡ was.first
+  pub changes : take (epoch_of was) now.changes ≡ was.changes
+  pub views : (number : ℕ) (v : View) → slice_get was.views number ≡ Some v → HasOutlived was now number v
+
+-- Nothing has come yet.
+abbrev pub GrowsFromItself : Type 0
+GrowsFromItself = (l : Lineage) → HasGrown l l
+
+-- A change comes that the rules allow.
+abbrev pub GrowsByChange : Type 0
+GrowsByChange = (was now : Lineage) (change : Change) → IsLineage now → IsTrue (is_ok (rule_checked now change)) → HasGrown was now → HasGrown was (with_change now change)
+
+-- A view comes.
+abbrev pub GrowsByView : Type 0
+GrowsByView = (was now : Lineage) (v : View) → HasGrown was now → HasGrown was (with_view now v)

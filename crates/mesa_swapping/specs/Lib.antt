@@ -1,0 +1,3 @@
+pub mod Grown
+pub mod Finished
+pub mod Swapped
