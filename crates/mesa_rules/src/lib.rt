@@ -9,6 +9,7 @@ mod schemas;
 mod versions;
 
 pub use found::Found;
+pub use lookups::table_number;
 pub use queries::{explain, query};
 pub use ruled::Ruled;
 pub use schemas::{alter, table, view};

@@ -9,8 +9,8 @@ ghost use Rattle.mesa_rules.specs.Seen.{number_of};
 use mesa_catalog::{Catalog, Relation};
 use mesa_schema::Evolving;
 
-// The number of the table of a name; a view is no table.
-pub(crate) fn table_number(catalog: &Catalog, name: &[u8]) -> Option<u16>
+/// The number of the table of a name; a view is no table. Takes no memory.
+pub fn table_number(catalog: &Catalog, name: &[u8]) -> Option<u16>
     ensures found { result ≡ number_of catalog.now.catalogue name.now }
     ensures there { IfSome result (λ table. table < length catalog.now.catalogue.tables) }
 {
