@@ -1,0 +1,5 @@
+pub mod Sight
+pub mod Damages
+pub mod Loads
+pub mod Pins
+pub mod Works

@@ -1,0 +1,69 @@
+-- Works whose files are handed out, and what they are merged to.
+use Rattle.std.specs.Prelude.{◌≡◌, ℕ, List, ◌++◌, map, Option, option_map, IfSome, Result, Ok, Err, ⊤}
+use Rattle.mesa_file.specs.declared.damage.Damage.{Damage}
+use Rattle.mesa_span.specs.declared.works.Work.{Work}
+use Rattle.mesa_schema.specs.Changes.{Lineage}
+use Rattle.mesa_model.specs.declared.entries.Entry.{Entry}
+use Rattle.mesa_history.specs.Machine.{Claim}
+use Rattle.mesa_history.specs.Run.{Stage, Finished}
+use Rattle.mesa_merge.specs.Inputs.{Known, knowns_of}
+use Rattle.mesa_tasks.specs.GivingBack.{task_inputs}
+use Rattle.mesa_tasks.specs.Tasks.{IsTask, IsMerged}
+use Rattle.mesa_tasks.specs.declared.merging.CompactError.{CompactError}
+use Rattle.mesa_tasks.specs.declared.merging.CompactError.TheVariants as compact
+use Rattle.mesa_tasks.specs.declared.merging.NewDelta.{NewDelta}
+use Rattle.mesa_tasks.specs.declared.merging.Task.{Task}
+use Rattle.mesa_tasks.specs.declared.merging.TaskView.{TaskView}
+use Rattle.mesa_service.specs.Damages.{Differs, IsUnread}
+
+-- the claim that a task was granted for
+abbrev pub claim_in : {R : Type 0} → Task R → Claim
+claim_in t = record { table = t.table; lease = t.lease; work = t.work }
+
+-- the stage of a work after a turn, by the task that it gave, if any
+abbrev pub stage_if : {T E : Type 0} → (T → Claim) → (Claim → Stage) → Result T E → Stage
+stage_if claim stage (Ok t) = stage (claim t)
+stage_if claim stage (Err e) = Finished
+
+-- What is known of a view's own files.
+pub record KnownView : Type 0 where
+  pub view : ℕ
+  pub own : Option (List Known)
+
+abbrev pub known_view : {R : Type 0} → (R → Option (List ℕ)) → TaskView R → KnownView
+known_view bytes v = record { view = v.view; own = option_map (λ inputs. knowns_of bytes inputs.items) v.inputs }
+
+-- What is known of a task while its files are handed out, however much of them was read.
+pub record KnownTask : Type 0 where
+  pub table : ℕ
+  pub work : Work
+  pub lease : ℕ
+  pub epoch : ℕ
+  pub files : List Known
+  pub views : List KnownView
+  pub damage : Option Damage
+
+abbrev pub known_task : {R : Type 0} → (R → Option (List ℕ)) → Task R → KnownTask
+known_task bytes t = record { table = t.table; work = t.work; lease = t.lease; epoch = t.epoch; files = knowns_of bytes t.inputs.items; views = map (known_view bytes) t.views.items; damage = t.damage }
+
+-- A task that can be merged: it is one of a table with some columns and views, and damage that was met where its files were opened differs from what was wanted.
+pub record CanBeMerged {R : Type 0} (bytes : R → Option (List ℕ)) (t : Task R) : Type 0 where
+  pub task : (l : Lineage) × IsTask bytes l t
+  pub damage : IfSome t.damage Differs
+
+-- A task was handed out somewhere in a history: this was so of it by the history up to there.
+pub record WasGranted (granted : List Entry → KnownTask → Type 0) (h : List Entry) (t : KnownTask) : Type 0 where
+  pub past : List Entry
+  pub later : List Entry
+  pub whole : past ++ later ≡ h
+  pub was : granted past t
+
+-- Why a task has no delta: a draft failed; or its files weren't read.
+abbrev pub IsUnmerged : {R : Type 0} → (R → ℕ) → Task R → CompactError → Type 0
+IsUnmerged faults t compact.Draft = ⊤
+IsUnmerged faults t (compact.File e) = IsUnread faults (task_inputs t) Differs e
+
+-- What a work is closed with: the delta to which its files merge, or why there is none.
+abbrev pub HasMerged : {M R : Type 0} → (M → Option (List ℕ)) → (M → ℕ) → (R → Option (List ℕ)) → (R → ℕ) → Task R → Result (NewDelta M) CompactError → Type 0
+HasMerged bytes id_of read faults t (Ok delta) = (l : Lineage) → IsTask read l t → IsMerged bytes id_of read l t delta
+HasMerged bytes id_of read faults t (Err e) = IsUnmerged faults t e
