@@ -1,8 +1,12 @@
 // A file of 1,025 rows whose keys have the same first sixteen bytes.
-use crate::files::{attach, count_rows, open_file, reference, schema};
+use crate::files::{attach, count_bytes, open_file, reference, schema};
+use mesa_delta::DeltaReader;
+use mesa_disk::MemReader;
 use mesa_key::KeyType;
+use mesa_schema::Schema;
 use sha2::{Digest, Sha256};
 use std::alloc::{AllocError, Global};
+use std::process::Abort;
 use std::test::Fail;
 
 // The SHA-256 of the file's tail, by another program.
@@ -51,50 +55,73 @@ fn put_entry(
     Ok(())
 }
 
-// The first 1,024 rows fill a block of 29,699 bytes, and the last one stands in another.
-fn file(alloc: Global) -> Result<Vec<u8>, AllocError> {
+fn block(alloc: Global, first: u16, count: u16) -> Result<Vec<u8>, AllocError> {
     let mut bytes = Vec::new(alloc);
-    put_block(&mut bytes, 0, 1024)?;
-    let first = Sha256::digest(bytes.as_slice());
-    let mut last = Vec::new(alloc);
-    put_block(&mut last, 1024, 1)?;
-    bytes.extend_from_slice(&last)?;
-    put_entry(&mut bytes, 0, 29_699, &first)?;
-    put_entry(&mut bytes, 29_699, 32, &Sha256::digest(last.as_slice()))?;
+    put_block(&mut bytes, first, count)?;
+    Ok(bytes)
+}
+
+// The entries of two blocks, and the footer.
+fn put_tail(bytes: &mut Vec<u8>, first: &[u8; 32], last: &[u8; 32]) -> Result<(), AllocError> {
+    put_entry(bytes, 0, 29_699, first)?;
+    put_entry(bytes, 29_699, 32, last)?;
     bytes.extend_from_slice(&[1, 0])?;
     bytes.extend_from_slice(&1025u64.to_be_bytes())?;
     bytes.extend_from_slice(&2u32.to_be_bytes())?;
     bytes.extend_from_slice(&[1, 1])?;
-    bytes.extend_from_slice(b"MESADLT1")?;
+    bytes.extend_from_slice(b"MESADLT1")
+}
+
+fn put_file(bytes: &mut Vec<u8>, first: &[u8], last: &[u8]) -> Result<(), AllocError> {
+    bytes.extend_from_slice(first)?;
+    bytes.extend_from_slice(last)?;
+    put_tail(bytes, &Sha256::digest(first), &Sha256::digest(last))
+}
+
+// The first 1,024 rows fill a block of 29,699 bytes, and the last one stands in another.
+fn file(alloc: Global) -> Result<Vec<u8>, AllocError> {
+    let first = block(alloc, 0, 1024)?;
+    let last = block(alloc, 1024, 1)?;
+    let mut bytes = Vec::new(alloc);
+    put_file(&mut bytes, &first, &last)?;
     Ok(bytes)
 }
 
 #[test]
 fn reads_two_blocks(rt: HostRuntime) -> Result<(), Fail> {
     let alloc = rt.alloc();
+    let file_of_texts = reference(alloc, 29_875, 1025, 2, TAIL_DIGEST);
+    let counted = count_bytes(alloc, file(alloc)?, None, &file_of_texts, KeyType::Text)?;
+    assert_eq!(rt; counted, Ok(1025));
+    Ok(())
+}
+
+// A key, and the block at which to look for it.
+static PLACES: [(&[u8], u32); 3] = [
+    (b"aaaaaaaaaaaaaaaa1024\0", 0),
+    (b"aaaaaaaaaaaaaaaa0000\0", 0),
+    (b"b\0", 1),
+];
+
+// Stops the test of a file in which a key is looked for elsewhere.
+fn expect_places(rt: &impl Abort, reader: &DeltaReader<MemReader>) {
+    for (key, block) in &PLACES {
+        assert_eq!(rt; reader.seek(key), *block, "of {key:?}");
+    }
+}
+
+// The two blocks of texts, as they are found again.
+fn attached(alloc: Global, schema: &Schema) -> Result<DeltaReader<MemReader>, Fail> {
     let reader = open_file(alloc, file(alloc)?, None)?;
     let file = reference(alloc, 29_875, 1025, 2, TAIL_DIGEST);
-    assert_eq!(rt;
-        count_rows(alloc, reader, &file, &schema(alloc, KeyType::Text)?),
-        Ok(1025)
-    );
-    Ok(())
+    Ok(attach(alloc, reader, &file, schema).map_err(|_| "not attached")?)
 }
 
 #[test]
 fn begins_before_equal_short_keys(rt: HostRuntime) -> Result<(), Fail> {
-    let alloc = rt.alloc();
-    let reader = open_file(alloc, file(alloc)?, None)?;
-    let file = reference(alloc, 29_875, 1025, 2, TAIL_DIGEST);
-    let texts = schema(alloc, KeyType::Text)?;
-    match attach(alloc, reader, &file, &texts) {
-        Ok(reader) => {
-            assert_eq!(rt; reader.seek(b"aaaaaaaaaaaaaaaa1024\0"), 0);
-            assert_eq!(rt; reader.seek(b"aaaaaaaaaaaaaaaa0000\0"), 0);
-            assert_eq!(rt; reader.seek(b"b\0"), 1);
-            drop(reader.detach());
-        }
-        Err(_) => assert!(rt; false, "not attached"),
-    }
+    let schema = schema(rt.alloc(), KeyType::Text)?;
+    let reader = attached(rt.alloc(), &schema)?;
+    expect_places(&rt, &reader);
+    drop(reader.detach());
     Ok(())
 }

@@ -30,20 +30,21 @@ fn name(alloc: Global, text: &str) -> Result<Name, AllocError> {
     Name::read(alloc, text.as_bytes()).map_err(|_| AllocError)
 }
 
+fn keys(alloc: Global, kind: KeyType) -> Result<Vec<KeyColumn>, AllocError> {
+    let name = name(alloc, "k")?;
+    Ok(vec![in alloc; KeyColumn { name, kind }]?)
+}
+
+fn values(alloc: Global) -> Result<Vec<ValueColumn>, AllocError> {
+    let name = name(alloc, "v")?;
+    let agg = Agg::Sum;
+    Ok(vec![in alloc; ValueColumn { name, agg }]?)
+}
+
 /// One key column of this type, and one sum.
 pub fn schema(alloc: Global, kind: KeyType) -> Result<Schema, AllocError> {
-    let keys = vec![in alloc;
-        KeyColumn {
-            name: name(alloc, "k")?,
-            kind
-        },
-    ]?;
-    let values = vec![in alloc;
-        ValueColumn {
-            name: name(alloc, "v")?,
-            agg: Agg::Sum
-        },
-    ]?;
+    let keys = keys(alloc, kind)?;
+    let values = values(alloc)?;
     Schema::build(keys, values).map_err(|_| AllocError)
 }
 
@@ -61,22 +62,26 @@ pub fn reference(alloc: Global, len: u64, rows: u64, blocks: u32, digest: [u8; 3
     }
 }
 
-/// A reader of these bytes, of which this read fails, counted from 0.
-pub fn open_file(alloc: Global, bytes: Vec<u8>, fails: Option<u64>) -> Result<MemReader, Fail> {
-    let id = FileId::of(ONE_ID);
+// A disk with a file of these bytes.
+fn disk_with(alloc: Global, bytes: Vec<u8>) -> Result<MemDisk, AllocError> {
     let mut files = Vec::new(alloc);
-    files.push((id, ByteList::from_vec(bytes)))?;
-    let mut disk = MemDisk::new(
+    files.push((FileId::of(ONE_ID), ByteList::from_vec(bytes)))?;
+    Ok(MemDisk::new(
         alloc,
         Vec::new(alloc),
         Vec::new(alloc),
         files,
         Vec::new(alloc),
-    );
+    ))
+}
+
+/// A reader of these bytes, of which this read fails, counted from 0.
+pub fn open_file(alloc: Global, bytes: Vec<u8>, fails: Option<u64>) -> Result<MemReader, Fail> {
+    let mut disk = disk_with(alloc, bytes)?;
     if let Some(nth) = fails {
-        disk.spoil_read(id, nth);
+        disk.spoil_read(FileId::of(ONE_ID), nth);
     }
-    Ok(disk.reader(id).map_err(|_| "not opened")?)
+    Ok(disk.reader(FileId::of(ONE_ID)).map_err(|_| "not opened")?)
 }
 
 /// The file of this reference, over these bytes.
@@ -123,4 +128,17 @@ fn count_blocks(reader: &mut DeltaReader<MemReader>) -> Result<usize, FileError>
         }
     }
     Ok(rows)
+}
+
+/// How many rows the blocks of these bytes have, of which this read fails.
+pub fn count_bytes(
+    alloc: Global,
+    bytes: Vec<u8>,
+    fails: Option<u64>,
+    file: &FileRef,
+    kind: KeyType,
+) -> Result<Result<usize, FileError>, Fail> {
+    let reader = open_file(alloc, bytes, fails)?;
+    let schema = schema(alloc, kind)?;
+    Ok(count_rows(alloc, reader, file, &schema))
 }

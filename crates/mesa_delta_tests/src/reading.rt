@@ -1,5 +1,7 @@
 // A file that was written by hand is read, and told damaged where it isn't the recorded one.
-use crate::files::{ONE_DIGEST, ONE_FILE, ONE_ID, count_rows, open_file, reference, schema};
+ghost use Rattle.std.specs.Prelude.{◌<◌};
+
+use crate::files::{ONE_DIGEST, ONE_FILE, ONE_ID, count_bytes, reference};
 use mesa_delta::FileError;
 use mesa_disk::{Damage, FileId, Seen};
 use mesa_key::KeyType;
@@ -7,15 +9,25 @@ use sha2::{Digest, Sha256};
 use std::alloc::Global;
 use std::test::Fail;
 
+// Reads bytes by the reference of a file of one row with this digest.
+fn read_by(
+    alloc: Global,
+    bytes: &[u8],
+    fails: Option<u64>,
+    digest: [u8; 32],
+) -> Result<Result<usize, FileError>, Fail> {
+    let bytes = Vec::from_slice(alloc, bytes)?;
+    let file = reference(alloc, 103, 1, 1, digest);
+    count_bytes(alloc, bytes, fails, &file, KeyType::Int)
+}
+
 // Reads bytes by the reference of the file of one row.
 fn read_as_one(
     alloc: Global,
     bytes: &[u8],
     fails: Option<u64>,
 ) -> Result<Result<usize, FileError>, Fail> {
-    let file = reference(alloc, 103, 1, 1, ONE_DIGEST);
-    let reader = open_file(alloc, Vec::from_slice(alloc, bytes)?, fails)?;
-    Ok(count_rows(alloc, reader, &file, &schema(alloc, KeyType::Int)?))
+    read_by(alloc, bytes, fails, ONE_DIGEST)
 }
 
 fn damage(place: u64, want: Seen, found: Seen) -> Result<usize, FileError> {
@@ -35,14 +47,10 @@ fn reads_the_file_of_one_row(rt: HostRuntime) -> Result<(), Fail> {
 
 #[test]
 fn tells_a_failed_read(rt: HostRuntime) -> Result<(), Fail> {
-    assert_eq!(rt;
-        read_as_one(rt.alloc(), &ONE_FILE, Some(0))?,
-        Err(FileError::Read)
-    );
-    assert_eq!(rt;
-        read_as_one(rt.alloc(), &ONE_FILE, Some(1))?,
-        Err(FileError::Read)
-    );
+    for nth in 0..2 {
+        let found = read_as_one(rt.alloc(), &ONE_FILE, Some(nth))?;
+        assert_eq!(rt; found, Err(FileError::Read), "of read {nth}");
+    }
     Ok(())
 }
 
@@ -53,26 +61,31 @@ fn tells_another_length(rt: HostRuntime) -> Result<(), Fail> {
     Ok(())
 }
 
-#[test]
-fn tells_a_changed_byte(rt: HostRuntime) -> Result<(), Fail> {
+// The file of one row with another byte at a place.
+fn changed(place: usize, byte: u8) -> [u8; 103]
+    requires { place < 103 }
+{
     let mut bytes = ONE_FILE;
-    bytes[18] = 6;
+    bytes[place] = byte;
+    bytes
+}
+
+#[test]
+fn tells_a_changed_row(rt: HostRuntime) -> Result<(), Fail> {
+    let bytes = changed(18, 6);
     let mut digest = [0; 32];
     digest.copy_from_slice(&ONE_FILE[47..79]);
-    let wanted = damage(
-        0,
-        Seen::Digest(digest),
-        Seen::Digest(Sha256::digest(&bytes[..19])),
-    );
+    let found = Seen::Digest(Sha256::digest(&bytes[..19]));
+    let wanted = damage(0, Seen::Digest(digest), found);
     assert_eq!(rt; read_as_one(rt.alloc(), &bytes, None)?, wanted);
+    Ok(())
+}
 
-    let mut bytes = ONE_FILE;
-    bytes[102] = 50;
-    let wanted = damage(
-        19,
-        Seen::Digest(ONE_DIGEST),
-        Seen::Digest(Sha256::digest(&bytes[19..])),
-    );
+#[test]
+fn tells_a_changed_tail(rt: HostRuntime) -> Result<(), Fail> {
+    let bytes = changed(102, 50);
+    let found = Seen::Digest(Sha256::digest(&bytes[19..]));
+    let wanted = damage(19, Seen::Digest(ONE_DIGEST), found);
     assert_eq!(rt; read_as_one(rt.alloc(), &bytes, None)?, wanted);
     Ok(())
 }
@@ -80,12 +93,8 @@ fn tells_a_changed_byte(rt: HostRuntime) -> Result<(), Fail> {
 // The recorded digest is that of the bytes, which are no tail.
 #[test]
 fn tells_bytes_that_are_no_tail(rt: HostRuntime) -> Result<(), Fail> {
-    let alloc = rt.alloc();
-    let mut bytes = ONE_FILE;
-    bytes[102] = 50;
-    let file = reference(alloc, 103, 1, 1, Sha256::digest(&bytes[19..]));
-    let reader = open_file(alloc, Vec::from_slice(alloc, &bytes)?, None)?;
-    let counted = count_rows(alloc, reader, &file, &schema(alloc, KeyType::Int)?);
+    let bytes = changed(102, 50);
+    let counted = read_by(rt.alloc(), &bytes, None, Sha256::digest(&bytes[19..]))?;
     assert_eq!(rt; counted, damage(19, Seen::Fits, Seen::Misfit(0)));
     Ok(())
 }

@@ -6,7 +6,7 @@ ghost use Rattle.mesa_block.specs.Rows.{IsRow};
 
 use crate::files::{ONE_DIGEST, ONE_FILE, ONE_ID, count_rows, schema};
 use mesa_block::read_block;
-use mesa_delta::{DeltaWriter, WriteError};
+use mesa_delta::{DeltaWriter, FileError, WriteError};
 use mesa_disk::{
     Bench, Disk, Draft, FileId, FileReader, FileRef, Made, MemBench, MemDisk, MemMade, MemReader,
     OpenFault,
@@ -14,6 +14,7 @@ use mesa_disk::{
 use mesa_key::KeyType;
 use mesa_schema::{Row, Schema};
 use std::alloc::Global;
+use std::process::Abort;
 use std::test::Fail;
 
 type Written = Result<(MemMade, FileRef), WriteError>;
@@ -58,29 +59,35 @@ fn write_first(
     }
 }
 
-// Writes the row with key 1 and value 5, as it is read from its block; this call of the draft fails, counted from 1.
-fn write_one(alloc: Global, fails: Option<u64>) -> Result<Written, Fail> {
-    let schema = schema(alloc, KeyType::Int)?;
-    let mut calls = Vec::new(alloc);
-    if let Some(call) = fails {
-        calls.push((0, call))?;
-    }
-    match read_block(alloc, &schema, &ONE_FILE[..19]) {
-        Ok(block) => write_first(alloc, &schema, block.rows(), calls),
+// Writes the row with key 1 and value 5, as it is read from its block.
+fn write_by(alloc: Global, schema: &Schema, calls: Vec<(u64, u64)>) -> Result<Written, Fail> {
+    match read_block(alloc, schema, &ONE_FILE[..19]) {
+        Ok(block) => write_first(alloc, schema, block.rows(), calls),
         Err(_) => Err("no block".into()),
     }
 }
 
-// A reader of the file.
-fn adopted(alloc: Global, made: MemMade) -> Result<MemReader, Fail> {
-    let id = FileId::of(ONE_ID);
-    let mut disk = MemDisk::new(
+// The same; these calls of drafts fail.
+fn write_one(alloc: Global, fails: &[(u64, u64)]) -> Result<Written, Fail> {
+    let calls = fails.to_vec(alloc)?;
+    let schema = schema(alloc, KeyType::Int)?;
+    write_by(alloc, &schema, calls)
+}
+
+fn no_files(alloc: Global) -> MemDisk {
+    MemDisk::new(
         alloc,
         Vec::new(alloc),
         Vec::new(alloc),
         Vec::new(alloc),
         Vec::new(alloc),
-    );
+    )
+}
+
+// A reader of the file.
+fn adopted(alloc: Global, made: MemMade) -> Result<MemReader, Fail> {
+    let id = FileId::of(ONE_ID);
+    let mut disk = no_files(alloc);
     let Err(OpenFault::Absent) = disk.reader(id) else {
         return Err("there already".into());
     };
@@ -95,34 +102,46 @@ fn bytes_of(alloc: Global, reader: &mut MemReader) -> Result<Vec<u8>, Fail> {
     Ok(bytes)
 }
 
+// Stops the test of a file with other bytes.
+fn expect_bytes(rt: &impl Abort, alloc: Global, reader: &mut MemReader) -> Result<(), Fail> {
+    let bytes = bytes_of(alloc, reader)?;
+    assert_eq!(rt; bytes.as_slice(), ONE_FILE.as_slice());
+    Ok(())
+}
+
+// The file of one row, and its reference.
+fn written(alloc: Global) -> Result<(MemReader, FileRef), Fail> {
+    let (made, file) = write_one(alloc, &[])?.map_err(|_| "not written")?;
+    Ok((adopted(alloc, made)?, file))
+}
+
+fn counted(
+    alloc: Global,
+    reader: MemReader,
+    file: &FileRef,
+) -> Result<Result<usize, FileError>, Fail> {
+    let schema = schema(alloc, KeyType::Int)?;
+    Ok(count_rows(alloc, reader, file, &schema))
+}
+
 #[test]
 fn writes_the_file_of_one_row(rt: HostRuntime) -> Result<(), Fail> {
-    let alloc = rt.alloc();
-    match write_one(alloc, None)? {
-        Ok((made, file)) => {
-            let mut reader = adopted(alloc, made)?;
-            assert_eq!(rt;
-                bytes_of(alloc, &mut reader)?.as_slice(),
-                ONE_FILE.as_slice()
-            );
-            assert_eq!(rt; (file.len, file.rows, file.blocks), (103, 1, 1));
-            assert_eq!(rt; file.digest, ONE_DIGEST);
-            let counted = count_rows(alloc, reader, &file, &schema(alloc, KeyType::Int)?);
-            assert_eq!(rt; counted, Ok(1));
-        }
-        Err(_) => assert!(rt; false, "not written"),
-    }
+    let (mut reader, file) = written(rt.alloc())?;
+    expect_bytes(&rt, rt.alloc(), &mut reader)?;
+    assert_eq!(rt; (file.len, file.rows, file.blocks), (103, 1, 1));
+    assert_eq!(rt; file.digest, ONE_DIGEST);
+    assert_eq!(rt; counted(rt.alloc(), reader, &file)?, Ok(1));
     Ok(())
 }
 
 // The draft is called for the block, for the tail and for the finished file.
+static CALLS: [(u64, u64); 3] = [(0, 1), (0, 2), (0, 3)];
+
 #[test]
 fn tells_a_failed_draft(rt: HostRuntime) -> Result<(), Fail> {
-    for call in 1..4 {
-        match write_one(rt.alloc(), Some(call))? {
-            Ok((_, _)) => assert!(rt; false, "written past a fault"),
-            Err(error) => assert_eq!(rt; error, WriteError::Draft),
-        }
+    for call in &CALLS {
+        let failed = write_one(rt.alloc(), &[*call])?.err();
+        assert_eq!(rt; failed, Some(WriteError::Draft), "of {call:?}");
     }
     Ok(())
 }
