@@ -1,8 +1,11 @@
 // Drafts that fail one after another.
-use crate::loads::{VIEW_OF_A, prepared};
+use crate::loads::{VIEW_OF_A, fault_of};
 use mesa_disk::MemBench;
 use mesa_tasks::LoadError;
+use std::alloc::Global;
+use std::process::Abort;
 use std::test::Fail;
+use std::thread::Threads;
 
 // Each call of the two drafts of a table and its view: the making of the draft, an append of the block and of the
 // tail, and the end.
@@ -17,16 +20,35 @@ static CALLS: [(u64, u64); 8] = [
     (1, 3),
 ];
 
+static LOAD: &[u8] = b"t;1;3;1 t;1;4;-3";
+
+// Stops the test of a bench through which a load is not told as failed.
+fn expect_failed<R: Abort + Threads + Sync>(
+    rt: &R,
+    alloc: Global,
+    bench: &mut MemBench,
+    want: Option<LoadError>,
+) -> Result<(), Fail> {
+    let failed = fault_of(rt, alloc, bench, VIEW_OF_A, LOAD)?;
+    assert_eq!(rt; failed, want);
+    Ok(())
+}
+
+// Prepares a load through a bench whose one call fails, and again.
+fn fail_once<R: Abort + Threads + Sync>(
+    rt: &R,
+    alloc: Global,
+    call: (u64, u64),
+) -> Result<(), Fail> {
+    let mut bench = MemBench::new(alloc, vec![in alloc; call]?);
+    expect_failed(rt, alloc, &mut bench, Some(LoadError::Draft))?;
+    expect_failed(rt, alloc, &mut bench, None)
+}
+
 #[test]
 fn each_failed_call_of_a_draft_is_told(rt: HostRuntime) -> Result<(), Fail> {
-    let alloc = rt.alloc();
-    let load = b"t;1;3;1 t;1;4;-3";
     for call in &CALLS {
-        let mut bench = MemBench::new(alloc, vec![in alloc; *call]?);
-        let failed = prepared(&rt, alloc, &mut bench, VIEW_OF_A, load)?.err();
-        assert_eq!(rt; failed, Some(LoadError::Draft));
-        let again = prepared(&rt, alloc, &mut bench, VIEW_OF_A, load)?.err();
-        assert_eq!(rt; again, None);
+        fail_once(&rt, rt.alloc(), *call)?;
     }
     Ok(())
 }
@@ -35,7 +57,5 @@ fn each_failed_call_of_a_draft_is_told(rt: HostRuntime) -> Result<(), Fail> {
 fn two_drafts_that_fail_are_told_as_one(rt: HostRuntime) -> Result<(), Fail> {
     let alloc = rt.alloc();
     let mut bench = MemBench::new(alloc, vec![in alloc; (0, 2), (1, 1)]?);
-    let failed = prepared(&rt, alloc, &mut bench, VIEW_OF_A, b"t;1;3;1 t;1;4;-3")?.err();
-    assert_eq!(rt; failed, Some(LoadError::Draft));
-    Ok(())
+    expect_failed(&rt, alloc, &mut bench, Some(LoadError::Draft))
 }

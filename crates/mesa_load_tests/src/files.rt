@@ -1,75 +1,128 @@
 // Which files a batch gets.
-use crate::loads::{VIEW_OF_A, prepared};
+use crate::loads::{VIEW_OF_A, fault_of, prepared};
 use mesa_batch::BatchError;
 use mesa_disk::{Made, MemBench, MemMade};
 use mesa_tasks::{LoadError, MadeFile, MadeFiles, Prepared, PreparedPart};
 use std::alloc::{AllocError, Global};
+use std::process::Abort;
 use std::test::Fail;
+use std::thread::Threads;
 
-// What is told of a file: its draft's serial number, how many rows it has, how long its first key is, and its sum.
-fn told_file(alloc: Global, file: &MadeFile<MemMade>) -> Result<String, AllocError> {
-    let serial = file.file.id.number() % (1 << 32);
+// The aggregate of a file's last value column.
+fn last_total(file: &MadeFile<MemMade>) -> i64 {
     let mut total = 0;
     for value in file.file.aggregates.as_slice() {
         total = *value;
     }
-    let same = file.made.id() == file.file.id && file.made.len() == file.file.len;
-    format!(in alloc;
-        " serial={serial} rows={} key={} sum={total} same={same}",
-        file.file.rows,
-        file.file.first.as_slice().len()
-    )
+    total
+}
+
+// Whether a file is the one of its reference.
+fn is_same(file: &MadeFile<MemMade>) -> bool {
+    file.made.id() == file.file.id && file.made.len() == file.file.len
+}
+
+// What is told of a file: its draft's serial number, how many rows it has, how long its first key is, and its sum.
+fn push_file(alloc: Global, file: &MadeFile<MemMade>, text: &mut String) -> Result<(), AllocError> {
+    let serial = file.file.id.number() % (1 << 32);
+    let (rows, key) = (file.file.rows, file.file.first.as_slice().len());
+    let (total, same) = (last_total(file), is_same(file));
+    let told = format!(in alloc; " serial={serial} rows={rows} key={key} sum={total} same={same}")?;
+    text.push_str(told.as_str())
+}
+
+fn push_number(
+    alloc: Global,
+    before: &str,
+    number: u128,
+    text: &mut String,
+) -> Result<(), AllocError> {
+    let told = format!(in alloc; "{before}{number}")?;
+    text.push_str(told.as_str())
+}
+
+fn push_files(
+    alloc: Global,
+    files: &MadeFiles<MemMade>,
+    text: &mut String,
+) -> Result<(), AllocError> {
+    push_file(alloc, &files.file, text)?;
+    for view in &files.views {
+        push_number(alloc, " view=", u128::from(view.view), text)?;
+        push_file(alloc, &view.file, text)?;
+    }
+    Ok(())
 }
 
 // What is told of a part: its table, its totals and its files.
-fn told_part(alloc: Global, part: &PreparedPart<MemMade>) -> Result<String, AllocError> {
-    let mut text = format!(in alloc; "table={}", part.table)?;
+fn push_part(
+    alloc: Global,
+    part: &PreparedPart<MemMade>,
+    text: &mut String,
+) -> Result<(), AllocError> {
+    push_number(alloc, " table=", u128::from(part.table), text)?;
     for total in part.totals.as_slice() {
-        text.push_str(format!(in alloc; " total={total}")?.as_str())?;
+        push_number(alloc, " total=", u128::from(*total), text)?;
     }
     match &part.files {
-        Some(files) => text.push_str(told_files(alloc, files)?.as_str())?,
-        None => text.push_str(" no file")?,
+        Some(files) => push_files(alloc, files, text),
+        None => text.push_str(" no file"),
     }
-    Ok(text)
 }
 
-fn told_files(alloc: Global, files: &MadeFiles<MemMade>) -> Result<String, AllocError> {
-    let mut text = told_file(alloc, &files.file)?;
-    for view in &files.views {
-        text.push_str(format!(in alloc; " view={}", view.view)?.as_str())?;
-        text.push_str(told_file(alloc, &view.file)?.as_str())?;
+fn push_parts(
+    alloc: Global,
+    prepared: &Prepared<MemMade>,
+    text: &mut String,
+) -> Result<(), AllocError> {
+    push_number(alloc, "generation=", u128::from(prepared.generation), text)?;
+    for part in &prepared.parts {
+        push_part(alloc, part, text)?;
     }
-    Ok(text)
+    Ok(())
 }
 
 // What is told of what was prepared.
 fn told(alloc: Global, prepared: &Prepared<MemMade>) -> Result<String, AllocError> {
-    let mut text = format!(in alloc; "generation={}", prepared.generation)?;
-    for part in &prepared.parts {
-        text.push_str(" ")?;
-        text.push_str(told_part(alloc, part)?.as_str())?;
-    }
+    let mut text = String::new(alloc);
+    push_parts(alloc, prepared, &mut text)?;
     Ok(text)
 }
+
+// The key column of the table's view, the rows of a load, and what is told of what is prepared of them.
+type Case = (Option<&'static [u8]>, &'static [u8], &'static str);
+
+// Stops the test of a load that is refused, or of which something else is told.
+fn expect<R: Abort + Threads + Sync>(
+    rt: &R,
+    alloc: Global,
+    bench: &mut MemBench,
+    case: &Case,
+) -> Result<(), Fail> {
+    let prepared = prepared(rt, alloc, bench, case.0, case.1)?.map_err(|_| "refused")?;
+    let text = told(alloc, &prepared)?;
+    assert_eq!(rt; text.as_str(), case.2);
+    Ok(())
+}
+
+static WITHOUT_VIEW: Case = (
+    None,
+    b"t;1;1;5 t;1;2;7",
+    "generation=7 table=0 total=12 serial=0 rows=2 key=16 sum=12 same=true",
+);
+
+static WITH_VIEW: Case = (
+    VIEW_OF_A,
+    b"t;1;3;1 t;1;4;-3",
+    "generation=7 table=0 total=4 serial=0 rows=2 key=16 sum=-2 same=true view=0 serial=1 rows=1 key=8 sum=-2 same=true",
+);
 
 #[test]
 fn a_view_gets_files_once_it_is_there(rt: HostRuntime) -> Result<(), Fail> {
     let alloc = rt.alloc();
     let mut bench = MemBench::new(alloc, Vec::new(alloc));
-    let first = prepared(&rt, alloc, &mut bench, None, b"t;1;1;5 t;1;2;7")?.map_err(|_| "refused")?;
-    assert_eq!(rt;
-        told(alloc, &first)?.as_str(),
-        "generation=7 table=0 total=12 serial=0 rows=2 key=16 sum=12 same=true"
-    );
-    let second = prepared(&rt, alloc, &mut bench, VIEW_OF_A, b"t;1;3;1 t;1;4;-3")?.map_err(
-        |_| "refused",
-    )?;
-    assert_eq!(rt;
-        told(alloc, &second)?.as_str(),
-        "generation=7 table=0 total=4 serial=0 rows=2 key=16 sum=-2 same=true view=0 serial=1 rows=1 key=8 sum=-2 same=true"
-    );
-    Ok(())
+    expect(&rt, alloc, &mut bench, &WITHOUT_VIEW)?;
+    expect(&rt, alloc, &mut bench, &WITH_VIEW)
 }
 
 // A bench of which no draft can be made.
@@ -77,42 +130,53 @@ fn no_bench(alloc: Global) -> Result<MemBench, AllocError> {
     Ok(MemBench::new(alloc, vec![in alloc; (0, 0)]?))
 }
 
+static PAST_THE_BOUND: Case = (
+    VIEW_OF_A,
+    b"t;1;1;9223372036854775807 t;1;2;-1",
+    "generation=7 table=0 total=9223372036854775808 no file",
+);
+
 #[test]
 fn a_batch_past_the_bound_opens_no_draft(rt: HostRuntime) -> Result<(), Fail> {
-    let alloc = rt.alloc();
-    let mut bench = no_bench(alloc)?;
-    let most = b"t;1;1;9223372036854775807 t;1;2;-1";
-    let over = prepared(&rt, alloc, &mut bench, VIEW_OF_A, most)?.map_err(|_| "refused")?;
-    assert_eq!(rt;
-        told(alloc, &over)?.as_str(),
-        "generation=7 table=0 total=9223372036854775808 no file"
-    );
-    Ok(())
+    let mut bench = no_bench(rt.alloc())?;
+    expect(&rt, rt.alloc(), &mut bench, &PAST_THE_BOUND)
 }
+
+static NO_ROWS: Case = (VIEW_OF_A, b"", "generation=7");
 
 #[test]
 fn a_load_without_rows_has_no_part(rt: HostRuntime) -> Result<(), Fail> {
-    let alloc = rt.alloc();
-    let mut bench = no_bench(alloc)?;
-    let none = prepared(&rt, alloc, &mut bench, VIEW_OF_A, b"")?.map_err(|_| "refused")?;
-    assert_eq!(rt; told(alloc, &none)?.as_str(), "generation=7");
+    let mut bench = no_bench(rt.alloc())?;
+    expect(&rt, rt.alloc(), &mut bench, &NO_ROWS)
+}
+
+// Loads that make no batch, and why.
+static REFUSED: [(&[u8], BatchError); 2] = [
+    (
+        b"t;1;1;5 t;1;1;7",
+        BatchError::DuplicateKey {
+            first: 1,
+            second: 2,
+        },
+    ),
+    (b"t;1;1;5 u;1;2;7", BatchError::NoTable { row: 2 }),
+];
+
+// Stops the test of a load that is prepared, or refused otherwise.
+fn expect_refused<R: Abort + Threads + Sync>(
+    rt: &R,
+    alloc: Global,
+    bench: &mut MemBench,
+) -> Result<(), Fail> {
+    for (load, fault) in &REFUSED {
+        let refused = fault_of(rt, alloc, bench, None, load)?;
+        assert_eq!(rt; refused, Some(LoadError::Batch(*fault)));
+    }
     Ok(())
 }
 
 #[test]
 fn rows_that_make_no_batch_are_refused(rt: HostRuntime) -> Result<(), Fail> {
-    let alloc = rt.alloc();
-    let mut bench = no_bench(alloc)?;
-    let twice = BatchError::DuplicateKey {
-        first: 1,
-        second: 2,
-    };
-    let refused = prepared(&rt, alloc, &mut bench, None, b"t;1;1;5 t;1;1;7")?.err();
-    assert_eq!(rt; refused, Some(LoadError::Batch(twice)));
-    let refused = prepared(&rt, alloc, &mut bench, None, b"t;1;1;5 u;1;2;7")?.err();
-    assert_eq!(rt;
-        refused,
-        Some(LoadError::Batch(BatchError::NoTable { row: 2 }))
-    );
-    Ok(())
+    let mut bench = no_bench(rt.alloc())?;
+    expect_refused(&rt, rt.alloc(), &mut bench)
 }
