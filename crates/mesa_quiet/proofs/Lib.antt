@@ -1,3 +1,4 @@
 pub mod Looks
 pub mod Pins
+pub mod Plans
 pub mod Releases

@@ -1,0 +1,92 @@
+// A plan that is told.
+ghost use Rattle.std.specs.Prelude.{◌≡◌, ◌<◌, true, false, length, IfErr, IfOk, OnOk, None, Ok};
+ghost use Rattle.mesa_engine.specs.Failing.{is_of_device};
+ghost use Rattle.mesa_history.specs.Machine.{explained};
+ghost use Rattle.mesa_history.specs.Replay.{no_rows as no_heading};
+ghost use Rattle.mesa_history.specs.Run.{First, Finished};
+ghost use Rattle.mesa_history.specs.Turns.{IsDue};
+ghost use Rattle.mesa_image.specs.Shape.{IsCatalog};
+ghost use Rattle.mesa_ledger.specs.Ledger.{books_of};
+ghost use Rattle.mesa_log.specs.Failure.{cause_in};
+ghost use Rattle.mesa_model.specs.declared.commands.Command.TheVariants as command;
+ghost use Rattle.mesa_model.specs.declared.entries.Kind.TheVariants as kind;
+ghost use Rattle.mesa_quiet.specs.Asked.{cause_asked};
+ghost use Rattle.mesa_script.specs.Rows.{body_of};
+ghost use Rattle.mesa_skeleton.specs.Rows.{no_rows};
+ghost use Rattle.mesa_walk.specs.Changes.{HasNoPlan};
+ghost use Rattle.mesa_walk.specs.Turns.{Takes};
+ghost use Rattle.mesa_walk.specs.Walk.{run_at};
+
+use crate::spans::lines_of;
+use mesa_disk::{Disk, Made};
+use mesa_engine::Engine;
+use mesa_io::Sink;
+use mesa_ledger::Naming;
+use mesa_log::{Failure, Who};
+use mesa_metadata::Metadata;
+use mesa_model::{ExplainWords, Kind, Outcome, Refusal, Reply};
+use std::alloc::Global;
+
+// A reply, and the lines behind its head line.
+struct Told {
+    reply: Reply,
+    lines: Vec<u8>,
+}
+
+// Why the rules tell no plan.
+fn failed(failure: mesa_asked::Failure) -> Failure
+    ensures { cause_in result ≡ cause_asked failure }
+{
+    match failure {
+        mesa_asked::Failure::Refused(refusal) => Failure::Refused(refusal),
+        mesa_asked::Failure::Memory => Failure::Memory,
+    }
+}
+
+// What is told of how a query would be answered, or why it isn't told.
+fn planned(alloc: Global, metadata: &Metadata, words: &ExplainWords) -> Result<Told, Failure>
+    requires { IsCatalog metadata.now.ledger.catalogue }
+    ensures explained { IfOk result (λ t. explained (books_of no_rows metadata.now.ledger).bare (books_of no_rows metadata.now.ledger).machine words.now ≡ Ok t.reply) }
+    ensures lines { IfOk result (λ t. t.lines.items ≡ body_of no_heading t.reply) }
+    ensures refused { IfErr result (λ failure. HasNoPlan (books_of no_rows metadata.now.ledger) words.now (cause_in failure)) }
+    ensures quiet { IfErr result (λ failure. is_of_device (cause_in failure) ≡ false) }
+{
+    if let Some(position) = metadata.closed() {
+        return Err(Failure::Refused(Refusal::Closed { position }));
+    }
+    let reply = match mesa_rules::explain(alloc, metadata.catalog(), words) {
+        Ok(reply) => reply,
+        Err(failure) => return Err(failed(failure)),
+    };
+    match lines_of(alloc, &reply) {
+        Ok(lines) => Ok(Told { reply, lines }),
+        Err(_) => Err(Failure::Memory),
+    }
+}
+
+/// The turn of an explain: the ranges are told that a query of a relation would read.
+pub fn explain<N: Naming, M: Made, D: Disk<M>, K: Sink>(
+    alloc: Global,
+    engine: &mut Engine<N, M, D, K>,
+    who: Who,
+    words: &ExplainWords,
+) -> Reply
+    requires due { IsDue N.script (run_at N.script (N.start no_rows) engine.old.shown.history) who.session who.command (command.Explain words.now) First }
+    requires room { length engine.old.shown.history < N.room }
+    ensures turn { Takes N.script (N.start no_rows) engine.old.shown engine.new.shown who.session who.command kind.Decide Finished }
+    ensures ledger { engine.new.ledger ≡ engine.old.ledger }
+{
+    if !engine.running() {
+        engine.skip(who, Kind::Decide);
+        return Reply::Refused(Refusal::Memory);
+    }
+    let found = match planned(alloc, &engine.metadata, words) {
+        Ok(found) => found,
+        Err(failure) => return engine.fail(who, Kind::Decide, failure),
+    };
+    let at = engine.log.position();
+    let turn = who.turn(Kind::Decide, Outcome::Stands, engine.disk.clock());
+    let Told { reply, lines } = found;
+    engine.log.tell(turn, at, &reply, &lines);
+    reply
+}
