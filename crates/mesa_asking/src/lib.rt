@@ -3,6 +3,8 @@
 
 mod closing;
 mod giving_back;
+mod seeing;
 
 pub use closing::close_query;
 pub use giving_back::give_back;
+pub use seeing::{Seen, seen_by};
