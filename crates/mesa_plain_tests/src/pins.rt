@@ -1,12 +1,9 @@
 // Pins, and what they keep.
-use crate::trial::expect;
+use crate::trial::{Case, expect_all};
 use std::test::Fail;
 
-#[test]
-fn pins_and_releases(rt: HostRuntime) -> Result<(), Fail> {
-    expect(
-        &rt,
-        rt.alloc(),
+static CASES: [Case; 3] = [
+    (
         "pins and releases",
         "table,t,k int,v sum\n\
          pin,latest\n\
@@ -49,15 +46,9 @@ fn pins_and_releases(rt: HostRuntime) -> Result<(), Fail> {
          1.3@0 pinned token=1 version=1\n\
          1.4@0 released token=1\n\
          1.5@0 refused no_pin token=1\n",
-    )
-}
-
-// But for the work record, which the warehouse leaves to the range machine.
-#[test]
-fn pin_outlives_change(rt: HostRuntime) -> Result<(), Fail> {
-    expect(
-        &rt,
-        rt.alloc(),
+    ),
+    // But for the work record, which the warehouse leaves to the range machine.
+    (
         "a pin that outlives a change",
         "table,t,k int,v sum;w max\n\
          row,t,1,5,8\n\
@@ -87,15 +78,9 @@ fn pin_outlives_change(rt: HostRuntime) -> Result<(), Fail> {
          2,1\n\
          0.10@0 released token=1\n\
          0.11@0 refused no_pin token=1\n",
-    )
-}
-
-// A view that is made later isn't there for a pin, and one that is there outlives its table's changes.
-#[test]
-fn views_of_a_pin(rt: HostRuntime) -> Result<(), Fail> {
-    expect(
-        &rt,
-        rt.alloc(),
+    ),
+    // A view that is made later isn't there for a pin, and one that is there outlives its table's changes.
+    (
         "views of a pin",
         "table,t,k int;c text,v sum;w max\n\
          view,a,t,c,v\n\
@@ -129,5 +114,10 @@ fn views_of_a_pin(rt: HostRuntime) -> Result<(), Fail> {
          0.12@0 rows 2 version=0\n\
          1,US,4,5\n\
          2,US,4,6\n",
-    )
+    ),
+];
+
+#[test]
+fn pins_and_what_they_keep(rt: HostRuntime) -> Result<(), Fail> {
+    expect_all(&rt, rt.alloc(), &CASES)
 }

@@ -17,22 +17,31 @@ fn push_value(alloc: Global, value: &KeyValue, text: &mut Vec<u8>) -> Result<(),
     }
 }
 
-// A row as a line, with commas between its fields.
-fn push_row(alloc: Global, kinds: &[KeyType], row: &Row, text: &mut Vec<u8>) -> Result<(), Fail> {
-    let Ok((key, _)) = decode(alloc, kinds, row.key.as_slice()) else {
-        return Err("no key")?;
-    };
-    for value in key.as_slice() {
+fn push_key(alloc: Global, values: &[KeyValue], text: &mut Vec<u8>) -> Result<(), AllocError> {
+    for value in values {
         push_value(alloc, value, text)?;
         text.push(b',')?;
     }
-    for (place, number) in row.values.as_slice().iter().enumerate() {
+    Ok(())
+}
+
+fn push_numbers(alloc: Global, numbers: &[i64], text: &mut Vec<u8>) -> Result<(), AllocError> {
+    for (place, number) in numbers.iter().enumerate() {
         if place > 0 {
             text.push(b',')?;
         }
         push_number(alloc, *number, text)?;
     }
     Ok(text.push(b'\n')?)
+}
+
+// A row as a line, with commas between its fields.
+fn push_row(alloc: Global, kinds: &[KeyType], row: &Row, text: &mut Vec<u8>) -> Result<(), Fail> {
+    let Ok((key, _)) = decode(alloc, kinds, row.key.as_slice()) else {
+        return Err("no key")?;
+    };
+    push_key(alloc, key.as_slice(), text)?;
+    Ok(push_numbers(alloc, row.values.as_slice(), text)?)
 }
 
 fn push_page(

@@ -1,17 +1,10 @@
 // Worked rows.
-use crate::trial::expect;
+use crate::trial::{Case, expect_all};
 use std::test::Fail;
 
-#[test]
-fn empty_script(rt: HostRuntime) -> Result<(), Fail> {
-    expect(&rt, rt.alloc(), "an empty script", "", "")
-}
-
-#[test]
-fn one_row(rt: HostRuntime) -> Result<(), Fail> {
-    expect(
-        &rt,
-        rt.alloc(),
+static CASES: [Case; 4] = [
+    ("an empty script", "", ""),
+    (
         "one row",
         "table,t,k int,v sum\n\
          row,t,1,5\n\
@@ -23,14 +16,8 @@ fn one_row(rt: HostRuntime) -> Result<(), Fail> {
          0.3@0 loaded version=1 rows=0\n\
          0.4@0 rows 1 version=1\n\
          1,5\n",
-    )
-}
-
-#[test]
-fn zero_sum_stays(rt: HostRuntime) -> Result<(), Fail> {
-    expect(
-        &rt,
-        rt.alloc(),
+    ),
+    (
         "a sum of zero",
         "table,t,k int,v sum\n\
          row,t,7,10\n\
@@ -43,14 +30,8 @@ fn zero_sum_stays(rt: HostRuntime) -> Result<(), Fail> {
          0.3@0 loaded version=1 rows=1\n\
          0.4@0 rows 1 version=1\n\
          7,0\n",
-    )
-}
-
-#[test]
-fn sales_and_view(rt: HostRuntime) -> Result<(), Fail> {
-    expect(
-        &rt,
-        rt.alloc(),
+    ),
+    (
         "sales and a view",
         "table,b,day int;adv int;country text,clicks sum;cost sum\n\
          view,c,b,adv;country,clicks;cost\n\
@@ -76,5 +57,10 @@ fn sales_and_view(rt: HostRuntime) -> Result<(), Fail> {
          2,US,40,20\n\
          0.7@0 expired oldest=1\n\
          0.8@0 refused stale asked=0 oldest=1\n",
-    )
+    ),
+];
+
+#[test]
+fn worked_rows(rt: HostRuntime) -> Result<(), Fail> {
+    expect_all(&rt, rt.alloc(), &CASES)
 }

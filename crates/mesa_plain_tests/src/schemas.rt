@@ -1,12 +1,9 @@
 // Worked rows of schemas that change.
-use crate::trial::expect;
+use crate::trial::{Case, expect_all};
 use std::test::Fail;
 
-#[test]
-fn added_values(rt: HostRuntime) -> Result<(), Fail> {
-    expect(
-        &rt,
-        rt.alloc(),
+static CASES: [Case; 5] = [
+    (
         "added values",
         "table,t,k int,v sum\n\
          row,t,1,5\n\
@@ -40,14 +37,8 @@ fn added_values(rt: HostRuntime) -> Result<(), Fail> {
          0.11@0 loaded version=4 rows=1\n\
          0.12@0 rows 1 version=4\n\
          1,7,3,2\n",
-    )
-}
-
-#[test]
-fn added_key(rt: HostRuntime) -> Result<(), Fail> {
-    expect(
-        &rt,
-        rt.alloc(),
+    ),
+    (
         "an added key",
         "table,t,k int,v sum\n\
          row,t,1,5\n\
@@ -72,14 +63,8 @@ fn added_key(rt: HostRuntime) -> Result<(), Fail> {
          US,5\n\
          0.8@0 rows 1 version=1\n\
          1,US,5\n",
-    )
-}
-
-#[test]
-fn views_guard_columns(rt: HostRuntime) -> Result<(), Fail> {
-    expect(
-        &rt,
-        rt.alloc(),
+    ),
+    (
         "views that guard columns",
         "table,t,k int;c text,v sum;r replace\n\
          view,w,t,c,v\n\
@@ -95,15 +80,9 @@ fn views_guard_columns(rt: HostRuntime) -> Result<(), Fail> {
          0.5@0 refused in_view view=w\n\
          0.6@0 refused no_column\n\
          0.7@0 refused replace_group column=r\n",
-    )
-}
-
-// Each refusal of a change, in the order in which they are looked at.
-#[test]
-fn changes_refused(rt: HostRuntime) -> Result<(), Fail> {
-    expect(
-        &rt,
-        rt.alloc(),
+    ),
+    // Each refusal of a change, in the order in which they are looked at.
+    (
         "changes that are refused",
         "table,t,k int,v sum\n\
          alter,u,add_value,w sum,0\n\
@@ -125,15 +104,9 @@ fn changes_refused(rt: HostRuntime) -> Result<(), Fail> {
          0.8@0 refused no_column\n\
          0.9@0 refused bad_schema reason=last_value\n\
          0.10@0 altered t epoch=1\n",
-    )
-}
-
-// A sum column that is added may have as much as any other; once it is dropped its total is gone.
-#[test]
-fn totals_follow_changes(rt: HostRuntime) -> Result<(), Fail> {
-    expect(
-        &rt,
-        rt.alloc(),
+    ),
+    // A sum column that is added may have as much as any other; once it is dropped its total is gone.
+    (
         "totals through changes",
         "table,t,k int,v sum\n\
          row,t,1,9223372036854775807\n\
@@ -167,5 +140,10 @@ fn totals_follow_changes(rt: HostRuntime) -> Result<(), Fail> {
          1,0\n\
          2,0\n\
          3,9223372036854775807\n",
-    )
+    ),
+];
+
+#[test]
+fn schemas_that_change(rt: HostRuntime) -> Result<(), Fail> {
+    expect_all(&rt, rt.alloc(), &CASES)
 }

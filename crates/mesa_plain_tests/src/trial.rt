@@ -81,18 +81,41 @@ fn do_session(
     Ok(done)
 }
 
-/// What is replied to a script's commands, one session after another, each as at position 0.
-pub fn replies(alloc: Global, script: &str) -> Result<String, Fail> {
-    let mut warehouse = PlainWarehouse::new(alloc);
-    let mut text = Vec::new(alloc);
+// Does the commands of one session after another.
+fn do_sessions(
+    alloc: Global,
+    warehouse: &mut PlainWarehouse,
+    sessions: &[Vec<Command>],
+    text: &mut Vec<u8>,
+) -> Result<(), Fail>
+    requires { GaveAtMost 0 warehouse.old }
+{
     let mut done = 0;
     let mut session = 0u16;
-    'sessions: for commands in &sessions(alloc, script)? {
-        done = do_session(alloc, &mut warehouse, done, session, commands, &mut text)?;
+    'sessions: for commands in sessions {
+        done = do_session(alloc, warehouse, done, session, commands, text)?;
         session = session.wrapping_add(1);
     }
+    Ok(())
+}
+
+// What a new warehouse replies.
+fn replied(alloc: Global, sessions: &[Vec<Command>]) -> Result<Vec<u8>, Fail> {
+    let mut warehouse = PlainWarehouse::new(alloc);
+    let mut text = Vec::new(alloc);
+    do_sessions(alloc, &mut warehouse, sessions, &mut text)?;
+    Ok(text)
+}
+
+/// What is replied to a script's commands, one session after another, each as at position 0.
+pub fn replies(alloc: Global, script: &str) -> Result<String, Fail> {
+    let sessions = sessions(alloc, script)?;
+    let text = replied(alloc, &sessions)?;
     Ok(String::from_utf8(text).ok().ok_or("no text")?)
 }
+
+/// A case's name, its script, and what is replied.
+pub type Case = (&'static str, &'static str, &'static str);
 
 /// Stops the test of a case whose script is replied to otherwise.
 pub fn expect(
@@ -104,6 +127,14 @@ pub fn expect(
 ) -> Result<(), Fail> {
     let replies = replies(alloc, script)?;
     assert_eq!(rt; replies.as_str(), text, "what is replied in {case}");
+    Ok(())
+}
+
+/// The same of each case.
+pub fn expect_all(rt: &impl Abort, alloc: Global, cases: &[Case]) -> Result<(), Fail> {
+    for (case, script, text) in cases {
+        expect(rt, alloc, case, script, text)?;
+    }
     Ok(())
 }
 
