@@ -1,0 +1,93 @@
+use Rattle.std.proofs.Common.{not, ap, ◌∙◌, sym}
+use Rattle.std.specs.Prelude.{is_ok}
+use Rattle.mesa_history.specs.Legal.{is_work}
+use Rattle.mesa_history.specs.Run.{Finished}
+use Rattle.mesa_model.specs.declared.entries.Kind.TheVariants as kind
+use Rattle.mesa_skeleton.specs.Rows.{no_rows}
+use Rattle.mesa_walk.specs.Works.{closing_stage}
+use Rattle.mesa_passes.proofs.Turning.{Step, step_took}
+use Rattle.mesa_service.specs.Works.{claim_in}
+use Rattle.mesa_turning.proofs.Found.{granted_found}
+use Rattle.mesa_turning.proofs.Stepping.{Enters, asks, finds_numbers, goes_on, one, room_for, step}
+use Rattle.mesa_turning.proofs.turns.complete_turn.Goals as goal
+
+pub complete-reply-requires-clause-due : goal.complete-reply-requires-clause-due
+complete-reply-requires-clause-due g c =
+    let e : Enters g.V.Service.script (g.V.Service.start no_rows) c.args.pass c.args.who.session _ _ (g.V.Service.shown c.value-vault.result.now) = record {
+      few = c.requires.few;
+      holds = c.requires.mine.holds;
+      room = c.requires.room.0;
+      ticket = _;
+      finds = c.enter-held.ensures.finds;
+      exact = c.enter-held.ensures.exact;
+      took = c.enter-held.ensures.pass;
+      numbers = ap g.V.Turned.history (sym c.value-vault.ensures.value) ∙ (g.met.V.Service g.world.𝓛 g.world.𝓜 g.world.𝓡 ((λ s x. x), (λ x. x), (λ x. x), λ x. x)).numbered c.value-vault.result.now;
+      seen = c.running-ran.ensures.seen;
+    } in
+    asks e c.args.who.command (closing_stage (not (is_ok c.args.merged)) (claim_in c.args.task)) is_work c.requires.mine c.requires.sort
+
+pub complete-reply-requires-clause-room : goal.complete-reply-requires-clause-room
+complete-reply-requires-clause-room g c =
+    let e : Enters g.V.Service.script (g.V.Service.start no_rows) c.args.pass c.args.who.session _ _ (g.V.Service.shown c.value-vault.result.now) = record {
+      few = c.requires.few;
+      holds = c.requires.mine.holds;
+      room = c.requires.room.0;
+      ticket = _;
+      finds = c.enter-held.ensures.finds;
+      exact = c.enter-held.ensures.exact;
+      took = c.enter-held.ensures.pass;
+      numbers = ap g.V.Turned.history (sym c.value-vault.ensures.value) ∙ (g.met.V.Service g.world.𝓛 g.world.𝓜 g.world.𝓡 ((λ s x. x), (λ x. x), (λ x. x), λ x. x)).numbered c.value-vault.result.now;
+      seen = c.running-ran.ensures.seen;
+    } in
+    room_for e g.V.Service.room c.requires.room.1
+
+pub leave-requires-clause-one : goal.leave-requires-clause-one
+leave-requires-clause-one g c κs within =
+    let e : Enters g.V.Service.script (g.V.Service.start no_rows) c.args.pass c.args.who.session _ _ (g.V.Service.shown c.value-vault.result.now) = record {
+      few = c.requires.few;
+      holds = c.requires.mine.holds;
+      room = c.requires.room.0;
+      ticket = _;
+      finds = c.enter-held.ensures.finds;
+      exact = c.enter-held.ensures.exact;
+      took = c.enter-held.ensures.pass;
+      numbers = ap g.V.Turned.history (sym c.value-vault.ensures.value) ∙ (g.met.V.Service g.world.𝓛 g.world.𝓜 g.world.𝓡 ((λ s x. x), (λ x. x), (λ x. x), λ x. x)).numbered c.value-vault.result.now;
+      seen = c.running-ran.ensures.seen;
+    } in
+    one e c.args.who.command kind.Close (g.V.Service.shown c.complete-reply.new.self) _ ((g.met.V.Service g.world.𝓛 g.world.𝓜 g.world.𝓡 ((λ s x. x), (λ x. x), (λ x. x), λ x. x)).numbered c.complete-reply.new.self) c.complete-reply.ensures.turn.turn c.complete-reply.ensures.turn.seen
+
+whole : (g : _) (c : goal.Joined-reply g) → Step g.V.Service.script (g.V.Service.start no_rows) c.args.pass c.leave.result (g.V.Service.shown c.value-vault.result.now) (g.V.Service.shown c.complete-reply.new.self) c.args.who.session c.args.who.command kind.Close
+whole g c =
+    let e : Enters g.V.Service.script (g.V.Service.start no_rows) c.args.pass c.args.who.session _ _ (g.V.Service.shown c.value-vault.result.now) = record {
+      few = c.requires.few;
+      holds = c.requires.mine.holds;
+      room = c.requires.room.0;
+      ticket = _;
+      finds = c.enter-held.ensures.finds;
+      exact = c.enter-held.ensures.exact;
+      took = c.enter-held.ensures.pass;
+      numbers = ap g.V.Turned.history (sym c.value-vault.ensures.value) ∙ (g.met.V.Service g.world.𝓛 g.world.𝓜 g.world.𝓡 ((λ s x. x), (λ x. x), (λ x. x), λ x. x)).numbered c.value-vault.result.now;
+      seen = c.running-ran.ensures.seen;
+    } in
+    step e c.args.who.command kind.Close (g.V.Service.shown c.complete-reply.new.self) _ ((g.met.V.Service g.world.𝓛 g.world.𝓜 g.world.𝓡 ((λ s x. x), (λ x. x), (λ x. x), λ x. x)).numbered c.complete-reply.new.self) c.complete-reply.ensures.turn.turn c.complete-reply.ensures.turn.seen c.leave.result c.leave.ensures.pass c.leave.ensures.exact
+
+pub returns-clause-took : goal.returns-clause-took
+returns-clause-took g c = step_took (whole g c)
+
+pub returns-clause-mine : goal.returns-clause-mine
+returns-clause-mine g c = goes_on (whole g c) Finished c.running-ran.result c.complete-reply.ensures.turn c.running-ran.ensures.running
+
+pub complete-reply-requires-clause-granted : goal.complete-reply-requires-clause-granted
+complete-reply-requires-clause-granted g c =
+    let e : Enters g.V.Service.script (g.V.Service.start no_rows) c.args.pass c.args.who.session _ _ (g.V.Service.shown c.value-vault.result.now) = record {
+      few = c.requires.few;
+      holds = c.requires.mine.holds;
+      room = c.requires.room.0;
+      ticket = _;
+      finds = c.enter-held.ensures.finds;
+      exact = c.enter-held.ensures.exact;
+      took = c.enter-held.ensures.pass;
+      numbers = ap g.V.Turned.history (sym c.value-vault.ensures.value) ∙ (g.met.V.Service g.world.𝓛 g.world.𝓜 g.world.𝓡 ((λ s x. x), (λ x. x), (λ x. x), λ x. x)).numbered c.value-vault.result.now;
+      seen = c.running-ran.ensures.seen;
+    } in
+    granted_found c.args.pass _ (g.V.Service.shown c.value-vault.result.now).history (finds_numbers e) e.seen.short g.V.Service.granted _ c.requires.granted

@@ -1,0 +1,92 @@
+use Rattle.std.proofs.Common.{refl, ap, ◌∙◌, sym}
+use Rattle.mesa_history.specs.Run.{Looked, Finished}
+use Rattle.mesa_model.specs.declared.commands.Command.TheVariants as command
+use Rattle.mesa_model.specs.declared.entries.Kind.TheVariants as kind
+use Rattle.mesa_skeleton.specs.Rows.{no_rows}
+use Rattle.mesa_walk.specs.Turns.{is_load}
+use Rattle.mesa_passes.proofs.Turning.{Step, step_took}
+use Rattle.mesa_service.specs.Sight.{sight_after}
+use Rattle.mesa_turning.proofs.Found.{prepared_found}
+use Rattle.mesa_turning.proofs.Stepping.{Enters, asks, finds_numbers, goes_on, one, room_for, step}
+use Rattle.mesa_turning.proofs.turns.publish_turn.Goals as goal
+
+pub publish-reply-requires-clause-due : goal.publish-reply-requires-clause-due
+publish-reply-requires-clause-due g c =
+    let e : Enters g.V.Service.script (g.V.Service.start no_rows) c.args.pass c.args.who.session _ _ (g.V.Service.shown c.value-vault.result.now) = record {
+      few = c.requires.few;
+      holds = c.requires.mine.holds;
+      room = c.requires.room.0;
+      ticket = _;
+      finds = c.enter-held.ensures.finds;
+      exact = c.enter-held.ensures.exact;
+      took = c.enter-held.ensures.pass;
+      numbers = ap g.V.Turned.history (sym c.value-vault.ensures.value) ∙ (g.met.V.Service g.world.𝓛 g.world.𝓜 g.world.𝓡 ((λ s x. x), (λ x. x), (λ x. x), λ x. x)).numbered c.value-vault.result.now;
+      seen = c.running-ran.ensures.seen;
+    } in
+    asks e c.args.who.command Looked is_load c.requires.mine (record { asked = command.Load c.args.rows.now; known = c.requires.known; is = refl })
+
+pub publish-reply-requires-clause-room : goal.publish-reply-requires-clause-room
+publish-reply-requires-clause-room g c =
+    let e : Enters g.V.Service.script (g.V.Service.start no_rows) c.args.pass c.args.who.session _ _ (g.V.Service.shown c.value-vault.result.now) = record {
+      few = c.requires.few;
+      holds = c.requires.mine.holds;
+      room = c.requires.room.0;
+      ticket = _;
+      finds = c.enter-held.ensures.finds;
+      exact = c.enter-held.ensures.exact;
+      took = c.enter-held.ensures.pass;
+      numbers = ap g.V.Turned.history (sym c.value-vault.ensures.value) ∙ (g.met.V.Service g.world.𝓛 g.world.𝓜 g.world.𝓡 ((λ s x. x), (λ x. x), (λ x. x), λ x. x)).numbered c.value-vault.result.now;
+      seen = c.running-ran.ensures.seen;
+    } in
+    room_for e g.V.Service.room c.requires.room.1
+
+pub leave-requires-clause-one : goal.leave-requires-clause-one
+leave-requires-clause-one g c κs within =
+    let e : Enters g.V.Service.script (g.V.Service.start no_rows) c.args.pass c.args.who.session _ _ (g.V.Service.shown c.value-vault.result.now) = record {
+      few = c.requires.few;
+      holds = c.requires.mine.holds;
+      room = c.requires.room.0;
+      ticket = _;
+      finds = c.enter-held.ensures.finds;
+      exact = c.enter-held.ensures.exact;
+      took = c.enter-held.ensures.pass;
+      numbers = ap g.V.Turned.history (sym c.value-vault.ensures.value) ∙ (g.met.V.Service g.world.𝓛 g.world.𝓜 g.world.𝓡 ((λ s x. x), (λ x. x), (λ x. x), λ x. x)).numbered c.value-vault.result.now;
+      seen = c.running-ran.ensures.seen;
+    } in
+    one e c.args.who.command kind.Decide (g.V.Service.shown c.publish-reply.new.self) _ ((g.met.V.Service g.world.𝓛 g.world.𝓜 g.world.𝓡 ((λ s x. x), (λ x. x), (λ x. x), λ x. x)).numbered c.publish-reply.new.self) c.publish-reply.ensures.turn.turn c.publish-reply.ensures.turn.seen
+
+whole : (g : _) (c : goal.Joined-reply g) → Step g.V.Service.script (g.V.Service.start no_rows) c.args.pass c.leave.result (g.V.Service.shown c.value-vault.result.now) (g.V.Service.shown c.publish-reply.new.self) c.args.who.session c.args.who.command kind.Decide
+whole g c =
+    let e : Enters g.V.Service.script (g.V.Service.start no_rows) c.args.pass c.args.who.session _ _ (g.V.Service.shown c.value-vault.result.now) = record {
+      few = c.requires.few;
+      holds = c.requires.mine.holds;
+      room = c.requires.room.0;
+      ticket = _;
+      finds = c.enter-held.ensures.finds;
+      exact = c.enter-held.ensures.exact;
+      took = c.enter-held.ensures.pass;
+      numbers = ap g.V.Turned.history (sym c.value-vault.ensures.value) ∙ (g.met.V.Service g.world.𝓛 g.world.𝓜 g.world.𝓡 ((λ s x. x), (λ x. x), (λ x. x), λ x. x)).numbered c.value-vault.result.now;
+      seen = c.running-ran.ensures.seen;
+    } in
+    step e c.args.who.command kind.Decide (g.V.Service.shown c.publish-reply.new.self) _ ((g.met.V.Service g.world.𝓛 g.world.𝓜 g.world.𝓡 ((λ s x. x), (λ x. x), (λ x. x), λ x. x)).numbered c.publish-reply.new.self) c.publish-reply.ensures.turn.turn c.publish-reply.ensures.turn.seen c.leave.result c.leave.ensures.pass c.leave.ensures.exact
+
+pub returns-clause-took : goal.returns-clause-took
+returns-clause-took g c = step_took (whole g c)
+
+pub returns-clause-mine : goal.returns-clause-mine
+returns-clause-mine g c = goes_on (whole g c) Finished c.running-ran.result c.publish-reply.ensures.turn c.running-ran.ensures.running
+
+pub prepared_now-made-requires-after_bounds : goal.prepared_now-made-requires-after_bounds
+prepared_now-made-requires-after_bounds g c κs within same =
+    let e : Enters g.V.Service.script (g.V.Service.start no_rows) c.args.pass c.args.who.session _ _ (g.V.Service.shown c.value-vault.result.now) = record {
+      few = c.requires.few;
+      holds = c.requires.mine.holds;
+      room = c.requires.room.0;
+      ticket = _;
+      finds = c.enter-held.ensures.finds;
+      exact = c.enter-held.ensures.exact;
+      took = c.enter-held.ensures.pass;
+      numbers = ap g.V.Turned.history (sym c.value-vault.ensures.value) ∙ (g.met.V.Service g.world.𝓛 g.world.𝓜 g.world.𝓡 ((λ s x. x), (λ x. x), (λ x. x), λ x. x)).numbered c.value-vault.result.now;
+      seen = c.running-ran.ensures.seen;
+    } in
+    prepared_found c.args.pass _ (g.V.Service.shown c.value-vault.result.now).history (finds_numbers e) e.seen.short g.V.File.Made.bytes g.V.File.Made.id_of (sight_after g.V.Service.script (g.V.Service.start no_rows) g.V.Service.first_generation) c.args.generation c.args.rows.now c.args.made c.requires.made same
