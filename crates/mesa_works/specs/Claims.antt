@@ -1,12 +1,26 @@
 -- The claim of a task.
-use Rattle.std.specs.Prelude.{Result, Ok, Err}
+use Rattle.std.specs.Prelude.{◌+◌, Result, Ok, Err}
 use Rattle.mesa_history.specs.Machine.{Claim}
 use Rattle.mesa_history.specs.Run.{Stage, Finished}
+use Rattle.mesa_ledger.specs.Ledger.{Ledger}
 use Rattle.mesa_tasks.specs.declared.merging.Task.{Task}
+use Rattle.mesa_tasks.specs.declared.opening.Unopened.{Unopened}
+use Rattle.mesa_tasks.specs.declared.opening.Unopened.TheVariants as un
+use Rattle.mesa_walk.specs.Causes.{Cause, Unread, NoMemory}
+use Rattle.mesa_works.specs.declared.claiming.Claimed.{Claimed}
 
 -- the claim that a task was granted for
 abbrev pub claim_in : {R : Type 0} → Task R → Claim
 claim_in t = record { table = t.table; lease = t.lease; work = t.work }
+
+-- the claim of a work that is granted next
+abbrev pub claim_as : Ledger → Claimed → Claim
+claim_as l x = record { table = x.table; lease = l.leases.granted + 1; work = x.work }
+
+-- why a work isn't granted whose files weren't opened
+abbrev pub cause_met : Unopened → Cause
+cause_met un.Fault = Unread
+cause_met un.Memory = NoMemory
 
 -- the stage of a work after a turn, by the task that it gave, if any
 abbrev pub stage_if : {T E : Type 0} → (T → Claim) → (Claim → Stage) → Result T E → Stage

@@ -1,0 +1,73 @@
+-- What the books say of a claim.
+use Rattle.std.proofs.Common.{◌≡◌, ℕ, ◌+◌, List, ◌∙◌, ap, Option, None, Some, Ok, Err}
+use Rattle.std.specs.Prelude.{Result}
+use Rattle.std.specs.Option.{ok_or}
+use Rattle.std.proofs.Math.ListN.{get_or-map}
+use Rattle.std.proofs.lemmas.Simd.{map-map}
+use Rattle.mesa_list.specs.Checks.{◌>>=◌, ◌>>◌, refused_as}
+use Rattle.mesa_schema.specs.Columns.{place_of}
+use Rattle.mesa_span.specs.declared.works.Work.{Work}
+use Rattle.mesa_span.specs.Ranges.{base_before}
+use Rattle.mesa_span.specs.Work.{next_work}
+use Rattle.mesa_history.specs.Machine.{Claim, Machine, claim_of, ranges_at, refuse_busy}
+use Rattle.mesa_image.specs.Catalog.{no_stock, ranges_of, stock_at}
+use Rattle.mesa_lease.specs.Book.{holder}
+use Rattle.mesa_model.specs.Refusals.{no_such_table, refuse_closed}
+use Rattle.mesa_model.specs.Relations.{table_number}
+use Rattle.mesa_model.specs.Warehouse.{Table, Warehouse}
+use Rattle.mesa_model.specs.declared.replies.Refusal.TheVariants as no
+use Rattle.mesa_model.specs.declared.replies.Reply.{Reply}
+use Rattle.mesa_model.specs.declared.replies.Reply.TheVariants as reply
+use Rattle.mesa_ledger.specs.Ledger.{Ledger, books_of, skeleton_of}
+use Rattle.mesa_rules.specs.Seen.{number_of}
+use Rattle.mesa_skeleton.specs.Rows.{no_rows}
+
+module _ (l : Ledger) (at : ℕ) (name : List ℕ) where
+  abbrev bare : Warehouse
+  bare = (books_of no_rows l).bare
+
+  abbrev machine : Machine
+  machine = (books_of no_rows l).machine
+
+  abbrev given : ℕ → Option Work → Result Claim Reply
+  given table work = ok_or work reply.Idle >>= (λ w. Ok (record { table = table; lease = l.leases.granted + 1; work = w }))
+
+  abbrev at_table : ℕ → Option ℕ → Option Work → Result Claim Reply
+  at_table table held work = refuse_busy held >> given table work
+
+  abbrev work_of : ℕ → Option Work
+  work_of table = next_work (ranges_at machine table) l.catalogue.oldest (base_before l.catalogue.next)
+
+  -- its steps, by what each asks
+  abbrev steps : Option ℕ → Option ℕ → Result Claim Reply
+  steps closed number = refused_as reply.Refused (refuse_closed closed) >> (ok_or number (reply.Refused no_such_table) >>= (λ table. at_table table (holder l.leases table at) (work_of table)))
+
+  number_is : table_number bare.store name ≡ number_of l.catalogue name
+  number_is = ap (place_of name) (map-map (λ (t : Table). t.name) skeleton_of l.catalogue.tables)
+
+  claim_is : claim_of bare machine at name ≡ steps l.closed (number_of l.catalogue name)
+  claim_is = ap (steps l.closed) number_is
+
+  pub shut : (p : ℕ) → l.closed ≡ Some p → claim_of bare machine at name ≡ Err (reply.Refused (no.Closed p))
+  shut p is = claim_is ∙ ap (λ c. steps c (number_of l.catalogue name)) is
+
+  module _ (open' : l.closed ≡ None) where
+    pub missing : number_of l.catalogue name ≡ None → claim_of bare machine at name ≡ Err (reply.Refused no_such_table)
+    missing is = claim_is ∙ (λ i. steps (open' i) (is i))
+
+    module _ (table : ℕ) (there : number_of l.catalogue name ≡ Some table) where
+      table_is : claim_of bare machine at name ≡ at_table table (holder l.leases table at) (work_of table)
+      table_is = claim_is ∙ (λ i. steps (open' i) (there i))
+
+      pub busy : (lease : ℕ) → holder l.leases table at ≡ Some lease → claim_of bare machine at name ≡ Err (reply.Busy lease)
+      busy lease is = table_is ∙ ap (λ held. at_table table held (work_of table)) is
+
+      work_is : (o : Option Work) → next_work (ranges_of (stock_at l.catalogue table)) l.catalogue.oldest (base_before l.catalogue.next) ≡ o → work_of table ≡ o
+      work_is o is = ap (λ r. next_work r l.catalogue.oldest (base_before l.catalogue.next)) (get_or-map ranges_of l.catalogue.tables table no_stock) ∙ is
+
+      pub idle : holder l.leases table at ≡ None → next_work (ranges_of (stock_at l.catalogue table)) l.catalogue.oldest (base_before l.catalogue.next) ≡ None → claim_of bare machine at name ≡ Err reply.Idle
+      idle free is = table_is ∙ (λ i. at_table table (free i) (work_is None is i))
+
+      pub claimed : (work : Work) → holder l.leases table at ≡ None → next_work (ranges_of (stock_at l.catalogue table)) l.catalogue.oldest (base_before l.catalogue.next) ≡ Some work
+          → claim_of bare machine at name ≡ Ok (record { table = table; lease = l.leases.granted + 1; work = work })
+      claimed work free is = table_is ∙ (λ i. at_table table (free i) (work_is (Some work) is i))

@@ -1,0 +1,173 @@
+use Rattle.std.proofs.Common.{◌≡◌, ◌<◌, ◌≤◌, [], ◌∷◌, ◌++◌, length, true, false, not, refl, sym, ◌∙◌, ap, subst, arith, Ok}
+use Rattle.std.specs.Prelude.{flat_map}
+use Rattle.std.specs.List.{AllByRecursion}
+use Rattle.mesa_schema.specs.Changes.{epoch_of}
+use Rattle.mesa_history.specs.Machine.{Claim, claim_of}
+use Rattle.mesa_history.specs.Replay.{is_skip}
+use Rattle.mesa_history.specs.Run.{First, Granted, Finished}
+use Rattle.mesa_history.specs.Turns.{IsDue}
+use Rattle.mesa_image.specs.Catalog.{Catalog, Delta, Stock, stock_at}
+use Rattle.mesa_image.specs.Fitting.{deltas_of}
+use Rattle.mesa_image_laws.specs.Brought.{merged_of}
+use Rattle.mesa_image_laws.specs.Moves.{is_base, last_of}
+use Rattle.mesa_model.specs.Entry.{IsShort}
+use Rattle.mesa_model.specs.declared.commands.Command.TheVariants as command
+use Rattle.mesa_model.specs.declared.entries.Kind.TheVariants as kind
+use Rattle.mesa_model.specs.declared.entries.Outcome.TheVariants as outcome
+use Rattle.mesa_ledger.specs.Ledger.{books_of}
+use Rattle.mesa_ledger.specs.Vault.{Starts, outset_of}
+use Rattle.mesa_ledger.proofs.Beginning.{vault_at_seen}
+use Rattle.mesa_log.specs.Failure.{cause_in}
+use Rattle.mesa_plans.specs.Files.{table_wanted}
+use Rattle.mesa_skeleton.specs.Rows.{no_rows}
+use Rattle.mesa_tasks.specs.declared.merging.Task.{Task}
+use Rattle.mesa_walk.specs.Causes.{is_read_fault, outcome_of}
+use Rattle.mesa_walk.specs.Turns.{Shown, Takes, entry}
+use Rattle.mesa_walk.specs.Walk.{Counts, run_at}
+use Rattle.mesa_walk.specs.Works.{HasNoClaim}
+use Rattle.mesa_walk.proofs.Alike.{due_alike}
+use Rattle.mesa_engine.specs.Engine.{Standing, starts_of}
+use Rattle.mesa_works.specs.Claims.{claim_as}
+use Rattle.mesa_works.proofs.Grants.{answers, fault_counts, granted_engine, granted_takes, has_no_claim, shaped_at, ungranted_engine, ungranted_takes, unopened_counts}
+use Rattle.mesa_works.proofs.granting.take.Goals as goal
+
+pub gather-gathered-requires-after_bounds : goal.gather-gathered-requires-after_bounds
+gather-gathered-requires-after_bounds g c κs within =
+    let i = c.engine.inside in
+    let table = c.args.claimed.table in
+    let there : table < length i.metadata.ledger.catalogue.tables = subst (λ (x : Standing). table < length x.ledger.catalogue.tables) (sym c.engine.view_is) c.requires.there in
+    let shaped = shaped_at i.metadata.ledger.catalogue (c.engine.invariant.vault no_rows false (λ is. absurd cc)).shaped table there in
+    let stock = c.table-table.ensures.stock ∙ ap (λ (k : Catalog). stock_at k table) c.catalog.ensures in
+    (_, c.table-table.ensures.held, subst (λ (u : Stock). AllByRecursion (λ (d : Delta). d.epoch ≤ epoch_of u.lineage) (deltas_of u)) (sym stock) shaped.epochs)
+
+pub lease-requires-clause-table : goal.lease-requires-clause-table
+lease-requires-clause-table g c =
+    let i = c.engine.inside in
+    let table = c.args.claimed.table in
+    let there : table < length i.metadata.ledger.catalogue.tables = subst (λ (x : Standing). table < length x.ledger.catalogue.tables) (sym c.engine.view_is) c.requires.there in
+    let few = (c.engine.invariant.vault no_rows false (λ is. absurd cc)).shaped.few in
+    let low : table < 32 = omega (arith, there, few) in
+    low
+
+pub invariant_of-engine : goal.invariant_of-engine
+invariant_of-engine g c =
+    let N = g.N.Naming in
+    let n : Starts = starts_of N.script N.start N.sound N.origin N.since N.counted N.at_start in
+    let i = c.engine.inside in
+    let s = c.args.who.session in
+    let number = c.args.who.command in
+    let name = c.requires.due.0 in
+    let l = i.metadata.ledger in
+    let h = i.log.history.items in
+    let at = c.position-at.result in
+    let claim = claim_as l c.args.claimed in
+    let story = g.D.Disk.story i.disk in
+    let new = g.D.Disk.story c.gather-gathered.new.disk in
+    let short : IsShort (entry s number kind.Grant outcome.Stands c.clock-moment.result) = subst IsShort c.turn-turn.ensures.same c.turn-turn.ensures.short in
+    let due : IsDue N.script (run_at N.script (N.start no_rows) h) s number (command.Work name) First = subst (λ (x : Standing). IsDue N.script (run_at N.script (N.start no_rows) x.shown.history) s number (command.Work name) First) (sym c.engine.view_is) c.requires.due.1 in
+    let is : claim_of (books_of no_rows l).bare (books_of no_rows l).machine (length h) name ≡ Ok claim = subst (λ (x : Standing). claim_of (books_of no_rows x.ledger).bare (books_of no_rows x.ledger).machine (length x.shown.history) name ≡ Ok (claim_as x.ledger c.args.claimed)) (sym c.engine.view_is) c.requires.due.2 in
+    let here : claim_of (books_of no_rows l).bare (books_of no_rows l).machine at name ≡ Ok claim = subst (λ p. claim_of (books_of no_rows l).bare (books_of no_rows l).machine p name ≡ Ok claim) (sym c.position-at.ensures) is in
+    let ran : not i.log.printer.broken ≡ true = ap (λ (x : Standing). x.shown.running) c.engine.view_is ∙ c.requires.runs in
+    granted_engine g.K.Sink.held g.K.Sink.faults n N.room N.sink_faults i.metadata story new i.log c.pass.new.self c.engine.invariant c.gather-gathered.ensures.unmoved s number short.session short.command name c.clock-moment.result c.clock-moment.ensures ran at c.position-at.ensures
+    (λ w. due_alike N.script (N.start no_rows) (N.start w) h s number (command.Work name) First (N.alike w) refl due) c.pass.ensures.room
+    claim c.lease.new.metadata here (fault_counts story new false c.in-Ok.ensures.counted) c.lease.ensures.granted (c.pass.ensures.items ∙ ap (λ x. h ++ x ∷ []) c.turn-turn.ensures.same) c.pass.ensures.printer c.pass.ensures.refused
+
+pub invariant_of-engine-in-Err : goal.invariant_of-engine-in-Err
+invariant_of-engine-in-Err g c =
+    let N = g.N.Naming in
+    let n : Starts = starts_of N.script N.start N.sound N.origin N.since N.counted N.at_start in
+    let i = c.engine.inside in
+    let s = c.args.who.session in
+    let number = c.args.who.command in
+    let name = c.requires.due.0 in
+    let l = i.metadata.ledger in
+    let h = i.log.history.items in
+    let at = length h in
+    let claim = claim_as l c.args.claimed in
+    let story = g.D.Disk.story i.disk in
+    let new = g.D.Disk.story c.gather-gathered.new.disk in
+    let later = c.fail-reply.new.self in
+    let cause = cause_in c.failure_of.result in
+    let short = c.fail-reply.ensures.short in
+    let due : IsDue N.script (run_at N.script (N.start no_rows) h) s number (command.Work name) First = subst (λ (x : Standing). IsDue N.script (run_at N.script (N.start no_rows) x.shown.history) s number (command.Work name) First) (sym c.engine.view_is) c.requires.due.1 in
+    let is : claim_of (books_of no_rows l).bare (books_of no_rows l).machine at name ≡ Ok claim = subst (λ (x : Standing). claim_of (books_of no_rows x.ledger).bare (books_of no_rows x.ledger).machine (length x.shown.history) name ≡ Ok (claim_as x.ledger c.args.claimed)) (sym c.engine.view_is) c.requires.due.2 in
+    let open' = ap (λ (x : Standing). x.ledger.closed) c.engine.view_is ∙ c.requires.opened in
+    let ran : not i.log.printer.broken ≡ true = ap (λ (x : Standing). x.shown.running) c.engine.view_is ∙ c.requires.runs in
+    let has = subst (HasNoClaim (books_of no_rows l) at name) (sym c.failure_of.ensures) (has_no_claim l at name claim c.in-Err.unopened open' is) in
+    let counts = subst (λ x. Counts story new (is_read_fault x)) (sym c.failure_of.ensures) (unopened_counts (Task g.row.D-Reader.Denot) story new c.in-Err.unopened c.in-Err.ensures.counted) in
+    ungranted_engine g.K.Sink.held g.K.Sink.faults n N.room N.sink_faults i.metadata story new i.log later c.engine.invariant c.gather-gathered.ensures.unmoved s number short.session short.command name c.clock-moment.result c.clock-moment.ensures ran at refl
+    (λ w. due_alike N.script (N.start no_rows) (N.start w) h s number (command.Work name) First (N.alike w) refl due) c.fail-reply.ensures.room
+    cause has counts c.fail-reply.ensures.items c.fail-reply.ensures.told c.fail-reply.ensures.refused
+
+pub returns-in-Ok-clause-files : goal.returns-in-Ok-clause-files
+returns-in-Ok-clause-files g c =
+    let table = c.args.claimed.table in
+    let stock = c.table-table.ensures.stock ∙ ap (λ (k : Catalog). stock_at k table) (c.catalog.ensures ∙ ap (λ (x : Standing). x.ledger.catalogue) c.engine.view_is) in
+    let work = sym c.in-Ok.ensures.work in
+    let f = c.in-Ok.ensures.files _ c.table-table.ensures.held in
+    (_, record { wanted = f.wanted; are = f.are ∙ (λ i. flat_map (table_wanted (stock i).lineage) (merged_of (stock i) (is_base (work i)) (last_of (work i)))); opened = f.opened })
+
+pub returns-in-Ok-clause-turn : goal.returns-in-Ok-clause-turn
+returns-in-Ok-clause-turn g c =
+    let N = g.N.Naming in
+    let n : Starts = starts_of N.script N.start N.sound N.origin N.since N.counted N.at_start in
+    let i = c.engine.inside in
+    let s = c.args.who.session in
+    let number = c.args.who.command in
+    let name = c.requires.due.0 in
+    let l = i.metadata.ledger in
+    let h = i.log.history.items in
+    let at = c.position-at.result in
+    let claim = claim_as l c.args.claimed in
+    let story = g.D.Disk.story i.disk in
+    let new = g.D.Disk.story c.gather-gathered.new.disk in
+    let short : IsShort (entry s number kind.Grant outcome.Stands c.clock-moment.result) = subst IsShort c.turn-turn.ensures.same c.turn-turn.ensures.short in
+    let due : IsDue N.script (run_at N.script (N.start no_rows) h) s number (command.Work name) First = subst (λ (x : Standing). IsDue N.script (run_at N.script (N.start no_rows) x.shown.history) s number (command.Work name) First) (sym c.engine.view_is) c.requires.due.1 in
+    let is : claim_of (books_of no_rows l).bare (books_of no_rows l).machine (length h) name ≡ Ok claim = subst (λ (x : Standing). claim_of (books_of no_rows x.ledger).bare (books_of no_rows x.ledger).machine (length x.shown.history) name ≡ Ok (claim_as x.ledger c.args.claimed)) (sym c.engine.view_is) c.requires.due.2 in
+    let here : claim_of (books_of no_rows l).bare (books_of no_rows l).machine at name ≡ Ok claim = subst (λ p. claim_of (books_of no_rows l).bare (books_of no_rows l).machine p name ≡ Ok claim) (sym c.position-at.ensures) is in
+    let ran : not i.log.printer.broken ≡ true = ap (λ (x : Standing). x.shown.running) c.engine.view_is ∙ c.requires.runs in
+    let later = c.pass.new.self in
+    let kept =
+    granted_engine g.K.Sink.held g.K.Sink.faults n N.room N.sink_faults i.metadata story new i.log c.pass.new.self c.engine.invariant c.gather-gathered.ensures.unmoved s number short.session short.command name c.clock-moment.result c.clock-moment.ensures ran at c.position-at.ensures
+    (λ w. due_alike N.script (N.start no_rows) (N.start w) h s number (command.Work name) First (N.alike w) refl due) c.pass.ensures.room
+    claim c.lease.new.metadata here (fault_counts story new false c.in-Ok.ensures.counted) c.lease.ensures.granted (c.pass.ensures.items ∙ ap (λ x. h ++ x ∷ []) c.turn-turn.ensures.same) c.pass.ensures.printer c.pass.ensures.refused in
+    let shown : Shown = record { history = later.history.items; running = not later.printer.broken; clock = new.moment } in
+    let same : claim ≡ record { table = c.in-Ok.task.table; lease = c.lease.result; work = c.in-Ok.task.work } = λ i. record { table = sym c.in-Ok.ensures.table i; lease = sym c.lease.ensures.number i; work = sym c.in-Ok.ensures.work i } in
+    subst (λ (x : Claim). Takes N.script (N.start no_rows) c.args.engine.now.shown shown s number kind.Grant (Granted x)) same
+    (subst (λ (x : Standing). Takes N.script (N.start no_rows) x.shown shown s number kind.Grant (Granted claim)) c.engine.view_is
+    (granted_takes (outset_of n no_rows) (n.origin no_rows) false l story (g.K.Sink.held i.log.printer.sink) h (not i.log.printer.broken) i.log.refused (c.engine.invariant.vault no_rows false (λ z. absurd cc)) s number short.session short.command name ran at c.position-at.ensures due new c.gather-gathered.ensures.unmoved story.moment shown refl
+    (vault_at_seen n c.lease.new.metadata.ledger new (g.K.Sink.held later.printer.sink) later.history.items (not later.printer.broken) later.refused new.moment kept.vault)
+    claim here (c.pass.ensures.items ∙ ap (λ x. h ++ x ∷ []) c.turn-turn.ensures.same ∙ ap (λ x. h ++ entry s number kind.Grant outcome.Stands x ∷ []) c.clock-moment.ensures)))
+
+pub returns-in-Err-clause-turn : goal.returns-in-Err-clause-turn
+returns-in-Err-clause-turn g c =
+    let N = g.N.Naming in
+    let n : Starts = starts_of N.script N.start N.sound N.origin N.since N.counted N.at_start in
+    let i = c.engine.inside in
+    let s = c.args.who.session in
+    let number = c.args.who.command in
+    let name = c.requires.due.0 in
+    let l = i.metadata.ledger in
+    let h = i.log.history.items in
+    let at = length h in
+    let claim = claim_as l c.args.claimed in
+    let story = g.D.Disk.story i.disk in
+    let new = g.D.Disk.story c.gather-gathered.new.disk in
+    let later = c.fail-reply.new.self in
+    let cause = cause_in c.failure_of.result in
+    let short = c.fail-reply.ensures.short in
+    let due : IsDue N.script (run_at N.script (N.start no_rows) h) s number (command.Work name) First = subst (λ (x : Standing). IsDue N.script (run_at N.script (N.start no_rows) x.shown.history) s number (command.Work name) First) (sym c.engine.view_is) c.requires.due.1 in
+    let is : claim_of (books_of no_rows l).bare (books_of no_rows l).machine at name ≡ Ok claim = subst (λ (x : Standing). claim_of (books_of no_rows x.ledger).bare (books_of no_rows x.ledger).machine (length x.shown.history) name ≡ Ok (claim_as x.ledger c.args.claimed)) (sym c.engine.view_is) c.requires.due.2 in
+    let open' = ap (λ (x : Standing). x.ledger.closed) c.engine.view_is ∙ c.requires.opened in
+    let ran : not i.log.printer.broken ≡ true = ap (λ (x : Standing). x.shown.running) c.engine.view_is ∙ c.requires.runs in
+    let has = subst (HasNoClaim (books_of no_rows l) at name) (sym c.failure_of.ensures) (has_no_claim l at name claim c.in-Err.unopened open' is) in
+    let counts = subst (λ x. Counts story new (is_read_fault x)) (sym c.failure_of.ensures) (unopened_counts (Task g.row.D-Reader.Denot) story new c.in-Err.unopened c.in-Err.ensures.counted) in
+    let kept =
+    ungranted_engine g.K.Sink.held g.K.Sink.faults n N.room N.sink_faults i.metadata story new i.log later c.engine.invariant c.gather-gathered.ensures.unmoved s number short.session short.command name c.clock-moment.result c.clock-moment.ensures ran at refl
+    (λ w. due_alike N.script (N.start no_rows) (N.start w) h s number (command.Work name) First (N.alike w) refl due) c.fail-reply.ensures.room
+    cause has counts c.fail-reply.ensures.items c.fail-reply.ensures.told c.fail-reply.ensures.refused in
+    let shown : Shown = record { history = later.history.items; running = not later.printer.broken; clock = new.moment } in
+    subst (λ (x : Standing). Takes N.script (N.start no_rows) x.shown shown s number kind.Grant Finished) c.engine.view_is
+    (ungranted_takes (outset_of n no_rows) (n.origin no_rows) false l story (g.K.Sink.held i.log.printer.sink) h (not i.log.printer.broken) i.log.refused (c.engine.invariant.vault no_rows false (λ z. absurd cc)) s number short.session short.command name ran at refl due new c.gather-gathered.ensures.unmoved story.moment shown refl
+    (vault_at_seen n i.metadata.ledger new (g.K.Sink.held later.printer.sink) later.history.items (not later.printer.broken) later.refused new.moment kept.vault)
+    cause has (ap (λ x. is_skip (outcome_of x)) c.failure_of.ensures ∙ answers c.in-Err.unopened) (c.fail-reply.ensures.items ∙ ap (λ x. h ++ entry s number kind.Grant (outcome_of cause) x ∷ []) c.clock-moment.ensures))

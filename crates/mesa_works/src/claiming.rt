@@ -1,0 +1,53 @@
+// What a work is granted.
+ghost use Rattle.std.specs.Prelude.{◌≡◌, ◌<◌, ◌≤◌, length, None, Ok, IfErr, IfOk, OnOk, false};
+ghost use Rattle.mesa_engine.specs.Failing.{is_of_device};
+ghost use Rattle.mesa_history.specs.Machine.{claim_of};
+ghost use Rattle.mesa_lease.specs.Book.{holder};
+ghost use Rattle.mesa_ledger.specs.Ledger.{books_of};
+ghost use Rattle.mesa_log.specs.Failure.{cause_in};
+ghost use Rattle.mesa_skeleton.specs.Rows.{no_rows};
+ghost use Rattle.mesa_walk.specs.Works.{HasNoClaim};
+ghost use Rattle.mesa_works.specs.Claims.{claim_as};
+
+use mesa_lease::TABLES;
+use mesa_log::Failure;
+use mesa_metadata::Metadata;
+use mesa_model::Refusal;
+use mesa_rules::table_number;
+use mesa_span::{Work, next_work};
+
+/// The table of a work, and the range that it makes.
+#[derive(Clone, Copy)]
+pub struct Claimed {
+    pub table: u16,
+    pub work: Work,
+}
+
+// What a work on the table of a name is granted at a position, or why it isn't.
+pub(crate) fn claim(metadata: &Metadata, name: &[u8], position: u64) -> Result<Claimed, Failure>
+    requires { length metadata.now.ledger.catalogue.tables ≤ TABLES }
+    ensures claimed { IfOk result (λ x. claim_of (books_of no_rows metadata.now.ledger).bare (books_of no_rows metadata.now.ledger).machine position name.now ≡ Ok (claim_as metadata.now.ledger x)) }
+    ensures there { IfOk result (λ x. x.table < length metadata.now.ledger.catalogue.tables) }
+    ensures free { IfOk result (λ x. holder metadata.now.ledger.leases x.table position ≡ None) }
+    ensures opened { OnOk result (metadata.now.ledger.closed ≡ None) }
+    ensures refused { IfErr result (λ f. HasNoClaim (books_of no_rows metadata.now.ledger) position name.now (cause_in f)) }
+    ensures quiet { IfErr result (λ f. is_of_device (cause_in f) ≡ false) }
+{
+    if let Some(position) = metadata.closed() {
+        return Err(Failure::Refused(Refusal::Closed { position }));
+    }
+    let catalog = metadata.catalog();
+    let Some(table) = table_number(catalog, name) else {
+        return Err(Failure::Refused(Refusal::NoTable { row: None }));
+    };
+    if let Some(lease) = metadata.holder(table, position) {
+        return Err(Failure::Busy { lease });
+    }
+    let Ok(ranges) = catalog.ranges(table) else {
+        return Err(Failure::Memory);
+    };
+    match next_work(&ranges, catalog.oldest(), catalog.newest()) {
+        Some(work) => Ok(Claimed { table, work }),
+        None => Err(Failure::Idle),
+    }
+}

@@ -1,0 +1,121 @@
+// A work's grant.
+ghost use Rattle.std.specs.Prelude.{◌≡◌, ◌+◌, ◌<◌, ◌≤◌, ◌^◌, ℕ, List, true, length, None, Ok, IfOk, OnOk, Option};
+ghost use Rattle.mesa_disk.specs.Image.{Image};
+ghost use Rattle.mesa_gather.specs.Gathered.{IsGathered};
+ghost use Rattle.mesa_history.specs.Machine.{claim_of};
+ghost use Rattle.mesa_history.specs.Run.{First, Granted};
+ghost use Rattle.mesa_history.specs.Turns.{IsDue};
+ghost use Rattle.mesa_image.specs.Catalog.{stock_at};
+ghost use Rattle.mesa_lease.specs.Book.{granted, holder};
+ghost use Rattle.mesa_ledger.specs.Ledger.{books_of};
+ghost use Rattle.mesa_log.specs.Failure.{cause_in};
+ghost use Rattle.mesa_metadata.specs.Memory.{with_leases};
+ghost use Rattle.mesa_model.specs.declared.commands.Command.TheVariants as command;
+ghost use Rattle.mesa_model.specs.declared.entries.Kind.TheVariants as kind;
+ghost use Rattle.mesa_skeleton.specs.Rows.{no_rows};
+ghost use Rattle.mesa_tasks.specs.Tasks.{IsTask};
+ghost use Rattle.mesa_walk.specs.Turns.{Takes};
+ghost use Rattle.mesa_walk.specs.Walk.{run_at};
+ghost use Rattle.mesa_works.specs.Claims.{cause_met, claim_as, claim_in, stage_if};
+
+use crate::claiming::{Claimed, claim};
+use mesa_disk::{Disk, Made};
+use mesa_engine::Engine;
+use mesa_gather::gather;
+use mesa_io::Sink;
+use mesa_lease::TABLES;
+use mesa_ledger::Naming;
+use mesa_log::{Failure, Who};
+use mesa_metadata::Metadata;
+use mesa_model::{Kind, Outcome, Refusal, Reply};
+use mesa_tasks::{Task, Unopened};
+
+/// The first turn of a work: its table has a lease from it on, and the files of its range are open; unless the vault has closed, there is no such table, another work has the table, there is nothing to merge, or a file couldn't be opened.
+pub fn grant<N: Naming, M: Made, D: Disk<M>, K: Sink>(
+    engine: &mut Engine<N, M, D, K>,
+    who: Who,
+    name: &[u8],
+) -> Result<Task<D::Reader>, Reply>
+    requires due { IsDue N.script (run_at N.script (N.start no_rows) engine.old.shown.history) who.session who.command (command.Work name.now) First }
+    requires room { length engine.old.shown.history < N.room }
+    ensures turn { Takes N.script (N.start no_rows) engine.old.shown engine.new.shown who.session who.command kind.Grant (stage_if claim_in Granted result) }
+    ensures ran { OnOk result (engine.old.shown.running ≡ true) }
+    ensures catalogue { engine.new.ledger.catalogue ≡ engine.old.ledger.catalogue }
+    ensures there { IfOk result (λ t. t.table < length engine.old.ledger.catalogue.tables) }
+    ensures task { IfOk result (λ t. IsTask D.Reader.bytes (stock_at engine.old.ledger.catalogue t.table).lineage t) }
+    ensures files { IfOk result (λ t. (told : Option Image) × IsGathered D.Reader.bytes D.Reader.faults told (stock_at engine.old.ledger.catalogue t.table) t.work t) }
+{
+    if !engine.running() {
+        engine.skip(who, Kind::Grant);
+        return Err(Reply::Refused(Refusal::Memory));
+    }
+    let at = engine.log.position();
+    match claim(&engine.metadata, name, at) {
+        Ok(claimed) => take(engine, who, claimed),
+        Err(failure) => Err(engine.fail(who, Kind::Grant, failure)),
+    }
+}
+
+// The turn of a work whose claim can be granted: the files of its range are opened, and its table has a lease.
+fn take<N: Naming, M: Made, D: Disk<M>, K: Sink>(
+    engine: &mut Engine<N, M, D, K>,
+    who: Who,
+    claimed: Claimed,
+) -> Result<Task<D::Reader>, Reply>
+    requires due { (name : List ℕ) × IsDue N.script (run_at N.script (N.start no_rows) engine.old.shown.history) who.session who.command (command.Work name) First × (claim_of (books_of no_rows engine.old.ledger).bare (books_of no_rows engine.old.ledger).machine (length engine.old.shown.history) name ≡ Ok (claim_as engine.old.ledger claimed)) }
+    requires there { claimed.table < length engine.old.ledger.catalogue.tables }
+    requires free { holder engine.old.ledger.leases claimed.table (length engine.old.shown.history) ≡ None }
+    requires opened { engine.old.ledger.closed ≡ None }
+    requires runs { engine.old.shown.running ≡ true }
+    requires room { length engine.old.shown.history < N.room }
+    ensures turn { Takes N.script (N.start no_rows) engine.old.shown engine.new.shown who.session who.command kind.Grant (stage_if claim_in Granted result) }
+    ensures catalogue { engine.new.ledger.catalogue ≡ engine.old.ledger.catalogue }
+    ensures table { IfOk result (λ t. t.table ≡ claimed.table) }
+    ensures task { IfOk result (λ t. IsTask D.Reader.bytes (stock_at engine.old.ledger.catalogue claimed.table).lineage t) }
+    ensures files { IfOk result (λ t. (told : Option Image) × IsGathered D.Reader.bytes D.Reader.faults told (stock_at engine.old.ledger.catalogue claimed.table) t.work t) }
+{
+    let alloc = *engine.log.history.allocator();
+    let table = engine.metadata.catalog().table(claimed.table);
+    let gathered = gather(alloc, &mut engine.disk, table, claimed.table, claimed.work);
+    let moment = engine.disk.clock();
+    match gathered {
+        Ok(mut task) => {
+            let at = engine.log.position();
+            task.lease = lease(&mut engine.metadata, claimed.table, who.session, at);
+            let turn = who.turn(Kind::Grant, Outcome::Stands, moment);
+            engine.log.pass(turn);
+            Ok(task)
+        }
+        Err(unopened) => {
+            let reply = engine
+                .log
+                .fail(who, Kind::Grant, moment, failure_of(unopened));
+            Err(reply)
+        }
+    }
+}
+
+// Grants a lease on a table that has none.
+fn lease(metadata: &mut Metadata, table: u16, worker: u16, position: u64) -> u64
+    requires table { table < TABLES }
+    requires position { position < 2 ^ 60 }
+    requires rising { metadata.old.leased ≤ position }
+    requires free { holder metadata.old.ledger.leases table position ≡ None }
+    ensures number { result ≡ metadata.old.ledger.leases.granted + 1 }
+    ensures granted { metadata.new ≡ with_leases (granted table position metadata.old.ledger.leases) (position + 1) metadata.old }
+{
+    match metadata.grant(table, worker, position) {
+        Ok(lease) => lease,
+        Err(_) => unreachable!(),
+    }
+}
+
+// Why a work isn't granted whose files weren't opened.
+fn failure_of(unopened: Unopened) -> Failure
+    ensures { cause_in result ≡ cause_met unopened }
+{
+    match unopened {
+        Unopened::Fault => Failure::Unread,
+        Unopened::Memory => Failure::Memory,
+    }
+}
