@@ -1,6 +1,7 @@
 // A query's last turn.
 ghost use Rattle.std.specs.Prelude.{◌≡◌, ◌<◌, ◌≤◌, ◌||◌, ◌++◌, ◌∷◌, [], true, not, is_some, length, vec_capacity, vec_len};
 ghost use Rattle.mesa_asking.specs.Closing.{IsPageOf, IsToClose, SomeFailed, cause_if, cause_of, closing_entry, closing_text};
+ghost use Rattle.mesa_asking.specs.Damages.{HasDiffered};
 ghost use Rattle.mesa_fault.specs.Causes.{last};
 ghost use Rattle.mesa_history.specs.Run.{Finished};
 ghost use Rattle.mesa_ledger.specs.Turned.{answered_ledger};
@@ -12,10 +13,11 @@ ghost use Rattle.mesa_model.specs.declared.entries.Kind.TheVariants as kind;
 ghost use Rattle.mesa_skeleton.specs.Rows.{Rows, no_rows};
 ghost use Rattle.mesa_tasks.specs.GivingBack.{pinned_inputs};
 ghost use Rattle.mesa_walk.specs.Printing.{IsPut};
-ghost use Rattle.mesa_walk.specs.Queries.{MayClose, closing_fault};
+ghost use Rattle.mesa_walk.specs.Queries.{closing_fault};
 ghost use Rattle.mesa_walk.specs.Turns.{Takes};
 ghost use Rattle.mesa_walk.specs.Walk.{run_at};
 
+use crate::damages::may_be_told;
 use crate::give_back;
 use mesa_delta::FileError;
 use mesa_disk::{Disk, Made};
@@ -79,7 +81,7 @@ pub fn close_query<N: Naming, M: Made, D: Disk<M>, K: Sink>(
 )
     // On a sound store, while the clock is below its last value, the page is that of the answer, whatever rows the files had when the run began.
     requires due { (w : Rows) → IsToClose N.script (run_at N.script (N.start w) engine.old.shown.history) who.session who.command pinned.at (λ answer. N.sound w → engine.old.shown.clock < last → IsPageOf answered pinned.version answer) }
-    requires may { MayClose (cause_if answered) }
+    requires damaged { HasDiffered answered }
     requires read { closing_fault (cause_if answered) ≡ true → SomeFailed D.Reader.faults (pinned_inputs pinned) }
     requires room { length engine.old.shown.history < N.room }
     ensures turn { Takes N.script (N.start no_rows) engine.old.shown engine.new.shown who.session who.command kind.Close Finished }
@@ -92,6 +94,7 @@ pub fn close_query<N: Naming, M: Made, D: Disk<M>, K: Sink>(
         give_back(engine, pinned);
         return;
     }
+    may_be_told(&answered);
     let at = pinned.at;
     let version = pinned.version;
     retire_pinned(&mut engine.disk, pinned);

@@ -2,9 +2,11 @@
 #![tactic(auto)]
 
 mod closing;
+mod damages;
 mod giving_back;
 mod seeing;
 
 pub use closing::close_query;
+pub use damages::can_be_told;
 pub use giving_back::give_back;
 pub use seeing::{Seen, seen_by};
