@@ -57,16 +57,27 @@ fn measure(alloc: Global, word: &str, number: u32) -> Result<usize> {
     }
 }
 
-fn main(rt: HostRuntime) -> Result<()> {
-    let words: Vec<String> = env::args(&rt)?.skip(1).collect(rt.alloc())?;
-    let mut left = words.as_slice();
+// One measurement by its two words, and a line on it.
+fn tell(rt: &HostRuntime, word: &str, number: &str) -> Result<()> {
+    let number = number.parse::<u32>()?;
+    let found = measure(rt.alloc(), word, number)?;
+    println!(rt; "{word} {number} found={found}")?;
+    Ok(())
+}
+
+fn tell_all(rt: &HostRuntime, words: &[String]) -> Result<()> {
+    let mut left = words;
     while let [word, number, rest @ ..] = left {
-        let found = measure(rt.alloc(), word.as_str(), number.parse::<u32>()?)?;
-        println!(rt; "{word} {number} found={found}")?;
+        tell(rt, word.as_str(), number.as_str())?;
         left = rest;
     }
     if !left.is_empty() {
         bail!("each word has a number behind it");
     }
     Ok(())
+}
+
+fn main(rt: HostRuntime) -> Result<()> {
+    let words: Vec<String> = env::args(&rt)?.skip(1).collect(rt.alloc())?;
+    tell_all(&rt, &words)
 }

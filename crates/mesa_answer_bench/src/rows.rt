@@ -1,5 +1,7 @@
 // The rows that are measured, and the query.
-ghost use Rattle.std.specs.Prelude.{◌≡◌, ◌<◌, ◌≤◌, ◌^◌, ℕ, List, IfOk};
+ghost use Rattle.std.specs.Prelude.{◌≡◌, ◌<◌, ◌≤◌, ◌^◌, ℕ, List, [], ◌∷◌, IfOk, map};
+ghost use Rattle.mesa_schema.specs.declared.columns.KeyColumn.{KeyColumn as Key};
+ghost use Rattle.mesa_schema.specs.declared.columns.ValueColumn.{ValueColumn as Value};
 ghost use Rattle.mesa_schema.specs.declared.rows.Row.{Row as AnyRow};
 ghost use Rattle.mesa_schema.specs.Columns.{Columns};
 ghost use Rattle.mesa_schema.specs.Rows.{AreRowsOf, IsRowOf};
@@ -25,50 +27,67 @@ pub fn name(alloc: Global, text: &str) -> Result<Name> {
 pub fn key_column(alloc: Global, text: &str) -> Result<KeyColumn>
     ensures { IfOk result (λ c. c.kind ≡ KeyType.Int) }
 {
-    Ok(KeyColumn {
-        name: name(alloc, text)?,
-        kind: KeyType::Int,
-    })
+    let name = name(alloc, text)?;
+    let kind = KeyType::Int;
+    Ok(KeyColumn { name, kind })
 }
 
 pub fn value_column(alloc: Global, text: &str, agg: Agg) -> Result<ValueColumn>
     ensures { IfOk result (λ c. c.agg ≡ agg) }
 {
-    Ok(ValueColumn {
-        name: name(alloc, text)?,
-        agg,
-    })
+    let name = name(alloc, text)?;
+    Ok(ValueColumn { name, agg })
+}
+
+// A day and an item.
+fn keys(alloc: Global) -> Result<Vec<KeyColumn>>
+    ensures { IfOk result (λ keys. map (λ (c : Key). c.kind) keys.items ≡ KeyType.Int ∷ KeyType.Int ∷ []) }
+{
+    let day = key_column(alloc, "day")?;
+    let item = key_column(alloc, "item")?;
+    Ok(vec![in alloc; day, item]?)
+}
+
+// How many, and a peak.
+fn values(alloc: Global) -> Result<Vec<ValueColumn>>
+    ensures { IfOk result (λ values. map (λ (c : Value). c.agg) values.items ≡ Agg.Sum ∷ Agg.Max ∷ []) }
+{
+    let count = value_column(alloc, "count", Agg::Sum)?;
+    let peak = value_column(alloc, "peak", Agg::Max)?;
+    Ok(vec![in alloc; count, peak]?)
 }
 
 /// A day and an item; how many, and a peak.
 pub fn schema(alloc: Global) -> Result<Schema>
     ensures { IfOk result HasColumns }
 {
-    let day = key_column(alloc, "day")?;
-    let item = key_column(alloc, "item")?;
-    let count = value_column(alloc, "count", Agg::Sum)?;
-    let peak = value_column(alloc, "peak", Agg::Max)?;
-    let keys = vec![in alloc; day, item]?;
-    let values = vec![in alloc; count, peak]?;
+    let keys = keys(alloc)?;
+    let values = values(alloc)?;
     match Schema::build(keys, values) {
         Ok(schema) => Ok(schema),
         Err(_) => Err(anyhow!("no schema")),
     }
 }
 
+fn words(alloc: Global) -> Result<QueryWords, AllocError> {
+    let relation = Items::from_bytes(alloc, b"t")?;
+    let group = Items::from_bytes(alloc, b"item")?;
+    Ok(QueryWords {
+        relation,
+        version: VersionWord::Latest,
+        filter: Items::new(alloc),
+        group,
+        values: Items::new(alloc),
+        limit: GROUPS,
+        resume: Items::new(alloc),
+    })
+}
+
 /// A query that groups by the item.
 pub fn query(alloc: Global, schema: &Schema) -> Result<Query>
     ensures { IfOk result (IsQueryOf schema.now) }
 {
-    let words = QueryWords {
-        relation: Items::from_bytes(alloc, b"t")?,
-        version: VersionWord::Latest,
-        filter: Items::new(alloc),
-        group: Items::from_bytes(alloc, b"item")?,
-        values: Items::new(alloc),
-        limit: GROUPS,
-        resume: Items::new(alloc),
-    };
+    let words = words(alloc)?;
     let relation = name(alloc, "t")?;
     match Query::build(alloc, schema, &relation, 1, 0, &words) {
         Ok(query) => Ok(query),

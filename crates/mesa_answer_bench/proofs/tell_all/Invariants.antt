@@ -1,5 +1,5 @@
 use Rattle.std.proofs.Common.{length}
-use Rattle.mesa_answer_bench.proofs.main.Given as goal
+use Rattle.mesa_answer_bench.proofs.tell_all.Given as goal
 
 abbrev pub decreases-loop-left : goal.decreases-loop-left
 decreases-loop-left l = length l.left
