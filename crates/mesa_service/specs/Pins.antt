@@ -68,28 +68,24 @@ TakesQuery bytes script from tells old new session number (Err r) = Takes script
 
 -- ---- the answer
 
--- A page is that of a query over its files' rows, where these are told and the files' indexes are true of them.
-abbrev pub IsPageOf : {R : Type 0} → (R → Option (List ℕ)) → Pinned R → Page → Type 0
-IsPageOf bytes p page = (s : Columns) → IsPinned bytes s p → (contents : List (List Row)) → AreTold (knowns_of bytes (inputs_in p.inputs.items)) contents
-    → page ≡ page_over s p.query (parts_pinned p.view p.inputs.items contents)
+-- A page is that of a query of a relation with these columns, over its files' rows, where these are told and the files' indexes are true of them.
+abbrev pub IsPageOf : {R : Type 0} → (R → Option (List ℕ)) → Columns → Pinned R → Page → Type 0
+IsPageOf bytes s p page = (contents : List (List Row)) → AreTold (knowns_of bytes (inputs_in p.inputs.items)) contents → page ≡ page_over s p.query (parts_pinned p.view p.inputs.items contents)
 
 -- how a query's rows are printed
 abbrev pub heading_in : BuiltQuery → Heading
 heading_in q = record { kinds = group_kinds q; prefix = q.prefix }
 
--- A query's files are told, their indexes are true of them, and no sum over their rows leaves its type.
-pub record AreWhole {R : Type 0} (bytes : R → Option (List ℕ)) (p : Pinned R) : Type 0 where
-  pub columns : Columns
-  pub pinned : IsPinned bytes columns p
-  pub contents : List (List Row)
-  pub told : AreTold (knowns_of bytes (inputs_in p.inputs.items)) contents
-  pub sums : KeepsSums columns (rows_of (parts_ungrouped p.view p.inputs.items contents))
+-- Which damage a query's files may bring: what was found isn't what was wanted, and it never comes where all files are told and their indexes true of them, and no sum over their rows leaves its type.
+pub record IsAnswerDamage {R : Type 0} (bytes : R → Option (List ℕ)) (s : Columns) (p : Pinned R) (d : Damage) : Type 0 where
+  pub differs : Differs d
+  pub never : (contents : List (List Row)) → AreTold (knowns_of bytes (inputs_in p.inputs.items)) contents → KeepsSums s (rows_of (parts_ungrouped p.view p.inputs.items contents)) → ⊥
 
--- which damage a query's files may bring: such as differs from what was wanted, and only where they aren't whole
-abbrev pub IsAnswerDamage : {R : Type 0} → (R → Option (List ℕ)) → Pinned R → Damage → Type 0
-IsAnswerDamage bytes p d = Differs d × (AreWhole bytes p → ⊥)
+-- A query's page as it is printed, or why there is none.
+abbrev pub IsAnswer : {R : Type 0} → (R → Option (List ℕ)) → (R → ℕ) → Columns → Pinned R → Result Rendered FileError → Type 0
+IsAnswer bytes faults s p (Ok text) = (page : Page) × IsPageOf bytes s p page × (text ≡ rendered (heading_in p.query) page)
+IsAnswer bytes faults s p (Err e) = IsUnread faults (pinned_inputs p) (IsAnswerDamage bytes s p) e
 
--- What a query is closed with: its page as it is printed, or why there is none.
+-- What a query is closed with: its files, which can be read still, and what came of reading them.
 abbrev pub HasAnswered : {R : Type 0} → (R → Option (List ℕ)) → (R → ℕ) → Pinned R → Result Rendered FileError → Type 0
-HasAnswered bytes faults p (Ok text) = (page : Page) × IsPageOf bytes p page × (text ≡ rendered (heading_in p.query) page)
-HasAnswered bytes faults p (Err e) = IsUnread faults (pinned_inputs p) (IsAnswerDamage bytes p) e
+HasAnswered bytes faults p answer = (s : Columns) × IsPinned bytes s p × IsAnswer bytes faults s p answer

@@ -63,7 +63,11 @@ abbrev pub IsUnmerged : {R : Type 0} → (R → ℕ) → Task R → CompactError
 IsUnmerged faults t compact.Draft = ⊤
 IsUnmerged faults t (compact.File e) = IsUnread faults (task_inputs t) Differs e
 
--- What a work is closed with: the delta to which its files merge, or why there is none.
+-- A task's delta, or why there is none.
+abbrev pub IsDeltaOf : {M R : Type 0} → (M → Option (List ℕ)) → (M → ℕ) → (R → Option (List ℕ)) → (R → ℕ) → Lineage → Task R → Result (NewDelta M) CompactError → Type 0
+IsDeltaOf bytes id_of read faults l t (Ok delta) = IsMerged bytes id_of read l t delta
+IsDeltaOf bytes id_of read faults l t (Err e) = IsUnmerged faults t e
+
+-- What a work is closed with: its files, which can be read still, and what came of merging them.
 abbrev pub HasMerged : {M R : Type 0} → (M → Option (List ℕ)) → (M → ℕ) → (R → Option (List ℕ)) → (R → ℕ) → Task R → Result (NewDelta M) CompactError → Type 0
-HasMerged bytes id_of read faults t (Ok delta) = (l : Lineage) → IsTask read l t → IsMerged bytes id_of read l t delta
-HasMerged bytes id_of read faults t (Err e) = IsUnmerged faults t e
+HasMerged bytes id_of read faults t merged = (l : Lineage) × IsTask read l t × IsDeltaOf bytes id_of read faults l t merged
