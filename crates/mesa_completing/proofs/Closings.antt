@@ -1,0 +1,150 @@
+-- How the close of a work whose merge failed keeps a vault.
+use Rattle.std.proofs.Common.{◌≡◌, inl, inr, ℕ, ◌+◌, ◌-◌, ◌<◌, ◌^◌, ◌≤◌, List, [], ◌∷◌, ◌++◌, length, Bool, true, false, ◌||◌, not, refl, sym, ◌∙◌, ap, subst, arith, Option, None, Some}
+use Rattle.std.specs.Prelude.{◌==◌, is_some, min, nat_le, vec_capacity}
+use Rattle.std.specs.List.{AllByRecursion}
+use Rattle.std.proofs.lemmas.Bool.Decides.{nat_tests}
+use Rattle.mesa_fault.specs.Causes.{last, Rose}
+use Rattle.mesa_cursor.specs.Cursors.{reader_in}
+use Rattle.mesa_delta.specs.declared.error.FileError.TheVariants as file_error
+use Rattle.mesa_delta.specs.declared.input.Input.{Input}
+use Rattle.mesa_disk.specs.Story.{Story, Unmoved}
+use Rattle.mesa_history.specs.Machine.{Claim}
+use Rattle.mesa_history.specs.Refused.{is_refusal}
+use Rattle.mesa_history.specs.Replay.{closes}
+use Rattle.mesa_history.specs.Run.{Granted, Finished}
+use Rattle.mesa_history.specs.Turns.{IsDue}
+use Rattle.mesa_lease.specs.Book.{ended}
+use Rattle.mesa_model.specs.declared.commands.Command.TheVariants as command
+use Rattle.mesa_model.specs.declared.entries.Entry.{Entry}
+use Rattle.mesa_model.specs.declared.entries.Kind.TheVariants as kind
+use Rattle.mesa_model.specs.declared.entries.Outcome.TheVariants as outcome
+use Rattle.mesa_output.specs.Output.{block}
+use Rattle.mesa_skeleton.specs.Rows.{Rows}
+use Rattle.mesa_walk.specs.Causes.{Cause, Unwritten, is_read_fault, outcome_of, reply_of, told_at}
+use Rattle.mesa_walk.specs.Printing.{IsPut}
+use Rattle.mesa_walk.specs.Turns.{Shown, IsSeen, Takes, entry}
+use Rattle.mesa_walk.specs.Walk.{Outset, Counts, IsAtClock, run_at, run_of}
+use Rattle.mesa_walk.proofs.Clock.{begun_moment}
+use Rattle.mesa_walk.proofs.Going.{unmerged_takes}
+use Rattle.mesa_walk.proofs.Working.{shut_turn, unmerged_turn}
+use Rattle.mesa_ledger.specs.Ledger.{Ledger, books_of}
+use Rattle.mesa_ledger.specs.Vault.{Origin, Starts, IsVault, outset_of}
+use Rattle.mesa_ledger.proofs.Staying.{closed_vault, leased_vault, still_vault}
+use Rattle.mesa_ledger.proofs.Swapping.{ended_granted}
+use Rattle.mesa_log.specs.declared.log.Log.{Log}
+use Rattle.mesa_log.specs.Printing.{PrintsBlock}
+use Rattle.mesa_metadata.specs.Memory.{Memory, with_ledger}
+use Rattle.mesa_tasks.specs.GivingBack.{GivesBack}
+use Rattle.mesa_tasks.specs.declared.merging.CompactError.{CompactError}
+use Rattle.mesa_tasks.specs.declared.merging.CompactError.TheVariants as compact
+use Rattle.mesa_engine.specs.Engine.{IsEngine}
+use Rattle.mesa_engine.proofs.Turning.{told_engine}
+use Rattle.mesa_engine.proofs.Undone.{not_skipped}
+use Rattle.mesa_completing.specs.Unmerged.{SomeFailed, TellsDamage, cause_of, closing_cause, closing_ledger, unmerged_ledger}
+
+-- ---- counts
+
+-- a reader that has failed is counted
+some_counted : {R : Type 0} (faults : R → ℕ) (old new : ℕ) (inputs : List (Input R)) → AllByRecursion (λ (i : Input R). 0 < faults (reader_in i) → Rose old new) inputs → SomeFailed faults inputs → Rose old new
+some_counted faults old new [] all failed = absurd failed
+some_counted faults old new (i ∷ inputs) all failed = elim failed [ inl one ↦ all.0 one | inr more ↦ some_counted faults old new inputs all.1 more ]
+
+-- What giving back does to the counts: one rose where a fault is answered, since a reader has failed then.
+given_counts : {R : Type 0} (faults : R → ℕ) (inputs : List (Input R)) (old new : Story) (answers : Bool) → GivesBack faults inputs old new → (answers ≡ true → SomeFailed faults inputs) → Counts old new answers
+given_counts faults inputs old new answers given failed = record {
+  faults = omega (arith, given.calls);
+  reads = given.later;
+  rose = λ low is. inr (some_counted faults old.read_faults new.read_faults inputs given.counted (failed is));
+}
+
+-- ---- the clock
+
+at_last : (b m : ℕ) → b ≡ m → m < 2 ^ 64 → nat_le (min (b + 1) (2 ^ 64 - 1)) m ≡ (m == last)
+at_last b m same low = grind (arith, nat_tests)
+
+-- a fault of a draft closes where the clock stands at its last value
+closes_last : (before : Option ℕ) (clock s n m : ℕ) → IsAtClock before clock → is_some before ≡ true → m ≡ clock → m < 2 ^ 64 → closes before (entry s n kind.Close outcome.WriteFault m) ≡ (m == last)
+closes_last None clock s n m at there is low = absurd cc
+closes_last (Some b) clock s n m at there is low = at_last b m (at ∙ sym is) low
+
+-- ---- the vault behind it
+
+module _ (o : Outset) (g : Origin) (sound : Bool) (l : Ledger) (story : Story) (held : Option (List ℕ)) (h : List Entry) (running refused : Bool) (v : IsVault o g sound l story held h running refused)
+    (s number : ℕ) (low : s < 2 ^ 16) (few : number < 2 ^ 32) (name : List ℕ) (m : ℕ) (moment : m ≡ story.moment) (fits : m < 2 ^ 64) (ran : running ≡ true) (at : ℕ) (place : at ≡ length h) (claim : Claim) (due : IsDue o.script (run_of o h) s number (command.Work name) (Granted claim))
+    (new : Story) (unmoved : Unmoved story new) (now : Bool) (new_held : Option (List ℕ)) where
+  abbrev turn_with : Cause → Entry
+  turn_with cause = entry s number kind.Close (outcome_of cause) m
+
+  abbrev Put : Cause → Type 0
+  Put cause = IsPut (block (turn_with cause) (Some (told_at at (reply_of cause)))) now held new_held
+
+  -- the vault, with a ledger that comes behind a cause
+  abbrev Behind : Cause → Ledger → Type 0
+  Behind cause after = IsVault o g sound after new new_held (h ++ turn_with cause ∷ []) now (refused || is_refusal (reply_of cause))
+
+  few_granted : (ended claim.table claim.lease l.leases).granted ≤ l.leases.granted + 1
+  few_granted = subst (λ q. q ≤ l.leases.granted + 1) (sym (ended_granted claim.table claim.lease l.leases)) (omega arith)
+
+  no_more_granted : (ended claim.table claim.lease l.leases).granted ≤ l.leases.granted
+  no_more_granted = subst (λ q. q ≤ l.leases.granted) (sym (ended_granted claim.table claim.lease l.leases)) (omega arith)
+
+  closes_is : closes (run_of o h).moment (entry s number kind.Close outcome.WriteFault m) ≡ (m == last)
+  closes_is = closes_last (run_of o h).moment story.moment s number m v.walk.at (begun_moment o.script o.start h s number (command.Work name) (Granted claim) due (λ first. absurd cc)) moment fits
+
+  drafted : (b : Bool) → closes (run_of o h).moment (entry s number kind.Close outcome.WriteFault m) ≡ b → l.closed ≡ None → Counts story new false → Put Unwritten → Behind Unwritten (unmerged_ledger compact.Draft b at claim.table claim.lease l)
+  drafted true is opened counts put =
+      closed_vault o g sound l story held h running refused v (turn_with Unwritten) new new_held now (refused || true) unmoved (ended claim.table claim.lease l.leases) at no_more_granted
+      (unmerged_turn o sound (books_of v.rows l) story held h running refused v.walk s number low few name m ran at place moment new unmoved claim due Unwritten true is opened counts now new_held put)
+  drafted false is opened counts put =
+      leased_vault o g sound l story held h running refused v (turn_with Unwritten) new new_held now (refused || true) unmoved (ended claim.table claim.lease l.leases) few_granted
+      (unmerged_turn o sound (books_of v.rows l) story held h running refused v.walk s number low few name m ran at place moment new unmoved claim due Unwritten false is opened counts now new_held put)
+
+  -- the merge failed
+  unmerged_vault : (error : CompactError) → l.closed ≡ None → TellsDamage (cause_of error) → Counts story new (is_read_fault (cause_of error)) → Put (cause_of error) → Behind (cause_of error) (unmerged_ledger error (m == last) at claim.table claim.lease l)
+  unmerged_vault compact.Draft opened tells counts put = drafted (m == last) closes_is opened counts put
+  unmerged_vault (compact.File file_error.Read) opened tells counts put =
+      leased_vault o g sound l story held h running refused v (turn_with (cause_of (compact.File file_error.Read))) new new_held now (refused || true) unmoved (ended claim.table claim.lease l.leases) few_granted
+      (unmerged_turn o sound (books_of v.rows l) story held h running refused v.walk s number low few name m ran at place moment new unmoved claim due (cause_of (compact.File file_error.Read)) (m == last) closes_is opened counts now new_held put)
+  unmerged_vault (compact.File (file_error.Damaged damage)) opened tells counts put =
+      leased_vault o g sound l story held h running refused v (turn_with (cause_of (compact.File (file_error.Damaged damage)))) new new_held now (refused || true) unmoved (ended claim.table claim.lease l.leases) few_granted
+      (unmerged_turn o sound (books_of v.rows l) story held h running refused v.walk s number low few name m ran at place moment new unmoved claim due (cause_of (compact.File (file_error.Damaged damage))) (m == last) closes_is (opened, tells) counts now new_held put)
+  unmerged_vault (compact.File file_error.Memory) opened tells counts put =
+      leased_vault o g sound l story held h running refused v (turn_with (cause_of (compact.File file_error.Memory))) new new_held now (refused || true) unmoved (ended claim.table claim.lease l.leases) few_granted
+      (unmerged_turn o sound (books_of v.rows l) story held h running refused v.walk s number low few name m ran at place moment new unmoved claim due (cause_of (compact.File file_error.Memory)) (m == last) closes_is opened counts now new_held put)
+
+  -- it failed, or the vault has closed
+  pub given_up_vault : (closed : Option ℕ) → l.closed ≡ closed → (error : CompactError) → TellsDamage (cause_of error) → Counts story new (is_read_fault (cause_of error)) → Counts story new false → Put (closing_cause closed error)
+      → Behind (closing_cause closed error) (closing_ledger closed error (m == last) at claim.table claim.lease l)
+  given_up_vault None is error tells counts quiet put = unmerged_vault error is tells counts put
+  given_up_vault (Some p) is error tells counts quiet put =
+      still_vault o g sound l story held h running refused v (turn_with (closing_cause (Some p) error)) new new_held now (refused || true) unmoved
+      (shut_turn o sound (books_of v.rows l) story held h running refused v.walk s number low few name m ran at place moment new unmoved claim due p is quiet now new_held put)
+
+-- ---- the engine behind it
+
+module _ {K R : Type 0} (held : K → Option (List ℕ)) (faults : K → ℕ) (n : Starts) (turns sinks : ℕ) (m after : Memory) (story new : Story) (log later : Log K) (v : IsEngine held faults n turns sinks m story log)
+    (s number : ℕ) (low : s < 2 ^ 16) (few : number < 2 ^ 32) (name : List ℕ) (mo : ℕ) (moment : mo ≡ story.moment) (fits : mo < 2 ^ 64) (ran : not log.printer.broken ≡ true) (at : ℕ) (place : at ≡ length log.history.items) (claim : Claim)
+    (due : (w : Rows) → IsDue n.script (run_at n.script (n.start w) log.history.items) s number (command.Work name) (Granted claim)) (unmoved : Unmoved story new)
+    (failures : R → ℕ) (inputs : List (Input R)) (given : GivesBack failures inputs story new) (error : CompactError) (read : is_read_fault (cause_of error) ≡ true → SomeFailed failures inputs) (tells : TellsDamage (cause_of error))
+    (cause : Cause) (cause_is : cause ≡ closing_cause m.ledger.closed error)
+    (grew : later.history.items ≡ log.history.items ++ entry s number kind.Close (outcome_of cause) mo ∷ []) (roomy : vec_capacity log.history ≤ vec_capacity later.history)
+    (is : after ≡ with_ledger (closing_ledger m.ledger.closed error (mo == last) at claim.table claim.lease m.ledger) m) where
+  abbrev e : Entry
+  e = entry s number kind.Close (outcome_of cause) mo
+
+  pub given_up_engine : PrintsBlock held faults log.printer later.printer (entry s number kind.Close (outcome_of cause) mo) (told_at at (reply_of cause)) → later.refused ≡ (log.refused || is_refusal (reply_of cause)) → IsEngine held faults n turns sinks after new later
+  given_up_engine prints refused =
+      told_engine held faults n turns sinks m after story new log later e v grew roomy (moment ∙ sym unmoved.moment) (omega (arith, unmoved.moment)) (let same = ap (λ (x : Memory). x.leased) is in omega (arith, same, v.leased)) (told_at at (reply_of cause)) (is_refusal (reply_of cause)) prints refused
+      (λ put w b ok.
+      subst (λ (x : Memory). IsVault (outset_of n w) (n.origin w) b x.ledger new (held later.printer.sink) (log.history.items ++ e ∷ []) (not later.printer.broken) (log.refused || is_refusal (reply_of cause))) (sym is)
+      (subst (λ (x : Cause). IsPut (block (entry s number kind.Close (outcome_of x) mo) (Some (told_at at (reply_of x)))) (not later.printer.broken) (held log.printer.sink) (held later.printer.sink)
+      → IsVault (outset_of n w) (n.origin w) b (closing_ledger m.ledger.closed error (mo == last) at claim.table claim.lease m.ledger) new (held later.printer.sink) (log.history.items ++ entry s number kind.Close (outcome_of x) mo ∷ []) (not later.printer.broken) (log.refused || is_refusal (reply_of x))) (sym cause_is)
+      (given_up_vault (outset_of n w) (n.origin w) b m.ledger story (held log.printer.sink) log.history.items (not log.printer.broken) log.refused (v.vault w b ok) s number low few name mo moment fits ran at place claim (due w) new unmoved (not later.printer.broken) (held later.printer.sink)
+      m.ledger.closed refl error tells (given_counts failures inputs story new (is_read_fault (cause_of error)) given read) (given_counts failures inputs story new false given (λ x. absurd cc))) put))
+
+-- ---- where it takes its session
+
+pub given_up_takes : (n : Starts) (w : Rows) (old new : Shown) (s number : ℕ) (name : List ℕ) (claim : Claim) → IsDue n.script (run_at n.script (n.start w) old.history) s number (command.Work name) (Granted claim) → (cause : Cause)
+    → new.history ≡ old.history ++ entry s number kind.Close (outcome_of cause) new.clock ∷ [] → old.running ≡ true → IsSeen n.script (n.start w) new → Takes n.script (n.start w) old new s number kind.Close Finished
+given_up_takes n w old new s number name claim due cause grew ran seen =
+    unmerged_takes n.script (n.start w) old new s number (command.Work name) claim due (record { outcome = outcome_of cause; grew = grew; skipped = not_skipped cause ∙ ap not (sym ran); still = λ on. ran }) seen

@@ -1,0 +1,101 @@
+use Rattle.std.proofs.Common.{◌≡◌, ◌∷◌, ◌++◌, [], length, Option, ℕ, true, not, refl, sym, ◌∙◌, ap, subst, arith}
+use Rattle.std.specs.Prelude.{◌==◌}
+use Rattle.mesa_fault.specs.Causes.{last}
+use Rattle.mesa_history.specs.Run.{Granted, Finished}
+use Rattle.mesa_history.specs.Turns.{IsDue}
+use Rattle.mesa_model.specs.declared.commands.Command.TheVariants as command
+use Rattle.mesa_model.specs.declared.entries.Kind.TheVariants as kind
+use Rattle.mesa_ledger.specs.Ledger.{Ledger}
+use Rattle.mesa_ledger.specs.Vault.{Starts}
+use Rattle.mesa_ledger.proofs.Beginning.{vault_at_seen}
+use Rattle.mesa_log.specs.Failure.{cause_in}
+use Rattle.mesa_log.specs.Printing.{PrintsBlock}
+use Rattle.mesa_metadata.specs.Memory.{Memory}
+use Rattle.mesa_skeleton.specs.Rows.{no_rows}
+use Rattle.mesa_tasks.specs.GivingBack.{task_inputs}
+use Rattle.mesa_walk.specs.Causes.{outcome_of, reply_of, told_at}
+use Rattle.mesa_walk.specs.Turns.{Shown, Takes, entry}
+use Rattle.mesa_walk.specs.Walk.{run_at}
+use Rattle.mesa_walk.proofs.Alike.{due_alike}
+use Rattle.mesa_engine.specs.Engine.{Standing, IsEngine, starts_of}
+use Rattle.mesa_works.specs.Claims.{claim_in}
+use Rattle.mesa_completing.specs.Unmerged.{closing_ledger}
+use Rattle.mesa_completing.proofs.Closings.{given_up_engine, given_up_takes}
+use Rattle.mesa_completing.proofs.unmerged.give_up.Goals as goal
+
+abbrev closed_of : Ledger → Option ℕ
+closed_of l = l.closed
+
+pub skip-requires-clause-due : goal.skip-requires-clause-due
+skip-requires-clause-due g c κs within w =
+    let N = g.N.Naming in
+    record {
+      asked = command.Work c.args.name.now;
+      stage = Granted (claim_in c.args.task);
+      due = due_alike N.script (N.start no_rows) (N.start w) c.args.engine.now.shown.history c.args.who.session c.args.who.command (command.Work c.args.name.now) (Granted (claim_in c.args.task)) (N.alike w) refl c.requires.due;
+      comes = refl;
+    }
+
+pub returns-then-not-running-clause-turn : goal.returns-then-not-running-clause-turn
+returns-then-not-running-clause-turn g c =
+    let N = g.N.Naming in
+    subst (λ (x : Standing). Takes N.script (N.start no_rows) c.args.engine.now.shown x.shown c.args.who.session c.args.who.command kind.Close Finished) (sym c.give_back.ensures) (c.skip.ensures.turn Finished)
+
+due_at : (g : _) (c : goal.After-fail g)
+    → IsDue g.N.Naming.script (run_at g.N.Naming.script (g.N.Naming.start no_rows) c.engine.inside.log.history.items) c.args.who.session c.args.who.command (command.Work c.args.name.now) (Granted (claim_in c.args.task))
+due_at g c =
+    subst (λ (x : Standing). IsDue g.N.Naming.script (run_at g.N.Naming.script (g.N.Naming.start no_rows) x.shown.history) c.args.who.session c.args.who.command (command.Work c.args.name.now) (Granted (claim_in c.args.task)))
+    (sym c.engine.view_is) c.requires.due
+
+runs : (g : _) (c : goal.After-fail g) → not c.engine.inside.log.printer.broken ≡ true
+runs g c = ap (λ (s : Standing). s.shown.running) c.engine.view_is ∙ sym c.running.ensures ∙ c.if-not-running.false
+
+kept : (g : _) (c : goal.After-fail g)
+    → IsEngine g.K.Sink.held g.K.Sink.faults (starts_of g.N.Naming.script g.N.Naming.start g.N.Naming.sound g.N.Naming.origin g.N.Naming.since g.N.Naming.counted g.N.Naming.at_start) g.N.Naming.room g.N.Naming.sink_faults c.fall-failure.new.metadata (g.D.Disk.story c.retire_task.new.disk) c.fail.new.self
+kept g c =
+    let N = g.N.Naming in
+    let n : Starts = starts_of N.script N.start N.sound N.origin N.since N.counted N.at_start in
+    let i = c.engine.inside in
+    let s = c.args.who.session in
+    let number = c.args.who.command in
+    let name = c.args.name.now in
+    let claim = claim_in c.args.task in
+    let cause = cause_in c.fall-failure.result in
+    let h = i.log.history.items in
+    let mo = c.clock-moment.result in
+    given_up_engine g.K.Sink.held g.K.Sink.faults n N.room N.sink_faults i.metadata c.fall-failure.new.metadata (g.D.Disk.story i.disk) (g.D.Disk.story c.retire_task.new.disk) i.log c.fail.new.self c.engine.invariant
+    s number c.fail.ensures.short.session c.fail.ensures.short.command name mo (c.clock-moment.ensures ∙ c.retire_task.ensures.unmoved.moment) (omega arith) (runs g c) c.position-at.result c.position-at.ensures claim
+    (λ w. due_alike N.script (N.start no_rows) (N.start w) h s number (command.Work name) (Granted claim) (N.alike w) refl (due_at g c))
+    c.retire_task.ensures.unmoved g.D.Reader.FileReader.faults (task_inputs c.args.task) c.retire_task.ensures.given c.args.error c.requires.read c.requires.damaged
+    cause c.fall-failure.ensures.cause c.fail.ensures.items c.fail.ensures.room c.fall-failure.ensures.after
+    (subst (λ at. PrintsBlock g.K.Sink.held g.K.Sink.faults i.log.printer c.fail.new.self.printer (entry s number kind.Close (outcome_of cause) mo) (told_at at (reply_of cause))) (sym c.position-at.ensures) c.fail.ensures.told)
+    c.fail.ensures.refused
+
+pub invariant_of-engine : goal.invariant_of-engine
+invariant_of-engine g c = kept g c
+
+pub returns-clause-turn : goal.returns-clause-turn
+returns-clause-turn g c =
+    let N = g.N.Naming in
+    let n : Starts = starts_of N.script N.start N.sound N.origin N.since N.counted N.at_start in
+    let i = c.engine.inside in
+    let s = c.args.who.session in
+    let number = c.args.who.command in
+    let story = g.D.Disk.story i.disk in
+    let new_story = g.D.Disk.story c.retire_task.new.disk in
+    let h = i.log.history.items in
+    let later = c.fail.new.self in
+    let cause = cause_in c.fall-failure.result in
+    let new : Shown = record { history = later.history.items; running = not later.printer.broken; clock = new_story.moment } in
+    subst (λ (x : Standing). Takes N.script (N.start no_rows) x.shown new s number kind.Close Finished) c.engine.view_is
+    (given_up_takes n no_rows (record { history = h; running = not i.log.printer.broken; clock = story.moment }) new s number c.args.name.now (claim_in c.args.task) (due_at g c) cause
+    (c.fail.ensures.items ∙ ap (λ x. h ++ entry s number kind.Close (outcome_of cause) x ∷ []) c.clock-moment.ensures) (runs g c)
+    (vault_at_seen n c.fall-failure.new.metadata.ledger new_story (g.K.Sink.held later.printer.sink) later.history.items (not later.printer.broken) later.refused new_story.moment (kept g c).vault))
+
+pub returns-clause-ledger : goal.returns-clause-ledger
+returns-clause-ledger g c ran =
+    let task = c.args.task in
+    let ledger = ap (λ (x : Standing). x.ledger) c.engine.view_is in
+    let clock = c.clock-moment.ensures ∙ c.retire_task.ensures.unmoved.moment ∙ ap (λ (x : Standing). x.shown.clock) c.engine.view_is in
+    let at = c.position-at.ensures ∙ ap (λ (x : Standing). length x.shown.history) c.engine.view_is in
+    ap (λ (m : Memory). m.ledger) c.fall-failure.ensures.after ∙ (λ i. closing_ledger (closed_of (ledger i)) c.args.error (clock i == last) (at i) task.table task.lease (ledger i))

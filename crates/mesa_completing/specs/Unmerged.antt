@@ -1,0 +1,54 @@
+-- Works whose merge failed.
+use Rattle.std.specs.Prelude.{ℕ, ◌<◌, ◌⊎◌, List, [], ◌∷◌, Bool, true, false, Option, None, Some, ⊤}
+use Rattle.mesa_lease.specs.Book.{ended}
+use Rattle.mesa_cursor.specs.Cursors.{reader_in}
+use Rattle.mesa_delta.specs.declared.error.FileError.TheVariants as file_error
+use Rattle.mesa_delta.specs.declared.input.Input.{Input}
+use Rattle.mesa_model.specs.declared.replies.Refusal.TheVariants as no
+use Rattle.mesa_model.specs.declared.replies.Reply.TheVariants as reply
+use Rattle.mesa_output.specs.Output.{IsDamage}
+use Rattle.mesa_ledger.specs.Ledger.{Ledger}
+use Rattle.mesa_ledger.specs.Turned.{closed_ledger, leased_ledger}
+use Rattle.mesa_tasks.specs.declared.merging.CompactError.{CompactError}
+use Rattle.mesa_tasks.specs.declared.merging.CompactError.TheVariants as compact
+use Rattle.mesa_walk.specs.Causes.{Cause, Replies, Unread, Damaged, Unwritten, NoMemory}
+
+-- why a merge failed
+abbrev pub cause_of : CompactError → Cause
+cause_of compact.Draft = Unwritten
+cause_of (compact.File file_error.Read) = Unread
+cause_of (compact.File (file_error.Damaged damage)) = Damaged damage
+cause_of (compact.File file_error.Memory) = NoMemory
+
+-- Damage that a cause tells differs from what was wanted.
+abbrev pub TellsDamage : Cause → Type 0
+TellsDamage (Replies r) = ⊤
+TellsDamage Unread = ⊤
+TellsDamage (Damaged damage) = IsDamage damage
+TellsDamage Unwritten = ⊤
+TellsDamage NoMemory = ⊤
+
+-- One of the inputs' readers has failed.
+abbrev pub SomeFailed : {R : Type 0} → (R → ℕ) → List (Input R) → Type 0
+SomeFailed faults [] = ⊥
+SomeFailed faults (i ∷ inputs) = (0 < faults (reader_in i)) ⊎ SomeFailed faults inputs
+
+-- why nothing is swapped in: the vault has closed, or else the merge failed
+abbrev pub closing_cause : Option ℕ → CompactError → Cause
+closing_cause (Some position) error = Replies (reply.Refused (no.Closed position))
+closing_cause None error = cause_of error
+
+-- a ledger in which the lease of a table has ended
+abbrev ended_ledger : ℕ → ℕ → Ledger → Ledger
+ended_ledger table lease l = leased_ledger l (ended table lease l.leases)
+
+-- The ledger behind a merge that failed: the lease has ended; and a draft that failed closes the vault at a position where its clock stands at its last value.
+abbrev pub unmerged_ledger : CompactError → Bool → ℕ → ℕ → ℕ → Ledger → Ledger
+unmerged_ledger compact.Draft true at table lease l = closed_ledger (ended_ledger table lease l) at
+unmerged_ledger compact.Draft false at table lease l = ended_ledger table lease l
+unmerged_ledger (compact.File e) latest at table lease l = ended_ledger table lease l
+
+-- the same, of a vault that may have closed: then nothing changes
+abbrev pub closing_ledger : Option ℕ → CompactError → Bool → ℕ → ℕ → ℕ → Ledger → Ledger
+closing_ledger (Some position) error latest at table lease l = l
+closing_ledger None error latest at table lease l = unmerged_ledger error latest at table lease l

@@ -1,0 +1,110 @@
+// A work's last turn where its merge failed.
+ghost use Rattle.std.specs.Prelude.{◌≡◌, ◌<◌, ◌==◌, true, length};
+ghost use Rattle.mesa_fault.specs.Causes.{last};
+ghost use Rattle.mesa_history.specs.Run.{Finished, Granted};
+ghost use Rattle.mesa_history.specs.Turns.{IsDue};
+ghost use Rattle.mesa_log.specs.Failure.{cause_in};
+ghost use Rattle.mesa_metadata.specs.Memory.{with_ledger};
+ghost use Rattle.mesa_model.specs.declared.commands.Command.TheVariants as command;
+ghost use Rattle.mesa_model.specs.declared.entries.Kind.TheVariants as kind;
+ghost use Rattle.mesa_skeleton.specs.Rows.{no_rows};
+ghost use Rattle.mesa_tasks.specs.GivingBack.{task_inputs};
+ghost use Rattle.mesa_walk.specs.Causes.{is_read_fault};
+ghost use Rattle.mesa_walk.specs.Turns.{Takes};
+ghost use Rattle.mesa_walk.specs.Walk.{run_at};
+ghost use Rattle.mesa_works.specs.Claims.{claim_in};
+ghost use Rattle.mesa_completing.specs.Unmerged.{SomeFailed, TellsDamage, cause_of, closing_cause, closing_ledger, unmerged_ledger};
+
+use mesa_delta::FileError;
+use mesa_disk::{Disk, Made};
+use mesa_engine::Engine;
+use mesa_io::Sink;
+use mesa_lease::TABLES;
+use mesa_ledger::Naming;
+use mesa_log::{Failure, Who};
+use mesa_metadata::Metadata;
+use mesa_model::{Kind, Refusal, Reply};
+use mesa_tasks::{CompactError, Task, retire_task};
+use mesa_works::give_back;
+
+// Why a merge failed.
+fn failed(error: &CompactError) -> Failure
+    ensures { cause_in result ≡ cause_of error.now }
+{
+    match *error {
+        CompactError::Draft => Failure::Unwritten,
+        CompactError::File(FileError::Read) => Failure::Unread,
+        CompactError::File(FileError::Damaged(damage)) => Failure::Damaged(damage),
+        CompactError::File(FileError::Memory) => Failure::Memory,
+    }
+}
+
+// Ends the lease of a table whose merge failed. Where the clock stands at its last value, a draft that failed can't be told from a disk that did: so it closes the vault.
+fn end_lease(
+    metadata: &mut Metadata,
+    table: u16,
+    lease: u64,
+    error: &CompactError,
+    at: u64,
+    moment: u64,
+)
+    requires { table < TABLES }
+    ensures { metadata.new ≡ with_ledger (unmerged_ledger error.now (moment == last) at table lease metadata.old.ledger) metadata.old }
+{
+    metadata.end_lease(table, lease);
+    if let CompactError::Draft = *error {
+        if moment == u64::MAX {
+            metadata.close(at);
+        }
+    }
+}
+
+// Why nothing is swapped in; the lease ends, unless the vault has closed.
+fn fall(
+    metadata: &mut Metadata,
+    table: u16,
+    lease: u64,
+    error: &CompactError,
+    at: u64,
+    moment: u64,
+) -> Failure
+    requires { table < TABLES }
+    ensures cause { cause_in result ≡ closing_cause metadata.old.ledger.closed error.now }
+    ensures after { metadata.new ≡ with_ledger (closing_ledger metadata.old.ledger.closed error.now (moment == last) at table lease metadata.old.ledger) metadata.old }
+{
+    if let Some(position) = metadata.closed() {
+        return Failure::Refused(Refusal::Closed { position });
+    }
+    end_lease(metadata, table, lease, error, at, moment);
+    failed(error)
+}
+
+/// The turn that closes a work whose merge failed: its lease ends, unless the vault has closed. All that it was handed is given back. Takes no memory.
+pub fn give_up<N: Naming, M: Made, D: Disk<M>, K: Sink>(
+    engine: &mut Engine<N, M, D, K>,
+    who: Who,
+    name: &[u8],
+    task: Task<D::Reader>,
+    error: CompactError,
+) -> Reply
+    requires due { IsDue N.script (run_at N.script (N.start no_rows) engine.old.shown.history) who.session who.command (command.Work name.now) (Granted (claim_in task)) }
+    requires table { task.table < TABLES }
+    requires read { is_read_fault (cause_of error) ≡ true → SomeFailed D.Reader.faults (task_inputs task) }
+    requires damaged { TellsDamage (cause_of error) }
+    requires room { length engine.old.shown.history < N.room }
+    ensures turn { Takes N.script (N.start no_rows) engine.old.shown engine.new.shown who.session who.command kind.Close Finished }
+    ensures ledger { engine.old.shown.running ≡ true → engine.new.ledger ≡ closing_ledger engine.old.ledger.closed error (engine.old.shown.clock == last) (length engine.old.shown.history) task.table task.lease engine.old.ledger }
+{
+    if !engine.running() {
+        engine.skip(who, Kind::Close);
+        give_back(engine, task);
+        return Reply::Refused(Refusal::Memory);
+    }
+    let at = engine.log.position();
+    let table = task.table;
+    let lease = task.lease;
+    retire_task(&mut engine.disk, task);
+    let moment = engine.disk.clock();
+    let failure = fall(&mut engine.metadata, table, lease, &error, at, moment);
+    engine.log.fail(who, Kind::Close, moment, failure)
+}
