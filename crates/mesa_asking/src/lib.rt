@@ -1,11 +1,13 @@
 //! The turns of a query: the first opens the files that answer it, and the last prints its page.
 #![tactic(auto)]
 
+mod asking;
 mod closing;
 mod damages;
 mod giving_back;
 mod seeing;
 
+pub use asking::{Asked, ask};
 pub use closing::close_query;
 pub use damages::can_be_told;
 pub use giving_back::give_back;

@@ -1,0 +1,22 @@
+use Rattle.std.proofs.Common.{refl, subst}
+use Rattle.std.proofs.lemmas.Result.{err_from_is_err_and}
+use Rattle.mesa_ledger.specs.Ledger.{books_of}
+use Rattle.mesa_rules.specs.Found.{IsAnswered, Sees}
+use Rattle.mesa_asking.proofs.asking.ask.Goals as goal
+
+pub returns-in_err-catalog-clause-refused : goal.returns-in_err-catalog-clause-refused
+returns-in_err-catalog-clause-refused c =
+    let p = err_from_is_err_and c.from_residual.result c.from_residual.ensures.1 in
+    rw (p.1, p.2) (λ rows. c.in_err-catalog.ensures.refused rows c.args.words.now refl)
+
+pub returns-in_err-found-clause-refused : goal.returns-in_err-found-clause-refused
+returns-in_err-found-clause-refused c =
+    let p = err_from_is_err_and c.from_residual-in_err-found.result c.from_residual-in_err-found.ensures.1 in
+    rw (p.1, p.2) (λ rows. c.in_err-found.ensures.refused (books_of rows c.args.metadata.now.ledger).bare c.args.session (c.in_ok-catalog.ensures.sees rows c.args.words.now refl))
+
+pub returns-clause-sees : goal.returns-clause-sees
+returns-clause-sees c rows =
+    subst (λ v. Sees c.in_ok-catalog.field-0.catalog.now.catalogue v c.args.words.now c.args.session (books_of rows c.args.metadata.now.ledger).bare) c.in_ok-found.ensures.version (c.in_ok-catalog.ensures.sees rows c.args.words.now refl)
+
+pub returns-clause-answered : goal.returns-clause-answered
+returns-clause-answered c = subst (λ v. IsAnswered c.in_ok-catalog.field-0.catalog.now.catalogue v c.args.words.now c.in_ok-found.found) c.in_ok-found.ensures.version c.in_ok-found.ensures.answered

@@ -1,0 +1,41 @@
+// What a query asks of a vault.
+ghost use Rattle.std.specs.Prelude.{◌≡◌, Ok, Some, IfErr, IfOk};
+ghost use Rattle.mesa_asked.specs.Told.{IsDue};
+ghost use Rattle.mesa_catalog.specs.Lookups.{relation_of};
+ghost use Rattle.mesa_filter.specs.Query.{IsQueryOf};
+ghost use Rattle.mesa_ledger.specs.Ledger.{books_of};
+ghost use Rattle.mesa_model.specs.Query.{query_answer};
+ghost use Rattle.mesa_rules.specs.Found.{IsAnswered, Sees, columns_at};
+ghost use Rattle.mesa_skeleton.specs.Rows.{Rows};
+
+use crate::{Seen, seen_by};
+use mesa_asked::Failure;
+use mesa_catalog::Catalog;
+use mesa_filter::QueryWords;
+use mesa_metadata::Metadata;
+use mesa_rules::Found;
+use std::alloc::Global;
+
+/// A query that the rules allow: the tables that it sees, and what it asks of them.
+pub struct Asked<'a> {
+    pub catalog: &'a Catalog,
+    pub found: Found,
+}
+
+/// What a session's query asks of the tables that it sees, or why it isn't answered.
+pub fn ask<'a>(
+    alloc: Global,
+    metadata: &'a Metadata,
+    session: u16,
+    words: &QueryWords,
+) -> Result<Asked<'a>, Failure>
+    ensures sees { IfOk result (λ a. (rows : Rows) → Sees a.catalog.now.catalogue (Ok a.found.query.version) words.now session (books_of rows metadata.now.ledger).bare) }
+    ensures relation { IfOk result (λ a. relation_of a.catalog.now.catalogue words.now.relation ≡ Some a.found.relation) }
+    ensures sound { IfOk result (λ a. IsQueryOf (columns_at a.catalog.now.catalogue a.found.relation) a.found.query) }
+    ensures answered { IfOk result (λ a. IsAnswered a.catalog.now.catalogue (Ok a.found.query.version) words.now a.found) }
+    ensures refused { IfErr result (λ failure. (rows : Rows) → IsDue (query_answer (books_of rows metadata.now.ledger).bare session words.now) failure) }
+{
+    let Seen { catalog, version } = seen_by(metadata, session, words.version)?;
+    let found = mesa_rules::query(alloc, catalog, version, words)?;
+    Ok(Asked { catalog, found })
+}
