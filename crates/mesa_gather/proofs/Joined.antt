@@ -1,6 +1,9 @@
 -- What is opened makes a task.
-use Rattle.std.proofs.Common.{◌≡◌, ℕ, ◌+◌, List, [], ◌∷◌, ◌++◌, length, map, refl, sym, ap, ◌∙◌, subst, cond, Option, Some, None}
-use Rattle.std.specs.Prelude.{flat_map, is_some}
+use Rattle.std.proofs.Common.{◌≡◌, ℕ, ◌+◌, List, [], ◌∷◌, ◌++◌, length, map, refl, sym, ap, ◌∙◌, subst, cond, Option, Some, None, inl, inr}
+use Rattle.std.specs.Prelude.{◌≢◌, flat_map, is_some, IfSome}
+use Rattle.sha2.specs.Sha256.{sha256}
+use Rattle.mesa_file.specs.declared.file_ref.FileRef.{FileRef}
+use Rattle.mesa_delta.specs.Reading.{IsTailDamage}
 use Rattle.std.specs.List.{AllByRecursion}
 use Rattle.mesa_file.specs.declared.damage.Damage.{Damage}
 use Rattle.mesa_schema.specs.Columns.{Columns}
@@ -11,7 +14,7 @@ use Rattle.mesa_delta.specs.declared.input.Input.{Input}
 use Rattle.mesa_record.specs.declared.record.Files.{Files}
 use Rattle.mesa_image.specs.Catalog.{Delta}
 use Rattle.mesa_tasks.specs.Inputs.{AreInputsOf}
-use Rattle.mesa_tasks.specs.Opening.{HaveOpened}
+use Rattle.mesa_tasks.specs.Opening.{HaveOpened, IsDamageOf, wanted_columns}
 use Rattle.mesa_tasks.specs.Tasks.{AreTaskViews}
 use Rattle.mesa_tasks.specs.declared.opening.Wanted.{Wanted}
 use Rattle.mesa_plans.specs.Files.{Want, files_wanted, table_wanted, want_of}
@@ -67,3 +70,30 @@ views_from bytes s from (v ∷ vs) = (refl, tt, views_from bytes s (from + 1) vs
 
 pub task_views : {R : Type 0} (bytes : R → Option (List ℕ)) (s : Columns) (count : ℕ) (vs : List View) → count ≡ length vs → AreTaskViews bytes s 0 vs (unread_views {R = R} 0 count)
 task_views {R = R} bytes s count vs is = subst (λ n. AreTaskViews bytes s 0 vs (unread_views {R = R} 0 n)) (sym is) (views_from bytes s 0 vs)
+
+-- ---- damage
+
+differs : (told : Option Image) (s : Columns) (file : FileRef) (d : Damage) → IsDamageOf told s file d → d.want ≢ d.found
+differs told s file d is = elim is.shown [
+  | inl absent ↦ subst (λ (x : Damage). x.want ≢ x.found) (sym absent.shown) (λ e. absurd cc)
+  | inr marred ↦ by marred.content marred.size marred.shown
+]
+  where
+    by : (content : Option (List ℕ)) (size : ℕ) → IsTailDamage content size s file d → d.want ≢ d.found
+    by content size shown = elim shown [
+      | inl wrong ↦ subst (λ (x : Damage). x.want ≢ x.found) (sym wrong.0) (λ e. wrong.1 (let same : size ≡ file.len = cc in same))
+      | inr piece ↦ elim piece.2 [
+        | inl digest ↦ subst (λ (x : Damage). x.want ≢ x.found) (sym digest.0) (λ e. digest.1 (let same : sha256 piece.0 ≡ file.digest = cc in same))
+        | inr misfit ↦ subst (λ (x : Damage). x.want ≢ x.found) (sym misfit.0.0) (λ e. absurd cc)
+      ]
+    ]
+
+-- damage that was met isn't what was wanted
+pub opened_differs : {R : Type 0} (bytes : R → Option (List ℕ)) (faults : R → ℕ) (told : Option Image) (ws : List Wanted) (is : List (Input R)) (d : Option Damage)
+    → HaveOpened bytes faults told ws is d → IfSome d (λ (x : Damage). x.want ≢ x.found)
+opened_differs bytes faults told [] [] None have = tt
+opened_differs bytes faults told [] [] (Some d) have = absurd have
+opened_differs bytes faults told [] (i ∷ is) d have = absurd have
+opened_differs bytes faults told (w ∷ ws) [] None have = tt
+opened_differs bytes faults told (w ∷ ws) [] (Some d) have = differs told (wanted_columns w) w.file.now d have
+opened_differs bytes faults told (w ∷ ws) (i ∷ is) d have = opened_differs bytes faults told ws is d have.1

@@ -1,5 +1,5 @@
 // A work's grant.
-ghost use Rattle.std.specs.Prelude.{◌≡◌, ◌+◌, ◌<◌, ◌≤◌, ◌^◌, ℕ, List, true, length, None, Ok, IfOk, OnOk, Option};
+ghost use Rattle.std.specs.Prelude.{◌≡◌, ◌≢◌, ◌+◌, ◌<◌, ◌≤◌, ◌^◌, ℕ, List, true, length, None, Ok, IfOk, IfSome, OnOk, Option};
 ghost use Rattle.mesa_disk.specs.Image.{Image};
 ghost use Rattle.mesa_gather.specs.Gathered.{IsGathered};
 ghost use Rattle.mesa_history.specs.Machine.{claim_of};
@@ -43,6 +43,7 @@ pub fn grant<N: Naming, M: Made, D: Disk<M>, K: Sink>(
     ensures catalogue { engine.new.ledger.catalogue ≡ engine.old.ledger.catalogue }
     ensures there { IfOk result (λ t. t.table < length engine.old.ledger.catalogue.tables) }
     ensures task { IfOk result (λ t. IsTask D.Reader.bytes (stock_at engine.old.ledger.catalogue t.table).lineage t) }
+    ensures damage { IfOk result (λ t. IfSome t.damage (λ d. d.want ≢ d.found)) }
     ensures files { IfOk result (λ t. (told : Option Image) × IsGathered D.Reader.bytes D.Reader.faults told (stock_at engine.old.ledger.catalogue t.table) t.work t) }
 {
     if !engine.running() {
@@ -72,6 +73,7 @@ fn take<N: Naming, M: Made, D: Disk<M>, K: Sink>(
     ensures catalogue { engine.new.ledger.catalogue ≡ engine.old.ledger.catalogue }
     ensures table { IfOk result (λ t. t.table ≡ claimed.table) }
     ensures task { IfOk result (λ t. IsTask D.Reader.bytes (stock_at engine.old.ledger.catalogue claimed.table).lineage t) }
+    ensures damage { IfOk result (λ t. IfSome t.damage (λ d. d.want ≢ d.found)) }
     ensures files { IfOk result (λ t. (told : Option Image) × IsGathered D.Reader.bytes D.Reader.faults told (stock_at engine.old.ledger.catalogue claimed.table) t.work t) }
 {
     let alloc = *engine.log.history.allocator();

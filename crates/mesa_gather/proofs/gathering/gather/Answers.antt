@@ -8,7 +8,7 @@ use Rattle.mesa_tasks.specs.Opening.{HasEpoch}
 use Rattle.mesa_tasks.specs.Tasks.{AreTaskViews}
 use Rattle.mesa_plans.specs.Files.{want_of}
 use Rattle.mesa_plans.specs.Lent.{lent_in}
-use Rattle.mesa_gather.proofs.Joined.{same_wanted, table_inputs, task_views}
+use Rattle.mesa_gather.proofs.Joined.{opened_differs, same_wanted, table_inputs, task_views}
 use Rattle.mesa_gather.proofs.gathering.gather.Goals as goal
 
 pub open_all-requires-after_bounds : goal.open_all-requires-after_bounds
@@ -38,3 +38,7 @@ returns-in-Ok-open_all-clause-files g c = λ next is.
       are = ap (map want_of) c.deref-2.ensures.value ∙ c.in-Ok.ensures.files ∙ same_wanted l (lent_in c.range_deltas-deltas.result) folds (c.range_deltas-deltas.ensures.range next is);
       opened = c.in-Ok-open_all.ensures.opened;
     }
+
+pub returns-in-Ok-open_all-clause-damage : goal.returns-in-Ok-open_all-clause-damage
+returns-in-Ok-open_all-clause-damage g c =
+    opened_differs g.D.Reader.FileReader.bytes g.D.Reader.FileReader.faults (g.D.Disk.story c.args.disk.now).told c.deref-2.result.now c.in-Ok-open_all.field-0.inputs.items c.in-Ok-open_all.field-0.damage c.in-Ok-open_all.ensures.opened
