@@ -1,0 +1,22 @@
+use Rattle.std.proofs.Common.{suc, List, take, sym, subst, add-one, arith}
+use Rattle.std.proofs.lemmas.List.{take_all}
+use Rattle.mesa_schema.specs.declared.views.View.{View}
+use Rattle.mesa_schema.specs.Changes.{columns_of}
+use Rattle.mesa_tasks.specs.Tasks.{AreTaskViews}
+use Rattle.mesa_tasks.specs.declared.merging.TaskView.{TaskView}
+use Rattle.mesa_merge_tests.proofs.Tasks.{view_pushed}
+use Rattle.mesa_merge_tests.proofs.merging.no_files.Goals as goal
+
+pub each-preserved : goal.each-preserved
+each-preserved g c =
+    let bytes = g.R.FileReader.bytes in
+    let s = columns_of c.args.table.now in
+    let vs = c.args.table.now.views in
+    let i = c.each.view in
+    let more = view_pushed bytes s 0 vs i i c.each.views.items c.each.invariant.made (omega (arith, c.each-test.true, c.each.auto.view-end, c.views-view-end.ensures)) (omega arith) in
+    record { made = subst (λ n. AreTaskViews bytes s 0 (take n vs) c.push.new.self.items) (sym (add-one i)) (subst (λ (ts : List (TaskView g.row.R.Denot)). AreTaskViews bytes s 0 (take (suc i) vs) ts) (sym c.in_ok-push.ensures.items) more) }
+
+pub returns : goal.returns
+returns g c =
+    let vs = c.args.table.now.views in
+    subst (λ (xs : List View). AreTaskViews g.R.FileReader.bytes (columns_of c.args.table.now) 0 xs c.each.views.items) (take_all c.each.view vs (omega (arith, c.each-test.false, c.each.auto.view-end, c.views-view-end.ensures))) c.each.invariant.made

@@ -1,0 +1,9 @@
+use Rattle.std.proofs.Common.{take}
+use Rattle.mesa_schema.specs.Changes.{columns_of}
+use Rattle.mesa_tasks.specs.Tasks.{AreTaskViews}
+use Rattle.mesa_merge_tests.proofs.merging.no_files.Given as goal
+
+abbrev pub invariant-each : goal.invariant-each
+invariant-each g l = record {
+  made : AreTaskViews g.R.FileReader.bytes (columns_of l.table) 0 (take l.view l.table.views) l.views.items;
+}

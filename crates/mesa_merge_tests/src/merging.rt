@@ -1,0 +1,78 @@
+// Files merged into one.
+ghost use Rattle.std.specs.Prelude.{◌≡◌, IfOk};
+ghost use Rattle.mesa_schema.specs.Changes.{columns_of};
+ghost use Rattle.mesa_tasks.specs.Tasks.{AreTaskViews};
+
+use crate::files::{Source, input_of, source_of, table};
+use mesa_compact::merge_task;
+use mesa_disk::{FileId, FileReader, MemBench, MemMade};
+use mesa_schema::Evolving;
+use mesa_span::Work;
+use mesa_tasks::{CompactError, NewDelta, Serials, Task, TaskView};
+use mesa_value::Agg;
+use std::alloc::{AllocError, Global};
+use std::sync::Arc;
+use std::test::Fail;
+
+type Merged = Result<NewDelta<MemMade>, CompactError>;
+
+/// Rows of an older and a newer file, whose ids are 1 and 2.
+#[derive(Clone, Copy)]
+pub struct Two<'a> {
+    pub agg: Agg,
+    pub older: &'a [(i64, i64)],
+    pub newer: &'a [(i64, i64)],
+}
+
+// A table's views, none of which has files of its own.
+fn no_files<R: FileReader + Drop>(
+    alloc: Global,
+    table: &Evolving,
+) -> Result<Vec<TaskView<R>>, AllocError>
+    ensures { IfOk result (λ views. AreTaskViews R.bytes (columns_of table.now) 0 table.now.views views.items) }
+{
+    let mut views = Vec::new(alloc);
+    'each: for view in 0..table.views() {
+        views.push(TaskView { view, inputs: None })?;
+    }
+    Ok(views)
+}
+
+// Merges two files of a table whose values are put together in this way.
+fn merge_two<R: FileReader + Drop>(
+    alloc: Global,
+    bench: &mut MemBench,
+    agg: Agg,
+    older: Source<R>,
+    newer: Source<R>,
+) -> Result<Merged, Fail> {
+    let table = Arc::new(alloc, table(alloc, agg)?)?;
+    let mut inputs = Vec::new(alloc);
+    inputs.push(input_of(alloc, older, &table)?)?;
+    inputs.push(input_of(alloc, newer, &table)?)?;
+    let views = no_files(alloc, &table)?;
+    let mut task = Task {
+        table: 0,
+        work: Work::Base { to: 1 },
+        lease: 0,
+        epoch: 0,
+        inputs,
+        views,
+        damage: None,
+    };
+    let mut ids = Serials::new(1, 2);
+    Ok(merge_task(alloc, bench, &mut ids, &mut task))
+}
+
+/// Merges two files through a bench of which these calls fail. In each this read fails, counted from 0.
+pub fn merged(
+    alloc: Global,
+    two: &Two,
+    calls: &[(u64, u64)],
+    fails: Option<u64>,
+) -> Result<Merged, Fail> {
+    let older = source_of(alloc, FileId::of(1), two.agg, two.older, fails)?;
+    let newer = source_of(alloc, FileId::of(2), two.agg, two.newer, fails)?;
+    let mut bench = MemBench::new(alloc, Vec::from_slice(alloc, calls)?);
+    merge_two(alloc, &mut bench, two.agg, older, newer)
+}
