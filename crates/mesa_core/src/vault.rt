@@ -1,6 +1,8 @@
 // The vault, and its calls.
 ghost use Rattle.std.specs.Prelude.{◌≡◌, ◌+◌, ◌<◌, ◌≤◌, ◌^◌, [], Bool, true, false, not, None, IsTrue, IfOk, OnOk, length, vec_capacity};
 ghost use Rattle.std.specs.List.{AllByRecursion};
+ghost use Rattle.mesa_asking.specs.Closing.{IsPageOf, IsToClose, SomeFailed, cause_if};
+ghost use Rattle.mesa_asking.specs.Damages.{HasDiffered};
 ghost use Rattle.mesa_batch.specs.Glance.{tables_of};
 ghost use Rattle.mesa_core.specs.Vault.{Stand};
 ghost use Rattle.mesa_engine.specs.Beginning.{IsBegun};
@@ -8,17 +10,21 @@ ghost use Rattle.mesa_engine.specs.Engine.{most_turns, starts_of};
 ghost use Rattle.mesa_fault.specs.Causes.{last, Rose};
 ghost use Rattle.mesa_history.specs.Legal.{AllFit, fits_sink};
 ghost use Rattle.mesa_history.specs.Refused.{some_refused};
-ghost use Rattle.mesa_history.specs.Run.{begins, First, Looked};
+ghost use Rattle.mesa_history.specs.Run.{begins, Finished, First, Looked};
 ghost use Rattle.mesa_ledger.specs.Vault.{outset_of};
 ghost use Rattle.mesa_model.specs.declared.entries.Kind.TheVariants as kind;
 ghost use Rattle.mesa_skeleton.specs.Rows.{Rows, no_rows};
+ghost use Rattle.mesa_tasks.specs.GivingBack.{pinned_inputs};
 ghost use Rattle.mesa_walk.specs.Printing.{IsPrinted};
+ghost use Rattle.mesa_walk.specs.Queries.{closing_fault};
 ghost use Rattle.mesa_walk.specs.Sight.{schema_changes, tables_seen};
 ghost use Rattle.mesa_walk.specs.Turns.{Asks, Takes, is_load};
 ghost use Rattle.mesa_walk.specs.Walk.{AllFound, HasCounted, faults_in, run_at};
 
+use mesa_asking::close_query;
 use mesa_batch::Glance;
 use mesa_catalog::Catalog;
+use mesa_delta::FileError;
 use mesa_disk::{Disk, Made};
 use mesa_engine::Engine;
 use mesa_io::Sink;
@@ -26,6 +32,8 @@ use mesa_ledger::Naming;
 use mesa_log::Who;
 use mesa_model::{Entry, Script};
 use mesa_quiet::look;
+use mesa_script::Rendered;
+use mesa_tasks::Pinned;
 use std::alloc::{AllocError, Global};
 use std::marker::Model;
 
@@ -119,6 +127,25 @@ impl<'s, N: Naming, M: Made, D: Disk<M>, K: Sink> Vault<'s, N, M, D, K> {
         ensures run { self.new.run ≡ self.old.run }
     {
         look(&mut self.engine, who)
+    }
+
+    /// The turn that closes a query: its page, or why there is none, is printed under the position of
+    /// the query's first turn, and all that was held for it is given back. Takes no memory.
+    pub fn close_query(
+        &mut self,
+        who: Who,
+        pinned: Pinned<D::Reader>,
+        answered: Result<Rendered, FileError>,
+    )
+        // On a sound store, while the clock is below its last value, the page is that of the answer, whatever rows the files had when the run began.
+        requires due { (w : Rows) → IsToClose N.script (run_at N.script (N.start w) self.old.shown.history) who.session who.command pinned.at (λ answer. N.sound w → self.old.shown.clock < last → IsPageOf answered pinned.version answer) }
+        requires damaged { HasDiffered answered }
+        requires read { closing_fault (cause_if answered) ≡ true → SomeFailed D.Reader.faults (pinned_inputs pinned) }
+        requires room { length self.old.shown.history < N.room }
+        ensures turn { Takes N.script (N.start no_rows) self.old.shown self.new.shown who.session who.command kind.Close Finished }
+        ensures run { self.new.run ≡ self.old.run }
+    {
+        close_query(&mut self.engine, who, pinned, answered);
     }
 
     /// The disk, the sink and the history.
