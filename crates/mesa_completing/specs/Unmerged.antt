@@ -1,5 +1,6 @@
 -- Works whose merge failed.
 use Rattle.std.specs.Prelude.{ℕ, ◌<◌, ◌⊎◌, List, [], ◌∷◌, Bool, true, false, Option, None, Some, ⊤}
+use Rattle.mesa_asking.specs.Damages.{Differs}
 use Rattle.mesa_lease.specs.Book.{ended}
 use Rattle.mesa_cursor.specs.Cursors.{reader_in}
 use Rattle.mesa_delta.specs.declared.error.FileError.TheVariants as file_error
@@ -20,13 +21,20 @@ cause_of (compact.File file_error.Read) = Unread
 cause_of (compact.File (file_error.Damaged damage)) = Damaged damage
 cause_of (compact.File file_error.Memory) = NoMemory
 
--- Damage that a cause tells differs from what was wanted.
+-- Damage that a cause tells can be told.
 abbrev pub TellsDamage : Cause → Type 0
 TellsDamage (Replies r) = ⊤
 TellsDamage Unread = ⊤
 TellsDamage (Damaged damage) = IsDamage damage
 TellsDamage Unwritten = ⊤
 TellsDamage NoMemory = ⊤
+
+-- Where a file is damaged, what was found isn't what was wanted.
+abbrev pub HasDiffered : CompactError → Type 0
+HasDiffered compact.Draft = ⊤
+HasDiffered (compact.File file_error.Read) = ⊤
+HasDiffered (compact.File (file_error.Damaged damage)) = Differs damage
+HasDiffered (compact.File file_error.Memory) = ⊤
 
 -- One of the inputs' readers has failed.
 abbrev pub SomeFailed : {R : Type 0} → (R → ℕ) → List (Input R) → Type 0
