@@ -28,6 +28,7 @@ pub(crate) fn claim(metadata: &Metadata, name: &[u8], position: u64) -> Result<C
     requires { length metadata.now.ledger.catalogue.tables ≤ TABLES }
     ensures claimed { IfOk result (λ x. claim_of (books_of no_rows metadata.now.ledger).bare (books_of no_rows metadata.now.ledger).machine position name.now ≡ Ok (claim_as metadata.now.ledger x)) }
     ensures there { IfOk result (λ x. x.table < length metadata.now.ledger.catalogue.tables) }
+    ensures low { IfOk result (λ x. x.table < TABLES) }
     ensures free { IfOk result (λ x. holder metadata.now.ledger.leases x.table position ≡ None) }
     ensures opened { OnOk result (metadata.now.ledger.closed ≡ None) }
     ensures refused { IfErr result (λ f. HasNoClaim (books_of no_rows metadata.now.ledger) position name.now (cause_in f)) }

@@ -42,6 +42,7 @@ pub fn grant<N: Naming, M: Made, D: Disk<M>, K: Sink>(
     ensures ran { OnOk result (engine.old.shown.running ≡ true) }
     ensures catalogue { engine.new.ledger.catalogue ≡ engine.old.ledger.catalogue }
     ensures there { IfOk result (λ t. t.table < length engine.old.ledger.catalogue.tables) }
+    ensures low { IfOk result (λ t. t.table < TABLES) }
     ensures task { IfOk result (λ t. IsTask D.Reader.bytes (stock_at engine.old.ledger.catalogue t.table).lineage t) }
     ensures damage { IfOk result (λ t. IfSome t.damage (λ d. d.want ≢ d.found)) }
     ensures files { IfOk result (λ t. (told : Option Image) × IsGathered D.Reader.bytes D.Reader.faults told (stock_at engine.old.ledger.catalogue t.table) t.work t) }
@@ -65,6 +66,7 @@ fn take<N: Naming, M: Made, D: Disk<M>, K: Sink>(
 ) -> Result<Task<D::Reader>, Reply>
     requires due { (name : List ℕ) × IsDue N.script (run_at N.script (N.start no_rows) engine.old.shown.history) who.session who.command (command.Work name) First × (claim_of (books_of no_rows engine.old.ledger).bare (books_of no_rows engine.old.ledger).machine (length engine.old.shown.history) name ≡ Ok (claim_as engine.old.ledger claimed)) }
     requires there { claimed.table < length engine.old.ledger.catalogue.tables }
+    requires low { claimed.table < TABLES }
     requires free { holder engine.old.ledger.leases claimed.table (length engine.old.shown.history) ≡ None }
     requires opened { engine.old.ledger.closed ≡ None }
     requires runs { engine.old.shown.running ≡ true }

@@ -1,4 +1,4 @@
-use Rattle.std.proofs.Common.{◌≡◌, ◌<◌, ◌≤◌, [], ◌∷◌, ◌++◌, length, true, false, not, refl, sym, ◌∙◌, ap, subst, arith, Ok}
+use Rattle.std.proofs.Common.{◌≡◌, ◌<◌, ◌≤◌, [], ◌∷◌, ◌++◌, length, true, false, not, refl, sym, ◌∙◌, ap, subst, Ok}
 use Rattle.std.specs.Prelude.{flat_map}
 use Rattle.std.specs.List.{AllByRecursion}
 use Rattle.mesa_schema.specs.Changes.{epoch_of}
@@ -39,15 +39,6 @@ gather-gathered-requires-after_bounds g c κs within =
     let shaped = shaped_at i.metadata.ledger.catalogue (c.engine.invariant.vault no_rows false (λ is. absurd cc)).shaped table there in
     let stock = c.table-table.ensures.stock ∙ ap (λ (k : Catalog). stock_at k table) c.catalog.ensures in
     (_, c.table-table.ensures.held, subst (λ (u : Stock). AllByRecursion (λ (d : Delta). d.epoch ≤ epoch_of u.lineage) (deltas_of u)) (sym stock) shaped.epochs)
-
-pub lease-requires-clause-table : goal.lease-requires-clause-table
-lease-requires-clause-table g c =
-    let i = c.engine.inside in
-    let table = c.args.claimed.table in
-    let there : table < length i.metadata.ledger.catalogue.tables = subst (λ (x : Standing). table < length x.ledger.catalogue.tables) (sym c.engine.view_is) c.requires.there in
-    let few = (c.engine.invariant.vault no_rows false (λ is. absurd cc)).shaped.few in
-    let low : table < 32 = omega (arith, there, few) in
-    low
 
 pub invariant_of-engine : goal.invariant_of-engine
 invariant_of-engine g c =
