@@ -1,0 +1,5 @@
+pub mod Unseen
+pub mod Doing
+pub mod Written
+pub mod Engines
+pub mod Rulings

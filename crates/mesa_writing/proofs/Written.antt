@@ -1,0 +1,227 @@
+-- How a turn that writes keeps a vault.
+use Rattle.std.proofs.Common.{◌≡◌, inl, inr, ℕ, ◌+◌, ◌<◌, ◌≤◌, ◌^◌, List, [], ◌∷◌, ◌++◌, map, length, Bool, true, false, ◌||◌, refl, sym, ◌∙◌, ap, subst, arith, Option, None, Some, Ok, IsTrue}
+use Rattle.std.specs.List.{AllByRecursion}
+use Rattle.mesa_fault.specs.Causes.{last}
+use Rattle.mesa_key.specs.Spelling.{AreBytes}
+use Rattle.mesa_disk.specs.Files.{AreAbsent, AreGone, files_of}
+use Rattle.mesa_disk.specs.Image.{Image, file_of}
+use Rattle.mesa_disk.specs.Story.{Story, Spans, Steps}
+use Rattle.mesa_disk.specs.declared.area.Area.TheVariants.{Zero}
+use Rattle.mesa_commit.specs.Images.{Stands}
+use Rattle.mesa_commit.specs.Turn.{MovesOnly}
+use Rattle.mesa_model.specs.declared.commands.Script.{Script}
+use Rattle.mesa_model.specs.declared.entries.Entry.{Entry}
+use Rattle.mesa_model.specs.declared.entries.Kind.TheVariants as kind
+use Rattle.mesa_model.specs.declared.entries.Outcome.TheVariants as outcome
+use Rattle.mesa_history.specs.Refused.{is_refusal}
+use Rattle.mesa_history.specs.Run.{Run}
+use Rattle.mesa_history.specs.Turns.{IsDue}
+use Rattle.mesa_record.specs.declared.record.Record.{Record}
+use Rattle.mesa_record.specs.Reading.{record_at}
+use Rattle.mesa_record.specs.Rules.{IsTyped}
+use Rattle.mesa_image.specs.Catalog.{Catalog, applied}
+use Rattle.mesa_image.specs.Contents.{kept_of}
+use Rattle.mesa_image.specs.Fitting.{Shelved, shelved, shelved_id}
+use Rattle.mesa_image.specs.Held.{IsHeld, IsUnnamed, StandsForEither as EitherOf}
+use Rattle.mesa_image.specs.Sound.{StandsFor}
+use Rattle.mesa_image_laws.proofs.Agreeing.{agree_wants}
+use Rattle.mesa_image_laws.proofs.Ids.{own_ids}
+use Rattle.mesa_image_laws.proofs.Wholes.{fits_shaped}
+use Rattle.mesa_image_laws.specs.Ids.{named}
+use Rattle.mesa_catalog.specs.Lookups.{generation_of, turns_generation}
+use Rattle.mesa_store.specs.Store.{Writes as IsWritten}
+use Rattle.mesa_output.specs.Output.{block}
+use Rattle.mesa_skeleton.specs.Rows.{Rows}
+use Rattle.mesa_trash.proofs.Filing.{freed_unnamed}
+use Rattle.mesa_trash.specs.Filed.{AreGiven, Renames}
+use Rattle.mesa_trash.specs.Holding.{Among, freed, ids_of}
+use Rattle.mesa_walk.specs.Causes.{Unwritten, reply_of, told_at}
+use Rattle.mesa_walk.specs.Printing.{IsPut}
+use Rattle.mesa_walk.specs.Turns.{entry}
+use Rattle.mesa_walk.specs.Walk.{Outset, Counts, Passes, StandsForEither, Writes, run_of}
+use Rattle.mesa_ledger.specs.Ledger.{Ledger, first_id, holders, ids_held, next_id}
+use Rattle.mesa_ledger.specs.Recorded.{IsRecorded, failed_ledger, recorded_ledger, removed_by, waiting}
+use Rattle.mesa_ledger.specs.Vault.{Origin, IsVault, Starts, outset_of}
+use Rattle.mesa_ledger.proofs.Agreeing.{named_agree, same_kept}
+use Rattle.mesa_ledger.proofs.Filing.{filed_moved, holds_are}
+use Rattle.mesa_ledger.proofs.Renaming.{record_brings, record_renames}
+use Rattle.mesa_ledger.proofs.Writing.{unwritten_vault, written_vault}
+use Rattle.mesa_engine.specs.Failing.{deciding_stage}
+use Rattle.mesa_publishing.specs.Published.{AllTell}
+use Rattle.mesa_writing.specs.declared.writing.Change.{Change}
+use Rattle.mesa_writing.specs.Writing.{IsToWrite}
+use Rattle.mesa_writing.proofs.Doing.{IsDone, command_done, stocked_later}
+use Rattle.mesa_writing.proofs.Unseen.{dark, dark_passes, dark_writes, unseen_vault}
+
+-- What the device work of a turn did that wrote a body, adopted files and removed others.
+pub record IsWorked (story new : Story) (end : ℕ) (body : List ℕ) (made : List (ℕ × Option (List ℕ))) (dropped : List ℕ) : Type 0 where
+  pub images : (bodies : List (List ℕ)) (c : Catalog) (rows : Rows) (r : Record) → IsWritten story bodies end c rows r body made dropped → Spans (EitherOf (kept_of rows c) (kept_of rows (applied c r))) story new
+  pub only : Steps (MovesOnly made dropped) story.told new.told
+  pub passes : Passes story new
+
+-- It was done.
+pub record IsWhole (story new : Story) (end : ℕ) (body : List ℕ) (made : List (ℕ × Option (List ℕ))) (dropped : List ℕ) (later : ℕ) : Type 0 where
+  pub holds : (bodies : List (List ℕ)) (c : Catalog) (rows : Rows) (r : Record) → IsWritten story bodies end c rows r body made dropped → IsHeld new (bodies ++ body ∷ []) (end + length body + 5) (applied c r) rows
+  pub gone : (i : Image) → new.told ≡ Some i → AreGone dropped i
+  pub ends : later ≡ end + length body + 5
+  pub long : later < new.len Zero
+
+-- ---- ids
+
+all_among : (P : ℕ → Type 0) (ids : List ℕ) → ((id : ℕ) → Among id ids → P id) → AllByRecursion P ids
+all_among P [] each = tt
+all_among P (x ∷ ids) each = (each x (inl refl), all_among P ids (λ id is. each id (inr is)))
+
+not_among : (id : ℕ) (files : List Shelved) → (Among id (map shelved_id files) → ⊥) → AllByRecursion (λ (x : Shelved). x.file.id ≡ id → ⊥) files
+not_among id [] none = tt
+not_among id (x ∷ files) none = (λ same. none (inl same), not_among id files (λ is. none (inr is)))
+
+-- files that get ids from the next one on aren't there yet
+pub absent_yet : (next later past : ℕ) (made : List (ℕ × Option (List ℕ))) (image : Image) → later ≤ past → AreGiven next later made → ((id : ℕ) → next ≤ id → id < past → file_of image id ≡ None) → AreAbsent made image
+absent_yet next later past [] image le given fresh = tt
+absent_yet next later past (file ∷ made) image le given fresh = (fresh file.0 given.0.0 (let lt = given.0.1 in omega (arith, lt, le)), absent_yet next later past made image le given.1 fresh)
+
+module _ (n : Starts) (w : Rows) (sound : Bool) (l : Ledger) (story : Story) (held : Option (List ℕ)) (h : List Entry) (running refused : Bool) (v : IsVault (outset_of n w) (n.origin w) sound l story held h running refused)
+    (session number : ℕ) (low : session < 2 ^ 16) (few : number < 2 ^ 32) (ran : running ≡ true)
+    {M : Type 0} (bytes : M → Option (List ℕ)) (change : Change M) (script : Script) (r : Run) (to : IsToWrite bytes script r l session number change)
+    (due : IsDue n.script (run_of (outset_of n w) h) session number to.asked (deciding_stage to.asked)) (typed : IsTyped change.writes) where
+  abbrev c : Catalog
+  c = l.catalogue
+
+  abbrev x : Catalog
+  x = applied l.catalogue change.writes
+
+  abbrev later : Rows
+  later = to.can.later v.rows
+
+  abbrev made : List (ℕ × Option (List ℕ))
+  made = files_of bytes change.made.items
+
+  abbrev removed : List ℕ
+  removed = removed_by l (length h) []
+
+  done : (end : ℕ) → IsDone (outset_of n w) (n.origin w) sound l h v.rows (to.can.later v.rows) session to.asked change.writes change.tells (length h) change.adopted end
+  done end = command_done (outset_of n w) (n.origin w) sound l story held h running refused v to.can.later to.can.brings.agree to.can.opened session (length h) change.adopted end to.asked change.writes change.tells to.can.fit typed to.can.brings.told to.can.does
+
+  renames : Renames (named c) made (named x) []
+  renames = subst (λ gone. Renames (named c) made (named x) gone) (done 0).gone (record_renames c change.writes to.can.rules to.can.fit v.own made to.can.brings.ids)
+
+  recorded : IsRecorded l v.rows later x made []
+  recorded = record {
+    agree = to.can.brings.agree v.rows;
+    run = (done 0).run;
+    renames = renames;
+    brings = record_brings c change.writes to.can.rules to.can.fit v.own made to.can.brings.ids;
+    shaped = fits_shaped c change.writes v.shaped typed to.can.fit;
+    own = own_ids c change.writes to.can.rules to.can.fit v.own;
+  }
+
+  -- nothing that is removed is named then
+  unnamed : AllByRecursion (IsUnnamed x) removed
+  unnamed = all_among (IsUnnamed x) removed (λ id is. not_among id (shelved x) (freed_unnamed (length h + 1) (first_id c.run + change.adopted) (named x) (waiting l (length h) []) (map ids_held (holders v.seen l))
+      (filed_moved (length h) (next_id l) (named c) l.trash (map ids_held (holders v.seen l)) v.filed made (first_id c.run + change.adopted) to.can.brings.adopts.given (let more = to.can.brings.adopts.more in omega (arith, more)) (named x) [] renames)
+      id (subst (λ hs. Among id (ids_of (freed hs (waiting l (length h) [])))) (sym (holds_are v.seen l)) is)))
+
+  module _ (body : List ℕ) (are : AreBytes body) (reads : record_at body ≡ Ok change.writes) where
+    to_write : IsTrue sound → story.moment < last → AllTell bytes change.made.items → IsWritten story v.bodies l.end c later change.writes body made removed
+    to_write ok low' tell =
+        let is = v.stands ok low' to.can.opened in
+        let stocked = stocked_later (outset_of n w) (n.origin w) sound l story held h running refused v to.can.later to.can.brings.agree to.can.opened session (length h) change.adopted 0 ok in
+        let moved = ((done 0).moves stocked).1 in
+        record {
+          held = record {
+            bytes = is.bytes;
+            records = is.records;
+            stocked = stocked;
+            stands = subst (λ files. Stands story Zero v.bodies l.end files) (sym (agree_wants v.rows later (shelved c) (named_agree (outset_of n w) (n.origin w) sound l story held h running refused v later (to.can.brings.agree v.rows)))) is.stands;
+          };
+          step = record { bytes = are; reads = reads; fitting = to.can.fit; stocked = moved.stocked; grows = moved.grows };
+          brings = to.can.brings.files v.rows tell;
+          unnamed = unnamed;
+        }
+
+    -- each image stands for what was kept, or for what is to be kept
+    pub store_writes : (new : Story) → IsWorked story new l.end body made removed → IsTrue sound → AllTell bytes change.made.items → Writes StandsFor story new (kept_of v.rows l.catalogue) (kept_of (to.can.later v.rows) (applied l.catalogue change.writes))
+    store_writes new worked ok tell below all =
+        let after = worked.passes.later in
+        let low' : story.moment < last = omega (arith, below, after) in
+        subst (λ k. Spans (StandsForEither StandsFor k (kept_of later x)) story new) (same_kept (outset_of n w) (n.origin w) sound l story held h running refused v later (to.can.brings.agree v.rows))
+        (worked.images v.bodies c later change.writes (to_write ok low' tell))
+
+    pub store_holds : (new : Story) (end : ℕ) → IsWorked story new l.end body made removed → IsWhole story new l.end body made removed end → IsTrue sound → AllTell bytes change.made.items → new.moment < last
+        → IsHeld new (v.bodies ++ body ∷ []) end (applied l.catalogue change.writes) (to.can.later v.rows)
+    store_holds new end worked whole ok tell below =
+        let after = worked.passes.later in
+        let low' : story.moment < last = omega (arith, below, after) in
+        subst (λ e. IsHeld new (v.bodies ++ body ∷ []) e x later) (sym whole.ends) (whole.holds v.bodies c later change.writes (to_write ok low' tell))
+
+  module _ (new : Story) (m : ℕ) (moment : m ≡ new.moment) (passes : Passes story new) (only : Steps (MovesOnly made removed) story.told new.told) (at : ℕ) (place : at ≡ length h) (now : Bool) (new_held : Option (List ℕ))
+      (writes : Writes StandsFor story new (kept_of v.rows l.catalogue) (kept_of (to.can.later v.rows) (applied l.catalogue change.writes))) where
+    pub stands_so : (end : ℕ) → Counts story new false → (bodies : List (List ℕ)) → (IsTrue sound → new.moment < last → IsHeld new bodies end (applied l.catalogue change.writes) (to.can.later v.rows))
+        → ((i : Image) → new.told ≡ Some i → AreGone (removed_by l (length h) []) i) → end < new.len Zero → generation_of (applied l.catalogue change.writes) ≡ l.generation + turns_generation change.writes
+        → IsPut (block (entry session number kind.Decide outcome.Stands m) (Some (told_at at change.tells))) now held new_held
+        → IsVault (outset_of n w) (n.origin w) sound (recorded_ledger l (length h) (applied l.catalogue change.writes) (generation_of (applied l.catalogue change.writes)) [] l.leases change.adopted end) new new_held (h ++ entry session number kind.Decide outcome.Stands m ∷ []) now (refused || is_refusal change.tells)
+    stands_so end counts bodies holds gone long rises put =
+        let d = done end in
+        written_vault n w sound l story held h running refused v session number low few m ran at place to.can.opened later x made [] change.adopted to.can.brings.adopts recorded new moment passes only writes now new_held
+        to.asked (deciding_stage to.asked) d.f d.decided due (generation_of x) end change.tells d.writes d.change counts bodies holds gone
+        (λ ok. (d.moves (stocked_later (outset_of n w) (n.origin w) sound l story held h running refused v to.can.later to.can.brings.agree to.can.opened session (length h) change.adopted end ok)).1.stocked) long
+        (rises ∙ ap (λ k. l.generation + k) d.rises) (λ told ok. d.sources (entry session number kind.Decide outcome.Stands m) _ due.known told ok) put
+
+    pub fails_so : Counts story new true → IsPut (block (entry session number kind.Decide outcome.WriteFault m) (Some (told_at at (reply_of Unwritten)))) now held new_held
+        → IsVault (outset_of n w) (n.origin w) sound (failed_ledger l at l.leases change.adopted) new new_held (h ++ entry session number kind.Decide outcome.WriteFault m ∷ []) now (refused || true)
+    fails_so counts put =
+        let d = done 0 in
+        unwritten_vault n w sound l story held h running refused v session number low few m ran at place to.can.opened later x made [] change.adopted to.can.brings.adopts recorded new moment passes only writes now new_held
+        to.asked (deciding_stage to.asked) d.f d.decided due (generation_of x) 0 change.tells d.writes d.change d.writing counts put
+
+-- ---- on every store
+
+module _ (n : Starts) (w : Rows) (sound : Bool) (l : Ledger) (story : Story) (held : Option (List ℕ)) (h : List Entry) (running refused : Bool) (v : IsVault (outset_of n w) (n.origin w) sound l story held h running refused)
+    (session number : ℕ) (low : session < 2 ^ 16) (few : number < 2 ^ 32) (ran : running ≡ true)
+    {M : Type 0} (bytes : M → Option (List ℕ)) (change : Change M) (script : Script) (r : Run) (to : IsToWrite bytes script r l session number change)
+    (due : IsDue n.script (run_of (outset_of n w) h) session number to.asked (deciding_stage to.asked)) (typed : IsTyped change.writes) (tell : IsTrue sound → AllTell bytes change.made.items)
+    (body : List ℕ) (are : AreBytes body) (reads : record_at body ≡ Ok change.writes) (new : Story) (worked : IsWorked story new l.end body (files_of bytes change.made.items) (removed_by l (length h) []))
+    (m : ℕ) (moment : m ≡ new.moment) (at : ℕ) (place : at ≡ length h) (now : Bool) (new_held : Option (List ℕ)) where
+  abbrev o : Outset
+  o = outset_of n w
+
+  abbrev g : Origin
+  g = n.origin w
+
+  -- where the store isn't known to be sound, what a crash leaves doesn't matter
+  unsound : sound ≡ false → IsVault o g false l (dark story) held h running refused
+  unsound is = unseen_vault o g l story held h running refused (λ i. ⊥) (λ t i. ⊥) (subst (λ b. IsVault o g b l story held h running refused) is v)
+
+  again : (k : Ledger) (h2 : List Entry) (told : Bool) → sound ≡ false → IsVault o g false k (dark new) new_held h2 now told → IsVault o g sound k new new_held h2 now told
+  again k h2 told is later = subst (λ b. IsVault o g b k new new_held h2 now told) (sym is) (unseen_vault o g k (dark new) new_held h2 now told new.may_leave new.may_have_left later)
+
+  -- The device work is done, and the vault has the record.
+  pub write_stands : (end : ℕ) → IsWhole story new l.end body (files_of bytes change.made.items) (removed_by l (length h) []) end → Counts story new false → generation_of (applied l.catalogue change.writes) ≡ l.generation + turns_generation change.writes
+      → IsPut (block (entry session number kind.Decide outcome.Stands m) (Some (told_at at change.tells))) now held new_held
+      → IsVault (outset_of n w) (n.origin w) sound (recorded_ledger l (length h) (applied l.catalogue change.writes) (generation_of (applied l.catalogue change.writes)) [] l.leases change.adopted end) new new_held (h ++ entry session number kind.Decide outcome.Stands m ∷ []) now (refused || is_refusal change.tells)
+  write_stands end whole counts rises put = by sound refl
+    where
+      by : (b : Bool) → sound ≡ b → IsVault o g sound (recorded_ledger l (length h) (applied l.catalogue change.writes) (generation_of (applied l.catalogue change.writes)) [] l.leases change.adopted end) new new_held (h ++ entry session number kind.Decide outcome.Stands m ∷ []) now (refused || is_refusal change.tells)
+      by true is =
+          stands_so n w sound l story held h running refused v session number low few ran bytes change script r to due typed new m moment worked.passes worked.only at place now new_held
+          (store_writes n w sound l story held h running refused v session number low few ran bytes change script r to due typed body are reads new worked is (tell is)) end counts (v.bodies ++ body ∷ [])
+          (λ ok below. store_holds n w sound l story held h running refused v session number low few ran bytes change script r to due typed body are reads new end worked whole ok (tell ok) below) whole.gone whole.long rises put
+      by false is =
+          again _ _ _ is
+          (stands_so n w false l (dark story) held h running refused (unsound is) session number low few ran bytes change script r to due typed (dark new) m moment (dark_passes story new worked.passes) worked.only at place now new_held
+          (dark_writes story new _ _ worked.passes) end (record { faults = counts.faults; reads = counts.reads; rose = counts.rose }) [] (λ ok. absurd cc) whole.gone whole.long rises put)
+
+  -- The device work has failed, and the vault closes.
+  pub write_fails : Counts story new true → IsPut (block (entry session number kind.Decide outcome.WriteFault m) (Some (told_at at (reply_of Unwritten)))) now held new_held
+      → IsVault (outset_of n w) (n.origin w) sound (failed_ledger l at l.leases change.adopted) new new_held (h ++ entry session number kind.Decide outcome.WriteFault m ∷ []) now (refused || true)
+  write_fails counts put = by sound refl
+    where
+      by : (b : Bool) → sound ≡ b → IsVault o g sound (failed_ledger l at l.leases change.adopted) new new_held (h ++ entry session number kind.Decide outcome.WriteFault m ∷ []) now (refused || true)
+      by true is =
+          fails_so n w sound l story held h running refused v session number low few ran bytes change script r to due typed new m moment worked.passes worked.only at place now new_held
+          (store_writes n w sound l story held h running refused v session number low few ran bytes change script r to due typed body are reads new worked is (tell is)) counts put
+      by false is =
+          again _ _ _ is
+          (fails_so n w false l (dark story) held h running refused (unsound is) session number low few ran bytes change script r to due typed (dark new) m moment (dark_passes story new worked.passes) worked.only at place now new_held
+          (dark_writes story new _ _ worked.passes) (record { faults = counts.faults; reads = counts.reads; rose = counts.rose }) put)

@@ -1,0 +1,297 @@
+use Rattle.std.proofs.Common.{◌≡◌, inl, ◌+◌, ◌<◌, [], ◌∷◌, ◌++◌, length, true, false, not, refl, sym, ◌∙◌, ap, subst, arith}
+use Rattle.mesa_disk.specs.Files.{files_of}
+use Rattle.mesa_disk.specs.declared.area.Area.TheVariants.{Zero}
+use Rattle.mesa_history.specs.Replay.{no_rows as no_lines}
+use Rattle.mesa_history.specs.Run.{Finished}
+use Rattle.mesa_image.specs.Catalog.{applied}
+use Rattle.mesa_catalog.specs.Lookups.{generation_of, turns_generation}
+use Rattle.mesa_model.specs.Entry.{IsShort}
+use Rattle.mesa_model.specs.declared.entries.Kind.TheVariants as kind
+use Rattle.mesa_model.specs.declared.entries.Outcome.TheVariants as outcome
+use Rattle.mesa_record.proofs.RecordsBoth.{record_found}
+use Rattle.mesa_skeleton.specs.Rows.{no_rows}
+use Rattle.mesa_walk.specs.Causes.{Unwritten, reply_of, told_at}
+use Rattle.mesa_walk.specs.Turns.{Shown, Takes, entry}
+use Rattle.mesa_walk.specs.Walk.{Counts, run_at}
+use Rattle.mesa_ledger.specs.Ledger.{Ledger}
+use Rattle.mesa_ledger.specs.Recorded.{failed_ledger, recorded_ledger, removed_by}
+use Rattle.mesa_ledger.specs.Vault.{Starts}
+use Rattle.mesa_ledger.proofs.Beginning.{vault_at_seen}
+use Rattle.mesa_log.specs.Printing.{PrintsBlock}
+use Rattle.mesa_metadata.specs.Memory.{Memory}
+use Rattle.mesa_engine.specs.Engine.{Standing, starts_of}
+use Rattle.mesa_writing.specs.Writing.{IsToWrite}
+use Rattle.mesa_writing.proofs.Engines.{absent_now, ready_now, unwritten_engine, written_engine}
+use Rattle.mesa_writing.proofs.Rulings.{writes_print, writes_take}
+use Rattle.mesa_writing.proofs.Written.{IsWhole, IsWorked}
+use Rattle.mesa_writing.proofs.writing.write.Goals as goal
+
+pub write_record-requires-clause-new : goal.write_record-requires-clause-new
+write_record-requires-clause-new g c κs within =
+    let N = g.N.Naming in
+    let n : Starts = starts_of N.script N.start N.sound N.origin N.since N.counted N.at_start in
+    let i = c.engine.inside in
+    let s = c.args.who.session in
+    let number = c.args.who.command in
+    let l = i.metadata.ledger in
+    let h = i.log.history.items in
+    let story = g.D.Disk.story i.disk in
+    let bytes = g.M.Made.bytes in
+    let change = c.args.change in
+    let to : IsToWrite bytes N.script (run_at N.script (N.start no_rows) h) l s number change = subst (λ (st : Standing). IsToWrite bytes N.script (run_at N.script (N.start no_rows) st.shown.history) st.ledger s number change) (sym c.engine.view_is) c.requires.change in
+    λ image told. absent_now g.K.Sink.held g.K.Sink.faults n N.room N.sink_faults i.metadata story i.log c.engine.invariant bytes change N.script (run_at N.script (N.start no_rows) h) s number to image told
+
+pub write_record-requires-clause-room : goal.write_record-requires-clause-room
+write_record-requires-clause-room g c κs within =
+    let N = g.N.Naming in
+    let n : Starts = starts_of N.script N.start N.sound N.origin N.since N.counted N.at_start in
+    let i = c.engine.inside in
+    let s = c.args.who.session in
+    let number = c.args.who.command in
+    let l = i.metadata.ledger in
+    let h = i.log.history.items in
+    let story = g.D.Disk.story i.disk in
+    let bytes = g.M.Made.bytes in
+    let change = c.args.change in
+    let to : IsToWrite bytes N.script (run_at N.script (N.start no_rows) h) l s number change = subst (λ (st : Standing). IsToWrite bytes N.script (run_at N.script (N.start no_rows) st.shown.history) st.ledger s number change) (sym c.engine.view_is) c.requires.change in
+    let end_is : c.end-end.result ≡ l.end = c.end-end.ensures ∙ ap (λ (m : Memory). m.ledger.end) c.in-Ok.ensures.reserved in
+    let ready = ready_now g.K.Sink.held g.K.Sink.faults n N.room N.sink_faults i.metadata story i.log c.engine.invariant to.can.opened in
+    subst (λ e. e < story.len Zero) (sym end_is) ready.long
+
+pub invariant_of-engine-in-Ok-write_record : goal.invariant_of-engine-in-Ok-write_record
+invariant_of-engine-in-Ok-write_record g c =
+    let N = g.N.Naming in
+    let n : Starts = starts_of N.script N.start N.sound N.origin N.since N.counted N.at_start in
+    let i = c.engine.inside in
+    let s = c.args.who.session in
+    let number = c.args.who.command in
+    let l = i.metadata.ledger in
+    let h = i.log.history.items in
+    let story = g.D.Disk.story i.disk in
+    let bytes = g.M.Made.bytes in
+    let change = c.args.change in
+    let to : IsToWrite bytes N.script (run_at N.script (N.start no_rows) h) l s number change = subst (λ (st : Standing). IsToWrite bytes N.script (run_at N.script (N.start no_rows) st.shown.history) st.ledger s number change) (sym c.engine.view_is) c.requires.change in
+    let new = g.D.Disk.story c.write_record.new.disk in
+    let body = c.in-Ok.ready.0 in
+    let at = c.position-at.result in
+    let place = c.position-at.ensures in
+    let reserved = c.in-Ok.ensures.reserved in
+    let does = c.write_record.ensures in
+    let ran : not i.log.printer.broken ≡ true = ap (λ (st : Standing). st.shown.running) c.engine.view_is ∙ c.requires.runs in
+    let end_is : c.end-end.result ≡ l.end = c.end-end.ensures ∙ ap (λ (m : Memory). m.ledger.end) reserved in
+    let removed_is : c.deref.result.now ≡ removed_by l (length h) [] = c.deref.ensures.value ∙ c.in-Ok.ensures.removes ∙ ap (λ p. removed_by l p []) place in
+    let laws = g.met.D.Disk g.world.𝓛 g.world.𝓜 g.world.𝓡 ((λ s x. x), (λ x. x), (λ x. x), λ x. x) in
+    let worked : IsWorked story new l.end body (files_of bytes change.made.items) (removed_by l (length h) []) =
+    subst (λ e. IsWorked story new e body (files_of bytes change.made.items) (removed_by l (length h) [])) end_is
+    (subst (λ d. IsWorked story new c.end-end.result body (files_of bytes change.made.items) d) removed_is
+    (record {
+      images = does.images;
+      only = does.only;
+      passes = record {
+        rose = does.risen;
+        later = does.clock;
+        laws = record {
+          only_old = λ x low had. laws.only_now i.disk x low had;
+          only_new = λ x low had. laws.only_now c.write_record.new.disk x low had;
+          earlier = λ a t x le had. laws.earlier c.write_record.new.disk a t x le had;
+        };
+      };
+    })) in
+    let typed = (record_found body change.writes c.in-Ok.ensures.bytes c.in-Ok.ensures.reads).0.typed in
+    let read = does.read_cause in
+    let end = c.in-Ok-write_record.end in
+    let later = c.tell.new.self in
+    let short : IsShort (entry s number kind.Decide outcome.Stands c.clock.result) = subst IsShort c.turn-turn.ensures.same c.turn-turn.ensures.short in
+    let done = c.in-Ok-write_record.ensures in
+    let whole : IsWhole story new l.end body (files_of bytes change.made.items) (removed_by l (length h) []) end =
+    subst (λ e. IsWhole story new e body (files_of bytes change.made.items) (removed_by l (length h) []) end) end_is
+    (subst (λ d. IsWhole story new c.end-end.result body (files_of bytes change.made.items) d end) removed_is (record { holds = done.done; gone = done.gone; ends = done.end; long = done.longer })) in
+    let counts : Counts story new false = record { faults = does.cause.later; reads = omega (arith, read); rose = λ low is. absurd cc } in
+    let ledger_is : c.apply.new.self.ledger ≡ recorded_ledger l (length h) (applied l.catalogue change.writes) (generation_of (applied l.catalogue change.writes)) [] l.leases change.adopted end =
+    ap (λ (m : Memory). m.ledger) c.apply.ensures.applied
+    ∙ (λ j. recorded_ledger (reserved j).ledger (place j) (applied (reserved j).ledger.catalogue change.writes) (generation_of (applied (reserved j).ledger.catalogue change.writes)) [] (reserved j).ledger.leases change.adopted end) in
+    let rises : generation_of (applied l.catalogue change.writes) ≡ l.generation + turns_generation change.writes =
+    sym (ap (λ (k : Ledger). k.generation) ledger_is) ∙ c.apply.ensures.generation ∙ ap (λ (m : Memory). m.ledger.generation + turns_generation change.writes) reserved in
+    let leased : c.apply.new.self.leased ≡ i.metadata.leased = ap (λ (m : Memory). m.leased) c.apply.ensures.applied ∙ ap (λ (m : Memory). m.leased) reserved in
+    let grew = c.tell.ensures.items ∙ ap (λ x. h ++ x ∷ []) c.turn-turn.ensures.same in
+    let prints = subst (λ x. PrintsBlock g.K.Sink.held g.K.Sink.faults i.log.printer later.printer x (told_at at change.tells)) c.turn-turn.ensures.same (c.tell.ensures.told no_lines (writes_print l to.can.later to.asked change.writes change.tells to.can.does)) in
+    let kept = written_engine g.K.Sink.held g.K.Sink.faults n N.room N.sink_faults i.metadata story i.log c.engine.invariant N.alike s number short.session short.command ran bytes change to typed c.requires.told body c.in-Ok.ensures.bytes c.in-Ok.ensures.reads new worked
+    c.clock.result c.clock.ensures at place c.apply.new.self later end whole counts ledger_is rises leased grew c.tell.ensures.room prints c.tell.ensures.refused in
+    kept
+
+pub returns-in-Ok-write_record : goal.returns-in-Ok-write_record
+returns-in-Ok-write_record g c =
+    let N = g.N.Naming in
+    let n : Starts = starts_of N.script N.start N.sound N.origin N.since N.counted N.at_start in
+    let i = c.engine.inside in
+    let s = c.args.who.session in
+    let number = c.args.who.command in
+    let l = i.metadata.ledger in
+    let h = i.log.history.items in
+    let story = g.D.Disk.story i.disk in
+    let bytes = g.M.Made.bytes in
+    let change = c.args.change in
+    let to : IsToWrite bytes N.script (run_at N.script (N.start no_rows) h) l s number change = subst (λ (st : Standing). IsToWrite bytes N.script (run_at N.script (N.start no_rows) st.shown.history) st.ledger s number change) (sym c.engine.view_is) c.requires.change in
+    let new = g.D.Disk.story c.write_record.new.disk in
+    let body = c.in-Ok.ready.0 in
+    let at = c.position-at.result in
+    let place = c.position-at.ensures in
+    let reserved = c.in-Ok.ensures.reserved in
+    let does = c.write_record.ensures in
+    let ran : not i.log.printer.broken ≡ true = ap (λ (st : Standing). st.shown.running) c.engine.view_is ∙ c.requires.runs in
+    let end_is : c.end-end.result ≡ l.end = c.end-end.ensures ∙ ap (λ (m : Memory). m.ledger.end) reserved in
+    let removed_is : c.deref.result.now ≡ removed_by l (length h) [] = c.deref.ensures.value ∙ c.in-Ok.ensures.removes ∙ ap (λ p. removed_by l p []) place in
+    let laws = g.met.D.Disk g.world.𝓛 g.world.𝓜 g.world.𝓡 ((λ s x. x), (λ x. x), (λ x. x), λ x. x) in
+    let worked : IsWorked story new l.end body (files_of bytes change.made.items) (removed_by l (length h) []) =
+    subst (λ e. IsWorked story new e body (files_of bytes change.made.items) (removed_by l (length h) [])) end_is
+    (subst (λ d. IsWorked story new c.end-end.result body (files_of bytes change.made.items) d) removed_is
+    (record {
+      images = does.images;
+      only = does.only;
+      passes = record {
+        rose = does.risen;
+        later = does.clock;
+        laws = record {
+          only_old = λ x low had. laws.only_now i.disk x low had;
+          only_new = λ x low had. laws.only_now c.write_record.new.disk x low had;
+          earlier = λ a t x le had. laws.earlier c.write_record.new.disk a t x le had;
+        };
+      };
+    })) in
+    let typed = (record_found body change.writes c.in-Ok.ensures.bytes c.in-Ok.ensures.reads).0.typed in
+    let read = does.read_cause in
+    let end = c.in-Ok-write_record.end in
+    let later = c.tell.new.self in
+    let short : IsShort (entry s number kind.Decide outcome.Stands c.clock.result) = subst IsShort c.turn-turn.ensures.same c.turn-turn.ensures.short in
+    let done = c.in-Ok-write_record.ensures in
+    let whole : IsWhole story new l.end body (files_of bytes change.made.items) (removed_by l (length h) []) end =
+    subst (λ e. IsWhole story new e body (files_of bytes change.made.items) (removed_by l (length h) []) end) end_is
+    (subst (λ d. IsWhole story new c.end-end.result body (files_of bytes change.made.items) d end) removed_is (record { holds = done.done; gone = done.gone; ends = done.end; long = done.longer })) in
+    let counts : Counts story new false = record { faults = does.cause.later; reads = omega (arith, read); rose = λ low is. absurd cc } in
+    let ledger_is : c.apply.new.self.ledger ≡ recorded_ledger l (length h) (applied l.catalogue change.writes) (generation_of (applied l.catalogue change.writes)) [] l.leases change.adopted end =
+    ap (λ (m : Memory). m.ledger) c.apply.ensures.applied
+    ∙ (λ j. recorded_ledger (reserved j).ledger (place j) (applied (reserved j).ledger.catalogue change.writes) (generation_of (applied (reserved j).ledger.catalogue change.writes)) [] (reserved j).ledger.leases change.adopted end) in
+    let rises : generation_of (applied l.catalogue change.writes) ≡ l.generation + turns_generation change.writes =
+    sym (ap (λ (k : Ledger). k.generation) ledger_is) ∙ c.apply.ensures.generation ∙ ap (λ (m : Memory). m.ledger.generation + turns_generation change.writes) reserved in
+    let leased : c.apply.new.self.leased ≡ i.metadata.leased = ap (λ (m : Memory). m.leased) c.apply.ensures.applied ∙ ap (λ (m : Memory). m.leased) reserved in
+    let grew = c.tell.ensures.items ∙ ap (λ x. h ++ x ∷ []) c.turn-turn.ensures.same in
+    let prints = subst (λ x. PrintsBlock g.K.Sink.held g.K.Sink.faults i.log.printer later.printer x (told_at at change.tells)) c.turn-turn.ensures.same (c.tell.ensures.told no_lines (writes_print l to.can.later to.asked change.writes change.tells to.can.does)) in
+    let kept = written_engine g.K.Sink.held g.K.Sink.faults n N.room N.sink_faults i.metadata story i.log c.engine.invariant N.alike s number short.session short.command ran bytes change to typed c.requires.told body c.in-Ok.ensures.bytes c.in-Ok.ensures.reads new worked
+    c.clock.result c.clock.ensures at place c.apply.new.self later end whole counts ledger_is rises leased grew c.tell.ensures.room prints c.tell.ensures.refused in
+    let seen : Shown = record { history = later.history.items; running = not later.printer.broken; clock = new.moment } in
+    record {
+      turn = subst (λ (x : Standing). Takes N.script (N.start no_rows) x.shown seen s number kind.Decide Finished) c.engine.view_is
+          (writes_take N.script (N.start no_rows) (record { history = h; running = not i.log.printer.broken; clock = story.moment }) seen s number ran l to.can.later change.writes change.tells outcome.Stands refl
+          (grew ∙ ap (λ x. h ++ entry s number kind.Decide outcome.Stands x ∷ []) c.clock.ensures)
+          (vault_at_seen n c.apply.new.self.ledger new (g.K.Sink.held later.printer.sink) later.history.items (not later.printer.broken) later.refused new.moment kept.vault) to.asked to.can.does to.due);
+    }
+
+pub invariant_of-engine-in-Err-write_record : goal.invariant_of-engine-in-Err-write_record
+invariant_of-engine-in-Err-write_record g c =
+    let N = g.N.Naming in
+    let n : Starts = starts_of N.script N.start N.sound N.origin N.since N.counted N.at_start in
+    let i = c.engine.inside in
+    let s = c.args.who.session in
+    let number = c.args.who.command in
+    let l = i.metadata.ledger in
+    let h = i.log.history.items in
+    let story = g.D.Disk.story i.disk in
+    let bytes = g.M.Made.bytes in
+    let change = c.args.change in
+    let to : IsToWrite bytes N.script (run_at N.script (N.start no_rows) h) l s number change = subst (λ (st : Standing). IsToWrite bytes N.script (run_at N.script (N.start no_rows) st.shown.history) st.ledger s number change) (sym c.engine.view_is) c.requires.change in
+    let new = g.D.Disk.story c.write_record.new.disk in
+    let body = c.in-Ok.ready.0 in
+    let at = c.position-at.result in
+    let place = c.position-at.ensures in
+    let reserved = c.in-Ok.ensures.reserved in
+    let does = c.write_record.ensures in
+    let ran : not i.log.printer.broken ≡ true = ap (λ (st : Standing). st.shown.running) c.engine.view_is ∙ c.requires.runs in
+    let end_is : c.end-end.result ≡ l.end = c.end-end.ensures ∙ ap (λ (m : Memory). m.ledger.end) reserved in
+    let removed_is : c.deref.result.now ≡ removed_by l (length h) [] = c.deref.ensures.value ∙ c.in-Ok.ensures.removes ∙ ap (λ p. removed_by l p []) place in
+    let laws = g.met.D.Disk g.world.𝓛 g.world.𝓜 g.world.𝓡 ((λ s x. x), (λ x. x), (λ x. x), λ x. x) in
+    let worked : IsWorked story new l.end body (files_of bytes change.made.items) (removed_by l (length h) []) =
+    subst (λ e. IsWorked story new e body (files_of bytes change.made.items) (removed_by l (length h) [])) end_is
+    (subst (λ d. IsWorked story new c.end-end.result body (files_of bytes change.made.items) d) removed_is
+    (record {
+      images = does.images;
+      only = does.only;
+      passes = record {
+        rose = does.risen;
+        later = does.clock;
+        laws = record {
+          only_old = λ x low had. laws.only_now i.disk x low had;
+          only_new = λ x low had. laws.only_now c.write_record.new.disk x low had;
+          earlier = λ a t x le had. laws.earlier c.write_record.new.disk a t x le had;
+        };
+      };
+    })) in
+    let typed = (record_found body change.writes c.in-Ok.ensures.bytes c.in-Ok.ensures.reads).0.typed in
+    let read = does.read_cause in
+    let later = c.fail-in-Err-write_record-2.new.self in
+    let told = c.fail-in-Err-write_record-2.ensures in
+    let after = c.fail-in-Err-write_record.new.self in
+    let counts : Counts story new true = record { faults = does.cause.later; reads = omega (arith, read); rose = λ low is. inl c.in-Err-write_record.ensures.cause.failed } in
+    let ledger_is : after.ledger ≡ failed_ledger l at l.leases change.adopted = ap (λ (m : Memory). m.ledger) c.fail-in-Err-write_record.ensures ∙ (λ j. failed_ledger (reserved j).ledger at (reserved j).ledger.leases change.adopted) in
+    let leased : after.leased ≡ i.metadata.leased = ap (λ (m : Memory). m.leased) c.fail-in-Err-write_record.ensures ∙ ap (λ (m : Memory). m.leased) reserved in
+    let prints = subst (λ p. PrintsBlock g.K.Sink.held g.K.Sink.faults i.log.printer later.printer (entry s number kind.Decide outcome.WriteFault c.clock-moment.result) (told_at p (reply_of Unwritten))) (sym place) told.told in
+    let kept = unwritten_engine g.K.Sink.held g.K.Sink.faults n N.room N.sink_faults i.metadata story i.log c.engine.invariant N.alike s number told.short.session told.short.command ran bytes change to typed c.requires.told body c.in-Ok.ensures.bytes c.in-Ok.ensures.reads new worked
+    c.clock-moment.result c.clock-moment.ensures at place after later counts ledger_is leased told.items told.room prints told.refused in
+    kept
+
+pub returns : goal.returns
+returns g c =
+    let N = g.N.Naming in
+    let n : Starts = starts_of N.script N.start N.sound N.origin N.since N.counted N.at_start in
+    let i = c.engine.inside in
+    let s = c.args.who.session in
+    let number = c.args.who.command in
+    let l = i.metadata.ledger in
+    let h = i.log.history.items in
+    let story = g.D.Disk.story i.disk in
+    let bytes = g.M.Made.bytes in
+    let change = c.args.change in
+    let to : IsToWrite bytes N.script (run_at N.script (N.start no_rows) h) l s number change = subst (λ (st : Standing). IsToWrite bytes N.script (run_at N.script (N.start no_rows) st.shown.history) st.ledger s number change) (sym c.engine.view_is) c.requires.change in
+    let new = g.D.Disk.story c.write_record.new.disk in
+    let body = c.in-Ok.ready.0 in
+    let at = c.position-at.result in
+    let place = c.position-at.ensures in
+    let reserved = c.in-Ok.ensures.reserved in
+    let does = c.write_record.ensures in
+    let ran : not i.log.printer.broken ≡ true = ap (λ (st : Standing). st.shown.running) c.engine.view_is ∙ c.requires.runs in
+    let end_is : c.end-end.result ≡ l.end = c.end-end.ensures ∙ ap (λ (m : Memory). m.ledger.end) reserved in
+    let removed_is : c.deref.result.now ≡ removed_by l (length h) [] = c.deref.ensures.value ∙ c.in-Ok.ensures.removes ∙ ap (λ p. removed_by l p []) place in
+    let laws = g.met.D.Disk g.world.𝓛 g.world.𝓜 g.world.𝓡 ((λ s x. x), (λ x. x), (λ x. x), λ x. x) in
+    let worked : IsWorked story new l.end body (files_of bytes change.made.items) (removed_by l (length h) []) =
+    subst (λ e. IsWorked story new e body (files_of bytes change.made.items) (removed_by l (length h) [])) end_is
+    (subst (λ d. IsWorked story new c.end-end.result body (files_of bytes change.made.items) d) removed_is
+    (record {
+      images = does.images;
+      only = does.only;
+      passes = record {
+        rose = does.risen;
+        later = does.clock;
+        laws = record {
+          only_old = λ x low had. laws.only_now i.disk x low had;
+          only_new = λ x low had. laws.only_now c.write_record.new.disk x low had;
+          earlier = λ a t x le had. laws.earlier c.write_record.new.disk a t x le had;
+        };
+      };
+    })) in
+    let typed = (record_found body change.writes c.in-Ok.ensures.bytes c.in-Ok.ensures.reads).0.typed in
+    let read = does.read_cause in
+    let later = c.fail-in-Err-write_record-2.new.self in
+    let told = c.fail-in-Err-write_record-2.ensures in
+    let after = c.fail-in-Err-write_record.new.self in
+    let counts : Counts story new true = record { faults = does.cause.later; reads = omega (arith, read); rose = λ low is. inl c.in-Err-write_record.ensures.cause.failed } in
+    let ledger_is : after.ledger ≡ failed_ledger l at l.leases change.adopted = ap (λ (m : Memory). m.ledger) c.fail-in-Err-write_record.ensures ∙ (λ j. failed_ledger (reserved j).ledger at (reserved j).ledger.leases change.adopted) in
+    let leased : after.leased ≡ i.metadata.leased = ap (λ (m : Memory). m.leased) c.fail-in-Err-write_record.ensures ∙ ap (λ (m : Memory). m.leased) reserved in
+    let prints = subst (λ p. PrintsBlock g.K.Sink.held g.K.Sink.faults i.log.printer later.printer (entry s number kind.Decide outcome.WriteFault c.clock-moment.result) (told_at p (reply_of Unwritten))) (sym place) told.told in
+    let kept = unwritten_engine g.K.Sink.held g.K.Sink.faults n N.room N.sink_faults i.metadata story i.log c.engine.invariant N.alike s number told.short.session told.short.command ran bytes change to typed c.requires.told body c.in-Ok.ensures.bytes c.in-Ok.ensures.reads new worked
+    c.clock-moment.result c.clock-moment.ensures at place after later counts ledger_is leased told.items told.room prints told.refused in
+    let seen : Shown = record { history = later.history.items; running = not later.printer.broken; clock = new.moment } in
+    record {
+      turn = subst (λ (x : Standing). Takes N.script (N.start no_rows) x.shown seen s number kind.Decide Finished) c.engine.view_is
+          (writes_take N.script (N.start no_rows) (record { history = h; running = not i.log.printer.broken; clock = story.moment }) seen s number ran l to.can.later change.writes change.tells outcome.WriteFault refl
+          (told.items ∙ ap (λ x. h ++ entry s number kind.Decide outcome.WriteFault x ∷ []) c.clock-moment.ensures)
+          (vault_at_seen n after.ledger new (g.K.Sink.held later.printer.sink) later.history.items (not later.printer.broken) later.refused new.moment kept.vault) to.asked to.can.does to.due);
+    }

@@ -1,0 +1,95 @@
+// The turns of a table, a view, a change of columns and an expiry.
+ghost use Rattle.std.specs.Prelude.{◌≡◌, ◌<◌, length};
+ghost use Rattle.mesa_history.specs.Run.{First, Finished};
+ghost use Rattle.mesa_history.specs.Turns.{IsDue};
+ghost use Rattle.mesa_model.specs.declared.commands.Command.TheVariants as command;
+ghost use Rattle.mesa_model.specs.declared.entries.Kind.TheVariants as kind;
+ghost use Rattle.mesa_skeleton.specs.Rows.{no_rows};
+ghost use Rattle.mesa_walk.specs.Turns.{Takes};
+ghost use Rattle.mesa_walk.specs.Walk.{run_at};
+
+use crate::deciding::decide;
+use crate::ruling::{rule_alter, rule_expire, rule_table, rule_view};
+use mesa_disk::{Disk, Made};
+use mesa_engine::Engine;
+use mesa_io::Sink;
+use mesa_ledger::Naming;
+use mesa_log::Who;
+use mesa_model::{AlterWords, Kind, Refusal, Reply, TableWords, ViewWords};
+use std::alloc::Global;
+
+/// The turn that makes a table.
+pub fn table<N: Naming, M: Made, D: Disk<M>, K: Sink>(
+    alloc: Global,
+    engine: &mut Engine<N, M, D, K>,
+    who: Who,
+    words: &TableWords,
+) -> Reply
+    requires due { IsDue N.script (run_at N.script (N.start no_rows) engine.old.shown.history) who.session who.command (command.Table words.now) First }
+    requires room { length engine.old.shown.history < N.room }
+    ensures turn { Takes N.script (N.start no_rows) engine.old.shown engine.new.shown who.session who.command kind.Decide Finished }
+{
+    if !engine.running() {
+        engine.skip(who, Kind::Decide);
+        return Reply::Refused(Refusal::Memory);
+    }
+    let ruled = rule_table(alloc, &engine.metadata, words);
+    decide(alloc, engine, who, ruled)
+}
+
+/// The turn that makes a view of a table.
+pub fn view<N: Naming, M: Made, D: Disk<M>, K: Sink>(
+    alloc: Global,
+    engine: &mut Engine<N, M, D, K>,
+    who: Who,
+    words: &ViewWords,
+) -> Reply
+    requires due { IsDue N.script (run_at N.script (N.start no_rows) engine.old.shown.history) who.session who.command (command.View words.now) First }
+    requires room { length engine.old.shown.history < N.room }
+    ensures turn { Takes N.script (N.start no_rows) engine.old.shown engine.new.shown who.session who.command kind.Decide Finished }
+{
+    if !engine.running() {
+        engine.skip(who, Kind::Decide);
+        return Reply::Refused(Refusal::Memory);
+    }
+    let ruled = rule_view(alloc, &engine.metadata, words);
+    decide(alloc, engine, who, ruled)
+}
+
+/// The turn that changes a table's columns.
+pub fn alter<N: Naming, M: Made, D: Disk<M>, K: Sink>(
+    alloc: Global,
+    engine: &mut Engine<N, M, D, K>,
+    who: Who,
+    words: &AlterWords,
+) -> Reply
+    requires due { IsDue N.script (run_at N.script (N.start no_rows) engine.old.shown.history) who.session who.command (command.Alter words.now) First }
+    requires room { length engine.old.shown.history < N.room }
+    ensures turn { Takes N.script (N.start no_rows) engine.old.shown engine.new.shown who.session who.command kind.Decide Finished }
+{
+    if !engine.running() {
+        engine.skip(who, Kind::Decide);
+        return Reply::Refused(Refusal::Memory);
+    }
+    let ruled = rule_alter(alloc, &engine.metadata, words);
+    decide(alloc, engine, who, ruled)
+}
+
+/// The turn that lets the versions below one go.
+pub fn expire<N: Naming, M: Made, D: Disk<M>, K: Sink>(
+    alloc: Global,
+    engine: &mut Engine<N, M, D, K>,
+    who: Who,
+    version: u32,
+) -> Reply
+    requires due { IsDue N.script (run_at N.script (N.start no_rows) engine.old.shown.history) who.session who.command (command.Expire version) First }
+    requires room { length engine.old.shown.history < N.room }
+    ensures turn { Takes N.script (N.start no_rows) engine.old.shown engine.new.shown who.session who.command kind.Decide Finished }
+{
+    if !engine.running() {
+        engine.skip(who, Kind::Decide);
+        return Reply::Refused(Refusal::Memory);
+    }
+    let ruled = rule_expire(&engine.metadata, version);
+    decide(alloc, engine, who, ruled)
+}

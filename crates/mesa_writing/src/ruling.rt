@@ -1,0 +1,93 @@
+// What the rules let a command do while the vault is open.
+ghost use Rattle.std.specs.Prelude.{◌≡◌, ℕ, IfErr, IfOk, None, OnOk, Some};
+ghost use Rattle.mesa_log.specs.declared.failure.Failure.TheVariants as failure;
+ghost use Rattle.mesa_model.specs.declared.commands.Command.TheVariants as command;
+ghost use Rattle.mesa_model.specs.declared.replies.Refusal.TheVariants as no;
+ghost use Rattle.mesa_writing.specs.Ruling.{IsAllowed, IsRefused, told_as};
+
+use mesa_log::Failure;
+use mesa_metadata::Metadata;
+use mesa_model::{AlterWords, Refusal, TableWords, ViewWords};
+use mesa_rules::Ruled;
+use std::alloc::Global;
+
+// Why a turn does nothing, where the rules say why.
+fn told(why: mesa_asked::Failure) -> Failure
+    ensures { result ≡ told_as why }
+{
+    match why {
+        mesa_asked::Failure::Refused(refusal) => Failure::Refused(refusal),
+        mesa_asked::Failure::Memory => Failure::Memory,
+    }
+}
+
+// Refuses whatever is asked of a vault that has closed.
+pub(crate) fn check_open(metadata: &Metadata) -> Result<(), Failure>
+    ensures opened { OnOk result (metadata.now.ledger.closed ≡ None) }
+    ensures closed { IfErr result (λ e. (position : ℕ) × (metadata.now.ledger.closed ≡ Some position) × (e ≡ failure.Refused (no.Closed position))) }
+{
+    match metadata.closed() {
+        Some(position) => Err(Failure::Refused(Refusal::Closed { position })),
+        None => Ok(()),
+    }
+}
+
+// A table that is asked for.
+pub(crate) fn rule_table(
+    alloc: Global,
+    metadata: &Metadata,
+    words: &TableWords,
+) -> Result<Ruled, Failure>
+    ensures allowed { IfOk result (IsAllowed metadata.now.ledger (command.Table words.now)) }
+    ensures refused { IfErr result (IsRefused metadata.now.ledger (command.Table words.now)) }
+{
+    check_open(metadata)?;
+    match mesa_rules::table(alloc, metadata.catalog(), words) {
+        Ok(ruled) => Ok(ruled),
+        Err(why) => Err(told(why)),
+    }
+}
+
+// A view that is asked for.
+pub(crate) fn rule_view(
+    alloc: Global,
+    metadata: &Metadata,
+    words: &ViewWords,
+) -> Result<Ruled, Failure>
+    ensures allowed { IfOk result (IsAllowed metadata.now.ledger (command.View words.now)) }
+    ensures refused { IfErr result (IsRefused metadata.now.ledger (command.View words.now)) }
+{
+    check_open(metadata)?;
+    match mesa_rules::view(alloc, metadata.catalog(), words) {
+        Ok(ruled) => Ok(ruled),
+        Err(why) => Err(told(why)),
+    }
+}
+
+// A change of a table's columns that is asked for.
+pub(crate) fn rule_alter(
+    alloc: Global,
+    metadata: &Metadata,
+    words: &AlterWords,
+) -> Result<Ruled, Failure>
+    ensures allowed { IfOk result (IsAllowed metadata.now.ledger (command.Alter words.now)) }
+    ensures refused { IfErr result (IsRefused metadata.now.ledger (command.Alter words.now)) }
+{
+    check_open(metadata)?;
+    match mesa_rules::alter(alloc, metadata.catalog(), words) {
+        Ok(ruled) => Ok(ruled),
+        Err(why) => Err(told(why)),
+    }
+}
+
+// An expiry of the versions below this one.
+pub(crate) fn rule_expire(metadata: &Metadata, version: u32) -> Result<Ruled, Failure>
+    ensures allowed { IfOk result (IsAllowed metadata.now.ledger (command.Expire version)) }
+    ensures refused { IfErr result (IsRefused metadata.now.ledger (command.Expire version)) }
+{
+    check_open(metadata)?;
+    match mesa_rules::expire(metadata.catalog(), version) {
+        Ok(ruled) => Ok(ruled),
+        Err(refusal) => Err(Failure::Refused(refusal)),
+    }
+}

@@ -1,0 +1,108 @@
+// A turn that writes.
+ghost use Rattle.std.specs.Prelude.{◌≡◌, ◌<◌, [], true, length, None, Some, Ok, IsTrue, IfOk, OnErr, OnOk};
+ghost use Rattle.mesa_history.specs.Run.{Finished};
+ghost use Rattle.mesa_image.specs.Fitting.{fits};
+ghost use Rattle.mesa_key.specs.Spelling.{AreBytes};
+ghost use Rattle.mesa_ledger.specs.Recorded.{removed_by};
+ghost use Rattle.mesa_model.specs.declared.entries.Kind.TheVariants as kind;
+ghost use Rattle.mesa_publishing.specs.Published.{AllTell};
+ghost use Rattle.mesa_record.specs.Reading.{record_at};
+ghost use Rattle.mesa_record.specs.Rules.{keeps_rules};
+ghost use Rattle.mesa_skeleton.specs.Rows.{Rows, no_rows};
+ghost use Rattle.mesa_walk.specs.Turns.{Takes};
+ghost use Rattle.mesa_walk.specs.Walk.{run_at};
+ghost use Rattle.mesa_writing.specs.Writing.{IsToWrite};
+
+use mesa_disk::{Adoption, Disk, Made};
+use mesa_engine::Engine;
+use mesa_file::FileId;
+use mesa_io::Sink;
+use mesa_journal::Framed;
+use mesa_ledger::Naming;
+use mesa_log::{Failure, Who};
+use mesa_metadata::Metadata;
+use mesa_model::{Kind, Outcome, Reply};
+use mesa_opening::frame;
+use mesa_record::Record;
+use mesa_store::write_record;
+use std::alloc::{AllocError, Global};
+
+/// What a turn writes: its record, the files that it adopts, how many the run has adopted with them,
+/// and what is told once it is written.
+#[derive(Drop)]
+pub struct Change<M: Drop> {
+    pub writes: Record,
+    pub made: Vec<Adoption<M>>,
+    pub adopted: u64,
+    pub tells: Reply,
+}
+
+// All memory that it takes to write a record in the turn at the position: its frame, and the ids of
+// the files that may be removed.
+fn prepare(
+    alloc: Global,
+    metadata: &mut Metadata,
+    at: u64,
+    writes: &Record,
+) -> Result<(Framed, Vec<FileId>), AllocError>
+    requires rules { IsTrue (keeps_rules writes.now) }
+    requires fit { IsTrue (fits metadata.old.ledger.catalogue writes.now) }
+    ensures reads { IfOk result (λ r. record_at r.0 ≡ Ok writes.now) }
+    ensures bytes { IfOk result (λ r. AreBytes r.0) }
+    ensures removes { IfOk result (λ r. r.1.items ≡ removed_by metadata.old.ledger at []) }
+    ensures reserved { OnOk result (metadata.new ≡ record metadata.old { reserved = Some (record { entry = writes.now; dropped = 0 }) }) }
+    ensures err { OnErr result (metadata.new ≡ metadata.old) }
+{
+    let framed = frame(alloc, writes)?;
+    let removed = metadata.removable(at, &[])?;
+    metadata.reserve(writes, 0)?;
+    Ok((framed, removed))
+}
+
+/// The turn that decides a command by writing what it asks for. Where the store can't be written the
+/// vault closes.
+pub fn write<N: Naming, M: Made, D: Disk<M>, K: Sink>(
+    alloc: Global,
+    engine: &mut Engine<N, M, D, K>,
+    who: Who,
+    change: Change<M>,
+) -> Reply
+    requires change { IsToWrite M.bytes N.script (run_at N.script (N.start no_rows) engine.old.shown.history) engine.old.ledger who.session who.command change }
+    requires told { (w : Rows) → N.sound w → AllTell M.bytes change.made.items }
+    requires room { length engine.old.shown.history < N.room }
+    requires runs { engine.old.shown.running ≡ true }
+    ensures turn { Takes N.script (N.start no_rows) engine.old.shown engine.new.shown who.session who.command kind.Decide Finished }
+{
+    let at = engine.log.position();
+    let (framed, removed) = match prepare(alloc, &mut engine.metadata, at, &change.writes) {
+        Ok(ready) => ready,
+        Err(AllocError) => {
+            drop(change);
+            return engine.fail(who, Kind::Decide, Failure::Memory);
+        }
+    };
+    let Change {
+        writes,
+        made,
+        adopted,
+        tells,
+    } = change;
+    let end = engine.metadata.end();
+    match write_record(&mut engine.disk, made, end, &framed, &removed) {
+        Ok(end) => {
+            engine.metadata.apply(writes, at, &[], adopted, end);
+            let turn = who.turn(Kind::Decide, Outcome::Stands, engine.disk.clock());
+            engine.log.tell(turn, at, &tells, b"");
+            tells
+        }
+        Err(_) => {
+            drop(writes);
+            drop(tells);
+            engine.metadata.fail(at, adopted);
+            let moment = engine.disk.clock();
+            engine
+                .log
+                .fail(who, Kind::Decide, moment, Failure::Unwritten)
+        }
+    }
+}
