@@ -1,14 +1,13 @@
 // The journal areas of a folder.
+use crate::folders::opened;
 use mesa_dir::DirDisk;
 use mesa_disk::{Area, Disk};
 use std::fs;
+use std::process::Abort;
 use std::test::Fail;
 
-#[test]
-fn areas_are_found_again(rt: HostRuntime) -> Result<(), Fail> {
-    let name = "mesa_dir_areas";
-    let _ = fs::remove_dir_all(&rt, name);
-    let mut disk = DirDisk::open(rt, name)?;
+// Writes into both areas of a new disk.
+fn write_areas(rt: &impl Abort, disk: &mut DirDisk<HostRuntime>) {
     assert_eq!(rt; disk.journal_len(Area::Zero), 0);
     assert_eq!(rt; disk.journal_len(Area::One), 0);
     assert!(rt;
@@ -20,8 +19,16 @@ fn areas_are_found_again(rt: HostRuntime) -> Result<(), Fail> {
     assert!(rt; disk.journal_sync().is_ok());
     assert_eq!(rt; disk.journal_len(Area::Zero), 4);
     assert_eq!(rt; disk.clock(), 4);
-    drop(disk);
-    let mut disk = DirDisk::open(rt, name)?;
+}
+
+fn write_new(rt: &impl Abort, files: HostRuntime, name: &str) -> Result<(), Fail> {
+    let mut disk = opened(files, name)?;
+    write_areas(rt, &mut disk);
+    Ok(())
+}
+
+// Reads what was written.
+fn read_areas(rt: &impl Abort, disk: &mut DirDisk<HostRuntime>) {
     let mut four = [0u8; 4];
     assert_eq!(rt; disk.journal_len(Area::Zero), 4);
     assert!(rt; disk.journal_read(Area::Zero, 0, &mut four).is_ok());
@@ -31,7 +38,19 @@ fn areas_are_found_again(rt: HostRuntime) -> Result<(), Fail> {
     assert!(rt; disk.journal_read(Area::One, 1, &mut two).is_ok());
     assert_eq!(rt; two, *b"ne");
     assert_eq!(rt; disk.clock(), 0);
-    drop(disk);
+}
+
+fn read_again(rt: &impl Abort, files: HostRuntime, name: &str) -> Result<(), Fail> {
+    let mut disk = DirDisk::open(files, name)?;
+    read_areas(rt, &mut disk);
+    Ok(())
+}
+
+#[test]
+fn areas_are_found_again(rt: HostRuntime) -> Result<(), Fail> {
+    let name = "mesa_dir_areas";
+    write_new(&rt, rt, name)?;
+    read_again(&rt, rt, name)?;
     fs::remove_dir_all(&rt, name)?;
     Ok(())
 }

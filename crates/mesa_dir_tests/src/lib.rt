@@ -6,4 +6,6 @@ mod areas;
 #[cfg(test)]
 mod files;
 #[cfg(test)]
+mod folders;
+#[cfg(test)]
 mod openings;

@@ -1,4 +1,5 @@
 // Folders that can't be opened.
+use crate::folders::opened;
 use mesa_dir::DirDisk;
 use mesa_disk::{Area, Bench, Disk, FileId, OpenFault};
 use std::fs;
@@ -22,36 +23,46 @@ fn fails_in_each_call(rt: &impl Abort, disk: &mut DirDisk<HostRuntime>) -> Resul
     Ok(())
 }
 
+// Opens a folder that isn't to be had.
+fn open_in_vain(rt: &impl Abort, files: HostRuntime, name: &str) -> Result<(), Fail> {
+    let mut disk = DirDisk::open(files, name)?;
+    fails_in_each_call(rt, &mut disk)
+}
+
 #[test]
 fn a_folder_that_is_none_fails(rt: HostRuntime) -> Result<(), Fail> {
     let name = "mesa_dir_flat";
     fs::write(&rt, name, b"no folder".as_slice())?;
-    let mut disk = DirDisk::open(rt, name)?;
-    fails_in_each_call(&rt, &mut disk)?;
-    drop(disk);
+    open_in_vain(&rt, rt, name)?;
     fs::remove_file(&rt, name)?;
+    Ok(())
+}
+
+// A disk is opened, and in vain a second time; the first goes on unharmed.
+fn open_twice(rt: &impl Abort, files: HostRuntime, name: &str) -> Result<(), Fail> {
+    let mut first = opened(files, name)?;
+    assert!(rt;
+        first
+            .journal_write(Area::Zero, 0, b"abc".as_slice())
+            .is_ok()
+    );
+    open_in_vain(rt, files, name)?;
+    assert!(rt; first.journal_sync().is_ok());
+    Ok(())
+}
+
+// Once the first is let go the folder can be opened.
+fn open_again(rt: &impl Abort, files: HostRuntime, name: &str) -> Result<(), Fail> {
+    let third = DirDisk::open(files, name)?;
+    assert_eq!(rt; third.journal_len(Area::Zero), 3);
     Ok(())
 }
 
 #[test]
 fn a_folder_that_another_has_fails(rt: HostRuntime) -> Result<(), Fail> {
     let name = "mesa_dir_locked";
-    let _ = fs::remove_dir_all(&rt, name);
-    let mut first = DirDisk::open(rt, name)?;
-    assert!(rt;
-        first
-            .journal_write(Area::Zero, 0, b"abc".as_slice())
-            .is_ok()
-    );
-    let mut second = DirDisk::open(rt, name)?;
-    fails_in_each_call(&rt, &mut second)?;
-    drop(second);
-    // The first goes on unharmed, and once it is let go the folder can be opened.
-    assert!(rt; first.journal_sync().is_ok());
-    drop(first);
-    let third = DirDisk::open(rt, name)?;
-    assert_eq!(rt; third.journal_len(Area::Zero), 3);
-    drop(third);
+    open_twice(&rt, rt, name)?;
+    open_again(&rt, rt, name)?;
     fs::remove_dir_all(&rt, name)?;
     Ok(())
 }
