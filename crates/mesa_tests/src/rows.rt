@@ -1,12 +1,11 @@
 // Scripts that run.
-use crate::trial::try_script;
+use crate::trial::{Case, run_all};
 use std::test::Fail;
 
-#[test]
-fn sales_and_view(rt: HostRuntime) -> Result<(), Fail> {
-    let trial = try_script(
-        rt.alloc(),
-        "table,a,day int;pub int;country text,clicks sum;cost sum\n\
+static CASES: [Case; 12] = [
+    Case {
+        name: "sales and view",
+        script: "table,a,day int;pub int;country text,clicks sum;cost sum\n\
          table,b,day int;adv int;country text,clicks sum;cost sum\n\
          view,c,b,adv;country,clicks;cost\n\
          row,a,20131231,100,US,10,32\n\
@@ -23,12 +22,9 @@ fn sales_and_view(rt: HostRuntime) -> Result<(), Fail> {
          query,a\n\
          query,c,latest\n\
          query,a,1,pub=100&day>=20140101,country,clicks\n",
-    )?;
-    trial.expect(
-        &rt,
-        "sales and view",
-        0,
-        "0.1@0 table a\n\
+        status: 0,
+        turns: Some(15),
+        text: "0.1@0 table a\n\
          0.2@1 table b\n\
          0.3@2 view c\n\
          0.4@4 loaded version=0 rows=4\n\
@@ -46,128 +42,82 @@ fn sales_and_view(rt: HostRuntime) -> Result<(), Fail> {
          2,US,190,100\n\
          0.9@13 rows 1 version=1\n\
          US,190\n",
-    );
-    assert_eq!(rt; trial.turns, 15);
-    Ok(())
-}
-
-#[test]
-fn one_row(rt: HostRuntime) -> Result<(), Fail> {
-    let trial = try_script(
-        rt.alloc(),
-        "table,t,k int,v sum\n\
+    },
+    Case {
+        name: "one row",
+        script: "table,t,k int,v sum\n\
          row,t,1,5\n\
          commit\n\
          commit\n\
          query,t\n",
-    )?;
-    trial.expect(
-        &rt,
-        "one row",
-        0,
-        "0.1@0 table t\n\
+        status: 0,
+        turns: Some(7),
+        text: "0.1@0 table t\n\
          0.2@2 loaded version=0 rows=1\n\
          0.3@4 loaded version=1 rows=0\n\
          0.4@5 rows 1 version=1\n\
          1,5\n",
-    );
-    assert_eq!(rt; trial.turns, 7);
-    Ok(())
-}
-
-#[test]
-fn zero_sum_stays(rt: HostRuntime) -> Result<(), Fail> {
-    let trial = try_script(
-        rt.alloc(),
-        "table,t,k int,v sum\n\
+    },
+    Case {
+        name: "zero sum stays",
+        script: "table,t,k int,v sum\n\
          row,t,7,10\n\
          commit\n\
          row,t,7,-10\n\
          commit\n\
          query,t\n",
-    )?;
-    trial.expect(
-        &rt,
-        "zero sum stays",
-        0,
-        "0.1@0 table t\n\
+        status: 0,
+        turns: Some(7),
+        text: "0.1@0 table t\n\
          0.2@2 loaded version=0 rows=1\n\
          0.3@4 loaded version=1 rows=1\n\
          0.4@5 rows 1 version=1\n\
          7,0\n",
-    );
-    assert_eq!(rt; trial.turns, 7);
-    Ok(())
-}
-
-#[test]
-fn duplicate_key(rt: HostRuntime) -> Result<(), Fail> {
-    let trial = try_script(
-        rt.alloc(),
-        "table,t,k int,v sum\n\
+    },
+    Case {
+        name: "duplicate key",
+        script: "table,t,k int,v sum\n\
          row,t,1,5\n\
          row,t,2,6\n\
          row,t,1,7\n\
          commit\n\
          row,t,1,7\n\
          commit\n",
-    )?;
-    trial.expect(
-        &rt,
-        "duplicate key",
-        1,
-        "0.1@0 table t\n\
+        status: 1,
+        turns: Some(5),
+        text: "0.1@0 table t\n\
          0.2@2 refused duplicate_key first=1 second=3\n\
          0.3@4 loaded version=0 rows=1\n",
-    );
-    assert_eq!(rt; trial.turns, 5);
-    Ok(())
-}
-
-#[test]
-fn sum_bound(rt: HostRuntime) -> Result<(), Fail> {
-    let trial = try_script(
-        rt.alloc(),
-        "table,t,k int,v sum\n\
+    },
+    Case {
+        name: "sum bound",
+        script: "table,t,k int,v sum\n\
          row,t,1,9223372036854775807\n\
          commit\n\
          row,t,1,-1\n\
          commit\n\
          query,t\n",
-    )?;
-    trial.expect(
-        &rt,
-        "sum bound",
-        1,
-        "0.1@0 table t\n\
+        status: 1,
+        turns: Some(7),
+        text: "0.1@0 table t\n\
          0.2@2 loaded version=0 rows=1\n\
          0.3@4 refused sum_bound table=t column=v\n\
          0.4@5 rows 1 version=0\n\
          1,9223372036854775807\n",
-    );
-    assert_eq!(rt; trial.turns, 7);
-    let trial = try_script(
-        rt.alloc(),
-        "table,t,k int,v sum\n\
+    },
+    Case {
+        name: "sum bound",
+        script: "table,t,k int,v sum\n\
          row,t,1,-9223372036854775808\n\
          commit\n",
-    )?;
-    trial.expect(
-        &rt,
-        "sum bound",
-        1,
-        "0.1@0 table t\n\
+        status: 1,
+        turns: Some(3),
+        text: "0.1@0 table t\n\
          0.2@2 refused sum_bound table=t column=v\n",
-    );
-    assert_eq!(rt; trial.turns, 3);
-    Ok(())
-}
-
-#[test]
-fn stale_and_future(rt: HostRuntime) -> Result<(), Fail> {
-    let trial = try_script(
-        rt.alloc(),
-        "table,t,k int,v sum\n\
+    },
+    Case {
+        name: "stale and future",
+        script: "table,t,k int,v sum\n\
          query,t\n\
          commit\n\
          commit\n\
@@ -176,12 +126,9 @@ fn stale_and_future(rt: HostRuntime) -> Result<(), Fail> {
          query,t,0\n\
          query,t,3\n\
          expire,0\n",
-    )?;
-    trial.expect(
-        &rt,
-        "stale and future",
-        1,
-        "0.1@0 table t\n\
+        status: 1,
+        turns: Some(12),
+        text: "0.1@0 table t\n\
          0.2@1 refused future asked=latest newest=none\n\
          0.3@3 loaded version=0 rows=0\n\
          0.4@5 loaded version=1 rows=0\n\
@@ -190,16 +137,10 @@ fn stale_and_future(rt: HostRuntime) -> Result<(), Fail> {
          0.7@9 refused stale asked=0 oldest=1\n\
          0.8@10 refused future asked=3 newest=2\n\
          0.9@11 refused stale asked=0 oldest=1\n",
-    );
-    assert_eq!(rt; trial.turns, 12);
-    Ok(())
-}
-
-#[test]
-fn refusals_by_name(rt: HostRuntime) -> Result<(), Fail> {
-    let trial = try_script(
-        rt.alloc(),
-        "table,t,k int;name text,v sum\n\
+    },
+    Case {
+        name: "refusals by name",
+        script: "table,t,k int;name text,v sum\n\
          row,t,1,x,5\n\
          row,u,1,x,5\n\
          commit\n\
@@ -211,12 +152,9 @@ fn refusals_by_name(rt: HostRuntime) -> Result<(), Fail> {
          table,s,k int;k int,v sum\n\
          query,t,,kk=1\n\
          query,t,,k=x\n",
-    )?;
-    trial.expect(
-        &rt,
-        "refusals by name",
-        1,
-        "0.1@0 table t\n\
+        status: 1,
+        turns: Some(11),
+        text: "0.1@0 table t\n\
          0.2@2 refused no_table row=2\n\
          0.3@4 refused bad_row row=1 column=3\n\
          0.4@6 refused bad_row row=1 column=3\n\
@@ -224,64 +162,40 @@ fn refusals_by_name(rt: HostRuntime) -> Result<(), Fail> {
          0.6@8 refused bad_schema reason=name_twice\n\
          0.7@9 refused no_column\n\
          0.8@10 refused bad_filter term=1\n",
-    );
-    assert_eq!(rt; trial.turns, 11);
-    Ok(())
-}
-
-#[test]
-fn views_guard_columns(rt: HostRuntime) -> Result<(), Fail> {
-    let trial = try_script(
-        rt.alloc(),
-        "table,t,k int;c text,v sum;r replace\n\
+    },
+    Case {
+        name: "views guard columns",
+        script: "table,t,k int;c text,v sum;r replace\n\
          view,w,t,c,v\n\
          view,x,t,c,r\n\
          view,t,t,c,v\n",
-    )?;
-    trial.expect(
-        &rt,
-        "views guard columns",
-        1,
-        "0.1@0 table t\n\
+        status: 1,
+        turns: Some(4),
+        text: "0.1@0 table t\n\
          0.2@1 view w\n\
          0.3@2 refused replace_group column=r\n\
          0.4@3 refused table_exists\n",
-    );
-    assert_eq!(rt; trial.turns, 4);
-    Ok(())
-}
-
-#[test]
-fn escaped_filter(rt: HostRuntime) -> Result<(), Fail> {
-    let trial = try_script(
-        rt.alloc(),
-        "table,t,name text,v sum\n\
+    },
+    Case {
+        name: "escaped filter",
+        script: "table,t,name text,v sum\n\
          row,t,\"x,y\",5\n\
          row,t,a&b,6\n\
          commit\n\
          query,t,,name=a%26b|x%2cy\n",
-    )?;
-    trial.expect(
-        &rt,
-        "escaped filter",
-        0,
-        "0.1@0 table t\n\
+        status: 0,
+        turns: Some(5),
+        text: "0.1@0 table t\n\
          0.2@2 loaded version=0 rows=2\n\
          0.3@3 rows 2 version=0\n\
          a&b,6\n\
          \"x,y\",5\n",
-    );
-    assert_eq!(rt; trial.turns, 5);
-    Ok(())
-}
-
-// All four aggregations, keys of two columns in the order of their numbers, and a query before
-// there is a version.
-#[test]
-fn four_aggregations(rt: HostRuntime) -> Result<(), Fail> {
-    let trial = try_script(
-        rt.alloc(),
-        "table,m,day int;site int,hits sum;low min;high max;last replace\n\
+    },
+    // All four aggregations, keys of two columns in the order of their numbers, and a query before
+    // there is a version.
+    Case {
+        name: "four aggregations",
+        script: "table,m,day int;site int,hits sum;low min;high max;last replace\n\
          query,m\n\
          row,m,2,+1,5,5,5,5\n\
          row,m,-2,1,1,1,1,1\n\
@@ -291,12 +205,9 @@ fn four_aggregations(rt: HostRuntime) -> Result<(), Fail> {
          row,m,2,1000,0,0,0,0\n\
          commit\n\
          query,m\n",
-    )?;
-    trial.expect(
-        &rt,
-        "four aggregations",
-        1,
-        "0.1@0 table m\n\
+        status: 1,
+        turns: None,
+        text: "0.1@0 table m\n\
          0.2@1 refused future asked=latest newest=none\n\
          0.3@3 loaded version=0 rows=3\n\
          0.4@5 loaded version=1 rows=2\n\
@@ -305,14 +216,17 @@ fn four_aggregations(rt: HostRuntime) -> Result<(), Fail> {
          2,-1,7,7,7,7\n\
          2,1,8,3,5,3\n\
          2,1000,0,0,0,0\n",
-    );
-    Ok(())
-}
+    },
+    Case {
+        name: "empty script",
+        script: "",
+        status: 0,
+        turns: Some(0),
+        text: "",
+    },
+];
 
 #[test]
-fn empty_script(rt: HostRuntime) -> Result<(), Fail> {
-    let trial = try_script(rt.alloc(), "")?;
-    trial.expect(&rt, "empty script", 0, "");
-    assert_eq!(rt; trial.turns, 0);
-    Ok(())
+fn scripts_that_run(rt: HostRuntime) -> Result<(), Fail> {
+    run_all(&rt, rt.alloc(), &CASES)
 }

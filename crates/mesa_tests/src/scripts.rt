@@ -19,27 +19,42 @@ fn expect_refusal(
     Ok(())
 }
 
-#[test]
-fn bad_records(rt: HostRuntime) -> Result<(), Fail> {
-    let alloc = rt.alloc();
-    expect_refusal(&rt, alloc, "tabel,t\n", 1, "unknown")?;
-    expect_refusal(&rt, alloc, "tabel,t\npin\n", 1, "unknown")?;
-    expect_refusal(&rt, alloc, "commit\ncommit,t\n", 2, "fields")?;
-    expect_refusal(&rt, alloc, "row,t,1\nquery,t\n", 2, "order")?;
+// A script, its first bad record, and what is wrong with it.
+type Refusal = (&'static str, u64, &'static str);
+
+static BAD: [Refusal; 7] = [
+    ("tabel,t\n", 1, "unknown"),
+    ("tabel,t\npin\n", 1, "unknown"),
+    ("commit\ncommit,t\n", 2, "fields"),
+    ("row,t,1\nquery,t\n", 2, "order"),
     // Where only the last commit is missing, the place is the one after the last record.
-    expect_refusal(&rt, alloc, "row,t,1\nrow,t,2", 3, "order")?;
-    expect_refusal(&rt, alloc, "table,t,k integer,v sum\n", 1, "word")?;
-    expect_refusal(&rt, alloc, "commit\nexpire,one\n", 2, "number")?;
+    ("row,t,1\nrow,t,2", 3, "order"),
+    ("table,t,k integer,v sum\n", 1, "word"),
+    ("commit\nexpire,one\n", 2, "number"),
+];
+
+static UNBUILT: [Refusal; 5] = [
+    ("pin\n", 1, "unbuilt"),
+    ("commit\nquery,t,pin:1\n", 2, "unbuilt"),
+    ("commit\nquery,t,0,,,,2\n", 2, "unbuilt"),
+    ("work,t\n", 1, "unbuilt"),
+    ("session\n", 1, "unbuilt"),
+];
+
+// Stops the test where a script is refused otherwise.
+fn expect_all(rt: &impl Abort, alloc: Global, refusals: &[Refusal]) -> Result<(), Fail> {
+    for (script, place, reason) in refusals {
+        expect_refusal(rt, alloc, script, *place, reason)?;
+    }
     Ok(())
 }
 
 #[test]
+fn bad_records(rt: HostRuntime) -> Result<(), Fail> {
+    expect_all(&rt, rt.alloc(), &BAD)
+}
+
+#[test]
 fn records_that_are_not_built(rt: HostRuntime) -> Result<(), Fail> {
-    let alloc = rt.alloc();
-    expect_refusal(&rt, alloc, "pin\n", 1, "unbuilt")?;
-    expect_refusal(&rt, alloc, "commit\nquery,t,pin:1\n", 2, "unbuilt")?;
-    expect_refusal(&rt, alloc, "commit\nquery,t,0,,,,2\n", 2, "unbuilt")?;
-    expect_refusal(&rt, alloc, "work,t\n", 1, "unbuilt")?;
-    expect_refusal(&rt, alloc, "session\n", 1, "unbuilt")?;
-    Ok(())
+    expect_all(&rt, rt.alloc(), &UNBUILT)
 }

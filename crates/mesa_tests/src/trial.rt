@@ -51,3 +51,29 @@ pub fn try_script(alloc: Global, script: &str) -> Result<Trial, Fail> {
     let bytes = script.as_bytes().to_vec(alloc)?;
     try_bytes(alloc, &["run"], bytes, &[], &[])
 }
+
+/// A script, and what its run leaves; its turns are compared where they are given.
+pub struct Case {
+    pub name: &'static str,
+    pub script: &'static str,
+    pub status: u8,
+    pub turns: Option<usize>,
+    pub text: &'static str,
+}
+
+fn run(rt: &impl Abort, alloc: Global, case: &Case) -> Result<(), Fail> {
+    let trial = try_script(alloc, case.script)?;
+    trial.expect(rt, case.name, case.status, case.text);
+    if let Some(turns) = case.turns {
+        assert_eq!(rt; trial.turns, turns, "the turns of {}", case.name);
+    }
+    Ok(())
+}
+
+/// Stops the test of a script whose run leaves something else.
+pub fn run_all(rt: &impl Abort, alloc: Global, cases: &[Case]) -> Result<(), Fail> {
+    for case in cases {
+        run(rt, alloc, case)?;
+    }
+    Ok(())
+}
