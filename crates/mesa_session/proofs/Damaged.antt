@@ -1,0 +1,98 @@
+-- Why files weren't read, as their reading tells it and as a closing turn asks for it.
+use Rattle.std.proofs.Common.{◌≡◌, inl, inr, ⊎_elim, ℕ, ◌<◌, List, [], ◌∷◌, sym, ap, subst, arith}
+use Rattle.std.specs.Prelude.{Option, Some, IfSome}
+use Rattle.mesa_fault.specs.Causes.{Rose}
+use Rattle.mesa_file.specs.declared.damage.Damage.{Damage}
+use Rattle.mesa_file.specs.declared.damage.Seen.{Seen}
+use Rattle.mesa_file.specs.declared.damage.Seen.TheVariants as seen
+use Rattle.mesa_schema.specs.declared.rows.Row.{Row}
+use Rattle.mesa_delta.specs.Damages.{IsWrongLength, IsPieceDamage}
+use Rattle.mesa_delta.specs.Indexed.{Indexed}
+use Rattle.mesa_delta.specs.Reading.{IsBlockDamage}
+use Rattle.mesa_delta.specs.declared.input.Input.{Input}
+use Rattle.mesa_cursor.specs.Cursors.{reader_in}
+use Rattle.mesa_scan.specs.Damaged.{IsDamaged}
+use Rattle.mesa_view.specs.SumDamage.{IsSumDamage}
+use Rattle.mesa_merge.specs.Faults.{SomeRose, faults_of}
+use Rattle.mesa_tasks.specs.declared.querying.PinnedInput.{PinnedInput}
+use Rattle.mesa_query.specs.Files.{IsDamageIn, IsDamageOf}
+use Rattle.mesa_tasks.specs.declared.merging.Task.{Task}
+use Rattle.mesa_compact.specs.Damaged.{IsMergeDamage}
+use Rattle.mesa_compact.specs.Tasks.{IsTaskDamage}
+use Rattle.mesa_service.specs.Damages.{Differs, HasFailed}
+
+-- ---- faults
+
+rose_above : (before now : ℕ) → Rose before now → 0 < now
+rose_above before now rose = omega (arith, rose)
+
+-- a reader whose count rose has failed
+pub rose_failed : {R : Type 0} (faults : R → ℕ) (before : List ℕ) (inputs : List (Input R)) → SomeRose before (faults_of faults inputs) → HasFailed faults inputs
+rose_failed faults [] inputs rose = absurd rose
+rose_failed faults (b ∷ before) [] rose = absurd rose
+rose_failed faults (b ∷ before) (i ∷ inputs) rose = ⊎_elim
+    (λ (one : Rose b (faults (reader_in i))). inl (rose_above b (faults (reader_in i)) one))
+    (λ (more : SomeRose before (faults_of faults inputs)). inr (rose_failed faults before inputs more))
+    rose
+
+-- ---- damage
+
+length_in : Seen → ℕ
+length_in (seen.Length n) = n
+length_in s = 0
+
+digest_in : Seen → List ℕ
+digest_in (seen.Digest bytes) = bytes
+digest_in s = []
+
+unlike_fits : (n : ℕ) → seen.Fits ≡ seen.Misfit n → ⊥
+unlike_fits n same = cc
+
+told_as : (d told : Damage) → d ≡ told → Differs told → Differs d
+told_as d told is differs = subst Differs (sym is) differs
+
+length_differs : (file len size : ℕ) (d : Damage) → IsWrongLength file len size d → Differs d
+unfolding length_in
+length_differs file len size d wrong = told_as d _ wrong.0 (λ same. wrong.1 (sym (ap length_in same)))
+
+piece_differs : (told : Option (List ℕ)) (file place len : ℕ) (digest : List ℕ) (Never : List ℕ → Type 0) (d : Damage) → IsPieceDamage told file place len digest Never d → Differs d
+unfolding digest_in
+piece_differs told file place len digest Never d (piece, read, inl wrong) = told_as d _ wrong.0 (λ same. wrong.1 (sym (ap digest_in same)))
+piece_differs told file place len digest Never d (piece, read, inr misfit) = told_as d _ misfit.0.0 (λ same. unlike_fits 0 same)
+
+block_differs : (told : Option (List ℕ)) (size : ℕ) (x : Indexed) (block : ℕ) (before : List (List Row)) (d : Damage) → IsBlockDamage told size x block before d → Differs d
+block_differs told size x block before d (inl wrong) = length_differs x.file x.len size d wrong
+block_differs told size x block before d (inr piece) = piece_differs told x.file _ _ _ _ d piece
+
+pub damaged_differs : {R : Type 0} (bytes : R → Option (List ℕ)) (size : R → ℕ) (i : Input R) (d : Damage) → IsDamaged bytes size i d → Differs d
+damaged_differs bytes size i d damaged = block_differs (bytes (reader_in i)) (size (reader_in i)) _ damaged.block damaged.before d damaged.shown
+
+pub sum_differs : (file : ℕ) (d : Damage) → IsSumDamage file d → Differs d
+sum_differs file d is = told_as d _ is (λ same. unlike_fits 0 same)
+
+file_differs : {R : Type 0} (bytes : R → Option (List ℕ)) (size : R → ℕ) (file : PinnedInput R) (d : Damage) → IsDamageOf bytes size d file → Differs d
+file_differs bytes size file d (inl damaged) = damaged_differs bytes size file.input d damaged
+file_differs bytes size file d (inr sum) = sum_differs _ d sum
+
+-- what is told of a query's files differs from what was wanted
+pub query_differs : {R : Type 0} (bytes : R → Option (List ℕ)) (size : R → ℕ) (d : Damage) (old new : List (PinnedInput R)) → IsDamageIn bytes size d old new → Differs d
+query_differs bytes size d [] new damage = absurd damage
+query_differs bytes size d (file ∷ old) [] damage = absurd damage
+query_differs bytes size d (file ∷ old) (now ∷ new) (inl here) = file_differs bytes size file d here.0
+query_differs bytes size d (file ∷ old) (now ∷ new) (inr later) = query_differs bytes size d old new later
+
+-- ---- damage of a merge
+
+merge_differs : {R : Type 0} (bytes : R → Option (List ℕ)) (size : R → ℕ) (inputs : List (Input R)) (d : Damage) → IsMergeDamage bytes size inputs d → Differs d
+merge_differs bytes size inputs d (inl (inl block)) = damaged_differs bytes size block.input d block.damaged
+merge_differs bytes size inputs d (inl (inr sum)) = told_as d _ sum.told (λ same. unlike_fits 0 same)
+merge_differs bytes size inputs d (inr total) = told_as d _ total.told (λ same. unlike_fits 0 same)
+
+some_differs : (o : Option Damage) (d : Damage) → IfSome o Differs → o ≡ Some d → Differs d
+some_differs o d met is = subst (λ (p : Option Damage). IfSome p Differs) is met
+
+-- what is told of a task's files differs from what was wanted
+pub task_differs : {R : Type 0} (bytes : R → Option (List ℕ)) (size : R → ℕ) (old new : Task R) (d : Damage) → IfSome old.damage Differs → IsTaskDamage bytes size old new d → Differs d
+task_differs bytes size old new d met (inl is) = some_differs old.damage d met is
+task_differs bytes size old new d met (inr (none, inl files)) = merge_differs bytes size new.inputs.items d files
+task_differs bytes size old new d met (inr (none, inr view)) = merge_differs bytes size _ d view.told

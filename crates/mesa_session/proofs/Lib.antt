@@ -1,0 +1,4 @@
+pub mod Damaged
+pub mod Pinned
+pub mod Spelling
+pub mod Merged

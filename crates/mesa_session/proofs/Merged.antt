@@ -1,0 +1,138 @@
+-- A task whose files were merged: what is known of it is what was known before, and its delta is that of the files as they are now.
+use Rattle.std.proofs.Common.{◌≡◌, ℕ, List, Vec, [], ◌∷◌, map, length, refl, sym, ap, ◌∙◌, subst, arith, get_or}
+use Rattle.std.specs.Prelude.{Option, None, Some, option_map, Result, Ok, Err, IfOk, IfSome}
+use Rattle.std.specs.declared.alloc.Global.{Global}
+use Rattle.mesa_schema.specs.declared.rows.Row.{Row}
+use Rattle.mesa_schema.specs.declared.views.View.{View}
+use Rattle.mesa_schema.specs.Columns.{Columns, aggs_of}
+use Rattle.mesa_schema.specs.Changes.{Lineage, columns_of, epoch_of, lifted}
+use Rattle.mesa_schema.specs.Folded.{folded}
+use Rattle.mesa_schema.specs.Views.{view_columns, view_rows}
+use Rattle.mesa_delta.specs.Reading.{IsWhole}
+use Rattle.mesa_delta.specs.declared.error.FileError.TheVariants as file
+use Rattle.mesa_delta.specs.declared.input.Input.{Input}
+use Rattle.mesa_merge.specs.Faults.{faults_of}
+use Rattle.mesa_merge.specs.Inputs.{Known, known_of, knowns_of}
+use Rattle.mesa_tasks.specs.GivingBack.{task_inputs}
+use Rattle.mesa_tasks.specs.Inputs.{HaveRows, IsMergeOf, lifted_parts}
+use Rattle.mesa_tasks.specs.Tasks.{AreMergedViews, HaveMerged, IsMerged, IsTask, MergeOnlyTo}
+use Rattle.mesa_tasks.specs.declared.made.MadeFiles.{MadeFiles}
+use Rattle.mesa_tasks.specs.declared.made.MadeView.{MadeView}
+use Rattle.mesa_tasks.specs.declared.merging.CompactError.{CompactError}
+use Rattle.mesa_tasks.specs.declared.merging.CompactError.TheVariants as compact
+use Rattle.mesa_tasks.specs.declared.merging.NewDelta.{NewDelta}
+use Rattle.mesa_tasks.specs.declared.merging.Task.{Task}
+use Rattle.mesa_tasks.specs.declared.merging.TaskView.{TaskView}
+use Rattle.mesa_compact.specs.Tasks.{IsSameTask, IsTaskDamage}
+use Rattle.mesa_compact.specs.Tasks.{KnownView as CompactView, known_view as compact_view, known_views as compact_views}
+use Rattle.mesa_compact.specs.Writing.{HasCauses}
+use Rattle.mesa_service.specs.Damages.{Differs}
+use Rattle.mesa_service.specs.Works.{IsDeltaOf, KnownView, known_task, known_view}
+use Rattle.mesa_session.proofs.Damaged.{rose_failed, task_differs}
+
+-- ---- lists
+
+cons_none : {X : Type 0} (x : X) (xs : List X) → x ∷ xs ≡ [] → ⊥
+cons_none x xs same = let one : length (x ∷ xs) ≡ 0 = ap (λ l. length l) same in omega (arith, one)
+
+first_same : {X : Type 0} (x y : X) (xs ys : List X) → x ∷ xs ≡ y ∷ ys → x ≡ y
+first_same x y xs ys same = ap (λ l. get_or l 0 x) same
+
+rest : {X : Type 0} → List X → List X
+rest [] = []
+rest (x ∷ xs) = xs
+
+rest_same : {X : Type 0} (x y : X) (xs ys : List X) → x ∷ xs ≡ y ∷ ys → xs ≡ ys
+unfolding rest
+rest_same x y xs ys same = ap rest same
+
+none_some : {X : Type 0} (x : X) → None ≡ Some x → ⊥
+none_some x is = cc
+
+some_same : {X : Type 0} (x y : X) → Some x ≡ Some y → x ≡ y
+some_same {X = X} x y is = ap (λ (o : Option X). elim o [ None ↦ x | Some z ↦ z ]) is
+
+-- ---- what is known
+
+view_as : CompactView → KnownView
+view_as v = record { view = v.view; own = v.own }
+
+views_as : {R : Type 0} (bytes : R → Option (List ℕ)) (views : List (TaskView R)) → map view_as (compact_views bytes views) ≡ map (known_view bytes) views
+unfolding view_as
+views_as bytes [] = refl
+views_as bytes (v ∷ views) = λ j. known_view bytes v ∷ views_as bytes views j
+
+module _ {R : Type 0} (bytes : R → Option (List ℕ)) where
+  pub known_stays : (old new : Task R) → IsSameTask bytes old new → known_task bytes new ≡ known_task bytes old
+  known_stays old new same =
+      let views = sym (views_as bytes new.views.items) ∙ (ap (map view_as) same.views ∙ views_as bytes old.views.items) in
+      λ j. record { table = same.table j; work = same.work j; lease = same.lease j; epoch = same.epoch j; files = same.inputs j; views = views j; damage = same.damage j }
+
+  -- ---- files of which the same is known
+
+  have_rows : (old new : List (Input R)) (parts : List (List Row)) → knowns_of bytes new ≡ knowns_of bytes old → HaveRows bytes old parts → HaveRows bytes new parts
+  have_rows [] [] parts known have = have
+  have_rows [] (n ∷ new) parts known have = absurd (cons_none _ _ known)
+  have_rows (o ∷ old) [] parts known have = absurd (cons_none _ _ (sym known))
+  have_rows (o ∷ old) (n ∷ new) [] known have = have
+  have_rows (o ∷ old) (n ∷ new) (rows ∷ parts) known have =
+      let same : known_of bytes n ≡ known_of bytes o = first_same _ _ _ _ known in
+      (subst (λ (k : Known). IsWhole k.file rows k.told) (sym same) have.0, have_rows old new parts (rest_same _ _ _ _ known) have.1)
+
+  same_lifted : (old new : List (Input R)) (parts : List (List Row)) → knowns_of bytes new ≡ knowns_of bytes old → lifted_parts old parts ≡ lifted_parts new parts
+  same_lifted [] [] parts known = refl
+  same_lifted [] (n ∷ new) parts known = absurd (cons_none _ _ known)
+  same_lifted (o ∷ old) [] parts known = absurd (cons_none _ _ (sym known))
+  same_lifted (o ∷ old) (n ∷ new) [] known = refl
+  same_lifted (o ∷ old) (n ∷ new) (rows ∷ parts) known =
+      let same : known_of bytes o ≡ known_of bytes n = sym (first_same _ _ _ _ known) in
+      λ j. map (λ (row : Row). lifted (same j).table (same j).epoch (epoch_of (same j).table) row) rows ∷ same_lifted old new parts (rest_same _ _ _ _ known) j
+
+  merge_stays : (s : Columns) (old new : List (Input R)) (rows : List Row) → knowns_of bytes new ≡ knowns_of bytes old → IsMergeOf bytes s old rows → IsMergeOf bytes s new rows
+  merge_stays s old new rows known merge = record {
+    parts = merge.parts;
+    whole = have_rows old new merge.parts known merge.whole;
+    fold = merge.fold ∙ ap (folded (aggs_of s)) (same_lifted old new merge.parts known);
+  }
+
+  only_stays : (s : Columns) (rows : List Row) (old new : Option (Vec (Input R) Global)) → option_map (λ inputs. knowns_of bytes inputs.items) new ≡ option_map (λ inputs. knowns_of bytes inputs.items) old → MergeOnlyTo bytes s rows new → MergeOnlyTo bytes s rows old
+  only_stays s rows None new known only = tt
+  only_stays s rows (Some o) None known only = absurd (none_some _ known)
+  only_stays s rows (Some o) (Some n) known only = λ its merge. only its (merge_stays s o.items n.items its (some_same _ _ known) merge)
+
+  views_stay : {M : Type 0} (made_bytes : M → Option (List ℕ)) (id_of : M → ℕ) (s : Columns) (rows : List Row) (views : List View) (old new : List (TaskView R)) (made : List (MadeView M)) → compact_views bytes new ≡ compact_views bytes old
+      → AreMergedViews made_bytes id_of bytes s rows views old made → AreMergedViews made_bytes id_of bytes s rows views new made
+  views_stay made_bytes id_of s rows views [] [] made known are = are
+  views_stay made_bytes id_of s rows views [] (n ∷ new) made known are = absurd (cons_none _ _ known)
+  views_stay made_bytes id_of s rows views (o ∷ old) [] made known are = absurd (cons_none _ _ (sym known))
+  views_stay made_bytes id_of s rows [] (o ∷ old) (n ∷ new) made known are = absurd are
+  views_stay made_bytes id_of s rows (v ∷ views) (o ∷ old) (n ∷ new) [] known are = absurd are
+  views_stay made_bytes id_of s rows (v ∷ views) (o ∷ old) (n ∷ new) (m ∷ made) known are =
+      let same : compact_view bytes n ≡ compact_view bytes o = first_same _ _ _ _ known in (
+        record {
+          number = are.0.number ∙ sym (ap (λ (k : CompactView). k.view) same);
+          its = are.0.its;
+          file = are.0.file;
+          grouped = λ only. are.0.grouped (only_stays (view_columns s v) (view_rows s v rows) o.inputs n.inputs (ap (λ (k : CompactView). k.own) same) only);
+        },
+        views_stay made_bytes id_of s rows views old new made (rest_same _ _ _ _ known) are.1,
+      )
+
+  files_stay : {M : Type 0} (made_bytes : M → Option (List ℕ)) (id_of : M → ℕ) (l : Lineage) (old new : Task R) (rows : List Row) (o : Option (MadeFiles M)) → compact_views bytes new.views.items ≡ compact_views bytes old.views.items → HaveMerged made_bytes id_of bytes l old rows o → HaveMerged made_bytes id_of bytes l new rows o
+  files_stay made_bytes id_of l old new rows None known have = have
+  files_stay made_bytes id_of l old new rows (Some made) known have = (have.0, views_stay made_bytes id_of (columns_of l) rows l.views old.views.items new.views.items made.views.items known have.1)
+
+  pub merged_stays : {M : Type 0} (made_bytes : M → Option (List ℕ)) (id_of : M → ℕ) (l : Lineage) (old new : Task R) (delta : NewDelta M) → IsSameTask bytes old new → IsMerged made_bytes id_of bytes l old delta → IsMerged made_bytes id_of bytes l new delta
+  merged_stays made_bytes id_of l old new delta same merged = record {
+    rows = merged.rows;
+    merge = merge_stays (columns_of l) old.inputs.items new.inputs.items merged.rows same.inputs merged.merge;
+    files = files_stay made_bytes id_of l old new merged.rows delta.files same.views merged.files;
+  }
+
+  -- what came of a merge
+  pub closes : {M : Type 0} (made_bytes : M → Option (List ℕ)) (id_of : M → ℕ) (faults size : R → ℕ) (l : Lineage) (old new : Task R) (before now : ℕ) (r : Result (NewDelta M) CompactError) → IsSameTask bytes old new → IfSome old.damage Differs → IsTask bytes l old → IfOk r (λ delta. (k : Lineage) → IsTask bytes k old → IsMerged made_bytes id_of bytes k old delta) → HasCauses before now (faults_of faults (task_inputs old)) (faults_of faults (task_inputs new)) (IsTaskDamage bytes size old new) r → IsDeltaOf made_bytes id_of bytes faults l new r
+  closes made_bytes id_of faults size l old new before now (Ok delta) same met task merged causes = merged_stays made_bytes id_of l old new delta same (merged l task)
+  closes made_bytes id_of faults size l old new before now (Err compact.Draft) same met task merged causes = tt
+  closes made_bytes id_of faults size l old new before now (Err (compact.File file.Read)) same met task merged causes = rose_failed faults _ (task_inputs new) (causes.reads.failed refl)
+  closes made_bytes id_of faults size l old new before now (Err (compact.File (file.Damaged d))) same met task merged causes = task_differs bytes size old new d met (causes.damaged d refl)
+  closes made_bytes id_of faults size l old new before now (Err (compact.File file.Memory)) same met task merged causes = tt

@@ -1,0 +1,128 @@
+-- A pinned query that was answered: what is known of its files is what was known before, and its page is that of the files as they are now.
+use Rattle.std.proofs.Common.{◌≡◌, ℕ, List, [], ◌∷◌, map, length, refl, sym, ap, ◌∙◌, subst, arith, get_or}
+use Rattle.std.specs.Prelude.{Option, Result, Ok, Err, IfOk, IfErr}
+use Rattle.mesa_file.specs.declared.damage.Damage.{Damage}
+use Rattle.mesa_schema.specs.declared.rows.Row.{Row}
+use Rattle.mesa_schema.specs.Columns.{Columns}
+use Rattle.mesa_schema.specs.Changes.{epoch_of, lifted}
+use Rattle.mesa_schema.specs.Folded.{rows_of}
+use Rattle.mesa_model.specs.declared.replies.Page.{Page}
+use Rattle.mesa_script.specs.declared.rendered.Rendered.{Rendered}
+use Rattle.mesa_script.specs.Rows.{rendered}
+use Rattle.mesa_answer.specs.Answering.{KeepsSums}
+use Rattle.mesa_delta.specs.declared.error.FileError.{FileError}
+use Rattle.mesa_delta.specs.declared.error.FileError.TheVariants as file
+use Rattle.mesa_merge.specs.Faults.{SomeRose, faults_of}
+use Rattle.mesa_merge.specs.Inputs.{Known, AreTold, known_of, knowns_of}
+use Rattle.mesa_tasks.specs.GivingBack.{pinned_inputs}
+use Rattle.mesa_tasks.specs.Pins.{relation_rows}
+use Rattle.mesa_tasks.specs.declared.querying.Pinned.{Pinned}
+use Rattle.mesa_tasks.specs.declared.querying.PinnedInput.{PinnedInput}
+use Rattle.mesa_query.specs.Files.{IsDamageIn, inputs_in, owns_in}
+use Rattle.mesa_query.specs.Relation.{page_over, parts_pinned, parts_ungrouped, rows_under}
+use Rattle.mesa_service.specs.Damages.{IsUnread}
+use Rattle.mesa_service.specs.Pins.{IsAnswer, IsAnswerDamage, IsPageOf, heading_in, known_pin}
+use Rattle.mesa_session.proofs.Damaged.{query_differs, rose_failed}
+
+-- ---- lists
+
+cons_none : {X : Type 0} (x : X) (xs : List X) → x ∷ xs ≡ [] → ⊥
+cons_none x xs same = let one : length (x ∷ xs) ≡ 0 = ap (λ l. length l) same in omega (arith, one)
+
+first_same : {X : Type 0} (x y : X) (xs ys : List X) → x ∷ xs ≡ y ∷ ys → x ≡ y
+first_same x y xs ys same = ap (λ l. get_or l 0 x) same
+
+rest : {X : Type 0} → List X → List X
+rest [] = []
+rest (x ∷ xs) = xs
+
+rest_same : {X : Type 0} (x y : X) (xs ys : List X) → x ∷ xs ≡ y ∷ ys → xs ≡ ys
+unfolding rest
+rest_same x y xs ys same = ap rest same
+
+-- ---- files of which the same is known
+
+module _ {R : Type 0} (bytes : R → Option (List ℕ)) where
+  abbrev knowns : List (PinnedInput R) → List Known
+  knowns files = knowns_of bytes (inputs_in files)
+
+  module _ (o n : PinnedInput R) (same : known_of bytes n.input ≡ known_of bytes o.input) where
+    table : n.input.evolving.value ≡ o.input.evolving.value
+    table = ap (λ (k : Known). k.table) same
+
+    epoch : n.input.epoch ≡ o.input.epoch
+    epoch = ap (λ (k : Known). k.epoch) same
+
+    lifts : (rows : List Row) → map (λ (row : Row). lifted n.input.evolving.value n.input.epoch (epoch_of n.input.evolving.value) row) rows ≡ map (λ (row : Row). lifted o.input.evolving.value o.input.epoch (epoch_of o.input.evolving.value) row) rows
+    lifts rows = λ j. map (λ (row : Row). lifted (table j) (epoch j) (epoch_of (table j)) row) rows
+
+    pub one_part : (view : Option ℕ) (rows : List Row) → n.own ≡ o.own
+        → relation_rows view n.input.evolving.value (map (λ (row : Row). lifted n.input.evolving.value n.input.epoch (epoch_of n.input.evolving.value) row) rows) n.own
+        ≡ relation_rows view o.input.evolving.value (map (λ (row : Row). lifted o.input.evolving.value o.input.epoch (epoch_of o.input.evolving.value) row) rows) o.own
+    one_part view rows own = λ j. relation_rows view (table j) (lifts rows j) (own j)
+
+    pub one_ungrouped : (view : Option ℕ) (rows : List Row) → n.own ≡ o.own
+        → rows_under view n.input.evolving.value (map (λ (row : Row). lifted n.input.evolving.value n.input.epoch (epoch_of n.input.evolving.value) row) rows) n.own
+        ≡ rows_under view o.input.evolving.value (map (λ (row : Row). lifted o.input.evolving.value o.input.epoch (epoch_of o.input.evolving.value) row) rows) o.own
+    one_ungrouped view rows own = λ j. rows_under view (table j) (lifts rows j) (own j)
+
+  same_parts : (view : Option ℕ) (old new : List (PinnedInput R)) (contents : List (List Row)) → knowns new ≡ knowns old → owns_in new ≡ owns_in old → parts_pinned view new contents ≡ parts_pinned view old contents
+  same_parts view [] [] contents known own = refl
+  same_parts view [] (n ∷ new) contents known own = absurd (cons_none _ _ known)
+  same_parts view (o ∷ old) [] contents known own = absurd (cons_none _ _ (sym known))
+  same_parts view (o ∷ old) (n ∷ new) [] known own = refl
+  same_parts view (o ∷ old) (n ∷ new) (rows ∷ contents) known own =
+      λ j. one_part o n (first_same _ _ _ _ known) view rows (first_same _ _ _ _ own) j ∷ same_parts view old new contents (rest_same _ _ _ _ known) (rest_same _ _ _ _ own) j
+
+  same_ungrouped : (view : Option ℕ) (old new : List (PinnedInput R)) (contents : List (List Row)) → knowns new ≡ knowns old → owns_in new ≡ owns_in old → parts_ungrouped view new contents ≡ parts_ungrouped view old contents
+  same_ungrouped view [] [] contents known own = refl
+  same_ungrouped view [] (n ∷ new) contents known own = absurd (cons_none _ _ known)
+  same_ungrouped view (o ∷ old) [] contents known own = absurd (cons_none _ _ (sym known))
+  same_ungrouped view (o ∷ old) (n ∷ new) [] known own = refl
+  same_ungrouped view (o ∷ old) (n ∷ new) (rows ∷ contents) known own =
+      λ j. one_ungrouped o n (first_same _ _ _ _ known) view rows (first_same _ _ _ _ own) j ∷ same_ungrouped view old new contents (rest_same _ _ _ _ known) (rest_same _ _ _ _ own) j
+
+  -- ---- a query before and after its files were read
+
+  module _ (old new : Pinned R) (rest' : new ≡ record old { inputs = new.inputs }) (known : knowns new.inputs.items ≡ knowns old.inputs.items) (own : owns_in new.inputs.items ≡ owns_in old.inputs.items) where
+    query : new.query ≡ old.query
+    query = ap (λ (p : Pinned R). p.query) rest'
+
+    view : new.view ≡ old.view
+    view = ap (λ (p : Pinned R). p.view) rest'
+
+    pub known_stays : known_pin bytes new ≡ known_pin bytes old
+    known_stays = λ j. record {
+      query = query j;
+      version = ap (λ (p : Pinned R). p.version) rest' j;
+      view = view j;
+      at = ap (λ (p : Pinned R). p.at) rest' j;
+      files = known j;
+      own = own j;
+    }
+
+    parts_stay : (contents : List (List Row)) → parts_pinned new.view new.inputs.items contents ≡ parts_pinned old.view old.inputs.items contents
+    parts_stay contents = ap (λ (v : Option ℕ). parts_pinned v new.inputs.items contents) view ∙ same_parts old.view old.inputs.items new.inputs.items contents known own
+
+    ungrouped_stay : (contents : List (List Row)) → parts_ungrouped new.view new.inputs.items contents ≡ parts_ungrouped old.view old.inputs.items contents
+    ungrouped_stay contents = ap (λ (v : Option ℕ). parts_ungrouped v new.inputs.items contents) view ∙ same_ungrouped old.view old.inputs.items new.inputs.items contents known own
+
+    page_stays : (s : Columns) (page : Page) → IsPageOf bytes s old page → IsPageOf bytes s new page
+    page_stays s page over contents told = over contents (subst (λ ks. AreTold ks contents) known told) ∙ sym (λ j. page_over s (query j) (parts_stay contents j))
+
+    -- a page that was printed, or not for want of memory
+    pub page_closes : (faults : R → ℕ) (s : Columns) (page : Page) (r : Result Rendered FileError) → IsPageOf bytes s old page → IfOk r (λ text. text ≡ rendered (heading_in new.query) page) → IfErr r (λ e. e ≡ file.Memory) → IsAnswer bytes faults s new r
+    page_closes faults s page (Ok text) over is none = (page, page_stays s page over, is)
+    page_closes faults s page (Err e) over is none = subst (IsUnread faults (pinned_inputs new) (IsAnswerDamage bytes s new)) (sym none) tt
+
+    -- why there is no page
+    pub fault_closes : (faults size : R → ℕ) (s : Columns) (e : FileError) → (e ≡ file.Read → SomeRose (faults_of faults (inputs_in old.inputs.items)) (faults_of faults (inputs_in new.inputs.items)))
+        → ((d : Damage) → e ≡ file.Damaged d → IsDamageIn bytes size d old.inputs.items new.inputs.items)
+        → ((d : Damage) → e ≡ file.Damaged d → (contents : List (List Row)) → AreTold (knowns old.inputs.items) contents → KeepsSums s (rows_of (parts_ungrouped old.view old.inputs.items contents)) → ⊥)
+        → IsUnread faults (pinned_inputs new) (IsAnswerDamage bytes s new) e
+    fault_closes faults size s file.Read failed damaged never = rose_failed faults _ (inputs_in new.inputs.items) (failed refl)
+    fault_closes faults size s (file.Damaged d) failed damaged never = record {
+      differs = query_differs bytes size d old.inputs.items new.inputs.items (damaged d refl);
+      never = λ contents told sums. never d refl contents (subst (λ ks. AreTold ks contents) known told) (subst (λ parts. KeepsSums s (rows_of parts)) (ungrouped_stay contents) sums);
+    }
+    fault_closes faults size s file.Memory failed damaged never = tt

@@ -1,0 +1,14 @@
+use Rattle.std.proofs.Common.{arith, sym, subst}
+use Rattle.std.specs.Prelude.{IfOk}
+use Rattle.mesa_model.specs.Entry.{history_of}
+use Rattle.mesa_passes.proofs.Turning.{took_both, took_fewer}
+use Rattle.mesa_service.specs.Pins.{CanBeAnswered, IsOpenQuery, KnownPin, known_pin}
+use Rattle.mesa_session.proofs.commands.query.Goals as goal
+
+pub close_turn-requires-clause-open : goal.close_turn-requires-clause-open
+close_turn-requires-clause-open g c κs within =
+    let was = subst (λ o. IfOk o (λ p. IsOpenQuery g.V.Service.script g.V.Service.start (history_of c.pin_turn-pass.result.0.seen) c.args.who.session c.args.who.command p.at (λ past. g.V.Service.tells past (known_pin g.V.Reader.FileReader.bytes p)) × CanBeAnswered g.V.Reader.FileReader.bytes p)) c.in-Ok.is c.pin_turn-pass.ensures.open in
+    subst (λ (k : KnownPin). IsOpenQuery g.V.Service.script g.V.Service.start (history_of c.pin_turn-pass.result.0.seen) c.args.who.session c.args.who.command k.at (λ past. g.V.Service.tells past k)) (sym c.answered-answer.ensures.known) was.0
+
+pub returns-in-Ok-clause-took : goal.returns-in-Ok-clause-took
+returns-in-Ok-clause-took g c = took_fewer _ _ _ 2 3 (omega arith) (took_both _ _ _ _ 1 1 c.pin_turn-pass.ensures.took c.close_turn.ensures.took)

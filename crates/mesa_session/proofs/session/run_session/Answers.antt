@@ -1,0 +1,45 @@
+use Rattle.std.proofs.Common.{rules, ◌≡◌, ◌<◌, ◌+◌, ◌*◌, true, false, not, length, arith, subst}
+use Rattle.mesa_history.specs.Run.{Finished, commands_of}
+use Rattle.mesa_history.specs.Turns.{place_then}
+use Rattle.mesa_skeleton.specs.Rows.{no_rows}
+use Rattle.mesa_passes.specs.Passes.{Mine}
+use Rattle.mesa_passes.proofs.Dividing.{gains}
+use Rattle.mesa_passes.proofs.Ending.{ended_cut, ended_whole}
+use Rattle.mesa_passes.proofs.Turning.{took_both, took_fewer}
+use Rattle.mesa_session.proofs.session.run_session.Goals as goal
+
+pub returns-then-not-ran-clause-took : goal.returns-then-not-ran-clause-took
+returns-then-not-ran-clause-took g c =
+    let i = c.commands.i in
+    let lt : i < length c.commands_of-commands.result.now = c.commands-test.true in
+    let all : length c.commands_of-commands.result.now ≡ length (commands_of g.V.Service.script c.args.session) = search rules in
+    took_fewer _ _ _ (3 * i + 3) (3 * length (commands_of g.V.Service.script c.args.session)) (omega (arith, lt, all)) (took_both _ _ _ _ (3 * i) 3 c.commands.invariant.took c.run_command-next.ensures.took)
+
+pub returns-then-not-ran-clause-gains : goal.returns-then-not-ran-clause-gains
+returns-then-not-ran-clause-gains g c =
+    gains _ _ _ _ (took_both _ _ _ _ (3 * c.commands.i) 3 c.commands.invariant.took c.run_command-next.ensures.took) c.requires.mine.holds.exact c.run_command-next.ensures.mine.holds.exact
+
+pub returns-then-not-ran-clause-ended : goal.returns-then-not-ran-clause-ended
+returns-then-not-ran-clause-ended g c =
+    let ran : c.run_command-next.result.1 ≡ false = search rules in
+    ended_cut g.V.Service.script (g.V.Service.start no_rows) c.run_command-next.result.0 c.args.session (c.commands.i + 1)
+    (subst (λ b. Mine g.V.Service.script (g.V.Service.start no_rows) c.run_command-next.result.0 c.args.session (place_then (not b) (c.commands.i + 1) Finished)) ran c.run_command-next.ensures.mine)
+
+pub commands-preserved : goal.commands-preserved
+commands-preserved g c =
+    let i = c.commands.i in
+    let ran : c.run_command-next.result.1 ≡ true = search rules in
+    record {
+      took = took_fewer _ _ _ (3 * i + 3) (3 * (i + 1)) (omega arith) (took_both _ _ _ _ (3 * i) 3 c.commands.invariant.took c.run_command-next.ensures.took);
+      mine = subst (λ b. Mine g.V.Service.script (g.V.Service.start no_rows) c.run_command-next.result.0 c.args.session (place_then (not b) (i + 1) Finished)) ran c.run_command-next.ensures.mine;
+    }
+
+pub returns-clause-gains : goal.returns-clause-gains
+returns-clause-gains g c = gains _ _ _ _ c.commands.invariant.took c.requires.mine.holds.exact c.commands.invariant.mine.holds.exact
+
+pub returns-clause-ended : goal.returns-clause-ended
+returns-clause-ended g c =
+    let i = c.commands.i in
+    let all : length c.commands_of-commands.result.now ≡ length (commands_of g.V.Service.script c.args.session) = search rules in
+    let past = c.commands-test.false in
+    ended_whole g.V.Service.script (g.V.Service.start no_rows) c.commands.pass c.args.session i (omega (arith, past, all)) c.commands.invariant.mine

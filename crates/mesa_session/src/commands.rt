@@ -1,0 +1,170 @@
+// The turns of each command.
+ghost use Rattle.std.specs.Prelude.{◌≡◌, ◌<◌, ◌≤◌, not, Some, length};
+ghost use Rattle.mesa_history.specs.Legal.{is_query, is_work};
+ghost use Rattle.mesa_history.specs.Run.{First, Finished, command_at};
+ghost use Rattle.mesa_history.specs.Turns.{place_then};
+ghost use Rattle.mesa_model.specs.declared.commands.Command.TheVariants as command;
+ghost use Rattle.mesa_skeleton.specs.Rows.{no_rows};
+ghost use Rattle.mesa_passes.specs.Passes.{HasSort, Mine, Took, at_stage};
+
+use crate::gate::{Gate, Point};
+use crate::outside::{answered, merged};
+use mesa_batch::LoadRows;
+use mesa_disk::Bench;
+use mesa_log::Who;
+use mesa_model::Command;
+use mesa_service::Service;
+use mesa_tasks::Serials;
+use mesa_turn::{Pass, TurnLock};
+use mesa_turning::{
+    close_turn, complete_turn, grant_turn, ids_of, look_turn, pin_turn, prepared_first,
+    publish_turn, renew_turn, simple_turn,
+};
+use std::alloc::Global;
+use std::sync::Wait;
+use std::thread::Threads;
+
+// Of each command the second result is whether the sink had not failed before its last turn.
+
+// A load looks, is prepared outside, and is decided.
+fn load<V: Service, R: Threads + Wait + Sync, B: Bench<V::File>>(
+    rt: &R,
+    alloc: Global,
+    lock: &TurnLock<V>,
+    pass: Pass,
+    who: Who,
+    rows: &LoadRows,
+    bench: &mut B,
+    ids: &mut Option<Serials>,
+) -> (Pass, bool)
+    requires lock { pass.lock ≡ lock.now }
+    requires few { length V.script.sessions ≤ 8 }
+    requires session { who.session < 8 }
+    requires room { (3 ≤ pass.room) × (pass.limit ≤ V.room) }
+    requires mine { Mine V.script (V.start no_rows) pass who.session (at_stage who.command First) }
+    requires known { command_at V.script who.session who.command ≡ Some (command.Load rows.now) }
+    ensures took { Took who.session pass result.0 3 }
+    ensures mine { Mine V.script (V.start no_rows) result.0 who.session (place_then (not result.1) who.command Finished) }
+{
+    let (pass, ran, run, looked) = look_turn(rt, lock, pass, who);
+    if !ran {
+        return (pass, false);
+    }
+    let mut serials = ids_of(ids.take(), run, who.session);
+    let (generation, made) = prepared_first::<V, R, B>(
+        rt,
+        alloc,
+        bench,
+        &mut serials,
+        looked,
+        rows,
+    );
+    let (pass, ran) = publish_turn(
+        rt,
+        alloc,
+        lock,
+        pass,
+        who,
+        rows,
+        bench,
+        &mut serials,
+        generation,
+        made,
+    );
+    *ids = Some(serials);
+    (pass, ran)
+}
+
+// A query is decided, answered outside, and closes.
+fn query<V: Service, R: Wait>(
+    rt: &R,
+    alloc: Global,
+    lock: &TurnLock<V>,
+    pass: Pass,
+    who: Who,
+) -> (Pass, bool)
+    requires lock { pass.lock ≡ lock.now }
+    requires few { length V.script.sessions ≤ 8 }
+    requires room { (3 ≤ pass.room) × (pass.limit ≤ V.room) }
+    requires mine { Mine V.script (V.start no_rows) pass who.session (at_stage who.command First) }
+    requires sort { HasSort V.script who.session who.command is_query }
+    ensures took { Took who.session pass result.0 3 }
+    ensures mine { Mine V.script (V.start no_rows) result.0 who.session (place_then (not result.1) who.command Finished) }
+{
+    let (pass, ran, pinned) = pin_turn(rt, lock, pass, who);
+    match pinned {
+        Ok(mut pinned) => {
+            let answer = answered(alloc, &mut pinned);
+            close_turn(rt, lock, pass, who, pinned, answer)
+        }
+        Err(_) => (pass, ran),
+    }
+}
+
+// A work is granted, merged outside, renewed, and completed. One whose merge failed isn't renewed.
+fn work<V: Service, R: Wait, B: Bench<V::File>, G: Gate>(
+    rt: &R,
+    alloc: Global,
+    lock: &TurnLock<V>,
+    pass: Pass,
+    who: Who,
+    bench: &mut B,
+    ids: &mut Option<Serials>,
+    gate: &G,
+) -> (Pass, bool)
+    requires lock { pass.lock ≡ lock.now }
+    requires few { length V.script.sessions ≤ 8 }
+    requires session { who.session < 8 }
+    requires room { (3 ≤ pass.room) × (pass.limit ≤ V.room) }
+    requires mine { Mine V.script (V.start no_rows) pass who.session (at_stage who.command First) }
+    requires sort { HasSort V.script who.session who.command is_work }
+    ensures took { Took who.session pass result.0 3 }
+    ensures mine { Mine V.script (V.start no_rows) result.0 who.session (place_then (not result.1) who.command Finished) }
+{
+    let (pass, ran, run, task) = grant_turn(rt, lock, pass, who);
+    let mut task = match task {
+        Ok(task) => task,
+        Err(_) => return (pass, ran),
+    };
+    let mut serials = ids_of(ids.take(), run, who.session);
+    let delta = merged(alloc, bench, &mut serials, &mut task);
+    *ids = Some(serials);
+    gate.reach(rt, Point::Merged, who.session);
+    if delta.is_err() {
+        return complete_turn(rt, lock, pass, who, task, delta);
+    }
+    let (pass, ran, renewed) = renew_turn(rt, lock, pass, who, task);
+    match renewed {
+        Ok(task) => complete_turn(rt, lock, pass, who, task, delta),
+        Err(_) => (pass, ran),
+    }
+}
+
+/// A session's command, to its end or to a turn that finds that the sink has failed.
+pub(crate) fn run_command<V: Service, R: Threads + Wait + Sync, B: Bench<V::File>, G: Gate>(
+    rt: &R,
+    alloc: Global,
+    lock: &TurnLock<V>,
+    pass: Pass,
+    who: Who,
+    command: &Command,
+    bench: &mut B,
+    ids: &mut Option<Serials>,
+    gate: &G,
+) -> (Pass, bool)
+    requires lock { pass.lock ≡ lock.now }
+    requires few { length V.script.sessions ≤ 8 }
+    requires session { who.session < 8 }
+    requires room { (3 ≤ pass.room) × (pass.limit ≤ V.room) }
+    requires mine { Mine V.script (V.start no_rows) pass who.session (at_stage who.command First) }
+    requires known { command_at V.script who.session who.command ≡ Some command.now }
+    ensures took { Took who.session pass result.0 3 }
+    ensures mine { Mine V.script (V.start no_rows) result.0 who.session (place_then (not result.1) who.command Finished) }
+{
+    match command {
+        Command::Load(rows) => load(rt, alloc, lock, pass, who, rows, bench, ids),
+        Command::Query(_) => query(rt, alloc, lock, pass, who),
+        Command::Work(_) => work(rt, alloc, lock, pass, who, bench, ids, gate),
+        _ => simple_turn(rt, lock, pass, who),
+    }
+}

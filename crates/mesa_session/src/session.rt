@@ -1,0 +1,71 @@
+// A session's run.
+ghost use Rattle.std.specs.Prelude.{◌≡◌, ◌<◌, ◌≤◌, ◌*◌, length};
+ghost use Rattle.mesa_history.specs.Run.{First, commands_of as commands_in};
+ghost use Rattle.mesa_skeleton.specs.Rows.{no_rows};
+ghost use Rattle.mesa_passes.specs.Passes.{Gains, HasEnded, Mine, Took, at_stage};
+
+use crate::commands::run_command;
+use crate::gate::{Gate, Point};
+use mesa_disk::Bench;
+use mesa_log::Who;
+use mesa_model::{Command, Script};
+use mesa_service::Service;
+use mesa_tasks::Serials;
+use mesa_turn::{Pass, TurnLock};
+use std::alloc::Global;
+use std::sync::Wait;
+use std::thread::Threads;
+
+// A session's commands.
+fn commands_of(script: &Script, session: u16) -> &[Command]
+    requires { session < length script.now.sessions }
+    ensures { result.now ≡ commands_in script.now session }
+{
+    script.sessions.as_slice()[session as usize].as_slice()
+}
+
+/// Runs a session's commands, to their end or to a turn that finds that the sink has failed. The pass holds the
+/// session's name and has none of its turns; that of session 0 holds all names. May wait.
+pub fn run_session<V: Service, R: Threads + Wait + Sync, B: Bench<V::File>, G: Gate>(
+    rt: &R,
+    alloc: Global,
+    lock: &TurnLock<V>,
+    pass: Pass,
+    script: &Script,
+    session: u16,
+    bench: &mut B,
+    gate: &G,
+) -> Pass
+    requires lock { pass.lock ≡ lock.now }
+    requires script { script.now ≡ V.script }
+    requires few { length V.script.sessions ≤ 8 }
+    requires there { session < length V.script.sessions }
+    requires commands { length (commands_in V.script session) ≤ 200000 }
+    requires room { (3 * length (commands_in V.script session) ≤ pass.room) × (pass.limit ≤ V.room) }
+    requires mine { Mine V.script (V.start no_rows) pass session (at_stage 1 First) }
+
+    // The pass has seen more, and keeps its names and its own positions; at most three turns a command were taken.
+    ensures took { Took session pass result (3 * length (commands_in V.script session)) }
+
+    // The positions that became its own are those of the session's entries, which are all of its turns, or those up to a skipped one.
+    ensures gains { Gains session pass result }
+    ensures ended { HasEnded V.script (V.start no_rows) result session }
+{
+    gate.reach(rt, Point::Started, session);
+    let mut pass = pass;
+    let mut ids: Option<Serials> = None;
+    let commands = commands_of(script, session);
+    'commands: for (i, command) in commands.iter().enumerate() {
+        let who = Who {
+            session,
+            command: i as u32 + 1,
+        };
+        let (next, ran) = run_command(rt, alloc, lock, pass, who, command, bench, &mut ids, gate);
+        pass = next;
+        if !ran {
+            return pass;
+        }
+        gate.reach(rt, Point::Printed, session);
+    }
+    pass
+}
