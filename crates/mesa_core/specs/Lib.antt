@@ -1,1 +1,2 @@
 pub mod Vault
+pub mod Asked

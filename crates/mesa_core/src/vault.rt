@@ -1,5 +1,5 @@
 // The vault, and its calls.
-ghost use Rattle.std.specs.Prelude.{◌≡◌, ◌+◌, ◌<◌, ◌≤◌, ◌^◌, [], Bool, true, false, not, None, IsTrue, IfOk, OnOk, length, vec_capacity};
+ghost use Rattle.std.specs.Prelude.{◌≡◌, ◌≢◌, ◌+◌, ◌<◌, ◌≤◌, ◌^◌, [], Bool, true, false, not, None, IsTrue, IfOk, IfSome, OnOk, length, vec_capacity};
 ghost use Rattle.std.specs.List.{AllByRecursion};
 ghost use Rattle.mesa_asking.specs.Closing.{IsPageOf, IsToClose, SomeFailed, cause_if};
 ghost use Rattle.mesa_asking.specs.Damages.{HasDiffered};
@@ -10,7 +10,12 @@ ghost use Rattle.mesa_engine.specs.Engine.{most_turns, starts_of};
 ghost use Rattle.mesa_fault.specs.Causes.{last, Rose};
 ghost use Rattle.mesa_history.specs.Legal.{AllFit, fits_sink};
 ghost use Rattle.mesa_history.specs.Refused.{some_refused};
-ghost use Rattle.mesa_history.specs.Run.{begins, Finished, First, Looked};
+ghost use Rattle.mesa_core.specs.Asked.{is_pin};
+ghost use Rattle.mesa_history.specs.Legal.{is_release, is_work};
+ghost use Rattle.mesa_history.specs.Run.{begins, Finished, First, Granted, Looked, Renewed};
+ghost use Rattle.mesa_schema.specs.Changes.{Lineage};
+ghost use Rattle.mesa_tasks.specs.Tasks.{IsTask};
+ghost use Rattle.mesa_works.specs.Claims.{claim_in, stage_if};
 ghost use Rattle.mesa_ledger.specs.Vault.{outset_of};
 ghost use Rattle.mesa_model.specs.declared.entries.Kind.TheVariants as kind;
 ghost use Rattle.mesa_skeleton.specs.Rows.{Rows, no_rows};
@@ -21,6 +26,7 @@ ghost use Rattle.mesa_walk.specs.Sight.{schema_changes, tables_seen};
 ghost use Rattle.mesa_walk.specs.Turns.{Asks, Takes, is_load};
 ghost use Rattle.mesa_walk.specs.Walk.{AllFound, HasCounted, faults_in, run_at};
 
+use crate::asked::command_of;
 use mesa_asking::close_query;
 use mesa_batch::Glance;
 use mesa_catalog::Catalog;
@@ -28,12 +34,14 @@ use mesa_delta::FileError;
 use mesa_disk::{Disk, Made};
 use mesa_engine::Engine;
 use mesa_io::Sink;
+use mesa_lease::TABLES;
 use mesa_ledger::Naming;
 use mesa_log::Who;
-use mesa_model::{Entry, Script};
-use mesa_quiet::look;
+use mesa_model::{Command, Entry, Reply, Script};
+use mesa_quiet::{look, pin, release};
 use mesa_script::Rendered;
-use mesa_tasks::Pinned;
+use mesa_tasks::{Pinned, Task};
+use mesa_works::{grant, renew};
 use std::alloc::{AllocError, Global};
 use std::marker::Model;
 
@@ -146,6 +154,65 @@ impl<'s, N: Naming, M: Made, D: Disk<M>, K: Sink> Vault<'s, N, M, D, K> {
         ensures run { self.new.run ≡ self.old.run }
     {
         close_query(&mut self.engine, who, pinned, answered);
+    }
+
+    /// The turn of a pin: the session keeps a version, unless it is refused.
+    pub fn pin(&mut self, who: Who) -> Reply
+        requires due { Asks N.script (run_at N.script (N.start no_rows) self.old.shown.history) who.session who.command First is_pin }
+        requires room { length self.old.shown.history < N.room }
+        ensures turn { Takes N.script (N.start no_rows) self.old.shown self.new.shown who.session who.command kind.Decide Finished }
+        ensures run { self.new.run ≡ self.old.run }
+    {
+        match command_of(self.script, who) {
+            Some(Command::Pin(asked)) => pin(&mut self.engine, who, *asked),
+            _ => unreachable!(),
+        }
+    }
+
+    /// The turn of a pin's release.
+    pub fn release(&mut self, who: Who) -> Reply
+        requires due { Asks N.script (run_at N.script (N.start no_rows) self.old.shown.history) who.session who.command First is_release }
+        requires room { length self.old.shown.history < N.room }
+        ensures turn { Takes N.script (N.start no_rows) self.old.shown self.new.shown who.session who.command kind.Decide Finished }
+        ensures run { self.new.run ≡ self.old.run }
+    {
+        match command_of(self.script, who) {
+            Some(Command::Release(token)) => release(&mut self.engine, who, *token),
+            _ => unreachable!(),
+        }
+    }
+
+    /// A work's first turn: its table has a lease, and the files of its range are open, unless it isn't granted.
+    pub fn grant(&mut self, who: Who) -> Result<Task<D::Reader>, Reply>
+        requires due { Asks N.script (run_at N.script (N.start no_rows) self.old.shown.history) who.session who.command First is_work }
+        requires room { length self.old.shown.history < N.room }
+        ensures turn { Takes N.script (N.start no_rows) self.old.shown self.new.shown who.session who.command kind.Grant (stage_if claim_in Granted result) }
+        ensures ran { OnOk result (self.old.shown.running ≡ true) }
+        ensures low { IfOk result (λ t. t.table < TABLES) }
+        ensures task { IfOk result (λ t. (l : Lineage) × IsTask D.Reader.bytes l t) }
+        ensures damage { IfOk result (λ t. IfSome t.damage (λ d. d.want ≢ d.found)) }
+        ensures run { self.new.run ≡ self.old.run }
+    {
+        match command_of(self.script, who) {
+            Some(Command::Work(name)) => grant(&mut self.engine, who, name.as_slice()),
+            _ => unreachable!(),
+        }
+    }
+
+    /// A work's turn once its rows are merged: its lease holds anew, unless it was lost or the vault has closed.
+    pub fn renew(&mut self, who: Who, task: Task<D::Reader>) -> Result<Task<D::Reader>, Reply>
+        requires due { Asks N.script (run_at N.script (N.start no_rows) self.old.shown.history) who.session who.command (Granted (claim_in task)) is_work }
+        requires room { length self.old.shown.history < N.room }
+        requires table { task.table < TABLES }
+        ensures turn { Takes N.script (N.start no_rows) self.old.shown self.new.shown who.session who.command kind.Renew (stage_if claim_in Renewed result) }
+        ensures ran { OnOk result (self.old.shown.running ≡ true) }
+        ensures same { IfOk result (λ t. t ≡ task) }
+        ensures run { self.new.run ≡ self.old.run }
+    {
+        match command_of(self.script, who) {
+            Some(Command::Work(name)) => renew(&mut self.engine, who, name.as_slice(), task),
+            _ => unreachable!(),
+        }
     }
 
     /// The disk, the sink and the history.

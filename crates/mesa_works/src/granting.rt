@@ -1,7 +1,5 @@
 // A work's grant.
-ghost use Rattle.std.specs.Prelude.{◌≡◌, ◌≢◌, ◌+◌, ◌<◌, ◌≤◌, ◌^◌, ℕ, List, true, length, None, Ok, IfOk, IfSome, OnOk, Option};
-ghost use Rattle.mesa_disk.specs.Image.{Image};
-ghost use Rattle.mesa_gather.specs.Gathered.{IsGathered};
+ghost use Rattle.std.specs.Prelude.{◌≡◌, ◌≢◌, ◌+◌, ◌<◌, ◌≤◌, ◌^◌, ℕ, List, true, length, None, Ok, IfOk, IfSome, OnOk};
 ghost use Rattle.mesa_history.specs.Machine.{claim_of};
 ghost use Rattle.mesa_history.specs.Run.{First, Granted};
 ghost use Rattle.mesa_history.specs.Turns.{IsDue};
@@ -45,7 +43,6 @@ pub fn grant<N: Naming, M: Made, D: Disk<M>, K: Sink>(
     ensures low { IfOk result (λ t. t.table < TABLES) }
     ensures task { IfOk result (λ t. IsTask D.Reader.bytes (stock_at engine.old.ledger.catalogue t.table).lineage t) }
     ensures damage { IfOk result (λ t. IfSome t.damage (λ d. d.want ≢ d.found)) }
-    ensures files { IfOk result (λ t. (told : Option Image) × IsGathered D.Reader.bytes D.Reader.faults told (stock_at engine.old.ledger.catalogue t.table) t.work t) }
 {
     if !engine.running() {
         engine.skip(who, Kind::Grant);
@@ -76,7 +73,6 @@ fn take<N: Naming, M: Made, D: Disk<M>, K: Sink>(
     ensures table { IfOk result (λ t. t.table ≡ claimed.table) }
     ensures task { IfOk result (λ t. IsTask D.Reader.bytes (stock_at engine.old.ledger.catalogue claimed.table).lineage t) }
     ensures damage { IfOk result (λ t. IfSome t.damage (λ d. d.want ≢ d.found)) }
-    ensures files { IfOk result (λ t. (told : Option Image) × IsGathered D.Reader.bytes D.Reader.faults told (stock_at engine.old.ledger.catalogue claimed.table) t.work t) }
 {
     let alloc = *engine.log.history.allocator();
     let table = engine.metadata.catalog().table(claimed.table);

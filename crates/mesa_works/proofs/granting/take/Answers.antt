@@ -1,5 +1,4 @@
 use Rattle.std.proofs.Common.{◌≡◌, ◌<◌, ◌≤◌, [], ◌∷◌, ◌++◌, length, true, false, not, refl, sym, ◌∙◌, ap, subst, Ok}
-use Rattle.std.specs.Prelude.{flat_map}
 use Rattle.std.specs.List.{AllByRecursion}
 use Rattle.mesa_schema.specs.Changes.{epoch_of}
 use Rattle.mesa_history.specs.Machine.{Claim, claim_of}
@@ -8,8 +7,6 @@ use Rattle.mesa_history.specs.Run.{First, Granted, Finished}
 use Rattle.mesa_history.specs.Turns.{IsDue}
 use Rattle.mesa_image.specs.Catalog.{Catalog, Delta, Stock, stock_at}
 use Rattle.mesa_image.specs.Fitting.{deltas_of}
-use Rattle.mesa_image_laws.specs.Brought.{merged_of}
-use Rattle.mesa_image_laws.specs.Moves.{is_base, last_of}
 use Rattle.mesa_model.specs.Entry.{IsShort}
 use Rattle.mesa_model.specs.declared.commands.Command.TheVariants as command
 use Rattle.mesa_model.specs.declared.entries.Kind.TheVariants as kind
@@ -18,7 +15,6 @@ use Rattle.mesa_ledger.specs.Ledger.{books_of}
 use Rattle.mesa_ledger.specs.Vault.{Starts, outset_of}
 use Rattle.mesa_ledger.proofs.Beginning.{vault_at_seen}
 use Rattle.mesa_log.specs.Failure.{cause_in}
-use Rattle.mesa_plans.specs.Files.{table_wanted}
 use Rattle.mesa_skeleton.specs.Rows.{no_rows}
 use Rattle.mesa_tasks.specs.declared.merging.Task.{Task}
 use Rattle.mesa_walk.specs.Causes.{is_read_fault, outcome_of}
@@ -89,14 +85,6 @@ invariant_of-engine-in-Err g c =
     ungranted_engine g.K.Sink.held g.K.Sink.faults n N.room N.sink_faults i.metadata story new i.log later c.engine.invariant c.gather-gathered.ensures.unmoved s number short.session short.command name c.clock-moment.result c.clock-moment.ensures ran at refl
     (λ w. due_alike N.script (N.start no_rows) (N.start w) h s number (command.Work name) First (N.alike w) refl due) c.fail-reply.ensures.room
     cause has counts c.fail-reply.ensures.items c.fail-reply.ensures.told c.fail-reply.ensures.refused
-
-pub returns-in-Ok-clause-files : goal.returns-in-Ok-clause-files
-returns-in-Ok-clause-files g c =
-    let table = c.args.claimed.table in
-    let stock = c.table-table.ensures.stock ∙ ap (λ (k : Catalog). stock_at k table) (c.catalog.ensures ∙ ap (λ (x : Standing). x.ledger.catalogue) c.engine.view_is) in
-    let work = sym c.in-Ok.ensures.work in
-    let f = c.in-Ok.ensures.files _ c.table-table.ensures.held in
-    (_, record { wanted = f.wanted; are = f.are ∙ (λ i. flat_map (table_wanted (stock i).lineage) (merged_of (stock i) (is_base (work i)) (last_of (work i)))); opened = f.opened })
 
 pub returns-in-Ok-clause-turn : goal.returns-in-Ok-clause-turn
 returns-in-Ok-clause-turn g c =
