@@ -24,13 +24,21 @@ fn expect(rt: &impl Abort, alloc: Global, reply: &Reply, want: &str) -> Result<(
     Ok(())
 }
 
+// A reply and its head line.
+type Line = (Reply, &'static str);
+
+// The same of each reply.
+fn expect_all(rt: &impl Abort, alloc: Global, lines: &[Line]) -> Result<(), Fail> {
+    for (reply, want) in lines {
+        expect(rt, alloc, reply, want)?;
+    }
+    Ok(())
+}
+
 // The name of these bytes.
 fn name(alloc: Global, text: &str) -> Result<Name, Fail> {
     Ok(Name::read(alloc, text.as_bytes())?)
 }
-
-// A reply and its head line.
-type Line = (Reply, &'static str);
 
 fn replies() -> [Line; 9] {
     [
@@ -74,51 +82,50 @@ fn replies() -> [Line; 9] {
 
 #[test]
 fn prints_replies(rt: HostRuntime) -> Result<(), Fail> {
-    for (reply, want) in replies() {
-        expect(&rt, rt.alloc(), &reply, want)?;
-    }
-    Ok(())
+    expect_all(&rt, rt.alloc(), &replies())
 }
 
-fn spans(alloc: Global) -> Result<Reply, Fail> {
+fn spans(alloc: Global) -> Result<Items<(u32, u32)>, Fail> {
     let mut spans = Items::new(alloc);
     spans.push((0, 3))?;
     spans.push((4, 4))?;
-    Ok(Reply::Spans(spans))
-}
-
-// Replies that have names or spans.
-fn longer_replies(alloc: Global) -> Result<[Line; 4], Fail> {
-    let spans = spans(alloc)?;
-    let name_of_table = name(alloc, "a")?;
-    let name_of_view = name(alloc, "c")?;
-    let table = name(alloc, "a")?;
-    Ok([
-        (
-            Reply::Table {
-                name: name_of_table,
-            },
-            "0.5@8 table a\n",
-        ),
-        (Reply::View { name: name_of_view }, "0.5@8 view c\n"),
-        (
-            Reply::Altered { table, epoch: 1 },
-            "0.5@8 altered a epoch=1\n",
-        ),
-        (spans, "0.5@8 spans 2\n"),
-    ])
+    Ok(spans)
 }
 
 #[test]
-fn prints_longer_replies(rt: HostRuntime) -> Result<(), Fail> {
-    for (reply, want) in longer_replies(rt.alloc())? {
-        expect(&rt, rt.alloc(), &reply, want)?;
-    }
-    Ok(())
+fn prints_spans(rt: HostRuntime) -> Result<(), Fail> {
+    let reply = Reply::Spans(spans(rt.alloc())?);
+    expect(&rt, rt.alloc(), &reply, "0.5@8 spans 2\n")
+}
+
+// Replies that name a table or a view, by their names.
+fn named(table: Name, view: Name, altered: Name) -> [Line; 3] {
+    let altered = Reply::Altered {
+        table: altered,
+        epoch: 1,
+    };
+    [
+        (Reply::Table { name: table }, "0.5@8 table a\n"),
+        (Reply::View { name: view }, "0.5@8 view c\n"),
+        (altered, "0.5@8 altered a epoch=1\n"),
+    ]
+}
+
+fn named_replies(alloc: Global) -> Result<[Line; 3], Fail> {
+    let table = name(alloc, "a")?;
+    let view = name(alloc, "c")?;
+    let altered = name(alloc, "a")?;
+    Ok(named(table, view, altered))
+}
+
+#[test]
+fn prints_named_replies(rt: HostRuntime) -> Result<(), Fail> {
+    let replies = named_replies(rt.alloc())?;
+    expect_all(&rt, rt.alloc(), &replies)
 }
 
 // Refusals, and their head lines.
-fn refusals() -> [(Refusal, &'static str); 10] {
+fn refusals() -> [Line; 10] {
     let damage = Damage {
         file: FileId::of(0x100_0000_0000),
         place: 0,
@@ -136,45 +143,51 @@ fn refusals() -> [(Refusal, &'static str); 10] {
     };
     [
         (
-            Refusal::NoTable { row: Some(2) },
+            Reply::Refused(Refusal::NoTable { row: Some(2) }),
             "0.5@8 refused no_table row=2\n",
         ),
-        (Refusal::NoTable { row: None }, "0.5@8 refused no_table\n"),
         (
-            Refusal::BadSchema { reason },
+            Reply::Refused(Refusal::NoTable { row: None }),
+            "0.5@8 refused no_table\n",
+        ),
+        (
+            Reply::Refused(Refusal::BadSchema { reason }),
             "0.5@8 refused bad_schema reason=name_twice\n",
         ),
         (
-            Refusal::BadRow { row: 1, column: 2 },
+            Reply::Refused(Refusal::BadRow { row: 1, column: 2 }),
             "0.5@8 refused bad_row row=1 column=2\n",
         ),
-        (future, "0.5@8 refused future asked=latest newest=none\n"),
-        (later, "0.5@8 refused future asked=3 newest=2\n"),
         (
-            Refusal::PinsFull { limit: 64 },
+            Reply::Refused(future),
+            "0.5@8 refused future asked=latest newest=none\n",
+        ),
+        (
+            Reply::Refused(later),
+            "0.5@8 refused future asked=3 newest=2\n",
+        ),
+        (
+            Reply::Refused(Refusal::PinsFull { limit: 64 }),
             "0.5@8 refused pins_full limit=64\n",
         ),
         (
-            Refusal::Damaged(damage),
+            Reply::Refused(Refusal::Damaged(damage)),
             "0.5@8 refused damaged file=0000010000000000 place=0 want=length:103 found=absent\n",
         ),
         (
-            Refusal::Lost {
+            Reply::Refused(Refusal::Lost {
                 lease: 1,
                 holder: None,
-            },
+            }),
             "0.5@8 refused lost lease=1 holder=none\n",
         ),
-        (Refusal::Memory, "0.5@8 refused memory\n"),
+        (Reply::Refused(Refusal::Memory), "0.5@8 refused memory\n"),
     ]
 }
 
 #[test]
 fn prints_refusals(rt: HostRuntime) -> Result<(), Fail> {
-    for (refusal, want) in refusals() {
-        expect(&rt, rt.alloc(), &Reply::Refused(refusal), want)?;
-    }
-    Ok(())
+    expect_all(&rt, rt.alloc(), &refusals())
 }
 
 fn sum_bound(alloc: Global) -> Result<Reply, Fail> {
