@@ -10,7 +10,7 @@ ghost use Rattle.mesa_engine.specs.Engine.{most_turns, starts_of};
 ghost use Rattle.mesa_fault.specs.Causes.{last, Rose};
 ghost use Rattle.mesa_history.specs.Legal.{AllFit, fits_sink};
 ghost use Rattle.mesa_history.specs.Refused.{some_refused};
-ghost use Rattle.mesa_core.specs.Asked.{is_pin};
+ghost use Rattle.mesa_core.specs.Asked.{is_explain, is_pin};
 ghost use Rattle.mesa_history.specs.Legal.{is_release, is_work};
 ghost use Rattle.mesa_history.specs.Run.{begins, Finished, First, Granted, Looked, Renewed};
 ghost use Rattle.mesa_schema.specs.Changes.{Lineage};
@@ -38,7 +38,7 @@ use mesa_lease::TABLES;
 use mesa_ledger::Naming;
 use mesa_log::Who;
 use mesa_model::{Command, Entry, Reply, Script};
-use mesa_quiet::{look, pin, release};
+use mesa_quiet::{explain, look, pin, release};
 use mesa_script::Rendered;
 use mesa_tasks::{Pinned, Task};
 use mesa_works::{grant, renew};
@@ -178,6 +178,20 @@ impl<'s, N: Naming, M: Made, D: Disk<M>, K: Sink> Vault<'s, N, M, D, K> {
     {
         match command_of(self.script, who) {
             Some(Command::Release(token)) => release(&mut self.engine, who, *token),
+            _ => unreachable!(),
+        }
+    }
+
+    /// The turn of an explain: the ranges that a query would read are told, unless it is refused.
+    pub fn explain(&mut self, who: Who) -> Reply
+        requires due { Asks N.script (run_at N.script (N.start no_rows) self.old.shown.history) who.session who.command First is_explain }
+        requires room { length self.old.shown.history < N.room }
+        ensures turn { Takes N.script (N.start no_rows) self.old.shown self.new.shown who.session who.command kind.Decide Finished }
+        ensures run { self.new.run ≡ self.old.run }
+    {
+        let alloc = *self.engine.log.history.allocator();
+        match command_of(self.script, who) {
+            Some(Command::Explain(words)) => explain(alloc, &mut self.engine, who, words),
             _ => unreachable!(),
         }
     }
