@@ -5,6 +5,8 @@
 //! copies each row, and `lift N` lifts each row through ten changes.
 #![tactic(auto)]
 
+ghost use Rattle.mesa_answer_bench.specs.Made.{HasColumns};
+
 mod answering;
 mod lifting;
 mod rows;
@@ -12,6 +14,9 @@ mod rows;
 use answering::{answer_rows, put_rows};
 use anyhow::{Result, anyhow, bail};
 use lifting::{copy_rows, lift_rows};
+use mesa_answer::GroupError;
+use mesa_model::Page;
+use mesa_schema::Schema;
 use rows::{make_rows, query, row, schema};
 use std::alloc::Global;
 use std::env;
@@ -26,22 +31,39 @@ fn count_rows(alloc: Global, rows: u32) -> Result<usize> {
     Ok(count)
 }
 
-// Puts rows into their groups one by one, and counts the rows of the page.
-fn put(alloc: Global, rows: u32) -> Result<usize> {
-    let schema = schema(alloc)?;
-    let query = query(alloc, &schema)?;
-    match put_rows(alloc, &schema, &query, rows) {
+// How many rows a page has.
+fn rows_of(answer: Result<Page, GroupError>) -> Result<usize> {
+    match answer {
         Ok(page) => Ok(page.rows.len()),
         Err(_) => Err(anyhow!("not put")),
     }
 }
 
+fn put_by(alloc: Global, schema: &Schema, rows: u32) -> Result<usize>
+    requires { HasColumns schema.now }
+{
+    let query = query(alloc, schema)?;
+    rows_of(put_rows(alloc, schema, &query, rows))
+}
+
+// Puts rows into their groups one by one, and counts the rows of the page.
+fn put(alloc: Global, rows: u32) -> Result<usize> {
+    let schema = schema(alloc)?;
+    put_by(alloc, &schema, rows)
+}
+
+fn answer_by(alloc: Global, schema: &Schema, rows: u32) -> Result<usize>
+    requires { HasColumns schema.now }
+{
+    let query = query(alloc, schema)?;
+    let page = answer_rows(alloc, schema, &query, rows)?;
+    Ok(page.rows.len())
+}
+
 // Answers a query over a list of rows, and counts the rows of the page.
 fn answer(alloc: Global, rows: u32) -> Result<usize> {
     let schema = schema(alloc)?;
-    let query = query(alloc, &schema)?;
-    let page = answer_rows(alloc, &schema, &query, rows)?;
-    Ok(page.rows.len())
+    answer_by(alloc, &schema, rows)
 }
 
 // One measurement.

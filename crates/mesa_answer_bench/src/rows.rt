@@ -83,16 +83,22 @@ fn words(alloc: Global) -> Result<QueryWords, AllocError> {
     })
 }
 
+fn query_of(alloc: Global, schema: &Schema, words: &QueryWords) -> Result<Query>
+    ensures { IfOk result (IsQueryOf schema.now) }
+{
+    let relation = name(alloc, "t")?;
+    match Query::build(alloc, schema, &relation, 1, 0, words) {
+        Ok(query) => Ok(query),
+        Err(_) => Err(anyhow!("no query")),
+    }
+}
+
 /// A query that groups by the item.
 pub fn query(alloc: Global, schema: &Schema) -> Result<Query>
     ensures { IfOk result (IsQueryOf schema.now) }
 {
     let words = words(alloc)?;
-    let relation = name(alloc, "t")?;
-    match Query::build(alloc, schema, &relation, 1, 0, &words) {
-        Ok(query) => Ok(query),
-        Err(_) => Err(anyhow!("no query")),
-    }
+    query_of(alloc, schema, &words)
 }
 
 /// The row of a number. Rows are made in the order of their keys.
