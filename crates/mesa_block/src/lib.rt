@@ -21,6 +21,3 @@ pub const MOST_ROWS: usize = 1024;
 
 /// How many bytes a block has at most.
 pub const MOST_BYTES: usize = 65536;
-
-#[cfg(test)]
-mod tests;

@@ -41,6 +41,3 @@ pub enum KeyValue {
 
 /// A key, column by column.
 pub type Key = Items<KeyValue>;
-
-#[cfg(test)]
-mod tests;

@@ -7,6 +7,3 @@ mod leases;
 
 pub use lease::{Busy, Lease, Lost};
 pub use leases::{Leases, TABLES};
-
-#[cfg(test)]
-mod tests;

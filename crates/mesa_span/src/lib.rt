@@ -9,6 +9,3 @@ mod works;
 pub use plans::{plan, plans_are_least};
 pub use ranges::{Ranges, Span};
 pub use works::{Work, next_work, works_keep_ranges_reachable};
-
-#[cfg(test)]
-mod tests;

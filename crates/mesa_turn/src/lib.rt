@@ -21,6 +21,3 @@ pub use held::Held;
 pub use lock::TurnLock;
 pub use pass::Pass;
 pub use view::Turned;
-
-#[cfg(test)]
-mod tests;

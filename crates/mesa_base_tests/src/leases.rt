@@ -1,4 +1,5 @@
-use super::{Busy, Leases, Lost};
+// Leases, and what is answered at their edges.
+use mesa_lease::{Busy, Leases, Lost};
 
 // Leases of three turns: what holds at the edges, and what is answered there.
 #[test]

@@ -3,7 +3,7 @@ ghost use Rattle.std.specs.Prelude.{◌≡◌, ◌+◌, ◌-◌, ◌*◌, ◌^�
 ghost use Rattle.std.specs.Thread.{IsSync};
 ghost use Rattle.mesa_turn.specs.History.{has};
 
-use super::{Pass, TurnLock, Turned};
+use mesa_turn::{Pass, TurnLock, Turned};
 use std::alloc::Global;
 use std::marker::Model;
 use std::process::Abort;

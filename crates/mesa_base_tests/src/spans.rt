@@ -1,9 +1,10 @@
-use super::{Ranges, Work, next_work, plan};
+// Ranges of versions: what is merged next, and what a reader opens.
 use mesa_list::{Items, TryCopy};
+use mesa_span::{Ranges, Work, next_work, plan};
 use std::test::Fail;
 
 // The ranges after the works of a table of 93 versions whose oldest is 60, and its next works and
-// plans; the same rows stand as theorems in proofs/Rows.antt.
+// plans; the same rows stand as theorems beside the definitions, in `mesa_span`.
 #[test]
 fn plans_and_works_of_ninety_three_versions(rt: HostRuntime) -> Result<(), Fail> {
     let mut ranges = Ranges {

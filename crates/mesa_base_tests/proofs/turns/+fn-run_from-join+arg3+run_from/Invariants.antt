@@ -1,5 +1,5 @@
 use Rattle.std.proofs.Common.{◌-◌}
-use Rattle.mesa_turn.proofs.tests.+fn-run_from-join+arg3+run_from.Given as goal
+use Rattle.mesa_base_tests.proofs.turns.+fn-run_from-join+arg3+run_from.Given as goal
 
 abbrev pub decreases-join+arg3 : goal.decreases-join+arg3
 decreases-join+arg3 g l = 8 - l.next
