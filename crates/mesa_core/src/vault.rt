@@ -8,10 +8,8 @@ ghost use Rattle.mesa_core.specs.Vault.{Stand};
 ghost use Rattle.mesa_engine.specs.Beginning.{IsBegun};
 ghost use Rattle.mesa_engine.specs.Engine.{most_turns, starts_of};
 ghost use Rattle.mesa_fault.specs.Causes.{last, Rose};
-ghost use Rattle.mesa_history.specs.Legal.{AllFit, fits_sink};
+ghost use Rattle.mesa_history.specs.Legal.{AllFit, fits_sink, is_work};
 ghost use Rattle.mesa_history.specs.Refused.{some_refused};
-ghost use Rattle.mesa_core.specs.Asked.{is_explain, is_pin};
-ghost use Rattle.mesa_history.specs.Legal.{is_release, is_work};
 ghost use Rattle.mesa_history.specs.Run.{begins, Finished, First, Granted, Looked, Renewed};
 ghost use Rattle.mesa_schema.specs.Changes.{Lineage};
 ghost use Rattle.mesa_tasks.specs.Tasks.{IsTask};
@@ -23,7 +21,7 @@ ghost use Rattle.mesa_tasks.specs.GivingBack.{pinned_inputs};
 ghost use Rattle.mesa_walk.specs.Printing.{IsPrinted};
 ghost use Rattle.mesa_walk.specs.Queries.{closing_fault};
 ghost use Rattle.mesa_walk.specs.Sight.{schema_changes, tables_seen};
-ghost use Rattle.mesa_walk.specs.Turns.{Asks, Takes, is_load};
+ghost use Rattle.mesa_walk.specs.Turns.{Asks, Takes, is_load, is_simple};
 ghost use Rattle.mesa_walk.specs.Walk.{AllFound, HasCounted, faults_in, run_at};
 
 use crate::asked::command_of;
@@ -42,6 +40,7 @@ use mesa_quiet::{explain, look, pin, release};
 use mesa_script::Rendered;
 use mesa_tasks::{Pinned, Task};
 use mesa_works::{grant, renew};
+use mesa_writing::{alter, expire, table, view};
 use std::alloc::{AllocError, Global};
 use std::marker::Model;
 
@@ -156,42 +155,21 @@ impl<'s, N: Naming, M: Made, D: Disk<M>, K: Sink> Vault<'s, N, M, D, K> {
         close_query(&mut self.engine, who, pinned, answered);
     }
 
-    /// The turn of a pin: the session keeps a version, unless it is refused.
-    pub fn pin(&mut self, who: Who) -> Reply
-        requires due { Asks N.script (run_at N.script (N.start no_rows) self.old.shown.history) who.session who.command First is_pin }
+    /// The one turn of a command that is no load, no query and no work.
+    pub fn simple(&mut self, who: Who) -> Reply
+        requires due { Asks N.script (run_at N.script (N.start no_rows) self.old.shown.history) who.session who.command First is_simple }
         requires room { length self.old.shown.history < N.room }
         ensures turn { Takes N.script (N.start no_rows) self.old.shown self.new.shown who.session who.command kind.Decide Finished }
-        ensures run { self.new.run ≡ self.old.run }
-    {
-        match command_of(self.script, who) {
-            Some(Command::Pin(asked)) => pin(&mut self.engine, who, *asked),
-            _ => unreachable!(),
-        }
-    }
-
-    /// The turn of a pin's release.
-    pub fn release(&mut self, who: Who) -> Reply
-        requires due { Asks N.script (run_at N.script (N.start no_rows) self.old.shown.history) who.session who.command First is_release }
-        requires room { length self.old.shown.history < N.room }
-        ensures turn { Takes N.script (N.start no_rows) self.old.shown self.new.shown who.session who.command kind.Decide Finished }
-        ensures run { self.new.run ≡ self.old.run }
-    {
-        match command_of(self.script, who) {
-            Some(Command::Release(token)) => release(&mut self.engine, who, *token),
-            _ => unreachable!(),
-        }
-    }
-
-    /// The turn of an explain: the ranges that a query would read are told, unless it is refused.
-    pub fn explain(&mut self, who: Who) -> Reply
-        requires due { Asks N.script (run_at N.script (N.start no_rows) self.old.shown.history) who.session who.command First is_explain }
-        requires room { length self.old.shown.history < N.room }
-        ensures turn { Takes N.script (N.start no_rows) self.old.shown self.new.shown who.session who.command kind.Decide Finished }
-        ensures run { self.new.run ≡ self.old.run }
     {
         let alloc = *self.engine.log.history.allocator();
         match command_of(self.script, who) {
+            Some(Command::Table(words)) => table(alloc, &mut self.engine, who, words),
+            Some(Command::View(words)) => view(alloc, &mut self.engine, who, words),
+            Some(Command::Alter(words)) => alter(alloc, &mut self.engine, who, words),
             Some(Command::Explain(words)) => explain(alloc, &mut self.engine, who, words),
+            Some(Command::Pin(asked)) => pin(&mut self.engine, who, *asked),
+            Some(Command::Release(token)) => release(&mut self.engine, who, *token),
+            Some(Command::Expire(version)) => expire(alloc, &mut self.engine, who, *version),
             _ => unreachable!(),
         }
     }
