@@ -3,3 +3,4 @@ pub mod Doing
 pub mod Written
 pub mod Engines
 pub mod Rulings
+pub mod Loads

@@ -22,7 +22,7 @@ fn told(why: mesa_asked::Failure) -> Failure
 }
 
 // Refuses whatever is asked of a vault that has closed.
-pub(crate) fn check_open(metadata: &Metadata) -> Result<(), Failure>
+fn check_open(metadata: &Metadata) -> Result<(), Failure>
     ensures opened { OnOk result (metadata.now.ledger.closed ≡ None) }
     ensures closed { IfErr result (λ e. (position : ℕ) × (metadata.now.ledger.closed ≡ Some position) × (e ≡ failure.Refused (no.Closed position))) }
 {
