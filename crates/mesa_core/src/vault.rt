@@ -4,6 +4,7 @@ ghost use Rattle.std.specs.List.{AllByRecursion};
 ghost use Rattle.mesa_asking.specs.Closing.{IsPageOf, IsToClose, SomeFailed, cause_if};
 ghost use Rattle.mesa_asking.specs.Damages.{HasDiffered};
 ghost use Rattle.mesa_batch.specs.Glance.{tables_of};
+ghost use Rattle.mesa_completing.specs.Unmerged.{HasDiffered as HasMetDamage, SomeFailed as HasReadFault, cause_of};
 ghost use Rattle.mesa_core.specs.Vault.{Stand};
 ghost use Rattle.mesa_engine.specs.Beginning.{IsBegun};
 ghost use Rattle.mesa_engine.specs.Engine.{most_turns, starts_of};
@@ -17,7 +18,8 @@ ghost use Rattle.mesa_works.specs.Claims.{claim_in, stage_if};
 ghost use Rattle.mesa_ledger.specs.Vault.{outset_of};
 ghost use Rattle.mesa_model.specs.declared.entries.Kind.TheVariants as kind;
 ghost use Rattle.mesa_skeleton.specs.Rows.{Rows, no_rows};
-ghost use Rattle.mesa_tasks.specs.GivingBack.{pinned_inputs};
+ghost use Rattle.mesa_tasks.specs.GivingBack.{pinned_inputs, task_inputs};
+ghost use Rattle.mesa_walk.specs.Causes.{is_read_fault};
 ghost use Rattle.mesa_walk.specs.Printing.{IsPrinted};
 ghost use Rattle.mesa_walk.specs.Queries.{closing_fault};
 ghost use Rattle.mesa_walk.specs.Sight.{schema_changes, tables_seen};
@@ -28,6 +30,7 @@ use crate::asked::command_of;
 use mesa_asking::close_query;
 use mesa_batch::Glance;
 use mesa_catalog::Catalog;
+use mesa_completing::give_up;
 use mesa_delta::FileError;
 use mesa_disk::{Disk, Made};
 use mesa_engine::Engine;
@@ -38,7 +41,7 @@ use mesa_log::Who;
 use mesa_model::{Command, Entry, Reply, Script};
 use mesa_quiet::{explain, look, pin, release};
 use mesa_script::Rendered;
-use mesa_tasks::{Pinned, Task};
+use mesa_tasks::{CompactError, Pinned, Task};
 use mesa_works::{grant, renew};
 use mesa_writing::{alter, expire, table, view};
 use std::alloc::{AllocError, Global};
@@ -203,6 +206,27 @@ impl<'s, N: Naming, M: Made, D: Disk<M>, K: Sink> Vault<'s, N, M, D, K> {
     {
         match command_of(self.script, who) {
             Some(Command::Work(name)) => renew(&mut self.engine, who, name.as_slice(), task),
+            _ => unreachable!(),
+        }
+    }
+
+    /// A work's last turn where its merge failed: its lease ends, unless the vault has closed. All that it was handed is given back. Takes no memory.
+    pub fn give_up(&mut self, who: Who, task: Task<D::Reader>, error: CompactError) -> Reply
+        requires due { Asks N.script (run_at N.script (N.start no_rows) self.old.shown.history) who.session who.command (Granted (claim_in task)) is_work }
+        requires table { task.table < TABLES }
+        requires read { is_read_fault (cause_of error) ≡ true → HasReadFault D.Reader.faults (task_inputs task) }
+        requires damaged { HasMetDamage error }
+        requires room { length self.old.shown.history < N.room }
+        ensures turn { Takes N.script (N.start no_rows) self.old.shown self.new.shown who.session who.command kind.Close Finished }
+    {
+        match command_of(self.script, who) {
+            Some(Command::Work(name)) => give_up(
+                &mut self.engine,
+                who,
+                name.as_slice(),
+                task,
+                error,
+            ),
             _ => unreachable!(),
         }
     }
