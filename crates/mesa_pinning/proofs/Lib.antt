@@ -1,0 +1,5 @@
+pub mod Opened
+pub mod Reading
+pub mod Given
+pub mod Folding
+pub mod Telling

@@ -1,0 +1,18 @@
+use Rattle.std.proofs.Common.{◌≡◌, ap, ◌∙◌, map, subst}
+use Rattle.std.specs.Prelude.{IfSome, slice_get}
+use Rattle.mesa_schema.specs.Changes.{Lineage}
+use Rattle.mesa_plans.specs.Files.{own_in, own_lineage, want_in}
+use Rattle.mesa_plans.specs.Lent.{lent_in}
+use Rattle.mesa_pinning.proofs.Opened.{if_both, view_as}
+use Rattle.mesa_pinning.proofs.opening.open_view.Goals as goal
+
+pub returns-in-Ok-view_files-clause-files : goal.returns-in-Ok-view_files-clause-files
+returns-in-Ok-view_files-clause-files g c =
+    let same = view_as c.args.table.now.evolving.value c.in-Ok.columns.value c.args.view (lent_in c.args.deltas.now) c.requires.view
+    (subst (λ (l : Lineage). IfSome (slice_get l.views c.args.view) (λ v. c.in-Ok.columns.value ≡ own_lineage l v)) c.deref.ensures c.in-Ok.ensures) in
+    if_both c.open_sources.result _ _ _ c.open_sources.ensures.own c.open_sources.ensures.opened (λ files own opened. record {
+      wanted = c.in-Ok-view_files.sources.wanted.items;
+      are = c.in-Ok-view_files.ensures.files.wanted ∙ ap (map want_in) same;
+      own = own ∙ c.in-Ok-view_files.ensures.files.own ∙ ap (map own_in) same;
+      opened = opened;
+    })

@@ -1,0 +1,36 @@
+-- What the files of a query tell of its answer.
+use Rattle.std.specs.Prelude.{◌≡◌, ℕ, List, [], ◌∷◌, map, Bool, Option, ⊤}
+use Rattle.mesa_schema.specs.declared.rows.Row.{Row}
+use Rattle.mesa_schema.specs.Columns.{Columns}
+use Rattle.mesa_filter.specs.Query.{BuiltQuery, group_kinds}
+use Rattle.mesa_merge.specs.Inputs.{AreTold, Known, knowns_of, lifted_in}
+use Rattle.mesa_model.specs.Query.{Answer}
+use Rattle.mesa_query.specs.Files.{inputs_in, owns_in}
+use Rattle.mesa_query.specs.Relation.{page_over}
+use Rattle.mesa_tasks.specs.Pins.{IsOfRelation, relation_rows}
+use Rattle.mesa_tasks.specs.declared.querying.Pinned.{Pinned}
+
+-- The relation's rows in each file that is known, by the rows of the files: its own, or its table's grouped by the view.
+abbrev pub parts_known : Option ℕ → List Known → List Bool → List (List Row) → List (List Row)
+parts_known view [] own contents = []
+parts_known view (k ∷ ks) [] contents = []
+parts_known view (k ∷ ks) (o ∷ own) [] = []
+parts_known view (k ∷ ks) (o ∷ own) (rows ∷ contents) = relation_rows view k.table (map (lifted_in k) rows) o ∷ parts_known view ks own contents
+
+-- Each file is the relation's own, with these columns, or one of its table.
+abbrev pub AreOfRelation : Columns → Option ℕ → List Known → List Bool → Type 0
+AreOfRelation s view [] own = ⊤
+AreOfRelation s view (k ∷ ks) [] = ⊤
+AreOfRelation s view (k ∷ ks) (o ∷ own) = IsOfRelation s view k.table o × AreOfRelation s view ks own
+
+-- Files tell the answer to a query: their bytes are told, and the page over their rows, whatever columns the relation has of which they are, is the answer's, at this version.
+pub record TellAnswer (q : BuiltQuery) (version : ℕ) (view : Option ℕ) (files : List Known) (own : List Bool) (answer : Answer) : Type 0 where
+  pub contents : List (List Row)
+  pub told : AreTold files contents
+  pub page : (s : Columns) → AreOfRelation s view files own → answer.page ≡ page_over s q (parts_known view files own contents)
+  pub at : answer.page.version ≡ version
+  pub heading : answer.heading ≡ record { kinds = group_kinds q; prefix = q.prefix }
+
+-- The same of a query's files as they are handed out.
+abbrev pub Tells : {R : Type 0} → (R → Option (List ℕ)) → Pinned R → Answer → Type 0
+Tells bytes p answer = TellAnswer p.query p.version p.view (knowns_of bytes (inputs_in p.inputs.items)) (owns_in p.inputs.items) answer
