@@ -1,7 +1,8 @@
 // Beginning a run.
-ghost use Rattle.std.specs.Prelude.{◌≡◌, ◌<◌, ◌≤◌, ℕ, List, [], IfOk, OnOk, Ok, IsTrue};
+ghost use Rattle.std.specs.Prelude.{◌≡◌, ◌<◌, ◌≤◌, ℕ, List, [], Some, IfOk, OnOk, Ok, IsTrue};
 ghost use Rattle.mesa_key.specs.Spelling.{AreBytes};
 ghost use Rattle.mesa_fault.specs.Causes.{HasCause};
+ghost use Rattle.mesa_disk.specs.Image.{Image as AnyImage};
 ghost use Rattle.mesa_disk.specs.Story.{Spans};
 ghost use Rattle.mesa_disk.specs.declared.area.Area.TheVariants.{Zero};
 ghost use Rattle.mesa_trash.specs.Filed.{AreNamedOrWait};
@@ -36,6 +37,7 @@ pub fn write_run<M: Made, D: Disk<M>>(
     ensures held { IfOk result (λ new_end. (bodies : List (List ℕ)) (c : AnyCatalog) (rows : Rows) (number : ℕ) → IsFound (D.story disk.old) bodies end c rows → BeginsRun c number framed.now strays.now
         → IsHeldAs (D.story disk.new) new_end (applied c (run_record number)) rows) }
     ensures named { OnOk result ((c : AnyCatalog) → AreStrays (D.story disk.old) c strays.now → AreNamedOrWait (named c) [] (D.story disk.new).told) }
+    ensures told { (i : AnyImage) → (D.story disk.old).told ≡ Some i → (j : AnyImage) × ((D.story disk.new).told ≡ Some j) }
     ensures room { IfOk result (λ new_end. new_end < (D.story disk.new).len Zero) }
     ensures clock { (D.story disk.old).moment ≤ (D.story disk.new).moment }
     ensures cause { HasCause (D.story disk.old).faults (D.story disk.new).faults result }

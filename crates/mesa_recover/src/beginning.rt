@@ -2,6 +2,7 @@
 ghost use Rattle.std.specs.Prelude.{◌≡◌, ◌⊎◌, ◌+◌, ◌*◌, ◌^◌, ◌<◌, ◌≤◌, ℕ, List, [], IfOk, IfErr, OnOk, Err, Ok, Some, None, IsTrue};
 ghost use Rattle.mesa_key.specs.Spelling.{AreBytes};
 ghost use Rattle.mesa_fault.specs.Causes.{HasCause};
+ghost use Rattle.mesa_disk.specs.Image.{Image as AnyImage};
 ghost use Rattle.mesa_disk.specs.Story.{Spans, Unmoved};
 ghost use Rattle.mesa_disk.specs.declared.area.Area.TheVariants.{Zero};
 ghost use Rattle.mesa_trash.specs.Filed.{AreNamedOrWait, FilesAdopted};
@@ -42,10 +43,12 @@ pub fn begin<M: Made, D: Disk<M>>(
     // The run is the next one, and its record is applied.
     ensures run { IfOk result (λ b. b.run ≡ opened.last_run + 1) }
     ensures catalog { IfOk result (λ b. b.catalog.catalogue ≡ applied opened.catalog.catalogue (run_record b.run)) }
+    ensures free { IfOk result (λ b. b.catalog.reserved ≡ None) }
     ensures place { IfOk result (λ b. (b.area ≡ Zero) × (b.since ≡ opened.since)) }
     ensures room { IfOk result (λ b. b.end < (D.story b.disk).len Zero) }
 
-    // From a sound start the disk holds the store after the record, and whatever it answers each image keeps the state.
+    // A read gives an image where it gave one. From a sound start the disk holds the store after the record, and whatever it answers each image keeps the state.
+    ensures told { IfOk result (λ b. (i : AnyImage) → (D.story opened.disk).told ≡ Some i → (j : AnyImage) × ((D.story b.disk).told ≡ Some j)) }
     ensures held { IfOk result (λ b. (rows : Rows) → IsSoundStart (D.story opened.disk) opened.catalog.catalogue rows → IsHeldAs (D.story b.disk) b.end b.catalog.catalogue rows) }
     ensures keeps { IfOk result (λ b. Keeps (D.story opened.disk) (D.story b.disk)) }
     ensures keeps_err { IfErr result (λ e. Keeps (D.story opened.disk) (D.story e.1)) }
@@ -98,6 +101,8 @@ fn begin_run<M: Made, D: Disk<M>>(
     requires gate { 1 < (D.story disk.old).len Zero → end < (D.story disk.old).len Zero }
     requires none { (D.story disk.old).len Zero ≤ 1 → end ≡ 0 }
     ensures catalog { OnOk result (catalog.new.catalogue ≡ applied catalog.old.catalogue (run_record (last_run + 1))) }
+    ensures free { OnOk result (catalog.new.reserved ≡ None) }
+    ensures told { (i : AnyImage) → (D.story disk.old).told ≡ Some i → (j : AnyImage) × ((D.story disk.new).told ≡ Some j) }
     ensures room { IfOk result (λ new_end. new_end < (D.story disk.new).len Zero) }
     ensures images { (bodies : List (List ℕ)) (rows : Rows) → IsFound (D.story disk.old) bodies end catalog.old.catalogue rows → Spans (λ x. StandsFor x (kept_of rows catalog.old.catalogue)) (D.story disk.old) (D.story disk.new) }
     ensures held { IfOk result (λ new_end. (bodies : List (List ℕ)) (rows : Rows) → IsFound (D.story disk.old) bodies end catalog.old.catalogue rows → IsHeldAs (D.story disk.new) new_end (applied catalog.old.catalogue (run_record (last_run + 1))) rows) }

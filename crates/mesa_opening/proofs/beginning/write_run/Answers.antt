@@ -43,3 +43,18 @@ returns-clause-named g c k are =
     let two = story c.write_record.new.disk in
     named_in_the_end k (story c.args.disk.now) one two c.args.strays.now are c.settle.ensures.told
     (subst (λ fs. Steps (MovesOnly fs c.args.strays.now) one.told two.told) (ap (files_of g.M.Made.bytes) c.new.ensures.items) c.write_record.ensures.only) c.in_ok-end.ensures.gone
+
+pub returns-in_err-settle-clause-told : goal.returns-in_err-settle-clause-told
+returns-in_err-settle-clause-told g c i told = let one = c.settle.ensures.told.on i told in (one.0, one.1)
+
+pub returns-in_err-end-clause-told : goal.returns-in_err-end-clause-told
+returns-in_err-end-clause-told g c i told =
+    let one = c.settle.ensures.told.on i told in
+    let two = c.write_record.ensures.only.on one.0 one.1 in
+    (two.0, two.1)
+
+pub returns-clause-told : goal.returns-clause-told
+returns-clause-told g c i told =
+    let one = c.settle.ensures.told.on i told in
+    let two = c.write_record.ensures.only.on one.0 one.1 in
+    (two.0, two.1)

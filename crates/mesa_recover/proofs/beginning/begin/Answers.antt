@@ -43,3 +43,6 @@ returns-then-last_run-ge-MOST_RUNS-clause-keeps_err g c k rows start below t x a
     let laws = g.met.D.Disk g.world.𝓛 g.world.𝓜 g.world.𝓡 ((λ s x. x), (λ x. x), (λ x. x), λ x. x) in
     let now : t ≡ story.moment = omega arith in
     start.left x (laws.only_now o.disk x below (subst (λ m. story.may_have_left m x) now left))
+
+pub returns-in-Ok-clause-told : goal.returns-in-Ok-clause-told
+returns-in-Ok-clause-told g c i told = c.begin_run.ensures.told i told

@@ -45,3 +45,12 @@ returns-clause-named g c =
       recorded = strays.recorded;
       among = record { ids = strays.among.ids; listed = λ i told. strays.among.listed i (sym c.ready_run.ensures.unmoved.told ∙ told); are = strays.among.are };
     })
+
+pub returns-in_err-framed-clause-told : goal.returns-in_err-framed-clause-told
+returns-in_err-framed-clause-told g c i told = (i, c.ready_run.ensures.unmoved.told ∙ told)
+
+pub returns-in_err-end-clause-told : goal.returns-in_err-end-clause-told
+returns-in_err-end-clause-told g c i told = c.write_run.ensures.told i (c.ready_run.ensures.unmoved.told ∙ told)
+
+pub returns-clause-told : goal.returns-clause-told
+returns-clause-told g c i told = c.write_run.ensures.told i (c.ready_run.ensures.unmoved.told ∙ told)
