@@ -1,0 +1,126 @@
+-- Completeness follows from how calls end.
+use Rattle.std.proofs.Common.{◌≡◌, ⊎_elim, inl, inr, ◌≤◌, ◌<◌, ◌+◌, ℕ, List, length, Bool, true, false, sym, ◌∙◌, ap, subst, arith, Option, Some}
+use Rattle.std.specs.Prelude.{IfSome, Result, Ok, Err, if◌then◌else◌}
+use Rattle.mesa_model.specs.declared.commands.Script.{Script}
+use Rattle.mesa_history.specs.Counting.{count_in, is_disk_fault, is_bench_fault}
+use Rattle.mesa_history.specs.Refused.{some_refused}
+use Rattle.mesa_history.specs.Run.{Run, begins}
+use Rattle.mesa_script.specs.declared.script.ScriptError.{ScriptError}
+use Rattle.mesa_script.specs.Records.{is_unbuilt}
+use Rattle.mesa_script.specs.Script.{built_script_of}
+use Rattle.mesa_skeleton.specs.Rows.{Rows}
+use Rattle.mesa_image.specs.Catalog.{Catalog}
+use Rattle.mesa_opening.specs.declared.error.OpenError.{OpenError}
+use Rattle.mesa_opening.specs.declared.error.OpenError.TheVariants as open_error
+use Rattle.mesa_opening.specs.Opening.{ReadsAs}
+use Rattle.mesa_ending.specs.Ports.{Ports}
+use Rattle.mesa_ending.specs.Exits.{max_input}
+use Rattle.mesa_ending.specs.Scripts.{IsSmall}
+use Rattle.mesa_ending.specs.Start.{IsSoundStore, start_of}
+use Rattle.mesa_ending.specs.Run.{Ran}
+use Rattle.mesa_ending.specs.Ending.{Ended, EndedOpening, Ends, EndsInput, EndsScript, EndsText, HasRun}
+use Rattle.mesa_ending.specs.Completing.{AllQuiet, AsksFor, Completes, HasRoomToRun, NothingFailed}
+use Rattle.mesa_ending.specs.declared.done.Devices.{Devices}
+use Rattle.mesa_ending.specs.declared.done.Done.{Done}
+use Rattle.mesa_ending.proofs.Quiet.{all_quiet, ends_unskipped, none_skipped, not_risen, sessions_there}
+use Rattle.mesa_ending.proofs.Readable.{reads_same, sound_fits, sound_whole}
+use Rattle.mesa_ending.proofs.Small.{scripts_small}
+use Rattle.mesa_ending.proofs.Undamaged.{sound_undamaged}
+
+one_or_none : (b : Bool) → (if b then 1 else 0) ≤ 1
+one_or_none true = omega arith
+one_or_none false = omega arith
+
+err_ok : (r : Result Script ScriptError) (e : ScriptError) (s : Script) → r ≡ Err e → r ≡ Ok s → ⊥
+err_ok r e s a b = let both : Err e ≡ Ok s = sym a ∙ b in cc both
+
+ok_same : (r : Result Script ScriptError) (s t : Script) → r ≡ Ok s → r ≡ Ok t → s ≡ t
+ok_same r s t a b = let both : Ok s ≡ Ok t = sym a ∙ b in cc both
+
+counts_none : (n faults reads f r : ℕ) → faults + reads + n ≤ f + r → f ≤ faults → r ≤ reads → n ≡ 0
+counts_none n faults reads f r le a b = omega (arith, le, a, b)
+
+bench_none : (before n after : ℕ) → before + n ≤ after → after ≤ before → n ≡ 0
+bench_none before n after le a = omega (arith, le, a)
+
+module _ {K D M B : Type 0} (ports : Ports K D M B) (g : Devices K D B) (done : Done K D B) (source_before source_now : ℕ) (nothing : NothingFailed ports g done source_before source_now) where
+  printed : (line : List ℕ) → Ended ports g done 8 line → Completes done
+  printed line ended = ⊎_elim (λ p. inl p.0) (λ p. absurd (nothing.sink p.1)) ended.2
+
+  module _ (c : Catalog) (rows : Rows) (room : HasRoomToRun ports g c rows) where
+    same : (d : Catalog) → ReadsAs (ports.story g.disk) d → c ≡ d
+    same d reads = reads_same (ports.story g.disk) c d rows room.sound.start reads
+
+    opening : (e : OpenError) → EndedOpening ports g done e → Completes done
+    opening open_error.Fault p = absurd (⊎_elim nothing.disk nothing.reads p.0)
+    opening (open_error.Journal area at want found) p =
+        let s = room.sound.start in
+        absurd (⊎_elim (sound_whole s.image s.bodies c rows at want found s.sound) (sound_fits s.image s.bodies c rows at want found s.sound) (p.0.1 s.image s.told))
+    opening (open_error.File d) p = let s = room.sound.start in absurd (sound_undamaged s.image s.bodies c rows s.sound d (p.0 s.image s.told))
+    opening open_error.RunsFull p = absurd (let is = ap (λ (x : Catalog). x.run) (same p.0.0 p.0.1) in omega (arith, is, room.number, p.0.2))
+    opening open_error.Memory p = printed _ p.2
+
+    module _ (script : Script) (small : IsSmall script) (d : Catalog) (ran : Ran ports g done script d false) where
+      abbrev from : Run
+      from = begins (start_of script d rows)
+
+      on_disk : count_in is_disk_fault script from done.history.items ≡ 0
+      on_disk =
+          let f = not_risen (ports.story g.disk).faults (ports.story done.disk).faults nothing.disk in
+          let r = not_risen (ports.story g.disk).read_faults (ports.story done.disk).read_faults nothing.reads in
+          counts_none _ _ _ _ _ ((ran.anyhow rows).counts nothing.clock f.1 r.1) f.0 r.0
+
+      on_benches : (s : ℕ) → s < length script.sessions → count_in (is_bench_fault s) script from done.history.items ≡ 0
+      on_benches s lt =
+          let b = nothing.benches s (omega (arith, lt, small.few)) in
+          let still = not_risen (ports.bench_faults b.before) (ports.bench_faults b.after) b.still in
+          bench_none _ _ _ (ran.benches rows nothing.clock s b.before b.after b.was b.is still.1) still.0
+
+      quiet : AllQuiet done.history.items
+      quiet =
+          let legal = (ran.anyhow rows).legal in
+          all_quiet script from done.history.items (sessions_there script from done.history.items legal.each) on_disk on_benches
+          (ran.soundly rows (subst (λ x. IsSoundStore ports.bytes (ports.story g.disk) x rows) (same d ran.reads) room.sound) nothing.clock).undamaged
+          (none_skipped script from done.history.items legal.each (ends_unskipped script _ legal.ends))
+
+    run : (script : Script) → IsSmall script → (d : Catalog) → HasRun ports g done script d → Completes done
+    run script small d has = ⊎_elim
+        (λ p. (let le = one_or_none (some_refused script (begins (start_of script d rows)) done.history.items) in inr (omega (arith, le, p.1 rows), quiet script small d p.0)))
+        (λ p. absurd (nothing.sink p.2)) has
+
+    scripted : (script : Script) → IsSmall script → EndsScript ports g done script → Completes done
+    scripted script small ends = elim ends [
+      | inl p ↦ opening p.0 p.1
+      | inr rest ↦ elim rest [
+        | inl p ↦ run script small p.0 p.1
+        | inr p ↦ printed _ p.1
+      ]
+    ]
+
+    text : (bytes : List ℕ) (script : Script) → built_script_of bytes ≡ Ok script → EndsText ports g done bytes → Completes done
+    text bytes script is ends = elim ends [
+      | inl p ↦ absurd (err_ok _ p.0 script p.1 is)
+      | inr rest ↦ elim rest [
+        | inl p ↦ scripted p.0 (scripts_small is_unbuilt bytes p.0 p.1) p.2
+        | inr p ↦ printed _ p.1
+      ]
+    ]
+
+    read : (input : Option (List ℕ)) (bytes : List ℕ) (script : Script) → input ≡ Some bytes → length bytes ≤ max_input → built_script_of bytes ≡ Ok script → EndsInput ports g done input → Completes done
+    read input bytes script known short is ends = elim ends [
+      | inl q ↦ absurd (let long : max_input < length bytes = subst (λ o. IfSome o (λ b. max_input < length b)) known q.0 in omega (arith, long, short))
+      | inr more ↦ elim more [
+        | inl q ↦ text q.0 script (ap built_script_of (sym (subst (λ o. IfSome o (λ all. all ≡ q.0)) known q.1)) ∙ is) q.3
+        | inr q ↦ printed _ q.1
+      ]
+    ]
+
+    -- Where the words are `run`, the input is a script within its limit, the store is sound and may have a run more, and nothing failed, every reply is the reference warehouse's, or memory.
+    pub completes : (words : List (List ℕ)) (input : Option (List ℕ)) (script : Script) → AsksFor words input script → Ends ports g done words input source_before source_now → Completes done
+    completes words input script asks ends = elim ends [
+      | inl p ↦ absurd (p.0 asks.run)
+      | inr p ↦ elim p.1 [
+        | inl q ↦ absurd (nothing.source q.0)
+        | inr q ↦ read input asks.bytes script asks.known asks.short asks.read q.1
+      ]
+    ]

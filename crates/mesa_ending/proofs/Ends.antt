@@ -1,0 +1,41 @@
+-- How a call ends that has a script.
+use Rattle.std.proofs.Common.{◌≡◌, inl, inr, ℕ, List, Bool, true, false, refl, sym, ◌∙◌, ap, subst}
+use Rattle.std.specs.Prelude.{if◌then◌else◌}
+use Rattle.mesa_fault.specs.Causes.{Rose}
+use Rattle.mesa_model.specs.declared.commands.Script.{Script}
+use Rattle.mesa_history.specs.Refused.{some_refused}
+use Rattle.mesa_history.specs.Run.{begins}
+use Rattle.mesa_skeleton.specs.Rows.{Rows}
+use Rattle.mesa_image.specs.Catalog.{Catalog}
+use Rattle.mesa_opening.specs.declared.error.OpenError.{OpenError}
+use Rattle.mesa_opening.specs.Opening.{HasReason, Keeps}
+use Rattle.mesa_ending.specs.Ports.{Ports}
+use Rattle.mesa_ending.specs.Exits.{memory_status, memory_line, open_line, open_status}
+use Rattle.mesa_ending.specs.Start.{start_of}
+use Rattle.mesa_ending.specs.Run.{Ran}
+use Rattle.mesa_ending.specs.Ending.{Ended, EndsScript, Prints}
+use Rattle.mesa_ending.specs.declared.done.Devices.{Devices}
+use Rattle.mesa_ending.specs.declared.done.Done.{Done}
+
+-- what ended over a sink and benches as they were given
+pub ended_with : {K D M B : Type 0} (ports : Ports K D M B) (back g : Devices K D B) (done : Done K D B) → back.out ≡ g.out → back.benches.items ≡ g.benches.items → (status : ℕ) (line : List ℕ) → Ended ports back done status line → Ended ports g done status line
+ended_with ports back g done out benches status line ended = (ended.0, ended.1 ∙ benches, subst (λ o. Prints ports (record back { out = o }) done status line) out ended.2)
+
+module _ {K D M B : Type 0} (ports : Ports K D M B) (g : Devices K D B) (done : Done K D B) (script : Script) where
+  -- the store wasn't opened
+  pub opening_failed : (disk : D) (e : OpenError) → done.disk ≡ disk → HasReason (ports.story g.disk) (ports.story disk) e → Keeps (ports.story g.disk) (ports.story disk)
+      → Ended ports g done (open_status e) (open_line e) → EndsScript ports g done script
+  opening_failed disk e is reason keeps ended =
+      inl (e, (subst (λ d. HasReason (ports.story g.disk) (ports.story d) e) (sym is) reason, subst (λ d. Keeps (ports.story g.disk) (ports.story d)) (sym is) keeps, ended))
+
+  -- no memory was there for the run
+  pub lacked : (disk : D) → done.disk ≡ disk → Keeps (ports.story g.disk) (ports.story disk) → Ended ports g done memory_status memory_line → EndsScript ports g done script
+  lacked disk is keeps ended = inr (inr (subst (λ d. Keeps (ports.story g.disk) (ports.story d)) (sym is) keeps, ended))
+
+  -- the script was run, over a store that was begun from what the disk read
+  pub run_ended : (c : Catalog) (failed refused : Bool) → Ran ports g done script c failed
+      → ((rows : Rows) → refused ≡ some_refused script (begins (start_of script c rows)) done.history.items)
+      → (failed ≡ true → Rose (ports.sink_faults g.out) (ports.sink_faults done.out)) → (failed ≡ false → ports.sink_faults done.out ≡ ports.sink_faults g.out)
+      → done.status ≡ (if failed then 5 else (if refused then 1 else 0)) → EndsScript ports g done script
+  run_ended c true refused ran told rose whole status = inr (inl (c, inr (ran, status, rose refl)))
+  run_ended c false refused ran told rose whole status = inr (inl (c, inl (ran, (λ rows. status ∙ ap (λ (b : Bool). if b then 1 else 0) (told rows)), whole refl)))

@@ -1,0 +1,10 @@
+pub mod Small
+pub mod Alike
+pub mod WellFormed
+pub mod Empty
+pub mod Unmoved
+pub mod Ends
+pub mod Undamaged
+pub mod Readable
+pub mod Quiet
+pub mod Completing

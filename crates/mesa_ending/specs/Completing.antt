@@ -1,0 +1,61 @@
+-- Completeness: what a call comes to where nothing fails.
+use Rattle.std.specs.Prelude.{◌≡◌, ◌⊎◌, ℕ, ◌≤◌, ◌<◌, List, ◌∷◌, [], length, Some, Ok, Option, Bool, true, false, slice_get, codes}
+use Rattle.std.specs.List.{AllByRecursion}
+use Rattle.mesa_fault.specs.Causes.{Rose, last}
+use Rattle.mesa_model.specs.declared.commands.Script.{Script}
+use Rattle.mesa_model.specs.declared.entries.Entry.{Entry}
+use Rattle.mesa_model.specs.declared.entries.Outcome.{Outcome}
+use Rattle.mesa_model.specs.declared.entries.Outcome.TheVariants as outcome
+use Rattle.mesa_script.specs.Script.{built_script_of}
+use Rattle.mesa_skeleton.specs.Rows.{Rows}
+use Rattle.mesa_image.specs.Catalog.{Catalog}
+use Rattle.mesa_opening.specs.Opening.{most_runs}
+use Rattle.mesa_ending.specs.Ports.{Ports}
+use Rattle.mesa_ending.specs.Exits.{max_input, memory_status, refused_status}
+use Rattle.mesa_ending.specs.Start.{IsSoundStore}
+use Rattle.mesa_ending.specs.declared.done.Devices.{Devices}
+use Rattle.mesa_ending.specs.declared.done.Done.{Done}
+
+-- whether a turn's reply is the reference warehouse's, or memory
+abbrev pub is_quiet : Outcome → Bool
+is_quiet outcome.Stands = true
+is_quiet outcome.Memory = true
+is_quiet o = false
+
+-- each is
+abbrev pub AllQuiet : List Entry → Type 0
+AllQuiet h = AllByRecursion (λ (e : Entry). is_quiet e.outcome ≡ true) h
+
+-- A bench's count of faults stays.
+pub record IsUnfailed {B : Type 0} (faults : B → ℕ) (old new : List B) (session : ℕ) : Type 0 where
+  pub before : B
+  pub after : B
+  pub was : slice_get old session ≡ Some before
+  pub is : slice_get new session ≡ Some after
+  pub still : Rose (faults before) (faults after) → ⊥
+
+-- The words are `run` alone, and the input is a script within its limit.
+pub record AsksFor (words : List (List ℕ)) (input : Option (List ℕ)) (script : Script) : Type 0 where
+  pub bytes : List ℕ
+  pub run : words ≡ codes "run" ∷ []
+  pub known : input ≡ Some bytes
+  pub short : length bytes ≤ max_input
+  pub read : built_script_of bytes ≡ Ok script
+
+-- The store is sound, and may have a run more.
+pub record HasRoomToRun {K D M B : Type 0} (ports : Ports K D M B) (given : Devices K D B) (c : Catalog) (rows : Rows) : Type 0 where
+  pub sound : IsSoundStore ports.bytes (ports.story given.disk) c rows
+  pub number : c.run < most_runs
+
+-- No count of the source, the sink, the disk or a bench rose, and the clock didn't come to its last value.
+pub record NothingFailed {K D M B : Type 0} (ports : Ports K D M B) (given : Devices K D B) (done : Done K D B) (source_before source_now : ℕ) : Type 0 where
+  pub source : Rose source_before source_now → ⊥
+  pub sink : Rose (ports.sink_faults given.out) (ports.sink_faults done.out) → ⊥
+  pub disk : Rose (ports.story given.disk).faults (ports.story done.disk).faults → ⊥
+  pub reads : Rose (ports.story given.disk).read_faults (ports.story done.disk).read_faults → ⊥
+  pub benches : (session : ℕ) → session < 8 → IsUnfailed ports.bench_faults given.benches.items done.benches.items session
+  pub clock : (ports.story done.disk).moment < last
+
+-- The status is that of want of memory; or the script was run, and every entry stands or lacked memory.
+abbrev pub Completes : {K D B : Type 0} → Done K D B → Type 0
+Completes done = (done.status ≡ memory_status) ⊎ ((done.status ≤ refused_status) × AllQuiet done.history.items)

@@ -1,0 +1,86 @@
+-- How a call of the program may end over a store.
+use Rattle.std.specs.Prelude.{◌≡◌, ◌≢◌, ◌⊎◌, ◌<◌, ◌≤◌, ℕ, true, false, List, [], ◌∷◌, length, take, Option, IfSome, Ok, Err, codes}
+use Rattle.std.specs.Io.KnownBytes.{Appends}
+use Rattle.mesa_fault.specs.Causes.{Rose}
+use Rattle.mesa_model.specs.declared.commands.Script.{Script}
+use Rattle.mesa_script.specs.declared.script.ScriptError.{ScriptError}
+use Rattle.mesa_script.specs.Script.{built_script_of}
+use Rattle.mesa_skeleton.specs.Rows.{Rows}
+use Rattle.mesa_image.specs.Catalog.{Catalog}
+use Rattle.mesa_opening.specs.declared.error.OpenError.{OpenError}
+use Rattle.mesa_opening.specs.Opening.{HasReason, Keeps}
+use Rattle.mesa_ending.specs.Ports.{Ports}
+use Rattle.mesa_ending.specs.Exits.{max_input, status_of, sink_status, usage_status, usage_line, source_status, source_line, length_status, length_line, script_status, script_line, open_status, open_line, memory_status, memory_line}
+use Rattle.mesa_ending.specs.Start.{start_of}
+use Rattle.mesa_ending.specs.Run.{Ran}
+use Rattle.mesa_ending.specs.declared.done.Devices.{Devices}
+use Rattle.mesa_ending.specs.declared.done.Done.{Done}
+
+module _ {K D M B : Type 0} (ports : Ports K D M B) (given : Devices K D B) (done : Done K D B) where
+  -- the sink's count of faults stays
+  abbrev pub IsWhole : Type 0
+  IsWhole = ports.sink_faults done.out ≡ ports.sink_faults given.out
+
+  -- the sink's count of faults rose
+  abbrev pub HasFailed : Type 0
+  HasFailed = Rose (ports.sink_faults given.out) (ports.sink_faults done.out)
+
+  -- The sink has the text, its count of faults stays and the status is this; or the count rose, the status is that of a sink that failed, and the sink has a front of the text.
+  abbrev pub Prints : ℕ → List ℕ → Type 0
+  Prints status text =
+      ((done.status ≡ status) × IsWhole × Appends (ports.held given.out) (ports.held done.out) text)
+      ⊎ ((done.status ≡ sink_status) × HasFailed × (n : ℕ) × Appends (ports.held given.out) (ports.held done.out) (take n text))
+
+  -- nothing was run, the benches are as they were, and the line of this status was due
+  abbrev pub Ended : ℕ → List ℕ → Type 0
+  Ended status line = (done.history.items ≡ []) × (done.benches.items ≡ given.benches.items) × Prints status line
+
+  -- nothing was run, and the disk wasn't called
+  abbrev pub EndedBefore : ℕ → List ℕ → Type 0
+  EndedBefore status line = (done.disk ≡ given.disk) × Ended status line
+
+  -- from a sound start the store stands for what it stood for, whatever crash comes
+  abbrev pub KeepsStore : Type 0
+  KeepsStore = Keeps (ports.story given.disk) (ports.story done.disk)
+
+  -- The store isn't opened, for a reason, and it keeps what it had.
+  abbrev pub EndedOpening : OpenError → Type 0
+  EndedOpening e = HasReason (ports.story given.disk) (ports.story done.disk) e × KeepsStore × Ended (open_status e) (open_line e)
+
+  -- The script was run to its end, the status tells whether some reply is a refusal, and the sink's count stays; or the count rose.
+  abbrev pub HasRun : Script → Catalog → Type 0
+  HasRun script c =
+      (Ran ports given done script c false × ((rows : Rows) → done.status ≡ status_of script (start_of script c rows) done.history.items) × IsWhole)
+      ⊎ (Ran ports given done script c true × (done.status ≡ sink_status) × HasFailed)
+
+  -- Want of memory once the store was opened: no turn was taken, and the store keeps what it had.
+  abbrev pub LacksMemory : Type 0
+  LacksMemory = KeepsStore × Ended memory_status memory_line
+
+  -- How a call ends that has a script: its store isn't opened, or the script was run; or memory was short.
+  abbrev pub EndsScript : Script → Type 0
+  EndsScript script = ((e : OpenError) × EndedOpening e) ⊎ ((c : Catalog) × HasRun script c) ⊎ LacksMemory
+
+  -- How a call ends that has read its input: the bytes are no script, or they are one; or memory was short.
+  abbrev pub EndsText : List ℕ → Type 0
+  EndsText bytes =
+      ((error : ScriptError) × (built_script_of bytes ≡ Err error) × EndedBefore script_status (script_line error))
+      ⊎ ((script : Script) × (built_script_of bytes ≡ Ok script) × EndsScript script)
+      ⊎ EndedBefore memory_status memory_line
+
+  -- How a call ends whose source didn't fail: its bytes are too many, or they were read; or memory was short.
+  abbrev pub EndsInput : Option (List ℕ) → Type 0
+  EndsInput input =
+      (IfSome input (λ bytes. max_input < length bytes) × EndedBefore length_status length_line)
+      ⊎ ((bytes : List ℕ) × IfSome input (λ all. all ≡ bytes) × (length bytes ≤ max_input) × EndsText bytes)
+      ⊎ EndedBefore memory_status memory_line
+
+  -- How a call ends whose word is `run` alone: the source's count of faults rose from `before` to `now`; or it stays, and the input decides.
+  abbrev pub EndsRun : Option (List ℕ) → ℕ → ℕ → Type 0
+  EndsRun input before now = (Rose before now × EndedBefore source_status source_line) ⊎ ((now ≡ before) × EndsInput input)
+
+  -- How a call ends: by its words, and where they are `run` alone by its source's count of faults and by its bytes, where the source tells them.
+  abbrev pub Ends : List (List ℕ) → Option (List ℕ) → ℕ → ℕ → Type 0
+  Ends words input before now =
+      ((words ≢ codes "run" ∷ []) × (now ≡ before) × EndedBefore usage_status usage_line)
+      ⊎ ((words ≡ codes "run" ∷ []) × EndsRun input before now)

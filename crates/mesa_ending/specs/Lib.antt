@@ -1,0 +1,8 @@
+pub mod Ports
+pub mod Exits
+pub mod Scripts
+pub mod Start
+pub mod Counting
+pub mod Run
+pub mod Ending
+pub mod Completing

@@ -1,0 +1,60 @@
+-- What a run over a store leaves.
+use Rattle.std.specs.Prelude.{◌≡◌, ℕ, ◌+◌, ◌<◌, ◌≤◌, List, Option, Bool, true, false, not}
+use Rattle.std.specs.List.{AllByRecursion}
+use Rattle.mesa_fault.specs.Causes.{last}
+use Rattle.mesa_disk.specs.Story.{Story}
+use Rattle.mesa_model.specs.declared.commands.Script.{Script}
+use Rattle.mesa_model.specs.declared.entries.Entry.{Entry}
+use Rattle.mesa_model.specs.declared.entries.Outcome.{Outcome}
+use Rattle.mesa_model.specs.declared.entries.Outcome.TheVariants as outcome
+use Rattle.mesa_history.specs.Counting.{count_in, is_disk_fault}
+use Rattle.mesa_history.specs.Legal.{IsLegal}
+use Rattle.mesa_history.specs.Run.{State, begins}
+use Rattle.mesa_laws.specs.Printed.{AnswersFromTheFold}
+use Rattle.mesa_skeleton.specs.Rows.{Rows}
+use Rattle.mesa_walk.specs.Printing.{IsPrinted}
+use Rattle.mesa_walk.specs.Walk.{AllFound, HasCounted, Outset}
+use Rattle.mesa_image.specs.Catalog.{Catalog}
+use Rattle.mesa_image.specs.Sound.{StandsFor}
+use Rattle.mesa_opening.specs.Opening.{ReadsAs, most_runs}
+use Rattle.mesa_ending.specs.Ports.{Ports}
+use Rattle.mesa_ending.specs.Start.{IsSoundStore, start_of}
+use Rattle.mesa_ending.specs.Counting.{HasBenchCounts}
+use Rattle.mesa_ending.specs.declared.done.Devices.{Devices}
+use Rattle.mesa_ending.specs.declared.done.Done.{Done}
+
+-- whether an entry met damage
+abbrev pub is_damaged : Outcome → Bool
+is_damaged outcome.Damaged = true
+is_damaged o = false
+
+-- no entry met damage
+abbrev pub NoneDamaged : List Entry → Type 0
+NoneDamaged h = AllByRecursion (λ (e : Entry). is_damaged e.outcome ≡ false) h
+
+-- a run from a state over a store: the disk's clock, both counts of its faults together, and what the sink had been given
+abbrev pub outset_from : Script → State → ℕ → ℕ → Option (List ℕ) → Outset
+outset_from script start since counted at_start = record { stands = StandsFor; script = script; start = start; since = since; counted = counted; at_start = at_start }
+
+-- What holds of a run on any store: LEGAL, its moments lie between the clock at its start and at its end, and no fault of the disk is answered twice.
+pub record RanAnyhow (script : Script) (start : State) (h : List Entry) (failed : Bool) (since counted : ℕ) (new : Story) : Type 0 where
+  pub legal : IsLegal start script h failed
+  pub moments : AllByRecursion (λ (e : Entry). (since ≤ e.moment) × (e.moment ≤ new.moment)) h
+  pub counts : HasCounted counted new (count_in is_disk_fault script (begins start) h)
+
+-- What holds of a run on a sound store, while the clock is below its last value: OUTPUT, of which a sink that failed got a front; CRASH; and no entry met damage.
+pub record RanSoundly (script : Script) (start : State) (h : List Entry) (failed : Bool) (since counted : ℕ) (new : Story) (before now : Option (List ℕ)) : Type 0 where
+  pub output : IsPrinted script (begins start) h (not failed) before now
+  pub crash : AllFound (outset_from script start since counted before) h new
+  pub undamaged : NoneDamaged h
+
+module _ {K D M B : Type 0} (ports : Ports K D M B) (given : Devices K D B) (done : Done K D B) (script : Script) where
+  -- A run over the catalogue that the disk reads, which isn't the last that may be. Whatever rows its files have: what holds on any store, and no fault of a bench is answered twice. Where the store is sound with these rows: ANSWERS, and what holds on a sound store.
+  pub record Ran (c : Catalog) (failed : Bool) : Type 0 where
+    pub reads : ReadsAs (ports.story given.disk) c
+    pub number : c.run < most_runs
+    pub anyhow : (rows : Rows) → RanAnyhow script (start_of script c rows) done.history.items failed (ports.story given.disk).moment ((ports.story given.disk).faults + (ports.story given.disk).read_faults) (ports.story done.disk)
+    pub benches : (rows : Rows) → HasBenchCounts ports.bench_faults (ports.story done.disk) script (begins (start_of script c rows)) done.history.items given.benches.items done.benches.items
+    pub answers : (rows : Rows) → IsSoundStore ports.bytes (ports.story given.disk) c rows → AnswersFromTheFold script (start_of script c rows) done.history.items
+    pub soundly : (rows : Rows) → IsSoundStore ports.bytes (ports.story given.disk) c rows → (ports.story done.disk).moment < last
+        → RanSoundly script (start_of script c rows) done.history.items failed (ports.story given.disk).moment ((ports.story given.disk).faults + (ports.story given.disk).read_faults) (ports.story done.disk) (ports.held given.out) (ports.held done.out)

@@ -1,0 +1,10 @@
+//! How a call of the program may end over a store: by its words, its input, the store's opening and the run.
+#![tactic(auto)]
+
+mod done;
+mod laws;
+
+pub use done::{Devices, Done};
+pub use laws::{
+    empty_stores_are_sound, scripts_are_small, stores_start_alike, stores_start_well_formed,
+};
