@@ -1,5 +1,5 @@
 // Opening the files of a range.
-ghost use Rattle.std.specs.Prelude.{◌≡◌, ◌≢◌, ◌≤◌, ℕ, IfOk, IfSome, vec_capacity, vec_len};
+ghost use Rattle.std.specs.Prelude.{◌≡◌, ◌≢◌, ◌≤◌, ℕ, IfOk, IfSome, length, vec_capacity, vec_len};
 ghost use Rattle.std.specs.List.{AllByRecursion};
 ghost use Rattle.mesa_schema.specs.Changes.{epoch_of};
 ghost use Rattle.mesa_disk.specs.Story.{Unmoved};
@@ -33,6 +33,7 @@ pub fn gather<M: Made, D: Disk<M>>(
     ensures table { IfOk result (λ t. t.table ≡ number) }
     ensures work { IfOk result (λ t. t.work ≡ work) }
     ensures task { IfOk result (IsTask D.Reader.bytes table.now.evolving.value) }
+    ensures views { IfOk result (λ t. t.views.items ≡ unread_views 0 (length table.now.evolving.value.views)) }
     ensures damage { IfOk result (λ t. IfSome t.damage (λ d. d.want ≢ d.found)) }
     ensures files { (next : ℕ) → IsTable next table.now → IfOk result (IsGathered D.Reader.bytes D.Reader.faults (D.story disk.old).told (stock_of next table.now) work) }
 {

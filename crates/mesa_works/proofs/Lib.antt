@@ -1,3 +1,6 @@
 pub mod Claims
 pub mod Grants
 pub mod Renewals
+pub mod WholeFiles
+pub mod Sound
+pub mod Ranges

@@ -1,11 +1,14 @@
 // What a work is granted.
-ghost use Rattle.std.specs.Prelude.{◌≡◌, ◌<◌, ◌≤◌, length, None, Ok, IfErr, IfOk, OnOk, false};
+ghost use Rattle.std.specs.Prelude.{◌≡◌, ◌<◌, ◌≤◌, length, None, Some, Ok, IfErr, IfOk, OnOk, false};
 ghost use Rattle.mesa_engine.specs.Failing.{is_of_device};
 ghost use Rattle.mesa_history.specs.Machine.{claim_of};
+ghost use Rattle.mesa_image.specs.Catalog.{ranges_of, stock_at};
 ghost use Rattle.mesa_lease.specs.Book.{holder};
 ghost use Rattle.mesa_ledger.specs.Ledger.{books_of};
 ghost use Rattle.mesa_log.specs.Failure.{cause_in};
 ghost use Rattle.mesa_skeleton.specs.Rows.{no_rows};
+ghost use Rattle.mesa_span.specs.Ranges.{base_before};
+ghost use Rattle.mesa_span.specs.Work.{next_work as work_due};
 ghost use Rattle.mesa_walk.specs.Works.{HasNoClaim};
 ghost use Rattle.mesa_works.specs.Claims.{claim_as};
 
@@ -31,6 +34,7 @@ pub(crate) fn claim(metadata: &Metadata, name: &[u8], position: u64) -> Result<C
     ensures low { IfOk result (λ x. x.table < TABLES) }
     ensures free { IfOk result (λ x. holder metadata.now.ledger.leases x.table position ≡ None) }
     ensures opened { OnOk result (metadata.now.ledger.closed ≡ None) }
+    ensures next { IfOk result (λ x. work_due (ranges_of (stock_at metadata.now.ledger.catalogue x.table)) metadata.now.ledger.catalogue.oldest (base_before metadata.now.ledger.catalogue.next) ≡ Some x.work) }
     ensures refused { IfErr result (λ f. HasNoClaim (books_of no_rows metadata.now.ledger) position name.now (cause_in f)) }
     ensures quiet { IfErr result (λ f. is_of_device (cause_in f) ≡ false) }
 {

@@ -1,22 +1,28 @@
 // A work's grant.
-ghost use Rattle.std.specs.Prelude.{◌≡◌, ◌≢◌, ◌+◌, ◌<◌, ◌≤◌, ◌^◌, ℕ, List, true, length, None, Ok, IfOk, IfSome, OnOk};
+ghost use Rattle.std.specs.Prelude.{◌≡◌, ◌≢◌, ◌+◌, ◌<◌, ◌≤◌, ◌^◌, ℕ, List, true, length, None, Some, Ok, IfOk, IfSome, OnOk};
+ghost use Rattle.mesa_fault.specs.Causes.{last};
 ghost use Rattle.mesa_history.specs.Machine.{claim_of};
 ghost use Rattle.mesa_history.specs.Run.{First, Granted};
 ghost use Rattle.mesa_history.specs.Turns.{IsDue};
-ghost use Rattle.mesa_image.specs.Catalog.{stock_at};
+ghost use Rattle.mesa_image.specs.Catalog.{ranges_of, stock_at};
 ghost use Rattle.mesa_lease.specs.Book.{granted, holder};
 ghost use Rattle.mesa_ledger.specs.Ledger.{books_of};
 ghost use Rattle.mesa_log.specs.Failure.{cause_in};
 ghost use Rattle.mesa_metadata.specs.Memory.{with_leases};
 ghost use Rattle.mesa_model.specs.declared.commands.Command.TheVariants as command;
 ghost use Rattle.mesa_model.specs.declared.entries.Kind.TheVariants as kind;
-ghost use Rattle.mesa_skeleton.specs.Rows.{no_rows};
+ghost use Rattle.mesa_skeleton.specs.Rows.{Rows, no_rows};
+ghost use Rattle.mesa_span.specs.Ranges.{base_before};
+ghost use Rattle.mesa_span.specs.Work.{next_work};
+ghost use Rattle.mesa_swapping.specs.Finished.{HasRange};
 ghost use Rattle.mesa_tasks.specs.Tasks.{IsTask};
 ghost use Rattle.mesa_walk.specs.Turns.{Takes};
 ghost use Rattle.mesa_walk.specs.Walk.{run_at};
 ghost use Rattle.mesa_works.specs.Claims.{cause_met, claim_as, claim_in, stage_if};
+ghost use Rattle.mesa_works.specs.Ranged.{written_at};
 
 use crate::claiming::{Claimed, claim};
+use mesa_delta::one_file;
 use mesa_disk::{Disk, Made};
 use mesa_engine::Engine;
 use mesa_gather::gather;
@@ -43,6 +49,7 @@ pub fn grant<N: Naming, M: Made, D: Disk<M>, K: Sink>(
     ensures low { IfOk result (λ t. t.table < TABLES) }
     ensures task { IfOk result (λ t. IsTask D.Reader.bytes (stock_at engine.old.ledger.catalogue t.table).lineage t) }
     ensures damage { IfOk result (λ t. IfSome t.damage (λ d. d.want ≢ d.found)) }
+    ensures range { (w : Rows) → N.sound w → engine.old.shown.clock < last → IfOk result (λ t. HasRange D.Reader.bytes (stock_at engine.old.ledger.catalogue t.table).lineage t (written_at N.script (N.start w) (N.origin w) engine.new.shown.history t.table)) }
 {
     if !engine.running() {
         engine.skip(who, Kind::Grant);
@@ -66,6 +73,7 @@ fn take<N: Naming, M: Made, D: Disk<M>, K: Sink>(
     requires low { claimed.table < TABLES }
     requires free { holder engine.old.ledger.leases claimed.table (length engine.old.shown.history) ≡ None }
     requires opened { engine.old.ledger.closed ≡ None }
+    requires next { next_work (ranges_of (stock_at engine.old.ledger.catalogue claimed.table)) engine.old.ledger.catalogue.oldest (base_before engine.old.ledger.catalogue.next) ≡ Some claimed.work }
     requires runs { engine.old.shown.running ≡ true }
     requires room { length engine.old.shown.history < N.room }
     ensures turn { Takes N.script (N.start no_rows) engine.old.shown engine.new.shown who.session who.command kind.Grant (stage_if claim_in Granted result) }
@@ -73,7 +81,9 @@ fn take<N: Naming, M: Made, D: Disk<M>, K: Sink>(
     ensures table { IfOk result (λ t. t.table ≡ claimed.table) }
     ensures task { IfOk result (λ t. IsTask D.Reader.bytes (stock_at engine.old.ledger.catalogue claimed.table).lineage t) }
     ensures damage { IfOk result (λ t. IfSome t.damage (λ d. d.want ≢ d.found)) }
+    ensures range { (w : Rows) → N.sound w → engine.old.shown.clock < last → IfOk result (λ t. HasRange D.Reader.bytes (stock_at engine.old.ledger.catalogue t.table).lineage t (written_at N.script (N.start w) (N.origin w) engine.new.shown.history t.table)) }
 {
+    one_file();
     let alloc = *engine.log.history.allocator();
     let table = engine.metadata.catalog().table(claimed.table);
     let gathered = gather(alloc, &mut engine.disk, table, claimed.table, claimed.work);

@@ -8,6 +8,7 @@ use Rattle.mesa_tasks.specs.Opening.{HasEpoch}
 use Rattle.mesa_tasks.specs.Tasks.{AreTaskViews}
 use Rattle.mesa_plans.specs.Files.{want_of}
 use Rattle.mesa_plans.specs.Lent.{lent_in}
+use Rattle.mesa_gather.specs.Gathered.{unread_views}
 use Rattle.mesa_gather.proofs.Joined.{opened_differs, same_wanted, table_inputs, task_views}
 use Rattle.mesa_gather.proofs.gathering.gather.Goals as goal
 
@@ -42,3 +43,8 @@ returns-in-Ok-open_all-clause-files g c = λ next is.
 pub returns-in-Ok-open_all-clause-damage : goal.returns-in-Ok-open_all-clause-damage
 returns-in-Ok-open_all-clause-damage g c =
     opened_differs g.D.Reader.FileReader.bytes g.D.Reader.FileReader.faults (g.D.Disk.story c.args.disk.now).told c.deref-2.result.now c.in-Ok-open_all.field-0.inputs.items c.in-Ok-open_all.field-0.damage c.in-Ok-open_all.ensures.opened
+
+pub returns-in-Ok-open_all-clause-views : goal.returns-in-Ok-open_all-clause-views
+returns-in-Ok-open_all-clause-views g c =
+    let count = c.views-count.ensures ∙ ap (λ (x : Lineage). length x.views) c.deref.ensures in
+    c.number_views.ensures ∙ ap (unread_views 0) count

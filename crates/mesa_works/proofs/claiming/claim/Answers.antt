@@ -37,3 +37,12 @@ returns-clause-refused c =
     let newest = c.newest.ensures ∙ ap (λ (k : Catalog). base_before k.next) same in
     let none = sym (c.next_work.ensures ∙ (λ i. next_work (ranges i) (oldest i) (newest i))) ∙ c.in-None.is in
     idle c.args.metadata.now.ledger c.args.position c.args.name.now (sym c.closed.ensures ∙ c.in_default.is) table there (sym c.holder.ensures ∙ c.in_default-holder.is) none
+
+pub returns-in-Some-next_work-clause-next : goal.returns-in-Some-next_work-clause-next
+returns-in-Some-next_work-clause-next c =
+    let same = c.catalog-catalog.ensures in
+    let table = c.in-Some-table_number.table in
+    let ranges = c.in-Ok.ensures.ranges ∙ ap (λ k. ranges_of (stock_at k table)) same in
+    let oldest = c.oldest.ensures ∙ ap (λ (k : Catalog). k.oldest) same in
+    let newest = c.newest.ensures ∙ ap (λ (k : Catalog). base_before k.next) same in
+    sym (c.next_work.ensures ∙ (λ i. next_work (ranges i) (oldest i) (newest i))) ∙ c.in-Some-next_work.is

@@ -1,0 +1,148 @@
+-- What the files of a range tell on a sound store.
+use Rattle.std.proofs.Common.{◌≡◌, ◌∙◌, ℕ, ◌+◌, ◌-◌, ◌<◌, List, [], ◌∷◌, ◌++◌, length, map, take, refl, sym, ap, subst, Bool, true, false, Option, None, Some}
+use Rattle.std.specs.Prelude.{flat_map}
+use Rattle.std.specs.List.{AllByRecursion}
+use Rattle.mesa_file.specs.declared.damage.Damage.{Damage}
+use Rattle.mesa_file.specs.declared.file_ref.FileRef.{FileRef}
+use Rattle.mesa_schema.specs.declared.rows.Row.{Row}
+use Rattle.mesa_schema.specs.declared.views.View.{View}
+use Rattle.mesa_schema.specs.Changes.{Lineage, columns_at, epoch_of, lifted}
+use Rattle.mesa_schema.specs.Columns.{Columns}
+use Rattle.mesa_schema.specs.Folded.{folded, folded_at, keys_of, rows_of}
+use Rattle.mesa_value.specs.declared.Agg.{Agg}
+use Rattle.mesa_disk.specs.Image.{Image, file_of}
+use Rattle.mesa_commit.specs.Images.{Has}
+use Rattle.mesa_delta.specs.Reading.{IsWhole, index_of}
+use Rattle.mesa_delta.specs.declared.input.Input.{Input}
+use Rattle.mesa_cursor.specs.Cursors.{lift_by, reader_in}
+use Rattle.mesa_record.specs.declared.record.Files.{Files}
+use Rattle.mesa_image.specs.Catalog.{Catalog, Delta, Stock, start_in, stock_at}
+use Rattle.mesa_image.specs.Contents.{Rows, present, rows_if_any}
+use Rattle.mesa_image.specs.Fitting.{Shelved, base_deltas, delta_in, delta_shelved, deltas_of, files_shelved, shelved, stock_shelved}
+use Rattle.mesa_image.specs.Sound.{AreStocked, IsStocked, IsTold, bytes_of, wanted, wants}
+use Rattle.mesa_image_laws.proofs.Lists.{all_back, all_front, all_take, all_unflat, all_unmap, stock_found}
+use Rattle.mesa_image_laws.specs.Brought.{merged_of}
+use Rattle.mesa_ledger.proofs.Lists.{all_also, all_joined}
+use Rattle.mesa_plans.specs.Files.{Want, files_wanted, table_wanted, want_of}
+use Rattle.mesa_gather.specs.Gathered.{unread_view}
+use Rattle.mesa_swapping.specs.Finished.{GroupOnly}
+use Rattle.mesa_tasks.specs.Inputs.{HaveRows, lifted_parts}
+use Rattle.mesa_tasks.specs.Opening.{HaveOpened, IsOpened, wanted_columns}
+use Rattle.mesa_tasks.specs.declared.opening.Wanted.{Wanted}
+use Rattle.mesa_works.proofs.WholeFiles.{OneFile, some_same, whole_rows}
+
+-- ---- lists
+
+cons_none : {X : Type 0} (x : X) (xs : List X) → x ∷ xs ≡ [] → ⊥
+cons_none x xs same = absurd cc
+
+head_same : {X : Type 0} (x y : X) (xs ys : List X) → x ∷ xs ≡ y ∷ ys → x ≡ y
+head_same x y xs ys same = cc
+
+rest_same : {X : Type 0} (x y : X) (xs ys : List X) → x ∷ xs ≡ y ∷ ys → xs ≡ ys
+rest_same x y xs ys same = cc
+
+-- ---- files of deltas that are sound
+
+-- A file is there with the bytes of its rows, of which its reference is true.
+pub record IsSoundFile (rows : Rows) (i : Image) (x : Shelved) : Type 0 where
+  pub told : IsTold rows x
+  pub there : file_of i x.file.id ≡ Some (bytes_of rows x)
+
+abbrev pub IsSoundDelta : Rows → Image → Lineage → Delta → Type 0
+IsSoundDelta rows i l d = AllByRecursion (IsSoundFile rows i) (delta_shelved l d)
+
+-- so each file of a table of a catalogue whose files are there
+pub sound_deltas : (rows : Rows) (i : Image) (c : Catalog) (table : ℕ) → table < length c.tables → AreStocked rows c → Has (wants rows (shelved c)) i → AllByRecursion (IsSoundDelta rows i (stock_at c table).lineage) (deltas_of (stock_at c table))
+sound_deltas rows i c table lt stocked has =
+    let t = stock_at c table in
+    let W = λ (x : Shelved). file_of i x.file.id ≡ Some (bytes_of rows x) in
+    let are = stock_found (IsStocked rows) c.tables table lt stocked in
+    let there = stock_found (λ (u : Stock). AllByRecursion W (stock_shelved u)) c.tables table lt (all_unflat W stock_shelved c.tables (all_unmap (λ (w : ℕ × List ℕ). file_of i w.0 ≡ Some w.1) (wanted rows) (shelved c) has)) in
+    all_unflat (IsSoundFile rows i) (delta_shelved t.lineage) (deltas_of t) (all_also (IsTold rows) W (IsSoundFile rows i) (stock_shelved t) (λ x told w. record { told = told; there = w }) are.files there)
+
+-- and of those that a work folds
+pub sound_merged : (rows : Rows) (i : Image) (l : Lineage) (t : Stock) (base : Bool) (to : ℕ) → AllByRecursion (IsSoundDelta rows i l) (deltas_of t) → AllByRecursion (IsSoundDelta rows i l) (merged_of t base to)
+sound_merged rows i l t true to all =
+    let D = IsSoundDelta rows i l in
+    all_joined D (base_deltas t.base) (take (to + 1 - start_in t) t.singles) (all_front D (base_deltas t.base) (map delta_in t.cumulatives ++ t.singles) all)
+    (all_take D (to + 1 - start_in t) t.singles (all_back D (map delta_in t.cumulatives) t.singles (all_back D (base_deltas t.base) (map delta_in t.cumulatives ++ t.singles) all)))
+sound_merged rows i l t false to all =
+    let D = IsSoundDelta rows i l in
+    all_take D (to + 1 - start_in t) t.singles (all_back D (map delta_in t.cumulatives) t.singles (all_back D (base_deltas t.base) (map delta_in t.cumulatives ++ t.singles) all))
+
+-- ---- files that were opened
+
+module _ (law : OneFile) {R : Type 0} (bytes : R → Option (List ℕ)) (faults : R → ℕ) (told : Option Image) (i : Image) (told_is : told ≡ Some i) (rows : Rows) (l : Lineage) where
+  -- a file that is wanted is sound
+  sound_want : (w : Wanted) (file : FileRef) (epoch : ℕ) → want_of w ≡ record { file = file; lineage = l; epoch = epoch } → IsSoundFile rows i (record { columns = columns_at l epoch; file = file }) → IsSoundFile rows i (record { columns = wanted_columns w; file = w.file.now })
+  sound_want w file epoch same sound = subst (λ (x : Want). IsSoundFile rows i (record { columns = columns_at x.lineage x.epoch; file = x.file })) (sym same) sound
+
+  -- all rows of one file, at present
+  one_whole : (w : Wanted) (file : FileRef) (epoch : ℕ) → want_of w ≡ record { file = file; lineage = l; epoch = epoch } → IsSoundFile rows i (record { columns = columns_at l epoch; file = file }) → (j : Input R) → IsOpened bytes faults told w j → (part : List Row)
+      → IsWhole (index_of j.reader) part (bytes (reader_in j)) → map (lift_by j) part ≡ map (lifted l epoch (epoch_of l)) (rows file.id)
+  one_whole w file epoch same sound j opened part whole =
+      let its = sound_want w file epoch same sound in
+      let content = opened.content i told_is in
+      let index = opened.index in
+      let bytes_are = some_same content.0 (bytes_of rows (record { columns = wanted_columns w; file = w.file.now })) (sym content.1 ∙ its.there) in
+      let all : part ≡ rows w.file.now.id =
+      whole_rows law w.file.now (wanted_columns w) index.0 (index_of j.reader) w.file.now.id (rows w.file.now.id) part content.0 index.1 its.told.file its.told.true bytes_are (subst (IsWhole (index_of j.reader) part) content.2 whole) in
+      let lineage : j.evolving.value ≡ l = opened.lineage ∙ ap (λ (x : Want). x.lineage) same in
+      let since : j.epoch ≡ epoch = opened.epoch ∙ ap (λ (x : Want). x.epoch) same in
+      let mine : part ≡ rows file.id = all ∙ ap (λ (x : Want). rows x.file.id) same in
+      λ k. map (λ (row : Row). lifted (lineage k) (since k) (epoch_of (lineage k)) row) (mine k)
+
+  -- ---- no damage was met
+
+  module _ (epoch : ℕ) (more : List Want) (rest : (ws : List Wanted) (is : List (Input R)) (d : Option Damage) → map want_of ws ≡ more → HaveOpened bytes faults told ws is d → d ≡ None) where
+    none_behind : (o : Option Files) → AllByRecursion (IsSoundFile rows i) (files_shelved l epoch o) → (ws : List Wanted) (is : List (Input R)) (d : Option Damage) → map want_of ws ≡ files_wanted l epoch o ++ more → HaveOpened bytes faults told ws is d → d ≡ None
+    none_behind None all ws is d same have = rest ws is d same have
+    none_behind (Some f) all [] is d same have = absurd (cons_none _ _ (sym same))
+    none_behind (Some f) all (w ∷ ws) [] None same have = refl
+    none_behind (Some f) all (w ∷ ws) [] (Some x) same have =
+        let its = sound_want w f.file epoch (head_same _ _ _ _ same) all.0 in
+        absurd (have.unsound i told_is (bytes_of rows (record { columns = wanted_columns w; file = w.file.now })) (rows w.file.now.id) its.there its.told.file its.told.true)
+    none_behind (Some f) all (w ∷ ws) (j ∷ is) d same have = rest ws is d (rest_same _ _ _ _ same) have.1
+
+  pub none_met : (ds : List Delta) → AllByRecursion (IsSoundDelta rows i l) ds → (ws : List Wanted) (is : List (Input R)) (d : Option Damage) → map want_of ws ≡ flat_map (table_wanted l) ds → HaveOpened bytes faults told ws is d → d ≡ None
+  none_met [] all [] [] None same have = refl
+  none_met [] all [] [] (Some x) same have = absurd have
+  none_met [] all [] (j ∷ is) d same have = absurd have
+  none_met [] all (w ∷ ws) is d same have = absurd (cons_none _ _ same)
+  none_met (d ∷ ds) all ws is x same have = none_behind d.epoch (flat_map (table_wanted l) ds) (none_met ds all.1) d.files all.0 ws is x same have
+
+  -- ---- all rows
+
+  module _ (epoch : ℕ) (more : List Want) (after : List Row)
+      (rest : (ws : List Wanted) (is : List (Input R)) (parts : List (List Row)) → map want_of ws ≡ more → HaveOpened bytes faults told ws is None → HaveRows bytes is parts → rows_of (lifted_parts is parts) ≡ after) where
+    rows_behind : (o : Option Files) → AllByRecursion (IsSoundFile rows i) (files_shelved l epoch o) → (ws : List Wanted) (is : List (Input R)) (parts : List (List Row)) → map want_of ws ≡ files_wanted l epoch o ++ more → HaveOpened bytes faults told ws is None
+        → HaveRows bytes is parts → rows_of (lifted_parts is parts) ≡ map (lifted l epoch (epoch_of l)) (rows_if_any rows o) ++ after
+    rows_behind None all ws is parts same have whole = rest ws is parts same have whole
+    rows_behind (Some f) all [] is parts same have whole = absurd (cons_none _ _ (sym same))
+    rows_behind (Some f) all (w ∷ ws) [] parts same have whole = absurd have
+    rows_behind (Some f) all (w ∷ ws) (j ∷ is) [] same have whole = absurd whole
+    rows_behind (Some f) all (w ∷ ws) (j ∷ is) (part ∷ parts) same have whole =
+        let one = one_whole w f.file epoch (head_same _ _ _ _ same) all.0 j have.0 part whole.0 in
+        let others = rest ws is parts (rest_same _ _ _ _ same) have.1 whole.1 in
+        λ k. one k ++ others k
+
+  pub all_rows : (ds : List Delta) → AllByRecursion (IsSoundDelta rows i l) ds → (ws : List Wanted) (is : List (Input R)) (parts : List (List Row)) → map want_of ws ≡ flat_map (table_wanted l) ds → HaveOpened bytes faults told ws is None → HaveRows bytes is parts
+      → rows_of (lifted_parts is parts) ≡ rows_of (map (present rows l) ds)
+  all_rows [] all [] [] [] same have whole = refl
+  all_rows [] all [] [] (part ∷ parts) same have whole = absurd whole
+  all_rows [] all [] (j ∷ is) parts same have whole = absurd have
+  all_rows [] all (w ∷ ws) is parts same have whole = absurd (cons_none _ _ same)
+  all_rows (d ∷ ds) all ws is parts same have whole = rows_behind d.epoch (flat_map (table_wanted l) ds) (rows_of (map (present rows l) ds)) (all_rows ds all.1) d.files all.0 ws is parts same have whole
+
+-- ---- folds, and views
+
+-- parts with the same rows fold to the same
+pub same_folded : (aggs : List Agg) (xs ys : List (List Row)) → rows_of xs ≡ rows_of ys → folded aggs xs ≡ folded aggs ys
+same_folded aggs xs ys same = λ k. map (folded_at aggs (same k)) (keys_of (same k))
+
+-- views with no files of their own say nothing
+pub none_own : {R : Type 0} (read : R → Option (List ℕ)) (s : Columns) (rows : List Row) (views : List View) (numbers : List ℕ) → GroupOnly read s rows views (map (unread_view {R = R}) numbers)
+none_own read s rows [] numbers = tt
+none_own read s rows (v ∷ views) [] = tt
+none_own read s rows (v ∷ views) (number ∷ numbers) = (tt, none_own read s rows views numbers)
