@@ -1,1 +1,5 @@
 pub mod Closings
+pub mod Claims
+pub mod Refusing
+pub mod Swaps
+pub mod SwapEngines

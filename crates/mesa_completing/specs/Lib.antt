@@ -1,1 +1,2 @@
 pub mod Unmerged
+pub mod Merged

@@ -1,6 +1,10 @@
-//! A work's last turn: so far that of a work whose merge failed.
+//! A work's last turn: its range is swapped in, or it is told why it isn't.
 #![tactic(auto)]
 
+mod checking;
+mod completing;
+mod readying;
 mod unmerged;
 
+pub use completing::complete;
 pub use unmerged::give_up;

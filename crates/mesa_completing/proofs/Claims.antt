@@ -1,0 +1,65 @@
+-- What a claim that holds still tells of its table.
+use Rattle.std.proofs.Common.{◌≡◌, ◌∙◌, ℕ, ◌<◌, ◌≤◌, List, length, Bool, true, false, refl, sym, ap, subst, arith, Option, Some, Ok}
+use Rattle.std.proofs.lemmas.List.{length-map}
+use Rattle.std.proofs.Math.ListN.{get_or-map}
+use Rattle.mesa_list.specs.Checks.{◌>>◌, refuse_unless}
+use Rattle.mesa_span.specs.Ranges.{base_before}
+use Rattle.mesa_span.specs.Work.{next_work}
+use Rattle.mesa_disk.specs.Story.{Story}
+use Rattle.mesa_lease.specs.Book.{is_held, other_holder}
+use Rattle.mesa_model.specs.Refusals.{refuse_closed}
+use Rattle.mesa_model.specs.Warehouse.{Warehouse}
+use Rattle.mesa_model.specs.declared.commands.Command.TheVariants as command
+use Rattle.mesa_model.specs.declared.entries.Entry.{Entry}
+use Rattle.mesa_model.specs.declared.replies.Refusal.{Refusal}
+use Rattle.mesa_model.specs.declared.replies.Refusal.TheVariants as no
+use Rattle.mesa_history.specs.Claims.{HasClaim, HasClaimAt, is_live}
+use Rattle.mesa_history.specs.Machine.{Claim, Machine, claim_checked, ranges_at}
+use Rattle.mesa_history.specs.Run.{Place, Renewed}
+use Rattle.mesa_history.specs.Turns.{IsDue}
+use Rattle.mesa_history.proofs.Claiming.{held_is_live}
+use Rattle.mesa_image.specs.Catalog.{no_stock, ranges_of, stock_at}
+use Rattle.mesa_skeleton.specs.Rows.{no_rows}
+use Rattle.mesa_walk.specs.Walk.{Outset, run_of}
+use Rattle.mesa_walk.proofs.Working.{checked_open}
+use Rattle.mesa_ledger.specs.Ledger.{Ledger, books_of}
+use Rattle.mesa_ledger.specs.Vault.{Origin, IsVault}
+use Rattle.mesa_ledger.proofs.Beginning.{vault_claims}
+
+unless_true : (b : Bool) (e : Refusal) → refuse_unless b e ≡ Ok tt → b ≡ true
+unless_true true e is = refl
+unless_true false e is = absurd cc
+
+-- its lease is held
+checked_held : (l : Ledger) (at : ℕ) (claim : Claim) → claim_checked (books_of no_rows l).bare (books_of no_rows l).machine at claim ≡ Ok tt → is_held l.leases claim.table claim.lease at ≡ true
+checked_held l at claim checked =
+    let opened = checked_open (books_of no_rows l).bare (books_of no_rows l).machine at claim checked in
+    unless_true (is_held l.leases claim.table claim.lease at) (no.Lost claim.lease (other_holder l.leases claim.table claim.lease at))
+    (sym (λ i. (refuse_closed (opened i) >> refuse_unless (is_held l.leases claim.table claim.lease at) (no.Lost claim.lease (other_holder l.leases claim.table claim.lease at)))) ∙ checked)
+
+-- Its work was due for the ranges that its table has.
+pub record IsDueStill (l : Ledger) (claim : Claim) : Type 0 where
+  pub oldest : ℕ
+  pub next : ℕ
+  pub due : next_work (ranges_of (stock_at l.catalogue claim.table)) oldest (base_before next) ≡ Some claim.work
+  pub later_oldest : oldest ≤ l.catalogue.oldest
+  pub later_next : next ≤ l.catalogue.next
+  pub there : claim.table < length l.catalogue.tables
+
+pub due_still : (o : Outset) (g : Origin) (l : Ledger) (story : Story) (held : Option (List ℕ)) (h : List Entry) (running refused : Bool) → IsVault o g false l story held h running refused → (s number : ℕ) (name : List ℕ) (at : ℕ) (claim : Claim)
+    → IsDue o.script (run_of o h) s number (command.Work name) (Renewed claim) → claim_checked (books_of no_rows l).bare (books_of no_rows l).machine at claim ≡ Ok tt → IsDueStill l claim
+due_still o g l story held h running refused v s number name at claim due checked =
+    let has : HasClaim (run_of o h).state claim = subst (λ (p : Place). HasClaimAt (run_of o h).state p.stage) due.place (vault_claims o g false l story held h running refused v s) in
+    let live : is_live l.leases claim.table claim.lease ≡ true = held_is_live l.leases claim.table claim.lease at (checked_held l at claim checked) in
+    let stays = subst (λ (m : Machine). is_live m.leases claim.table claim.lease ≡ true → ranges_at m claim.table ≡ has.was) v.walk.state.machine has.is.stays in
+    let within = subst (λ (m : Machine). claim.table < length m.ranges) v.walk.state.machine has.is.there in
+    let oldest = ap (λ (x : Warehouse). x.store.oldest) v.walk.state.skeleton in
+    let next = ap (λ (x : Warehouse). x.next) v.walk.state.skeleton in
+    record {
+      oldest = has.oldest;
+      next = has.versions;
+      due = ap (λ r. next_work r has.oldest (base_before has.versions)) (sym (get_or-map ranges_of l.catalogue.tables claim.table no_stock) ∙ stays live) ∙ has.next;
+      later_oldest = subst (λ q. has.oldest ≤ q) oldest has.later_oldest;
+      later_next = subst (λ q. has.versions ≤ q) next has.later_versions;
+      there = omega (arith, within, length-map l.catalogue.tables ranges_of);
+    }

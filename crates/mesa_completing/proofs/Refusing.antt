@@ -1,0 +1,75 @@
+-- How the close of a work whose range isn't swapped in keeps a vault.
+use Rattle.std.proofs.Common.{◌≡◌, ◌∙◌, ℕ, ◌+◌, ◌<◌, ◌≤◌, ◌^◌, List, [], ◌∷◌, ◌++◌, length, Bool, true, ◌||◌, not, refl, sym, ap, subst, arith, Option, Some}
+use Rattle.std.specs.Prelude.{vec_capacity}
+use Rattle.mesa_disk.specs.Story.{Story}
+use Rattle.mesa_history.specs.Machine.{Claim}
+use Rattle.mesa_history.specs.Refused.{is_refusal}
+use Rattle.mesa_history.specs.Run.{Renewed, Finished}
+use Rattle.mesa_history.specs.Turns.{IsDue}
+use Rattle.mesa_lease.specs.Book.{ended}
+use Rattle.mesa_ledger.specs.Ledger.{Ledger, books_of}
+use Rattle.mesa_ledger.specs.Vault.{Starts, IsVault, outset_of}
+use Rattle.mesa_ledger.proofs.Staying.{leased_vault, still_vault}
+use Rattle.mesa_ledger.proofs.Swapping.{ended_granted}
+use Rattle.mesa_log.specs.declared.log.Log.{Log}
+use Rattle.mesa_log.specs.Printing.{PrintsBlock}
+use Rattle.mesa_metadata.specs.Memory.{Memory, with_ledger}
+use Rattle.mesa_model.specs.declared.commands.Command.TheVariants as command
+use Rattle.mesa_model.specs.declared.entries.Entry.{Entry}
+use Rattle.mesa_model.specs.declared.entries.Kind.TheVariants as kind
+use Rattle.mesa_output.specs.Output.{block}
+use Rattle.mesa_skeleton.specs.Rows.{Rows, no_rows}
+use Rattle.mesa_walk.specs.Causes.{Cause, outcome_of, reply_of, told_at}
+use Rattle.mesa_walk.specs.Printing.{IsPut}
+use Rattle.mesa_walk.specs.Turns.{Shown, IsSeen, Takes, entry}
+use Rattle.mesa_walk.specs.Walk.{run_at, run_of}
+use Rattle.mesa_walk.proofs.Going.{complete_takes}
+use Rattle.mesa_walk.proofs.Turning.{counts_same, stays}
+use Rattle.mesa_walk.proofs.Working.{lost_turn, starved_turn}
+use Rattle.mesa_engine.specs.Engine.{IsEngine}
+use Rattle.mesa_engine.proofs.Turning.{told_engine}
+use Rattle.mesa_engine.proofs.Undone.{not_skipped}
+use Rattle.mesa_completing.specs.Merged.{HasNotSwapped, cause_met, unswapped_ledger}
+use Rattle.mesa_completing.specs.declared.completing.Unswapped.{Unswapped}
+use Rattle.mesa_completing.specs.declared.completing.Unswapped.TheVariants as why
+
+-- ---- the vault behind it
+
+module _ (n : Starts) (w : Rows) (sound : Bool) (l : Ledger) (story : Story) (held : Option (List ℕ)) (h : List Entry) (running refused : Bool) (v : IsVault (outset_of n w) (n.origin w) sound l story held h running refused)
+    (s number : ℕ) (low : s < 2 ^ 16) (few : number < 2 ^ 32) (name : List ℕ) (m : ℕ) (moment : m ≡ story.moment) (ran : running ≡ true) (at : ℕ) (place : at ≡ length h) (claim : Claim) (due : IsDue n.script (run_of (outset_of n w) h) s number (command.Work name) (Renewed claim))
+    (now : Bool) (new_held : Option (List ℕ)) where
+  few_granted : (ended claim.table claim.lease l.leases).granted ≤ l.leases.granted + 1
+  few_granted = subst (λ q. q ≤ l.leases.granted + 1) (sym (ended_granted claim.table claim.lease l.leases)) (omega arith)
+
+  pub unswapped_vault : (e : Unswapped) → HasNotSwapped (books_of no_rows l) at claim e → IsPut (block (entry s number kind.Close (outcome_of (cause_met e)) m) (Some (told_at at (reply_of (cause_met e))))) now held new_held
+      → IsVault (outset_of n w) (n.origin w) sound (unswapped_ledger e claim.table claim.lease l) story new_held (h ++ entry s number kind.Close (outcome_of (cause_met e)) m ∷ []) now (refused || is_refusal (reply_of (cause_met e)))
+  unswapped_vault (why.Refused x) has put =
+      still_vault (outset_of n w) (n.origin w) sound l story held h running refused v (entry s number kind.Close (outcome_of (cause_met (why.Refused x))) m) story new_held now (refused || true) (stays story)
+      (lost_turn (outset_of n w) sound (books_of v.rows l) story held h running refused v.walk s number low few name m ran at place moment story (stays story) claim due x has (counts_same story) now new_held put)
+  unswapped_vault why.Memory has put =
+      leased_vault (outset_of n w) (n.origin w) sound l story held h running refused v (entry s number kind.Close (outcome_of (cause_met why.Memory)) m) story new_held now (refused || true) (stays story) (ended claim.table claim.lease l.leases) few_granted
+      (starved_turn (outset_of n w) sound (books_of v.rows l) story held h running refused v.walk s number low few name m ran at place moment story (stays story) claim due has (counts_same story) now new_held put)
+
+-- ---- the engine behind it
+
+module _ {K : Type 0} (held : K → Option (List ℕ)) (faults : K → ℕ) (n : Starts) (turns sinks : ℕ) (m after : Memory) (story : Story) (log later : Log K) (v : IsEngine held faults n turns sinks m story log)
+    (s number : ℕ) (low : s < 2 ^ 16) (few : number < 2 ^ 32) (name : List ℕ) (mo : ℕ) (moment : mo ≡ story.moment) (ran : not log.printer.broken ≡ true) (claim : Claim)
+    (due : (w : Rows) → IsDue n.script (run_at n.script (n.start w) log.history.items) s number (command.Work name) (Renewed claim)) (e : Unswapped) (has : HasNotSwapped (books_of no_rows m.ledger) (length log.history.items) claim e)
+    (cause : Cause) (cause_is : cause ≡ cause_met e)
+    (grew : later.history.items ≡ log.history.items ++ entry s number kind.Close (outcome_of cause) mo ∷ []) (roomy : vec_capacity log.history ≤ vec_capacity later.history)
+    (is : after ≡ with_ledger (unswapped_ledger e claim.table claim.lease m.ledger) m) where
+  pub unswapped_engine : PrintsBlock held faults log.printer later.printer (entry s number kind.Close (outcome_of cause) mo) (told_at (length log.history.items) (reply_of cause)) → later.refused ≡ (log.refused || is_refusal (reply_of cause)) → IsEngine held faults n turns sinks after story later
+  unswapped_engine prints refused =
+      told_engine held faults n turns sinks m after story story log later (entry s number kind.Close (outcome_of cause) mo) v grew roomy moment (omega arith) (let same = ap (λ (x : Memory). x.leased) is in omega (arith, same, v.leased)) (told_at (length log.history.items) (reply_of cause)) (is_refusal (reply_of cause)) prints refused
+      (λ put w b ok.
+      subst (λ (x : Memory). IsVault (outset_of n w) (n.origin w) b x.ledger story (held later.printer.sink) (log.history.items ++ entry s number kind.Close (outcome_of cause) mo ∷ []) (not later.printer.broken) (log.refused || is_refusal (reply_of cause))) (sym is)
+      (subst (λ (x : Cause). IsPut (block (entry s number kind.Close (outcome_of x) mo) (Some (told_at (length log.history.items) (reply_of x)))) (not later.printer.broken) (held log.printer.sink) (held later.printer.sink)
+      → IsVault (outset_of n w) (n.origin w) b (unswapped_ledger e claim.table claim.lease m.ledger) story (held later.printer.sink) (log.history.items ++ entry s number kind.Close (outcome_of x) mo ∷ []) (not later.printer.broken) (log.refused || is_refusal (reply_of x))) (sym cause_is)
+      (unswapped_vault n w b m.ledger story (held log.printer.sink) log.history.items (not log.printer.broken) log.refused (v.vault w b ok) s number low few name mo moment ran (length log.history.items) refl claim (due w) (not later.printer.broken) (held later.printer.sink) e has) put))
+
+-- ---- where it takes its session, as every close of a work that was renewed
+
+pub closed_takes : (n : Starts) (w : Rows) (old new : Shown) (s number : ℕ) (name : List ℕ) (claim : Claim) → IsDue n.script (run_at n.script (n.start w) old.history) s number (command.Work name) (Renewed claim) → (cause : Cause)
+    → new.history ≡ old.history ++ entry s number kind.Close (outcome_of cause) new.clock ∷ [] → old.running ≡ true → IsSeen n.script (n.start w) new → Takes n.script (n.start w) old new s number kind.Close Finished
+closed_takes n w old new s number name claim due cause grew ran seen =
+    complete_takes n.script (n.start w) old new s number (command.Work name) claim due (record { outcome = outcome_of cause; grew = grew; skipped = not_skipped cause ∙ ap not (sym ran); still = λ on. ran }) seen

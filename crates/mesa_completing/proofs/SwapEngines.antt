@@ -1,0 +1,103 @@
+-- How the close of a work whose range is swapped in keeps an engine.
+use Rattle.std.proofs.Common.{◌≡◌, ◌∙◌, ℕ, ◌+◌, ◌<◌, ◌≤◌, ◌^◌, List, [], ◌∷◌, ◌++◌, length, true, false, ◌||◌, not, refl, sym, ap, subst, arith, Option, Some, Ok}
+use Rattle.std.specs.Prelude.{vec_capacity}
+use Rattle.mesa_key.specs.Spelling.{AreBytes}
+use Rattle.mesa_schema.specs.Changes.{Lineage}
+use Rattle.mesa_disk.specs.Files.{AreAbsent, files_of}
+use Rattle.mesa_disk.specs.Image.{Image}
+use Rattle.mesa_disk.specs.Story.{Story}
+use Rattle.mesa_span.specs.declared.works.Work.{Work}
+use Rattle.mesa_span.specs.declared.works.Work.TheVariants as range
+use Rattle.mesa_lease.specs.Book.{ended}
+use Rattle.mesa_model.specs.declared.commands.Command.TheVariants as command
+use Rattle.mesa_model.specs.declared.entries.Entry.{Entry}
+use Rattle.mesa_model.specs.declared.entries.Kind.TheVariants as kind
+use Rattle.mesa_model.specs.declared.entries.Outcome.TheVariants as outcome
+use Rattle.mesa_history.specs.Machine.{claim_checked, swapped_reply}
+use Rattle.mesa_history.specs.Refused.{is_refusal}
+use Rattle.mesa_history.specs.Replay.{no_rows as no_lines}
+use Rattle.mesa_history.specs.Run.{Renewed}
+use Rattle.mesa_history.specs.Turns.{IsDue}
+use Rattle.mesa_record.specs.Reading.{record_at}
+use Rattle.mesa_record.specs.Rules.{IsTyped}
+use Rattle.mesa_image.specs.Catalog.{applied}
+use Rattle.mesa_image_laws.specs.Ids.{dropped_ids}
+use Rattle.mesa_catalog.specs.Lookups.{generation_of, turns_generation}
+use Rattle.mesa_script.specs.Rows.{body_of}
+use Rattle.mesa_skeleton.specs.Rows.{Rows, no_rows}
+use Rattle.mesa_tasks.specs.declared.merging.Task.{Task}
+use Rattle.mesa_walk.specs.Causes.{Unwritten, reply_of, told_at}
+use Rattle.mesa_walk.specs.Turns.{entry}
+use Rattle.mesa_walk.specs.Walk.{Counts, run_at}
+use Rattle.mesa_walk.proofs.Working.{checked_open}
+use Rattle.mesa_ledger.specs.Ledger.{books_of, first_id, next_id, past_id}
+use Rattle.mesa_ledger.specs.Recorded.{failed_ledger, recorded_ledger, removed_by}
+use Rattle.mesa_ledger.specs.Vault.{IsReady, IsVault, Starts, outset_of, written_by}
+use Rattle.mesa_log.specs.declared.log.Log.{Log}
+use Rattle.mesa_log.specs.Printing.{PrintsBlock}
+use Rattle.mesa_metadata.specs.Memory.{Memory}
+use Rattle.mesa_engine.specs.Engine.{IsEngine}
+use Rattle.mesa_engine.proofs.Turning.{told_engine}
+use Rattle.mesa_publishing.specs.Published.{AllTell}
+use Rattle.mesa_swapping.specs.Finished.{HasRange}
+use Rattle.mesa_swapping.specs.Swapped.{IsSwapped}
+use Rattle.mesa_swapping.specs.declared.swapping.Swapped.{Swapped}
+use Rattle.mesa_works.specs.Claims.{claim_in}
+use Rattle.mesa_writing.proofs.Written.{IsWhole, IsWorked, absent_yet}
+use Rattle.mesa_completing.proofs.Swaps.{swap_ends, swap_fails}
+
+-- a swap is no refusal, and has no lines behind its head line
+pub swap_told : (work : Work) → is_refusal (swapped_reply work) ≡ false
+swap_told (range.Base to) = refl
+swap_told (range.Cumulative from to) = refl
+
+pub swap_prints : (work : Work) → [] ≡ body_of no_lines (swapped_reply work)
+swap_prints (range.Base to) = refl
+swap_prints (range.Cumulative from to) = refl
+
+module _ {K : Type 0} (held : K → Option (List ℕ)) (faults : K → ℕ) (n : Starts) (turns sinks : ℕ) (m : Memory) (story : Story) (log : Log K) (v : IsEngine held faults n turns sinks m story log)
+    {M R : Type 0} (bytes : M → Option (List ℕ)) (read : R → Option (List ℕ)) (was : Lineage) (t : Task R) (s : Swapped M) (is : IsSwapped bytes read m.ledger was t s)
+    (checked : claim_checked (books_of no_rows m.ledger).bare (books_of no_rows m.ledger).machine (length log.history.items) (claim_in t) ≡ Ok tt) where
+  -- what an engine that hasn't closed has ready for a record
+  pub ready_still : IsReady m.ledger story
+  ready_still = (v.vault no_rows false (λ is. absurd cc)).ready (checked_open (books_of no_rows m.ledger).bare (books_of no_rows m.ledger).machine (length log.history.items) (claim_in t) checked)
+
+  -- the files that it brings aren't there yet
+  pub absent_still : s.adopted < 2 ^ 40 → (i : Image) → story.told ≡ Some i → AreAbsent (files_of bytes s.made.items) i
+  absent_still few' i told =
+      absent_yet (next_id m.ledger) (first_id m.ledger.catalogue.run + s.adopted) (past_id m.ledger) (files_of bytes s.made.items) i (omega (arith, few')) is.adopts.given (λ id le lt. ready_still.fresh i told id le lt)
+
+  module _ (session number : ℕ) (low : session < 2 ^ 16) (few : number < 2 ^ 32) (ran : not log.printer.broken ≡ true) (typed : IsTyped s.entry)
+      (name : List ℕ) (due : (w : Rows) → IsDue n.script (run_at n.script (n.start w) log.history.items) session number (command.Work name) (Renewed (claim_in t)))
+      (has : (w : Rows) → n.sound w → HasRange read was t (written_by (outset_of n w) (n.origin w).found log.history.items t.table)) (tell : (w : Rows) → n.sound w → AllTell bytes s.made.items)
+      (body : List ℕ) (are : AreBytes body) (reads : record_at body ≡ Ok s.entry)
+      (new : Story) (worked : IsWorked story new m.ledger.end body (files_of bytes s.made.items) (removed_by m.ledger (length log.history.items) (dropped_ids m.ledger.catalogue s.entry)))
+      (moment : ℕ) (moment_is : moment ≡ new.moment) (after : Memory) (later : Log K) where
+    abbrev h : List Entry
+    h = log.history.items
+
+    -- The device work is done, and the record is applied and told.
+    pub swapped_engine : (end : ℕ) → IsWhole story new m.ledger.end body (files_of bytes s.made.items) (removed_by m.ledger (length log.history.items) (dropped_ids m.ledger.catalogue s.entry)) end → Counts story new false
+        → after.ledger ≡ recorded_ledger m.ledger (length log.history.items) (applied m.ledger.catalogue s.entry) (generation_of (applied m.ledger.catalogue s.entry)) (dropped_ids m.ledger.catalogue s.entry) (ended t.table t.lease m.ledger.leases) s.adopted end
+        → generation_of (applied m.ledger.catalogue s.entry) ≡ m.ledger.generation + turns_generation s.entry → after.leased ≡ m.leased
+        → later.history.items ≡ log.history.items ++ entry session number kind.Close outcome.Stands moment ∷ [] → vec_capacity log.history ≤ vec_capacity later.history
+        → PrintsBlock held faults log.printer later.printer (entry session number kind.Close outcome.Stands moment) (told_at (length log.history.items) (swapped_reply t.work)) → later.refused ≡ (log.refused || is_refusal (swapped_reply t.work))
+        → IsEngine held faults n turns sinks after new later
+    swapped_engine end whole counts ledger_is rises leased grew roomy prints refused =
+        told_engine held faults n turns sinks m after story new log later (entry session number kind.Close outcome.Stands moment) v grew roomy moment_is worked.passes.later (let a = v.leased in omega (arith, a, leased))
+        (told_at (length log.history.items) (swapped_reply t.work)) false prints (refused ∙ ap (λ b. log.refused || b) (swap_told t.work))
+        (λ put w b ok. subst (λ l. IsVault (outset_of n w) (n.origin w) b l new (held later.printer.sink) (h ++ entry session number kind.Close outcome.Stands moment ∷ []) (not later.printer.broken) (log.refused || false)) (sym ledger_is)
+        (swap_ends n w b m.ledger story (held log.printer.sink) h (not log.printer.broken) log.refused (v.vault w b ok) session number low few ran bytes read was t s is typed name (due w) (length h) refl checked (λ on. has w (ok on)) (λ on. tell w (ok on))
+        body are new moment moment_is (not later.printer.broken) (held later.printer.sink) reads worked end whole counts rises put))
+
+    -- It has failed, and the vault is closed.
+    pub unswapped_engine : Counts story new true → after.ledger ≡ failed_ledger m.ledger (length log.history.items) (ended t.table t.lease m.ledger.leases) s.adopted → after.leased ≡ m.leased
+        → later.history.items ≡ log.history.items ++ entry session number kind.Close outcome.WriteFault moment ∷ [] → vec_capacity log.history ≤ vec_capacity later.history
+        → PrintsBlock held faults log.printer later.printer (entry session number kind.Close outcome.WriteFault moment) (told_at (length log.history.items) (reply_of Unwritten)) → later.refused ≡ (log.refused || true)
+        → IsEngine held faults n turns sinks after new later
+    unswapped_engine counts ledger_is leased grew roomy prints refused =
+        told_engine held faults n turns sinks m after story new log later (entry session number kind.Close outcome.WriteFault moment) v grew roomy moment_is worked.passes.later (let a = v.leased in omega (arith, a, leased))
+        (told_at (length log.history.items) (reply_of Unwritten)) true prints refused
+        (λ put w b ok. subst (λ l. IsVault (outset_of n w) (n.origin w) b l new (held later.printer.sink) (h ++ entry session number kind.Close outcome.WriteFault moment ∷ []) (not later.printer.broken) (log.refused || true)) (sym ledger_is)
+        (swap_fails n w b m.ledger story (held log.printer.sink) h (not log.printer.broken) log.refused (v.vault w b ok) session number low few ran bytes read was t s is typed name (due w) (length h) refl checked (λ on. has w (ok on)) (λ on. tell w (ok on))
+        body are new moment moment_is (not later.printer.broken) (held later.printer.sink) reads worked counts put))

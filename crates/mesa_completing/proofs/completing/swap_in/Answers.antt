@@ -1,0 +1,444 @@
+use Rattle.std.proofs.Common.{◌≡◌, inl, ◌+◌, ◌<◌, [], ◌∷◌, ◌++◌, length, true, false, ◌||◌, ◌^◌, not, refl, sym, ◌∙◌, ap, subst, arith, Ok}
+use Rattle.mesa_disk.specs.Files.{files_of}
+use Rattle.mesa_disk.specs.declared.area.Area.TheVariants.{Zero}
+use Rattle.mesa_history.specs.Machine.{claim_checked, swapped_reply}
+use Rattle.mesa_history.specs.Refused.{is_refusal}
+use Rattle.mesa_history.specs.Run.{Finished, Renewed}
+use Rattle.mesa_history.specs.Turns.{IsDue}
+use Rattle.mesa_image.specs.Catalog.{applied, stock_at}
+use Rattle.mesa_image_laws.specs.Ids.{dropped_ids}
+use Rattle.mesa_catalog.specs.Lookups.{generation_of, turns_generation}
+use Rattle.mesa_lease.specs.Book.{ended}
+use Rattle.mesa_model.specs.Entry.{IsShort}
+use Rattle.mesa_model.specs.declared.commands.Command.TheVariants as command
+use Rattle.mesa_model.specs.declared.entries.Kind.TheVariants as kind
+use Rattle.mesa_model.specs.declared.entries.Outcome.TheVariants as outcome
+use Rattle.mesa_history.specs.Replay.{no_rows as no_lines}
+use Rattle.mesa_record.proofs.RecordsBoth.{record_found}
+use Rattle.mesa_script.specs.Rows.{body_of}
+use Rattle.mesa_skeleton.specs.Rows.{Rows, no_rows}
+use Rattle.mesa_swapping.specs.Finished.{HasRange, IsFinished}
+use Rattle.mesa_swapping.specs.Swapped.{IsSwapped}
+use Rattle.mesa_walk.specs.Causes.{Replies, Unwritten, told_at}
+use Rattle.mesa_walk.specs.Turns.{Shown, Takes, entry}
+use Rattle.mesa_walk.specs.Walk.{Counts, run_at}
+use Rattle.mesa_walk.proofs.Alike.{due_alike}
+use Rattle.mesa_ledger.specs.Ledger.{Ledger, books_of}
+use Rattle.mesa_ledger.specs.Recorded.{failed_ledger, recorded_ledger, removed_by}
+use Rattle.mesa_ledger.specs.Turned.{leased_ledger}
+use Rattle.mesa_ledger.specs.Vault.{Starts, outset_of, written_by}
+use Rattle.mesa_ledger.proofs.Beginning.{vault_at_seen}
+use Rattle.mesa_log.specs.Printing.{PrintsBlock}
+use Rattle.mesa_metadata.specs.Memory.{Memory}
+use Rattle.mesa_engine.specs.Engine.{IsEngine, Standing, starts_of}
+use Rattle.mesa_works.specs.Claims.{claim_in}
+use Rattle.mesa_writing.proofs.Loads.{all_tell}
+use Rattle.mesa_writing.proofs.Written.{IsWhole, IsWorked}
+use Rattle.mesa_works.specs.Ranged.{written_at}
+use Rattle.mesa_completing.proofs.Claims.{due_still}
+use Rattle.mesa_completing.proofs.Refusing.{closed_takes}
+use Rattle.mesa_completing.proofs.SwapEngines.{absent_still, ready_still, swap_prints, swapped_engine, unswapped_engine}
+use Rattle.mesa_completing.proofs.completing.swap_in.Goals as goal
+
+-- ---- before memory is taken
+
+pub prepare-requires-clause-shaped : goal.prepare-requires-clause-shaped
+prepare-requires-clause-shaped g c κs within = (c.engine.invariant.vault no_rows false (λ is. absurd cc)).shaped
+
+pub prepare-requires-clause-given : goal.prepare-requires-clause-given
+prepare-requires-clause-given g c κs within = (c.engine.invariant.vault no_rows false (λ is. absurd cc)).filed.named_given
+
+pub prepare-requires-clause-room : goal.prepare-requires-clause-room
+prepare-requires-clause-room g c κs within =
+    let v = c.engine.invariant.vault no_rows false (λ is. absurd cc) in
+    let most = v.counts.adopted in
+    let room = c.requires.room in
+    let same : length c.engine.inside.log.history.items ≡ length c.args.engine.now.shown.history = ap (λ (s : Standing). length s.shown.history) c.engine.view_is in
+    let few = c.engine.invariant.few in
+    omega (arith, most, room, same, few)
+
+pub prepare-requires-clause-there : goal.prepare-requires-clause-there
+prepare-requires-clause-there g c κs within =
+    let N = g.N.Naming in
+    let n : Starts = starts_of N.script N.start N.sound N.origin N.since N.counted N.at_start in
+    let i = c.engine.inside in
+    let h = i.log.history.items in
+    let claim = claim_in c.args.task.now in
+    let due = subst (λ (x : Standing). IsDue N.script (run_at N.script (N.start no_rows) x.shown.history) c.args.who.session c.args.who.command (command.Work c.requires.due.0) (Renewed claim)) (sym c.engine.view_is) c.requires.due.1 in
+    let holds = subst (λ (x : Standing). claim_checked (books_of no_rows x.ledger).bare (books_of no_rows x.ledger).machine (length x.shown.history) claim ≡ Ok tt) (sym c.engine.view_is) c.requires.holds in
+    (due_still (outset_of n no_rows) (n.origin no_rows) i.metadata.ledger (g.D.Disk.story i.disk) (g.K.Sink.held i.log.printer.sink) h (not i.log.printer.broken) i.log.refused (c.engine.invariant.vault no_rows false (λ is. absurd cc))
+    c.args.who.session c.args.who.command c.requires.due.0 (length h) claim due holds).there
+
+pub prepare-requires-clause-due : goal.prepare-requires-clause-due
+prepare-requires-clause-due g c κs within =
+    let N = g.N.Naming in
+    let n : Starts = starts_of N.script N.start N.sound N.origin N.since N.counted N.at_start in
+    let i = c.engine.inside in
+    let h = i.log.history.items in
+    let claim = claim_in c.args.task.now in
+    let due = subst (λ (x : Standing). IsDue N.script (run_at N.script (N.start no_rows) x.shown.history) c.args.who.session c.args.who.command (command.Work c.requires.due.0) (Renewed claim)) (sym c.engine.view_is) c.requires.due.1 in
+    let holds = subst (λ (x : Standing). claim_checked (books_of no_rows x.ledger).bare (books_of no_rows x.ledger).machine (length x.shown.history) claim ≡ Ok tt) (sym c.engine.view_is) c.requires.holds in
+    let still = due_still (outset_of n no_rows) (n.origin no_rows) i.metadata.ledger (g.D.Disk.story i.disk) (g.K.Sink.held i.log.printer.sink) h (not i.log.printer.broken) i.log.refused (c.engine.invariant.vault no_rows false (λ is. absurd cc))
+    c.args.who.session c.args.who.command c.requires.due.0 (length h) claim due holds in
+    (still.oldest, still.next, still.due, still.later_oldest, still.later_next)
+
+-- ---- the device work
+
+pub write_record-requires-clause-new : goal.write_record-requires-clause-new
+write_record-requires-clause-new g c κs within =
+    let N = g.N.Naming in
+    let n : Starts = starts_of N.script N.start N.sound N.origin N.since N.counted N.at_start in
+    let i = c.engine.inside in
+    let t = c.args.task.now in
+    let l = i.metadata.ledger in
+    let h = i.log.history.items in
+    let story = g.D.Disk.story i.disk in
+    let bytes = g.M.Made.bytes in
+    let read = g.D.Reader.FileReader.bytes in
+    let was = c.requires.finished.0 in
+    let s = c.in-Ok.ready.swapped in
+    let holds : claim_checked (books_of no_rows l).bare (books_of no_rows l).machine (length h) (claim_in t) ≡ Ok tt =
+    subst (λ (x : Standing). claim_checked (books_of no_rows x.ledger).bare (books_of no_rows x.ledger).machine (length x.shown.history) (claim_in t) ≡ Ok tt) (sym c.engine.view_is) c.requires.holds in
+    let finished : IsFinished bytes g.M.Made.id_of read was (stock_at l.catalogue t.table).lineage t c.args.delta =
+    subst (λ (x : Standing). IsFinished bytes g.M.Made.id_of read was (stock_at x.ledger.catalogue t.table).lineage t c.args.delta) (sym c.engine.view_is) c.requires.finished.1 in
+    let is : IsSwapped bytes read l was t s = c.in-Ok.ensures.swapped was finished in
+    let v = c.engine.invariant.vault no_rows false (λ is. absurd cc) in
+    let most = v.counts.adopted in
+    let room = c.requires.room in
+    let same : length h ≡ length c.args.engine.now.shown.history = ap (λ (x : Standing). length x.shown.history) c.engine.view_is in
+    let turns = c.engine.invariant.few in
+    let more = is.adopts.few in
+    let few : s.adopted < 2 ^ 40 = omega (arith, most, room, same, turns, more) in
+    λ image told. absent_still g.K.Sink.held g.K.Sink.faults n N.room N.sink_faults i.metadata story i.log c.engine.invariant bytes read was t s is holds few image told
+
+pub write_record-requires-clause-room : goal.write_record-requires-clause-room
+write_record-requires-clause-room g c κs within =
+    let N = g.N.Naming in
+    let n : Starts = starts_of N.script N.start N.sound N.origin N.since N.counted N.at_start in
+    let i = c.engine.inside in
+    let t = c.args.task.now in
+    let l = i.metadata.ledger in
+    let h = i.log.history.items in
+    let story = g.D.Disk.story i.disk in
+    let bytes = g.M.Made.bytes in
+    let read = g.D.Reader.FileReader.bytes in
+    let was = c.requires.finished.0 in
+    let s = c.in-Ok.ready.swapped in
+    let holds : claim_checked (books_of no_rows l).bare (books_of no_rows l).machine (length h) (claim_in t) ≡ Ok tt =
+    subst (λ (x : Standing). claim_checked (books_of no_rows x.ledger).bare (books_of no_rows x.ledger).machine (length x.shown.history) (claim_in t) ≡ Ok tt) (sym c.engine.view_is) c.requires.holds in
+    let finished : IsFinished bytes g.M.Made.id_of read was (stock_at l.catalogue t.table).lineage t c.args.delta =
+    subst (λ (x : Standing). IsFinished bytes g.M.Made.id_of read was (stock_at x.ledger.catalogue t.table).lineage t c.args.delta) (sym c.engine.view_is) c.requires.finished.1 in
+    let is : IsSwapped bytes read l was t s = c.in-Ok.ensures.swapped was finished in
+    let end_is : c.end-end.result ≡ l.end = c.end-end.ensures ∙ ap (λ (m : Memory). m.ledger.end) c.in-Ok.ensures.reserved in
+    let ready = ready_still g.K.Sink.held g.K.Sink.faults n N.room N.sink_faults i.metadata story i.log c.engine.invariant bytes read was t s is holds in
+    subst (λ e. e < story.len Zero) (sym end_is) ready.long
+
+pub apply-requires-clause-few : goal.apply-requires-clause-few
+apply-requires-clause-few g c =
+    let N = g.N.Naming in
+    let n : Starts = starts_of N.script N.start N.sound N.origin N.since N.counted N.at_start in
+    let i = c.engine.inside in
+    let t = c.args.task.now in
+    let l = i.metadata.ledger in
+    let h = i.log.history.items in
+    let story = g.D.Disk.story i.disk in
+    let bytes = g.M.Made.bytes in
+    let read = g.D.Reader.FileReader.bytes in
+    let was = c.requires.finished.0 in
+    let s = c.in-Ok.ready.swapped in
+    let holds : claim_checked (books_of no_rows l).bare (books_of no_rows l).machine (length h) (claim_in t) ≡ Ok tt =
+    subst (λ (x : Standing). claim_checked (books_of no_rows x.ledger).bare (books_of no_rows x.ledger).machine (length x.shown.history) (claim_in t) ≡ Ok tt) (sym c.engine.view_is) c.requires.holds in
+    let finished : IsFinished bytes g.M.Made.id_of read was (stock_at l.catalogue t.table).lineage t c.args.delta =
+    subst (λ (x : Standing). IsFinished bytes g.M.Made.id_of read was (stock_at x.ledger.catalogue t.table).lineage t c.args.delta) (sym c.engine.view_is) c.requires.finished.1 in
+    let is : IsSwapped bytes read l was t s = c.in-Ok.ensures.swapped was finished in
+    let v = c.engine.invariant.vault no_rows false (λ is. absurd cc) in
+    let most = v.counts.adopted in
+    let room = c.requires.room in
+    let same : length h ≡ length c.args.engine.now.shown.history = ap (λ (x : Standing). length x.shown.history) c.engine.view_is in
+    let turns = c.engine.invariant.few in
+    let more = is.adopts.few in
+    let few : s.adopted < 2 ^ 40 = omega (arith, most, room, same, turns, more) in
+    few
+
+pub fail-requires : goal.fail-requires
+fail-requires g c =
+    let N = g.N.Naming in
+    let n : Starts = starts_of N.script N.start N.sound N.origin N.since N.counted N.at_start in
+    let i = c.engine.inside in
+    let t = c.args.task.now in
+    let l = i.metadata.ledger in
+    let h = i.log.history.items in
+    let story = g.D.Disk.story i.disk in
+    let bytes = g.M.Made.bytes in
+    let read = g.D.Reader.FileReader.bytes in
+    let was = c.requires.finished.0 in
+    let s = c.in-Ok.ready.swapped in
+    let holds : claim_checked (books_of no_rows l).bare (books_of no_rows l).machine (length h) (claim_in t) ≡ Ok tt =
+    subst (λ (x : Standing). claim_checked (books_of no_rows x.ledger).bare (books_of no_rows x.ledger).machine (length x.shown.history) (claim_in t) ≡ Ok tt) (sym c.engine.view_is) c.requires.holds in
+    let finished : IsFinished bytes g.M.Made.id_of read was (stock_at l.catalogue t.table).lineage t c.args.delta =
+    subst (λ (x : Standing). IsFinished bytes g.M.Made.id_of read was (stock_at x.ledger.catalogue t.table).lineage t c.args.delta) (sym c.engine.view_is) c.requires.finished.1 in
+    let is : IsSwapped bytes read l was t s = c.in-Ok.ensures.swapped was finished in
+    let v = c.engine.invariant.vault no_rows false (λ is. absurd cc) in
+    let most = v.counts.adopted in
+    let room = c.requires.room in
+    let same : length h ≡ length c.args.engine.now.shown.history = ap (λ (x : Standing). length x.shown.history) c.engine.view_is in
+    let turns = c.engine.invariant.few in
+    let more = is.adopts.few in
+    let few : s.adopted < 2 ^ 40 = omega (arith, most, room, same, turns, more) in
+    few
+
+-- ---- its device work is done
+
+kept_done : (g : _) (c : goal.After-drop-gone g)
+    → IsEngine g.K.Sink.held g.K.Sink.faults (starts_of g.N.Naming.script g.N.Naming.start g.N.Naming.sound g.N.Naming.origin g.N.Naming.since g.N.Naming.counted g.N.Naming.at_start) g.N.Naming.room g.N.Naming.sink_faults c.end_lease.new.self (g.D.Disk.story c.write_record.new.disk) c.tell.new.self
+kept_done g c =
+    let N = g.N.Naming in
+    let n : Starts = starts_of N.script N.start N.sound N.origin N.since N.counted N.at_start in
+    let i = c.engine.inside in
+    let t = c.args.task.now in
+    let l = i.metadata.ledger in
+    let h = i.log.history.items in
+    let story = g.D.Disk.story i.disk in
+    let bytes = g.M.Made.bytes in
+    let read = g.D.Reader.FileReader.bytes in
+    let was = c.requires.finished.0 in
+    let s = c.in-Ok.ready.swapped in
+    let holds : claim_checked (books_of no_rows l).bare (books_of no_rows l).machine (length h) (claim_in t) ≡ Ok tt =
+    subst (λ (x : Standing). claim_checked (books_of no_rows x.ledger).bare (books_of no_rows x.ledger).machine (length x.shown.history) (claim_in t) ≡ Ok tt) (sym c.engine.view_is) c.requires.holds in
+    let finished : IsFinished bytes g.M.Made.id_of read was (stock_at l.catalogue t.table).lineage t c.args.delta =
+    subst (λ (x : Standing). IsFinished bytes g.M.Made.id_of read was (stock_at x.ledger.catalogue t.table).lineage t c.args.delta) (sym c.engine.view_is) c.requires.finished.1 in
+    let is : IsSwapped bytes read l was t s = c.in-Ok.ensures.swapped was finished in
+    let name = c.requires.due.0 in
+    let session = c.args.who.session in
+    let number = c.args.who.command in
+    let due : IsDue N.script (run_at N.script (N.start no_rows) h) session number (command.Work name) (Renewed (claim_in t)) =
+    subst (λ (x : Standing). IsDue N.script (run_at N.script (N.start no_rows) x.shown.history) session number (command.Work name) (Renewed (claim_in t))) (sym c.engine.view_is) c.requires.due.1 in
+    let has : (w : Rows) → n.sound w → HasRange read was t (written_by (outset_of n w) (n.origin w).found h t.table) =
+    λ w sound. subst (λ (x : Standing). HasRange read was t (written_at N.script (N.start w) (N.origin w) x.shown.history t.table)) (sym c.engine.view_is) (c.requires.finished.2 w sound) in
+    let tell = λ (w : Rows) (sound : n.sound w). all_tell bytes (c.requires.told w sound) s.made.items in
+    let new = g.D.Disk.story c.write_record.new.disk in
+    let body = c.in-Ok.ready.framed in
+    let gone = dropped_ids l.catalogue s.entry in
+    let place = c.position-at.ensures in
+    let reserved = c.in-Ok.ensures.reserved in
+    let does = c.write_record.ensures in
+    let ran : not i.log.printer.broken ≡ true = ap (λ (x : Standing). x.shown.running) c.engine.view_is ∙ c.requires.runs in
+    let end_is : c.end-end.result ≡ l.end = c.end-end.ensures ∙ ap (λ (m : Memory). m.ledger.end) reserved in
+    let removed_is : c.deref.result.now ≡ removed_by l (length h) gone = c.deref.ensures.value ∙ c.in-Ok.ensures.removes ∙ ap (λ p. removed_by l p gone) place in
+    let laws = g.met.D.Disk g.world.𝓛 g.world.𝓜 g.world.𝓡 ((λ s x. x), (λ x. x), (λ x. x), λ x. x) in
+    let worked : IsWorked story new l.end body (files_of bytes s.made.items) (removed_by l (length h) gone) =
+    subst (λ e. IsWorked story new e body (files_of bytes s.made.items) (removed_by l (length h) gone)) end_is
+    (subst (λ d. IsWorked story new c.end-end.result body (files_of bytes s.made.items) d) removed_is
+    (record {
+      images = does.images;
+      only = does.only;
+      passes = record {
+        rose = does.risen;
+        later = does.clock;
+        laws = record {
+          only_old = λ x low had. laws.only_now i.disk x low had;
+          only_new = λ x low had. laws.only_now c.write_record.new.disk x low had;
+          earlier = λ a t x le had. laws.earlier c.write_record.new.disk a t x le had;
+        };
+      };
+    })) in
+    let typed = (record_found body s.entry c.in-Ok.ensures.bytes c.in-Ok.ensures.reads).0.typed in
+    let calls = does.read_cause in
+    let due_for = λ (w : Rows). due_alike N.script (N.start no_rows) (N.start w) h session number (command.Work name) (Renewed (claim_in t)) (N.alike w) refl due in
+    let end = c.in-Ok-write_record.end in
+    let later = c.tell.new.self in
+    let short : IsShort (entry session number kind.Close outcome.Stands c.clock.result) = subst IsShort c.turn-turn.ensures.same c.turn-turn.ensures.short in
+    let done = c.in-Ok-write_record.ensures in
+    let whole : IsWhole story new l.end body (files_of bytes s.made.items) (removed_by l (length h) gone) end =
+    subst (λ e. IsWhole story new e body (files_of bytes s.made.items) (removed_by l (length h) gone) end) end_is
+    (subst (λ d. IsWhole story new c.end-end.result body (files_of bytes s.made.items) d end) removed_is (record { holds = done.done; gone = done.gone; ends = done.end; long = done.longer })) in
+    let counts : Counts story new false = record { faults = does.cause.later; reads = omega (arith, calls); rose = λ low is. absurd cc } in
+    let gone_is : c.deref-in-Ok-write_record.result.now ≡ gone = c.deref-in-Ok-write_record.ensures.value ∙ c.in-Ok.ensures.gone in
+    let applied_is : c.apply.new.self.ledger ≡ recorded_ledger l (length h) (applied l.catalogue s.entry) (generation_of (applied l.catalogue s.entry)) gone l.leases s.adopted end =
+    ap (λ (m : Memory). m.ledger) c.apply.ensures.applied
+    ∙ (λ j. recorded_ledger (reserved j).ledger (place j) (applied (reserved j).ledger.catalogue s.entry) (generation_of (applied (reserved j).ledger.catalogue s.entry)) (gone_is j) (reserved j).ledger.leases s.adopted end) in
+    let ledger_is : c.end_lease.new.self.ledger ≡ recorded_ledger l (length h) (applied l.catalogue s.entry) (generation_of (applied l.catalogue s.entry)) gone (ended t.table t.lease l.leases) s.adopted end =
+    ap (λ (m : Memory). m.ledger) c.end_lease.ensures ∙ ap (λ (k : Ledger). leased_ledger k (ended t.table t.lease k.leases)) applied_is in
+    let rises : generation_of (applied l.catalogue s.entry) ≡ l.generation + turns_generation s.entry =
+    sym (ap (λ (k : Ledger). k.generation) applied_is) ∙ c.apply.ensures.generation ∙ ap (λ (m : Memory). m.ledger.generation + turns_generation s.entry) reserved in
+    let leased : c.end_lease.new.self.leased ≡ i.metadata.leased = ap (λ (m : Memory). m.leased) c.end_lease.ensures ∙ ap (λ (m : Memory). m.leased) c.apply.ensures.applied ∙ ap (λ (m : Memory). m.leased) reserved in
+    let grew = c.tell.ensures.items ∙ ap (λ x. h ++ x ∷ []) c.turn-turn.ensures.same in
+    let told = c.tell.ensures.told no_lines (swap_prints t.work ∙ ap (body_of no_lines) (sym c.range_of-reply.ensures)) in
+    let prints = subst (λ p. PrintsBlock g.K.Sink.held g.K.Sink.faults i.log.printer later.printer (entry session number kind.Close outcome.Stands c.clock.result) (told_at p (swapped_reply t.work))) place
+    (subst (λ x. PrintsBlock g.K.Sink.held g.K.Sink.faults i.log.printer later.printer x (told_at c.position-at.result (swapped_reply t.work))) c.turn-turn.ensures.same
+    (subst (λ x. PrintsBlock g.K.Sink.held g.K.Sink.faults i.log.printer later.printer c.turn-turn.result (told_at c.position-at.result x)) c.range_of-reply.ensures told)) in
+    swapped_engine g.K.Sink.held g.K.Sink.faults n N.room N.sink_faults i.metadata story i.log c.engine.invariant bytes read was t s is holds session number short.session short.command ran typed name due_for has tell body c.in-Ok.ensures.bytes c.in-Ok.ensures.reads new worked
+    c.clock.result c.clock.ensures c.end_lease.new.self later end whole counts ledger_is rises leased grew c.tell.ensures.room prints (c.tell.ensures.refused ∙ ap (λ x. i.log.refused || is_refusal x) c.range_of-reply.ensures)
+
+pub invariant_of-engine-in-Ok-write_record : goal.invariant_of-engine-in-Ok-write_record
+invariant_of-engine-in-Ok-write_record g c = kept_done g c
+
+pub returns-in-Ok-write_record : goal.returns-in-Ok-write_record
+returns-in-Ok-write_record g c =
+    let N = g.N.Naming in
+    let n : Starts = starts_of N.script N.start N.sound N.origin N.since N.counted N.at_start in
+    let i = c.engine.inside in
+    let t = c.args.task.now in
+    let h = i.log.history.items in
+    let session = c.args.who.session in
+    let number = c.args.who.command in
+    let name = c.requires.due.0 in
+    let new = g.D.Disk.story c.write_record.new.disk in
+    let later = c.tell.new.self in
+    let due : IsDue N.script (run_at N.script (N.start no_rows) h) session number (command.Work name) (Renewed (claim_in t)) =
+    subst (λ (x : Standing). IsDue N.script (run_at N.script (N.start no_rows) x.shown.history) session number (command.Work name) (Renewed (claim_in t))) (sym c.engine.view_is) c.requires.due.1 in
+    let ran : not i.log.printer.broken ≡ true = ap (λ (x : Standing). x.shown.running) c.engine.view_is ∙ c.requires.runs in
+    let grew = c.tell.ensures.items ∙ ap (λ x. h ++ x ∷ []) c.turn-turn.ensures.same in
+    let seen : Shown = record { history = later.history.items; running = not later.printer.broken; clock = new.moment } in
+    record {
+      turn = subst (λ (x : Standing). Takes N.script (N.start no_rows) x.shown seen session number kind.Close Finished) c.engine.view_is
+          (closed_takes n no_rows (record { history = h; running = not i.log.printer.broken; clock = (g.D.Disk.story i.disk).moment }) seen session number name (claim_in t) due (Replies (swapped_reply t.work))
+          (grew ∙ ap (λ x. h ++ entry session number kind.Close outcome.Stands x ∷ []) c.clock.ensures) ran
+          (vault_at_seen n c.end_lease.new.self.ledger new (g.K.Sink.held later.printer.sink) later.history.items (not later.printer.broken) later.refused new.moment (kept_done g c).vault));
+    }
+
+-- ---- it has failed
+
+kept_failed : (g : _) (c : goal.After-fail-in-Err-write_record g)
+    → IsEngine g.K.Sink.held g.K.Sink.faults (starts_of g.N.Naming.script g.N.Naming.start g.N.Naming.sound g.N.Naming.origin g.N.Naming.since g.N.Naming.counted g.N.Naming.at_start) g.N.Naming.room g.N.Naming.sink_faults c.end_lease-in-Err-write_record.new.self (g.D.Disk.story c.write_record.new.disk) c.fail-in-Err-write_record.new.self
+kept_failed g c =
+    let N = g.N.Naming in
+    let n : Starts = starts_of N.script N.start N.sound N.origin N.since N.counted N.at_start in
+    let i = c.engine.inside in
+    let t = c.args.task.now in
+    let l = i.metadata.ledger in
+    let h = i.log.history.items in
+    let story = g.D.Disk.story i.disk in
+    let bytes = g.M.Made.bytes in
+    let read = g.D.Reader.FileReader.bytes in
+    let was = c.requires.finished.0 in
+    let s = c.in-Ok.ready.swapped in
+    let holds : claim_checked (books_of no_rows l).bare (books_of no_rows l).machine (length h) (claim_in t) ≡ Ok tt =
+    subst (λ (x : Standing). claim_checked (books_of no_rows x.ledger).bare (books_of no_rows x.ledger).machine (length x.shown.history) (claim_in t) ≡ Ok tt) (sym c.engine.view_is) c.requires.holds in
+    let finished : IsFinished bytes g.M.Made.id_of read was (stock_at l.catalogue t.table).lineage t c.args.delta =
+    subst (λ (x : Standing). IsFinished bytes g.M.Made.id_of read was (stock_at x.ledger.catalogue t.table).lineage t c.args.delta) (sym c.engine.view_is) c.requires.finished.1 in
+    let is : IsSwapped bytes read l was t s = c.in-Ok.ensures.swapped was finished in
+    let name = c.requires.due.0 in
+    let session = c.args.who.session in
+    let number = c.args.who.command in
+    let due : IsDue N.script (run_at N.script (N.start no_rows) h) session number (command.Work name) (Renewed (claim_in t)) =
+    subst (λ (x : Standing). IsDue N.script (run_at N.script (N.start no_rows) x.shown.history) session number (command.Work name) (Renewed (claim_in t))) (sym c.engine.view_is) c.requires.due.1 in
+    let has : (w : Rows) → n.sound w → HasRange read was t (written_by (outset_of n w) (n.origin w).found h t.table) =
+    λ w sound. subst (λ (x : Standing). HasRange read was t (written_at N.script (N.start w) (N.origin w) x.shown.history t.table)) (sym c.engine.view_is) (c.requires.finished.2 w sound) in
+    let tell = λ (w : Rows) (sound : n.sound w). all_tell bytes (c.requires.told w sound) s.made.items in
+    let new = g.D.Disk.story c.write_record.new.disk in
+    let body = c.in-Ok.ready.framed in
+    let gone = dropped_ids l.catalogue s.entry in
+    let place = c.position-at.ensures in
+    let reserved = c.in-Ok.ensures.reserved in
+    let does = c.write_record.ensures in
+    let ran : not i.log.printer.broken ≡ true = ap (λ (x : Standing). x.shown.running) c.engine.view_is ∙ c.requires.runs in
+    let end_is : c.end-end.result ≡ l.end = c.end-end.ensures ∙ ap (λ (m : Memory). m.ledger.end) reserved in
+    let removed_is : c.deref.result.now ≡ removed_by l (length h) gone = c.deref.ensures.value ∙ c.in-Ok.ensures.removes ∙ ap (λ p. removed_by l p gone) place in
+    let laws = g.met.D.Disk g.world.𝓛 g.world.𝓜 g.world.𝓡 ((λ s x. x), (λ x. x), (λ x. x), λ x. x) in
+    let worked : IsWorked story new l.end body (files_of bytes s.made.items) (removed_by l (length h) gone) =
+    subst (λ e. IsWorked story new e body (files_of bytes s.made.items) (removed_by l (length h) gone)) end_is
+    (subst (λ d. IsWorked story new c.end-end.result body (files_of bytes s.made.items) d) removed_is
+    (record {
+      images = does.images;
+      only = does.only;
+      passes = record {
+        rose = does.risen;
+        later = does.clock;
+        laws = record {
+          only_old = λ x low had. laws.only_now i.disk x low had;
+          only_new = λ x low had. laws.only_now c.write_record.new.disk x low had;
+          earlier = λ a t x le had. laws.earlier c.write_record.new.disk a t x le had;
+        };
+      };
+    })) in
+    let typed = (record_found body s.entry c.in-Ok.ensures.bytes c.in-Ok.ensures.reads).0.typed in
+    let calls = does.read_cause in
+    let due_for = λ (w : Rows). due_alike N.script (N.start no_rows) (N.start w) h session number (command.Work name) (Renewed (claim_in t)) (N.alike w) refl due in
+    let later = c.fail-in-Err-write_record.new.self in
+    let told = c.fail-in-Err-write_record.ensures in
+    let after = c.end_lease-in-Err-write_record.new.self in
+    let counts : Counts story new true = record { faults = does.cause.later; reads = omega (arith, calls); rose = λ low is. inl c.in-Err-write_record.ensures.cause.failed } in
+    let failed_is : c.fail.new.self.ledger ≡ failed_ledger l (length h) l.leases s.adopted = ap (λ (m : Memory). m.ledger) c.fail.ensures ∙ (λ j. failed_ledger (reserved j).ledger (place j) (reserved j).ledger.leases s.adopted) in
+    let ledger_is : after.ledger ≡ failed_ledger l (length h) (ended t.table t.lease l.leases) s.adopted =
+    ap (λ (m : Memory). m.ledger) c.end_lease-in-Err-write_record.ensures ∙ ap (λ (k : Ledger). leased_ledger k (ended t.table t.lease k.leases)) failed_is in
+    let leased : after.leased ≡ i.metadata.leased = ap (λ (m : Memory). m.leased) c.end_lease-in-Err-write_record.ensures ∙ ap (λ (m : Memory). m.leased) c.fail.ensures ∙ ap (λ (m : Memory). m.leased) reserved in
+    unswapped_engine g.K.Sink.held g.K.Sink.faults n N.room N.sink_faults i.metadata story i.log c.engine.invariant bytes read was t s is holds session number told.short.session told.short.command ran typed name due_for has tell body c.in-Ok.ensures.bytes c.in-Ok.ensures.reads new worked
+    c.clock-moment.result c.clock-moment.ensures after later counts ledger_is leased told.items told.room told.told told.refused
+
+pub invariant_of-engine-in-Err-write_record : goal.invariant_of-engine-in-Err-write_record
+invariant_of-engine-in-Err-write_record g c = kept_failed g c
+
+pub returns : goal.returns
+returns g c =
+    let N = g.N.Naming in
+    let n : Starts = starts_of N.script N.start N.sound N.origin N.since N.counted N.at_start in
+    let i = c.engine.inside in
+    let t = c.args.task.now in
+    let l = i.metadata.ledger in
+    let h = i.log.history.items in
+    let story = g.D.Disk.story i.disk in
+    let bytes = g.M.Made.bytes in
+    let read = g.D.Reader.FileReader.bytes in
+    let was = c.requires.finished.0 in
+    let s = c.in-Ok.ready.swapped in
+    let holds : claim_checked (books_of no_rows l).bare (books_of no_rows l).machine (length h) (claim_in t) ≡ Ok tt =
+    subst (λ (x : Standing). claim_checked (books_of no_rows x.ledger).bare (books_of no_rows x.ledger).machine (length x.shown.history) (claim_in t) ≡ Ok tt) (sym c.engine.view_is) c.requires.holds in
+    let finished : IsFinished bytes g.M.Made.id_of read was (stock_at l.catalogue t.table).lineage t c.args.delta =
+    subst (λ (x : Standing). IsFinished bytes g.M.Made.id_of read was (stock_at x.ledger.catalogue t.table).lineage t c.args.delta) (sym c.engine.view_is) c.requires.finished.1 in
+    let is : IsSwapped bytes read l was t s = c.in-Ok.ensures.swapped was finished in
+    let name = c.requires.due.0 in
+    let session = c.args.who.session in
+    let number = c.args.who.command in
+    let due : IsDue N.script (run_at N.script (N.start no_rows) h) session number (command.Work name) (Renewed (claim_in t)) =
+    subst (λ (x : Standing). IsDue N.script (run_at N.script (N.start no_rows) x.shown.history) session number (command.Work name) (Renewed (claim_in t))) (sym c.engine.view_is) c.requires.due.1 in
+    let has : (w : Rows) → n.sound w → HasRange read was t (written_by (outset_of n w) (n.origin w).found h t.table) =
+    λ w sound. subst (λ (x : Standing). HasRange read was t (written_at N.script (N.start w) (N.origin w) x.shown.history t.table)) (sym c.engine.view_is) (c.requires.finished.2 w sound) in
+    let tell = λ (w : Rows) (sound : n.sound w). all_tell bytes (c.requires.told w sound) s.made.items in
+    let new = g.D.Disk.story c.write_record.new.disk in
+    let body = c.in-Ok.ready.framed in
+    let gone = dropped_ids l.catalogue s.entry in
+    let place = c.position-at.ensures in
+    let reserved = c.in-Ok.ensures.reserved in
+    let does = c.write_record.ensures in
+    let ran : not i.log.printer.broken ≡ true = ap (λ (x : Standing). x.shown.running) c.engine.view_is ∙ c.requires.runs in
+    let end_is : c.end-end.result ≡ l.end = c.end-end.ensures ∙ ap (λ (m : Memory). m.ledger.end) reserved in
+    let removed_is : c.deref.result.now ≡ removed_by l (length h) gone = c.deref.ensures.value ∙ c.in-Ok.ensures.removes ∙ ap (λ p. removed_by l p gone) place in
+    let laws = g.met.D.Disk g.world.𝓛 g.world.𝓜 g.world.𝓡 ((λ s x. x), (λ x. x), (λ x. x), λ x. x) in
+    let worked : IsWorked story new l.end body (files_of bytes s.made.items) (removed_by l (length h) gone) =
+    subst (λ e. IsWorked story new e body (files_of bytes s.made.items) (removed_by l (length h) gone)) end_is
+    (subst (λ d. IsWorked story new c.end-end.result body (files_of bytes s.made.items) d) removed_is
+    (record {
+      images = does.images;
+      only = does.only;
+      passes = record {
+        rose = does.risen;
+        later = does.clock;
+        laws = record {
+          only_old = λ x low had. laws.only_now i.disk x low had;
+          only_new = λ x low had. laws.only_now c.write_record.new.disk x low had;
+          earlier = λ a t x le had. laws.earlier c.write_record.new.disk a t x le had;
+        };
+      };
+    })) in
+    let typed = (record_found body s.entry c.in-Ok.ensures.bytes c.in-Ok.ensures.reads).0.typed in
+    let calls = does.read_cause in
+    let due_for = λ (w : Rows). due_alike N.script (N.start no_rows) (N.start w) h session number (command.Work name) (Renewed (claim_in t)) (N.alike w) refl due in
+    let later = c.fail-in-Err-write_record.new.self in
+    let told = c.fail-in-Err-write_record.ensures in
+    let after = c.end_lease-in-Err-write_record.new.self in
+    let counts : Counts story new true = record { faults = does.cause.later; reads = omega (arith, calls); rose = λ low is. inl c.in-Err-write_record.ensures.cause.failed } in
+    let failed_is : c.fail.new.self.ledger ≡ failed_ledger l (length h) l.leases s.adopted = ap (λ (m : Memory). m.ledger) c.fail.ensures ∙ (λ j. failed_ledger (reserved j).ledger (place j) (reserved j).ledger.leases s.adopted) in
+    let ledger_is : after.ledger ≡ failed_ledger l (length h) (ended t.table t.lease l.leases) s.adopted =
+    ap (λ (m : Memory). m.ledger) c.end_lease-in-Err-write_record.ensures ∙ ap (λ (k : Ledger). leased_ledger k (ended t.table t.lease k.leases)) failed_is in
+    let leased : after.leased ≡ i.metadata.leased = ap (λ (m : Memory). m.leased) c.end_lease-in-Err-write_record.ensures ∙ ap (λ (m : Memory). m.leased) c.fail.ensures ∙ ap (λ (m : Memory). m.leased) reserved in
+    let kept =
+    unswapped_engine g.K.Sink.held g.K.Sink.faults n N.room N.sink_faults i.metadata story i.log c.engine.invariant bytes read was t s is holds session number told.short.session told.short.command ran typed name due_for has tell body c.in-Ok.ensures.bytes c.in-Ok.ensures.reads new worked
+    c.clock-moment.result c.clock-moment.ensures after later counts ledger_is leased told.items told.room told.told told.refused in
+    let seen : Shown = record { history = later.history.items; running = not later.printer.broken; clock = new.moment } in
+    record {
+      turn = subst (λ (x : Standing). Takes N.script (N.start no_rows) x.shown seen session number kind.Close Finished) c.engine.view_is
+          (closed_takes n no_rows (record { history = h; running = not i.log.printer.broken; clock = story.moment }) seen session number name (claim_in t) due Unwritten
+          (told.items ∙ ap (λ x. h ++ entry session number kind.Close outcome.WriteFault x ∷ []) c.clock-moment.ensures) ran
+          (vault_at_seen n after.ledger new (g.K.Sink.held later.printer.sink) later.history.items (not later.printer.broken) later.refused new.moment kept.vault));
+    }

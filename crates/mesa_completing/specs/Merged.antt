@@ -1,0 +1,26 @@
+-- Works whose merge is finished.
+use Rattle.std.specs.Prelude.{◌≡◌, ℕ, None, Err}
+use Rattle.mesa_history.specs.Machine.{Claim, claim_checked}
+use Rattle.mesa_lease.specs.Book.{ended}
+use Rattle.mesa_ledger.specs.Ledger.{Ledger}
+use Rattle.mesa_ledger.specs.Turned.{leased_ledger}
+use Rattle.mesa_model.specs.declared.replies.Reply.TheVariants as reply
+use Rattle.mesa_walk.specs.Books.{Books}
+use Rattle.mesa_walk.specs.Causes.{Cause, Replies, NoMemory}
+use Rattle.mesa_completing.specs.declared.completing.Unswapped.{Unswapped}
+use Rattle.mesa_completing.specs.declared.completing.Unswapped.TheVariants as why
+
+-- why a range isn't swapped in
+abbrev pub cause_met : Unswapped → Cause
+cause_met (why.Refused refusal) = Replies (reply.Refused refusal)
+cause_met why.Memory = NoMemory
+
+-- Why a claim's range isn't swapped in: the books refuse the claim; or they are open, and there was no memory.
+abbrev pub HasNotSwapped : Books → ℕ → Claim → Unswapped → Type 0
+HasNotSwapped books position claim (why.Refused refusal) = claim_checked books.bare books.machine position claim ≡ Err refusal
+HasNotSwapped books position claim why.Memory = books.bare.closed ≡ None
+
+-- The ledger behind it: a claim that is refused changes nothing, and want of memory ends its lease.
+abbrev pub unswapped_ledger : Unswapped → ℕ → ℕ → Ledger → Ledger
+unswapped_ledger (why.Refused refusal) table lease l = l
+unswapped_ledger why.Memory table lease l = leased_ledger l (ended table lease l.leases)

@@ -1,0 +1,197 @@
+// A work's last turn where its merge is finished.
+ghost use Rattle.std.specs.Prelude.{◌≡◌, ◌<◌, ℕ, List, Ok, Some, true, length};
+ghost use Rattle.mesa_history.specs.Machine.{claim_checked, swapped_reply};
+ghost use Rattle.mesa_history.specs.Run.{Finished, Renewed};
+ghost use Rattle.mesa_history.specs.Turns.{IsDue};
+ghost use Rattle.mesa_image.specs.Catalog.{stock_at};
+ghost use Rattle.mesa_ledger.specs.Ledger.{books_of};
+ghost use Rattle.mesa_log.specs.Failure.{cause_in};
+ghost use Rattle.mesa_metadata.specs.Memory.{with_ledger};
+ghost use Rattle.mesa_model.specs.declared.commands.Command.TheVariants as command;
+ghost use Rattle.mesa_model.specs.declared.entries.Kind.TheVariants as kind;
+ghost use Rattle.mesa_schema.specs.Changes.{Lineage};
+ghost use Rattle.mesa_skeleton.specs.Rows.{Rows, no_rows};
+ghost use Rattle.mesa_swapping.specs.Finished.{HasRange, IsFinished};
+ghost use Rattle.mesa_walk.specs.Turns.{Takes};
+ghost use Rattle.mesa_walk.specs.Walk.{run_at};
+ghost use Rattle.mesa_works.specs.Claims.{claim_in};
+ghost use Rattle.mesa_works.specs.Ranged.{written_at};
+ghost use Rattle.mesa_completing.specs.Merged.{HasNotSwapped, cause_met, unswapped_ledger};
+
+use crate::checking::check;
+use crate::readying::{Ready, prepare};
+use mesa_disk::{Disk, Made};
+use mesa_engine::Engine;
+use mesa_io::Sink;
+use mesa_lease::TABLES;
+use mesa_ledger::Naming;
+use mesa_log::{Failure, Who};
+use mesa_metadata::Metadata;
+use mesa_model::{Kind, Outcome, Refusal, Reply};
+use mesa_span::Work;
+use mesa_store::write_record;
+use mesa_swapping::Swapped;
+use mesa_tasks::{NewDelta, Task};
+use mesa_works::give_back;
+use std::alloc::{AllocError, Global};
+
+// Why a range isn't swapped in, before the disk is called.
+#[derive(Drop)]
+pub(crate) enum Unswapped {
+    Refused(Refusal),
+    Memory,
+}
+
+// The reply to a work that is swapped in: its range.
+fn range_of(work: Work) -> Reply
+    ensures { result ≡ swapped_reply work }
+{
+    match work {
+        Work::Base { to } => Reply::Swapped { from: 0, to },
+        Work::Cumulative { from, to } => Reply::Swapped { from, to },
+    }
+}
+
+// Why nothing is swapped in. Without memory the lease ends.
+fn fall(metadata: &mut Metadata, table: u16, lease: u64, why: Unswapped) -> Failure
+    requires { table < TABLES }
+    ensures cause { cause_in result ≡ cause_met why }
+    ensures after { metadata.new ≡ with_ledger (unswapped_ledger why table lease metadata.old.ledger) metadata.old }
+{
+    match why {
+        Unswapped::Refused(refusal) => Failure::Refused(refusal),
+        Unswapped::Memory => {
+            metadata.end_lease(table, lease);
+            Failure::Memory
+        }
+    }
+}
+
+// The turn of a work whose range isn't swapped in. The disk isn't called.
+fn refuse<N: Naming, M: Made, D: Disk<M>, K: Sink>(
+    engine: &mut Engine<N, M, D, K>,
+    who: Who,
+    task: &Task<D::Reader>,
+    why: Unswapped,
+) -> Reply
+    requires due { (name : List ℕ) × IsDue N.script (run_at N.script (N.start no_rows) engine.old.shown.history) who.session who.command (command.Work name) (Renewed (claim_in task.now)) }
+    requires table { task.now.table < TABLES }
+    requires why { HasNotSwapped (books_of no_rows engine.old.ledger) (length engine.old.shown.history) (claim_in task.now) why }
+    requires room { length engine.old.shown.history < N.room }
+    requires runs { engine.old.shown.running ≡ true }
+    ensures turn { Takes N.script (N.start no_rows) engine.old.shown engine.new.shown who.session who.command kind.Close Finished }
+    ensures ledger { engine.new.ledger ≡ unswapped_ledger why task.now.table task.now.lease engine.old.ledger }
+{
+    let moment = engine.disk.clock();
+    let failure = fall(&mut engine.metadata, task.table, task.lease, why);
+    engine.log.fail(who, Kind::Close, moment, failure)
+}
+
+// The turn of a work whose claim holds: all memory is taken first, then the record is written with its files, and only then is the range swapped in. Where the store can't be written the vault closes. The lease ends, whatever comes.
+fn swap_in<N: Naming, M: Made, D: Disk<M>, K: Sink>(
+    alloc: Global,
+    engine: &mut Engine<N, M, D, K>,
+    who: Who,
+    task: &Task<D::Reader>,
+    delta: NewDelta<M>,
+) -> Reply
+    requires due { (name : List ℕ) × IsDue N.script (run_at N.script (N.start no_rows) engine.old.shown.history) who.session who.command (command.Work name) (Renewed (claim_in task.now)) }
+    requires table { task.now.table < TABLES }
+    requires holds { claim_checked (books_of no_rows engine.old.ledger).bare (books_of no_rows engine.old.ledger).machine (length engine.old.shown.history) (claim_in task.now) ≡ Ok tt }
+    requires finished { (was : Lineage) × IsFinished M.bytes M.id_of D.Reader.bytes was (stock_at engine.old.ledger.catalogue task.now.table).lineage task.now delta
+        × ((w : Rows) → N.sound w → HasRange D.Reader.bytes was task.now (written_at N.script (N.start w) (N.origin w) engine.old.shown.history task.now.table)) }
+    requires told { (w : Rows) → N.sound w → (file : M) → (bytes : List ℕ) × (M.bytes file ≡ Some bytes) }
+    requires room { length engine.old.shown.history < N.room }
+    requires runs { engine.old.shown.running ≡ true }
+    ensures turn { Takes N.script (N.start no_rows) engine.old.shown engine.new.shown who.session who.command kind.Close Finished }
+{
+    let at = engine.log.position();
+    let Ready {
+        swapped,
+        gone,
+        framed,
+        removed,
+    } = match prepare(alloc, &mut engine.metadata, at, task, delta) {
+        Ok(ready) => ready,
+        Err(AllocError) => return refuse(engine, who, task, Unswapped::Memory),
+    };
+    let Swapped {
+        entry,
+        made,
+        adopted,
+    } = swapped;
+    let end = engine.metadata.end();
+    match write_record(&mut engine.disk, made, end, &framed, &removed) {
+        Ok(end) => {
+            engine.metadata.apply(entry, at, &gone, adopted, end);
+            engine.metadata.end_lease(task.table, task.lease);
+            let reply = range_of(task.work);
+            let turn = who.turn(Kind::Close, Outcome::Stands, engine.disk.clock());
+            engine.log.tell(turn, at, &reply, b"");
+            reply
+        }
+        Err(_) => {
+            drop(entry);
+            engine.metadata.fail(at, adopted);
+            engine.metadata.end_lease(task.table, task.lease);
+            let moment = engine.disk.clock();
+            engine
+                .log
+                .fail(who, Kind::Close, moment, Failure::Unwritten)
+        }
+    }
+}
+
+// The turn of a work while the sink hasn't failed. What it was handed isn't given back yet.
+fn close<N: Naming, M: Made, D: Disk<M>, K: Sink>(
+    alloc: Global,
+    engine: &mut Engine<N, M, D, K>,
+    who: Who,
+    task: &Task<D::Reader>,
+    delta: NewDelta<M>,
+) -> Reply
+    requires due { (name : List ℕ) × IsDue N.script (run_at N.script (N.start no_rows) engine.old.shown.history) who.session who.command (command.Work name) (Renewed (claim_in task.now)) }
+    requires table { task.now.table < TABLES }
+    requires finished { (was : Lineage) × IsFinished M.bytes M.id_of D.Reader.bytes was (stock_at engine.old.ledger.catalogue task.now.table).lineage task.now delta
+        × ((w : Rows) → N.sound w → HasRange D.Reader.bytes was task.now (written_at N.script (N.start w) (N.origin w) engine.old.shown.history task.now.table)) }
+    requires told { (w : Rows) → N.sound w → (file : M) → (bytes : List ℕ) × (M.bytes file ≡ Some bytes) }
+    requires room { length engine.old.shown.history < N.room }
+    requires runs { engine.old.shown.running ≡ true }
+    ensures turn { Takes N.script (N.start no_rows) engine.old.shown engine.new.shown who.session who.command kind.Close Finished }
+{
+    let at = engine.log.position();
+    match check(&engine.metadata, task, at) {
+        Ok(()) => swap_in(alloc, engine, who, task, delta),
+        Err(refusal) => {
+            drop(delta);
+            refuse(engine, who, task, Unswapped::Refused(refusal))
+        }
+    }
+}
+
+/// The turn that closes a work whose merge is finished: its range is swapped in, unless its lease is lost or the vault has closed, and then nothing changes. Else its lease ends with the turn, also where there is no memory, or where the store can't be written: that closes the vault. All that it was handed is given back.
+pub fn complete<N: Naming, M: Made, D: Disk<M>, K: Sink>(
+    alloc: Global,
+    engine: &mut Engine<N, M, D, K>,
+    who: Who,
+    name: &[u8],
+    task: Task<D::Reader>,
+    delta: NewDelta<M>,
+) -> Reply
+    requires due { IsDue N.script (run_at N.script (N.start no_rows) engine.old.shown.history) who.session who.command (command.Work name.now) (Renewed (claim_in task)) }
+    requires table { task.table < TABLES }
+    requires finished { (was : Lineage) × IsFinished M.bytes M.id_of D.Reader.bytes was (stock_at engine.old.ledger.catalogue task.table).lineage task delta
+        × ((w : Rows) → N.sound w → HasRange D.Reader.bytes was task (written_at N.script (N.start w) (N.origin w) engine.old.shown.history task.table)) }
+    requires told { (w : Rows) → N.sound w → (file : M) → (bytes : List ℕ) × (M.bytes file ≡ Some bytes) }
+    requires room { length engine.old.shown.history < N.room }
+    ensures turn { Takes N.script (N.start no_rows) engine.old.shown engine.new.shown who.session who.command kind.Close Finished }
+{
+    if !engine.running() {
+        engine.skip(who, Kind::Close);
+        give_back(engine, task);
+        return Reply::Refused(Refusal::Memory);
+    }
+    let reply = close(alloc, engine, who, &task, delta);
+    give_back(engine, task);
+    reply
+}
