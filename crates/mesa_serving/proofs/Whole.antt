@@ -1,0 +1,19 @@
+-- A run whose sessions have all ended, by its last pass, is legal.
+use Rattle.std.proofs.Common.{◌≡◌, ◌<◌, ℕ, List, length, not, IsTrue, ◌∙◌, ap, subst}
+use Rattle.mesa_model.specs.declared.commands.Script.{Script}
+use Rattle.mesa_model.specs.declared.entries.Entry.{Entry}
+use Rattle.mesa_model.specs.Entry.{history_of, numbers_of}
+use Rattle.mesa_model.proofs.Numbers.{history_told}
+use Rattle.mesa_history.specs.Legal.{IsLegal, has_ended}
+use Rattle.mesa_history.specs.Run.{State}
+use Rattle.mesa_history.proofs.Ending.{legal_ended}
+use Rattle.mesa_turn.specs.Passes.{Known}
+use Rattle.mesa_walk.specs.Turns.{IsSeen, Shown}
+use Rattle.mesa_walk.specs.Walk.{run_at}
+use Rattle.mesa_passes.specs.Passes.{HasEnded}
+
+pub whole_legal : (script : Script) (start : State) (v : Shown) (p : Known) → IsSeen script start v → p.seen ≡ numbers_of v.history → ((s : ℕ) → s < length script.sessions → HasEnded script start p s)
+    → IsLegal start script v.history (not v.running)
+whole_legal script start v p seen is ended =
+    let same : history_of p.seen ≡ v.history = ap history_of is ∙ history_told v.history seen.short in
+    legal_ended start script v.history (not v.running) seen.fits seen.sink (λ s lt. subst (λ (h : List Entry). IsTrue (has_ended script (run_at script start h) s)) same (ended s lt).ended)

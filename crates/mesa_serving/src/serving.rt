@@ -1,0 +1,46 @@
+// All turns of a script.
+ghost use Rattle.std.specs.Prelude.{◌≡◌, ◌<◌, ◌≤◌, ◌^◌, ℕ, [], not, IfErr, IfOk, length};
+ghost use Rattle.mesa_history.specs.Legal.{IsLegal};
+ghost use Rattle.mesa_history.specs.Run.{commands_of};
+ghost use Rattle.mesa_skeleton.specs.Rows.{no_rows};
+ghost use Rattle.mesa_passes.specs.Passes.{turns_of};
+
+use mesa_disk::{Bench, Made};
+use mesa_model::Script;
+use mesa_service::Service;
+use mesa_session::Gate;
+use mesa_sessions::run_all;
+use mesa_turn::TurnLock;
+use std::alloc::Global;
+use std::sync::Wait;
+use std::thread::Threads;
+
+/// Runs all sessions of a script, each of whose turns has its place in one history, and gives the
+/// value back; or there was no memory for its lock, and no turn was taken.
+pub fn serve<M: Made, V: Service<File = M>, R: Threads + Wait + Sync, B: Bench<M>, G: Gate>(
+    rt: &R,
+    alloc: Global,
+    vault: V,
+    script: &Script,
+    room: u64,
+    benches: &mut [B],
+    gate: &G,
+) -> Result<V, V>
+    requires script { script.now ≡ V.script }
+    requires few { (0 < length V.script.sessions) × (length V.script.sessions ≤ 8) }
+    requires commands { (s : ℕ) → length (commands_of V.script s) ≤ 200000 }
+    requires empty { (V.shown vault).history ≡ [] }
+    requires room { (turns_of V.script.sessions ≤ room) × (room ≤ V.room) × (room < 2 ^ 60) }
+    requires benches { 8 ≤ length benches.old }
+    ensures legal { IfOk result (λ v. IsLegal (V.start no_rows) V.script (V.shown v).history (not (V.shown v).running)) }
+    ensures none { IfErr result (λ v. v ≡ vault) }
+{
+    let (lock, pass) = match TurnLock::new(alloc, vault, room) {
+        Ok(made) => made,
+        Err((vault, _)) => return Err(vault),
+    };
+    let pass = run_all(rt, alloc, &lock, pass, script, benches, gate);
+    let vault = lock.close(pass);
+    let _seen = vault.running(); // each of its entries is one that the run may have
+    Ok(vault)
+}
