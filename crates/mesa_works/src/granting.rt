@@ -1,6 +1,7 @@
 // A work's grant.
 ghost use Rattle.std.specs.Prelude.{◌≡◌, ◌≢◌, ◌+◌, ◌<◌, ◌≤◌, ◌^◌, ℕ, List, true, length, None, Some, Ok, IfOk, IfSome, OnOk};
 ghost use Rattle.mesa_fault.specs.Causes.{last};
+ghost use Rattle.mesa_gather.specs.Gathered.{unread_views};
 ghost use Rattle.mesa_history.specs.Machine.{claim_of};
 ghost use Rattle.mesa_history.specs.Run.{First, Granted};
 ghost use Rattle.mesa_history.specs.Turns.{IsDue};
@@ -48,6 +49,7 @@ pub fn grant<N: Naming, M: Made, D: Disk<M>, K: Sink>(
     ensures there { IfOk result (λ t. t.table < length engine.old.ledger.catalogue.tables) }
     ensures low { IfOk result (λ t. t.table < TABLES) }
     ensures task { IfOk result (λ t. IsTask D.Reader.bytes (stock_at engine.old.ledger.catalogue t.table).lineage t) }
+    ensures views { IfOk result (λ t. t.views.items ≡ unread_views 0 (length (stock_at engine.old.ledger.catalogue t.table).lineage.views)) }
     ensures damage { IfOk result (λ t. IfSome t.damage (λ d. d.want ≢ d.found)) }
     ensures range { (w : Rows) → N.sound w → engine.old.shown.clock < last → IfOk result (λ t. HasRange D.Reader.bytes (stock_at engine.old.ledger.catalogue t.table).lineage t (written_at N.script (N.start w) (N.origin w) engine.new.shown.history t.table)) }
 {
@@ -80,6 +82,7 @@ fn take<N: Naming, M: Made, D: Disk<M>, K: Sink>(
     ensures catalogue { engine.new.ledger.catalogue ≡ engine.old.ledger.catalogue }
     ensures table { IfOk result (λ t. t.table ≡ claimed.table) }
     ensures task { IfOk result (λ t. IsTask D.Reader.bytes (stock_at engine.old.ledger.catalogue claimed.table).lineage t) }
+    ensures views { IfOk result (λ t. t.views.items ≡ unread_views 0 (length (stock_at engine.old.ledger.catalogue t.table).lineage.views)) }
     ensures damage { IfOk result (λ t. IfSome t.damage (λ d. d.want ≢ d.found)) }
     ensures range { (w : Rows) → N.sound w → engine.old.shown.clock < last → IfOk result (λ t. HasRange D.Reader.bytes (stock_at engine.old.ledger.catalogue t.table).lineage t (written_at N.script (N.start w) (N.origin w) engine.new.shown.history t.table)) }
 {

@@ -19,7 +19,7 @@ use Rattle.mesa_image_laws.proofs.Plans.{due_work_fits}
 use Rattle.mesa_ledger.specs.Vault.{IsVault, Starts, outset_of}
 use Rattle.mesa_ledger.proofs.Beginning.{vault_at_seen}
 use Rattle.mesa_log.specs.Failure.{cause_in}
-use Rattle.mesa_gather.specs.Gathered.{IsGathered}
+use Rattle.mesa_gather.specs.Gathered.{IsGathered, unread_views}
 use Rattle.mesa_metadata.specs.Memory.{Memory}
 use Rattle.mesa_skeleton.specs.Rows.{no_rows}
 use Rattle.mesa_swapping.specs.Finished.{HasRange}
@@ -209,3 +209,12 @@ returns-in-Ok-clause-range g c w sound low =
     subst (λ (x : Standing). HasRange bytes (stock_at x.ledger.catalogue t.table).lineage t (written_at N.script (N.start w) (N.origin w) later.history.items t.table)) c.engine.view_is
     (has_range c.one_file.ensures (outset_of n w) (n.origin w) _ new (g.K.Sink.held later.printer.sink) later.history.items (not later.printer.broken) later.refused v below opened' bytes faults t there may
     (record { epoch = task.epoch; inputs = task.inputs; views = task.views }) _ c.in-Ok.ensures.views (record { wanted = read.wanted; are = read.are; opened = read.opened }))
+
+pub returns-in-Ok-clause-views : goal.returns-in-Ok-clause-views
+returns-in-Ok-clause-views g c =
+    let l = c.engine.inside.metadata.ledger in
+    let t = c.in-Ok.task in
+    let stock = c.table-table.ensures.stock ∙ ap (λ (k : Catalog). stock_at k c.args.claimed.table) c.catalog.ensures ∙ ap (stock_at l.catalogue) (sym c.in-Ok.ensures.table) in
+    c.in-Ok.ensures.views
+    ∙ ap (λ (u : Stock). unread_views 0 (length u.lineage.views)) stock
+    ∙ ap (λ (x : Standing). unread_views 0 (length (stock_at x.ledger.catalogue t.table).lineage.views)) c.engine.view_is

@@ -1,0 +1,25 @@
+-- What is known of granted tasks.
+use Rattle.std.specs.Prelude.{◌≡◌, ℕ, ◌+◌, List, [], ◌∷◌, Option, None}
+use Rattle.std.specs.List.{AllByRecursion}
+use Rattle.mesa_schema.specs.Changes.{Lineage, epoch_of}
+use Rattle.mesa_schema.specs.declared.views.View.{View}
+use Rattle.mesa_image_laws.specs.Sourced.{Written}
+use Rattle.mesa_merge.specs.Inputs.{Known}
+use Rattle.mesa_service.specs.Works.{KnownTask, KnownView, known_task}
+use Rattle.mesa_swapping.specs.Finished.{HasRange}
+use Rattle.mesa_tasks.specs.declared.merging.Task.{Task}
+
+-- Each task of which this is known has its range.
+abbrev pub AllHaveRange : {R : Type 0} → (R → Option (List ℕ)) → Lineage → KnownTask → List Written → Type 0
+AllHaveRange {R = R} read was k written = (t : Task R) → known_task read t ≡ k → HasRange read was t written
+
+-- views with no files of their own, by their numbers from one on
+abbrev pub unread_from : ℕ → List View → List KnownView
+unread_from number [] = []
+unread_from number (v ∷ views) = record { view = number; own = None } ∷ unread_from (number + 1) views
+
+-- A task is one of a table with these columns and views: each file is the table's, and no view has files of its own.
+pub record IsKnownOf (was : Lineage) (k : KnownTask) : Type 0 where
+  pub epoch : k.epoch ≡ epoch_of was
+  pub files : AllByRecursion (λ (f : Known). f.table ≡ was) k.files
+  pub views : k.views ≡ unread_from 0 was.views
