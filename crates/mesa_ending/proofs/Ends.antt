@@ -1,6 +1,7 @@
 -- How a call ends that has a script.
-use Rattle.std.proofs.Common.{◌≡◌, inl, inr, ℕ, List, Bool, true, false, refl, sym, ◌∙◌, ap, subst}
+use Rattle.std.proofs.Common.{◌≡◌, inl, inr, ℕ, List, take, Bool, true, false, refl, sym, ◌∙◌, ap, subst}
 use Rattle.std.specs.Prelude.{if◌then◌else◌}
+use Rattle.std.specs.Io.KnownBytes.{Appends}
 use Rattle.mesa_fault.specs.Causes.{Rose}
 use Rattle.mesa_model.specs.declared.commands.Script.{Script}
 use Rattle.mesa_history.specs.Refused.{some_refused}
@@ -11,15 +12,23 @@ use Rattle.mesa_opening.specs.declared.error.OpenError.{OpenError}
 use Rattle.mesa_opening.specs.Opening.{HasReason, Keeps}
 use Rattle.mesa_ending.specs.Ports.{Ports}
 use Rattle.mesa_ending.specs.Exits.{memory_status, memory_line, open_line, open_status}
-use Rattle.mesa_ending.specs.Start.{start_of}
+use Rattle.mesa_ending.specs.Start.{AreTold, start_of}
 use Rattle.mesa_ending.specs.Run.{Ran}
-use Rattle.mesa_ending.specs.Ending.{Ended, EndsScript, Prints}
+use Rattle.mesa_ending.specs.Ending.{Ended, EndsScript}
 use Rattle.mesa_ending.specs.declared.done.Devices.{Devices}
 use Rattle.mesa_ending.specs.declared.done.Done.{Done}
 
--- what ended over a sink and benches as they were given
-pub ended_with : {K D M B : Type 0} (ports : Ports K D M B) (back g : Devices K D B) (done : Done K D B) → back.out ≡ g.out → back.benches.items ≡ g.benches.items → (status : ℕ) (line : List ℕ) → Ended ports back done status line → Ended ports g done status line
-ended_with ports back g done out benches status line ended = (ended.0, ended.1 ∙ benches, subst (λ o. Prints ports (record back { out = o }) done status line) out ended.2)
+-- what ended over a sink that was given as much and had failed as often, and over the same benches
+pub ended_with : {K D M B : Type 0} (ports : Ports K D M B) (back g : Devices K D B) (done : Done K D B) → ports.held back.out ≡ ports.held g.out → ports.sink_faults back.out ≡ ports.sink_faults g.out → back.benches.items ≡ g.benches.items
+    → (status : ℕ) (line : List ℕ) → Ended ports back done status line → Ended ports g done status line
+ended_with ports back g done held faults benches status line ended = (
+  ended.0,
+  ended.1 ∙ benches,
+  elim ended.2 [
+    | inl p ↦ inl (p.0, p.1 ∙ faults, subst (λ h. Appends h (ports.held done.out) line) held p.2)
+    | inr p ↦ inr (p.0, subst (λ n. Rose n (ports.sink_faults done.out)) faults p.1, p.2, subst (λ h. Appends h (ports.held done.out) (take p.2 line)) held p.3)
+  ],
+)
 
 module _ {K D M B : Type 0} (ports : Ports K D M B) (g : Devices K D B) (done : Done K D B) (script : Script) where
   -- the store wasn't opened
@@ -29,8 +38,8 @@ module _ {K D M B : Type 0} (ports : Ports K D M B) (g : Devices K D B) (done : 
       inl (e, (subst (λ d. HasReason (ports.story g.disk) (ports.story d) e) (sym is) reason, subst (λ d. Keeps (ports.story g.disk) (ports.story d)) (sym is) keeps, ended))
 
   -- no memory was there for the run
-  pub lacked : (disk : D) → done.disk ≡ disk → Keeps (ports.story g.disk) (ports.story disk) → Ended ports g done memory_status memory_line → EndsScript ports g done script
-  lacked disk is keeps ended = inr (inr (subst (λ d. Keeps (ports.story g.disk) (ports.story d)) (sym is) keeps, ended))
+  pub lacked : (disk : D) → done.disk ≡ disk → (AreTold ports.bytes → Keeps (ports.story g.disk) (ports.story disk)) → Ended ports g done memory_status memory_line → EndsScript ports g done script
+  lacked disk is keeps ended = inr (inr ((λ files. subst (λ d. Keeps (ports.story g.disk) (ports.story d)) (sym is) (keeps files)), ended))
 
   -- the script was run, over a store that was begun from what the disk read
   pub run_ended : (c : Catalog) (failed refused : Bool) → Ran ports g done script c failed

@@ -11,7 +11,7 @@ use Rattle.mesa_opening.specs.declared.error.OpenError.{OpenError}
 use Rattle.mesa_opening.specs.Opening.{HasReason, Keeps}
 use Rattle.mesa_ending.specs.Ports.{Ports}
 use Rattle.mesa_ending.specs.Exits.{max_input, status_of, sink_status, usage_status, usage_line, source_status, source_line, length_status, length_line, script_status, script_line, open_status, open_line, memory_status, memory_line}
-use Rattle.mesa_ending.specs.Start.{start_of}
+use Rattle.mesa_ending.specs.Start.{AreTold, start_of}
 use Rattle.mesa_ending.specs.Run.{Ran}
 use Rattle.mesa_ending.specs.declared.done.Devices.{Devices}
 use Rattle.mesa_ending.specs.declared.done.Done.{Done}
@@ -53,9 +53,9 @@ module _ {K D M B : Type 0} (ports : Ports K D M B) (given : Devices K D B) (don
       (Ran ports given done script c false × ((rows : Rows) → done.status ≡ status_of script (start_of script c rows) done.history.items) × IsWhole)
       ⊎ (Ran ports given done script c true × (done.status ≡ sink_status) × HasFailed)
 
-  -- Want of memory once the store was opened: no turn was taken, and the store keeps what it had.
+  -- Want of memory once the store was opened: no turn was taken, and where finished files tell their bytes the store keeps what it had.
   abbrev pub LacksMemory : Type 0
-  LacksMemory = KeepsStore × Ended memory_status memory_line
+  LacksMemory = (AreTold ports.bytes → KeepsStore) × Ended memory_status memory_line
 
   -- How a call ends that has a script: its store isn't opened, or the script was run; or memory was short.
   abbrev pub EndsScript : Script → Type 0
