@@ -1,3 +1,9 @@
 pub mod Closes
+pub mod Contents
 pub mod Digests
+pub mod Opens
 pub mod Sees
+pub mod States
+pub mod Telling
+pub mod There
+pub mod Versions

@@ -3,6 +3,7 @@ use Rattle.std.proofs.Common.{◌≡◌, ℕ, List, [], ◌∷◌, map, Bool, tr
 use Rattle.std.specs.Prelude.{find, option_map}
 use Rattle.std.specs.Option.{ok_or}
 use Rattle.std.proofs.lemmas.Simd.{map-map}
+use Rattle.mesa_asking.specs.Seeing.{catalogue_asked}
 use Rattle.mesa_catalog.specs.Lookups.{known_as}
 use Rattle.mesa_filter.specs.declared.words.QueryWords.{QueryWords}
 use Rattle.mesa_filter.specs.declared.words.VersionWord.{VersionWord}
@@ -73,3 +74,14 @@ module _ (rows : Rows) (l : Ledger) (s : ℕ) (words : QueryWords) where
   sees_none token is was_open none =
       refused_store l.closed (store_asked w s words.version) _ (no.NoPin token) was_open
       (subst (λ (x : VersionWord). store_asked w s x ≡ Err (no.NoPin token)) (sym is) (ap (λ (o : Option Pin). ok_or o (no.NoPin token) >>= (λ (pin : Pin). Ok pin.store)) (found_held s token l.pins ∙ ap (option_map bare_held) none)))
+
+-- ---- the catalogue that it sees
+
+module _ (l : Ledger) (s : ℕ) where
+  pub asked_present : (v : VersionWord) → ((token : ℕ) → v ≡ asks.Pin token → ⊥) → (c : Catalog) → c ≡ l.catalogue → catalogue_asked l s v ≡ Some c
+  asked_present asks.Latest other c is = ap (λ (x : Catalog). Some x) (sym is)
+  asked_present (asks.At n) other c is = ap (λ (x : Catalog). Some x) (sym is)
+  asked_present (asks.Pin token) other c is = absurd (other token refl)
+
+  pub asked_pinned : (v : VersionWord) (token : ℕ) → v ≡ asks.Pin token → (p : HeldPin) → find (is_held_pin s token) l.pins ≡ Some p → catalogue_asked l s v ≡ Some p.copy
+  asked_pinned v token is p there = ap (catalogue_asked l s) is ∙ ap (option_map (λ (x : HeldPin). x.copy)) there

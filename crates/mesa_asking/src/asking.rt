@@ -1,6 +1,8 @@
 // What a query asks of a vault.
-ghost use Rattle.std.specs.Prelude.{◌≡◌, Ok, Some, IfErr, IfOk};
+ghost use Rattle.std.specs.Prelude.{◌≡◌, None, Ok, Some, IfErr, IfOk};
 ghost use Rattle.mesa_asked.specs.Told.{IsDue};
+ghost use Rattle.mesa_asked.specs.declared.failure.Failure.TheVariants.{Memory as WantOfMemory};
+ghost use Rattle.mesa_asking.specs.Seeing.{catalogue_asked};
 ghost use Rattle.mesa_catalog.specs.Lookups.{relation_of};
 ghost use Rattle.mesa_filter.specs.Query.{IsQueryOf};
 ghost use Rattle.mesa_ledger.specs.Ledger.{books_of};
@@ -30,10 +32,12 @@ pub fn ask<'a>(
     words: &QueryWords,
 ) -> Result<Asked<'a>, Failure>
     ensures sees { IfOk result (λ a. (rows : Rows) → Sees a.catalog.now.catalogue (Ok a.found.query.version) words.now session (books_of rows metadata.now.ledger).bare) }
+    ensures catalogue { IfOk result (λ a. catalogue_asked metadata.now.ledger session words.now.version ≡ Some a.catalog.now.catalogue) }
     ensures relation { IfOk result (λ a. relation_of a.catalog.now.catalogue words.now.relation ≡ Some a.found.relation) }
     ensures sound { IfOk result (λ a. IsQueryOf (columns_at a.catalog.now.catalogue a.found.relation) a.found.query) }
     ensures answered { IfOk result (λ a. IsAnswered a.catalog.now.catalogue (Ok a.found.query.version) words.now a.found) }
     ensures refused { IfErr result (λ failure. (rows : Rows) → IsDue (query_answer (books_of rows metadata.now.ledger).bare session words.now) failure) }
+    ensures opened { IfErr result (λ failure. failure ≡ WantOfMemory → metadata.now.ledger.closed ≡ None) }
 {
     let Seen { catalog, version } = seen_by(metadata, session, words.version)?;
     let found = mesa_rules::query(alloc, catalog, version, words)?;

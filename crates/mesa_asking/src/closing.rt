@@ -30,7 +30,7 @@ use mesa_script::Rendered;
 use mesa_tasks::{Pinned, retire_pinned};
 
 // Why a query has no answer.
-fn failed(error: FileError) -> Failure
+pub(crate) fn failed(error: FileError) -> Failure
     ensures { cause_in result ≡ cause_of error }
 {
     match error {

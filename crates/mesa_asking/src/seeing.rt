@@ -1,6 +1,6 @@
 // What a query sees of a vault.
-ghost use Rattle.std.specs.Prelude.{◌≡◌, ℕ, Err, IfErr, IfOk, None};
-ghost use Rattle.mesa_asking.specs.Seeing.{SeesBooks};
+ghost use Rattle.std.specs.Prelude.{◌≡◌, ℕ, Err, IfErr, IfOk, None, Some};
+ghost use Rattle.mesa_asking.specs.Seeing.{SeesBooks, catalogue_asked};
 ghost use Rattle.mesa_filter.specs.declared.words.QueryWords.{QueryWords as AnyWords};
 ghost use Rattle.mesa_ledger.specs.Ledger.{books_of};
 ghost use Rattle.mesa_model.specs.Query.{query_answer};
@@ -24,6 +24,7 @@ pub fn seen_by<'a>(
     asked: VersionWord,
 ) -> Result<Seen<'a>, Refusal>
     ensures sees { IfOk result (λ seen. (rows : Rows) (words : AnyWords) → words.version ≡ asked → SeesBooks seen words session (books_of rows metadata.now.ledger)) }
+    ensures catalogue { IfOk result (λ seen. catalogue_asked metadata.now.ledger session asked ≡ Some seen.catalog.now.catalogue) }
     ensures refused { IfErr result (λ x. (rows : Rows) (words : AnyWords) → words.version ≡ asked → query_answer (books_of rows metadata.now.ledger).bare session words ≡ Err x) }
 {
     if let Some(position) = metadata.closed() {

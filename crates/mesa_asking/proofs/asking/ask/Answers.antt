@@ -2,6 +2,7 @@ use Rattle.std.proofs.Common.{refl, subst}
 use Rattle.std.proofs.lemmas.Result.{err_from_is_err_and}
 use Rattle.mesa_ledger.specs.Ledger.{books_of}
 use Rattle.mesa_rules.specs.Found.{IsAnswered, Sees}
+use Rattle.mesa_skeleton.specs.Rows.{no_rows}
 use Rattle.mesa_asking.proofs.asking.ask.Goals as goal
 
 pub returns-in_err-catalog-clause-refused : goal.returns-in_err-catalog-clause-refused
@@ -20,3 +21,13 @@ returns-clause-sees c rows =
 
 pub returns-clause-answered : goal.returns-clause-answered
 returns-clause-answered c = subst (λ v. IsAnswered c.in_ok-catalog.field-0.catalog.now.catalogue v c.args.words.now c.in_ok-found.found) c.in_ok-found.ensures.version c.in_ok-found.ensures.answered
+
+pub returns-in_err-catalog-clause-opened : goal.returns-in_err-catalog-clause-opened
+returns-in_err-catalog-clause-opened c =
+    let p = err_from_is_err_and c.from_residual.result c.from_residual.ensures.1 in
+    rw (p.1, p.2) (λ is. absurd cc)
+
+pub returns-in_err-found-clause-opened : goal.returns-in_err-found-clause-opened
+returns-in_err-found-clause-opened c =
+    let p = err_from_is_err_and c.from_residual-in_err-found.result c.from_residual-in_err-found.ensures.1 in
+    rw (p.1) (λ is. (c.in_ok-catalog.ensures.sees no_rows c.args.words.now refl).opened)

@@ -1,0 +1,144 @@
+-- What a query's files tell on a sound store.
+use Rattle.std.proofs.Common.{◌≡◌, ℕ, ◌<◌, ◌^◌, List, [], ◌∷◌, ◌++◌, length, Bool, true, false, IsTrue, refl, sym, ◌∙◌, ap, subst, Option, None, Some, Ok}
+use Rattle.std.specs.Prelude.{find, option_map}
+use Rattle.std.specs.List.{AllByRecursion}
+use Rattle.mesa_asking.specs.Opening.{HasItsFiles}
+use Rattle.mesa_asking.specs.Seeing.{catalogue_asked}
+use Rattle.mesa_asking.proofs.Contents.{seen_columns, seen_content}
+use Rattle.mesa_asking.proofs.Opens.{Answers, Untold, one_answer, opened_from, pinned_untold}
+use Rattle.mesa_asking.proofs.States.{sees_state, version_range}
+use Rattle.mesa_asking.proofs.There.{name_there}
+use Rattle.mesa_catalog.proofs.Loads.{found_holds}
+use Rattle.mesa_catalog.proofs.Stocks.{all_at}
+use Rattle.mesa_commit.specs.Images.{Has}
+use Rattle.mesa_disk.specs.Image.{Image}
+use Rattle.mesa_disk.specs.Story.{Story, Unmoved}
+use Rattle.mesa_fault.specs.Causes.{last}
+use Rattle.mesa_filter.specs.declared.words.QueryWords.{QueryWords}
+use Rattle.mesa_filter.specs.declared.words.VersionWord.{VersionWord}
+use Rattle.mesa_filter.specs.declared.words.VersionWord.TheVariants as asks
+use Rattle.mesa_history.specs.Run.{First, State}
+use Rattle.mesa_history.specs.Turns.{IsDue}
+use Rattle.mesa_image.specs.Catalog.{Catalog, no_stock, stock_at}
+use Rattle.mesa_image.specs.Fitting.{shelved}
+use Rattle.mesa_image.specs.Shape.{IsCatalog, IsShaped}
+use Rattle.mesa_image.specs.Sound.{AreStocked, IsStocked, wants}
+use Rattle.mesa_ledger.proofs.Holding.{pins_of}
+use Rattle.mesa_ledger.proofs.Lists.{map_all}
+use Rattle.mesa_ledger.proofs.Staying.{there_now}
+use Rattle.mesa_ledger.specs.Ledger.{HeldPin, Holder, Ledger, books_of, files_held, holders}
+use Rattle.mesa_ledger.specs.Turned.{is_held_pin}
+use Rattle.mesa_ledger.specs.Vault.{Origin, Starts, IsVault, IsVaultAt, outset_of}
+use Rattle.mesa_model.specs.Page.{page_of}
+use Rattle.mesa_model.specs.Query.{Answer, answer_rows, query_answer}
+use Rattle.mesa_model.specs.declared.commands.Command.TheVariants as command
+use Rattle.mesa_model.specs.declared.entries.Entry.{Entry}
+use Rattle.mesa_model.specs.declared.entries.Kind.TheVariants as kind
+use Rattle.mesa_model.specs.declared.entries.Outcome.TheVariants as outcome
+use Rattle.mesa_pinning.specs.Told.{Tells}
+use Rattle.mesa_pinning.proofs.Telling.{pinned_tells, stock_given}
+use Rattle.mesa_rules.specs.Found.{answer_found}
+use Rattle.mesa_skeleton.specs.Rows.{Rows, no_rows}
+use Rattle.mesa_tasks.specs.declared.querying.Pinned.{Pinned}
+use Rattle.mesa_trash.specs.Filed.{PinFiles}
+use Rattle.mesa_walk.specs.Books.{AreBooksOf}
+use Rattle.mesa_walk.specs.Queries.{IsOpen, IsPinned}
+use Rattle.mesa_walk.specs.Turns.{entry}
+use Rattle.mesa_walk.specs.Walk.{Outset, Counts, run_at}
+
+-- ---- the catalogue that a query sees
+
+-- it has the shape of one
+pub asked_shaped : (o : Outset) (g : Origin) (sound : Bool) (l : Ledger) (story : Story) (held : Option (List ℕ)) (h : List Entry) (running refused : Bool) → IsVault o g sound l story held h running refused
+    → (session : ℕ) (v : VersionWord) (c : Catalog) → catalogue_asked l session v ≡ Some c → IsCatalog c
+asked_shaped o g sound l story held h running refused v session asks.Latest c is = let same : l.catalogue ≡ c = cc in subst IsCatalog same v.shaped
+asked_shaped o g sound l story held h running refused v session (asks.At n) c is = let same : l.catalogue ≡ c = cc in subst IsCatalog same v.shaped
+asked_shaped o g sound l story held h running refused v session (asks.Pin token) c is = by (find (is_held_pin session token) l.pins) refl is
+  where
+    by : (found : Option HeldPin) → find (is_held_pin session token) l.pins ≡ found → option_map (λ (p : HeldPin). p.copy) found ≡ Some c → IsCatalog c
+    by None there e = absurd cc
+    by (Some p) there e =
+        let same : p.copy ≡ c = cc in
+        subst IsCatalog same (found_holds (λ (x : HeldPin). IsCatalog x.copy) (is_held_pin session token) l.pins p (pins_of (λ (x : Holder). IsCatalog x.1) v.seen l v.copies) there)
+
+-- Its rows are such as a sound store has, and a read gives its files.
+pub record IsRead (rows : Rows) (image : Image) (c : Catalog) : Type 0 where
+  pub stocked : AreStocked rows c
+  pub has : Has (wants rows (shelved c)) image
+
+module _ (o : Outset) (g : Origin) (sound : Bool) (l : Ledger) (story : Story) (held : Option (List ℕ)) (h : List Entry) (running refused : Bool) (v : IsVault o g sound l story held h running refused) (ok : IsTrue sound) (low : story.moment < last) (was_open : l.closed ≡ None) where
+  asked_read : (image : Image) → story.told ≡ Some image → (session : ℕ) (asked : VersionWord) (c : Catalog) → catalogue_asked l session asked ≡ Some c → IsRead v.rows image c
+  asked_read image told session asked c = by asked
+    where
+      present : l.catalogue ≡ c → IsRead v.rows image c
+      present same = subst (IsRead v.rows image) same (record { stocked = (v.stocked ok).0; has = there_now o g sound l story held h running refused v was_open ok low image told })
+
+      held_files : AllByRecursion (λ (x : HeldPin). Has (wants v.rows (shelved x.copy)) image) l.pins
+      held_files = pins_of (λ (x : Holder). Has (wants v.rows (shelved x.1)) image) v.seen l (map_all (λ (p : PinFiles). Has p.1 image) (files_held v.rows) (holders v.seen l) (v.there ok low image told))
+
+      pinned : (token : ℕ) (found : Option HeldPin) → find (is_held_pin session token) l.pins ≡ found → option_map (λ (p : HeldPin). p.copy) found ≡ Some c → IsRead v.rows image c
+      pinned token None there e = absurd cc
+      pinned token (Some p) there e =
+          let same : p.copy ≡ c = cc in
+          subst (IsRead v.rows image) same (record {
+            stocked = found_holds (λ (x : HeldPin). AreStocked v.rows x.copy) (is_held_pin session token) l.pins p (pins_of (λ (x : Holder). AreStocked v.rows x.1) v.seen l (v.stocked ok).1) there;
+            has = found_holds (λ (x : HeldPin). Has (wants v.rows (shelved x.copy)) image) (is_held_pin session token) l.pins p held_files there;
+          })
+
+      by : (x : VersionWord) → catalogue_asked l session x ≡ Some c → IsRead v.rows image c
+      by asks.Latest is = (let same : l.catalogue ≡ c = cc in present same)
+      by (asks.At n) is = (let same : l.catalogue ≡ c = cc in present same)
+      by (asks.Pin token) is = pinned token (find (is_held_pin session token) l.pins) refl is
+
+  -- Its files tell the answer that each state gives of which the vault's books are.
+  pub asked_tells : {R : Type 0} (bytes : R → Option (List ℕ)) (faults : R → ℕ) (session : ℕ) (words : QueryWords) (p : Pinned R) → HasItsFiles bytes faults story.told l session words p
+      → (s : State) (answer : Answer) → AreBooksOf sound (books_of v.rows l) s → query_answer s.warehouse session words ≡ Ok answer → Tells bytes p answer
+  asked_tells bytes faults session words p has s answer are is =
+      let c = has.catalogue in
+      let f = has.found in
+      let t = stock_at c f.relation.table in
+      let image = (v.read ok).0 in
+      let told = (v.read ok).1 in
+      let shaped = asked_shaped o g sound l story held h running refused v session words.version c has.asked in
+      let read = asked_read image told session words.version c has.asked in
+      let there = name_there c words.relation f.relation has.relation in
+      let range = version_range l session words c has.asked f.query.version has.sees shaped v.versions in
+      let rowed : AreBooksOf true (books_of v.rows l) s = record { skeleton = are.skeleton; machine = are.machine; rows = λ yes. are.rows ok; pins = λ yes. are.pins ok } in
+      let sees = sees_state l session words c has.asked f.query.version has.sees v.rows range.0 range.1 s rowed in
+      let found : Ok (answer_found sees.sees.store f) ≡ Ok answer = sym (has.answered s.warehouse session sees.sees) ∙ is in
+      let same : answer_found sees.sees.store f ≡ answer = cc in
+      let columns = seen_columns v.rows c f.query.version sees.sees.store sees.has f.relation there.0 in
+      let content = seen_content v.rows c f.query.version sees.sees.store sees.has f.relation there.0 in
+      pinned_tells bytes faults story.told t f p has.files there.1 v.rows image told c.oldest c.next (all_at (IsShaped c.oldest c.next) c.tables f.relation.table no_stock shaped.tables there.0) (all_at (IsStocked v.rows) c.tables f.relation.table no_stock read.stocked there.0)
+      (stock_given v.rows c image f.relation.table read.stocked read.has there.0) answer
+      (ap (λ (a : Answer). a.page) (sym same) ∙ (λ j. page_of f.query.version f.query.limit f.query.resume (answer_rows (columns j) f.query.asked (content j))))
+      (ap (λ (a : Answer). a.heading) (sym same))
+
+-- the books answer a query that has its files
+pub files_answered : {R : Type 0} (bytes : R → Option (List ℕ)) (faults : R → ℕ) (told : Option Image) (l : Ledger) (session : ℕ) (words : QueryWords) (p : Pinned R) → HasItsFiles bytes faults told l session words p → Answers l session words
+files_answered bytes faults told l session words p has = (answer_found has.sees.store has.found, has.answered (books_of no_rows l).bare session has.sees)
+
+-- ---- what a turn leaves
+
+-- Whatever rows the files had when the run began, the query is open; on a sound store, while the clock is below its last value, its files tell the answer.
+pub opened_is : {R : Type 0} (bytes : R → Option (List ℕ)) (faults : R → ℕ) (n : Starts) (l : Ledger) (story new : Story) (held : Option (List ℕ)) (h : List Entry) (running refused : Bool) → IsVaultAt n l story held h running refused
+    → (s number : ℕ) → s < 2 ^ 16 → number < 2 ^ 32 → (words : QueryWords) (m : ℕ) → m ≡ story.moment → running ≡ true → Unmoved story new → ((w : Rows) → IsDue n.script (run_at n.script (n.start w) h) s number (command.Query words) First)
+    → Counts story new false → (at : ℕ) → at ≡ length h → l.closed ≡ None → (p : Pinned R) → HasItsFiles bytes faults story.told l s words p
+    → IsOpen n.script n.start (h ++ entry s number kind.Decide outcome.Stands m ∷ []) s number words at (λ w answer. n.sound w → new.moment < last → Tells bytes p answer)
+opened_is bytes faults n l story new held h running refused v s number low few words m moment ran unmoved due counts at place was_open p has w =
+    let o = outset_of n w in
+    let plain = v w false (λ is. absurd cc) in
+    let answers = files_answered bytes faults story.told l s words p has in
+    let bare = opened_from o (n.origin w) false l story held h running refused plain s number low few words m moment ran new unmoved (due w) Untold (pinned_untold false plain.rows l s words answers) counts at place in
+    record {
+      answer = bare.answer;
+      due = bare.due;
+      told = λ sound below.
+          let vault = v w true (λ is. sound) in
+          let mine : IsPinned true (books_of vault.rows l) s words (Tells bytes p) = record {
+            asked = answers;
+            answers = asked_tells o (n.origin w) true l story held h running refused vault refl (subst (λ x. x < last) unmoved.moment below) was_open bytes faults s words p has;
+          } in
+          let full = opened_from o (n.origin w) true l story held h running refused vault s number low few words m moment ran new unmoved (due w) (Tells bytes p) mine counts at place in
+          subst (Tells bytes p) (one_answer o (h ++ entry s number kind.Decide outcome.Stands m ∷ []) s number at words Untold (Tells bytes p) bare full) full.told;
+    }

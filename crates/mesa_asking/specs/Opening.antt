@@ -1,0 +1,49 @@
+-- What a query's first turn leaves.
+use Rattle.std.specs.Prelude.{◌≡◌, ℕ, List, Bool, false, Option, Some, Result, Ok, Err}
+use Rattle.mesa_asked.specs.declared.failure.Failure.{Failure as AskedFailure}
+use Rattle.mesa_asked.specs.declared.failure.Failure.TheVariants as asked
+use Rattle.mesa_asking.specs.Seeing.{catalogue_asked}
+use Rattle.mesa_catalog.specs.Lookups.{relation_of}
+use Rattle.mesa_disk.specs.Image.{Image}
+use Rattle.mesa_filter.specs.declared.words.QueryWords.{QueryWords}
+use Rattle.mesa_filter.specs.declared.words.VersionWord.{VersionWord}
+use Rattle.mesa_filter.specs.declared.words.VersionWord.TheVariants as asks
+use Rattle.mesa_image.specs.Catalog.{Catalog, stock_at}
+use Rattle.mesa_ledger.specs.Ledger.{Ledger, books_of}
+use Rattle.mesa_ledger.specs.Turned.{queried_ledger}
+use Rattle.mesa_log.specs.Failure.{cause_in}
+use Rattle.mesa_log.specs.declared.failure.Failure.{Failure}
+use Rattle.mesa_metadata.specs.Memory.{hold_now}
+use Rattle.mesa_model.specs.declared.replies.Reply.TheVariants as reply
+use Rattle.mesa_pinning.specs.Read.{IsPinnedFor}
+use Rattle.mesa_rules.specs.Found.{IsAnswered, Sees}
+use Rattle.mesa_rules.specs.declared.found.Found.{Found}
+use Rattle.mesa_skeleton.specs.Rows.{no_rows}
+use Rattle.mesa_tasks.specs.declared.querying.Pinned.{Pinned}
+use Rattle.mesa_walk.specs.Causes.{Cause, NoMemory, Replies, is_read_fault}
+
+-- the cause for which the rules answer no query
+abbrev pub cause_refused : AskedFailure → Cause
+cause_refused (asked.Refused refusal) = Replies (reply.Refused refusal)
+cause_refused asked.Memory = NoMemory
+
+-- whether a fault of the disk is why there is nothing
+abbrev pub is_unread : {T : Type 0} → Result T Failure → Bool
+is_unread (Ok x) = false
+is_unread (Err failure) = is_read_fault (cause_in failure)
+
+-- The ledger once a session's query is answered at a position: the query holds all files that are named in its turn, until it is closed; at a pin it holds none, since the pin does.
+abbrev pub asked_ledger : Ledger → ℕ → VersionWord → ℕ → Ledger
+asked_ledger l session asks.Latest position = queried_ledger l session (hold_now l position)
+asked_ledger l session (asks.At version) position = queried_ledger l session (hold_now l position)
+asked_ledger l session (asks.Pin token) position = l
+
+-- A session's query has the files of what it finds in the catalogue that it sees.
+pub record HasItsFiles {R : Type 0} (bytes : R → Option (List ℕ)) (faults : R → ℕ) (told : Option Image) (l : Ledger) (session : ℕ) (words : QueryWords) (p : Pinned R) : Type 0 where
+  pub catalogue : Catalog
+  pub asked : catalogue_asked l session words.version ≡ Some catalogue
+  pub found : Found
+  pub sees : Sees catalogue (Ok found.query.version) words session (books_of no_rows l).bare
+  pub relation : relation_of catalogue words.relation ≡ Some found.relation
+  pub answered : IsAnswered catalogue (Ok found.query.version) words found
+  pub files : IsPinnedFor bytes faults told (stock_at catalogue found.relation.table) found p

@@ -1,0 +1,69 @@
+// A query's first turn.
+ghost use Rattle.std.specs.Prelude.{◌≡◌, ◌<◌, true, length, IfOk, OnErr, OnOk};
+ghost use Rattle.mesa_asking.specs.Opening.{asked_ledger};
+ghost use Rattle.mesa_fault.specs.Causes.{last};
+ghost use Rattle.mesa_history.specs.Run.{First, Finished};
+ghost use Rattle.mesa_history.specs.Turns.{IsDue};
+ghost use Rattle.mesa_model.specs.declared.commands.Command.TheVariants as command;
+ghost use Rattle.mesa_model.specs.declared.entries.Kind.TheVariants as kind;
+ghost use Rattle.mesa_pinning.specs.Told.{Tells};
+ghost use Rattle.mesa_schema.specs.Columns.{Columns};
+ghost use Rattle.mesa_skeleton.specs.Rows.{no_rows};
+ghost use Rattle.mesa_tasks.specs.Pins.{IsPinned};
+ghost use Rattle.mesa_walk.specs.Queries.{IsOpen};
+ghost use Rattle.mesa_walk.specs.Turns.{IsSeen, IsTurn, Takes};
+ghost use Rattle.mesa_walk.specs.Walk.{run_at};
+
+use crate::holding::hold_files;
+use mesa_disk::{Disk, Made};
+use mesa_engine::Engine;
+use mesa_filter::QueryWords;
+use mesa_io::Sink;
+use mesa_ledger::Naming;
+use mesa_log::Who;
+use mesa_model::{Kind, Outcome, Refusal, Reply};
+use mesa_tasks::Pinned;
+
+/// The turn that opens a query: the files that answer it, which are held until it is closed, unless the rules answer none, or a file couldn't be opened.
+pub fn pin_query<N: Naming, M: Made, D: Disk<M>, K: Sink>(
+    engine: &mut Engine<N, M, D, K>,
+    who: Who,
+    words: &QueryWords,
+) -> Result<Pinned<D::Reader>, Reply>
+    requires due { IsDue N.script (run_at N.script (N.start no_rows) engine.old.shown.history) who.session who.command (command.Query words.now) First }
+    requires room { length engine.old.shown.history < N.room }
+    // Whatever rows the files had when the run began, the query is answered and not closed; on a sound store, while the clock is below its last value, its files tell the answer.
+    ensures opened { IfOk result (λ p. IsOpen N.script N.start engine.new.shown.history who.session who.command words.now p.at (λ w answer. N.sound w → engine.new.shown.clock < last → Tells D.Reader.bytes p answer)) }
+    ensures pinned { IfOk result (λ p. (s : Columns) × IsPinned D.Reader.bytes s p) }
+    ensures turn { OnOk result (IsTurn engine.old.shown engine.new.shown who.session who.command kind.Decide) }
+    ensures seen { IsSeen N.script (N.start no_rows) engine.new.shown }
+    ensures ran { OnOk result (engine.old.shown.running ≡ true) }
+    ensures held { OnOk result (engine.new.ledger ≡ asked_ledger engine.old.ledger who.session words.now.version (length engine.old.shown.history)) }
+    // Or it is over.
+    ensures over { OnErr result (Takes N.script (N.start no_rows) engine.old.shown engine.new.shown who.session who.command kind.Decide Finished) }
+    ensures kept { OnErr result (engine.new.ledger ≡ engine.old.ledger) }
+{
+    if !engine.running() {
+        engine.skip(who, Kind::Decide);
+        return Err(Reply::Refused(Refusal::Memory));
+    }
+    let alloc = *engine.log.history.allocator();
+    let at = engine.log.position();
+    let held = hold_files(
+        alloc,
+        &mut engine.disk,
+        &mut engine.metadata,
+        who.session,
+        words,
+        at,
+    );
+    let moment = engine.disk.clock();
+    match held {
+        Ok(pinned) => {
+            let turn = who.turn(Kind::Decide, Outcome::Stands, moment);
+            engine.log.pass(turn);
+            Ok(pinned)
+        }
+        Err(failure) => Err(engine.log.fail(who, Kind::Decide, moment, failure)),
+    }
+}
