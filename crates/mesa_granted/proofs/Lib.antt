@@ -1,2 +1,4 @@
 pub mod Same
 pub mod Merged
+pub mod Going
+pub mod Later

@@ -5,9 +5,14 @@ use Rattle.mesa_schema.specs.Changes.{Lineage, epoch_of}
 use Rattle.mesa_schema.specs.declared.views.View.{View}
 use Rattle.mesa_image_laws.specs.Sourced.{Written}
 use Rattle.mesa_merge.specs.Inputs.{Known}
+use Rattle.mesa_model.specs.Warehouse.{Store, table_at}
 use Rattle.mesa_service.specs.Works.{KnownTask, KnownView, known_task}
 use Rattle.mesa_swapping.specs.Finished.{HasRange}
 use Rattle.mesa_tasks.specs.declared.merging.Task.{Task}
+
+-- the columns and views of the table of a number
+abbrev pub lineage_in : Store → ℕ → Lineage
+lineage_in s number = (table_at s number).lineage
 
 -- Each task of which this is known has its range.
 abbrev pub AllHaveRange : {R : Type 0} → (R → Option (List ℕ)) → Lineage → KnownTask → List Written → Type 0

@@ -1,12 +1,22 @@
 // What is known of granted tasks.
-ghost use Rattle.std.specs.Prelude.{◌≡◌, List, length};
+ghost use Rattle.std.specs.Prelude.{◌≡◌, ◌<◌, ◌++◌, ℕ, List, length};
 ghost use Rattle.mesa_gather.specs.Gathered.{unread_views};
+ghost use Rattle.mesa_history.specs.Replay.{runs};
+ghost use Rattle.mesa_history.specs.Run.{Run as AnyRun, State};
+ghost use Rattle.mesa_image_laws.specs.Moves.{last_of};
 ghost use Rattle.mesa_image_laws.specs.Sourced.{Written};
+ghost use Rattle.mesa_ledger.specs.Vault.{Origin};
+ghost use Rattle.mesa_model.specs.declared.commands.Script.{Script as AnyScript};
+ghost use Rattle.mesa_model.specs.declared.entries.Entry.{Entry as AnyEntry};
 ghost use Rattle.mesa_schema.specs.Changes.{Lineage};
+ghost use Rattle.mesa_schema.specs.Lineages.{IsLineage};
 ghost use Rattle.mesa_service.specs.Works.{known_task};
 ghost use Rattle.mesa_swapping.specs.Finished.{HasRange};
+ghost use Rattle.mesa_swapping.specs.Grown.{HasGrown};
 ghost use Rattle.mesa_tasks.specs.Tasks.{IsMerged, IsTask};
-ghost use Rattle.mesa_granted.specs.Known.{AllHaveRange, IsKnownOf};
+ghost use Rattle.mesa_walk.specs.Walk.{run_at};
+ghost use Rattle.mesa_works.specs.Ranged.{written_at};
+ghost use Rattle.mesa_granted.specs.Known.{AllHaveRange, IsKnownOf, lineage_in};
 
 use mesa_disk::{FileReader, Made};
 use mesa_tasks::{NewDelta, Task};
@@ -25,4 +35,16 @@ pub fn grants_are_known<R: FileReader>(task: &Task<R>)
 pub fn merges_are_known<M: Made, R: FileReader>(task: &Task<R>, delta: &NewDelta<M>)
     ensures { (was l : Lineage) → IsKnownOf was (known_task R.bytes task.now) → IsTask R.bytes l task.now → IsMerged M.bytes M.id_of R.bytes l task.now delta.now
         → IsTask R.bytes was task.now × IsMerged M.bytes M.id_of R.bytes was task.now delta.now }
+{}
+
+/// Whatever turns come, what was merged of a table by the columns and views that it had can be told of it by those that it has.
+pub fn tables_go_on()
+    ensures { (script : AnyScript) (r : AnyRun) (later : List AnyEntry) (number : ℕ) → number < length r.state.warehouse.store.tables → IsLineage (lineage_in r.state.warehouse.store number)
+        → HasGrown (lineage_in r.state.warehouse.store number) (lineage_in (runs script r later).state.warehouse.store number) }
+{}
+
+/// Whatever turns come, a task has its range, which ends before the version that was to come next at its grant.
+pub fn ranges_go_on<R: FileReader>(task: &Task<R>)
+    ensures { (was : Lineage) (script : AnyScript) (start : State) (origin : Origin) (past later : List AnyEntry) → last_of task.now.work < (run_at script start past).state.warehouse.next
+        → HasRange R.bytes was task.now (written_at script start origin past task.now.table) → HasRange R.bytes was task.now (written_at script start origin (past ++ later) task.now.table) }
 {}

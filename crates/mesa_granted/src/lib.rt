@@ -4,4 +4,4 @@
 
 mod laws;
 
-pub use laws::{grants_are_known, merges_are_known, ranges_are_known};
+pub use laws::{grants_are_known, merges_are_known, ranges_are_known, ranges_go_on, tables_go_on};
