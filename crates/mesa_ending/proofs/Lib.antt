@@ -8,3 +8,4 @@ pub mod Undamaged
 pub mod Readable
 pub mod Quiet
 pub mod Completing
+pub mod Telling

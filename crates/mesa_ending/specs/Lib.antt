@@ -5,4 +5,5 @@ pub mod Start
 pub mod Counting
 pub mod Run
 pub mod Ending
+pub mod Statuses
 pub mod Completing

@@ -1,0 +1,217 @@
+-- What a status tells follows from how calls end.
+use Rattle.std.proofs.Common.{◌≡◌, ◌⊎◌, inl, inr, ◌≤◌, ◌<◌, ℕ, List, [], ◌∷◌, length, Bool, true, false, refl, sym, ◌∙◌, subst, arith, Option, Some, None}
+use Rattle.std.specs.Prelude.{◌≢◌, IfSome, Ok, codes, if◌then◌else◌}
+use Rattle.mesa_fault.specs.Causes.{Rose}
+use Rattle.mesa_model.specs.declared.commands.Script.{Script}
+use Rattle.mesa_history.specs.Refused.{some_refused}
+use Rattle.mesa_history.specs.Run.{begins}
+use Rattle.mesa_script.specs.Script.{built_script_of}
+use Rattle.mesa_skeleton.specs.Rows.{no_rows}
+use Rattle.mesa_image.specs.Catalog.{Catalog}
+use Rattle.mesa_opening.specs.declared.error.OpenError.{OpenError}
+use Rattle.mesa_opening.specs.declared.error.OpenError.TheVariants as open_error
+use Rattle.mesa_ending.specs.Ports.{Ports}
+use Rattle.mesa_ending.specs.Exits.{max_input, open_status}
+use Rattle.mesa_ending.specs.Start.{start_of}
+use Rattle.mesa_ending.specs.Ending.{EndedOpening, Ends, EndsInput, EndsRun, EndsScript, EndsText, HasRun, Prints}
+use Rattle.mesa_ending.specs.Statuses.{IsNoScript, IsUnopened, Tells, WasRun}
+use Rattle.mesa_ending.specs.declared.done.Devices.{Devices}
+use Rattle.mesa_ending.specs.declared.done.Done.{Done}
+
+-- what holds of the bytes that are known holds of the input
+known_as : (P : List ℕ → Type 0) (input : Option (List ℕ)) (bytes : List ℕ) → IfSome input (λ all. all ≡ bytes) → P bytes → IfSome input P
+known_as P None bytes known holds = tt
+known_as P (Some all) bytes known holds = subst P (sym known) holds
+
+one_or_none : (b : Bool) → (if b then 1 else 0) ≤ 1
+one_or_none true = omega arith
+one_or_none false = omega arith
+
+-- one of three statuses
+abbrev Early : ℕ → Type 0
+Early n = (n ≡ 2) ⊎ (n ≡ 3) ⊎ (n ≡ 4)
+
+not_early : (n : ℕ) → 5 ≤ n → Early n → ⊥
+not_early n le (inl is) = omega (arith, le, is)
+not_early n le (inr (inl is)) = omega (arith, le, is)
+not_early n le (inr (inr is)) = omega (arith, le, is)
+
+low_early : (n : ℕ) → n ≤ 1 → Early n → ⊥
+low_early n le (inl is) = omega (arith, le, is)
+low_early n le (inr (inl is)) = omega (arith, le, is)
+low_early n le (inr (inr is)) = omega (arith, le, is)
+
+module _ {K D M B : Type 0} (ports : Ports K D M B) (given : Devices K D B) (done : Done K D B) (words : List (List ℕ)) (input : Option (List ℕ)) (before now : ℕ) where
+  abbrev Told : Type 0
+  Told = Tells ports given done words input before now
+
+  abbrev Unopened : OpenError → Type 0
+  Unopened e = IsUnopened ports given done e
+
+  -- what a status would tell that a call ends with which runs nothing
+  record Would (n : ℕ) : Type 0 where
+    two : 2 ≤ n
+    five : n ≢ 5
+    usage : n ≡ 2 → words ≢ codes "run" ∷ []
+    refused : n ≡ 3 → IfSome input IsNoScript
+    source : n ≡ 4 → Rose before now
+    quiet : n ≢ 4 → now ≡ before
+    disk : n ≡ 6 → Unopened open_error.Fault
+    damaged : n ≡ 7 → (e : OpenError) × (open_status e ≡ 7) × Unopened e
+    full : n ≡ 9 → IfSome input (λ bytes. max_input < length bytes) ⊎ Unopened open_error.RunsFull
+    uncalled : Early n → done.disk ≡ given.disk
+
+  failed_tells : (done.status ≢ 4 → done.status ≢ 5 → now ≡ before) → done.status ≡ 5 → Rose (ports.sink_faults given.out) (ports.sink_faults done.out) → Told
+  failed_tells quiet is rose = record {
+    ran = λ le. absurd (omega (arith, le, is));
+    usage = λ e. absurd (omega (arith, e, is));
+    refused = λ e. absurd (omega (arith, e, is));
+    source = λ e. absurd (omega (arith, e, is));
+    source_quiet = quiet;
+    sink = λ e. rose;
+    sink_quiet = λ other. absurd (other is);
+    disk = λ e. absurd (omega (arith, e, is));
+    damaged = λ e. absurd (omega (arith, e, is));
+    full = λ e. absurd (omega (arith, e, is));
+    uncalled = λ e. absurd (not_early done.status (omega (arith, is)) e);
+  }
+
+  line_tells : (n : ℕ) (text : List ℕ) → Would n → Prints ports given done n text → Told
+  line_tells n text w prints = elim prints [
+    | inl p ↦ record {
+      ran = λ le. absurd (omega (arith, le, p.0, w.two));
+      usage = λ e. w.usage (sym p.0 ∙ e);
+      refused = λ e. w.refused (sym p.0 ∙ e);
+      source = λ e. w.source (sym p.0 ∙ e);
+      source_quiet = λ four other. w.quiet (λ e. four (p.0 ∙ e));
+      sink = λ e. absurd (w.five (sym p.0 ∙ e));
+      sink_quiet = λ other. p.1;
+      disk = λ e. w.disk (sym p.0 ∙ e);
+      damaged = λ e. w.damaged (sym p.0 ∙ e);
+      full = λ e. w.full (sym p.0 ∙ e);
+      uncalled = λ e. w.uncalled (subst Early p.0 e);
+    }
+    | inr p ↦ failed_tells (λ four other. absurd (other p.0)) p.0 p.1
+  ]
+
+  -- a status that tells of an opening, or of want of memory
+  late : (n : ℕ) → 6 ≤ n → now ≡ before → (n ≡ 6 → Unopened open_error.Fault) → (n ≡ 7 → (e : OpenError) × (open_status e ≡ 7) × Unopened e)
+      → (n ≡ 9 → IfSome input (λ bytes. max_input < length bytes) ⊎ Unopened open_error.RunsFull) → Would n
+  late n le quiet disk damaged full = record {
+    two = omega (arith, le);
+    five = λ e. omega (arith, e, le);
+    usage = λ e. absurd (omega (arith, e, le));
+    refused = λ e. absurd (omega (arith, e, le));
+    source = λ e. absurd (omega (arith, e, le));
+    quiet = λ other. quiet;
+    disk = disk;
+    damaged = damaged;
+    full = full;
+    uncalled = λ e. absurd (not_early n (omega (arith, le)) e);
+  }
+
+  memory : now ≡ before → Would 8
+  memory quiet = late 8 (omega arith) quiet (λ e. absurd (omega (arith, e))) (λ e. absurd (omega (arith, e))) (λ e. absurd (omega (arith, e)))
+
+  unopened : now ≡ before → (e : OpenError) → Unopened e → Would (open_status e)
+  unopened quiet open_error.Fault why = late 6 (omega arith) quiet (λ e. why) (λ e. absurd (omega (arith, e))) (λ e. absurd (omega (arith, e)))
+  unopened quiet (open_error.Journal area at want found) why = late 7 (omega arith) quiet (λ e. absurd (omega (arith, e))) (λ e. (open_error.Journal area at want found, refl, why)) (λ e. absurd (omega (arith, e)))
+  unopened quiet (open_error.File d) why = late 7 (omega arith) quiet (λ e. absurd (omega (arith, e))) (λ e. (open_error.File d, refl, why)) (λ e. absurd (omega (arith, e)))
+  unopened quiet open_error.RunsFull why = late 9 (omega arith) quiet (λ e. absurd (omega (arith, e))) (λ e. absurd (omega (arith, e))) (λ e. inr why)
+  unopened quiet open_error.Memory why = memory quiet
+
+  run_tells : (bytes : List ℕ) → IfSome input (λ all. all ≡ bytes) → (script : Script) → built_script_of bytes ≡ Ok script → now ≡ before → (c : Catalog) → HasRun ports given done script c → Told
+  run_tells bytes known script is quiet c has = elim has [
+    | inl p ↦
+        let le = one_or_none (some_refused script (begins (start_of script c no_rows)) done.history.items) in
+        let low : done.status ≤ 1 = omega (arith, le, p.1 no_rows) in
+        record {
+          ran = λ at_most. known_as (WasRun ports given done) input bytes known (record { script = script; catalogue = c; read = is; ran = p.0; status = p.1 });
+          usage = λ e. absurd (omega (arith, e, low));
+          refused = λ e. absurd (omega (arith, e, low));
+          source = λ e. absurd (omega (arith, e, low));
+          source_quiet = λ four other. quiet;
+          sink = λ e. absurd (omega (arith, e, low));
+          sink_quiet = λ other. p.2;
+          disk = λ e. absurd (omega (arith, e, low));
+          damaged = λ e. absurd (omega (arith, e, low));
+          full = λ e. absurd (omega (arith, e, low));
+          uncalled = λ e. absurd (low_early done.status low e);
+        }
+    | inr p ↦ failed_tells (λ four other. quiet) p.1 p.2
+  ]
+
+  script_tells : (bytes : List ℕ) → IfSome input (λ all. all ≡ bytes) → (script : Script) → built_script_of bytes ≡ Ok script → now ≡ before → EndsScript ports given done script → Told
+  script_tells bytes known script is quiet ends = elim ends [
+    | inl p ↦ opening p.0 p.1
+    | inr rest ↦ elim rest [
+      | inl p ↦ run_tells bytes known script is quiet p.0 p.1
+      | inr p ↦ line_tells 8 _ (memory quiet) p.1.2
+    ]
+  ]
+    where
+      opening : (e : OpenError) → EndedOpening ports given done e → Told
+      opening e p = line_tells (open_status e) _ (unopened quiet e p.0) p.2.2
+
+  text_tells : (bytes : List ℕ) → IfSome input (λ all. all ≡ bytes) → now ≡ before → EndsText ports given done bytes → Told
+  text_tells bytes known quiet ends = elim ends [
+    | inl p ↦ line_tells 3 _ (record {
+      two = omega arith;
+      five = λ e. omega (arith, e);
+      usage = λ e. absurd (omega (arith, e));
+      refused = λ e. known_as IsNoScript input bytes known (p.0, p.1);
+      source = λ e. absurd (omega (arith, e));
+      quiet = λ other. quiet;
+      disk = λ e. absurd (omega (arith, e));
+      damaged = λ e. absurd (omega (arith, e));
+      full = λ e. absurd (omega (arith, e));
+      uncalled = λ e. p.2.0;
+    }) p.2.1.2
+    | inr rest ↦ elim rest [
+      | inl p ↦ script_tells bytes known p.0 p.1 quiet p.2
+      | inr p ↦ line_tells 8 _ (memory quiet) p.1.2
+    ]
+  ]
+
+  input_tells : now ≡ before → EndsInput ports given done input → Told
+  input_tells quiet ends = elim ends [
+    | inl p ↦ line_tells 9 _ (late 9 (omega arith) quiet (λ e. absurd (omega (arith, e))) (λ e. absurd (omega (arith, e))) (λ e. inl p.0)) p.1.1.2
+    | inr rest ↦ elim rest [
+      | inl p ↦ text_tells p.0 p.1 quiet p.3
+      | inr p ↦ line_tells 8 _ (memory quiet) p.1.2
+    ]
+  ]
+
+  source_tells : EndsRun ports given done input before now → Told
+  source_tells ends = elim ends [
+    | inl p ↦ line_tells 4 _ (record {
+      two = omega arith;
+      five = λ e. omega (arith, e);
+      usage = λ e. absurd (omega (arith, e));
+      refused = λ e. absurd (omega (arith, e));
+      source = λ e. p.0;
+      quiet = λ other. absurd (other refl);
+      disk = λ e. absurd (omega (arith, e));
+      damaged = λ e. absurd (omega (arith, e));
+      full = λ e. absurd (omega (arith, e));
+      uncalled = λ e. p.1.0;
+    }) p.1.1.2
+    | inr p ↦ input_tells p.0 p.1
+  ]
+
+  pub all_tells : Ends ports given done words input before now → Told
+  all_tells ends = elim ends [
+    | inl p ↦ line_tells 2 _ (record {
+      two = omega arith;
+      five = λ e. omega (arith, e);
+      usage = λ e. p.0;
+      refused = λ e. absurd (omega (arith, e));
+      source = λ e. absurd (omega (arith, e));
+      quiet = λ other. p.1;
+      disk = λ e. absurd (omega (arith, e));
+      damaged = λ e. absurd (omega (arith, e));
+      full = λ e. absurd (omega (arith, e));
+      uncalled = λ e. p.2.0;
+    }) p.2.1.2
+    | inr p ↦ source_tells p.1
+  ]

@@ -1,0 +1,49 @@
+-- What the status of a call tells.
+use Rattle.std.specs.Prelude.{◌≡◌, ◌≢◌, ◌⊎◌, ◌<◌, ◌≤◌, ℕ, List, [], ◌∷◌, length, Option, IfSome, Ok, Err, codes, false}
+use Rattle.mesa_fault.specs.Causes.{Rose}
+use Rattle.mesa_model.specs.declared.commands.Script.{Script}
+use Rattle.mesa_script.specs.declared.script.ScriptError.{ScriptError}
+use Rattle.mesa_script.specs.Script.{built_script_of}
+use Rattle.mesa_skeleton.specs.Rows.{Rows}
+use Rattle.mesa_image.specs.Catalog.{Catalog}
+use Rattle.mesa_opening.specs.declared.error.OpenError.{OpenError}
+use Rattle.mesa_opening.specs.declared.error.OpenError.TheVariants as open_error
+use Rattle.mesa_opening.specs.Opening.{HasReason}
+use Rattle.mesa_ending.specs.Ports.{Ports}
+use Rattle.mesa_ending.specs.Exits.{max_input, refused_status, usage_status, script_status, source_status, sink_status, length_status, open_status, status_of}
+use Rattle.mesa_ending.specs.Start.{start_of}
+use Rattle.mesa_ending.specs.Run.{Ran}
+use Rattle.mesa_ending.specs.Ending.{HasFailed, IsWhole}
+use Rattle.mesa_ending.specs.declared.done.Devices.{Devices}
+use Rattle.mesa_ending.specs.declared.done.Done.{Done}
+
+-- these bytes are no script that the program runs
+abbrev pub IsNoScript : List ℕ → Type 0
+IsNoScript bytes = (error : ScriptError) × (built_script_of bytes ≡ Err error)
+
+module _ {K D M B : Type 0} (ports : Ports K D M B) (given : Devices K D B) (done : Done K D B) where
+  -- These bytes are a script, which was run to its end, and the status tells whether some reply is a refusal.
+  pub record WasRun (bytes : List ℕ) : Type 0 where
+    pub script : Script
+    pub catalogue : Catalog
+    pub read : built_script_of bytes ≡ Ok script
+    pub ran : Ran ports given done script catalogue false
+    pub status : (rows : Rows) → done.status ≡ status_of script (start_of script catalogue rows) done.history.items
+
+  -- why the store wasn't opened
+  abbrev pub IsUnopened : OpenError → Type 0
+  IsUnopened e = HasReason (ports.story given.disk) (ports.story done.disk) e
+
+  -- What a status tells: at 0 and 1 the script was run to its end, at 2 the words are others than `run`, at 3 the input is no script, at 4 the source's count of faults rose, at 5 the sink's did, at 6 one of the disk's; at 7 the store is damaged; at 9 the input is too long, or the store has had the last run that may be. The sink's count stays at any status but 5, and the source's at any but 4 and 5; and at 2, 3 and 4 the disk wasn't called.
+  pub record Tells (words : List (List ℕ)) (input : Option (List ℕ)) (before now : ℕ) : Type 0 where
+    pub ran : done.status ≤ refused_status → IfSome input WasRun
+    pub usage : done.status ≡ usage_status → words ≢ codes "run" ∷ []
+    pub refused : done.status ≡ script_status → IfSome input IsNoScript
+    pub source : done.status ≡ source_status → Rose before now
+    pub source_quiet : done.status ≢ source_status → done.status ≢ sink_status → now ≡ before
+    pub sink : done.status ≡ sink_status → HasFailed ports given done
+    pub sink_quiet : done.status ≢ sink_status → IsWhole ports given done
+    pub disk : done.status ≡ 6 → IsUnopened open_error.Fault
+    pub damaged : done.status ≡ 7 → (e : OpenError) × (open_status e ≡ 7) × IsUnopened e
+    pub full : done.status ≡ length_status → IfSome input (λ bytes. max_input < length bytes) ⊎ IsUnopened open_error.RunsFull
+    pub uncalled : (done.status ≡ usage_status) ⊎ (done.status ≡ script_status) ⊎ (done.status ≡ source_status) → done.disk ≡ given.disk
