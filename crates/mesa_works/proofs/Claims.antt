@@ -1,5 +1,5 @@
 -- What the books say of a claim.
-use Rattle.std.proofs.Common.{◌≡◌, ℕ, ◌+◌, List, ◌∙◌, ap, Option, None, Some, Ok, Err}
+use Rattle.std.proofs.Common.{◌≡◌, inl, inr, ℕ, ◌+◌, ◌<◌, List, ◌∙◌, ap, arith, true, ◌&&◌, ◌==◌, nat_le, Option, None, Some, Ok, Err}
 use Rattle.std.specs.Prelude.{Result}
 use Rattle.std.specs.Option.{ok_or}
 use Rattle.std.proofs.Math.ListN.{get_or-map}
@@ -8,9 +8,15 @@ use Rattle.mesa_list.specs.Checks.{◌>>=◌, ◌>>◌, refused_as}
 use Rattle.mesa_schema.specs.Columns.{place_of}
 use Rattle.mesa_span.specs.declared.works.Work.{Work}
 use Rattle.mesa_span.specs.Ranges.{base_before}
-use Rattle.mesa_span.specs.Work.{next_work}
+use Rattle.mesa_span.specs.Work.{missing_end, next_work}
+use Rattle.mesa_span.specs.declared.works.Work.TheVariants as range
 use Rattle.mesa_history.specs.Machine.{Claim, Machine, claim_of, ranges_at, refuse_busy}
-use Rattle.mesa_image.specs.Catalog.{no_stock, ranges_of, stock_at}
+use Rattle.mesa_image.specs.Catalog.{Catalog, Stock, no_stock, ranges_of, start_in, stock_at}
+use Rattle.mesa_image.specs.Fitting.{is_number, may_be_work}
+use Rattle.mesa_image.specs.Shape.{IsCatalog, IsShaped}
+use Rattle.mesa_image_laws.proofs.Lists.{both_true, is_at_most, is_equal}
+use Rattle.mesa_image_laws.proofs.ShapedBatches.{missing_there}
+use Rattle.mesa_image_laws.specs.Moves.{first_of, is_base, last_of}
 use Rattle.mesa_lease.specs.Book.{holder}
 use Rattle.mesa_model.specs.Refusals.{no_such_table, refuse_closed}
 use Rattle.mesa_model.specs.Relations.{table_number}
@@ -71,3 +77,23 @@ module _ (l : Ledger) (at : ℕ) (name : List ℕ) where
       pub claimed : (work : Work) → holder l.leases table at ≡ None → next_work (ranges_of (stock_at l.catalogue table)) l.catalogue.oldest (base_before l.catalogue.next) ≡ Some work
           → claim_of bare machine at name ≡ Ok (record { table = table; lease = l.leases.granted + 1; work = work })
       claimed work free is = table_is ∙ (λ i. at_table table (free i) (work_is (Some work) is i))
+
+-- ---- its range
+
+-- a number that is this one
+some_number : (o : Option ℕ) (n : ℕ) → is_number o n ≡ true → o ≡ Some n
+some_number None n is = absurd cc
+some_number (Some m) n is = ap Some (is_equal m n is)
+
+-- A range that work may give ends before the next version.
+pub work_ends : (c : Catalog) (t : Stock) (work : Work) → IsCatalog c → IsShaped c.oldest c.next t → may_be_work c t (is_base work) (first_of work) (last_of work) ≡ true → last_of work < c.next
+work_ends c t (range.Base to) is shaped may =
+    let last = both_true ((0 == 0) && nat_le 1 to && nat_le (start_in t) to) (nat_le to c.oldest) may in
+    let third = both_true ((0 == 0) && nat_le 1 to) (nat_le (start_in t) to) last.0 in
+    let some = is_at_most 1 to (both_true (0 == 0) (nat_le 1 to) third.0).1 in
+    let within = is_at_most to c.oldest last.1 in
+    elim is.oldest [ inl lt ↦ omega (arith, within, lt) | inr none ↦ absurd (omega (arith, some, within, none.0)) ]
+work_ends c t (range.Cumulative from to) is shaped may =
+    let both = both_true (from == start_in t) (is_number (missing_end (start_in t) (ranges_of t).cumulatives (base_before c.next)) to) may in
+    let whole = shaped.singles in
+    missing_there (start_in t) c.next to (ranges_of t).cumulatives (omega (arith, whole)) (some_number (missing_end (start_in t) (ranges_of t).cumulatives (base_before c.next)) to both.1)

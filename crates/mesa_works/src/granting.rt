@@ -6,6 +6,7 @@ ghost use Rattle.mesa_history.specs.Machine.{claim_of};
 ghost use Rattle.mesa_history.specs.Run.{First, Granted};
 ghost use Rattle.mesa_history.specs.Turns.{IsDue};
 ghost use Rattle.mesa_image.specs.Catalog.{ranges_of, stock_at};
+ghost use Rattle.mesa_image_laws.specs.Moves.{last_of};
 ghost use Rattle.mesa_lease.specs.Book.{granted, holder};
 ghost use Rattle.mesa_ledger.specs.Ledger.{books_of};
 ghost use Rattle.mesa_log.specs.Failure.{cause_in};
@@ -48,6 +49,7 @@ pub fn grant<N: Naming, M: Made, D: Disk<M>, K: Sink>(
     ensures catalogue { engine.new.ledger.catalogue ≡ engine.old.ledger.catalogue }
     ensures there { IfOk result (λ t. t.table < length engine.old.ledger.catalogue.tables) }
     ensures low { IfOk result (λ t. t.table < TABLES) }
+    ensures ends { IfOk result (λ t. last_of t.work < engine.old.ledger.catalogue.next) }
     ensures task { IfOk result (λ t. IsTask D.Reader.bytes (stock_at engine.old.ledger.catalogue t.table).lineage t) }
     ensures views { IfOk result (λ t. t.views.items ≡ unread_views 0 (length (stock_at engine.old.ledger.catalogue t.table).lineage.views)) }
     ensures damage { IfOk result (λ t. IfSome t.damage (λ d. d.want ≢ d.found)) }
@@ -81,6 +83,7 @@ fn take<N: Naming, M: Made, D: Disk<M>, K: Sink>(
     ensures turn { Takes N.script (N.start no_rows) engine.old.shown engine.new.shown who.session who.command kind.Grant (stage_if claim_in Granted result) }
     ensures catalogue { engine.new.ledger.catalogue ≡ engine.old.ledger.catalogue }
     ensures table { IfOk result (λ t. t.table ≡ claimed.table) }
+    ensures ends { IfOk result (λ t. last_of t.work < engine.old.ledger.catalogue.next) }
     ensures task { IfOk result (λ t. IsTask D.Reader.bytes (stock_at engine.old.ledger.catalogue claimed.table).lineage t) }
     ensures views { IfOk result (λ t. t.views.items ≡ unread_views 0 (length (stock_at engine.old.ledger.catalogue t.table).lineage.views)) }
     ensures damage { IfOk result (λ t. IfSome t.damage (λ d. d.want ≢ d.found)) }

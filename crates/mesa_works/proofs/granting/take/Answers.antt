@@ -16,6 +16,7 @@ use Rattle.mesa_model.specs.declared.entries.Kind.TheVariants as kind
 use Rattle.mesa_model.specs.declared.entries.Outcome.TheVariants as outcome
 use Rattle.mesa_ledger.specs.Ledger.{books_of}
 use Rattle.mesa_image_laws.proofs.Plans.{due_work_fits}
+use Rattle.mesa_image_laws.specs.Moves.{last_of}
 use Rattle.mesa_ledger.specs.Vault.{IsVault, Starts, outset_of}
 use Rattle.mesa_ledger.proofs.Beginning.{vault_at_seen}
 use Rattle.mesa_log.specs.Failure.{cause_in}
@@ -33,6 +34,7 @@ use Rattle.mesa_walk.proofs.Alike.{due_alike}
 use Rattle.mesa_engine.specs.Engine.{Standing, starts_of}
 use Rattle.mesa_works.specs.Claims.{claim_as}
 use Rattle.mesa_works.specs.Ranged.{written_at}
+use Rattle.mesa_works.proofs.Claims.{work_ends}
 use Rattle.mesa_works.proofs.Ranges.{has_range}
 use Rattle.mesa_works.proofs.Grants.{answers, fault_counts, granted_engine, granted_takes, has_no_claim, shaped_at, ungranted_engine, ungranted_takes, unopened_counts}
 use Rattle.mesa_works.proofs.granting.take.Goals as goal
@@ -218,3 +220,16 @@ returns-in-Ok-clause-views g c =
     c.in-Ok.ensures.views
     ∙ ap (λ (u : Stock). unread_views 0 (length u.lineage.views)) stock
     ∙ ap (λ (x : Standing). unread_views 0 (length (stock_at x.ledger.catalogue t.table).lineage.views)) c.engine.view_is
+
+pub returns-in-Ok-clause-ends : goal.returns-in-Ok-clause-ends
+returns-in-Ok-clause-ends g c =
+    let l = c.engine.inside.metadata.ledger in
+    let table = c.args.claimed.table in
+    let work = c.args.claimed.work in
+    let there : table < length l.catalogue.tables = subst (λ (x : Standing). table < length x.ledger.catalogue.tables) (sym c.engine.view_is) c.requires.there in
+    let next : next_work (ranges_of (stock_at l.catalogue table)) l.catalogue.oldest (base_before l.catalogue.next) ≡ Some work =
+    subst (λ (x : Standing). next_work (ranges_of (stock_at x.ledger.catalogue table)) x.ledger.catalogue.oldest (base_before x.ledger.catalogue.next) ≡ Some work) (sym c.engine.view_is) c.requires.next in
+    let may = due_work_fits l.catalogue (stock_at l.catalogue table) l.catalogue.oldest l.catalogue.next work next (omega arith) (omega arith) in
+    let is = (c.engine.invariant.vault no_rows false (λ z. absurd cc)).shaped in
+    let below = work_ends l.catalogue (stock_at l.catalogue table) work is (shaped_at l.catalogue is table there) may in
+    subst (λ (x : Standing). last_of c.in-Ok.task.work < x.ledger.catalogue.next) c.engine.view_is (subst (λ k. last_of k < l.catalogue.next) (sym c.in-Ok.ensures.work) below)
