@@ -1,0 +1,157 @@
+// Inputs over files that are spelled.
+ghost use Rattle.std.specs.Prelude.{◌≡◌, [], ◌∷◌, ◌++◌, ℕ, Option, Some};
+ghost use Rattle.mesa_schema.specs.Changes.{columns_of};
+ghost use Rattle.mesa_schema.specs.Columns.{Columns};
+ghost use Rattle.mesa_cursor.specs.Cursors.{IsInput};
+ghost use Rattle.mesa_tasks.specs.Pins.{HasViewOf, IsPinnedInput, view_at};
+
+use crate::vectors::{Vector, bytes_of, spelled};
+use mesa_delta::{DeltaReader, Input};
+use mesa_disk::{ByteList, Disk, FileId, FileReader, FileRef, MemDisk, MemReader};
+use mesa_list::Items;
+use mesa_schema::Evolving;
+use mesa_tasks::PinnedInput;
+use std::alloc::Global;
+use std::process::Abort;
+use std::sync::Arc;
+
+/// A file's reader, and its reference.
+#[derive(Drop)]
+pub struct Source<R> {
+    pub reader: R,
+    pub file: FileRef,
+}
+
+// A disk with a file of these bytes.
+fn disk_with(rt: &impl Abort, alloc: Global, id: FileId, bytes: Vec<u8>) -> MemDisk {
+    let mut files = Vec::new(alloc);
+    let bytes = ByteList::from_vec(bytes);
+    files.push((id, bytes)).expect(rt, "room");
+    MemDisk::new(
+        alloc,
+        Vec::new(alloc),
+        Vec::new(alloc),
+        files,
+        Vec::new(alloc),
+    )
+}
+
+fn reader_of(rt: &impl Abort, alloc: Global, id: FileId, bytes: Vec<u8>) -> MemReader {
+    let mut disk = disk_with(rt, alloc, id, bytes);
+    disk.reader(id).expect(rt, "a reader")
+}
+
+// A file's reference, with no first key and no aggregates, which no reader looks at.
+fn reference(rt: &impl Abort, alloc: Global, vector: &Vector, len: u64) -> FileRef {
+    let last = spelled(rt, alloc, vector.last);
+    FileRef {
+        id: FileId::of(vector.id),
+        len,
+        rows: vector.rows,
+        blocks: vector.blocks,
+        first: Items::new(alloc),
+        last: Items::from_vec(last),
+        aggregates: Items::new(alloc),
+        digest: vector.digest,
+    }
+}
+
+/// A file; or one in which the bit at this place is another.
+pub fn source_of(
+    rt: &impl Abort,
+    alloc: Global,
+    vector: &Vector,
+    turned: Option<usize>,
+) -> Source<MemReader> {
+    let mut bytes = bytes_of(rt, alloc, vector);
+    let file = reference(rt, alloc, vector, bytes.len() as u64);
+    if let Some(place) = turned {
+        assert!(rt; place < bytes.len());
+        bytes[place] ^= 1;
+    }
+    Source {
+        reader: reader_of(rt, alloc, file.id, bytes),
+        file,
+    }
+}
+
+/// An input over a file of a table that was never changed.
+pub fn input_of<R: FileReader + Drop>(
+    rt: &impl Abort,
+    alloc: Global,
+    source: Source<R>,
+    table: &Arc<Evolving>,
+) -> Input<R>
+    requires { table.now.value.changes ≡ [] }
+    ensures input { IsInput R.bytes result }
+    ensures table { result.evolving.value ≡ table.now.value }
+{
+    let Source { reader, file } = source;
+    let Ok(reader) = DeltaReader::attach(alloc, reader, &file, table.present()) else {
+        panic!(rt; "not attached");
+    };
+    let Ok(evolving) = table.clone() else {
+        panic!(rt; "no memory");
+    };
+    Input {
+        reader,
+        evolving,
+        epoch: 0,
+    }
+}
+
+/// A file of the queried relation itself.
+pub fn own<R: FileReader + Drop>(
+    rt: &impl Abort,
+    alloc: Global,
+    source: Source<R>,
+    relation: &Arc<Evolving>,
+) -> PinnedInput<R>
+    requires { relation.now.value.changes ≡ [] }
+    ensures { (view : Option ℕ) → IsPinnedInput R.bytes (columns_of relation.now.value) view result }
+{
+    let input = input_of(rt, alloc, source, relation);
+    PinnedInput { input, own: true }
+}
+
+/// A file of a table whose first view is queried.
+pub fn derived<R: FileReader + Drop>(
+    rt: &impl Abort,
+    alloc: Global,
+    source: Source<R>,
+    table: &Arc<Evolving>,
+) -> PinnedInput<R>
+    requires { table.now.value.changes ≡ [] }
+    ensures { (s : Columns) → HasViewOf s (columns_of table.now.value) (view_at table.now.value (Some 0)) → IsPinnedInput R.bytes s (Some 0) result }
+{
+    let input = input_of(rt, alloc, source, table);
+    PinnedInput { input, own: false }
+}
+
+// One file more.
+fn put<R: FileReader + Drop>(
+    rt: &impl Abort,
+    inputs: &mut Vec<PinnedInput<R>>,
+    input: PinnedInput<R>,
+)
+    ensures { inputs.new.items ≡ inputs.old.items ++ input ∷ [] }
+{
+    if inputs.push(input).is_err() {
+        panic!(rt; "no memory");
+    }
+}
+
+/// Two files, the older one first.
+pub fn two<R: FileReader + Drop>(
+    rt: &impl Abort,
+    alloc: Global,
+    older: PinnedInput<R>,
+    newer: PinnedInput<R>,
+) -> Vec<PinnedInput<R>>
+    ensures { result.items ≡ older ∷ newer ∷ [] }
+{
+    let mut inputs = Vec::new(alloc);
+    put(rt, &mut inputs, older);
+    put(rt, &mut inputs, newer);
+    inputs
+}
