@@ -7,7 +7,6 @@ use Rattle.mesa_script.specs.declared.script.ScriptError.TheVariants as bad
 
 -- a reason in a word
 abbrev pub reason_word : Reason → List ℕ
-reason_word reason.Unbuilt = codes "unbuilt"
 reason_word reason.Unknown = codes "unknown"
 reason_word reason.Fields = codes "fields"
 reason_word reason.Order = codes "order"

@@ -84,24 +84,3 @@ fits_fields Work fields = length fields == 2
 -- whether a word begins like the version of a pin
 abbrev pub asks_pin : List ℕ → Bool
 asks_pin word = same_bytes (take 4 word) (codes "pin:")
-
--- whether a record of this name isn't built yet
-abbrev pub unbuilt_as : Option Name → List (List ℕ) → Bool
-unbuilt_as None fields = false
-unbuilt_as (Some Lease) fields = true
-unbuilt_as (Some Session) fields = true
-unbuilt_as (Some Table) fields = false
-unbuilt_as (Some View) fields = false
-unbuilt_as (Some Alter) fields = true
-unbuilt_as (Some Row) fields = false
-unbuilt_as (Some Commit) fields = false
-unbuilt_as (Some Query) fields = nat_lt 6 (length fields) || asks_pin (field 2 fields)
-unbuilt_as (Some Explain) fields = true
-unbuilt_as (Some Pin) fields = true
-unbuilt_as (Some Release) fields = true
-unbuilt_as (Some Expire) fields = false
-unbuilt_as (Some Work) fields = true
-
--- A record that the program doesn't do yet: leases, sessions, changes of schemas, explain, pins, work, and pages of queries.
-abbrev pub is_unbuilt : List (List ℕ) → Bool
-is_unbuilt fields = unbuilt_as (name_of (field 0 fields)) fields

@@ -11,7 +11,7 @@ use Rattle.mesa_script.specs.declared.script.Reason.{Reason}
 use Rattle.mesa_script.specs.declared.script.Reason.TheVariants as reason
 use Rattle.mesa_script.specs.declared.script.ScriptError.{ScriptError}
 use Rattle.mesa_script.specs.declared.script.ScriptError.TheVariants as bad
-use Rattle.mesa_script.specs.Records.{Name, Lease, Row, Commit, name_of, field, fits_fields, is_unbuilt}
+use Rattle.mesa_script.specs.Records.{Name, Lease, Row, Commit, name_of, field, fits_fields}
 use Rattle.mesa_script.specs.Items.{Item, LeaseOf, NextSession, RowOf, EndOfLoad, Single, item_of}
 
 -- what was read so far: the lease's length, the sessions that are whole, the commands of the one at hand, the rows of a load that hasn't ended, and how many commands there were
@@ -46,10 +46,9 @@ fits_order place Lease rows = place == 1
 fits_order place name [] = true
 fits_order place name (row ∷ rows) = false
 
--- what the record at a place says, or what is wrong with it: it isn't built, its name, its number of fields, its order, its words, its numbers
-abbrev pub item_at : (List (List ℕ) → Bool) → ℕ → List (List ℕ) → List RowWords → Result Item Reason
-item_at unbuilt place fields rows = do
-  refuse_if (unbuilt fields) reason.Unbuilt
+-- what the record at a place says, or what is wrong with it: its name, its number of fields, its order, its words, its numbers
+abbrev pub item_at : ℕ → List (List ℕ) → List RowWords → Result Item Reason
+item_at place fields rows = do
   name ← ok_or (name_of (field 0 fields)) reason.Unknown
   refuse_unless (fits_fields name fields) reason.Fields
   refuse_unless (fits_order place name rows) reason.Order
@@ -72,9 +71,9 @@ with_item place EndOfLoad r = with_command place (command.Load r.rows) r
 with_item place (Single c) r = with_command place c r
 
 -- what was read with the record at a place
-abbrev pub with_record : (List (List ℕ) → Bool) → ℕ → List (List ℕ) → Read → Result Read ScriptError
-with_record unbuilt place fields r = do
-  item ← refused_as (bad.BadRecord place) (item_at unbuilt place fields r.rows)
+abbrev pub with_record : ℕ → List (List ℕ) → Read → Result Read ScriptError
+with_record place fields r = do
+  item ← refused_as (bad.BadRecord place) (item_at place fields r.rows)
   with_item place item r
 
 -- what was read at the input's end: a load that hasn't ended is a bad record behind the last
@@ -82,9 +81,9 @@ abbrev at_end : ℕ → Read → Result Read ScriptError
 at_end place r = if length r.rows == 0 then Ok r else Err (bad.BadRecord place reason.Order)
 
 -- what was read with the records from a place on
-abbrev pub read_from : (List (List ℕ) → Bool) → ℕ → List (List (List ℕ)) → Read → Result Read ScriptError
-read_from unbuilt place [] r = at_end place r
-read_from unbuilt place (fields ∷ rest) r = with_record unbuilt place fields r >>= (λ next. read_from unbuilt (place + 1) rest next)
+abbrev pub read_from : ℕ → List (List (List ℕ)) → Read → Result Read ScriptError
+read_from place [] r = at_end place r
+read_from place (fields ∷ rest) r = with_record place fields r >>= (λ next. read_from (place + 1) rest next)
 
 -- the script of what was read
 abbrev pub script_from : Read → Script
@@ -94,16 +93,8 @@ script_from r = record { lease = r.lease; sessions = r.finished ++ r.current ∷
 abbrev pub records_of : List ℕ → List (List (List ℕ))
 records_of bytes = records default_config (strip_bom bytes)
 
--- the script of these bytes, where some records may not be built yet
-abbrev pub script_without : (List (List ℕ) → Bool) → List ℕ → Result Script ScriptError
-script_without unbuilt bytes = do
-  r ← read_from unbuilt 1 (records_of bytes) nothing_read
-  Ok (script_from r)
-
 -- ScriptOf: the commands by session and the lease's length, or the first bad place and its reason.
 abbrev pub script_of : List ℕ → Result Script ScriptError
-script_of bytes = script_without (λ fields. false) bytes
-
--- the script as far as the program is built
-abbrev pub built_script_of : List ℕ → Result Script ScriptError
-built_script_of bytes = script_without is_unbuilt bytes
+script_of bytes = do
+  r ← read_from 1 (records_of bytes) nothing_read
+  Ok (script_from r)

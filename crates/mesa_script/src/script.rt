@@ -4,8 +4,6 @@
 /// told.
 #[derive(Clone, Copy, Debug, PartialEq, Eq)]
 pub enum Reason {
-    /// A record that this program doesn't do yet.
-    Unbuilt,
     /// No record has this name.
     Unknown,
     /// The record has too few fields or too many.
