@@ -14,7 +14,7 @@ ghost use Rattle.mesa_history.specs.Refused.{some_refused};
 ghost use Rattle.mesa_history.specs.Run.{begins, Finished, First, Granted, Looked, Renewed};
 ghost use Rattle.mesa_schema.specs.Changes.{Lineage};
 ghost use Rattle.mesa_tasks.specs.Tasks.{IsTask};
-ghost use Rattle.mesa_works.specs.Claims.{claim_in, stage_if};
+ghost use Rattle.mesa_works.specs.Claims.{claim_in};
 ghost use Rattle.mesa_ledger.specs.Vault.{outset_of};
 ghost use Rattle.mesa_model.specs.declared.entries.Kind.TheVariants as kind;
 ghost use Rattle.mesa_skeleton.specs.Rows.{Rows, no_rows};
@@ -25,6 +25,7 @@ ghost use Rattle.mesa_walk.specs.Queries.{closing_fault};
 ghost use Rattle.mesa_walk.specs.Sight.{schema_changes, tables_seen};
 ghost use Rattle.mesa_walk.specs.Turns.{Asks, Takes, is_load, is_simple};
 ghost use Rattle.mesa_walk.specs.Walk.{AllFound, HasCounted, faults_in, run_at};
+ghost use Rattle.mesa_walk.specs.Works.{stage_if};
 
 use crate::asked::command_of;
 use mesa_asking::close_query;

@@ -17,7 +17,7 @@ use Rattle.mesa_history.specs.Run.{Place, Run, Last, Skipped, Told, command_of, 
 use Rattle.mesa_history.proofs.More.{last_after}
 use Rattle.mesa_history.proofs.Places.{same_is}
 use Rattle.mesa_ending.specs.Completing.{is_quiet, AllQuiet}
-use Rattle.mesa_ending.specs.Run.{is_damaged, NoneDamaged}
+use Rattle.mesa_walk.specs.Undamaged.{is_damaged, NoneDamaged}
 
 -- ---- no entry is skipped where the sink didn't fail
 

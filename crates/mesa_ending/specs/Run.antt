@@ -1,18 +1,17 @@
 -- What a run over a store leaves.
-use Rattle.std.specs.Prelude.{◌≡◌, ℕ, ◌+◌, ◌<◌, ◌≤◌, List, Option, Bool, true, false, not}
+use Rattle.std.specs.Prelude.{◌≡◌, ℕ, ◌+◌, ◌<◌, ◌≤◌, List, Option, Bool, not}
 use Rattle.std.specs.List.{AllByRecursion}
 use Rattle.mesa_fault.specs.Causes.{last}
 use Rattle.mesa_disk.specs.Story.{Story}
 use Rattle.mesa_model.specs.declared.commands.Script.{Script}
 use Rattle.mesa_model.specs.declared.entries.Entry.{Entry}
-use Rattle.mesa_model.specs.declared.entries.Outcome.{Outcome}
-use Rattle.mesa_model.specs.declared.entries.Outcome.TheVariants as outcome
 use Rattle.mesa_history.specs.Counting.{count_in, is_disk_fault}
 use Rattle.mesa_history.specs.Legal.{IsLegal}
 use Rattle.mesa_history.specs.Run.{State, begins}
 use Rattle.mesa_laws.specs.Printed.{AnswersFromTheFold}
 use Rattle.mesa_skeleton.specs.Rows.{Rows}
 use Rattle.mesa_walk.specs.Printing.{IsPrinted}
+use Rattle.mesa_walk.specs.Undamaged.{NoneDamaged}
 use Rattle.mesa_walk.specs.Walk.{AllFound, HasCounted, Outset}
 use Rattle.mesa_image.specs.Catalog.{Catalog}
 use Rattle.mesa_image.specs.Sound.{StandsFor}
@@ -22,15 +21,6 @@ use Rattle.mesa_ending.specs.Start.{IsSoundStore, start_of}
 use Rattle.mesa_ending.specs.Counting.{HasBenchCounts}
 use Rattle.mesa_ending.specs.declared.done.Devices.{Devices}
 use Rattle.mesa_ending.specs.declared.done.Done.{Done}
-
--- whether an entry met damage
-abbrev pub is_damaged : Outcome → Bool
-is_damaged outcome.Damaged = true
-is_damaged o = false
-
--- no entry met damage
-abbrev pub NoneDamaged : List Entry → Type 0
-NoneDamaged h = AllByRecursion (λ (e : Entry). is_damaged e.outcome ≡ false) h
 
 -- a run from a state over a store: the disk's clock, both counts of its faults together, and what the sink had been given
 abbrev pub outset_from : Script → State → ℕ → ℕ → Option (List ℕ) → Outset

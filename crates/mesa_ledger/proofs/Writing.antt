@@ -52,7 +52,7 @@ use Rattle.mesa_ledger.proofs.Standing.{held_stand}
 module _ (n : Starts) (w : Rows) (sound : Bool) (l : Ledger) (story : Story) (held : Option (List ℕ)) (h : List Entry) (running refused : Bool) (v : IsVault (outset_of n w) (n.origin w) sound l story held h running refused)
     (session number : ℕ) (low : session < 2 ^ 16) (few : number < 2 ^ 32) (m : ℕ) (ran : running ≡ true) (at : ℕ) (place : at ≡ length h) (was_open : l.closed ≡ None)
     (later : Rows) (x : Catalog) (made : List (ℕ × Option (List ℕ))) (gone : List ℕ) (adopted : ℕ) (adopts : Adopts l made adopted) (recorded : IsRecorded l v.rows later x made gone)
-    (new : Story) (moment : m ≡ new.moment) (passes : Passes story new) (only : Steps (MovesOnly made (removed_by l (length h) gone)) story.told new.told) (writes : Writes StandsFor story new (kept_of v.rows l.catalogue) (kept_of later x)) (now : Bool) (new_held : Option (List ℕ)) where
+    (new : Story) (moment : m ≡ new.moment) (passes : Passes story new) (only : Steps (MovesOnly made (removed_by l (length h) gone)) story.told new.told) (writes : IsTrue sound → Writes StandsFor story new (kept_of v.rows l.catalogue) (kept_of later x)) (now : Bool) (new_held : Option (List ℕ)) where
   abbrev o : Outset
   o = outset_of n w
 

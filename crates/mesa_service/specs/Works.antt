@@ -5,7 +5,6 @@ use Rattle.mesa_span.specs.declared.works.Work.{Work}
 use Rattle.mesa_schema.specs.Changes.{Lineage}
 use Rattle.mesa_model.specs.declared.entries.Entry.{Entry}
 use Rattle.mesa_history.specs.Machine.{Claim}
-use Rattle.mesa_history.specs.Run.{Stage, Finished}
 use Rattle.mesa_merge.specs.Inputs.{Known, knowns_of}
 use Rattle.mesa_tasks.specs.GivingBack.{task_inputs}
 use Rattle.mesa_tasks.specs.Tasks.{IsTask, IsMerged}
@@ -19,11 +18,6 @@ use Rattle.mesa_service.specs.Damages.{Differs, IsUnread}
 -- the claim that a task was granted for
 abbrev pub claim_in : {R : Type 0} → Task R → Claim
 claim_in t = record { table = t.table; lease = t.lease; work = t.work }
-
--- the stage of a work after a turn, by the task that it gave, if any
-abbrev pub stage_if : {T E : Type 0} → (T → Claim) → (Claim → Stage) → Result T E → Stage
-stage_if claim stage (Ok t) = stage (claim t)
-stage_if claim stage (Err e) = Finished
 
 -- What is known of a view's own files.
 pub record KnownView : Type 0 where

@@ -12,11 +12,11 @@ ghost use Rattle.mesa_history.specs.Run.{State, First, Looked, Granted, Renewed,
 ghost use Rattle.mesa_skeleton.specs.Rows.{Rows, no_rows};
 ghost use Rattle.mesa_walk.specs.Turns.{Shown, Asks, IsSeen, Takes, is_load, is_simple};
 ghost use Rattle.mesa_walk.specs.Walk.{run_at};
-ghost use Rattle.mesa_walk.specs.Works.{closing_stage};
+ghost use Rattle.mesa_walk.specs.Works.{closing_stage, stage_if};
 ghost use Rattle.mesa_service.specs.Loads.{HasPrepared};
 ghost use Rattle.mesa_service.specs.Pins.{HasAnswered, IsOpenQuery, KnownPin, TakesQuery, known_pin};
 ghost use Rattle.mesa_service.specs.Sight.{sight_after};
-ghost use Rattle.mesa_service.specs.Works.{CanBeMerged, HasMerged, KnownTask, WasGranted, claim_in, known_task, stage_if};
+ghost use Rattle.mesa_service.specs.Works.{CanBeMerged, HasMerged, KnownTask, WasGranted, claim_in, known_task};
 
 use mesa_batch::Glance;
 use mesa_delta::FileError;

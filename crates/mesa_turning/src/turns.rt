@@ -7,11 +7,11 @@ ghost use Rattle.mesa_model.specs.declared.commands.Command.TheVariants as comma
 ghost use Rattle.mesa_model.specs.Entry.{history_of};
 ghost use Rattle.mesa_skeleton.specs.Rows.{no_rows};
 ghost use Rattle.mesa_walk.specs.Turns.{is_load, is_simple};
-ghost use Rattle.mesa_walk.specs.Works.{closing_stage};
+ghost use Rattle.mesa_walk.specs.Works.{closing_stage, stage_if};
 ghost use Rattle.mesa_passes.specs.Passes.{HasSort, Holds, Mine, Took, at_stage};
 ghost use Rattle.mesa_service.specs.Pins.{CanBeAnswered, HasAnswered, IsOpenQuery, known_pin};
 ghost use Rattle.mesa_service.specs.Sight.{sight_after};
-ghost use Rattle.mesa_service.specs.Works.{CanBeMerged, HasMerged, WasGranted, claim_in, known_task, stage_if};
+ghost use Rattle.mesa_service.specs.Works.{CanBeMerged, HasMerged, WasGranted, claim_in, known_task};
 ghost use Rattle.mesa_turning.specs.Loads.{StaysPrepared};
 
 use crate::preparing::prepared_now;

@@ -188,13 +188,13 @@ module _ (o : Outset) (sound : Bool) (books : Books) (story : Story) (held : Opt
         told_turn o sound books story held h running refused v (turn_with outcome.Stands) c stage due (short outcome.Stands) moment story (stays story) (comes_standing r c stage s n kind.Decide m d.due (renewal outcome.Stands))
         ran refl stood_state rep decide_is silent (counts_same story) now new_held (puts_reply o sound books story held h running refused v (turn_with outcome.Stands) rep at place refl now new_held put) changed stood_books (keeps after done_is)
 
-    module _ (writes_is : is_written rep ≡ true) (new : Story) (moment : m ≡ new.moment) (passes : Passes story new) (had : IsTrue sound → story.moment < last → AllStand o.stands story books.kept) (writes : Writes o.stands story new books.kept changed.kept) (now : Bool) (new_held : Option (List ℕ)) where
+    module _ (writes_is : is_written rep ≡ true) (new : Story) (moment : m ≡ new.moment) (passes : Passes story new) (had : IsTrue sound → story.moment < last → AllStand o.stands story books.kept) (writes : IsTrue sound → Writes o.stands story new books.kept changed.kept) (now : Bool) (new_held : Option (List ℕ)) where
       had_kept : IsTrue sound → story.moment < last → AllStand o.stands story (kept_of r.state)
       had_kept ok below = subst (AllStand o.stands story) (sym (v.state.rows ok)) (had ok below)
 
       spans : (aim : Kept) → changed.kept ≡ aim → IsTrue sound → new.moment < last → Spans (StandsForEither o.stands (kept_of r.state) aim) story new
       spans aim is ok below =
-          subst (λ x. Spans (StandsForEither o.stands x aim) story new) (sym (v.state.rows ok)) (subst (λ x. Spans (StandsForEither o.stands books.kept x) story new) is (writes below (had ok (below_before passes.later below))))
+          subst (λ x. Spans (StandsForEither o.stands x aim) story new) (sym (v.state.rows ok)) (subst (λ x. Spans (StandsForEither o.stands books.kept x) story new) is (writes ok below (had ok (below_before passes.later below))))
         where
           below_before : story.moment ≤ new.moment → new.moment < last → story.moment < last
           below_before later lt = omega (arith, later, lt)

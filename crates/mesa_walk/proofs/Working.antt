@@ -280,7 +280,7 @@ module _ (o : Outset) (sound : Bool) (books : Books) (story : Story) (held : Opt
   -- ---- the swap
 
   module _ (claim : Claim) (due : IsDue o.script (run_of o h) s n (command.Work name) (Renewed claim)) (holds : claim_checked books.bare books.machine at claim ≡ Ok tt) (new : Story) (moment : m ≡ new.moment) (passes : Passes story new)
-      (had : IsTrue sound → story.moment < last → AllStand o.stands story books.kept) (kept : Kept) (swaps : Swaps sound books claim kept) (writes : Writes o.stands story new books.kept kept) (now : Bool) (new_held : Option (List ℕ)) where
+      (had : IsTrue sound → story.moment < last → AllStand o.stands story books.kept) (kept : Kept) (swaps : Swaps sound books claim kept) (writes : IsTrue sound → Writes o.stands story new books.kept kept) (now : Bool) (new_held : Option (List ℕ)) where
     abbrev swapped_state : State
     swapped_state = with_machine r.state (claim_done r.state.machine claim)
 
@@ -295,7 +295,7 @@ module _ (o : Outset) (sound : Bool) (books : Books) (story : Story) (held : Opt
 
     spans : (aim : Kept) → kept ≡ aim → IsTrue sound → new.moment < last → Spans (StandsForEither o.stands (kept_of r.state) aim) story new
     spans aim is ok below =
-        subst (λ x. Spans (StandsForEither o.stands x aim) story new) (sym (v.state.rows ok)) (subst (λ x. Spans (StandsForEither o.stands books.kept x) story new) is (writes below (had ok (below_before passes.later below))))
+        subst (λ x. Spans (StandsForEither o.stands x aim) story new) (sym (v.state.rows ok)) (subst (λ x. Spans (StandsForEither o.stands books.kept x) story new) is (writes ok below (had ok (below_before passes.later below))))
       where
         below_before : story.moment ≤ new.moment → new.moment < last → story.moment < last
         below_before later lt = omega (arith, later, lt)

@@ -2,6 +2,7 @@ pub mod Books
 pub mod Printing
 pub mod Walk
 pub mod Turns
+pub mod Undamaged
 pub mod Causes
 pub mod Changes
 pub mod Queries

@@ -1,5 +1,5 @@
 -- The turns of a work.
-use Rattle.std.specs.Prelude.{◌≡◌, ℕ, List, Bool, true, false, Option, None, Some, IsTrue, Ok, Err}
+use Rattle.std.specs.Prelude.{◌≡◌, ℕ, List, Bool, true, false, None, IsTrue, Result, Ok, Err}
 use Rattle.mesa_history.specs.Machine.{Claim, claim_of, claim_done}
 use Rattle.mesa_history.specs.Run.{State, Stage, Granted, Renewed, Finished}
 use Rattle.mesa_history.specs.Replay.{with_machine}
@@ -30,9 +30,9 @@ Swaps sound books claim kept =
     (s : State) → AreBooksOf sound books s → IsTrue sound → kept_of (with_machine s (claim_done s.machine claim)) ≡ kept
 
 -- the stage of a work after its first turn, or after its renewal, by the task that it gave, if any
-abbrev pub task_stage : {T : Type 0} → (T → Claim) → (Claim → Stage) → Option T → Stage
-task_stage claim stage None = Finished
-task_stage claim stage (Some t) = stage (claim t)
+abbrev pub stage_if : {T E : Type 0} → (T → Claim) → (Claim → Stage) → Result T E → Stage
+stage_if claim stage (Ok t) = stage (claim t)
+stage_if claim stage (Err e) = Finished
 
 -- the stage of a work before its close: it was renewed, or there is nothing to swap in
 abbrev pub closing_stage : Bool → Claim → Stage

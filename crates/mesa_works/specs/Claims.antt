@@ -1,7 +1,6 @@
 -- The claim of a task.
-use Rattle.std.specs.Prelude.{◌+◌, Result, Ok, Err}
+use Rattle.std.specs.Prelude.{◌+◌}
 use Rattle.mesa_history.specs.Machine.{Claim}
-use Rattle.mesa_history.specs.Run.{Stage, Finished}
 use Rattle.mesa_ledger.specs.Ledger.{Ledger}
 use Rattle.mesa_tasks.specs.declared.merging.Task.{Task}
 use Rattle.mesa_tasks.specs.declared.opening.Unopened.{Unopened}
@@ -21,8 +20,3 @@ claim_as l x = record { table = x.table; lease = l.leases.granted + 1; work = x.
 abbrev pub cause_met : Unopened → Cause
 cause_met un.Fault = Unread
 cause_met un.Memory = NoMemory
-
--- the stage of a work after a turn, by the task that it gave, if any
-abbrev pub stage_if : {T E : Type 0} → (T → Claim) → (Claim → Stage) → Result T E → Stage
-stage_if claim stage (Ok t) = stage (claim t)
-stage_if claim stage (Err e) = Finished

@@ -20,7 +20,8 @@ ghost use Rattle.mesa_swapping.specs.Finished.{HasRange};
 ghost use Rattle.mesa_tasks.specs.Tasks.{IsTask};
 ghost use Rattle.mesa_walk.specs.Turns.{Takes};
 ghost use Rattle.mesa_walk.specs.Walk.{run_at};
-ghost use Rattle.mesa_works.specs.Claims.{cause_met, claim_as, claim_in, stage_if};
+ghost use Rattle.mesa_walk.specs.Works.{stage_if};
+ghost use Rattle.mesa_works.specs.Claims.{cause_met, claim_as, claim_in};
 ghost use Rattle.mesa_works.specs.Ranged.{written_at};
 
 use crate::claiming::{Claimed, claim};

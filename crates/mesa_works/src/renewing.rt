@@ -11,7 +11,8 @@ ghost use Rattle.mesa_model.specs.declared.entries.Kind.TheVariants as kind;
 ghost use Rattle.mesa_skeleton.specs.Rows.{no_rows};
 ghost use Rattle.mesa_walk.specs.Turns.{Takes};
 ghost use Rattle.mesa_walk.specs.Walk.{run_at};
-ghost use Rattle.mesa_works.specs.Claims.{claim_in, stage_if};
+ghost use Rattle.mesa_walk.specs.Works.{stage_if};
+ghost use Rattle.mesa_works.specs.Claims.{claim_in};
 
 use crate::give_back;
 use mesa_disk::{Disk, Made};
