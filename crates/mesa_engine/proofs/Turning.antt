@@ -58,6 +58,7 @@ module _ {K : Type 0} (held : K → Option (List ℕ)) (faults : K → ℕ) (n :
     begun = subst (AllByRecursion (λ x. n.since ≤ x.moment)) (sym grew) (all_more (λ x. n.since ≤ x.moment) log.history.items e v.begun since);
     failed = has_failed faults sinks log.printer later.printer goes v.failed v.whole;
     whole = still_whole faults sinks log.printer later.printer goes v.failed v.whole;
+    first = λ none. absurd (let empty : length later.history.items ≡ 0 = ap length none in omega (arith, empty, longer));
   }
 
   -- a turn that prints nothing
@@ -86,6 +87,7 @@ unmoved_engine held faults n turns sinks m story new log same counts v = record 
   begun = v.begun;
   failed = v.failed;
   whole = v.whole;
+  first = v.first;
 }
 
 -- ---- places

@@ -1,6 +1,5 @@
 -- What an engine is begun with.
 use Rattle.std.specs.Prelude.{◌≡◌, ℕ, ◌+◌, ◌<◌, ◌≤◌, List, [], Bool, Option, IsTrue}
-use Rattle.mesa_fault.specs.Causes.{last}
 use Rattle.mesa_disk.specs.Story.{Story}
 use Rattle.mesa_history.specs.Claims.{HasRanges}
 use Rattle.mesa_lease.specs.Book.{begun}
@@ -34,7 +33,7 @@ pub record IsBegun (n : Starts) (w : Rows) (sound : Bool) (c : Catalog) (end tur
   pub since : n.since ≤ story.moment
   pub counted : n.counted ≤ story.faults + story.read_faults
   pub sink : held ≡ n.at_start
-  pub holds : IsTrue sound → story.moment < last → IsHeld story bodies end c w
+  pub holds : IsTrue sound → IsHeld story bodies end c w
   pub found : IsTrue sound → AllFound (outset_of n w) [] story
   pub stocked : IsTrue sound → AreStocked w c
   pub read : IsTrue sound → IsRead story

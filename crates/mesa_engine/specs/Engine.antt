@@ -1,5 +1,5 @@
 -- What an engine keeps between turns.
-use Rattle.std.specs.Prelude.{◌≡◌, ℕ, ◌≤◌, ◌^◌, List, true, false, not, Option, length, vec_capacity}
+use Rattle.std.specs.Prelude.{◌≡◌, ℕ, ◌≤◌, ◌^◌, List, [], true, false, not, Option, length, vec_capacity}
 use Rattle.std.specs.List.{AllByRecursion}
 use Rattle.mesa_fault.specs.Causes.{Rose}
 use Rattle.mesa_disk.specs.Story.{Story}
@@ -25,7 +25,7 @@ pub record Standing : Type 0 where
 abbrev pub most_turns : ℕ
 most_turns = 2 ^ 20
 
--- What an engine keeps: it is a vault, with room for each turn that the run may have yet. No lease was granted or renewed behind the last turn; no entry is from before the run; and the sink's count of faults rose in the run exactly where its printer is broken.
+-- What an engine keeps: it is a vault, with room for each turn that the run may have yet. No lease was granted or renewed behind the last turn; no entry is from before the run; the sink's count of faults rose in the run exactly where its printer is broken; and before the first turn the sink has what it had at the start.
 pub record IsEngine {K : Type 0} (held : K → Option (List ℕ)) (faults : K → ℕ) (n : Starts) (turns sinks : ℕ) (m : Memory) (story : Story) (log : Log K) : Type 0 where
   pub vault : IsVaultAt n m.ledger story (held log.printer.sink) log.history.items (not log.printer.broken) log.refused
   pub room : turns ≤ vec_capacity log.history
@@ -34,3 +34,4 @@ pub record IsEngine {K : Type 0} (held : K → Option (List ℕ)) (faults : K �
   pub begun : AllByRecursion (λ e. n.since ≤ e.moment) log.history.items
   pub failed : log.printer.broken ≡ true → Rose sinks (faults log.printer.sink)
   pub whole : log.printer.broken ≡ false → faults log.printer.sink ≡ sinks
+  pub first : log.history.items ≡ [] → held log.printer.sink ≡ n.at_start

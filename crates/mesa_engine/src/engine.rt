@@ -1,5 +1,5 @@
 // The engine, and what can be asked of it between turns.
-ghost use Rattle.std.specs.Prelude.{◌≡◌, ◌+◌, IfOk};
+ghost use Rattle.std.specs.Prelude.{◌≡◌, ◌+◌, ◌<◌, ◌^◌, IfOk};
 ghost use Rattle.mesa_batch.specs.Glance.{tables_of};
 ghost use Rattle.mesa_catalog.specs.Lookups.{sight_of};
 ghost use Rattle.mesa_history.specs.Refused.{some_refused};
@@ -64,9 +64,10 @@ impl<N: Naming, M: Made, D: Disk<M>, K: Sink> Engine<N, M, D, K> {
 
     /// The run's number.
     pub fn run(&self) -> u32
-        ensures { result ≡ self.now.ledger.catalogue.run }
+        ensures number { result ≡ self.now.ledger.catalogue.run }
+        ensures few { result < 2 ^ 24 }
     {
-        self.metadata.catalog().run()
+        self.metadata.run()
     }
 
     /// What a load sees of the tables now.

@@ -80,6 +80,9 @@ impl<N: Naming, M: Made, D: Disk<M>, K: Sink> Engine<N, M, D, K> {
         ensures failed { self.shown.running ≡ false → Rose N.sink_faults (K.faults result.1) }
         ensures whole { self.shown.running ≡ true → K.faults result.1 ≡ N.sink_faults }
 
+        // A run without a turn left the sink as it was.
+        ensures first { result.2.items ≡ [] → K.held result.1 ≡ N.at_start }
+
         // On a sound store, while the clock is below its last value, what was printed is its output, and what a crash may have left is found.
         ensures printed { (w : Rows) → N.sound w → (D.story result.0).moment < last → IsPrinted N.script (begins (N.start w)) result.2.items self.shown.running N.at_start (K.held result.1) }
         ensures found { (w : Rows) → N.sound w → AllFound (outset_of (starts_of N.script N.start N.sound N.origin N.since N.counted N.at_start) w) result.2.items (D.story result.0) }

@@ -1,6 +1,5 @@
 -- A vault before its first turn, one whose disk gave readers back, and what a session sees of one.
 use Rattle.std.proofs.Common.{◌≡◌, ℕ, ◌<◌, List, [], Bool, true, false, ◌∙◌, subst, arith, Option, None, IsTrue}
-use Rattle.mesa_fault.specs.Causes.{last}
 use Rattle.mesa_disk.specs.Story.{Story, Unmoved}
 use Rattle.mesa_model.specs.declared.entries.Entry.{Entry}
 use Rattle.mesa_history.specs.Claims.{HasRanges, HasClaimAt}
@@ -30,7 +29,7 @@ first_ledger o c generation end = record { catalogue = c; generation = generatio
 
 -- Before the first turn.
 pub started_vault : (o : Outset) (g : Origin) (sound : Bool) (c : Catalog) (end : ℕ) (story : Story) (held : Option (List ℕ)) (rows : Rows) (bodies : List (List ℕ)) → IsWalk o sound (books_of rows (first_ledger o c g.generation end)) story held [] true false
-    → HasRanges o.start → o.start.machine.leases.granted ≡ 0 → (IsTrue sound → story.moment < last → IsHeld story bodies end c rows) → IsCatalog c → HasOwnIds c → ((id : ℕ) → Among id (named c) → id < next_id (first_ledger o c g.generation end))
+    → HasRanges o.start → o.start.machine.leases.granted ≡ 0 → (IsTrue sound → IsHeld story bodies end c rows) → IsCatalog c → HasOwnIds c → ((id : ℕ) → Among id (named c) → id < next_id (first_ledger o c g.generation end))
     → IsReady (first_ledger o c g.generation end) story → (IsTrue sound → AreStocked rows c) → (IsTrue sound → HasSources rows (all_written g.found []) c) → (IsTrue sound → IsRead story) → IsVault o g sound (first_ledger o c g.generation end) story held [] true false
 unfolding count_in accepted_in
 started_vault o g sound c end story held rows bodies walk ranges none stands shaped own named_given ready stocked sourced read = record {
@@ -39,7 +38,7 @@ started_vault o g sound c end story held rows bodies walk ranges none stands sha
   seen = λ position. c;
   walk = walk;
   ranges = ranges;
-  stands = λ ok low is. stands ok low;
+  stands = λ ok is. stands ok;
   shaped = shaped;
   own = own;
   copies = tt;
@@ -48,7 +47,7 @@ started_vault o g sound c end story held rows bodies walk ranges none stands sha
   filed = filed_first 0 (next_id (first_ledger o c g.generation end)) (named c) named_given;
   ready = λ is. ready;
   read = read;
-  there = λ ok low i is. tt;
+  there = λ ok i is. tt;
   stocked = λ ok. (stocked ok, tt);
   sourced = sourced;
 }
@@ -61,7 +60,7 @@ unmoved_vault o g sound l story new held h running refused same counts v = recor
   seen = v.seen;
   walk = unmoved_walk o sound (books_of v.rows l) story new held h running refused same counts v.walk;
   ranges = v.ranges;
-  stands = λ ok low is. held_unmoved story new same v.bodies l.end l.catalogue v.rows (v.stands ok (subst (λ m. m < last) same.moment low) is);
+  stands = λ ok is. held_unmoved story new same v.bodies l.end l.catalogue v.rows (v.stands ok is);
   shaped = v.shaped;
   own = v.own;
   copies = v.copies;
@@ -70,7 +69,7 @@ unmoved_vault o g sound l story new held h running refused same counts v = recor
   filed = v.filed;
   ready = λ is. ready_unmoved story new same l (v.ready is);
   read = λ ok. let was = v.read ok in (was.0, same.told ∙ was.1);
-  there = λ ok low. there_unmoved story new same v.rows v.seen l (v.there ok (subst (λ m. m < last) same.moment low));
+  there = λ ok. there_unmoved story new same v.rows v.seen l (v.there ok);
   stocked = v.stocked;
   sourced = v.sourced;
 }

@@ -32,12 +32,12 @@ pub queries_of : (P : Holder → Type 0) (seen : ℕ → Catalog) (l : Ledger) �
 queries_of P seen l all = map_all P (query_holder seen) l.queries (all_back P (map pin_holder l.pins) (map (query_holder seen) l.queries) all)
 
 -- What is kept of holds when a ledger has other pins and queries.
-pub record AreKept (rows : Rows) (sound : Bool) (told : Option Image) (low : Type 0) (seen : ℕ → Catalog) (l : Ledger) (position : ℕ) : Type 0 where
+pub record AreKept (rows : Rows) (sound : Bool) (told : Option Image) (seen : ℕ → Catalog) (l : Ledger) (position : ℕ) : Type 0 where
   pub filed : AreFiled position (next_id l) (named l.catalogue) l.trash (map ids_held (holders seen l))
   pub copies : AreShaped seen l
   pub versions : AllByRecursion IsVersioned l.pins
   pub stocked : IsTrue sound → AllByRecursion (λ (x : Holder). AreStocked rows x.1) (holders seen l)
-  pub there : IsTrue sound → low → (i : Image) → told ≡ Some i → AllByRecursion (λ (p : PinFiles). Has p.1 i) (map (files_held rows) (holders seen l))
+  pub there : IsTrue sound → (i : Image) → told ≡ Some i → AllByRecursion (λ (p : PinFiles). Has p.1 i) (map (files_held rows) (holders seen l))
 
 -- ---- a hold more
 
@@ -58,12 +58,12 @@ seen_now seen position c = ap (λ b. if b then seen position else c) not_less
     not_less : nat_lt position position ≡ false
     not_less = grind (arith, nat_tests)
 
-module _ (rows : Rows) (sound : Bool) (told : Option Image) (low : Type 0) (seen : ℕ → Catalog) (l : Ledger) (position : ℕ) (kept : AreKept rows sound told low seen l position) where
+module _ (rows : Rows) (sound : Bool) (told : Option Image) (seen : ℕ → Catalog) (l : Ledger) (position : ℕ) (kept : AreKept rows sound told seen l position) where
   filed_all : (P : Held → Type 0) (x : Holder → Type 0) → AllByRecursion P (map ids_held (holders seen l)) → AllByRecursion (λ h. P (ids_held h)) (holders seen l)
   filed_all P x all = map_all P ids_held (holders seen l) all
 
   -- the turn that follows leaves the holds
-  pub holds_stay : AreKept rows sound told low seen l (position + 1)
+  pub holds_stay : AreKept rows sound told seen l (position + 1)
   holds_stay = record {
     filed = filed_later position (next_id l) (named l.catalogue) l.trash (map ids_held (holders seen l)) kept.filed (position + 1) (omega arith);
     copies = kept.copies;
@@ -73,7 +73,7 @@ module _ (rows : Rows) (sound : Bool) (told : Option Image) (low : Type 0) (seen
   }
 
   -- what the catalogue is for a hold that is made now
-  module _ (shaped : IsCatalog l.catalogue) (rows_are : IsTrue sound → AreStocked rows l.catalogue) (has : IsTrue sound → low → (i : Image) → told ≡ Some i → Has (wants rows (shelved l.catalogue)) i) where
+  module _ (shaped : IsCatalog l.catalogue) (rows_are : IsTrue sound → AreStocked rows l.catalogue) (has : IsTrue sound → (i : Image) → told ≡ Some i → Has (wants rows (shelved l.catalogue)) i) where
     abbrev mine : Holder
     mine = (hold_at position (next_id l), l.catalogue)
 
@@ -101,7 +101,7 @@ module _ (rows : Rows) (sound : Bool) (told : Option Image) (low : Type 0) (seen
           all_holders P seen (l.pins ++ pin ∷ []) l.queries
           (all_joined (λ p. P (pin_holder p)) l.pins (pin ∷ []) (pins_of P seen l rest) (subst P (λ i. (sym hold i, sym copy i)) first, tt)) (queries_of P seen l rest)
 
-      pub pin_kept : AreKept rows sound told low seen with_pin (position + 1)
+      pub pin_kept : AreKept rows sound told seen with_pin (position + 1)
       pin_kept = record {
         filed = record {
           held = all_map (λ (p : Held). IsHoldOf (named l.catalogue) l.trash p.0 p.1) ids_held (holders seen with_pin) (with_one _ held_first.first held_first.rest);
@@ -114,7 +114,7 @@ module _ (rows : Rows) (sound : Bool) (told : Option Image) (low : Type 0) (seen
         copies = with_one _ shaped kept.copies;
         versions = all_joined IsVersioned l.pins (pin ∷ []) kept.versions (versioned, tt);
         stocked = λ ok. with_one _ (rows_are ok) (kept.stocked ok);
-        there = λ ok below i is. all_map (λ (p : PinFiles). Has p.1 i) (files_held rows) (holders seen with_pin) (with_one _ (has ok below i is) (map_all (λ (p : PinFiles). Has p.1 i) (files_held rows) (holders seen l) (kept.there ok below i is)));
+        there = λ ok i is. all_map (λ (p : PinFiles). Has p.1 i) (files_held rows) (holders seen with_pin) (with_one _ (has ok i is) (map_all (λ (p : PinFiles). Has p.1 i) (files_held rows) (holders seen l) (kept.there ok i is)));
       }
 
     -- an open query more
@@ -139,7 +139,7 @@ module _ (rows : Rows) (sound : Bool) (told : Option Image) (low : Type 0) (seen
           (all_also (λ q. P (query_holder seen q)) (λ (q : OpenQuery). q.hold.at < position) (λ q. P (query_holder later q)) l.queries (λ q is lt. subst (λ c. P (q.hold, c)) (sym (seen_before seen position l.catalogue q.hold.at lt)) is) (queries_of P seen l rest) old_queries)
           (subst P (sym here) first, tt))
 
-      pub query_kept : AreKept rows sound told low later with_query (position + 1)
+      pub query_kept : AreKept rows sound told later with_query (position + 1)
       query_kept = record {
         filed = record {
           held = all_map (λ (p : Held). IsHoldOf (named l.catalogue) l.trash p.0 p.1) ids_held (holders later with_query) (with_another _ held_first.first held_first.rest);
@@ -152,7 +152,7 @@ module _ (rows : Rows) (sound : Bool) (told : Option Image) (low : Type 0) (seen
         copies = with_another _ shaped kept.copies;
         versions = kept.versions;
         stocked = λ ok. with_another _ (rows_are ok) (kept.stocked ok);
-        there = λ ok below i is. all_map (λ (p : PinFiles). Has p.1 i) (files_held rows) (holders later with_query) (with_another _ (has ok below i is) (map_all (λ (p : PinFiles). Has p.1 i) (files_held rows) (holders seen l) (kept.there ok below i is)));
+        there = λ ok i is. all_map (λ (p : PinFiles). Has p.1 i) (files_held rows) (holders later with_query) (with_another _ (has ok i is) (map_all (λ (p : PinFiles). Has p.1 i) (files_held rows) (holders seen l) (kept.there ok i is)));
       }
 
   -- ---- holds that are given back
@@ -164,7 +164,7 @@ module _ (rows : Rows) (sound : Bool) (told : Option Image) (low : Type 0) (seen
     with_fewer : (P : Holder → Type 0) → AllByRecursion P (holders seen l) → AllByRecursion P (holders seen fewer)
     with_fewer P all = all_holders P seen (filter pins l.pins) (filter queries l.queries) (all_filtered (λ p. P (pin_holder p)) pins l.pins (pins_of P seen l all)) (all_filtered (λ q. P (query_holder seen q)) queries l.queries (queries_of P seen l all))
 
-    pub fewer_kept : AreKept rows sound told low seen fewer (position + 1)
+    pub fewer_kept : AreKept rows sound told seen fewer (position + 1)
     fewer_kept = record {
       filed = record {
         held = all_map (λ (p : Held). IsHoldOf (named l.catalogue) l.trash p.0 p.1) ids_held (holders seen fewer) (with_fewer _ (map_all (λ (p : Held). IsHoldOf (named l.catalogue) l.trash p.0 p.1) ids_held (holders seen l) stay.held));
@@ -177,7 +177,7 @@ module _ (rows : Rows) (sound : Bool) (told : Option Image) (low : Type 0) (seen
       copies = with_fewer _ kept.copies;
       versions = all_filtered IsVersioned pins l.pins kept.versions;
       stocked = λ ok. with_fewer _ (kept.stocked ok);
-      there = λ ok below i is. all_map (λ (p : PinFiles). Has p.1 i) (files_held rows) (holders seen fewer) (with_fewer _ (map_all (λ (p : PinFiles). Has p.1 i) (files_held rows) (holders seen l) (kept.there ok below i is)));
+      there = λ ok i is. all_map (λ (p : PinFiles). Has p.1 i) (files_held rows) (holders seen fewer) (with_fewer _ (map_all (λ (p : PinFiles). Has p.1 i) (files_held rows) (holders seen l) (kept.there ok i is)));
     }
       where
         stay : AreFiled (position + 1) (next_id l) (named l.catalogue) l.trash (map ids_held (holders seen l))

@@ -2,7 +2,6 @@
 use Rattle.std.proofs.Common.{◌≡◌, ℕ, ◌+◌, ◌*◌, ◌<◌, ◌≤◌, List, [], ◌∷◌, ◌++◌, map, length, Bool, sym, ◌∙◌, ap, subst, arith, Option, None}
 use Rattle.std.specs.List.{AllByRecursion}
 use Rattle.std.proofs.lemmas.List.{length-append}
-use Rattle.mesa_fault.specs.Causes.{last}
 use Rattle.mesa_disk.specs.Story.{Story, Unmoved}
 use Rattle.mesa_lease.specs.Book.{Book}
 use Rattle.mesa_model.specs.declared.entries.Entry.{Entry}
@@ -20,7 +19,7 @@ use Rattle.mesa_ledger.proofs.Standing.{held_unmoved, ready_unmoved}
 
 module _ (o : Outset) (g : Origin) (sound : Bool) (l : Ledger) (story : Story) (held : Option (List ℕ)) (h : List Entry) (running refused : Bool) (v : IsVault o g sound l story held h running refused) where
   -- what is kept of the holds between turns
-  pub kept_holds : AreKept v.rows sound story.told (story.moment < last) v.seen l (length h)
+  pub kept_holds : AreKept v.rows sound story.told v.seen l (length h)
   kept_holds = record { filed = v.filed; copies = v.copies; versions = v.versions; stocked = λ ok. (v.stocked ok).1; there = v.there }
 
   -- The catalogue stays, and what waits; the pins, the open queries, the leases and the closing position may be others.
@@ -29,7 +28,7 @@ module _ (o : Outset) (g : Origin) (sound : Bool) (l : Ledger) (story : Story) (
     after = record l { pins = pins; queries = queries; leases = leases; given = given; closed = closed }
 
     pub quiet_vault : (e : Entry) (new : Story) (new_held : Option (List ℕ)) (now told : Bool) → WalksOn o sound (books_of v.rows after) new new_held h e now told → Unmoved story new
-        → (closed ≡ None → l.closed ≡ None) → leases.granted ≤ l.leases.granted + 1 → AllByRecursion (λ n. n ≤ length h + 1) given → (seen : ℕ → Catalog) → AreKept v.rows sound story.told (story.moment < last) seen after (length h + 1)
+        → (closed ≡ None → l.closed ≡ None) → leases.granted ≤ l.leases.granted + 1 → AllByRecursion (λ n. n ≤ length h + 1) given → (seen : ℕ → Catalog) → AreKept v.rows sound story.told seen after (length h + 1)
         → IsVault o g sound after new new_held (h ++ e ∷ []) now told
     quiet_vault e new new_held now told on same opened granted counts seen kept = record {
       rows = v.rows;
@@ -37,7 +36,7 @@ module _ (o : Outset) (g : Origin) (sound : Bool) (l : Ledger) (story : Story) (
       seen = seen;
       walk = on.walk;
       ranges = v.ranges;
-      stands = λ ok below is. held_unmoved story new same v.bodies l.end l.catalogue v.rows (v.stands ok (subst (λ m. m < last) same.moment below) (opened is));
+      stands = λ ok is. held_unmoved story new same v.bodies l.end l.catalogue v.rows (v.stands ok (opened is));
       shaped = v.shaped;
       own = v.own;
       copies = kept.copies;
@@ -51,7 +50,7 @@ module _ (o : Outset) (g : Origin) (sound : Bool) (l : Ledger) (story : Story) (
       filed = subst (λ n. AreFiled n (next_id l) (named l.catalogue) l.trash (map ids_held (holders seen after))) (sym more) kept.filed;
       ready = λ is. ready_unmoved story new same after (was_ready is);
       read = λ ok. let was = v.read ok in (was.0, same.told ∙ was.1);
-      there = λ ok below i is. kept.there ok (subst (λ m. m < last) same.moment below) i (sym same.told ∙ is);
+      there = λ ok i is. kept.there ok i (sym same.told ∙ is);
       stocked = λ ok. ((v.stocked ok).0, kept.stocked ok);
       sourced = λ ok. subst (λ a. HasSources v.rows (all_written g.found a) l.catalogue) (sym (silent_accepts o.script (begins o.start) h e on.silent)) (v.sourced ok);
     }

@@ -2,7 +2,6 @@
 use Rattle.std.proofs.Common.{◌≡◌, ◌⊎◌, ℕ, ◌+◌, ◌*◌, ◌<◌, ◌≤◌, List, [], ◌∷◌, ◌++◌, map, length, Bool, refl, sym, ◌∙◌, ap, subst, arith, Option, None, Some, IsTrue}
 use Rattle.std.specs.List.{AllByRecursion}
 use Rattle.std.proofs.lemmas.List.{length-append}
-use Rattle.mesa_fault.specs.Causes.{last}
 use Rattle.mesa_disk.specs.Files.{AreGone}
 use Rattle.mesa_disk.specs.Image.{Image}
 use Rattle.mesa_disk.specs.Story.{Story, Steps}
@@ -41,7 +40,7 @@ more_given n (x ∷ ns) all = (omega (arith, all.0), more_given n ns all.1)
 
 module _ (o : Outset) (g : Origin) (sound : Bool) (l : Ledger) (story : Story) (held : Option (List ℕ)) (h : List Entry) (running refused : Bool) (v : IsVault o g sound l story held h running refused)
     (e : Entry) (new : Story) (new_held : Option (List ℕ)) (now told : Bool) (made : List (ℕ × Option (List ℕ))) (gone : List ℕ) (adopted : ℕ) (adopts : Adopts l made adopted)
-    (only : Steps (MovesOnly made (removed_by l (length h) gone)) story.told new.told) (later_clock : story.moment ≤ new.moment) where
+    (only : Steps (MovesOnly made (removed_by l (length h) gone)) story.told new.told) where
   more : length (h ++ e ∷ []) ≡ length h + 1
   more = length-append h (e ∷ [])
 
@@ -82,8 +81,8 @@ module _ (o : Outset) (g : Origin) (sound : Bool) (l : Ledger) (story : Story) (
     stay_all (x ∷ xs) i j moves low apart has =
         (files_stay v.rows later (next_id l) later_id agree x.1 low.0 made (removed_by l (length h) gone) i j moves adopts.given (λ id is named. (apart id is).0 named) has.0, stay_all xs i j moves low.1 (λ id is. (apart id is).1) has.1)
 
-    there_stays : IsTrue sound → new.moment < last → AreThere later v.seen l new
-    there_stays ok low j is = let before = only.back j is in stay_all (holders v.seen l) before.0 j before.2 below unheld (v.there ok (omega (arith, later_clock, low)) before.0 before.1)
+    there_stays : IsTrue sound → AreThere later v.seen l new
+    there_stays ok j is = let before = only.back j is in stay_all (holders v.seen l) before.0 j before.2 below unheld (v.there ok before.0 before.1)
 
     stocked_stays : IsTrue sound → AllByRecursion (λ (x : Holder). AreStocked later x.1) (holders v.seen l)
     stocked_stays ok = all_also (λ (x : Holder). (id : ℕ) → Among id (named x.1) → id < next_id l) (λ (x : Holder). AreStocked v.rows x.1) (λ (x : Holder). AreStocked later x.1) (holders v.seen l)
@@ -111,7 +110,7 @@ module _ (o : Outset) (g : Origin) (sound : Bool) (l : Ledger) (story : Story) (
       after = recorded_ledger l (length h) c generation gone leases adopted end
 
       -- The device work of the turn is done, and the ledger has its record.
-      pub recorded_vault : WalksWith o sound (books_of later after) new new_held h e now told rep → (IsTrue sound → new.moment < last → l.closed ≡ None → IsHeld new bodies end c later) → (IsTrue sound → AreStocked later c) → (l.closed ≡ None → end < new.len Zero)
+      pub recorded_vault : WalksWith o sound (books_of later after) new new_held h e now told rep → (IsTrue sound → l.closed ≡ None → IsHeld new bodies end c later) → (IsTrue sound → AreStocked later c) → (l.closed ≡ None → end < new.len Zero)
           → leases.granted ≤ l.leases.granted → generation ≡ l.generation + one_if (is_of_schemas rep) → (IsTrue sound → HasSources later (written_by o g.found (h ++ e ∷ [])) c) → IsVault o g sound after new new_held (h ++ e ∷ []) now told
       recorded_vault on stands stocked long granted counted sourced = record {
         rows = later;
@@ -157,7 +156,7 @@ module _ (o : Outset) (g : Origin) (sound : Bool) (l : Ledger) (story : Story) (
     seen = v.seen;
     walk = on.walk;
     ranges = v.ranges;
-    stands = λ ok low is. absurd (let never : Some position ≡ None = is in cc);
+    stands = λ ok is. absurd (let never : Some position ≡ None = is in cc);
     shaped = v.shaped;
     own = v.own;
     copies = v.copies;

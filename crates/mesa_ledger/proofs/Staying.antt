@@ -1,7 +1,6 @@
 -- How each turn that moves no image keeps a vault.
 use Rattle.std.proofs.Common.{◌≡◌, ℕ, ◌+◌, ◌<◌, ◌≤◌, List, [], ◌∷◌, ◌++◌, length, Bool, true, not, refl, sym, ap, subst, arith, Option, None, Some, IsTrue}
 use Rattle.std.specs.Prelude.{filter}
-use Rattle.mesa_fault.specs.Causes.{last}
 use Rattle.mesa_commit.specs.Images.{Has}
 use Rattle.mesa_disk.specs.Image.{Image}
 use Rattle.mesa_disk.specs.Story.{Story, Unmoved}
@@ -28,18 +27,18 @@ all_stay (x ∷ xs) = ap (λ ys. x ∷ ys) (all_stay xs)
 
 module _ (o : Outset) (g : Origin) (sound : Bool) (l : Ledger) (story : Story) (held : Option (List ℕ)) (h : List Entry) (running refused : Bool) (v : IsVault o g sound l story held h running refused) where
   -- while a vault is open, each image stands for its catalogue, and a read gives its files
-  pub stands_now : l.closed ≡ None → IsTrue sound → story.moment < last → AllStand StandsFor story (kept_of v.rows l.catalogue)
-  stands_now is ok low = held_stand story v.bodies l.end l.catalogue v.rows (v.stands ok low is)
+  pub stands_now : l.closed ≡ None → IsTrue sound → AllStand StandsFor story (kept_of v.rows l.catalogue)
+  stands_now is ok = held_stand story v.bodies l.end l.catalogue v.rows (v.stands ok is)
 
-  pub there_now : l.closed ≡ None → IsTrue sound → story.moment < last → (i : Image) → story.told ≡ Some i → Has (wants v.rows (shelved l.catalogue)) i
-  there_now is ok low i told = held_there story v.bodies l.end l.catalogue v.rows (v.stands ok low is) i told
+  pub there_now : l.closed ≡ None → IsTrue sound → (i : Image) → story.told ≡ Some i → Has (wants v.rows (shelved l.catalogue)) i
+  there_now is ok i told = held_there story v.bodies l.end l.catalogue v.rows (v.stands ok is) i told
 
   module _ (e : Entry) (new : Story) (new_held : Option (List ℕ)) (now told : Bool) (same : Unmoved story new) where
-    abbrev kept : AreKept v.rows sound story.told (story.moment < last) v.seen l (length h)
+    abbrev kept : AreKept v.rows sound story.told v.seen l (length h)
     kept = kept_holds o g sound l story held h running refused v
 
-    abbrev stay : AreKept v.rows sound story.told (story.moment < last) v.seen l (length h + 1)
-    stay = holds_stay v.rows sound story.told (story.moment < last) v.seen l (length h) kept
+    abbrev stay : AreKept v.rows sound story.told v.seen l (length h + 1)
+    stay = holds_stay v.rows sound story.told v.seen l (length h) kept
 
     -- Nothing changes: a look, an explain, whatever is refused or not done, a query at a pin, and a turn that is skipped.
     pub still_vault : WalksOn o sound (books_of v.rows l) new new_held h e now told → IsVault o g sound l new new_held (h ++ e ∷ []) now told
@@ -67,14 +66,14 @@ module _ (o : Outset) (g : Origin) (sound : Bool) (l : Ledger) (story : Story) (
     queried_vault is session hold hold_is on =
         quiet_vault o g sound l story held h running refused v l.pins (l.queries ++ record { session = session; hold = hold } ∷ []) l.leases l.given l.closed e new new_held now told on same (λ o. o) (omega arith) (more_given (length h) l.given v.counts.given)
         (seen_more v.seen (length h) l.catalogue)
-        (query_kept v.rows sound story.told (story.moment < last) v.seen l (length h) kept v.shaped (λ ok. (v.stocked ok).0) (there_now is) (record { session = session; hold = hold }) hold_is)
+        (query_kept v.rows sound story.told v.seen l (length h) kept v.shaped (λ ok. (v.stocked ok).0) (there_now is) (record { session = session; hold = hold }) hold_is)
 
     -- Its hold is given back.
     pub answered_vault : (stays : OpenQuery → Bool) → WalksOn o sound (books_of v.rows (answered_ledger l stays)) new new_held h e now told → IsVault o g sound (answered_ledger l stays) new new_held (h ++ e ∷ []) now told
     answered_vault stays on =
         quiet_vault o g sound l story held h running refused v l.pins (answered_ledger l stays).queries l.leases l.given l.closed e new new_held now told on same (λ is. is) (omega arith) (more_given (length h) l.given v.counts.given) v.seen
-        (subst (λ pins. AreKept v.rows sound story.told (story.moment < last) v.seen (record l { pins = pins; queries = (answered_ledger l stays).queries }) (length h + 1)) (all_stay l.pins)
-        (fewer_kept v.rows sound story.told (story.moment < last) v.seen l (length h) kept (λ p. true) stays))
+        (subst (λ pins. AreKept v.rows sound story.told v.seen (record l { pins = pins; queries = (answered_ledger l stays).queries }) (length h + 1)) (all_stay l.pins)
+        (fewer_kept v.rows sound story.told v.seen l (length h) kept (λ p. true) stays))
 
     -- ---- pins
 
@@ -84,7 +83,7 @@ module _ (o : Outset) (g : Origin) (sound : Bool) (l : Ledger) (story : Story) (
     pinned_vault is session version hold hold_is versioned on =
         quiet_vault o g sound l story held h running refused v (pinned_ledger l session version hold).pins l.queries l.leases (pinned_ledger l session version hold).given l.closed e new new_held now told
         (subst (λ b. WalksOn o sound b new new_held h e now told) (sym (pinned_as v.rows l session version hold)) on) same (λ o. o) (omega arith) (counted_more (length h) l.given session v.counts.given) v.seen
-        (let more = pin_kept v.rows sound story.told (story.moment < last) v.seen l (length h) kept v.shaped (λ ok. (v.stocked ok).0) (there_now is) (pin_now l session version hold) hold_is refl versioned in
+        (let more = pin_kept v.rows sound story.told v.seen l (length h) kept v.shaped (λ ok. (v.stocked ok).0) (there_now is) (pin_now l session version hold) hold_is refl versioned in
         record { filed = more.filed; copies = more.copies; versions = more.versions; stocked = more.stocked; there = more.there })
 
     -- A pin is released.
@@ -92,5 +91,5 @@ module _ (o : Outset) (g : Origin) (sound : Bool) (l : Ledger) (story : Story) (
     released_vault session token on =
         quiet_vault o g sound l story held h running refused v (released_ledger l session token).pins l.queries l.leases l.given l.closed e new new_held now told
         (subst (λ b. WalksOn o sound b new new_held h e now told) (sym (released_as v.rows l session token)) on) same (λ is. is) (omega arith) (more_given (length h) l.given v.counts.given) v.seen
-        (subst (λ queries. AreKept v.rows sound story.told (story.moment < last) v.seen (record l { pins = (released_ledger l session token).pins; queries = queries }) (length h + 1)) (all_stay l.queries)
-        (fewer_kept v.rows sound story.told (story.moment < last) v.seen l (length h) kept (λ p. not (is_held_pin session token p)) (λ q. true)))
+        (subst (λ queries. AreKept v.rows sound story.told v.seen (record l { pins = (released_ledger l session token).pins; queries = queries }) (length h + 1)) (all_stay l.queries)
+        (fewer_kept v.rows sound story.told v.seen l (length h) kept (λ p. not (is_held_pin session token p)) (λ q. true)))

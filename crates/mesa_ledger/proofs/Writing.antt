@@ -1,6 +1,5 @@
 -- How a command that writes, and the swap of a work, keep a vault.
 use Rattle.std.proofs.Common.{◌≡◌, ℕ, ◌+◌, ◌<◌, ◌^◌, ◌≤◌, List, [], ◌∷◌, ◌++◌, length, Bool, true, false, ◌||◌, sym, ◌∙◌, subst, Ok, arith, Option, None, Some, IsTrue}
-use Rattle.mesa_fault.specs.Causes.{last}
 use Rattle.mesa_disk.specs.Files.{AreGone}
 use Rattle.mesa_disk.specs.Image.{Image}
 use Rattle.mesa_disk.specs.Story.{Story, Steps}
@@ -68,23 +67,23 @@ module _ (n : Starts) (w : Rows) (sound : Bool) (l : Ledger) (story : Story) (he
     after = recorded_ledger l (length h) x generation gone l.leases adopted end
 
     -- Its device work is done.
-    pub written_vault : Counts story new false → (bodies : List (List ℕ)) → (IsTrue sound → new.moment < last → IsHeld new bodies end x later) → ((i : Image) → new.told ≡ Some i → AreGone (removed_by l (length h) gone) i) → (IsTrue sound → AreStocked later x) → end < new.len Zero
+    pub written_vault : Counts story new false → (bodies : List (List ℕ)) → (IsTrue sound → IsHeld new bodies end x later) → ((i : Image) → new.told ≡ Some i → AreGone (removed_by l (length h) gone) i) → (IsTrue sound → AreStocked later x) → end < new.len Zero
         → generation ≡ l.generation + one_if (is_of_schemas rep) → (told_by o.script (run_of o h) (turn_with outcome.Stands) ≡ Some (told_at (run_of o h).position rep) → IsTrue sound → HasSources later (written_by o g.found (h ++ turn_with outcome.Stands ∷ [])) x)
         → IsPut (block (turn_with outcome.Stands) (Some (told_at at rep))) now held new_held → IsVault o g sound after new new_held (h ++ turn_with outcome.Stands ∷ []) now (refused || is_refusal rep)
     written_vault counts bodies holds gone_now stocked long risen sources put =
-        recorded_vault o g sound l story held h running refused v (turn_with outcome.Stands) new new_held now (refused || is_refusal rep) made gone adopted adopts only passes.later later x recorded gone_now generation l.leases end bodies rep
-        on (λ ok below is. holds ok below) stocked (λ is. long) (omega arith) risen (sources on.tells)
+        recorded_vault o g sound l story held h running refused v (turn_with outcome.Stands) new new_held now (refused || is_refusal rep) made gone adopted adopts only later x recorded gone_now generation l.leases end bodies rep
+        on (λ ok is. holds ok) stocked (λ is. long) (omega arith) risen (sources on.tells)
       where
         on : WalksWith o sound (books_of later after) new new_held h (turn_with outcome.Stands) now (refused || is_refusal rep) rep
-        on = written_turn o sound (books_of v.rows l) story held h running refused v.walk session number low few c stage f d due m ran at place (books_of later after) rep change writes_is new moment passes (stands_now o g sound l story held h running refused v was_open) writes now new_held
-            counts (λ ok below. held_stand new bodies end x later (holds ok below)) put
+        on = written_turn o sound (books_of v.rows l) story held h running refused v.walk session number low few c stage f d due m ran at place (books_of later after) rep change writes_is new moment passes (λ ok low. stands_now o g sound l story held h running refused v was_open ok) writes now new_held
+            counts (λ ok low. held_stand new bodies end x later (holds ok)) put
 
     -- Its device work has failed.
     pub unwritten_vault : is_writing c ≡ true → Counts story new true → IsPut (block (turn_with outcome.WriteFault) (Some (told_at at (reply_of Unwritten)))) now held new_held
         → IsVault o g sound (failed_ledger l at l.leases adopted) new new_held (h ++ turn_with outcome.WriteFault ∷ []) now (refused || true)
     unwritten_vault can counts put =
-        failed_vault o g sound l story held h running refused v (turn_with outcome.WriteFault) new new_held now (refused || true) made gone adopted adopts only passes.later at l.leases x recorded.renames
-        (unwritten_turn o sound (books_of v.rows l) story held h running refused v.walk session number low few c stage f d due m ran at place (books_of later after) rep change writes_is new moment passes (stands_now o g sound l story held h running refused v was_open) writes now new_held can counts put)
+        failed_vault o g sound l story held h running refused v (turn_with outcome.WriteFault) new new_held now (refused || true) made gone adopted adopts only at l.leases x recorded.renames
+        (unwritten_turn o sound (books_of v.rows l) story held h running refused v.walk session number low few c stage f d due m ran at place (books_of later after) rep change writes_is new moment passes (λ ok low. stands_now o g sound l story held h running refused v was_open ok) writes now new_held can counts put)
         (omega arith)
 
   -- ---- the swap of a work
@@ -99,17 +98,17 @@ module _ (n : Starts) (w : Rows) (sound : Bool) (l : Ledger) (story : Story) (he
     swapped_ledger = recorded_ledger l (length h) x generation gone (ended claim.table claim.lease l.leases) adopted end
 
     -- Its device work is done: the lease has ended.
-    pub swapped_vault : Counts story new false → (bodies : List (List ℕ)) → (IsTrue sound → new.moment < last → IsHeld new bodies end x later) → ((i : Image) → new.told ≡ Some i → AreGone (removed_by l (length h) gone) i) → (IsTrue sound → AreStocked later x) → end < new.len Zero
+    pub swapped_vault : Counts story new false → (bodies : List (List ℕ)) → (IsTrue sound → IsHeld new bodies end x later) → ((i : Image) → new.told ≡ Some i → AreGone (removed_by l (length h) gone) i) → (IsTrue sound → AreStocked later x) → end < new.len Zero
         → generation ≡ l.generation → (told_by o.script (run_of o h) (closes_with outcome.Stands) ≡ Some (told_at (run_of o h).position (swapped_reply claim.work)) → IsTrue sound → HasSources later (written_by o g.found (h ++ closes_with outcome.Stands ∷ [])) x)
         → IsPut (block (closes_with outcome.Stands) (Some (told_at at (swapped_reply claim.work)))) now held new_held → IsVault o g sound swapped_ledger new new_held (h ++ closes_with outcome.Stands ∷ []) now (refused || false)
     swapped_vault counts bodies holds gone_now stocked long same sources put =
-        recorded_vault o g sound l story held h running refused v (closes_with outcome.Stands) new new_held now (refused || false) made gone adopted adopts only passes.later later x recorded gone_now generation (ended claim.table claim.lease l.leases) end bodies (swapped_reply claim.work)
-        on (λ ok below is. holds ok below) stocked (λ is. long) (subst (λ q. q ≤ l.leases.granted) (sym (ended_granted claim.table claim.lease l.leases)) (omega arith)) (same ∙ no_schemas claim.work) (sources on.tells)
+        recorded_vault o g sound l story held h running refused v (closes_with outcome.Stands) new new_held now (refused || false) made gone adopted adopts only later x recorded gone_now generation (ended claim.table claim.lease l.leases) end bodies (swapped_reply claim.work)
+        on (λ ok is. holds ok) stocked (λ is. long) (subst (λ q. q ≤ l.leases.granted) (sym (ended_granted claim.table claim.lease l.leases)) (omega arith)) (same ∙ no_schemas claim.work) (sources on.tells)
       where
         on : WalksWith o sound (books_of later swapped_ledger) new new_held h (closes_with outcome.Stands) now (refused || false) (swapped_reply claim.work)
         on = subst (λ b. WalksWith o sound b new new_held h (closes_with outcome.Stands) now (refused || false) (swapped_reply claim.work)) (sym books_are)
-            (swapped_turn o sound (books_of v.rows l) story held h running refused v.walk session number low few name m ran at place claim due checked new moment passes (stands_now o g sound l story held h running refused v was_open) (kept_of later x) swaps writes now new_held
-            counts (λ ok below. held_stand new bodies end x later (holds ok below)) put)
+            (swapped_turn o sound (books_of v.rows l) story held h running refused v.walk session number low few name m ran at place claim due checked new moment passes (λ ok low. stands_now o g sound l story held h running refused v was_open ok) (kept_of later x) swaps writes now new_held
+            counts (λ ok low. held_stand new bodies end x later (holds ok)) put)
 
         no_schemas : (r : Work) → l.generation ≡ l.generation + one_if (is_of_schemas (swapped_reply r))
         no_schemas (range.Base to) = omega arith
@@ -119,6 +118,6 @@ module _ (n : Starts) (w : Rows) (sound : Bool) (l : Ledger) (story : Story) (he
     pub unswapped_vault : Counts story new true → IsPut (block (closes_with outcome.WriteFault) (Some (told_at at (reply_of Unwritten)))) now held new_held
         → IsVault o g sound (failed_ledger l at (ended claim.table claim.lease l.leases) adopted) new new_held (h ++ closes_with outcome.WriteFault ∷ []) now (refused || true)
     unswapped_vault counts put =
-        failed_vault o g sound l story held h running refused v (closes_with outcome.WriteFault) new new_held now (refused || true) made gone adopted adopts only passes.later at (ended claim.table claim.lease l.leases) x recorded.renames
-        (unswapped_turn o sound (books_of v.rows l) story held h running refused v.walk session number low few name m ran at place claim due checked new moment passes (stands_now o g sound l story held h running refused v was_open) (kept_of later x) swaps writes now new_held counts put)
+        failed_vault o g sound l story held h running refused v (closes_with outcome.WriteFault) new new_held now (refused || true) made gone adopted adopts only at (ended claim.table claim.lease l.leases) x recorded.renames
+        (unswapped_turn o sound (books_of v.rows l) story held h running refused v.walk session number low few name m ran at place claim due checked new moment passes (λ ok low. stands_now o g sound l story held h running refused v was_open ok) (kept_of later x) swaps writes now new_held counts put)
         (subst (λ q. q ≤ l.leases.granted) (sym (ended_granted claim.table claim.lease l.leases)) (omega arith))

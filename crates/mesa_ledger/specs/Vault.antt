@@ -1,7 +1,6 @@
 -- What a vault keeps whenever no turn is under way.
 use Rattle.std.specs.Prelude.{◌≡◌, ℕ, ◌+◌, ◌*◌, ◌<◌, ◌≤◌, List, map, Bool, Option, None, Some, IsTrue, length}
 use Rattle.std.specs.List.{AllByRecursion}
-use Rattle.mesa_fault.specs.Causes.{last}
 use Rattle.mesa_disk.specs.Image.{Image}
 use Rattle.mesa_disk.specs.Story.{Story}
 use Rattle.mesa_disk.specs.declared.area.Area.TheVariants.{Zero}
@@ -46,7 +45,7 @@ pub record IsReady (l : Ledger) (story : Story) : Type 0 where
 abbrev pub IsRead : Story → Type 0
 IsRead story = (i : Image) × (story.told ≡ Some i)
 
--- Where the store was sound, and while the clock is below its last value, the files of every pin and every open query are there with the bytes of their rows.
+-- Whatever image a read gives: the files of every pin and every open query are there with the bytes of their rows.
 abbrev pub AreThere : Rows → (ℕ → Catalog) → Ledger → Story → Type 0
 AreThere rows seen l story = (i : Image) → story.told ≡ Some i → AllByRecursion (λ (p : PinFiles). Has p.1 i) (map (files_held rows) (holders seen l))
 
@@ -81,7 +80,7 @@ pub record IsVault (o : Outset) (g : Origin) (sound : Bool) (l : Ledger) (story 
   pub seen : ℕ → Catalog
   pub walk : IsWalk o sound (books_of rows l) story held h running refused
   pub ranges : HasRanges o.start
-  pub stands : IsTrue sound → story.moment < last → l.closed ≡ None → IsHeld story bodies l.end l.catalogue rows
+  pub stands : IsTrue sound → l.closed ≡ None → IsHeld story bodies l.end l.catalogue rows
   pub shaped : IsCatalog l.catalogue
   pub own : HasOwnIds l.catalogue
   pub copies : AreShaped seen l
@@ -90,7 +89,7 @@ pub record IsVault (o : Outset) (g : Origin) (sound : Bool) (l : Ledger) (story 
   pub filed : IsFiled seen l h
   pub ready : l.closed ≡ None → IsReady l story
   pub read : IsTrue sound → IsRead story
-  pub there : IsTrue sound → story.moment < last → AreThere rows seen l story
+  pub there : IsTrue sound → AreThere rows seen l story
   pub stocked : IsTrue sound → AllStocked rows seen l
   pub sourced : IsTrue sound → HasSources rows (written_by o g.found h) l.catalogue
 

@@ -1,5 +1,6 @@
 // A vault's memory, and what it is asked.
 ghost use Rattle.std.specs.Prelude.{◌≡◌, ◌+◌, ◌<◌, ◌≤◌, ◌^◌, find, length, option_map, None};
+ghost use Rattle.mesa_catalog.specs.Lookups.{generation_of};
 ghost use Rattle.mesa_lease.specs.Book.{holder};
 ghost use Rattle.mesa_ledger.specs.Ledger.{next_id};
 ghost use Rattle.mesa_ledger.specs.Turned.{is_held_pin};
@@ -94,9 +95,18 @@ impl Metadata {
         &self.catalog
     }
 
+    /// The run's number.
+    pub fn run(&self) -> u32
+        ensures number { result ≡ self.now.ledger.catalogue.run }
+        ensures few { result < 2 ^ 24 }
+    {
+        self.catalog.run()
+    }
+
     /// How often the catalogue's tables, views and columns were made or changed.
     pub fn generation(&self) -> u64
-        ensures { result ≡ self.now.ledger.generation }
+        ensures ledger { result ≡ self.now.ledger.generation }
+        ensures catalogue { result ≡ generation_of self.now.ledger.catalogue }
     {
         self.catalog.generation()
     }

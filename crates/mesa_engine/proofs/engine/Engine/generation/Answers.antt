@@ -7,4 +7,4 @@ use Rattle.mesa_engine.proofs.engine.Engine.generation.Goals as goal
 pub returns : goal.returns
 returns g c w =
     subst (λ (s : Standing). c.generation.result ≡ (g.N.Naming.origin w).generation + schema_changes g.N.Naming.script (begins (g.N.Naming.start w)) s.shown.history) c.self.view_is
-    (c.generation.ensures ∙ (c.self.invariant.vault w false (λ is. absurd cc)).counts.generation)
+    (c.generation.ensures.ledger ∙ (c.self.invariant.vault w false (λ is. absurd cc)).counts.generation)

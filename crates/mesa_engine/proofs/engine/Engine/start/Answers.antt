@@ -1,6 +1,7 @@
 use Rattle.std.proofs.Common.{◌≡◌, ◌≤◌, [], true, false, sym, ap, subst, arith}
 use Rattle.std.specs.List.{AllByRecursion}
 use Rattle.mesa_metadata.specs.Memory.{Memory}
+use Rattle.mesa_skeleton.specs.Rows.{no_rows}
 use Rattle.mesa_model.specs.declared.entries.Entry.{Entry}
 use Rattle.mesa_ledger.specs.Vault.{Starts, IsVault, outset_of}
 use Rattle.mesa_engine.specs.Engine.{starts_of}
@@ -25,4 +26,5 @@ invariant_of-result g c =
       begun = subst (AllByRecursion (λ (e : Entry). n.since ≤ e.moment)) (sym c.requires.empty) tt;
       failed = λ is. absurd (let never : false ≡ true = is in cc);
       whole = λ is. c.requires.faults;
+      first = λ empty. (c.requires.begun no_rows false (λ is. absurd cc)).sink;
     }
