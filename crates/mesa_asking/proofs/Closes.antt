@@ -2,7 +2,7 @@
 use Rattle.std.proofs.Common.{◌≡◌, inl, inr, ℕ, ◌<◌, ◌≤◌, ◌^◌, List, [], ◌∷◌, ◌++◌, Bool, true, false, ◌||◌, not, IsTrue, refl, sym, ◌∙◌, ap, subst, arith, Option, None, Some, Result, Ok, Err}
 use Rattle.std.specs.Prelude.{is_some, vec_capacity}
 use Rattle.std.specs.List.{AllByRecursion}
-use Rattle.mesa_asking.specs.Closing.{IsPageOf, IsToClose, SomeFailed, cause_if, closing_entry, closing_text}
+use Rattle.mesa_asking.specs.Closing.{IsPageOf, IsToClose, cause_if, closing_entry, closing_text}
 use Rattle.mesa_cursor.specs.Cursors.{reader_in}
 use Rattle.mesa_delta.specs.declared.error.FileError.{FileError}
 use Rattle.mesa_delta.specs.declared.input.Input.{Input}
@@ -29,7 +29,7 @@ use Rattle.mesa_model.specs.declared.entries.Kind.TheVariants as kind
 use Rattle.mesa_output.specs.Output.{block}
 use Rattle.mesa_script.specs.declared.rendered.Rendered.{Rendered}
 use Rattle.mesa_skeleton.specs.Rows.{Rows}
-use Rattle.mesa_tasks.specs.GivingBack.{GivesBack}
+use Rattle.mesa_tasks.specs.GivingBack.{GivesBack, SomeFailed}
 use Rattle.mesa_walk.proofs.Asking.{close_turn}
 use Rattle.mesa_walk.proofs.Going.{close_takes}
 use Rattle.mesa_walk.specs.Causes.{Cause}

@@ -1,9 +1,7 @@
 -- What is handed to the turn that closes a query.
-use Rattle.std.specs.Prelude.{◌≡◌, ◌⊎◌, ℕ, ◌<◌, List, [], ◌∷◌, Option, None, Some, Result, Ok, Err, ⊤}
-use Rattle.mesa_cursor.specs.Cursors.{reader_in}
+use Rattle.std.specs.Prelude.{◌≡◌, ℕ, List, Option, None, Some, Result, Ok, Err, ⊤}
 use Rattle.mesa_delta.specs.declared.error.FileError.{FileError}
 use Rattle.mesa_delta.specs.declared.error.FileError.TheVariants as file_error
-use Rattle.mesa_delta.specs.declared.input.Input.{Input}
 use Rattle.mesa_filter.specs.declared.words.QueryWords.{QueryWords}
 use Rattle.mesa_history.specs.Run.{Run}
 use Rattle.mesa_log.specs.Printing.{page_text}
@@ -47,8 +45,3 @@ closing_entry session number answered moment = entry session number kind.Close (
 abbrev pub closing_text : Entry → ℕ → ℕ → Result Rendered FileError → List ℕ
 closing_text e at version (Ok page) = page_text e at version page
 closing_text e at version (Err error) = block e (Some (told_at at (reply_of (cause_of error))))
-
--- One of the inputs' readers has failed.
-abbrev pub SomeFailed : {R : Type 0} → (R → ℕ) → List (Input R) → Type 0
-SomeFailed faults [] = ⊥
-SomeFailed faults (i ∷ inputs) = (0 < faults (reader_in i)) ⊎ SomeFailed faults inputs

@@ -1,7 +1,7 @@
 // A query's last turn.
-ghost use Rattle.std.specs.Prelude.{◌≡◌, ◌<◌, ◌≤◌, ◌||◌, ◌++◌, ◌∷◌, [], true, not, is_some, length, vec_capacity, vec_len};
-ghost use Rattle.mesa_asking.specs.Closing.{IsPageOf, IsToClose, SomeFailed, cause_if, cause_of, closing_entry, closing_text};
-ghost use Rattle.mesa_asking.specs.Damages.{HasDiffered};
+ghost use Rattle.std.specs.Prelude.{◌≡◌, ◌<◌, ◌≤◌, ◌||◌, ◌++◌, ◌∷◌, [], true, not, is_some, length, vec_capacity, vec_len, IfErr};
+ghost use Rattle.mesa_asking.specs.Closing.{IsPageOf, IsToClose, cause_if, cause_of, closing_entry, closing_text};
+ghost use Rattle.mesa_tasks.specs.Errors.{HasDiffered};
 ghost use Rattle.mesa_fault.specs.Causes.{last};
 ghost use Rattle.mesa_history.specs.Run.{Finished};
 ghost use Rattle.mesa_ledger.specs.Turned.{answered_ledger};
@@ -11,7 +11,7 @@ ghost use Rattle.mesa_metadata.specs.Memory.{is_of_another};
 ghost use Rattle.mesa_model.specs.Entry.{IsShort};
 ghost use Rattle.mesa_model.specs.declared.entries.Kind.TheVariants as kind;
 ghost use Rattle.mesa_skeleton.specs.Rows.{Rows, no_rows};
-ghost use Rattle.mesa_tasks.specs.GivingBack.{pinned_inputs};
+ghost use Rattle.mesa_tasks.specs.GivingBack.{SomeFailed, pinned_inputs};
 ghost use Rattle.mesa_walk.specs.Printing.{IsPut};
 ghost use Rattle.mesa_walk.specs.Queries.{closing_fault};
 ghost use Rattle.mesa_walk.specs.Turns.{Takes};
@@ -81,7 +81,7 @@ pub fn close_query<N: Naming, M: Made, D: Disk<M>, K: Sink>(
 )
     // On a sound store, while the clock is below its last value, the page is that of the answer, whatever rows the files had when the run began.
     requires due { (w : Rows) → IsToClose N.script (run_at N.script (N.start w) engine.old.shown.history) who.session who.command pinned.at (λ answer. N.sound w → engine.old.shown.clock < last → IsPageOf answered pinned.version answer) }
-    requires damaged { HasDiffered answered }
+    requires damaged { IfErr answered HasDiffered }
     requires read { closing_fault (cause_if answered) ≡ true → SomeFailed D.Reader.faults (pinned_inputs pinned) }
     requires room { length engine.old.shown.history < N.room }
     ensures turn { Takes N.script (N.start no_rows) engine.old.shown engine.new.shown who.session who.command kind.Close Finished }

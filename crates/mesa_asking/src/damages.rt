@@ -1,6 +1,6 @@
 // Damage, as it can be told.
-ghost use Rattle.std.specs.Prelude.{◌≡◌, ◌<◌, ◌^◌, length};
-ghost use Rattle.mesa_asking.specs.Damages.{Differs, HasDiffered};
+ghost use Rattle.std.specs.Prelude.{◌≡◌, ◌<◌, ◌^◌, length, IfErr};
+ghost use Rattle.mesa_tasks.specs.Errors.{Differs, HasDiffered};
 ghost use Rattle.mesa_asking.specs.Closing.{cause_if};
 ghost use Rattle.mesa_key.specs.Spelling.{AreBytes};
 ghost use Rattle.mesa_output.specs.Output.{IsDamage, IsSeen};
@@ -45,7 +45,7 @@ pub fn can_be_told(damage: Damage)
 
 // What comes in the place of an answer can be told.
 pub(crate) fn may_be_told(answered: &Result<Rendered, FileError>)
-    requires { HasDiffered answered.now }
+    requires { IfErr answered.now HasDiffered }
     ensures { MayClose (cause_if answered.now) }
 {
     if let Err(FileError::Damaged(damage)) = answered {

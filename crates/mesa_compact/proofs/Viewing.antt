@@ -16,7 +16,7 @@ use Rattle.mesa_merge.specs.Faults.{faults_of}
 use Rattle.mesa_merge.specs.Inputs.{Known, known_of, knowns_of}
 use Rattle.mesa_merge.specs.Inputs.{AreInputs as AreMergeable}
 use Rattle.mesa_tasks.specs.GivingBack.{own_inputs}
-use Rattle.mesa_tasks.specs.Inputs.{AreInputs, AreInputsOf, IsMergeOf}
+use Rattle.mesa_tasks.specs.Inputs.{AreInputsTo, AreInputsOf, IsMergeOf}
 use Rattle.mesa_tasks.specs.Made.{IsMadeFile}
 use Rattle.mesa_tasks.specs.Serials.{Drafts, next_serials}
 use Rattle.mesa_tasks.specs.Tasks.{AreMergedViews, AreTaskViews, HasOwn, IsMergedView, MergeOnlyTo}
@@ -84,12 +84,12 @@ drop_none (x ∷ xs) (suc i) e = let le : length xs ≤ i = drop_none xs i e in 
 
 -- ---- inputs
 
-pub mergeable : {R : Type 0} (bytes : R → Option (List ℕ)) (s : Columns) (inputs : List (Input R)) → AreInputs bytes s inputs → AreMergeable bytes s inputs
+pub mergeable : {R : Type 0} (bytes : R → Option (List ℕ)) (s : Columns) (inputs : List (Input R)) → AreInputsTo bytes s inputs → AreMergeable bytes s inputs
 mergeable bytes s [] h = record { each = tt; alike = tt }
 mergeable bytes s (i ∷ is) h = let more = mergeable bytes s is h.1 in record { each = (h.0.0, more.each); alike = (h.0.1, more.alike) }
 
 -- inputs of a table are lifted to its columns
-pub of_table : {R : Type 0} (bytes : R → Option (List ℕ)) (l : Lineage) (inputs : List (Input R)) → AreInputsOf bytes l inputs → AreInputs bytes (columns_of l) inputs
+pub of_table : {R : Type 0} (bytes : R → Option (List ℕ)) (l : Lineage) (inputs : List (Input R)) → AreInputsOf bytes l inputs → AreInputsTo bytes (columns_of l) inputs
 of_table bytes l [] h = tt
 of_table bytes l (i ∷ is) h = ((h.0.0, ap (λ (t : Lineage). columns_of t) h.0.1), of_table bytes l is h.1)
 
@@ -103,7 +103,7 @@ all_kept bytes P (o ∷ old) (n ∷ new) each same h =
     let rest : knowns_of bytes new ≡ knowns_of bytes old = cc in
     ((each.0, subst P (sym table) h.0.1), all_kept bytes P old new each.1 rest h.1)
 
-pub inputs_kept : {R : Type 0} (bytes : R → Option (List ℕ)) (s : Columns) (old new : List (Input R)) → AllByRecursion (IsInput bytes) new → knowns_of bytes new ≡ knowns_of bytes old → AreInputs bytes s old → AreInputs bytes s new
+pub inputs_kept : {R : Type 0} (bytes : R → Option (List ℕ)) (s : Columns) (old new : List (Input R)) → AllByRecursion (IsInput bytes) new → knowns_of bytes new ≡ knowns_of bytes old → AreInputsTo bytes s old → AreInputsTo bytes s new
 inputs_kept bytes s old new each same h = all_kept bytes (λ l. columns_of l ≡ s) old new each same h
 
 pub table_kept : {R : Type 0} (bytes : R → Option (List ℕ)) (l : Lineage) (old new : List (Input R)) → AllByRecursion (IsInput bytes) new → knowns_of bytes new ≡ knowns_of bytes old → AreInputsOf bytes l old → AreInputsOf bytes l new
@@ -121,7 +121,7 @@ own_some {R = R} t own empty is length_is = by own.items refl empty length_is
 pub files_some : {R : Type 0} (t : TaskView R) (own : Vec (Input R) Global) → HasFiles t → t.inputs ≡ Some own → 0 < length own.items
 files_some t own files is = let same : files.0 ≡ own = cc in subst (λ (v : Vec (Input _) Global). 0 < length v.items) same files.2
 
-pub own_inputs_of : {R : Type 0} (bytes : R → Option (List ℕ)) (s : Columns) (t : TaskView R) (own : Vec (Input R) Global) → HasOwn bytes s t.inputs → t.inputs ≡ Some own → AreInputs bytes s own.items
+pub own_inputs_of : {R : Type 0} (bytes : R → Option (List ℕ)) (s : Columns) (t : TaskView R) (own : Vec (Input R) Global) → HasOwn bytes s t.inputs → t.inputs ≡ Some own → AreInputsTo bytes s own.items
 own_inputs_of {R = R} bytes s t own has is = subst (HasOwn bytes s) is has
 
 pub own_bounded : {R : Type 0} (bytes : R → Option (List ℕ)) (s : Columns) (inputs : Option (Vec (Input R) Global)) (own : Vec (Input R) Global) → inputs ≡ Some own → AreOwnBounded bytes s inputs → AreBounded s (knowns_of bytes own.items)

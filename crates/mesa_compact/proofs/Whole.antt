@@ -20,7 +20,7 @@ use Rattle.mesa_compact.specs.Bounded.{AreBounded}
 use Rattle.mesa_compact.proofs.Following.{folded_bound}
 use Rattle.mesa_schema.specs.Rows.{AreRowsOf}
 use Rattle.mesa_compact.specs.Damaged.{IsNewestOf}
-use Rattle.mesa_tasks.specs.Inputs.{HaveRows, IsMergeOf, lifted_parts}
+use Rattle.mesa_tasks.specs.Inputs.{HaveRows, IsMergeOf, present_parts}
 
 -- ---- some rows
 
@@ -57,7 +57,7 @@ newest_kept bytes before now id same newest = subst (λ (ks : List Known). IsNew
 
 -- ---- the merge of inputs
 
-parts_of : {R : Type 0} (bytes : R → Option (List ℕ)) (is : List (Input R)) (gs : List (List Row)) → AreAll (knowns_of bytes is) gs → (parts : List (List Row)) × HaveRows bytes is parts × (gs ≡ lifted_parts is parts)
+parts_of : {R : Type 0} (bytes : R → Option (List ℕ)) (is : List (Input R)) (gs : List (List Row)) → AreAll (knowns_of bytes is) gs → (parts : List (List Row)) × HaveRows bytes is parts × (gs ≡ present_parts is parts)
 parts_of bytes [] [] all = ([], tt, refl)
 parts_of bytes [] (g ∷ gs) all = absurd all
 parts_of bytes (i ∷ is) [] all = absurd all

@@ -34,28 +34,14 @@ use Rattle.mesa_ledger.proofs.Swapping.{ended_granted}
 use Rattle.mesa_log.specs.declared.log.Log.{Log}
 use Rattle.mesa_log.specs.Printing.{PrintsBlock}
 use Rattle.mesa_metadata.specs.Memory.{Memory, with_ledger}
-use Rattle.mesa_tasks.specs.GivingBack.{GivesBack}
+use Rattle.mesa_tasks.specs.GivingBack.{GivesBack, SomeFailed}
 use Rattle.mesa_tasks.specs.declared.merging.CompactError.{CompactError}
 use Rattle.mesa_tasks.specs.declared.merging.CompactError.TheVariants as compact
 use Rattle.mesa_engine.specs.Engine.{IsEngine}
 use Rattle.mesa_engine.proofs.Turning.{told_engine}
 use Rattle.mesa_engine.proofs.Undone.{not_skipped}
-use Rattle.mesa_completing.specs.Unmerged.{SomeFailed, TellsDamage, cause_of, closing_cause, closing_ledger, unmerged_ledger}
-
--- ---- counts
-
--- a reader that has failed is counted
-some_counted : {R : Type 0} (faults : R → ℕ) (old new : ℕ) (inputs : List (Input R)) → AllByRecursion (λ (i : Input R). 0 < faults (reader_in i) → Rose old new) inputs → SomeFailed faults inputs → Rose old new
-some_counted faults old new [] all failed = absurd failed
-some_counted faults old new (i ∷ inputs) all failed = elim failed [ inl one ↦ all.0 one | inr more ↦ some_counted faults old new inputs all.1 more ]
-
--- What giving back does to the counts: one rose where a fault is answered, since a reader has failed then.
-given_counts : {R : Type 0} (faults : R → ℕ) (inputs : List (Input R)) (old new : Story) (answers : Bool) → GivesBack faults inputs old new → (answers ≡ true → SomeFailed faults inputs) → Counts old new answers
-given_counts faults inputs old new answers given failed = record {
-  faults = omega (arith, given.calls);
-  reads = given.later;
-  rose = λ low is. inr (some_counted faults old.read_faults new.read_faults inputs given.counted (failed is));
-}
+use Rattle.mesa_completing.specs.Unmerged.{TellsDamage, cause_of, closing_cause, closing_ledger, unmerged_ledger}
+use Rattle.mesa_asking.proofs.Closes.{given_counts}
 
 -- ---- the clock
 

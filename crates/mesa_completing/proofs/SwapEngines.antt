@@ -42,7 +42,7 @@ use Rattle.mesa_publishing.specs.Published.{AllTell}
 use Rattle.mesa_swapping.specs.Finished.{HasRange}
 use Rattle.mesa_swapping.specs.Swapped.{IsSwapped}
 use Rattle.mesa_swapping.specs.declared.swapping.Swapped.{Swapped}
-use Rattle.mesa_works.specs.Claims.{claim_in}
+use Rattle.mesa_tasks.specs.Tasks.{claim_in}
 use Rattle.mesa_writing.proofs.Written.{IsWhole, IsWorked, absent_yet}
 use Rattle.mesa_completing.proofs.Swaps.{swap_ends, swap_fails}
 

@@ -65,7 +65,7 @@ use Rattle.mesa_publishing.specs.Published.{AllTell, rows_with}
 use Rattle.mesa_swapping.specs.Finished.{HasRange}
 use Rattle.mesa_swapping.specs.Swapped.{IsSwapped, delta_of, swap_of}
 use Rattle.mesa_swapping.specs.declared.swapping.Swapped.{Swapped}
-use Rattle.mesa_works.specs.Claims.{claim_in}
+use Rattle.mesa_tasks.specs.Tasks.{claim_in}
 use Rattle.mesa_writing.proofs.Unseen.{dark, dark_passes, dark_writes, unseen_vault}
 use Rattle.mesa_writing.proofs.Written.{IsWhole, IsWorked}
 

@@ -1,15 +1,13 @@
 -- Works whose merge failed.
-use Rattle.std.specs.Prelude.{ℕ, ◌<◌, ◌⊎◌, List, [], ◌∷◌, Bool, true, false, Option, None, Some, ⊤}
-use Rattle.mesa_asking.specs.Damages.{Differs}
+use Rattle.std.specs.Prelude.{ℕ, Bool, true, false, Option, None, Some, ⊤}
 use Rattle.mesa_lease.specs.Book.{ended}
-use Rattle.mesa_cursor.specs.Cursors.{reader_in}
 use Rattle.mesa_delta.specs.declared.error.FileError.TheVariants as file_error
-use Rattle.mesa_delta.specs.declared.input.Input.{Input}
 use Rattle.mesa_model.specs.declared.replies.Refusal.TheVariants as no
 use Rattle.mesa_model.specs.declared.replies.Reply.TheVariants as reply
 use Rattle.mesa_output.specs.Output.{IsDamage}
 use Rattle.mesa_ledger.specs.Ledger.{Ledger}
 use Rattle.mesa_ledger.specs.Turned.{closed_ledger, leased_ledger}
+use Rattle.mesa_tasks.specs.Errors.{HasDiffered}
 use Rattle.mesa_tasks.specs.declared.merging.CompactError.{CompactError}
 use Rattle.mesa_tasks.specs.declared.merging.CompactError.TheVariants as compact
 use Rattle.mesa_walk.specs.Causes.{Cause, Replies, Unread, Damaged, Unwritten, NoMemory}
@@ -29,17 +27,10 @@ TellsDamage (Damaged damage) = IsDamage damage
 TellsDamage Unwritten = ⊤
 TellsDamage NoMemory = ⊤
 
--- Where a file is damaged, what was found isn't what was wanted.
-abbrev pub HasDiffered : CompactError → Type 0
-HasDiffered compact.Draft = ⊤
-HasDiffered (compact.File file_error.Read) = ⊤
-HasDiffered (compact.File (file_error.Damaged damage)) = Differs damage
-HasDiffered (compact.File file_error.Memory) = ⊤
-
--- One of the inputs' readers has failed.
-abbrev pub SomeFailed : {R : Type 0} → (R → ℕ) → List (Input R) → Type 0
-SomeFailed faults [] = ⊥
-SomeFailed faults (i ∷ inputs) = (0 < faults (reader_in i)) ⊎ SomeFailed faults inputs
+-- Where a merge met a damaged file, what was found isn't what was wanted.
+abbrev pub MergeDiffered : CompactError → Type 0
+MergeDiffered compact.Draft = ⊤
+MergeDiffered (compact.File e) = HasDiffered e
 
 -- why nothing is swapped in: the vault has closed, or else the merge failed
 abbrev pub closing_cause : Option ℕ → CompactError → Cause

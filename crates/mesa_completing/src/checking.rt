@@ -3,7 +3,7 @@ ghost use Rattle.std.specs.Prelude.{◌≡◌, ◌<◌, Ok, Err, IfErr, OnOk};
 ghost use Rattle.mesa_history.specs.Machine.{claim_checked};
 ghost use Rattle.mesa_ledger.specs.Ledger.{books_of};
 ghost use Rattle.mesa_skeleton.specs.Rows.{no_rows};
-ghost use Rattle.mesa_works.specs.Claims.{claim_in};
+ghost use Rattle.mesa_tasks.specs.Tasks.{claim_in};
 
 use mesa_lease::TABLES;
 use mesa_metadata::Metadata;

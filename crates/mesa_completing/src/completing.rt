@@ -14,7 +14,7 @@ ghost use Rattle.mesa_skeleton.specs.Rows.{Rows, no_rows};
 ghost use Rattle.mesa_swapping.specs.Finished.{HasRange, IsFinished};
 ghost use Rattle.mesa_walk.specs.Turns.{Takes};
 ghost use Rattle.mesa_walk.specs.Walk.{run_at};
-ghost use Rattle.mesa_works.specs.Claims.{claim_in};
+ghost use Rattle.mesa_tasks.specs.Tasks.{claim_in};
 ghost use Rattle.mesa_works.specs.Ranged.{written_at};
 ghost use Rattle.mesa_completing.specs.Merged.{HasNotSwapped, cause_met, unswapped_ledger};
 

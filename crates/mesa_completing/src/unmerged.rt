@@ -8,12 +8,12 @@ ghost use Rattle.mesa_metadata.specs.Memory.{with_ledger};
 ghost use Rattle.mesa_model.specs.declared.commands.Command.TheVariants as command;
 ghost use Rattle.mesa_model.specs.declared.entries.Kind.TheVariants as kind;
 ghost use Rattle.mesa_skeleton.specs.Rows.{no_rows};
-ghost use Rattle.mesa_tasks.specs.GivingBack.{task_inputs};
+ghost use Rattle.mesa_tasks.specs.GivingBack.{SomeFailed, task_inputs};
 ghost use Rattle.mesa_walk.specs.Causes.{is_read_fault};
 ghost use Rattle.mesa_walk.specs.Turns.{Takes};
 ghost use Rattle.mesa_walk.specs.Walk.{run_at};
-ghost use Rattle.mesa_works.specs.Claims.{claim_in};
-ghost use Rattle.mesa_completing.specs.Unmerged.{HasDiffered, SomeFailed, TellsDamage, cause_of, closing_cause, closing_ledger, unmerged_ledger};
+ghost use Rattle.mesa_tasks.specs.Tasks.{claim_in};
+ghost use Rattle.mesa_completing.specs.Unmerged.{MergeDiffered, TellsDamage, cause_of, closing_cause, closing_ledger, unmerged_ledger};
 
 use mesa_asking::can_be_told;
 use mesa_delta::FileError;
@@ -42,7 +42,7 @@ fn failed(error: &CompactError) -> Failure
 
 // What a merge failed of can be told.
 fn may_be_told(error: &CompactError)
-    requires { HasDiffered error.now }
+    requires { MergeDiffered error.now }
     ensures { TellsDamage (cause_of error.now) }
 {
     if let CompactError::File(FileError::Damaged(damage)) = error {
@@ -101,7 +101,7 @@ pub fn give_up<N: Naming, M: Made, D: Disk<M>, K: Sink>(
     requires due { IsDue N.script (run_at N.script (N.start no_rows) engine.old.shown.history) who.session who.command (command.Work name.now) (Granted (claim_in task)) }
     requires table { task.table < TABLES }
     requires read { is_read_fault (cause_of error) ≡ true → SomeFailed D.Reader.faults (task_inputs task) }
-    requires damaged { HasDiffered error }
+    requires damaged { MergeDiffered error }
     requires room { length engine.old.shown.history < N.room }
     ensures turn { Takes N.script (N.start no_rows) engine.old.shown engine.new.shown who.session who.command kind.Close Finished }
     ensures ledger { engine.old.shown.running ≡ true → engine.new.ledger ≡ closing_ledger engine.old.ledger.closed error (engine.old.shown.clock == last) (length engine.old.shown.history) task.table task.lease engine.old.ledger }

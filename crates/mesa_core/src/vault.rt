@@ -1,10 +1,10 @@
 // The vault, and its calls.
-ghost use Rattle.std.specs.Prelude.{◌≡◌, ◌≢◌, ◌+◌, ◌<◌, ◌≤◌, ◌^◌, [], Bool, true, false, not, None, IsTrue, IfOk, IfSome, OnOk, length, vec_capacity};
+ghost use Rattle.std.specs.Prelude.{◌≡◌, ◌≢◌, ◌+◌, ◌<◌, ◌≤◌, ◌^◌, [], Bool, true, false, not, None, IsTrue, IfOk, IfSome, OnOk, length, vec_capacity, IfErr};
 ghost use Rattle.std.specs.List.{AllByRecursion};
-ghost use Rattle.mesa_asking.specs.Closing.{IsPageOf, IsToClose, SomeFailed, cause_if};
-ghost use Rattle.mesa_asking.specs.Damages.{HasDiffered};
+ghost use Rattle.mesa_asking.specs.Closing.{IsPageOf, IsToClose, cause_if};
+ghost use Rattle.mesa_tasks.specs.Errors.{HasDiffered};
 ghost use Rattle.mesa_batch.specs.Glance.{tables_of};
-ghost use Rattle.mesa_completing.specs.Unmerged.{HasDiffered as HasMetDamage, SomeFailed as HasReadFault, cause_of};
+ghost use Rattle.mesa_completing.specs.Unmerged.{MergeDiffered, cause_of};
 ghost use Rattle.mesa_core.specs.Vault.{Stand};
 ghost use Rattle.mesa_engine.specs.Beginning.{IsBegun};
 ghost use Rattle.mesa_engine.specs.Engine.{most_turns, starts_of};
@@ -13,12 +13,11 @@ ghost use Rattle.mesa_history.specs.Legal.{AllFit, fits_sink, is_work};
 ghost use Rattle.mesa_history.specs.Refused.{some_refused};
 ghost use Rattle.mesa_history.specs.Run.{begins, Finished, First, Granted, Looked, Renewed};
 ghost use Rattle.mesa_schema.specs.Changes.{Lineage};
-ghost use Rattle.mesa_tasks.specs.Tasks.{IsTask};
-ghost use Rattle.mesa_works.specs.Claims.{claim_in};
+ghost use Rattle.mesa_tasks.specs.Tasks.{IsTask, claim_in};
 ghost use Rattle.mesa_ledger.specs.Vault.{outset_of};
 ghost use Rattle.mesa_model.specs.declared.entries.Kind.TheVariants as kind;
 ghost use Rattle.mesa_skeleton.specs.Rows.{Rows, no_rows};
-ghost use Rattle.mesa_tasks.specs.GivingBack.{pinned_inputs, task_inputs};
+ghost use Rattle.mesa_tasks.specs.GivingBack.{SomeFailed, pinned_inputs, task_inputs};
 ghost use Rattle.mesa_walk.specs.Causes.{is_read_fault};
 ghost use Rattle.mesa_walk.specs.Printing.{IsPrinted};
 ghost use Rattle.mesa_walk.specs.Queries.{closing_fault};
@@ -150,7 +149,7 @@ impl<'s, N: Naming, M: Made, D: Disk<M>, K: Sink> Vault<'s, N, M, D, K> {
     )
         // On a sound store, while the clock is below its last value, the page is that of the answer, whatever rows the files had when the run began.
         requires due { (w : Rows) → IsToClose N.script (run_at N.script (N.start w) self.old.shown.history) who.session who.command pinned.at (λ answer. N.sound w → self.old.shown.clock < last → IsPageOf answered pinned.version answer) }
-        requires damaged { HasDiffered answered }
+        requires damaged { IfErr answered HasDiffered }
         requires read { closing_fault (cause_if answered) ≡ true → SomeFailed D.Reader.faults (pinned_inputs pinned) }
         requires room { length self.old.shown.history < N.room }
         ensures turn { Takes N.script (N.start no_rows) self.old.shown self.new.shown who.session who.command kind.Close Finished }
@@ -215,8 +214,8 @@ impl<'s, N: Naming, M: Made, D: Disk<M>, K: Sink> Vault<'s, N, M, D, K> {
     pub fn give_up(&mut self, who: Who, task: Task<D::Reader>, error: CompactError) -> Reply
         requires due { Asks N.script (run_at N.script (N.start no_rows) self.old.shown.history) who.session who.command (Granted (claim_in task)) is_work }
         requires table { task.table < TABLES }
-        requires read { is_read_fault (cause_of error) ≡ true → HasReadFault D.Reader.faults (task_inputs task) }
-        requires damaged { HasMetDamage error }
+        requires read { is_read_fault (cause_of error) ≡ true → SomeFailed D.Reader.faults (task_inputs task) }
+        requires damaged { MergeDiffered error }
         requires room { length self.old.shown.history < N.room }
         ensures turn { Takes N.script (N.start no_rows) self.old.shown self.new.shown who.session who.command kind.Close Finished }
     {

@@ -11,8 +11,9 @@ use Rattle.mesa_schema.specs.Folded.{folded}
 use Rattle.mesa_delta.specs.declared.input.Input.{Input}
 use Rattle.mesa_gather.specs.Gathered.{unread_views}
 use Rattle.mesa_merge.specs.Inputs.{Known, knowns_of}
-use Rattle.mesa_service.specs.Works.{KnownView, known_task, known_view}
-use Rattle.mesa_tasks.specs.Inputs.{AreInputsOf, lifted_parts}
+use Rattle.mesa_service.specs.Works.{known_task}
+use Rattle.mesa_compact.specs.Tasks.{KnownView, known_view}
+use Rattle.mesa_tasks.specs.Inputs.{AreInputsOf, present_parts}
 use Rattle.mesa_tasks.specs.Tasks.{AreTaskViews, HasOwn, HaveMerged, IsMerged, IsTask}
 use Rattle.mesa_tasks.specs.declared.made.MadeFiles.{MadeFiles}
 use Rattle.mesa_tasks.specs.declared.merging.NewDelta.{NewDelta}
@@ -56,7 +57,7 @@ module _ {R : Type 0} (bytes : R → Option (List ℕ)) where
 
     by : (inputs : List (Input R)) → t.inputs.items ≡ inputs → IsTask bytes was t × IsMerged made_bytes id_of bytes was t d
     by [] is =
-        let fold = ap (λ xs. folded (aggs_of (columns_of l)) (lifted_parts xs merged.merge.parts)) is in
+        let fold = ap (λ xs. folded (aggs_of (columns_of l)) (present_parts xs merged.merge.parts)) is in
         let none : merged.rows ≡ [] = merged.merge.fold ∙ fold in (
           record {
             epoch = known.epoch;
@@ -65,7 +66,7 @@ module _ {R : Type 0} (bytes : R → Option (List ℕ)) where
           },
           record {
             rows = merged.rows;
-            merge = record { parts = merged.merge.parts; whole = merged.merge.whole; fold = none ∙ sym (ap (λ xs. folded (aggs_of (columns_of was)) (lifted_parts xs merged.merge.parts)) is) };
+            merge = record { parts = merged.merge.parts; whole = merged.merge.whole; fold = none ∙ sym (ap (λ xs. folded (aggs_of (columns_of was)) (present_parts xs merged.merge.parts)) is) };
             files = none_merged merged.rows none d.files merged.files;
           },
         )

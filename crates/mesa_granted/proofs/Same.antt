@@ -16,9 +16,10 @@ use Rattle.mesa_history.specs.Sources.{Source, range_rows}
 use Rattle.mesa_image_laws.specs.Moves.{first_of, last_of}
 use Rattle.mesa_image_laws.specs.Sourced.{Written, sources_from}
 use Rattle.mesa_merge.specs.Inputs.{Known, known_of, knowns_of}
-use Rattle.mesa_service.specs.Works.{KnownTask, KnownView, known_task, known_view}
+use Rattle.mesa_service.specs.Works.{KnownTask, known_task}
+use Rattle.mesa_compact.specs.Tasks.{KnownView, known_view}
 use Rattle.mesa_swapping.specs.Finished.{GroupOnly, HasRange}
-use Rattle.mesa_tasks.specs.Inputs.{HaveRows, IsMergeOf, lifted_parts}
+use Rattle.mesa_tasks.specs.Inputs.{HaveRows, IsMergeOf, present_parts}
 use Rattle.mesa_tasks.specs.Tasks.{MergeOnlyTo}
 use Rattle.mesa_tasks.specs.declared.merging.Task.{Task}
 use Rattle.mesa_tasks.specs.declared.merging.TaskView.{TaskView}
@@ -51,7 +52,7 @@ module _ {R : Type 0} (bytes : R → Option (List ℕ)) where
       let same : known_of bytes n ≡ known_of bytes o = first_same _ _ _ _ known in
       (subst (λ (k : Known). IsWhole k.file rows k.told) (sym same) have.0, have_rows old new parts (rest_same _ _ _ _ known) have.1)
 
-  same_lifted : (old new : List (Input R)) (parts : List (List Row)) → knowns_of bytes new ≡ knowns_of bytes old → lifted_parts old parts ≡ lifted_parts new parts
+  same_lifted : (old new : List (Input R)) (parts : List (List Row)) → knowns_of bytes new ≡ knowns_of bytes old → present_parts old parts ≡ present_parts new parts
   same_lifted [] [] parts known = refl
   same_lifted [] (n ∷ new) parts known = absurd (cons_none _ _ known)
   same_lifted (o ∷ old) [] parts known = absurd (cons_none _ _ (sym known))

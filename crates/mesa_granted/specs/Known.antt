@@ -6,7 +6,8 @@ use Rattle.mesa_schema.specs.declared.views.View.{View}
 use Rattle.mesa_image_laws.specs.Sourced.{Written}
 use Rattle.mesa_merge.specs.Inputs.{Known}
 use Rattle.mesa_model.specs.Warehouse.{Store, table_at}
-use Rattle.mesa_service.specs.Works.{KnownTask, KnownView, known_task}
+use Rattle.mesa_service.specs.Works.{KnownTask, known_task}
+use Rattle.mesa_compact.specs.Tasks.{KnownView}
 use Rattle.mesa_swapping.specs.Finished.{HasRange}
 use Rattle.mesa_tasks.specs.declared.merging.Task.{Task}
 

@@ -1,22 +1,13 @@
 -- Why files weren't read.
-use Rattle.std.specs.Prelude.{◌≢◌, ◌⊎◌, ℕ, ◌<◌, List, [], ◌∷◌, ⊤}
+use Rattle.std.specs.Prelude.{ℕ, List, ⊤}
 use Rattle.mesa_file.specs.declared.damage.Damage.{Damage}
 use Rattle.mesa_delta.specs.declared.error.FileError.{FileError}
 use Rattle.mesa_delta.specs.declared.error.FileError.TheVariants as file
 use Rattle.mesa_delta.specs.declared.input.Input.{Input}
-use Rattle.mesa_cursor.specs.Cursors.{reader_in}
-
--- one of these readers has failed, so that the disk counts a fault when they are given back
-abbrev pub HasFailed : {R : Type 0} → (R → ℕ) → List (Input R) → Type 0
-HasFailed faults [] = ⊥
-HasFailed faults (i ∷ inputs) = (0 < faults (reader_in i)) ⊎ HasFailed faults inputs
-
--- what was found isn't what was wanted
-abbrev pub Differs : Damage → Type 0
-Differs d = d.want ≢ d.found
+use Rattle.mesa_tasks.specs.GivingBack.{SomeFailed}
 
 -- Why these readers gave nothing: one has failed; there is damage, of which this holds; or there was no memory.
 abbrev pub IsUnread : {R : Type 0} → (R → ℕ) → List (Input R) → (Damage → Type 0) → FileError → Type 0
-IsUnread faults inputs IsMet file.Read = HasFailed faults inputs
+IsUnread faults inputs IsMet file.Read = SomeFailed faults inputs
 IsUnread faults inputs IsMet (file.Damaged d) = IsMet d
 IsUnread faults inputs IsMet file.Memory = ⊤

@@ -1,5 +1,4 @@
 pub mod Sight
 pub mod Damages
-pub mod Loads
 pub mod Pins
 pub mod Works

@@ -26,7 +26,8 @@ use Rattle.mesa_tasks.specs.Pins.{IsPinned}
 use Rattle.mesa_tasks.specs.declared.querying.Pinned.{Pinned}
 use Rattle.mesa_query.specs.Files.{inputs_in, owns_in}
 use Rattle.mesa_query.specs.Relation.{page_over, parts_pinned, parts_ungrouped}
-use Rattle.mesa_service.specs.Damages.{Differs, IsUnread}
+use Rattle.mesa_service.specs.Damages.{IsUnread}
+use Rattle.mesa_tasks.specs.Errors.{Differs}
 
 -- What is known of a query's files while they are handed out, however much of them was read.
 pub record KnownPin : Type 0 where
@@ -69,8 +70,8 @@ TakesQuery bytes script from tells old new session number (Err r) = Takes script
 -- ---- the answer
 
 -- A page is that of a query of a relation with these columns, over its files' rows, where these are told and the files' indexes are true of them.
-abbrev pub IsPageOf : {R : Type 0} → (R → Option (List ℕ)) → Columns → Pinned R → Page → Type 0
-IsPageOf bytes s p page = (contents : List (List Row)) → AreTold (knowns_of bytes (inputs_in p.inputs.items)) contents → page ≡ page_over s p.query (parts_pinned p.view p.inputs.items contents)
+abbrev pub IsPageOver : {R : Type 0} → (R → Option (List ℕ)) → Columns → Pinned R → Page → Type 0
+IsPageOver bytes s p page = (contents : List (List Row)) → AreTold (knowns_of bytes (inputs_in p.inputs.items)) contents → page ≡ page_over s p.query (parts_pinned p.view p.inputs.items contents)
 
 -- how a query's rows are printed
 abbrev pub heading_in : BuiltQuery → Heading
@@ -83,7 +84,7 @@ pub record IsAnswerDamage {R : Type 0} (bytes : R → Option (List ℕ)) (s : Co
 
 -- A query's page as it is printed, or why there is none.
 abbrev pub IsAnswer : {R : Type 0} → (R → Option (List ℕ)) → (R → ℕ) → Columns → Pinned R → Result Rendered FileError → Type 0
-IsAnswer bytes faults s p (Ok text) = (page : Page) × IsPageOf bytes s p page × (text ≡ rendered (heading_in p.query) page)
+IsAnswer bytes faults s p (Ok text) = (page : Page) × IsPageOver bytes s p page × (text ≡ rendered (heading_in p.query) page)
 IsAnswer bytes faults s p (Err e) = IsUnread faults (pinned_inputs p) (IsAnswerDamage bytes s p) e
 
 -- What a query is closed with: its files, which can be read still, and what came of reading them.

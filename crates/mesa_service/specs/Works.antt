@@ -1,10 +1,10 @@
 -- Works whose files are handed out, and what they are merged to.
-use Rattle.std.specs.Prelude.{◌≡◌, ℕ, List, ◌++◌, map, Option, option_map, IfSome, Result, Ok, Err, ⊤}
+use Rattle.std.specs.Prelude.{◌≡◌, ℕ, List, ◌++◌, Option, IfSome, Result, Ok, Err, ⊤}
 use Rattle.mesa_file.specs.declared.damage.Damage.{Damage}
 use Rattle.mesa_span.specs.declared.works.Work.{Work}
 use Rattle.mesa_schema.specs.Changes.{Lineage}
 use Rattle.mesa_model.specs.declared.entries.Entry.{Entry}
-use Rattle.mesa_history.specs.Machine.{Claim}
+use Rattle.mesa_compact.specs.Tasks.{KnownView, known_views}
 use Rattle.mesa_merge.specs.Inputs.{Known, knowns_of}
 use Rattle.mesa_tasks.specs.GivingBack.{task_inputs}
 use Rattle.mesa_tasks.specs.Tasks.{IsTask, IsMerged}
@@ -12,20 +12,8 @@ use Rattle.mesa_tasks.specs.declared.merging.CompactError.{CompactError}
 use Rattle.mesa_tasks.specs.declared.merging.CompactError.TheVariants as compact
 use Rattle.mesa_tasks.specs.declared.merging.NewDelta.{NewDelta}
 use Rattle.mesa_tasks.specs.declared.merging.Task.{Task}
-use Rattle.mesa_tasks.specs.declared.merging.TaskView.{TaskView}
-use Rattle.mesa_service.specs.Damages.{Differs, IsUnread}
-
--- the claim that a task was granted for
-abbrev pub claim_in : {R : Type 0} → Task R → Claim
-claim_in t = record { table = t.table; lease = t.lease; work = t.work }
-
--- What is known of a view's own files.
-pub record KnownView : Type 0 where
-  pub view : ℕ
-  pub own : Option (List Known)
-
-abbrev pub known_view : {R : Type 0} → (R → Option (List ℕ)) → TaskView R → KnownView
-known_view bytes v = record { view = v.view; own = option_map (λ inputs. knowns_of bytes inputs.items) v.inputs }
+use Rattle.mesa_service.specs.Damages.{IsUnread}
+use Rattle.mesa_tasks.specs.Errors.{Differs}
 
 -- What is known of a task while its files are handed out, however much of them was read.
 pub record KnownTask : Type 0 where
@@ -38,7 +26,7 @@ pub record KnownTask : Type 0 where
   pub damage : Option Damage
 
 abbrev pub known_task : {R : Type 0} → (R → Option (List ℕ)) → Task R → KnownTask
-known_task bytes t = record { table = t.table; work = t.work; lease = t.lease; epoch = t.epoch; files = knowns_of bytes t.inputs.items; views = map (known_view bytes) t.views.items; damage = t.damage }
+known_task bytes t = record { table = t.table; work = t.work; lease = t.lease; epoch = t.epoch; files = knowns_of bytes t.inputs.items; views = known_views bytes t.views.items; damage = t.damage }
 
 -- A task that can be merged: it is one of a table with some columns and views, and damage that was met where its files were opened differs from what was wanted.
 pub record CanBeMerged {R : Type 0} (bytes : R → Option (List ℕ)) (t : Task R) : Type 0 where

@@ -13,10 +13,11 @@ ghost use Rattle.mesa_skeleton.specs.Rows.{Rows, no_rows};
 ghost use Rattle.mesa_walk.specs.Turns.{Shown, Asks, IsSeen, Takes, is_load, is_simple};
 ghost use Rattle.mesa_walk.specs.Walk.{run_at};
 ghost use Rattle.mesa_walk.specs.Works.{closing_stage, stage_if};
-ghost use Rattle.mesa_service.specs.Loads.{HasPrepared};
+ghost use Rattle.mesa_tasks.specs.Batches.{HasPrepared};
 ghost use Rattle.mesa_service.specs.Pins.{HasAnswered, IsOpenQuery, KnownPin, TakesQuery, known_pin};
 ghost use Rattle.mesa_service.specs.Sight.{sight_after};
-ghost use Rattle.mesa_service.specs.Works.{CanBeMerged, HasMerged, KnownTask, WasGranted, claim_in, known_task};
+ghost use Rattle.mesa_service.specs.Works.{CanBeMerged, HasMerged, KnownTask, WasGranted, known_task};
+ghost use Rattle.mesa_tasks.specs.Tasks.{claim_in};
 
 use mesa_batch::Glance;
 use mesa_delta::FileError;

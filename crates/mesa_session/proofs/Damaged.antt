@@ -19,7 +19,8 @@ use Rattle.mesa_query.specs.Files.{IsDamageIn, IsDamageOf}
 use Rattle.mesa_tasks.specs.declared.merging.Task.{Task}
 use Rattle.mesa_compact.specs.Damaged.{IsMergeDamage}
 use Rattle.mesa_compact.specs.Tasks.{IsTaskDamage}
-use Rattle.mesa_service.specs.Damages.{Differs, HasFailed}
+use Rattle.mesa_tasks.specs.GivingBack.{SomeFailed}
+use Rattle.mesa_tasks.specs.Errors.{Differs}
 
 -- ---- faults
 
@@ -27,7 +28,7 @@ rose_above : (before now : ℕ) → Rose before now → 0 < now
 rose_above before now rose = omega (arith, rose)
 
 -- a reader whose count rose has failed
-pub rose_failed : {R : Type 0} (faults : R → ℕ) (before : List ℕ) (inputs : List (Input R)) → SomeRose before (faults_of faults inputs) → HasFailed faults inputs
+pub rose_failed : {R : Type 0} (faults : R → ℕ) (before : List ℕ) (inputs : List (Input R)) → SomeRose before (faults_of faults inputs) → SomeFailed faults inputs
 rose_failed faults [] inputs rose = absurd rose
 rose_failed faults (b ∷ before) [] rose = absurd rose
 rose_failed faults (b ∷ before) (i ∷ inputs) rose = ⊎_elim

@@ -14,7 +14,7 @@ use Rattle.mesa_delta.specs.declared.input.Input.{Input}
 use Rattle.mesa_merge.specs.Faults.{faults_of}
 use Rattle.mesa_merge.specs.Inputs.{Known, known_of, knowns_of}
 use Rattle.mesa_tasks.specs.GivingBack.{task_inputs}
-use Rattle.mesa_tasks.specs.Inputs.{HaveRows, IsMergeOf, lifted_parts}
+use Rattle.mesa_tasks.specs.Inputs.{HaveRows, IsMergeOf, present_parts}
 use Rattle.mesa_tasks.specs.Tasks.{AreMergedViews, HaveMerged, IsMerged, IsTask, MergeOnlyTo}
 use Rattle.mesa_tasks.specs.declared.made.MadeFiles.{MadeFiles}
 use Rattle.mesa_tasks.specs.declared.made.MadeView.{MadeView}
@@ -23,11 +23,10 @@ use Rattle.mesa_tasks.specs.declared.merging.CompactError.TheVariants as compact
 use Rattle.mesa_tasks.specs.declared.merging.NewDelta.{NewDelta}
 use Rattle.mesa_tasks.specs.declared.merging.Task.{Task}
 use Rattle.mesa_tasks.specs.declared.merging.TaskView.{TaskView}
-use Rattle.mesa_compact.specs.Tasks.{IsSameTask, IsTaskDamage}
-use Rattle.mesa_compact.specs.Tasks.{KnownView as CompactView, known_view as compact_view, known_views as compact_views}
+use Rattle.mesa_compact.specs.Tasks.{IsSameTask, IsTaskDamage, KnownView, known_view, known_views}
 use Rattle.mesa_compact.specs.Writing.{HasCauses}
-use Rattle.mesa_service.specs.Damages.{Differs}
-use Rattle.mesa_service.specs.Works.{IsDeltaOf, KnownView, known_task, known_view}
+use Rattle.mesa_tasks.specs.Errors.{Differs}
+use Rattle.mesa_service.specs.Works.{IsDeltaOf, known_task}
 use Rattle.mesa_session.proofs.Damaged.{rose_failed, task_differs}
 
 -- ---- lists
@@ -54,19 +53,9 @@ some_same {X = X} x y is = ap (λ (o : Option X). elim o [ None ↦ x | Some z �
 
 -- ---- what is known
 
-view_as : CompactView → KnownView
-view_as v = record { view = v.view; own = v.own }
-
-views_as : {R : Type 0} (bytes : R → Option (List ℕ)) (views : List (TaskView R)) → map view_as (compact_views bytes views) ≡ map (known_view bytes) views
-unfolding view_as
-views_as bytes [] = refl
-views_as bytes (v ∷ views) = λ j. known_view bytes v ∷ views_as bytes views j
-
 module _ {R : Type 0} (bytes : R → Option (List ℕ)) where
   pub known_stays : (old new : Task R) → IsSameTask bytes old new → known_task bytes new ≡ known_task bytes old
-  known_stays old new same =
-      let views = sym (views_as bytes new.views.items) ∙ (ap (map view_as) same.views ∙ views_as bytes old.views.items) in
-      λ j. record { table = same.table j; work = same.work j; lease = same.lease j; epoch = same.epoch j; files = same.inputs j; views = views j; damage = same.damage j }
+  known_stays old new same = λ j. record { table = same.table j; work = same.work j; lease = same.lease j; epoch = same.epoch j; files = same.inputs j; views = same.views j; damage = same.damage j }
 
   -- ---- files of which the same is known
 
@@ -79,7 +68,7 @@ module _ {R : Type 0} (bytes : R → Option (List ℕ)) where
       let same : known_of bytes n ≡ known_of bytes o = first_same _ _ _ _ known in
       (subst (λ (k : Known). IsWhole k.file rows k.told) (sym same) have.0, have_rows old new parts (rest_same _ _ _ _ known) have.1)
 
-  same_lifted : (old new : List (Input R)) (parts : List (List Row)) → knowns_of bytes new ≡ knowns_of bytes old → lifted_parts old parts ≡ lifted_parts new parts
+  same_lifted : (old new : List (Input R)) (parts : List (List Row)) → knowns_of bytes new ≡ knowns_of bytes old → present_parts old parts ≡ present_parts new parts
   same_lifted [] [] parts known = refl
   same_lifted [] (n ∷ new) parts known = absurd (cons_none _ _ known)
   same_lifted (o ∷ old) [] parts known = absurd (cons_none _ _ (sym known))
@@ -100,7 +89,7 @@ module _ {R : Type 0} (bytes : R → Option (List ℕ)) where
   only_stays s rows (Some o) None known only = absurd (none_some _ known)
   only_stays s rows (Some o) (Some n) known only = λ its merge. only its (merge_stays s o.items n.items its (some_same _ _ known) merge)
 
-  views_stay : {M : Type 0} (made_bytes : M → Option (List ℕ)) (id_of : M → ℕ) (s : Columns) (rows : List Row) (views : List View) (old new : List (TaskView R)) (made : List (MadeView M)) → compact_views bytes new ≡ compact_views bytes old
+  views_stay : {M : Type 0} (made_bytes : M → Option (List ℕ)) (id_of : M → ℕ) (s : Columns) (rows : List Row) (views : List View) (old new : List (TaskView R)) (made : List (MadeView M)) → known_views bytes new ≡ known_views bytes old
       → AreMergedViews made_bytes id_of bytes s rows views old made → AreMergedViews made_bytes id_of bytes s rows views new made
   views_stay made_bytes id_of s rows views [] [] made known are = are
   views_stay made_bytes id_of s rows views [] (n ∷ new) made known are = absurd (cons_none _ _ known)
@@ -108,17 +97,17 @@ module _ {R : Type 0} (bytes : R → Option (List ℕ)) where
   views_stay made_bytes id_of s rows [] (o ∷ old) (n ∷ new) made known are = absurd are
   views_stay made_bytes id_of s rows (v ∷ views) (o ∷ old) (n ∷ new) [] known are = absurd are
   views_stay made_bytes id_of s rows (v ∷ views) (o ∷ old) (n ∷ new) (m ∷ made) known are =
-      let same : compact_view bytes n ≡ compact_view bytes o = first_same _ _ _ _ known in (
+      let same : known_view bytes n ≡ known_view bytes o = first_same _ _ _ _ known in (
         record {
-          number = are.0.number ∙ sym (ap (λ (k : CompactView). k.view) same);
+          number = are.0.number ∙ sym (ap (λ (k : KnownView). k.view) same);
           its = are.0.its;
           file = are.0.file;
-          grouped = λ only. are.0.grouped (only_stays (view_columns s v) (view_rows s v rows) o.inputs n.inputs (ap (λ (k : CompactView). k.own) same) only);
+          grouped = λ only. are.0.grouped (only_stays (view_columns s v) (view_rows s v rows) o.inputs n.inputs (ap (λ (k : KnownView). k.own) same) only);
         },
         views_stay made_bytes id_of s rows views old new made (rest_same _ _ _ _ known) are.1,
       )
 
-  files_stay : {M : Type 0} (made_bytes : M → Option (List ℕ)) (id_of : M → ℕ) (l : Lineage) (old new : Task R) (rows : List Row) (o : Option (MadeFiles M)) → compact_views bytes new.views.items ≡ compact_views bytes old.views.items → HaveMerged made_bytes id_of bytes l old rows o → HaveMerged made_bytes id_of bytes l new rows o
+  files_stay : {M : Type 0} (made_bytes : M → Option (List ℕ)) (id_of : M → ℕ) (l : Lineage) (old new : Task R) (rows : List Row) (o : Option (MadeFiles M)) → known_views bytes new.views.items ≡ known_views bytes old.views.items → HaveMerged made_bytes id_of bytes l old rows o → HaveMerged made_bytes id_of bytes l new rows o
   files_stay made_bytes id_of l old new rows None known have = have
   files_stay made_bytes id_of l old new rows (Some made) known have = (have.0, views_stay made_bytes id_of (columns_of l) rows l.views old.views.items new.views.items made.views.items known have.1)
 

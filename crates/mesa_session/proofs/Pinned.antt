@@ -21,7 +21,7 @@ use Rattle.mesa_tasks.specs.declared.querying.PinnedInput.{PinnedInput}
 use Rattle.mesa_query.specs.Files.{IsDamageIn, inputs_in, owns_in}
 use Rattle.mesa_query.specs.Relation.{page_over, parts_pinned, parts_ungrouped, rows_under}
 use Rattle.mesa_service.specs.Damages.{IsUnread}
-use Rattle.mesa_service.specs.Pins.{IsAnswer, IsAnswerDamage, IsPageOf, heading_in, known_pin}
+use Rattle.mesa_service.specs.Pins.{IsAnswer, IsAnswerDamage, IsPageOver, heading_in, known_pin}
 use Rattle.mesa_session.proofs.Damaged.{query_differs, rose_failed}
 
 -- ---- lists
@@ -107,11 +107,11 @@ module _ {R : Type 0} (bytes : R → Option (List ℕ)) where
     ungrouped_stay : (contents : List (List Row)) → parts_ungrouped new.view new.inputs.items contents ≡ parts_ungrouped old.view old.inputs.items contents
     ungrouped_stay contents = ap (λ (v : Option ℕ). parts_ungrouped v new.inputs.items contents) view ∙ same_ungrouped old.view old.inputs.items new.inputs.items contents known own
 
-    page_stays : (s : Columns) (page : Page) → IsPageOf bytes s old page → IsPageOf bytes s new page
+    page_stays : (s : Columns) (page : Page) → IsPageOver bytes s old page → IsPageOver bytes s new page
     page_stays s page over contents told = over contents (subst (λ ks. AreTold ks contents) known told) ∙ sym (λ j. page_over s (query j) (parts_stay contents j))
 
     -- a page that was printed, or not for want of memory
-    pub page_closes : (faults : R → ℕ) (s : Columns) (page : Page) (r : Result Rendered FileError) → IsPageOf bytes s old page → IfOk r (λ text. text ≡ rendered (heading_in new.query) page) → IfErr r (λ e. e ≡ file.Memory) → IsAnswer bytes faults s new r
+    pub page_closes : (faults : R → ℕ) (s : Columns) (page : Page) (r : Result Rendered FileError) → IsPageOver bytes s old page → IfOk r (λ text. text ≡ rendered (heading_in new.query) page) → IfErr r (λ e. e ≡ file.Memory) → IsAnswer bytes faults s new r
     page_closes faults s page (Ok text) over is none = (page, page_stays s page over, is)
     page_closes faults s page (Err e) over is none = subst (IsUnread faults (pinned_inputs new) (IsAnswerDamage bytes s new)) (sym none) tt
 

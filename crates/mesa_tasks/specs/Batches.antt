@@ -1,15 +1,19 @@
 -- Batches whose files are written.
-use Rattle.std.specs.Prelude.{◌≡◌, ℕ, ◌+◌, ◌^◌, List, [], ◌∷◌, ◌++◌, Bool, true, false, nat_le, Option, Some, None, ⊤}
+use Rattle.std.specs.Prelude.{◌≡◌, ℕ, ◌+◌, ◌^◌, List, [], ◌∷◌, ◌++◌, Bool, true, false, nat_le, Option, Some, None, Result, Ok, Err, IsOk, ⊤}
 use Rattle.std.specs.List.{list_any}
 use Rattle.mesa_schema.specs.declared.rows.Row.{Row}
 use Rattle.mesa_schema.specs.Columns.{aggs_of}
 use Rattle.mesa_schema.specs.Changes.{Lineage, columns_of}
 use Rattle.mesa_schema.specs.Folded.{folded}
-use Rattle.mesa_batch.specs.Batch.{Placed, rows_for}
-use Rattle.mesa_batch.specs.Glance.{Known, Sight}
+use Rattle.mesa_batch.specs.Batch.{Placed, batch_of, rows_for}
+use Rattle.mesa_batch.specs.Glance.{Known, Sight, tables_of}
 use Rattle.mesa_batch.specs.Totals.{abs_totals, capped}
+use Rattle.mesa_batch.specs.declared.words.BatchError.{BatchError}
+use Rattle.mesa_batch.specs.declared.words.RowWords.{RowWords}
 use Rattle.mesa_tasks.specs.Made.{AreMadeFiles}
 use Rattle.mesa_tasks.specs.declared.made.MadeFiles.{MadeFiles}
+use Rattle.mesa_tasks.specs.declared.prepared.LoadError.{LoadError}
+use Rattle.mesa_tasks.specs.declared.prepared.LoadError.TheVariants as load
 use Rattle.mesa_tasks.specs.declared.prepared.Prepared.{Prepared}
 use Rattle.mesa_tasks.specs.declared.prepared.PreparedPart.{PreparedPart}
 
@@ -67,3 +71,14 @@ AreParts bytes id_of over (share ∷ more) (part ∷ parts) = IsPart bytes id_of
 pub record IsPrepared {M : Type 0} (bytes : M → Option (List ℕ)) (id_of : M → ℕ) (sight : Sight) (batch : List Placed) (p : Prepared M) : Type 0 where
   pub generation : p.generation ≡ sight.generation
   pub parts : AreParts bytes id_of (list_any is_over (shares sight batch)) (shares sight batch) p.parts.items
+
+-- Why rows have no files: they are refused just so; or they make a batch, and a draft failed; or there was no memory.
+abbrev pub IsUnprepared : Result (List Placed) BatchError → LoadError → Type 0
+IsUnprepared batch (load.Batch refusal) = batch ≡ Err refusal
+IsUnprepared batch load.Draft = IsOk batch
+IsUnprepared batch load.Memory = ⊤
+
+-- Rows were read by what a load sees: they make a batch, and these are its files; or there is a reason for which there are none.
+abbrev pub HasPrepared : {M : Type 0} → (M → Option (List ℕ)) → (M → ℕ) → Sight → List RowWords → Result (Prepared M) LoadError → Type 0
+HasPrepared bytes id_of sight rows (Ok p) = (batch : List Placed) × (batch_of (tables_of sight) rows ≡ Ok batch) × IsPrepared bytes id_of sight batch p
+HasPrepared bytes id_of sight rows (Err e) = IsUnprepared (batch_of (tables_of sight) rows) e

@@ -1,5 +1,5 @@
 -- Readers that are given back.
-use Rattle.std.specs.Prelude.{◌≡◌, ℕ, ◌<◌, ◌≤◌, List, Vec, Option, None, Some, map, flat_map, ◌++◌, []}
+use Rattle.std.specs.Prelude.{◌≡◌, ◌⊎◌, ℕ, ◌<◌, ◌≤◌, List, [], ◌∷◌, ◌++◌, map, flat_map, Vec, Option, None, Some, ⊥}
 use Rattle.std.specs.List.{AllByRecursion}
 use Rattle.std.specs.declared.alloc.Global.{Global}
 use Rattle.mesa_fault.specs.Causes.{Rose}
@@ -10,6 +10,11 @@ use Rattle.mesa_tasks.specs.declared.merging.Task.{Task}
 use Rattle.mesa_tasks.specs.declared.merging.TaskView.{TaskView}
 use Rattle.mesa_tasks.specs.declared.querying.Pinned.{Pinned}
 use Rattle.mesa_tasks.specs.declared.querying.PinnedInput.{PinnedInput}
+
+-- One of these inputs' readers has failed, so that a fault is counted when they are given back.
+abbrev pub SomeFailed : {R : Type 0} → (R → ℕ) → List (Input R) → Type 0
+SomeFailed faults [] = ⊥
+SomeFailed faults (i ∷ inputs) = (0 < faults (reader_in i)) ⊎ SomeFailed faults inputs
 
 -- Readers were given back: each that has failed is counted, and where none has, no count changes.
 pub record GivesBack {R : Type 0} (faults : R → ℕ) (inputs : List (Input R)) (old new : Story) : Type 0 where

@@ -14,8 +14,8 @@ abbrev pub lineage_of : {R : Type 0} → Input R → Lineage
 lineage_of i = i.evolving.value
 
 -- Inputs that may be merged: all are lifted to these columns.
-abbrev pub AreInputs : {R : Type 0} → (R → Option (List ℕ)) → Columns → List (Input R) → Type 0
-AreInputs bytes s inputs = AllByRecursion (λ i. IsInput bytes i × (columns_of (lineage_of i) ≡ s)) inputs
+abbrev pub AreInputsTo : {R : Type 0} → (R → Option (List ℕ)) → Columns → List (Input R) → Type 0
+AreInputsTo bytes s inputs = AllByRecursion (λ i. IsInput bytes i × (columns_of (lineage_of i) ≡ s)) inputs
 
 -- Inputs of one table: all have its columns and views.
 abbrev pub AreInputsOf : {R : Type 0} → (R → Option (List ℕ)) → Lineage → List (Input R) → Type 0
@@ -33,13 +33,13 @@ HaveRows bytes (i ∷ inputs) [] = ⊥
 HaveRows bytes (i ∷ inputs) (rows ∷ parts) = IsWhole (index_of i.reader) rows (bytes (reader_in i)) × HaveRows bytes inputs parts
 
 -- each input's rows at present
-abbrev pub lifted_parts : {R : Type 0} → List (Input R) → List (List Row) → List (List Row)
-lifted_parts [] parts = []
-lifted_parts (i ∷ inputs) [] = []
-lifted_parts (i ∷ inputs) (rows ∷ parts) = lifted_in i rows ∷ lifted_parts inputs parts
+abbrev pub present_parts : {R : Type 0} → List (Input R) → List (List Row) → List (List Row)
+present_parts [] parts = []
+present_parts (i ∷ inputs) [] = []
+present_parts (i ∷ inputs) (rows ∷ parts) = lifted_in i rows ∷ present_parts inputs parts
 
 -- Rows are the merge of inputs: the fold of all rows of their files, in the order of the inputs.
 pub record IsMergeOf {R : Type 0} (bytes : R → Option (List ℕ)) (s : Columns) (inputs : List (Input R)) (rows : List Row) : Type 0 where
   pub parts : List (List Row)
   pub whole : HaveRows bytes inputs parts
-  pub fold : rows ≡ folded (aggs_of s) (lifted_parts inputs parts)
+  pub fold : rows ≡ folded (aggs_of s) (present_parts inputs parts)

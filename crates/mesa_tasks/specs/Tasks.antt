@@ -7,7 +7,8 @@ use Rattle.mesa_schema.specs.Columns.{Columns}
 use Rattle.mesa_schema.specs.Changes.{Lineage, columns_of, epoch_of}
 use Rattle.mesa_schema.specs.Views.{view_columns, view_rows}
 use Rattle.mesa_delta.specs.declared.input.Input.{Input}
-use Rattle.mesa_tasks.specs.Inputs.{AreInputs, AreInputsOf, IsMergeOf}
+use Rattle.mesa_history.specs.Machine.{Claim}
+use Rattle.mesa_tasks.specs.Inputs.{AreInputsTo, AreInputsOf, IsMergeOf}
 use Rattle.mesa_tasks.specs.Made.{IsMadeFile}
 use Rattle.mesa_tasks.specs.declared.made.MadeFiles.{MadeFiles}
 use Rattle.mesa_tasks.specs.declared.made.MadeView.{MadeView}
@@ -15,9 +16,13 @@ use Rattle.mesa_tasks.specs.declared.merging.NewDelta.{NewDelta}
 use Rattle.mesa_tasks.specs.declared.merging.Task.{Task}
 use Rattle.mesa_tasks.specs.declared.merging.TaskView.{TaskView}
 
+-- the claim that a task was granted for
+abbrev pub claim_in : {R : Type 0} → Task R → Claim
+claim_in t = record { table = t.table; lease = t.lease; work = t.work }
+
 -- The own files of a view, where there are any, are lifted to its columns.
 abbrev pub HasOwn : {R : Type 0} → (R → Option (List ℕ)) → Columns → Option (Vec (Input R) Global) → Type 0
-HasOwn bytes s own = IfSome own (λ inputs. AreInputs bytes s inputs.items)
+HasOwn bytes s own = IfSome own (λ inputs. AreInputsTo bytes s inputs.items)
 
 -- One for each of these views, which are numbered from this one on.
 abbrev pub AreTaskViews : {R : Type 0} → (R → Option (List ℕ)) → Columns → ℕ → List View → List (TaskView R) → Type 0

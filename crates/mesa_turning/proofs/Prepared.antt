@@ -6,12 +6,11 @@ use Rattle.mesa_batch.specs.Glance.{Sight, tables_of}
 use Rattle.mesa_batch.specs.declared.words.BatchError.{BatchError}
 use Rattle.mesa_batch.specs.declared.words.RowWords.{RowWords}
 use Rattle.mesa_model.specs.declared.entries.Entry.{Entry}
-use Rattle.mesa_tasks.specs.Batches.{IsPrepared}
+use Rattle.mesa_tasks.specs.Batches.{HasPrepared, IsPrepared, IsUnprepared}
 use Rattle.mesa_tasks.specs.declared.prepared.LoadError.{LoadError}
 use Rattle.mesa_tasks.specs.declared.prepared.LoadError.TheVariants as load
 use Rattle.mesa_tasks.specs.declared.prepared.Prepared.{Prepared}
 use Rattle.mesa_load.specs.Preparing.{IsReason}
-use Rattle.mesa_service.specs.Loads.{HasPrepared, IsUnprepared}
 use Rattle.mesa_turning.specs.Loads.{StaysPrepared}
 
 ok_given : {A E : Type 0} (r : Result A E) → IsOk r → (a : A) × (r ≡ Ok a)

@@ -3,7 +3,7 @@ ghost use Rattle.std.specs.Prelude.{◌≡◌, ◌<◌, ◌^◌, List, Err, IfOk
 ghost use Rattle.mesa_model.specs.declared.entries.Entry.{Entry as AnyEntry};
 ghost use Rattle.mesa_skeleton.specs.Rows.{no_rows};
 ghost use Rattle.mesa_tasks.specs.declared.prepared.LoadError.TheVariants as load;
-ghost use Rattle.mesa_service.specs.Loads.{HasPrepared};
+ghost use Rattle.mesa_tasks.specs.Batches.{HasPrepared};
 ghost use Rattle.mesa_service.specs.Sight.{sight_after};
 ghost use Rattle.mesa_turning.specs.Loads.{StaysPrepared};
 

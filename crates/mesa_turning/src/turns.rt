@@ -11,7 +11,8 @@ ghost use Rattle.mesa_walk.specs.Works.{closing_stage, stage_if};
 ghost use Rattle.mesa_passes.specs.Passes.{HasSort, Holds, Mine, Took, at_stage};
 ghost use Rattle.mesa_service.specs.Pins.{CanBeAnswered, HasAnswered, IsOpenQuery, known_pin};
 ghost use Rattle.mesa_service.specs.Sight.{sight_after};
-ghost use Rattle.mesa_service.specs.Works.{CanBeMerged, HasMerged, WasGranted, claim_in, known_task};
+ghost use Rattle.mesa_service.specs.Works.{CanBeMerged, HasMerged, WasGranted, known_task};
+ghost use Rattle.mesa_tasks.specs.Tasks.{claim_in};
 ghost use Rattle.mesa_turning.specs.Loads.{StaysPrepared};
 
 use crate::preparing::prepared_now;

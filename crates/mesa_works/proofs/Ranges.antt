@@ -22,7 +22,7 @@ use Rattle.mesa_ledger.proofs.Standing.{held_there}
 use Rattle.mesa_model.specs.declared.entries.Entry.{Entry}
 use Rattle.mesa_gather.specs.Gathered.{IsGathered, unread_view}
 use Rattle.mesa_swapping.specs.Finished.{GroupOnly, HasRange, sources_in}
-use Rattle.mesa_tasks.specs.Inputs.{lifted_parts}
+use Rattle.mesa_tasks.specs.Inputs.{present_parts}
 use Rattle.mesa_tasks.specs.Opening.{HaveOpened}
 use Rattle.mesa_tasks.specs.Tasks.{IsTask}
 use Rattle.mesa_tasks.specs.declared.merging.Task.{Task}
@@ -67,7 +67,7 @@ module _ (law : OneFile) (o : Outset) (g : Origin) (l : Ledger) (story : Story) 
     epochs = subst (λ e. AllByRecursion (λ (s : Source). s.epoch ≤ e) (sources_in t written)) (sym task.epoch) (epochs_written v.rows (written_by o g.found h) c v.shaped (v.sourced refl) t.table there (first_of t.work) (last_of t.work));
     rows = λ its merge.
         merge.fold
-        ∙ same_folded (aggs_of (columns_of lin)) (lifted_parts t.inputs.items merge.parts) (map (present v.rows lin) (merged_of u (is_base t.work) (last_of t.work)))
+        ∙ same_folded (aggs_of (columns_of lin)) (present_parts t.inputs.items merge.parts) (map (present v.rows lin) (merged_of u (is_base t.work) (last_of t.work)))
         (all_rows law bytes faults story.told image told_is v.rows lin (merged_of u (is_base t.work) (last_of t.work)) sound gathered.wanted t.inputs.items merge.parts gathered.are undamaged merge.whole)
         ∙ work_written v.rows (written_by o g.found h) c v.shaped (v.sourced refl) t.table there (is_base t.work) (first_of t.work) (last_of t.work) may
         ∙ ap (λ e. range_rows lin e (sources_in t written)) (sym task.epoch);

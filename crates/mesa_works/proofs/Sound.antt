@@ -26,7 +26,7 @@ use Rattle.mesa_ledger.proofs.Lists.{all_also, all_joined}
 use Rattle.mesa_plans.specs.Files.{Want, files_wanted, table_wanted, want_of}
 use Rattle.mesa_gather.specs.Gathered.{unread_view}
 use Rattle.mesa_swapping.specs.Finished.{GroupOnly}
-use Rattle.mesa_tasks.specs.Inputs.{HaveRows, lifted_parts}
+use Rattle.mesa_tasks.specs.Inputs.{HaveRows, present_parts}
 use Rattle.mesa_tasks.specs.Opening.{HaveOpened, IsOpened, wanted_columns}
 use Rattle.mesa_tasks.specs.declared.opening.Wanted.{Wanted}
 use Rattle.mesa_works.proofs.WholeFiles.{OneFile, some_same, whole_rows}
@@ -115,9 +115,9 @@ module _ (law : OneFile) {R : Type 0} (bytes : R → Option (List ℕ)) (faults 
   -- ---- all rows
 
   module _ (epoch : ℕ) (more : List Want) (after : List Row)
-      (rest : (ws : List Wanted) (is : List (Input R)) (parts : List (List Row)) → map want_of ws ≡ more → HaveOpened bytes faults told ws is None → HaveRows bytes is parts → rows_of (lifted_parts is parts) ≡ after) where
+      (rest : (ws : List Wanted) (is : List (Input R)) (parts : List (List Row)) → map want_of ws ≡ more → HaveOpened bytes faults told ws is None → HaveRows bytes is parts → rows_of (present_parts is parts) ≡ after) where
     rows_behind : (o : Option Files) → AllByRecursion (IsSoundFile rows i) (files_shelved l epoch o) → (ws : List Wanted) (is : List (Input R)) (parts : List (List Row)) → map want_of ws ≡ files_wanted l epoch o ++ more → HaveOpened bytes faults told ws is None
-        → HaveRows bytes is parts → rows_of (lifted_parts is parts) ≡ map (lifted l epoch (epoch_of l)) (rows_if_any rows o) ++ after
+        → HaveRows bytes is parts → rows_of (present_parts is parts) ≡ map (lifted l epoch (epoch_of l)) (rows_if_any rows o) ++ after
     rows_behind None all ws is parts same have whole = rest ws is parts same have whole
     rows_behind (Some f) all [] is parts same have whole = absurd (cons_none _ _ (sym same))
     rows_behind (Some f) all (w ∷ ws) [] parts same have whole = absurd have
@@ -128,7 +128,7 @@ module _ (law : OneFile) {R : Type 0} (bytes : R → Option (List ℕ)) (faults 
         λ k. one k ++ others k
 
   pub all_rows : (ds : List Delta) → AllByRecursion (IsSoundDelta rows i l) ds → (ws : List Wanted) (is : List (Input R)) (parts : List (List Row)) → map want_of ws ≡ flat_map (table_wanted l) ds → HaveOpened bytes faults told ws is None → HaveRows bytes is parts
-      → rows_of (lifted_parts is parts) ≡ rows_of (map (present rows l) ds)
+      → rows_of (present_parts is parts) ≡ rows_of (map (present rows l) ds)
   all_rows [] all [] [] [] same have whole = refl
   all_rows [] all [] [] (part ∷ parts) same have whole = absurd whole
   all_rows [] all [] (j ∷ is) parts same have whole = absurd have

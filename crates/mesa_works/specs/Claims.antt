@@ -1,16 +1,11 @@
--- The claim of a task.
+-- Works that are granted next.
 use Rattle.std.specs.Prelude.{◌+◌}
 use Rattle.mesa_history.specs.Machine.{Claim}
 use Rattle.mesa_ledger.specs.Ledger.{Ledger}
-use Rattle.mesa_tasks.specs.declared.merging.Task.{Task}
 use Rattle.mesa_tasks.specs.declared.opening.Unopened.{Unopened}
 use Rattle.mesa_tasks.specs.declared.opening.Unopened.TheVariants as un
 use Rattle.mesa_walk.specs.Causes.{Cause, Unread, NoMemory}
 use Rattle.mesa_works.specs.declared.claiming.Claimed.{Claimed}
-
--- the claim that a task was granted for
-abbrev pub claim_in : {R : Type 0} → Task R → Claim
-claim_in t = record { table = t.table; lease = t.lease; work = t.work }
 
 -- the claim of a work that is granted next
 abbrev pub claim_as : Ledger → Claimed → Claim

@@ -17,11 +17,11 @@ ghost use Rattle.mesa_skeleton.specs.Rows.{Rows, no_rows};
 ghost use Rattle.mesa_span.specs.Ranges.{base_before};
 ghost use Rattle.mesa_span.specs.Work.{next_work};
 ghost use Rattle.mesa_swapping.specs.Finished.{HasRange};
-ghost use Rattle.mesa_tasks.specs.Tasks.{IsTask};
+ghost use Rattle.mesa_tasks.specs.Tasks.{IsTask, claim_in};
 ghost use Rattle.mesa_walk.specs.Turns.{Takes};
 ghost use Rattle.mesa_walk.specs.Walk.{run_at};
 ghost use Rattle.mesa_walk.specs.Works.{stage_if};
-ghost use Rattle.mesa_works.specs.Claims.{cause_met, claim_as, claim_in};
+ghost use Rattle.mesa_works.specs.Claims.{cause_met, claim_as};
 ghost use Rattle.mesa_works.specs.Ranged.{written_at};
 
 use crate::claiming::{Claimed, claim};

@@ -12,7 +12,7 @@ ghost use Rattle.mesa_skeleton.specs.Rows.{no_rows};
 ghost use Rattle.mesa_walk.specs.Turns.{Takes};
 ghost use Rattle.mesa_walk.specs.Walk.{run_at};
 ghost use Rattle.mesa_walk.specs.Works.{stage_if};
-ghost use Rattle.mesa_works.specs.Claims.{claim_in};
+ghost use Rattle.mesa_tasks.specs.Tasks.{claim_in};
 
 use crate::give_back;
 use mesa_disk::{Disk, Made};

@@ -54,7 +54,8 @@ use Rattle.mesa_engine.proofs.Turning.{told_engine}
 use Rattle.mesa_publishing.specs.Published.{AllTell, IsLoaded, IsPublished, bare_of, rows_later}
 use Rattle.mesa_tasks.specs.declared.prepared.LoadError.{LoadError}
 use Rattle.mesa_tasks.specs.declared.prepared.LoadError.TheVariants as load
-use Rattle.mesa_writing.specs.Loading.{IsUnprepared, cause_of, unready_as}
+use Rattle.mesa_writing.specs.Loading.{cause_of, unready_as}
+use Rattle.mesa_tasks.specs.Batches.{IsUnprepared}
 use Rattle.mesa_writing.specs.Writing.{CanWrite}
 
 -- ---- batches

@@ -17,7 +17,8 @@ ghost use Rattle.mesa_walk.specs.Causes.{Unwritten};
 ghost use Rattle.mesa_walk.specs.Changes.{HasFailed};
 ghost use Rattle.mesa_walk.specs.Turns.{Takes};
 ghost use Rattle.mesa_walk.specs.Walk.{run_at};
-ghost use Rattle.mesa_writing.specs.Loading.{HasPrepared, cause_of, unready_as};
+ghost use Rattle.mesa_writing.specs.Loading.{cause_of, unready_as};
+ghost use Rattle.mesa_tasks.specs.Batches.{HasPrepared};
 ghost use Rattle.mesa_writing.specs.Writing.{CanWrite};
 
 use crate::writing::{Change, write};

@@ -6,7 +6,7 @@ use Rattle.mesa_skeleton.specs.Rows.{no_rows}
 use Rattle.mesa_walk.specs.Turns.{Takes}
 use Rattle.mesa_walk.proofs.Alike.{due_alike}
 use Rattle.mesa_engine.specs.Engine.{Standing}
-use Rattle.mesa_works.specs.Claims.{claim_in}
+use Rattle.mesa_tasks.specs.Tasks.{claim_in}
 use Rattle.mesa_completing.proofs.completing.complete.Goals as goal
 
 pub skip-requires-clause-due : goal.skip-requires-clause-due

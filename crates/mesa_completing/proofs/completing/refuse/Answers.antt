@@ -14,7 +14,7 @@ use Rattle.mesa_walk.specs.Turns.{Shown, Takes, entry}
 use Rattle.mesa_walk.specs.Walk.{run_at}
 use Rattle.mesa_walk.proofs.Alike.{due_alike}
 use Rattle.mesa_engine.specs.Engine.{Standing, IsEngine, starts_of}
-use Rattle.mesa_works.specs.Claims.{claim_in}
+use Rattle.mesa_tasks.specs.Tasks.{claim_in}
 use Rattle.mesa_completing.specs.Merged.{HasNotSwapped, unswapped_ledger}
 use Rattle.mesa_completing.proofs.Refusing.{closed_takes, unswapped_engine}
 use Rattle.mesa_completing.proofs.completing.refuse.Goals as goal

@@ -18,7 +18,7 @@ use Rattle.mesa_walk.specs.Turns.{Shown, Takes, entry}
 use Rattle.mesa_walk.specs.Walk.{run_at}
 use Rattle.mesa_walk.proofs.Alike.{due_alike}
 use Rattle.mesa_engine.specs.Engine.{Standing, IsEngine, starts_of}
-use Rattle.mesa_works.specs.Claims.{claim_in}
+use Rattle.mesa_tasks.specs.Tasks.{claim_in}
 use Rattle.mesa_completing.specs.Unmerged.{closing_ledger}
 use Rattle.mesa_completing.proofs.Closings.{given_up_engine, given_up_takes}
 use Rattle.mesa_completing.proofs.unmerged.give_up.Goals as goal

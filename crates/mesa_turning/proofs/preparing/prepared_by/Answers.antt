@@ -1,7 +1,7 @@
 use Rattle.std.proofs.Common.{sym, subst}
 use Rattle.std.specs.Prelude.{IfOk}
 use Rattle.mesa_batch.specs.Glance.{Sight}
-use Rattle.mesa_service.specs.Loads.{HasPrepared}
+use Rattle.mesa_tasks.specs.Batches.{HasPrepared}
 use Rattle.mesa_turning.proofs.Prepared.{prepared_is}
 use Rattle.mesa_turning.proofs.preparing.prepared_by.Goals as goal
 

@@ -5,7 +5,7 @@ use Rattle.mesa_model.specs.declared.entries.Kind.TheVariants as kind
 use Rattle.mesa_skeleton.specs.Rows.{no_rows}
 use Rattle.mesa_passes.proofs.Turning.{Step, step_took, step_seen}
 use Rattle.mesa_walk.specs.Works.{stage_if}
-use Rattle.mesa_service.specs.Works.{claim_in}
+use Rattle.mesa_tasks.specs.Tasks.{claim_in}
 use Rattle.mesa_turning.proofs.Found.{granted_then}
 use Rattle.mesa_turning.proofs.Stepping.{Enters, asks, goes_on, one, room_for, step}
 use Rattle.mesa_turning.proofs.turns.grant_turn.Goals as goal

@@ -5,7 +5,8 @@ use Rattle.mesa_model.specs.declared.entries.Kind.TheVariants as kind
 use Rattle.mesa_skeleton.specs.Rows.{no_rows}
 use Rattle.mesa_passes.proofs.Turning.{Step, step_took}
 use Rattle.mesa_walk.specs.Works.{stage_if}
-use Rattle.mesa_service.specs.Works.{claim_in, known_task}
+use Rattle.mesa_service.specs.Works.{known_task}
+use Rattle.mesa_tasks.specs.Tasks.{claim_in}
 use Rattle.mesa_turning.proofs.Found.{granted_found, granted_later}
 use Rattle.mesa_turning.proofs.Stepping.{Enters, asks, finds_numbers, goes_on, one, room_for, step}
 use Rattle.mesa_turning.proofs.turns.renew_turn.Goals as goal

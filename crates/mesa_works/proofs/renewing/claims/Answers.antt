@@ -1,6 +1,6 @@
 use Rattle.std.proofs.Common.{sym, ◌∙◌}
 use Rattle.mesa_skeleton.specs.Rows.{no_rows}
-use Rattle.mesa_works.specs.Claims.{claim_in}
+use Rattle.mesa_tasks.specs.Tasks.{claim_in}
 use Rattle.mesa_works.proofs.Renewals.{held_claim, lost_claim}
 use Rattle.mesa_works.proofs.renewing.claims.Goals as goal
 

@@ -16,7 +16,7 @@ use Rattle.mesa_walk.specs.Turns.{Shown, Takes, entry}
 use Rattle.mesa_walk.specs.Walk.{run_at}
 use Rattle.mesa_walk.proofs.Alike.{due_alike}
 use Rattle.mesa_engine.specs.Engine.{Standing, starts_of}
-use Rattle.mesa_works.specs.Claims.{claim_in}
+use Rattle.mesa_tasks.specs.Tasks.{claim_in}
 use Rattle.mesa_works.proofs.Renewals.{lost_engine, lost_takes, renewed_engine, renewed_takes}
 use Rattle.mesa_works.proofs.renewing.renew.Goals as goal
 

@@ -8,7 +8,8 @@ use Rattle.mesa_ledger.specs.Ledger.{books_of}
 use Rattle.mesa_model.specs.Load.{load_batch}
 use Rattle.mesa_publishing.specs.Bounds.{IsDue}
 use Rattle.mesa_publishing.specs.Published.{bare_of}
-use Rattle.mesa_writing.specs.Loading.{HasPrepared, cause_of}
+use Rattle.mesa_writing.specs.Loading.{cause_of}
+use Rattle.mesa_tasks.specs.Batches.{HasPrepared}
 use Rattle.mesa_writing.proofs.Loads.{can_publish, read_so, unready_fails}
 use Rattle.mesa_writing.proofs.publishing.ready.Goals as goal
 
