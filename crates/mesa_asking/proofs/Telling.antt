@@ -13,7 +13,6 @@ use Rattle.mesa_catalog.proofs.Stocks.{all_at}
 use Rattle.mesa_commit.specs.Images.{Has}
 use Rattle.mesa_disk.specs.Image.{Image}
 use Rattle.mesa_disk.specs.Story.{Story, Unmoved}
-use Rattle.mesa_fault.specs.Causes.{last}
 use Rattle.mesa_filter.specs.declared.words.QueryWords.{QueryWords}
 use Rattle.mesa_filter.specs.declared.words.VersionWord.{VersionWord}
 use Rattle.mesa_filter.specs.declared.words.VersionWord.TheVariants as asks
@@ -66,15 +65,15 @@ pub record IsRead (rows : Rows) (image : Image) (c : Catalog) : Type 0 where
   pub stocked : AreStocked rows c
   pub has : Has (wants rows (shelved c)) image
 
-module _ (o : Outset) (g : Origin) (sound : Bool) (l : Ledger) (story : Story) (held : Option (List ℕ)) (h : List Entry) (running refused : Bool) (v : IsVault o g sound l story held h running refused) (ok : IsTrue sound) (low : story.moment < last) (was_open : l.closed ≡ None) where
+module _ (o : Outset) (g : Origin) (sound : Bool) (l : Ledger) (story : Story) (held : Option (List ℕ)) (h : List Entry) (running refused : Bool) (v : IsVault o g sound l story held h running refused) (ok : IsTrue sound) (was_open : l.closed ≡ None) where
   asked_read : (image : Image) → story.told ≡ Some image → (session : ℕ) (asked : VersionWord) (c : Catalog) → catalogue_asked l session asked ≡ Some c → IsRead v.rows image c
   asked_read image told session asked c = by asked
     where
       present : l.catalogue ≡ c → IsRead v.rows image c
-      present same = subst (IsRead v.rows image) same (record { stocked = (v.stocked ok).0; has = there_now o g sound l story held h running refused v was_open ok low image told })
+      present same = subst (IsRead v.rows image) same (record { stocked = (v.stocked ok).0; has = there_now o g sound l story held h running refused v was_open ok image told })
 
       held_files : AllByRecursion (λ (x : HeldPin). Has (wants v.rows (shelved x.copy)) image) l.pins
-      held_files = pins_of (λ (x : Holder). Has (wants v.rows (shelved x.1)) image) v.seen l (map_all (λ (p : PinFiles). Has p.1 image) (files_held v.rows) (holders v.seen l) (v.there ok low image told))
+      held_files = pins_of (λ (x : Holder). Has (wants v.rows (shelved x.1)) image) v.seen l (map_all (λ (p : PinFiles). Has p.1 image) (files_held v.rows) (holders v.seen l) (v.there ok image told))
 
       pinned : (token : ℕ) (found : Option HeldPin) → find (is_held_pin session token) l.pins ≡ found → option_map (λ (p : HeldPin). p.copy) found ≡ Some c → IsRead v.rows image c
       pinned token None there e = absurd cc
@@ -120,11 +119,11 @@ files_answered bytes faults told l session words p has = (answer_found has.sees.
 
 -- ---- what a turn leaves
 
--- Whatever rows the files had when the run began, the query is open; on a sound store, while the clock is below its last value, its files tell the answer.
+-- Whatever rows the files had when the run began, the query is open; on a sound store its files tell the answer.
 pub opened_is : {R : Type 0} (bytes : R → Option (List ℕ)) (faults : R → ℕ) (n : Starts) (l : Ledger) (story new : Story) (held : Option (List ℕ)) (h : List Entry) (running refused : Bool) → IsVaultAt n l story held h running refused
     → (s number : ℕ) → s < 2 ^ 16 → number < 2 ^ 32 → (words : QueryWords) (m : ℕ) → m ≡ story.moment → running ≡ true → Unmoved story new → ((w : Rows) → IsDue n.script (run_at n.script (n.start w) h) s number (command.Query words) First)
     → Counts story new false → (at : ℕ) → at ≡ length h → l.closed ≡ None → (p : Pinned R) → HasItsFiles bytes faults story.told l s words p
-    → IsOpen n.script n.start (h ++ entry s number kind.Decide outcome.Stands m ∷ []) s number words at (λ w answer. n.sound w → new.moment < last → Tells bytes p answer)
+    → IsOpen n.script n.start (h ++ entry s number kind.Decide outcome.Stands m ∷ []) s number words at (λ w answer. n.sound w → Tells bytes p answer)
 opened_is bytes faults n l story new held h running refused v s number low few words m moment ran unmoved due counts at place was_open p has w =
     let o = outset_of n w in
     let plain = v w false (λ is. absurd cc) in
@@ -133,11 +132,11 @@ opened_is bytes faults n l story new held h running refused v s number low few w
     record {
       answer = bare.answer;
       due = bare.due;
-      told = λ sound below.
+      told = λ sound.
           let vault = v w true (λ is. sound) in
           let mine : IsPinned true (books_of vault.rows l) s words (Tells bytes p) = record {
             asked = answers;
-            answers = asked_tells o (n.origin w) true l story held h running refused vault refl (subst (λ x. x < last) unmoved.moment below) was_open bytes faults s words p has;
+            answers = asked_tells o (n.origin w) true l story held h running refused vault refl was_open bytes faults s words p has;
           } in
           let full = opened_from o (n.origin w) true l story held h running refused vault s number low few words m moment ran new unmoved (due w) (Tells bytes p) mine counts at place in
           subst (Tells bytes p) (one_answer o (h ++ entry s number kind.Decide outcome.Stands m ∷ []) s number at words Untold (Tells bytes p) bare full) full.told;

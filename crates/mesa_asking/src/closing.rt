@@ -2,7 +2,6 @@
 ghost use Rattle.std.specs.Prelude.{◌≡◌, ◌<◌, ◌≤◌, ◌||◌, ◌++◌, ◌∷◌, [], true, not, is_some, length, vec_capacity, vec_len, IfErr};
 ghost use Rattle.mesa_asking.specs.Closing.{IsPageOf, IsToClose, cause_if, cause_of, closing_entry, closing_text};
 ghost use Rattle.mesa_tasks.specs.Errors.{HasDiffered};
-ghost use Rattle.mesa_fault.specs.Causes.{last};
 ghost use Rattle.mesa_history.specs.Run.{Finished};
 ghost use Rattle.mesa_ledger.specs.Turned.{answered_ledger};
 ghost use Rattle.mesa_log.specs.Failure.{cause_in};
@@ -79,8 +78,8 @@ pub fn close_query<N: Naming, M: Made, D: Disk<M>, K: Sink>(
     pinned: Pinned<D::Reader>,
     answered: Result<Rendered, FileError>,
 )
-    // On a sound store, while the clock is below its last value, the page is that of the answer, whatever rows the files had when the run began.
-    requires due { (w : Rows) → IsToClose N.script (run_at N.script (N.start w) engine.old.shown.history) who.session who.command pinned.at (λ answer. N.sound w → engine.old.shown.clock < last → IsPageOf answered pinned.version answer) }
+    // On a sound store the page is that of the answer, whatever rows the files had when the run began.
+    requires due { (w : Rows) → IsToClose N.script (run_at N.script (N.start w) engine.old.shown.history) who.session who.command pinned.at (λ answer. N.sound w → IsPageOf answered pinned.version answer) }
     requires damaged { IfErr answered HasDiffered }
     requires read { closing_fault (cause_if answered) ≡ true → SomeFailed D.Reader.faults (pinned_inputs pinned) }
     requires room { length engine.old.shown.history < N.room }

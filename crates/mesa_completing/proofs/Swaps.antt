@@ -1,7 +1,6 @@
 -- How the close of a work whose range is swapped in keeps a vault.
 use Rattle.std.proofs.Common.{◌≡◌, inl, inr, ◌∙◌, ℕ, ◌+◌, ◌<◌, ◌^◌, List, [], ◌∷◌, ◌++◌, map, length, Bool, true, false, ◌||◌, refl, sym, ap, subst, arith, Option, None, Some, Ok, IsTrue}
 use Rattle.std.specs.List.{AllByRecursion}
-use Rattle.mesa_fault.specs.Causes.{last}
 use Rattle.mesa_key.specs.Spelling.{AreBytes}
 use Rattle.mesa_schema.specs.Changes.{Lineage}
 use Rattle.mesa_disk.specs.Files.{AreGone, files_of}
@@ -66,7 +65,6 @@ use Rattle.mesa_swapping.specs.Finished.{HasRange}
 use Rattle.mesa_swapping.specs.Swapped.{IsSwapped, delta_of, swap_of}
 use Rattle.mesa_swapping.specs.declared.swapping.Swapped.{Swapped}
 use Rattle.mesa_tasks.specs.Tasks.{claim_in}
-use Rattle.mesa_writing.proofs.Unseen.{dark, dark_passes, dark_writes, unseen_vault}
 use Rattle.mesa_writing.proofs.Written.{IsWhole, IsWorked}
 
 -- a work is that of its range
@@ -177,9 +175,9 @@ module _ (n : Starts) (w : Rows) (sound : Bool) (l : Ledger) (story : Story) (he
     moves = swap_step later c stocked_later v.shaped t.table (is_base t.work) (first_of t.work) (last_of t.work) t.epoch is.refs fit files_told (record { replaces = replaces; grouped = is.grouped v.rows (written t.table) (range ok) })
 
   module _ (body : List ℕ) (are : AreBytes body) (reads : record_at body ≡ Ok r) where
-    to_write : IsTrue sound → story.moment < last → AllTell bytes s.made.items → IsWritten story v.bodies l.end c later r body made removed
-    to_write ok low' tell =
-        let stands = v.stands ok low' opened in
+    to_write : IsTrue sound → AllTell bytes s.made.items → IsWritten story v.bodies l.end c later r body made removed
+    to_write ok tell =
+        let stands = v.stands ok opened in
         record {
           held = record {
             bytes = stands.bytes;
@@ -195,20 +193,16 @@ module _ (n : Starts) (w : Rows) (sound : Bool) (l : Ledger) (story : Story) (he
     -- each image stands for what was kept, or for what is to be kept
     store_swaps : (new : Story) → IsWorked story new l.end body made removed → IsTrue sound → AllTell bytes s.made.items → Writes StandsFor story new (kept_of v.rows l.catalogue) (kept_of later (applied c r))
     store_swaps new worked ok tell below all =
-        let after = worked.passes.later in
-        let low' : story.moment < last = omega (arith, below, after) in
         subst (λ k. Spans (StandsForEither StandsFor k (kept_of later (applied c r))) story new) (same_kept (outset_of n w) (n.origin w) sound l story held h running refused v later agree)
-        (worked.images v.bodies c later r (to_write ok low' tell))
+        (worked.images v.bodies c later r (to_write ok tell))
 
-    store_holds : (new : Story) (end : ℕ) → IsWorked story new l.end body made removed → IsWhole story new l.end body made removed end → IsTrue sound → AllTell bytes s.made.items → new.moment < last
+    store_holds : (new : Story) (end : ℕ) → IsWorked story new l.end body made removed → IsWhole story new l.end body made removed end → IsTrue sound → AllTell bytes s.made.items
         → IsHeld new (v.bodies ++ body ∷ []) end (applied c r) later
-    store_holds new end worked whole ok tell below =
-        let after = worked.passes.later in
-        let low' : story.moment < last = omega (arith, below, after) in
-        subst (λ e. IsHeld new (v.bodies ++ body ∷ []) e (applied c r) later) (sym whole.ends) (whole.holds v.bodies c later r (to_write ok low' tell))
+    store_holds new end worked whole ok tell =
+        subst (λ e. IsHeld new (v.bodies ++ body ∷ []) e (applied c r) later) (sym whole.ends) (whole.holds v.bodies c later r (to_write ok tell))
 
   module _ (new : Story) (m : ℕ) (moment : m ≡ new.moment) (passes : Passes story new) (only : Steps (MovesOnly made removed) story.told new.told) (now : Bool) (new_held : Option (List ℕ))
-      (writes : Writes StandsFor story new (kept_of v.rows l.catalogue) (kept_of later (applied c r))) (end : ℕ) where
+      (writes : IsTrue sound → Writes StandsFor story new (kept_of v.rows l.catalogue) (kept_of later (applied c r))) (end : ℕ) where
     swaps : Swaps sound (books_of v.rows l) claim (kept_of later (applied c r))
     swaps = swap_is (outset_of n w) (n.origin w) sound l story held h running refused v later agree claim (is_base t.work) (first_of t.work) (last_of t.work) t.epoch is.refs (work_same t.work)
         (swap_within c t.table (is_base t.work) (first_of t.work) (last_of t.work) t.epoch is.refs (kind_of c r fit)) replaces
@@ -216,7 +210,7 @@ module _ (n : Starts) (w : Rows) (sound : Bool) (l : Ledger) (story : Story) (he
     abbrev after : Ledger
     after = recorded_ledger l (length h) (applied c r) (generation_of (applied c r)) gone (ended t.table t.lease l.leases) s.adopted end
 
-    stands_so : Counts story new false → (bodies : List (List ℕ)) → (IsTrue sound → new.moment < last → IsHeld new bodies end (applied c r) later) → ((i : Image) → new.told ≡ Some i → AreGone removed i) → end < new.len Zero
+    stands_so : Counts story new false → (bodies : List (List ℕ)) → (IsTrue sound → IsHeld new bodies end (applied c r) later) → ((i : Image) → new.told ≡ Some i → AreGone removed i) → end < new.len Zero
         → generation_of (applied c r) ≡ l.generation + turns_generation r → IsPut (block (entry session number kind.Close outcome.Stands m) (Some (told_at at (swapped_reply t.work)))) now held new_held
         → IsVault (outset_of n w) (n.origin w) sound after new new_held (h ++ entry session number kind.Close outcome.Stands m ∷ []) now (refused || false)
     stands_so counts bodies holds gone_now long rises put =
@@ -244,22 +238,6 @@ module _ (n : Starts) (w : Rows) (sound : Bool) (l : Ledger) (story : Story) (he
     (at : ℕ) (place : at ≡ length h) (checked : claim_checked (books_of no_rows l).bare (books_of no_rows l).machine at (claim_in t) ≡ Ok tt)
     (range : IsTrue sound → HasRange read was t (written_by (outset_of n w) (n.origin w).found h t.table)) (tell : IsTrue sound → AllTell bytes s.made.items)
     (body : List ℕ) (are : AreBytes body) (new : Story) (m : ℕ) (moment : m ≡ new.moment) (now : Bool) (new_held : Option (List ℕ)) where
-  abbrev o : Outset
-  o = outset_of n w
-
-  abbrev g : Origin
-  g = n.origin w
-
-  abbrev swapped : Record
-  swapped = swap_of t is.refs
-
-  -- where the store isn't known to be sound, what a crash leaves doesn't matter
-  unsound : sound ≡ false → IsVault o g false l (dark story) held h running refused
-  unsound off = unseen_vault o g l story held h running refused (λ i. ⊥) (λ t i. ⊥) (subst (λ b. IsVault o g b l story held h running refused) off v)
-
-  again : (k : Ledger) (h2 : List Entry) (told : Bool) → sound ≡ false → IsVault o g false k (dark new) new_held h2 now told → IsVault o g sound k new new_held h2 now told
-  again k h2 told off later = subst (λ b. IsVault o g b k new new_held h2 now told) (sym off) (unseen_vault o g k (dark new) new_held h2 now told new.may_leave new.may_have_left later)
-
   -- what is asked of the device work for a record, and what the vault then is
   abbrev Ends : Record → Type 0
   Ends e = record_at body ≡ Ok e → IsWorked story new l.end body (files_of bytes s.made.items) (removed_by l (length h) (dropped_ids l.catalogue e)) → (end : ℕ)
@@ -274,30 +252,15 @@ module _ (n : Starts) (w : Rows) (sound : Bool) (l : Ledger) (story : Story) (he
       → IsVault (outset_of n w) (n.origin w) sound (failed_ledger l at (ended t.table t.lease l.leases) s.adopted) new new_held (h ++ entry session number kind.Close outcome.WriteFault m ∷ []) now (refused || true)
 
   ends_so : Ends (swap_of t is.refs)
-  ends_so reads worked end whole counts rises put = by sound refl
-    where
-      by : (b : Bool) → sound ≡ b → IsVault o g sound (recorded_ledger l (length h) (applied l.catalogue swapped) (generation_of (applied l.catalogue swapped)) (dropped_ids l.catalogue swapped) (ended t.table t.lease l.leases) s.adopted end) new new_held
-          (h ++ entry session number kind.Close outcome.Stands m ∷ []) now (refused || false)
-      by true on =
-          stands_so n w sound l story held h running refused v session number low few ran bytes read was t s is typed name due at place checked range new m moment worked.passes worked.only now new_held
-          (store_swaps n w sound l story held h running refused v session number low few ran bytes read was t s is typed name due at place checked range body are reads new worked on (tell on)) end counts (v.bodies ++ body ∷ [])
-          (λ ok below. store_holds n w sound l story held h running refused v session number low few ran bytes read was t s is typed name due at place checked range body are reads new end worked whole ok (tell ok) below) whole.gone whole.long rises put
-      by false off =
-          again _ _ _ off
-          (stands_so n w false l (dark story) held h running refused (unsound off) session number low few ran bytes read was t s is typed name due at place checked (λ ok. absurd cc) (dark new) m moment (dark_passes story new worked.passes) worked.only now new_held
-          (dark_writes story new _ _ worked.passes) end (record { faults = counts.faults; reads = counts.reads; rose = counts.rose }) [] (λ ok. absurd cc) whole.gone whole.long rises put)
+  ends_so reads worked end whole counts rises put =
+      stands_so n w sound l story held h running refused v session number low few ran bytes read was t s is typed name due at place checked range new m moment worked.passes worked.only now new_held
+      (λ ok. store_swaps n w sound l story held h running refused v session number low few ran bytes read was t s is typed name due at place checked range body are reads new worked ok (tell ok)) end counts (v.bodies ++ body ∷ [])
+      (λ ok. store_holds n w sound l story held h running refused v session number low few ran bytes read was t s is typed name due at place checked range body are reads new end worked whole ok (tell ok)) whole.gone whole.long rises put
 
   failed_so : Fails (swap_of t is.refs)
-  failed_so reads worked counts put = by sound refl
-    where
-      by : (b : Bool) → sound ≡ b → IsVault o g sound (failed_ledger l at (ended t.table t.lease l.leases) s.adopted) new new_held (h ++ entry session number kind.Close outcome.WriteFault m ∷ []) now (refused || true)
-      by true on =
-          fails_so n w sound l story held h running refused v session number low few ran bytes read was t s is typed name due at place checked range new m moment worked.passes worked.only now new_held
-          (store_swaps n w sound l story held h running refused v session number low few ran bytes read was t s is typed name due at place checked range body are reads new worked on (tell on)) 0 counts put
-      by false off =
-          again _ _ _ off
-          (fails_so n w false l (dark story) held h running refused (unsound off) session number low few ran bytes read was t s is typed name due at place checked (λ ok. absurd cc) (dark new) m moment (dark_passes story new worked.passes) worked.only now new_held
-          (dark_writes story new _ _ worked.passes) 0 (record { faults = counts.faults; reads = counts.reads; rose = counts.rose }) put)
+  failed_so reads worked counts put =
+      fails_so n w sound l story held h running refused v session number low few ran bytes read was t s is typed name due at place checked range new m moment worked.passes worked.only now new_held
+      (λ ok. store_swaps n w sound l story held h running refused v session number low few ran bytes read was t s is typed name due at place checked range body are reads new worked ok (tell ok)) 0 counts put
 
   -- The device work is done, and the vault has the record: the lease has ended.
   pub swap_ends : Ends s.entry

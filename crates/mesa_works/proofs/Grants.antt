@@ -3,6 +3,7 @@ use Rattle.std.proofs.Common.{◌≡◌, ◌∙◌, ℕ, ◌<◌, ◌^◌, ◌�
 use Rattle.std.specs.Prelude.{vec_capacity}
 use Rattle.std.specs.Prelude.{◌⊎◌}
 use Rattle.std.proofs.lemmas.Bool.Decides.{leb_tells}
+use Rattle.std.proofs.lemmas.List.{length-map}
 use Rattle.mesa_fault.specs.Causes.{Rose, last}
 use Rattle.mesa_disk.specs.Story.{Story, Unmoved}
 use Rattle.mesa_history.specs.Machine.{Claim, claim_of}
@@ -14,11 +15,13 @@ use Rattle.mesa_image.specs.Catalog.{Catalog, no_stock, stock_at}
 use Rattle.mesa_image.specs.Shape.{IsCatalog, IsShaped}
 use Rattle.mesa_catalog.proofs.Stocks.{all_at}
 use Rattle.mesa_lease.specs.Book.{granted}
+use Rattle.mesa_model.specs.Warehouse.{Warehouse}
 use Rattle.mesa_model.specs.declared.commands.Command.TheVariants as command
 use Rattle.mesa_model.specs.declared.entries.Entry.{Entry}
 use Rattle.mesa_model.specs.declared.entries.Kind.TheVariants as kind
 use Rattle.mesa_model.specs.declared.entries.Outcome.TheVariants as outcome
 use Rattle.mesa_output.specs.Output.{block}
+use Rattle.mesa_skeleton.specs.Bare.{bare_table}
 use Rattle.mesa_skeleton.specs.Rows.{Rows, no_rows}
 use Rattle.mesa_tasks.specs.Opening.{Counted}
 use Rattle.mesa_tasks.specs.declared.opening.Unopened.{Unopened}
@@ -30,7 +33,7 @@ use Rattle.mesa_walk.specs.Walk.{Outset, Counts, run_at, run_of}
 use Rattle.mesa_walk.specs.Works.{HasNoClaim}
 use Rattle.mesa_walk.proofs.Going.{takes_as}
 use Rattle.mesa_walk.proofs.Working.{claim_is, granted_turn, ungranted_ends, ungranted_turn}
-use Rattle.mesa_ledger.specs.Ledger.{Ledger, books_of}
+use Rattle.mesa_ledger.specs.Ledger.{Ledger, books_of, skeleton_of}
 use Rattle.mesa_ledger.specs.Turned.{leased_ledger}
 use Rattle.mesa_ledger.specs.Vault.{Origin, Starts, IsVault, outset_of}
 use Rattle.mesa_ledger.proofs.Staying.{leased_vault, still_vault}
@@ -151,3 +154,15 @@ answers un.Memory = refl
 -- a table of a catalogue is shaped
 pub shaped_at : (c : Catalog) → IsCatalog c → (table : ℕ) → table < length c.tables → IsShaped c.oldest c.next (stock_at c table)
 shaped_at c is table there = all_at (IsShaped c.oldest c.next) c.tables table no_stock is.tables there
+
+-- ---- what stands behind a turn
+
+-- As many tables stand behind a history as the catalogue has, and the version that comes next is the catalogue's.
+pub tables_there : (o : Outset) (g : Origin) (sound : Bool) (l : Ledger) (story : Story) (held : Option (List ℕ)) (h : List Entry) (running refused : Bool) → IsVault o g sound l story held h running refused
+    → length (run_of o h).state.warehouse.store.tables ≡ length l.catalogue.tables
+tables_there o g sound l story held h running refused v =
+    sym (length-map (run_of o h).state.warehouse.store.tables bare_table) ∙ ap (λ (w : Warehouse). length w.store.tables) v.walk.state.skeleton ∙ length-map l.catalogue.tables skeleton_of
+
+pub next_there : (o : Outset) (g : Origin) (sound : Bool) (l : Ledger) (story : Story) (held : Option (List ℕ)) (h : List Entry) (running refused : Bool) → IsVault o g sound l story held h running refused
+    → (run_of o h).state.warehouse.next ≡ l.catalogue.next
+next_there o g sound l story held h running refused v = ap (λ (w : Warehouse). w.next) v.walk.state.skeleton

@@ -1,7 +1,6 @@
 -- What a task has of its range where the store is sound.
 use Rattle.std.proofs.Common.{◌≡◌, ◌∙◌, ℕ, ◌<◌, List, length, map, Bool, true, refl, sym, ap, subst, ◌≤◌, Option, None, Some}
 use Rattle.std.specs.List.{AllByRecursion}
-use Rattle.mesa_fault.specs.Causes.{last}
 use Rattle.mesa_commit.specs.Images.{Has}
 use Rattle.mesa_disk.specs.Image.{Image}
 use Rattle.mesa_disk.specs.Story.{Story}
@@ -30,7 +29,7 @@ use Rattle.mesa_walk.specs.Walk.{Outset}
 use Rattle.mesa_works.proofs.Sound.{IsSoundDelta, all_rows, none_met, none_own, same_folded, sound_deltas, sound_merged}
 use Rattle.mesa_works.proofs.WholeFiles.{OneFile}
 
-module _ (law : OneFile) (o : Outset) (g : Origin) (l : Ledger) (story : Story) (held : Option (List ℕ)) (h : List Entry) (running refused : Bool) (v : IsVault o g true l story held h running refused) (low : story.moment < last) (opened : l.closed ≡ None)
+module _ (law : OneFile) (o : Outset) (g : Origin) (l : Ledger) (story : Story) (held : Option (List ℕ)) (h : List Entry) (running refused : Bool) (v : IsVault o g true l story held h running refused) (opened : l.closed ≡ None)
     {R : Type 0} (bytes : R → Option (List ℕ)) (faults : R → ℕ) (t : Task R) (there : t.table < length l.catalogue.tables) (may : may_be_work l.catalogue (stock_at l.catalogue t.table) (is_base t.work) (first_of t.work) (last_of t.work) ≡ true)
     (task : IsTask bytes (stock_at l.catalogue t.table).lineage t) (numbers : List ℕ) (views : t.views.items ≡ map unread_view numbers) (gathered : IsGathered bytes faults story.told (stock_at l.catalogue t.table) t.work t) where
   abbrev c : Catalog
@@ -52,16 +51,19 @@ module _ (law : OneFile) (o : Outset) (g : Origin) (l : Ledger) (story : Story) 
   told_is = (v.read refl).1
 
   has : Has (wants v.rows (shelved c)) image
-  has = held_there story v.bodies l.end c v.rows (v.stands refl low opened) image told_is
+  has = held_there story v.bodies l.end c v.rows (v.stands refl opened) image told_is
 
   sound : AllByRecursion (IsSoundDelta v.rows image lin) (merged_of u (is_base t.work) (last_of t.work))
   sound = sound_merged v.rows image lin u (is_base t.work) (last_of t.work) (sound_deltas v.rows image c t.table there (v.stocked refl).0 has)
 
-  undamaged : HaveOpened bytes faults story.told gathered.wanted t.inputs.items None
-  undamaged = subst (HaveOpened bytes faults story.told gathered.wanted t.inputs.items)
-      (none_met law bytes faults story.told image told_is v.rows lin (merged_of u (is_base t.work) (last_of t.work)) sound gathered.wanted t.inputs.items t.damage gathered.are gathered.opened) gathered.opened
+  -- A task whose files are those of its range has none that is damaged.
+  pub has_no_damage : t.damage ≡ None
+  has_no_damage = none_met law bytes faults story.told image told_is v.rows lin (merged_of u (is_base t.work) (last_of t.work)) sound gathered.wanted t.inputs.items t.damage gathered.are gathered.opened
 
-  -- A task whose files are those of its range has its range.
+  undamaged : HaveOpened bytes faults story.told gathered.wanted t.inputs.items None
+  undamaged = subst (HaveOpened bytes faults story.told gathered.wanted t.inputs.items) has_no_damage gathered.opened
+
+  -- It has its range.
   pub has_range : HasRange bytes (stock_at l.catalogue t.table).lineage t (written_by o g.found h t.table)
   has_range = record {
     epochs = subst (λ e. AllByRecursion (λ (s : Source). s.epoch ≤ e) (sources_in t written)) (sym task.epoch) (epochs_written v.rows (written_by o g.found h) c v.shaped (v.sourced refl) t.table there (first_of t.work) (last_of t.work));

@@ -1,6 +1,5 @@
 // A work's grant.
 ghost use Rattle.std.specs.Prelude.{◌≡◌, ◌≢◌, ◌+◌, ◌<◌, ◌≤◌, ◌^◌, ℕ, List, true, length, None, Some, Ok, IfOk, IfSome, OnOk};
-ghost use Rattle.mesa_fault.specs.Causes.{last};
 ghost use Rattle.mesa_gather.specs.Gathered.{unread_views};
 ghost use Rattle.mesa_history.specs.Machine.{claim_of};
 ghost use Rattle.mesa_history.specs.Run.{First, Granted};
@@ -48,13 +47,18 @@ pub fn grant<N: Naming, M: Made, D: Disk<M>, K: Sink>(
     ensures turn { Takes N.script (N.start no_rows) engine.old.shown engine.new.shown who.session who.command kind.Grant (stage_if claim_in Granted result) }
     ensures ran { OnOk result (engine.old.shown.running ≡ true) }
     ensures catalogue { engine.new.ledger.catalogue ≡ engine.old.ledger.catalogue }
-    ensures there { IfOk result (λ t. t.table < length engine.old.ledger.catalogue.tables) }
     ensures low { IfOk result (λ t. t.table < TABLES) }
-    ensures ends { IfOk result (λ t. last_of t.work < engine.old.ledger.catalogue.next) }
+
+    // Its table is one of those behind the turn, and its range ends before the version that comes next.
+    ensures there { IfOk result (λ t. t.table < length (run_at N.script (N.start no_rows) engine.new.shown.history).state.warehouse.store.tables) }
+    ensures next { IfOk result (λ t. last_of t.work < (run_at N.script (N.start no_rows) engine.new.shown.history).state.warehouse.next) }
     ensures task { IfOk result (λ t. IsTask D.Reader.bytes (stock_at engine.old.ledger.catalogue t.table).lineage t) }
     ensures views { IfOk result (λ t. t.views.items ≡ unread_views 0 (length (stock_at engine.old.ledger.catalogue t.table).lineage.views)) }
     ensures damage { IfOk result (λ t. IfSome t.damage (λ d. d.want ≢ d.found)) }
-    ensures range { (w : Rows) → N.sound w → engine.old.shown.clock < last → IfOk result (λ t. HasRange D.Reader.bytes (stock_at engine.old.ledger.catalogue t.table).lineage t (written_at N.script (N.start w) (N.origin w) engine.new.shown.history t.table)) }
+
+    // On a sound store no file was damaged, and it has all that was written in its range.
+    ensures whole { (w : Rows) → N.sound w → IfOk result (λ t. t.damage ≡ None) }
+    ensures range { (w : Rows) → N.sound w → IfOk result (λ t. HasRange D.Reader.bytes (stock_at engine.old.ledger.catalogue t.table).lineage t (written_at N.script (N.start w) (N.origin w) engine.new.shown.history t.table)) }
 {
     if !engine.running() {
         engine.skip(who, Kind::Grant);
@@ -84,11 +88,13 @@ fn take<N: Naming, M: Made, D: Disk<M>, K: Sink>(
     ensures turn { Takes N.script (N.start no_rows) engine.old.shown engine.new.shown who.session who.command kind.Grant (stage_if claim_in Granted result) }
     ensures catalogue { engine.new.ledger.catalogue ≡ engine.old.ledger.catalogue }
     ensures table { IfOk result (λ t. t.table ≡ claimed.table) }
-    ensures ends { IfOk result (λ t. last_of t.work < engine.old.ledger.catalogue.next) }
+    ensures there { IfOk result (λ t. t.table < length (run_at N.script (N.start no_rows) engine.new.shown.history).state.warehouse.store.tables) }
+    ensures next { IfOk result (λ t. last_of t.work < (run_at N.script (N.start no_rows) engine.new.shown.history).state.warehouse.next) }
     ensures task { IfOk result (λ t. IsTask D.Reader.bytes (stock_at engine.old.ledger.catalogue claimed.table).lineage t) }
     ensures views { IfOk result (λ t. t.views.items ≡ unread_views 0 (length (stock_at engine.old.ledger.catalogue t.table).lineage.views)) }
     ensures damage { IfOk result (λ t. IfSome t.damage (λ d. d.want ≢ d.found)) }
-    ensures range { (w : Rows) → N.sound w → engine.old.shown.clock < last → IfOk result (λ t. HasRange D.Reader.bytes (stock_at engine.old.ledger.catalogue t.table).lineage t (written_at N.script (N.start w) (N.origin w) engine.new.shown.history t.table)) }
+    ensures whole { (w : Rows) → N.sound w → IfOk result (λ t. t.damage ≡ None) }
+    ensures range { (w : Rows) → N.sound w → IfOk result (λ t. HasRange D.Reader.bytes (stock_at engine.old.ledger.catalogue t.table).lineage t (written_at N.script (N.start w) (N.origin w) engine.new.shown.history t.table)) }
 {
     one_file();
     let alloc = *engine.log.history.allocator();

@@ -1,4 +1,3 @@
-pub mod Unseen
 pub mod Doing
 pub mod Written
 pub mod Engines

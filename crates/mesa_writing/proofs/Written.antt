@@ -1,7 +1,6 @@
 -- How a turn that writes keeps a vault.
 use Rattle.std.proofs.Common.{◌≡◌, inl, inr, ℕ, ◌+◌, ◌<◌, ◌≤◌, ◌^◌, List, [], ◌∷◌, ◌++◌, map, length, Bool, true, false, ◌||◌, refl, sym, ◌∙◌, ap, subst, arith, Option, None, Some, Ok, IsTrue}
 use Rattle.std.specs.List.{AllByRecursion}
-use Rattle.mesa_fault.specs.Causes.{last}
 use Rattle.mesa_key.specs.Spelling.{AreBytes}
 use Rattle.mesa_disk.specs.Files.{AreAbsent, AreGone, files_of}
 use Rattle.mesa_disk.specs.Image.{Image, file_of}
@@ -51,7 +50,6 @@ use Rattle.mesa_publishing.specs.Published.{AllTell}
 use Rattle.mesa_writing.specs.declared.writing.Change.{Change}
 use Rattle.mesa_writing.specs.Writing.{IsToWrite}
 use Rattle.mesa_writing.proofs.Doing.{IsDone, command_done, stocked_later}
-use Rattle.mesa_writing.proofs.Unseen.{dark, dark_passes, dark_writes, unseen_vault}
 
 -- What the device work of a turn did that wrote a body, adopted files and removed others.
 pub record IsWorked (story new : Story) (end : ℕ) (body : List ℕ) (made : List (ℕ × Option (List ℕ))) (dropped : List ℕ) : Type 0 where
@@ -123,9 +121,9 @@ module _ (n : Starts) (w : Rows) (sound : Bool) (l : Ledger) (story : Story) (he
       id (subst (λ hs. Among id (ids_of (freed hs (waiting l (length h) [])))) (sym (holds_are v.seen l)) is)))
 
   module _ (body : List ℕ) (are : AreBytes body) (reads : record_at body ≡ Ok change.writes) where
-    to_write : IsTrue sound → story.moment < last → AllTell bytes change.made.items → IsWritten story v.bodies l.end c later change.writes body made removed
-    to_write ok low' tell =
-        let is = v.stands ok low' to.can.opened in
+    to_write : IsTrue sound → AllTell bytes change.made.items → IsWritten story v.bodies l.end c later change.writes body made removed
+    to_write ok tell =
+        let is = v.stands ok to.can.opened in
         let stocked = stocked_later (outset_of n w) (n.origin w) sound l story held h running refused v to.can.later to.can.brings.agree to.can.opened session (length h) change.adopted 0 ok in
         let moved = ((done 0).moves stocked).1 in
         record {
@@ -143,21 +141,17 @@ module _ (n : Starts) (w : Rows) (sound : Bool) (l : Ledger) (story : Story) (he
     -- each image stands for what was kept, or for what is to be kept
     pub store_writes : (new : Story) → IsWorked story new l.end body made removed → IsTrue sound → AllTell bytes change.made.items → Writes StandsFor story new (kept_of v.rows l.catalogue) (kept_of (to.can.later v.rows) (applied l.catalogue change.writes))
     store_writes new worked ok tell below all =
-        let after = worked.passes.later in
-        let low' : story.moment < last = omega (arith, below, after) in
         subst (λ k. Spans (StandsForEither StandsFor k (kept_of later x)) story new) (same_kept (outset_of n w) (n.origin w) sound l story held h running refused v later (to.can.brings.agree v.rows))
-        (worked.images v.bodies c later change.writes (to_write ok low' tell))
+        (worked.images v.bodies c later change.writes (to_write ok tell))
 
-    pub store_holds : (new : Story) (end : ℕ) → IsWorked story new l.end body made removed → IsWhole story new l.end body made removed end → IsTrue sound → AllTell bytes change.made.items → new.moment < last
+    pub store_holds : (new : Story) (end : ℕ) → IsWorked story new l.end body made removed → IsWhole story new l.end body made removed end → IsTrue sound → AllTell bytes change.made.items
         → IsHeld new (v.bodies ++ body ∷ []) end (applied l.catalogue change.writes) (to.can.later v.rows)
-    store_holds new end worked whole ok tell below =
-        let after = worked.passes.later in
-        let low' : story.moment < last = omega (arith, below, after) in
-        subst (λ e. IsHeld new (v.bodies ++ body ∷ []) e x later) (sym whole.ends) (whole.holds v.bodies c later change.writes (to_write ok low' tell))
+    store_holds new end worked whole ok tell =
+        subst (λ e. IsHeld new (v.bodies ++ body ∷ []) e x later) (sym whole.ends) (whole.holds v.bodies c later change.writes (to_write ok tell))
 
   module _ (new : Story) (m : ℕ) (moment : m ≡ new.moment) (passes : Passes story new) (only : Steps (MovesOnly made removed) story.told new.told) (at : ℕ) (place : at ≡ length h) (now : Bool) (new_held : Option (List ℕ))
-      (writes : Writes StandsFor story new (kept_of v.rows l.catalogue) (kept_of (to.can.later v.rows) (applied l.catalogue change.writes))) where
-    pub stands_so : (end : ℕ) → Counts story new false → (bodies : List (List ℕ)) → (IsTrue sound → new.moment < last → IsHeld new bodies end (applied l.catalogue change.writes) (to.can.later v.rows))
+      (writes : IsTrue sound → Writes StandsFor story new (kept_of v.rows l.catalogue) (kept_of (to.can.later v.rows) (applied l.catalogue change.writes))) where
+    pub stands_so : (end : ℕ) → Counts story new false → (bodies : List (List ℕ)) → (IsTrue sound → IsHeld new bodies end (applied l.catalogue change.writes) (to.can.later v.rows))
         → ((i : Image) → new.told ≡ Some i → AreGone (removed_by l (length h) []) i) → end < new.len Zero → generation_of (applied l.catalogue change.writes) ≡ l.generation + turns_generation change.writes
         → IsPut (block (entry session number kind.Decide outcome.Stands m) (Some (told_at at change.tells))) now held new_held
         → IsVault (outset_of n w) (n.origin w) sound (recorded_ledger l (length h) (applied l.catalogue change.writes) (generation_of (applied l.catalogue change.writes)) [] l.leases change.adopted end) new new_held (h ++ entry session number kind.Decide outcome.Stands m ∷ []) now (refused || is_refusal change.tells)
@@ -183,45 +177,18 @@ module _ (n : Starts) (w : Rows) (sound : Bool) (l : Ledger) (story : Story) (he
     (due : IsDue n.script (run_of (outset_of n w) h) session number to.asked (deciding_stage to.asked)) (typed : IsTyped change.writes) (tell : IsTrue sound → AllTell bytes change.made.items)
     (body : List ℕ) (are : AreBytes body) (reads : record_at body ≡ Ok change.writes) (new : Story) (worked : IsWorked story new l.end body (files_of bytes change.made.items) (removed_by l (length h) []))
     (m : ℕ) (moment : m ≡ new.moment) (at : ℕ) (place : at ≡ length h) (now : Bool) (new_held : Option (List ℕ)) where
-  abbrev o : Outset
-  o = outset_of n w
-
-  abbrev g : Origin
-  g = n.origin w
-
-  -- where the store isn't known to be sound, what a crash leaves doesn't matter
-  unsound : sound ≡ false → IsVault o g false l (dark story) held h running refused
-  unsound is = unseen_vault o g l story held h running refused (λ i. ⊥) (λ t i. ⊥) (subst (λ b. IsVault o g b l story held h running refused) is v)
-
-  again : (k : Ledger) (h2 : List Entry) (told : Bool) → sound ≡ false → IsVault o g false k (dark new) new_held h2 now told → IsVault o g sound k new new_held h2 now told
-  again k h2 told is later = subst (λ b. IsVault o g b k new new_held h2 now told) (sym is) (unseen_vault o g k (dark new) new_held h2 now told new.may_leave new.may_have_left later)
-
   -- The device work is done, and the vault has the record.
   pub write_stands : (end : ℕ) → IsWhole story new l.end body (files_of bytes change.made.items) (removed_by l (length h) []) end → Counts story new false → generation_of (applied l.catalogue change.writes) ≡ l.generation + turns_generation change.writes
       → IsPut (block (entry session number kind.Decide outcome.Stands m) (Some (told_at at change.tells))) now held new_held
       → IsVault (outset_of n w) (n.origin w) sound (recorded_ledger l (length h) (applied l.catalogue change.writes) (generation_of (applied l.catalogue change.writes)) [] l.leases change.adopted end) new new_held (h ++ entry session number kind.Decide outcome.Stands m ∷ []) now (refused || is_refusal change.tells)
-  write_stands end whole counts rises put = by sound refl
-    where
-      by : (b : Bool) → sound ≡ b → IsVault o g sound (recorded_ledger l (length h) (applied l.catalogue change.writes) (generation_of (applied l.catalogue change.writes)) [] l.leases change.adopted end) new new_held (h ++ entry session number kind.Decide outcome.Stands m ∷ []) now (refused || is_refusal change.tells)
-      by true is =
-          stands_so n w sound l story held h running refused v session number low few ran bytes change script r to due typed new m moment worked.passes worked.only at place now new_held
-          (store_writes n w sound l story held h running refused v session number low few ran bytes change script r to due typed body are reads new worked is (tell is)) end counts (v.bodies ++ body ∷ [])
-          (λ ok below. store_holds n w sound l story held h running refused v session number low few ran bytes change script r to due typed body are reads new end worked whole ok (tell ok) below) whole.gone whole.long rises put
-      by false is =
-          again _ _ _ is
-          (stands_so n w false l (dark story) held h running refused (unsound is) session number low few ran bytes change script r to due typed (dark new) m moment (dark_passes story new worked.passes) worked.only at place now new_held
-          (dark_writes story new _ _ worked.passes) end (record { faults = counts.faults; reads = counts.reads; rose = counts.rose }) [] (λ ok. absurd cc) whole.gone whole.long rises put)
+  write_stands end whole counts rises put =
+      stands_so n w sound l story held h running refused v session number low few ran bytes change script r to due typed new m moment worked.passes worked.only at place now new_held
+      (λ ok. store_writes n w sound l story held h running refused v session number low few ran bytes change script r to due typed body are reads new worked ok (tell ok)) end counts (v.bodies ++ body ∷ [])
+      (λ ok. store_holds n w sound l story held h running refused v session number low few ran bytes change script r to due typed body are reads new end worked whole ok (tell ok)) whole.gone whole.long rises put
 
   -- The device work has failed, and the vault closes.
   pub write_fails : Counts story new true → IsPut (block (entry session number kind.Decide outcome.WriteFault m) (Some (told_at at (reply_of Unwritten)))) now held new_held
       → IsVault (outset_of n w) (n.origin w) sound (failed_ledger l at l.leases change.adopted) new new_held (h ++ entry session number kind.Decide outcome.WriteFault m ∷ []) now (refused || true)
-  write_fails counts put = by sound refl
-    where
-      by : (b : Bool) → sound ≡ b → IsVault o g sound (failed_ledger l at l.leases change.adopted) new new_held (h ++ entry session number kind.Decide outcome.WriteFault m ∷ []) now (refused || true)
-      by true is =
-          fails_so n w sound l story held h running refused v session number low few ran bytes change script r to due typed new m moment worked.passes worked.only at place now new_held
-          (store_writes n w sound l story held h running refused v session number low few ran bytes change script r to due typed body are reads new worked is (tell is)) counts put
-      by false is =
-          again _ _ _ is
-          (fails_so n w false l (dark story) held h running refused (unsound is) session number low few ran bytes change script r to due typed (dark new) m moment (dark_passes story new worked.passes) worked.only at place now new_held
-          (dark_writes story new _ _ worked.passes) (record { faults = counts.faults; reads = counts.reads; rose = counts.rose }) put)
+  write_fails counts put =
+      fails_so n w sound l story held h running refused v session number low few ran bytes change script r to due typed new m moment worked.passes worked.only at place now new_held
+      (λ ok. store_writes n w sound l story held h running refused v session number low few ran bytes change script r to due typed body are reads new worked ok (tell ok)) counts put

@@ -3,7 +3,6 @@ use Rattle.mesa_asking.specs.Opening.{asked_ledger}
 use Rattle.mesa_asking.proofs.Opens.{opened_engine, unopened_engine, unopened_takes}
 use Rattle.mesa_asking.proofs.Telling.{asked_shaped, files_answered, opened_is}
 use Rattle.mesa_asking.proofs.pinning.pin_query.Goals as goal
-use Rattle.mesa_fault.specs.Causes.{last}
 use Rattle.mesa_engine.specs.Engine.{Standing, IsEngine, starts_of}
 use Rattle.mesa_history.specs.Run.{First, Finished}
 use Rattle.mesa_history.specs.Turns.{IsDue}
@@ -101,8 +100,8 @@ returns-in-Ok-clause-opened g c =
     let base =
     opened_is bytes g.D.Reader.FileReader.faults n i.metadata.ledger (g.D.Disk.story i.disk) new (g.K.Sink.held i.log.printer.sink) h (not i.log.printer.broken) i.log.refused c.engine.invariant.vault s number short.session short.command words
     c.clock-moment.result (c.clock-moment.ensures ∙ c.hold_files-held.ensures.unmoved.moment) (runs g c) c.hold_files-held.ensures.unmoved (due_at g c) c.in-Ok.ensures.counts c.position-at.result c.position-at.ensures has.sees.opened p has in
-    subst (λ (hs : List Entry). IsOpen N.script N.start hs s number words p.at (λ w answer. N.sound w → new.moment < last → Tells bytes p answer)) (sym (c.pass.ensures.items ∙ ap (λ x. h ++ x ∷ []) c.turn-turn.ensures.same))
-    (subst (λ q. IsOpen N.script N.start (h ++ entry s number kind.Decide outcome.Stands c.clock-moment.result ∷ []) s number words q (λ w answer. N.sound w → new.moment < last → Tells bytes p answer)) (sym c.in-Ok.ensures.at) base)
+    subst (λ (hs : List Entry). IsOpen N.script N.start hs s number words p.at (λ w answer. N.sound w → Tells bytes p answer)) (sym (c.pass.ensures.items ∙ ap (λ x. h ++ x ∷ []) c.turn-turn.ensures.same))
+    (subst (λ q. IsOpen N.script N.start (h ++ entry s number kind.Decide outcome.Stands c.clock-moment.result ∷ []) s number words q (λ w answer. N.sound w → Tells bytes p answer)) (sym c.in-Ok.ensures.at) base)
 
 pub returns-in-Ok-clause-seen : goal.returns-in-Ok-clause-seen
 returns-in-Ok-clause-seen g c =
