@@ -1,6 +1,7 @@
 -- One turn of a vault, as its caller sees it.
-use Rattle.std.specs.Prelude.{◌≡◌, ℕ, List, [], ◌∷◌, ◌++◌, Bool, true, false, ◌||◌, not, IsTrue}
+use Rattle.std.specs.Prelude.{◌≡◌, ℕ, ◌<◌, List, [], ◌∷◌, ◌++◌, Bool, true, false, ◌||◌, not, IsTrue}
 use Rattle.std.specs.List.{AllByRecursion}
+use Rattle.mesa_fault.specs.Causes.{last}
 use Rattle.mesa_model.specs.declared.commands.Command.{Command}
 use Rattle.mesa_model.specs.declared.commands.Command.TheVariants as command
 use Rattle.mesa_model.specs.declared.commands.Script.{Script}
@@ -10,6 +11,7 @@ use Rattle.mesa_model.specs.declared.entries.Outcome.{Outcome}
 use Rattle.mesa_model.specs.declared.entries.Outcome.TheVariants as outcome
 use Rattle.mesa_model.specs.Entry.{IsShort}
 use Rattle.mesa_history.specs.Run.{State, Stage, Run, place_of, begins}
+use Rattle.mesa_history.specs.Counting.{is_bench_fault}
 use Rattle.mesa_history.specs.Replay.{is_skip}
 use Rattle.mesa_history.specs.Legal.{AllFit, fits_sink, is_query, is_work}
 use Rattle.mesa_history.specs.Turns.{IsDue, place_then}
@@ -43,6 +45,10 @@ pub record Takes (script : Script) (start : State) (old new : Shown) (session nu
   pub turn : IsTurn old new session number k
   pub place : place_of (run_at script start new.history) session ≡ place_then (not old.running) number stage
   pub seen : IsSeen script start new
+
+-- While the clock is below its last value, the entry that a turn added answers a fault of a file that its session was building only where this is so.
+abbrev pub AnswersDraft : Script → State → Shown → Shown → ℕ → Type 0 → Type 0
+AnswersDraft script start old new session Failed = new.clock < last → (e : Entry) → new.history ≡ old.history ++ e ∷ [] → IsTrue (is_bench_fault session (run_at script start old.history) e) → Failed
 
 -- ---- what a call asks of its command
 
