@@ -2,3 +2,4 @@ pub mod Turning
 pub mod Undone
 pub mod Beginning
 pub mod Seeing
+pub mod Drafting

@@ -6,7 +6,7 @@ ghost use Rattle.mesa_ledger.specs.Ledger.{books_of};
 ghost use Rattle.mesa_log.specs.Failure.{cause_in};
 ghost use Rattle.mesa_skeleton.specs.Rows.{Rows, no_rows};
 ghost use Rattle.mesa_walk.specs.Causes.{reply_of};
-ghost use Rattle.mesa_walk.specs.Turns.{Takes};
+ghost use Rattle.mesa_walk.specs.Turns.{AnswersDraft, Takes};
 ghost use Rattle.mesa_walk.specs.Walk.{run_at};
 
 use crate::Engine;
@@ -23,6 +23,7 @@ impl<N: Naming, M: Made, D: Disk<M>, K: Sink> Engine<N, M, D, K> {
         requires room { length self.old.shown.history < N.room }
         requires failed { self.old.shown.running ≡ false }
         ensures turn { (stage : Stage) → Takes N.script (N.start no_rows) self.old.shown self.new.shown who.session who.command kind stage }
+        ensures draft { AnswersDraft N.script (N.start no_rows) self.old.shown self.new.shown who.session ⊥ }
         ensures ledger { self.new.ledger ≡ self.old.ledger }
     {
         let turn = who.turn(kind, Outcome::Skipped, self.disk.clock());
@@ -35,6 +36,7 @@ impl<N: Naming, M: Made, D: Disk<M>, K: Sink> Engine<N, M, D, K> {
         requires room { length self.old.shown.history < N.room }
         requires runs { self.old.shown.running ≡ true }
         ensures turn { Takes N.script (N.start no_rows) self.old.shown self.new.shown who.session who.command kind Finished }
+        ensures draft { AnswersDraft N.script (N.start no_rows) self.old.shown self.new.shown who.session ⊥ }
         ensures ledger { self.new.ledger ≡ self.old.ledger }
         ensures reply { result ≡ reply_of (cause_in failure) }
     {

@@ -1,5 +1,6 @@
 use Rattle.std.proofs.Common.{◌≡◌, ◌∷◌, ◌++◌, [], length, true, false, ◌||◌, not, refl, sym, ◌∙◌, subst, arith, Some}
 use Rattle.mesa_history.specs.Refused.{is_refusal}
+use Rattle.mesa_history.specs.Replay.{closes}
 use Rattle.mesa_history.specs.Run.{Finished}
 use Rattle.mesa_ledger.specs.Ledger.{books_of}
 use Rattle.mesa_ledger.specs.Vault.{Starts, IsVault, outset_of}
@@ -9,11 +10,12 @@ use Rattle.mesa_output.specs.Output.{block}
 use Rattle.mesa_skeleton.specs.Rows.{no_rows}
 use Rattle.mesa_walk.specs.Causes.{outcome_of, reply_of, told_at}
 use Rattle.mesa_walk.specs.Printing.{IsPut}
-use Rattle.mesa_walk.specs.Turns.{Shown, Takes, entry}
+use Rattle.mesa_walk.specs.Turns.{AnswersDraft, Shown, Takes, entry}
 use Rattle.mesa_walk.specs.Walk.{run_at}
 use Rattle.mesa_walk.proofs.Alike.{due_alike}
 use Rattle.mesa_engine.specs.Engine.{Standing, IsEngine, starts_of}
 use Rattle.mesa_engine.specs.Failing.{Fails, deciding_stage, deciding_kind}
+use Rattle.mesa_engine.proofs.Drafting.{answers_none, quiet_cause}
 use Rattle.mesa_engine.proofs.Undone.{deciding_unanswered, failing_vault, failing_takes}
 use Rattle.mesa_engine.proofs.Turning.{told_engine}
 use Rattle.mesa_engine.proofs.engine.Engine.fail.Goals as goal
@@ -79,3 +81,18 @@ returns-clause-turn g c =
     (failing_takes (outset_of n no_rows) (n.origin no_rows) false l story held h (not i.log.printer.broken) i.log.refused (old.vault no_rows false (λ is. absurd cc)) s number c.fail.ensures.short.session c.fail.ensures.short.command (runs g c) (length h) refl story.moment new refl
     (vault_at_seen n l story (g.K.Sink.held later.printer.sink) later.history.items (not later.printer.broken) later.refused story.moment (kept g c).vault) no_rows fails.asked fails.due cause fails.why
     (c.fail.ensures.items ∙ (λ j. h ++ entry s number (fails.decides j) (outcome_of cause) (c.clock-moment.ensures j) ∷ []))))
+
+pub returns-clause-draft : goal.returns-clause-draft
+returns-clause-draft g c =
+    let N = g.N.Naming in
+    let i = c.self.inside in
+    let who = c.args.who in
+    let story = g.D.Disk.story i.disk in
+    let h = i.log.history.items in
+    let cause = cause_in c.args.failure in
+    let later = c.fail.new.self in
+    let new : Shown = record { history = later.history.items; running = not later.printer.broken; clock = story.moment } in
+    let e = entry who.session who.command c.args.kind (outcome_of cause) c.clock-moment.result in
+    subst (λ (s : Standing). AnswersDraft N.script (N.start no_rows) s.shown new who.session ⊥) c.self.view_is
+    (answers_none N.script (N.start no_rows) (record { history = h; running = not i.log.printer.broken; clock = story.moment }) new who.session e c.fail.ensures.items
+    (quiet_cause (closes (run_at N.script (N.start no_rows) h).moment e) cause (fails_at g c).quiet))

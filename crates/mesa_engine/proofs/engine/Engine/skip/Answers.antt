@@ -1,13 +1,14 @@
-use Rattle.std.proofs.Common.{◌≡◌, [], ◌∷◌, ◌++◌, false, not, sym, ◌∙◌, ap, subst, arith}
+use Rattle.std.proofs.Common.{◌≡◌, [], ◌∷◌, ◌++◌, false, not, refl, sym, ◌∙◌, ap, subst, arith}
 use Rattle.mesa_model.specs.Entry.{IsShort}
 use Rattle.mesa_model.specs.declared.entries.Outcome.TheVariants as outcome
 use Rattle.mesa_ledger.specs.Vault.{Starts, outset_of}
 use Rattle.mesa_ledger.proofs.Beginning.{vault_at_seen}
 use Rattle.mesa_skeleton.specs.Rows.{Rows, no_rows}
-use Rattle.mesa_walk.specs.Turns.{Shown, Takes, entry}
+use Rattle.mesa_walk.specs.Turns.{AnswersDraft, Shown, Takes, entry}
 use Rattle.mesa_walk.specs.Walk.{run_at}
 use Rattle.mesa_engine.specs.Engine.{Standing, IsEngine, starts_of}
 use Rattle.mesa_engine.specs.Failing.{Comes}
+use Rattle.mesa_engine.proofs.Drafting.{answers_none}
 use Rattle.mesa_engine.proofs.Undone.{skipped_vault}
 use Rattle.mesa_engine.proofs.Turning.{passed_engine, skipped_takes}
 use Rattle.mesa_engine.proofs.engine.Engine.skip.Goals as goal
@@ -54,3 +55,16 @@ returns-clause-turn g c stage =
     (c.pass.ensures.items ∙ ap (λ x. h ++ x ∷ []) c.turn-turn.ensures.same ∙ ap (λ m. h ++ entry who.session who.command c.args.kind outcome.Skipped m ∷ []) c.clock.ensures)
     (has_failed g c) (λ on. sym (ap (λ p. not p.broken) c.pass.ensures.printer) ∙ on)
     (vault_at_seen n i.metadata.ledger story (g.K.Sink.held later.printer.sink) later.history.items (not later.printer.broken) later.refused story.moment (kept g c).vault))
+
+pub returns-clause-draft : goal.returns-clause-draft
+returns-clause-draft g c =
+    let N = g.N.Naming in
+    let i = c.self.inside in
+    let who = c.args.who in
+    let story = g.D.Disk.story i.disk in
+    let h = i.log.history.items in
+    let later = c.pass.new.self in
+    let new : Shown = record { history = later.history.items; running = not later.printer.broken; clock = story.moment } in
+    subst (λ (s : Standing). AnswersDraft N.script (N.start no_rows) s.shown new who.session ⊥) c.self.view_is
+    (answers_none N.script (N.start no_rows) (record { history = h; running = not i.log.printer.broken; clock = story.moment }) new who.session (entry who.session who.command c.args.kind outcome.Skipped c.clock.result)
+    (c.pass.ensures.items ∙ ap (λ x. h ++ x ∷ []) c.turn-turn.ensures.same) refl)
