@@ -1,5 +1,5 @@
 -- How the close of a work whose merge failed keeps a vault.
-use Rattle.std.proofs.Common.{◌≡◌, inl, inr, ℕ, ◌+◌, ◌-◌, ◌<◌, ◌^◌, ◌≤◌, List, [], ◌∷◌, ◌++◌, length, Bool, true, false, ◌||◌, not, refl, sym, ◌∙◌, ap, subst, arith, Option, None, Some}
+use Rattle.std.proofs.Common.{◌≡◌, inl, inr, ℕ, ◌+◌, ◌-◌, ◌<◌, ◌^◌, ◌≤◌, List, [], ◌∷◌, ◌++◌, length, Bool, true, false, ◌||◌, not, refl, sym, ◌∙◌, ap, subst, arith, Option, None, Some, IsTrue}
 use Rattle.std.specs.Prelude.{◌==◌, is_some, min, nat_le, vec_capacity}
 use Rattle.std.specs.List.{AllByRecursion}
 use Rattle.std.proofs.lemmas.Bool.Decides.{nat_tests}
@@ -8,6 +8,7 @@ use Rattle.mesa_cursor.specs.Cursors.{reader_in}
 use Rattle.mesa_delta.specs.declared.error.FileError.TheVariants as file_error
 use Rattle.mesa_delta.specs.declared.input.Input.{Input}
 use Rattle.mesa_disk.specs.Story.{Story, Unmoved}
+use Rattle.mesa_history.specs.Counting.{answers_bench}
 use Rattle.mesa_history.specs.Machine.{Claim}
 use Rattle.mesa_history.specs.Refused.{is_refusal}
 use Rattle.mesa_history.specs.Replay.{closes}
@@ -134,3 +135,13 @@ pub given_up_takes : (n : Starts) (w : Rows) (old new : Shown) (s number : ℕ) 
     → new.history ≡ old.history ++ entry s number kind.Close (outcome_of cause) new.clock ∷ [] → old.running ≡ true → IsSeen n.script (n.start w) new → Takes n.script (n.start w) old new s number kind.Close Finished
 given_up_takes n w old new s number name claim due cause grew ran seen =
     unmerged_takes n.script (n.start w) old new s number (command.Work name) claim due (record { outcome = outcome_of cause; grew = grew; skipped = not_skipped cause ∙ ap not (sym ran); still = λ on. ran }) seen
+
+-- ---- the file that was being built
+
+-- a close answers a file's fault only where the merge's draft failed
+pub only_draft : (closed : Option ℕ) (error : CompactError) (closing : Bool) → IsTrue (answers_bench closing (outcome_of (closing_cause closed error))) → error ≡ compact.Draft
+only_draft (Some position) error closing is = absurd cc
+only_draft None compact.Draft closing is = refl
+only_draft None (compact.File file_error.Read) closing is = absurd cc
+only_draft None (compact.File (file_error.Damaged damage)) closing is = absurd cc
+only_draft None (compact.File file_error.Memory) closing is = absurd cc

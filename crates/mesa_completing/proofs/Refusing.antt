@@ -1,7 +1,8 @@
 -- How the close of a work whose range isn't swapped in keeps a vault.
-use Rattle.std.proofs.Common.{◌≡◌, ◌∙◌, ℕ, ◌+◌, ◌<◌, ◌≤◌, ◌^◌, List, [], ◌∷◌, ◌++◌, length, Bool, true, ◌||◌, not, refl, sym, ap, subst, arith, Option, Some}
+use Rattle.std.proofs.Common.{◌≡◌, ◌∙◌, ℕ, ◌+◌, ◌<◌, ◌≤◌, ◌^◌, List, [], ◌∷◌, ◌++◌, length, Bool, true, false, ◌||◌, not, refl, sym, ap, subst, arith, Option, Some}
 use Rattle.std.specs.Prelude.{vec_capacity}
 use Rattle.mesa_disk.specs.Story.{Story}
+use Rattle.mesa_history.specs.Counting.{answers_bench}
 use Rattle.mesa_history.specs.Machine.{Claim}
 use Rattle.mesa_history.specs.Refused.{is_refusal}
 use Rattle.mesa_history.specs.Run.{Renewed, Finished}
@@ -73,3 +74,8 @@ pub closed_takes : (n : Starts) (w : Rows) (old new : Shown) (s number : ℕ) (n
     → new.history ≡ old.history ++ entry s number kind.Close (outcome_of cause) new.clock ∷ [] → old.running ≡ true → IsSeen n.script (n.start w) new → Takes n.script (n.start w) old new s number kind.Close Finished
 closed_takes n w old new s number name claim due cause grew ran seen =
     complete_takes n.script (n.start w) old new s number (command.Work name) claim due (record { outcome = outcome_of cause; grew = grew; skipped = not_skipped cause ∙ ap not (sym ran); still = λ on. ran }) seen
+
+-- no file was being built
+pub no_draft : (closing : Bool) (u : Unswapped) → answers_bench closing (outcome_of (cause_met u)) ≡ false
+no_draft closing (why.Refused refusal) = refl
+no_draft closing why.Memory = refl

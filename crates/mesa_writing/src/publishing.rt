@@ -1,5 +1,5 @@
 // A load's deciding turn.
-ghost use Rattle.std.specs.Prelude.{◌≡◌, ◌+◌, ◌<◌, ◌≤◌, ◌^◌, true, ℕ, List, Some, IfErr, IfOk, length};
+ghost use Rattle.std.specs.Prelude.{◌≡◌, ◌+◌, ◌<◌, ◌≤◌, ◌^◌, true, ℕ, List, Some, Err, IfErr, IfOk, length};
 ghost use Rattle.mesa_catalog.specs.Lookups.{sight_of};
 ghost use Rattle.mesa_history.specs.Run.{Finished, Looked};
 ghost use Rattle.mesa_history.specs.Turns.{IsDue};
@@ -15,10 +15,12 @@ ghost use Rattle.mesa_skeleton.specs.Rows.{Rows, no_rows};
 ghost use Rattle.mesa_trash.specs.Holding.{Among};
 ghost use Rattle.mesa_walk.specs.Causes.{Unwritten};
 ghost use Rattle.mesa_walk.specs.Changes.{HasFailed};
-ghost use Rattle.mesa_walk.specs.Turns.{Takes};
+ghost use Rattle.mesa_walk.specs.Turns.{AnswersDraft, Takes};
 ghost use Rattle.mesa_walk.specs.Walk.{run_at};
 ghost use Rattle.mesa_writing.specs.Loading.{cause_of, unready_as};
 ghost use Rattle.mesa_tasks.specs.Batches.{HasPrepared};
+ghost use Rattle.mesa_tasks.specs.declared.prepared.LoadError.TheVariants as load;
+ghost use Rattle.mesa_writing.specs.declared.publishing.Unready.TheVariants as why;
 ghost use Rattle.mesa_writing.specs.Writing.{CanWrite};
 
 use crate::writing::{Change, write};
@@ -90,6 +92,7 @@ fn ready<M: Made>(
     requires made { HasPrepared M.bytes M.id_of (sight_of metadata.now.ledger.catalogue) rows.now made }
     ensures ready { IfOk result (CanWrite M.bytes metadata.now.ledger (command.Load rows.now)) }
     ensures refused { IfErr result (λ e. HasFailed (books_of no_rows metadata.now.ledger) (command.Load rows.now) (λ w. load_batch w rows.now) (cause_of e)) }
+    ensures draft { IfErr result (λ e. e ≡ why.Draft → made ≡ Err load.Draft) }
 {
     if let Some(position) = metadata.closed() {
         return Err(Unready::Refused(Refusal::Closed { position }));
@@ -158,6 +161,7 @@ pub fn publish<N: Naming, M: Made, D: Disk<M>, K: Sink>(
     requires told { (w : Rows) → N.sound w → (file : M) → (bytes : List ℕ) × (M.bytes file ≡ Some bytes) }
     requires room { length engine.old.shown.history < N.room }
     ensures turn { Takes N.script (N.start no_rows) engine.old.shown engine.new.shown who.session who.command kind.Decide Finished }
+    ensures draft { AnswersDraft N.script (N.start no_rows) engine.old.shown engine.new.shown who.session (made ≡ Err load.Draft) }
 {
     if !engine.running() {
         engine.skip(who, Kind::Decide);

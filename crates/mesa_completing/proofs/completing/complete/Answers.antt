@@ -3,7 +3,7 @@ use Rattle.mesa_history.specs.Run.{Renewed, Finished}
 use Rattle.mesa_model.specs.declared.commands.Command.TheVariants as command
 use Rattle.mesa_model.specs.declared.entries.Kind.TheVariants as kind
 use Rattle.mesa_skeleton.specs.Rows.{no_rows}
-use Rattle.mesa_walk.specs.Turns.{Takes}
+use Rattle.mesa_walk.specs.Turns.{AnswersDraft, Takes}
 use Rattle.mesa_walk.proofs.Alike.{due_alike}
 use Rattle.mesa_engine.specs.Engine.{Standing}
 use Rattle.mesa_tasks.specs.Tasks.{claim_in}
@@ -22,4 +22,7 @@ skip-requires-clause-due g c κs within w =
 pub returns-then-not-running : goal.returns-then-not-running
 returns-then-not-running g c =
     let N = g.N.Naming in
-    record { turn = subst (λ (x : Standing). Takes N.script (N.start no_rows) c.args.engine.now.shown x.shown c.args.who.session c.args.who.command kind.Close Finished) (sym c.give_back.ensures) (c.skip.ensures.turn Finished) }
+    record {
+      turn = subst (λ (x : Standing). Takes N.script (N.start no_rows) c.args.engine.now.shown x.shown c.args.who.session c.args.who.command kind.Close Finished) (sym c.give_back.ensures) (c.skip.ensures.turn Finished);
+      draft = subst (λ (x : Standing). AnswersDraft N.script (N.start no_rows) c.args.engine.now.shown x.shown c.args.who.session ⊥) (sym c.give_back.ensures) c.skip.ensures.draft;
+    }

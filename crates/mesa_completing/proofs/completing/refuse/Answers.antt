@@ -1,4 +1,6 @@
 use Rattle.std.proofs.Common.{◌≡◌, ◌∷◌, ◌++◌, [], length, true, not, refl, sym, ◌∙◌, ap, subst}
+use Rattle.mesa_history.specs.Counting.{answers_bench}
+use Rattle.mesa_history.specs.Replay.{closes}
 use Rattle.mesa_history.specs.Run.{Renewed, Finished}
 use Rattle.mesa_history.specs.Turns.{IsDue}
 use Rattle.mesa_model.specs.declared.commands.Command.TheVariants as command
@@ -10,13 +12,14 @@ use Rattle.mesa_log.specs.Failure.{cause_in}
 use Rattle.mesa_metadata.specs.Memory.{Memory}
 use Rattle.mesa_skeleton.specs.Rows.{no_rows}
 use Rattle.mesa_walk.specs.Causes.{outcome_of}
-use Rattle.mesa_walk.specs.Turns.{Shown, Takes, entry}
+use Rattle.mesa_walk.specs.Turns.{AnswersDraft, Shown, Takes, entry}
 use Rattle.mesa_walk.specs.Walk.{run_at}
 use Rattle.mesa_walk.proofs.Alike.{due_alike}
 use Rattle.mesa_engine.specs.Engine.{Standing, IsEngine, starts_of}
+use Rattle.mesa_engine.proofs.Drafting.{answers_none}
 use Rattle.mesa_tasks.specs.Tasks.{claim_in}
 use Rattle.mesa_completing.specs.Merged.{HasNotSwapped, unswapped_ledger}
-use Rattle.mesa_completing.proofs.Refusing.{closed_takes, unswapped_engine}
+use Rattle.mesa_completing.proofs.Refusing.{closed_takes, no_draft, unswapped_engine}
 use Rattle.mesa_completing.proofs.completing.refuse.Goals as goal
 
 due_at : (g : _) (c : goal.After-fail g)
@@ -68,3 +71,19 @@ returns-clause-turn g c =
 pub returns-clause-ledger : goal.returns-clause-ledger
 returns-clause-ledger g c =
     ap (λ (m : Memory). m.ledger) c.fall-failure.ensures.after ∙ ap (λ (x : Standing). unswapped_ledger c.args.why c.args.task.now.table c.args.task.now.lease x.ledger) c.engine.view_is
+
+pub returns-clause-draft : goal.returns-clause-draft
+returns-clause-draft g c =
+    let N = g.N.Naming in
+    let i = c.engine.inside in
+    let s = c.args.who.session in
+    let number = c.args.who.command in
+    let story = g.D.Disk.story i.disk in
+    let h = i.log.history.items in
+    let later = c.fail.new.self in
+    let new : Shown = record { history = later.history.items; running = not later.printer.broken; clock = story.moment } in
+    let e = entry s number kind.Close (outcome_of (cause_in c.fall-failure.result)) c.clock-moment.result in
+    let closing = closes (run_at N.script (N.start no_rows) h).moment e in
+    subst (λ (x : Standing). AnswersDraft N.script (N.start no_rows) x.shown new s ⊥) c.engine.view_is
+    (answers_none N.script (N.start no_rows) (record { history = h; running = not i.log.printer.broken; clock = story.moment }) new s e c.fail.ensures.items
+    (ap (λ k. answers_bench closing (outcome_of k)) c.fall-failure.ensures.cause ∙ no_draft closing c.args.why))

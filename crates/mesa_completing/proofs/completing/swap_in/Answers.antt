@@ -1,4 +1,5 @@
 use Rattle.std.proofs.Common.{◌≡◌, inl, ◌+◌, ◌<◌, [], ◌∷◌, ◌++◌, length, true, false, ◌||◌, ◌^◌, not, refl, sym, ◌∙◌, ap, subst, arith, Ok}
+use Rattle.mesa_fault.specs.Causes.{Rose}
 use Rattle.mesa_disk.specs.Files.{files_of}
 use Rattle.mesa_disk.specs.declared.area.Area.TheVariants.{Zero}
 use Rattle.mesa_history.specs.Machine.{claim_checked, swapped_reply}
@@ -20,9 +21,10 @@ use Rattle.mesa_skeleton.specs.Rows.{Rows, no_rows}
 use Rattle.mesa_swapping.specs.Finished.{HasRange, IsFinished}
 use Rattle.mesa_swapping.specs.Swapped.{IsSwapped}
 use Rattle.mesa_walk.specs.Causes.{Replies, Unwritten, told_at}
-use Rattle.mesa_walk.specs.Turns.{Shown, Takes, entry}
+use Rattle.mesa_walk.specs.Turns.{AnswersDraft, Shown, Takes, entry}
 use Rattle.mesa_walk.specs.Walk.{Counts, run_at}
 use Rattle.mesa_walk.proofs.Alike.{due_alike}
+use Rattle.mesa_walk.proofs.Clock.{closing}
 use Rattle.mesa_ledger.specs.Ledger.{Ledger, books_of}
 use Rattle.mesa_ledger.specs.Recorded.{failed_ledger, recorded_ledger, removed_by}
 use Rattle.mesa_ledger.specs.Turned.{leased_ledger}
@@ -31,6 +33,7 @@ use Rattle.mesa_ledger.proofs.Beginning.{vault_at_seen}
 use Rattle.mesa_log.specs.Printing.{PrintsBlock}
 use Rattle.mesa_metadata.specs.Memory.{Memory}
 use Rattle.mesa_engine.specs.Engine.{IsEngine, Standing, starts_of}
+use Rattle.mesa_engine.proofs.Drafting.{answers_none}
 use Rattle.mesa_tasks.specs.Tasks.{claim_in}
 use Rattle.mesa_writing.proofs.Loads.{all_tell}
 use Rattle.mesa_writing.proofs.Written.{IsWhole, IsWorked}
@@ -295,6 +298,8 @@ returns-in-Ok-write_record g c =
           (closed_takes n no_rows (record { history = h; running = not i.log.printer.broken; clock = (g.D.Disk.story i.disk).moment }) seen session number name (claim_in t) due (Replies (swapped_reply t.work))
           (grew ∙ ap (λ x. h ++ entry session number kind.Close outcome.Stands x ∷ []) c.clock.ensures) ran
           (vault_at_seen n c.end_lease.new.self.ledger new (g.K.Sink.held later.printer.sink) later.history.items (not later.printer.broken) later.refused new.moment (kept_done g c).vault));
+      draft = subst (λ (x : Standing). AnswersDraft N.script (N.start no_rows) x.shown seen session ⊥) c.engine.view_is
+          (answers_none N.script (N.start no_rows) (record { history = h; running = not i.log.printer.broken; clock = (g.D.Disk.story i.disk).moment }) seen session (entry session number kind.Close outcome.Stands c.clock.result) grew refl);
     }
 
 -- ---- it has failed
@@ -441,4 +446,10 @@ returns g c =
           (closed_takes n no_rows (record { history = h; running = not i.log.printer.broken; clock = story.moment }) seen session number name (claim_in t) due Unwritten
           (told.items ∙ ap (λ x. h ++ entry session number kind.Close outcome.WriteFault x ∷ []) c.clock-moment.ensures) ran
           (vault_at_seen n after.ledger new (g.K.Sink.held later.printer.sink) later.history.items (not later.printer.broken) later.refused new.moment kept.vault));
+      draft =
+          let e = entry session number kind.Close outcome.WriteFault c.clock-moment.result in
+          let rose : Rose story.moment c.clock-moment.result = subst (λ x. Rose story.moment x) (sym c.clock-moment.ensures) does.risen in
+          subst (λ (x : Standing). AnswersDraft N.script (N.start no_rows) x.shown seen session ⊥) c.engine.view_is
+          (answers_none N.script (N.start no_rows) (record { history = h; running = not i.log.printer.broken; clock = story.moment }) seen session e told.items
+          (ap not (closing (run_at N.script (N.start no_rows) h).moment story.moment e (c.engine.invariant.vault no_rows false (λ z. absurd cc)).walk.at rose refl)));
     }

@@ -1,6 +1,8 @@
-use Rattle.std.proofs.Common.{◌≡◌, ◌∷◌, ◌++◌, [], length, Option, ℕ, true, not, refl, sym, ◌∙◌, ap, subst, arith}
+use Rattle.std.proofs.Common.{◌≡◌, ◌∷◌, ◌++◌, [], length, Option, ℕ, IsTrue, true, not, refl, sym, ◌∙◌, ap, subst, arith}
 use Rattle.std.specs.Prelude.{◌==◌}
 use Rattle.mesa_fault.specs.Causes.{last}
+use Rattle.mesa_history.specs.Counting.{answers_bench}
+use Rattle.mesa_history.specs.Replay.{closes}
 use Rattle.mesa_history.specs.Run.{Granted, Finished}
 use Rattle.mesa_history.specs.Turns.{IsDue}
 use Rattle.mesa_model.specs.declared.commands.Command.TheVariants as command
@@ -14,13 +16,15 @@ use Rattle.mesa_metadata.specs.Memory.{Memory}
 use Rattle.mesa_skeleton.specs.Rows.{no_rows}
 use Rattle.mesa_tasks.specs.GivingBack.{task_inputs}
 use Rattle.mesa_walk.specs.Causes.{outcome_of, reply_of, told_at}
-use Rattle.mesa_walk.specs.Turns.{Shown, Takes, entry}
+use Rattle.mesa_walk.specs.Turns.{AnswersDraft, Shown, Takes, entry}
 use Rattle.mesa_walk.specs.Walk.{run_at}
 use Rattle.mesa_walk.proofs.Alike.{due_alike}
 use Rattle.mesa_engine.specs.Engine.{Standing, IsEngine, starts_of}
+use Rattle.mesa_engine.proofs.Drafting.{answers_where}
 use Rattle.mesa_tasks.specs.Tasks.{claim_in}
+use Rattle.mesa_tasks.specs.declared.merging.CompactError.TheVariants as compact
 use Rattle.mesa_completing.specs.Unmerged.{closing_ledger}
-use Rattle.mesa_completing.proofs.Closings.{given_up_engine, given_up_takes}
+use Rattle.mesa_completing.proofs.Closings.{given_up_engine, given_up_takes, only_draft}
 use Rattle.mesa_completing.proofs.unmerged.give_up.Goals as goal
 
 abbrev closed_of : Ledger → Option ℕ
@@ -40,6 +44,11 @@ pub returns-then-not-running-clause-turn : goal.returns-then-not-running-clause-
 returns-then-not-running-clause-turn g c =
     let N = g.N.Naming in
     subst (λ (x : Standing). Takes N.script (N.start no_rows) c.args.engine.now.shown x.shown c.args.who.session c.args.who.command kind.Close Finished) (sym c.give_back.ensures) (c.skip.ensures.turn Finished)
+
+pub returns-then-not-running-clause-draft : goal.returns-then-not-running-clause-draft
+returns-then-not-running-clause-draft g c =
+    let N = g.N.Naming in
+    subst (λ (x : Standing). AnswersDraft N.script (N.start no_rows) c.args.engine.now.shown x.shown c.args.who.session (c.args.error ≡ compact.Draft)) (sym c.give_back.ensures) (λ low e grew is. absurd (c.skip.ensures.draft low e grew is))
 
 due_at : (g : _) (c : goal.After-fail g)
     → IsDue g.N.Naming.script (run_at g.N.Naming.script (g.N.Naming.start no_rows) c.engine.inside.log.history.items) c.args.who.session c.args.who.command (command.Work c.args.name.now) (Granted (claim_in c.args.task))
@@ -99,3 +108,20 @@ returns-clause-ledger g c ran =
     let clock = c.clock-moment.ensures ∙ c.retire_task.ensures.unmoved.moment ∙ ap (λ (x : Standing). x.shown.clock) c.engine.view_is in
     let at = c.position-at.ensures ∙ ap (λ (x : Standing). length x.shown.history) c.engine.view_is in
     ap (λ (m : Memory). m.ledger) c.fall-failure.ensures.after ∙ (λ i. closing_ledger (closed_of (ledger i)) c.args.error (clock i == last) (at i) task.table task.lease (ledger i))
+
+pub returns-clause-draft : goal.returns-clause-draft
+returns-clause-draft g c =
+    let N = g.N.Naming in
+    let i = c.engine.inside in
+    let s = c.args.who.session in
+    let number = c.args.who.command in
+    let story = g.D.Disk.story i.disk in
+    let new_story = g.D.Disk.story c.retire_task.new.disk in
+    let h = i.log.history.items in
+    let later = c.fail.new.self in
+    let new : Shown = record { history = later.history.items; running = not later.printer.broken; clock = new_story.moment } in
+    let e = entry s number kind.Close (outcome_of (cause_in c.fall-failure.result)) c.clock-moment.result in
+    let closing = closes (run_at N.script (N.start no_rows) h).moment e in
+    subst (λ (x : Standing). AnswersDraft N.script (N.start no_rows) x.shown new s (c.args.error ≡ compact.Draft)) c.engine.view_is
+    (answers_where N.script (N.start no_rows) (record { history = h; running = not i.log.printer.broken; clock = story.moment }) new s e (c.args.error ≡ compact.Draft) c.fail.ensures.items
+    (λ low answers. only_draft i.metadata.ledger.closed c.args.error closing (subst (λ k. IsTrue (answers_bench closing (outcome_of k))) c.fall-failure.ensures.cause answers)))

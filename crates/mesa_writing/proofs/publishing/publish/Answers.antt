@@ -18,7 +18,7 @@ skip-requires-clause-due g c κs within w =
     }
 
 pub returns-then-not-running : goal.returns-then-not-running
-returns-then-not-running g c = record { turn = c.skip.ensures.turn Finished }
+returns-then-not-running g c = record { turn = c.skip.ensures.turn Finished; draft = λ low e grew is. absurd (c.skip.ensures.draft low e grew is) }
 
 pub ready-requires-clause-shaped : goal.ready-requires-clause-shaped
 ready-requires-clause-shaped g c κs within = (c.engine.invariant.vault no_rows false (λ is. absurd cc)).shaped

@@ -1,4 +1,5 @@
 use Rattle.std.proofs.Common.{◌≡◌, inl, ◌+◌, ◌<◌, [], ◌∷◌, ◌++◌, length, true, false, not, refl, sym, ◌∙◌, ap, subst, arith}
+use Rattle.mesa_fault.specs.Causes.{Rose}
 use Rattle.mesa_disk.specs.Files.{files_of}
 use Rattle.mesa_disk.specs.declared.area.Area.TheVariants.{Zero}
 use Rattle.mesa_history.specs.Replay.{no_rows as no_lines}
@@ -11,8 +12,9 @@ use Rattle.mesa_model.specs.declared.entries.Outcome.TheVariants as outcome
 use Rattle.mesa_record.proofs.RecordsBoth.{record_found}
 use Rattle.mesa_skeleton.specs.Rows.{no_rows}
 use Rattle.mesa_walk.specs.Causes.{Unwritten, reply_of, told_at}
-use Rattle.mesa_walk.specs.Turns.{Shown, Takes, entry}
+use Rattle.mesa_walk.specs.Turns.{AnswersDraft, Shown, Takes, entry}
 use Rattle.mesa_walk.specs.Walk.{Counts, run_at}
+use Rattle.mesa_walk.proofs.Clock.{closing}
 use Rattle.mesa_ledger.specs.Ledger.{Ledger}
 use Rattle.mesa_ledger.specs.Recorded.{failed_ledger, recorded_ledger, removed_by}
 use Rattle.mesa_ledger.specs.Vault.{Starts}
@@ -20,6 +22,7 @@ use Rattle.mesa_ledger.proofs.Beginning.{vault_at_seen}
 use Rattle.mesa_log.specs.Printing.{PrintsBlock}
 use Rattle.mesa_metadata.specs.Memory.{Memory}
 use Rattle.mesa_engine.specs.Engine.{Standing, starts_of}
+use Rattle.mesa_engine.proofs.Drafting.{answers_none}
 use Rattle.mesa_writing.specs.Writing.{IsToWrite}
 use Rattle.mesa_writing.proofs.Engines.{absent_now, ready_now, unwritten_engine, written_engine}
 use Rattle.mesa_writing.proofs.Rulings.{writes_print, writes_take}
@@ -184,6 +187,8 @@ returns-in-Ok-write_record g c =
           (writes_take N.script (N.start no_rows) (record { history = h; running = not i.log.printer.broken; clock = story.moment }) seen s number ran l to.can.later change.writes change.tells outcome.Stands refl
           (grew ∙ ap (λ x. h ++ entry s number kind.Decide outcome.Stands x ∷ []) c.clock.ensures)
           (vault_at_seen n c.apply.new.self.ledger new (g.K.Sink.held later.printer.sink) later.history.items (not later.printer.broken) later.refused new.moment kept.vault) to.asked to.can.does to.due);
+      draft = subst (λ (x : Standing). AnswersDraft N.script (N.start no_rows) x.shown seen s ⊥) c.engine.view_is
+          (answers_none N.script (N.start no_rows) (record { history = h; running = not i.log.printer.broken; clock = story.moment }) seen s (entry s number kind.Decide outcome.Stands c.clock.result) grew refl);
     }
 
 pub invariant_of-engine-in-Err-write_record : goal.invariant_of-engine-in-Err-write_record
@@ -294,4 +299,10 @@ returns g c =
           (writes_take N.script (N.start no_rows) (record { history = h; running = not i.log.printer.broken; clock = story.moment }) seen s number ran l to.can.later change.writes change.tells outcome.WriteFault refl
           (told.items ∙ ap (λ x. h ++ entry s number kind.Decide outcome.WriteFault x ∷ []) c.clock-moment.ensures)
           (vault_at_seen n after.ledger new (g.K.Sink.held later.printer.sink) later.history.items (not later.printer.broken) later.refused new.moment kept.vault) to.asked to.can.does to.due);
+      draft =
+          let e = entry s number kind.Decide outcome.WriteFault c.clock-moment.result in
+          let rose : Rose story.moment c.clock-moment.result = subst (λ x. Rose story.moment x) (sym c.clock-moment.ensures) does.risen in
+          subst (λ (x : Standing). AnswersDraft N.script (N.start no_rows) x.shown seen s ⊥) c.engine.view_is
+          (answers_none N.script (N.start no_rows) (record { history = h; running = not i.log.printer.broken; clock = story.moment }) seen s e told.items
+          (ap not (closing (run_at N.script (N.start no_rows) h).moment story.moment e (c.engine.invariant.vault no_rows false (λ z. absurd cc)).walk.at rose refl)));
     }
