@@ -1,4 +1,5 @@
 pub mod Sight
 pub mod Damages
+pub mod Drafts
 pub mod Pins
 pub mod Works

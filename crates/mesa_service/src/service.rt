@@ -1,5 +1,5 @@
 // The turns of a run, as a session asks for them.
-ghost use Rattle.std.specs.Prelude.{◌≡◌, ◌<◌, ◌^◌, ℕ, List, true, not, Some, IfOk, OnOk, is_ok, length};
+ghost use Rattle.std.specs.Prelude.{◌≡◌, ◌<◌, ◌^◌, ℕ, List, true, not, Some, Err, IfOk, OnOk, is_ok, length};
 ghost use Rattle.mesa_batch.specs.declared.words.RowWords.{RowWords as AnyWords};
 ghost use Rattle.mesa_model.specs.declared.commands.Command.TheVariants as command;
 ghost use Rattle.mesa_model.specs.declared.commands.Script.{Script as AnyScript};
@@ -14,6 +14,9 @@ ghost use Rattle.mesa_walk.specs.Turns.{Shown, Asks, IsSeen, Takes, is_load, is_
 ghost use Rattle.mesa_walk.specs.Walk.{run_at};
 ghost use Rattle.mesa_walk.specs.Works.{closing_stage, stage_if};
 ghost use Rattle.mesa_tasks.specs.Batches.{HasPrepared};
+ghost use Rattle.mesa_tasks.specs.declared.merging.CompactError.TheVariants as compact;
+ghost use Rattle.mesa_tasks.specs.declared.prepared.LoadError.TheVariants as load;
+ghost use Rattle.mesa_service.specs.Drafts.{AnswersDraft};
 ghost use Rattle.mesa_service.specs.Pins.{HasAnswered, IsOpenQuery, KnownPin, TakesQuery, known_pin};
 ghost use Rattle.mesa_service.specs.Sight.{sight_after};
 ghost use Rattle.mesa_service.specs.Works.{CanBeMerged, HasMerged, KnownTask, WasGranted, known_task};
@@ -107,7 +110,8 @@ pub trait Service: Turned {
         requires made { (rows : List AnyWords) → command_at script who.session who.command ≡ Some (command.Load rows)
             → HasPrepared Self.File.bytes Self.File.id_of (sight_after script (start no_rows) first_generation (shown self.old).history) rows made }
         requires room { length (shown self.old).history < room }
-        ensures turn { Takes script (start no_rows) (shown self.old) (shown self.new) who.session who.command kind.Decide Finished };
+        ensures turn { Takes script (start no_rows) (shown self.old) (shown self.new) who.session who.command kind.Decide Finished }
+        ensures draft { AnswersDraft script (start no_rows) (shown self.old) (shown self.new) who.session (made ≡ Err load.Draft) };
 
     /// A query's deciding turn: the files that answer it. They have to come back by `close_query`.
     fn pin_query(&mut self, who: Who) -> Result<Pinned<Self::Reader>, Reply>
@@ -156,7 +160,8 @@ pub trait Service: Turned {
         requires granted { WasGranted granted (shown self.old).history (known_task Self.Reader.bytes task) }
         requires merged { HasMerged Self.File.bytes Self.File.id_of Self.Reader.bytes Self.Reader.faults task merged }
         requires room { length (shown self.old).history < room }
-        ensures turn { Takes script (start no_rows) (shown self.old) (shown self.new) who.session who.command kind.Close Finished };
+        ensures turn { Takes script (start no_rows) (shown self.old) (shown self.new) who.session who.command kind.Close Finished }
+        ensures draft { AnswersDraft script (start no_rows) (shown self.old) (shown self.new) who.session (merged ≡ Err compact.Draft) };
 
     /// The lock's history is the numbers of the run's.
     ghost numbered: { (v : Self) → Self.history v ≡ numbers_of (shown v).history };

@@ -5,6 +5,7 @@ ghost use Rattle.mesa_history.specs.Run.{First, Finished, command_at};
 ghost use Rattle.mesa_history.specs.Turns.{place_then};
 ghost use Rattle.mesa_model.specs.declared.commands.Command.TheVariants as command;
 ghost use Rattle.mesa_skeleton.specs.Rows.{no_rows};
+ghost use Rattle.mesa_passes.specs.Answers.{Answers};
 ghost use Rattle.mesa_passes.specs.Passes.{HasSort, Mine, Took, at_stage};
 
 use crate::gate::{Gate, Point};
@@ -45,6 +46,7 @@ fn load<V: Service, R: Threads + Wait + Sync, B: Bench<V::File>>(
     requires known { command_at V.script who.session who.command ≡ Some (command.Load rows.now) }
     ensures took { Took who.session pass result.0 3 }
     ensures mine { Mine V.script (V.start no_rows) result.0 who.session (place_then (not result.1) who.command Finished) }
+    ensures answers { Answers V.script (V.start no_rows) who.session pass result.0 (B.faults bench.old) (B.faults bench.new) 0 }
 {
     let (pass, ran, run, looked) = look_turn(rt, lock, pass, who);
     if !ran {
@@ -90,6 +92,7 @@ fn query<V: Service, R: Wait>(
     requires sort { HasSort V.script who.session who.command is_query }
     ensures took { Took who.session pass result.0 3 }
     ensures mine { Mine V.script (V.start no_rows) result.0 who.session (place_then (not result.1) who.command Finished) }
+    ensures answers { Answers V.script (V.start no_rows) who.session pass result.0 0 0 0 }
 {
     let (pass, ran, pinned) = pin_turn(rt, lock, pass, who);
     match pinned {
@@ -120,6 +123,7 @@ fn work<V: Service, R: Wait, B: Bench<V::File>, G: Gate>(
     requires sort { HasSort V.script who.session who.command is_work }
     ensures took { Took who.session pass result.0 3 }
     ensures mine { Mine V.script (V.start no_rows) result.0 who.session (place_then (not result.1) who.command Finished) }
+    ensures answers { Answers V.script (V.start no_rows) who.session pass result.0 (B.faults bench.old) (B.faults bench.new) 0 }
 {
     let (pass, ran, run, task) = grant_turn(rt, lock, pass, who);
     let mut task = match task {
@@ -160,6 +164,7 @@ pub(crate) fn run_command<V: Service, R: Threads + Wait + Sync, B: Bench<V::File
     requires known { command_at V.script who.session who.command ≡ Some command.now }
     ensures took { Took who.session pass result.0 3 }
     ensures mine { Mine V.script (V.start no_rows) result.0 who.session (place_then (not result.1) who.command Finished) }
+    ensures answers { Answers V.script (V.start no_rows) who.session pass result.0 (B.faults bench.old) (B.faults bench.new) 0 }
 {
     match command {
         Command::Load(rows) => load(rt, alloc, lock, pass, who, rows, bench, ids),

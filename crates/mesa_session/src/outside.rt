@@ -5,6 +5,8 @@ ghost use Rattle.mesa_key.specs.Spelling.{is_spelling};
 ghost use Rattle.mesa_schema.specs.declared.rows.Row.{Row as AnyRow};
 ghost use Rattle.mesa_filter.specs.Query.{group_kinds as kinds_grouped};
 ghost use Rattle.mesa_script.specs.Rows.{rendered};
+ghost use Rattle.mesa_passes.specs.Answers.{Owes};
+ghost use Rattle.mesa_service.specs.Drafts.{owed_by_work};
 ghost use Rattle.mesa_service.specs.Pins.{CanBeAnswered, HasAnswered, heading_in, known_pin};
 ghost use Rattle.mesa_service.specs.Works.{CanBeMerged, HasMerged, known_task};
 
@@ -58,6 +60,7 @@ pub(crate) fn merged<M: Made, B: Bench<M>, R: FileReader>(
     requires { CanBeMerged R.bytes task.old }
     ensures known { known_task R.bytes task.new ≡ known_task R.bytes task.old }
     ensures merged { HasMerged M.bytes M.id_of R.bytes R.faults task.new result }
+    ensures owes { Owes (B.faults bench.old) (B.faults bench.new) (owed_by_work result) }
 {
     merge_task(alloc, bench, ids, task)
 }

@@ -2,6 +2,7 @@
 ghost use Rattle.std.specs.Prelude.{◌≡◌, ◌<◌, ◌≤◌, ◌*◌, length};
 ghost use Rattle.mesa_history.specs.Run.{First, commands_of as commands_in};
 ghost use Rattle.mesa_skeleton.specs.Rows.{no_rows};
+ghost use Rattle.mesa_passes.specs.Answers.{Answers};
 ghost use Rattle.mesa_passes.specs.Passes.{Gains, HasEnded, Mine, Took, at_stage};
 
 use crate::commands::run_command;
@@ -50,6 +51,9 @@ pub fn run_session<V: Service, R: Threads + Wait + Sync, B: Bench<V::File>, G: G
     // The positions that became its own are those of the session's entries, which are all of its turns, or those up to a skipped one.
     ensures gains { Gains session pass result }
     ensures ended { HasEnded V.script (V.start no_rows) result session }
+
+    // Of the faults of the session's bench no more were answered than its count rose by.
+    ensures answers { Answers V.script (V.start no_rows) session pass result (B.faults bench.old) (B.faults bench.new) 0 }
 {
     gate.reach(rt, Point::Started, session);
     let mut pass = pass;

@@ -1,9 +1,12 @@
 // A load's rows with their files: outside its turns, and once more where what it saw has changed.
-ghost use Rattle.std.specs.Prelude.{◌≡◌, ◌<◌, ◌^◌, List, Err, IfOk, OnErr};
+ghost use Rattle.std.specs.Prelude.{◌≡◌, ◌≤◌, ◌<◌, ◌+◌, ◌^◌, List, Err, IfOk, OnErr};
+ghost use Rattle.mesa_fault.specs.Causes.{last};
 ghost use Rattle.mesa_model.specs.declared.entries.Entry.{Entry as AnyEntry};
 ghost use Rattle.mesa_skeleton.specs.Rows.{no_rows};
 ghost use Rattle.mesa_tasks.specs.declared.prepared.LoadError.TheVariants as load;
 ghost use Rattle.mesa_tasks.specs.Batches.{HasPrepared};
+ghost use Rattle.mesa_passes.specs.Answers.{Owes};
+ghost use Rattle.mesa_service.specs.Drafts.{owed_by_load};
 ghost use Rattle.mesa_service.specs.Sight.{sight_after};
 ghost use Rattle.mesa_turning.specs.Loads.{StaysPrepared};
 
@@ -37,6 +40,7 @@ fn prepared_by<R: Threads + Sync, M: Made, B: Bench<M>>(
 ) -> Result<Prepared<M>, LoadError>
     ensures seen { IfOk seen (λ g. HasPrepared M.bytes M.id_of g rows.now result) }
     ensures unseen { OnErr seen (result ≡ Err load.Memory) }
+    ensures owes { Owes (B.faults bench.old) (B.faults bench.new) (owed_by_load result) }
 {
     match seen {
         Ok(glance) => prepare(rt, alloc, bench, ids, &glance, rows),
@@ -63,8 +67,9 @@ pub fn prepared_first<V: Service, R: Threads + Sync, B: Bench<V::File>>(
     looked: Result<Glance, AllocError>,
     rows: &LoadRows,
 ) -> (u64, Result<Prepared<V::File>, LoadError>)
-    ensures { (h : List AnyEntry) → IfOk looked (λ g. g ≡ sight_after V.script (V.start no_rows) V.first_generation h)
+    ensures stays { (h : List AnyEntry) → IfOk looked (λ g. g ≡ sight_after V.script (V.start no_rows) V.first_generation h)
         → StaysPrepared V.File.bytes V.File.id_of (sight_after V.script (V.start no_rows) V.first_generation) h result.0 rows.now result.1 }
+    ensures owes { Owes (B.faults bench.old) (B.faults bench.new) (owed_by_load result.1) }
 {
     sights_last();
     let generation = generation_seen(&looked);
@@ -84,7 +89,9 @@ pub(crate) fn prepared_now<V: Service, R: Threads + Sync, B: Bench<V::File>>(
 ) -> Result<Prepared<V::File>, LoadError>
     requires { (sight_after V.script (V.start no_rows) V.first_generation (V.shown vault.now).history).generation ≡ generation
         → HasPrepared V.File.bytes V.File.id_of (sight_after V.script (V.start no_rows) V.first_generation (V.shown vault.now).history) rows.now made }
-    ensures { HasPrepared V.File.bytes V.File.id_of (sight_after V.script (V.start no_rows) V.first_generation (V.shown vault.now).history) rows.now result }
+    ensures made { HasPrepared V.File.bytes V.File.id_of (sight_after V.script (V.start no_rows) V.first_generation (V.shown vault.now).history) rows.now result }
+    ensures later { B.faults bench.new < last → B.faults bench.old ≤ B.faults bench.new }
+    ensures owes { B.faults bench.new < last → B.faults bench.old + owed_by_load result ≤ B.faults bench.new + owed_by_load made }
 {
     if vault.generation() == generation {
         return made;

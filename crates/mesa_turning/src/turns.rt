@@ -8,7 +8,9 @@ ghost use Rattle.mesa_model.specs.Entry.{history_of};
 ghost use Rattle.mesa_skeleton.specs.Rows.{no_rows};
 ghost use Rattle.mesa_walk.specs.Turns.{is_load, is_simple};
 ghost use Rattle.mesa_walk.specs.Works.{closing_stage, stage_if};
+ghost use Rattle.mesa_passes.specs.Answers.{Answers};
 ghost use Rattle.mesa_passes.specs.Passes.{HasSort, Holds, Mine, Took, at_stage};
+ghost use Rattle.mesa_service.specs.Drafts.{owed_by_load, owed_by_work};
 ghost use Rattle.mesa_service.specs.Pins.{CanBeAnswered, HasAnswered, IsOpenQuery, known_pin};
 ghost use Rattle.mesa_service.specs.Sight.{sight_after};
 ghost use Rattle.mesa_service.specs.Works.{CanBeMerged, HasMerged, WasGranted, known_task};
@@ -47,6 +49,7 @@ pub fn look_turn<V: Service, R: Wait>(
     ensures mine { Mine V.script (V.start no_rows) result.0 who.session (place_then (not result.1) who.command Looked) }
     ensures run { result.2 < 2 ^ 24 }
     ensures glance { IfOk result.3 (λ g. g ≡ sight_after V.script (V.start no_rows) V.first_generation (history_of result.0.seen)) }
+    ensures answers { Answers V.script (V.start no_rows) who.session pass result.0 0 0 0 }
 {
     let mut held = lock.enter(rt, pass);
     let vault = held.value();
@@ -70,6 +73,7 @@ pub fn simple_turn<V: Service, R: Wait>(
     requires sort { HasSort V.script who.session who.command is_simple }
     ensures took { Took who.session pass result.0 1 }
     ensures mine { Mine V.script (V.start no_rows) result.0 who.session (place_then (not result.1) who.command Finished) }
+    ensures answers { Answers V.script (V.start no_rows) who.session pass result.0 0 0 0 }
 {
     let mut held = lock.enter(rt, pass);
     let vault = held.value();
@@ -99,6 +103,7 @@ pub fn publish_turn<V: Service, R: Threads + Wait + Sync, B: Bench<V::File>>(
     requires made { StaysPrepared V.File.bytes V.File.id_of (sight_after V.script (V.start no_rows) V.first_generation) (history_of pass.seen) generation rows.now made }
     ensures took { Took who.session pass result.0 1 }
     ensures mine { Mine V.script (V.start no_rows) result.0 who.session (place_then (not result.1) who.command Finished) }
+    ensures answers { Answers V.script (V.start no_rows) who.session pass result.0 (B.faults bench.old) (B.faults bench.new) (owed_by_load made) }
 {
     let mut held = lock.enter(rt, pass);
     let vault = held.value();
@@ -124,6 +129,7 @@ pub fn pin_turn<V: Service, R: Wait>(
     ensures holds { Holds V.script (V.start no_rows) result.0 who.session }
     ensures open { IfOk result.2 (λ p. IsOpenQuery V.script V.start (history_of result.0.seen) who.session who.command p.at (λ past. V.tells past (known_pin V.Reader.bytes p)) × CanBeAnswered V.Reader.bytes p) }
     ensures refused { IfErr result.2 (λ r. Mine V.script (V.start no_rows) result.0 who.session (place_then (not result.1) who.command Finished)) }
+    ensures answers { Answers V.script (V.start no_rows) who.session pass result.0 0 0 0 }
 {
     let mut held = lock.enter(rt, pass);
     let vault = held.value();
@@ -149,6 +155,7 @@ pub fn close_turn<V: Service, R: Wait>(
     requires answer { HasAnswered V.Reader.bytes V.Reader.faults pinned answer }
     ensures took { Took who.session pass result.0 1 }
     ensures mine { Mine V.script (V.start no_rows) result.0 who.session (place_then (not result.1) who.command Finished) }
+    ensures answers { Answers V.script (V.start no_rows) who.session pass result.0 0 0 0 }
 {
     let mut held = lock.enter(rt, pass);
     let vault = held.value();
@@ -175,6 +182,7 @@ pub fn grant_turn<V: Service, R: Wait>(
     ensures run { result.2 < 2 ^ 24 }
     ensures task { IfOk result.3 (CanBeMerged V.Reader.bytes) }
     ensures granted { IfOk result.3 (λ t. WasGranted V.granted (history_of result.0.seen) (known_task V.Reader.bytes t)) }
+    ensures answers { Answers V.script (V.start no_rows) who.session pass result.0 0 0 0 }
 {
     let mut held = lock.enter(rt, pass);
     let vault = held.value();
@@ -203,6 +211,7 @@ pub fn renew_turn<V: Service, R: Wait>(
     ensures ran { OnOk result.2 (result.1 ≡ true) }
     ensures same { IfOk result.2 (λ t. t ≡ task) }
     ensures granted { WasGranted V.granted (history_of result.0.seen) (known_task V.Reader.bytes task) }
+    ensures answers { Answers V.script (V.start no_rows) who.session pass result.0 0 0 0 }
 {
     let mut held = lock.enter(rt, pass);
     let vault = held.value();
@@ -229,6 +238,7 @@ pub fn complete_turn<V: Service, R: Wait>(
     requires merged { HasMerged V.File.bytes V.File.id_of V.Reader.bytes V.Reader.faults task merged }
     ensures took { Took who.session pass result.0 1 }
     ensures mine { Mine V.script (V.start no_rows) result.0 who.session (place_then (not result.1) who.command Finished) }
+    ensures answers { Answers V.script (V.start no_rows) who.session pass result.0 0 0 (owed_by_work merged) }
 {
     let mut held = lock.enter(rt, pass);
     let vault = held.value();

@@ -2,6 +2,7 @@ use Rattle.std.proofs.Common.{ap, ◌∙◌, sym}
 use Rattle.mesa_history.specs.Run.{Finished}
 use Rattle.mesa_model.specs.declared.entries.Kind.TheVariants as kind
 use Rattle.mesa_skeleton.specs.Rows.{no_rows}
+use Rattle.mesa_passes.proofs.Answering.{step_none}
 use Rattle.mesa_passes.proofs.Turning.{Step, step_took}
 use Rattle.mesa_turning.proofs.Found.{open_found}
 use Rattle.mesa_turning.proofs.Stepping.{Enters, finds_numbers, goes_on, one, room_for, step}
@@ -73,3 +74,6 @@ close_query-requires-clause-open g c =
       seen = c.running-ran.ensures.seen;
     } in
     open_found c.args.pass _ (g.V.Service.shown c.value-vault.result.now).history (finds_numbers e) e.seen.short e.exact g.V.Service.script e.few g.V.Service.start e.seen.fits c.args.who.session c.requires.holds.held c.requires.holds.whole _ _ _ c.requires.open
+
+pub returns-clause-answers : goal.returns-clause-answers
+returns-clause-answers g c = step_none (whole g c) (command.Query c.requires.open.words) (c.requires.open.opened no_rows).due.known refl

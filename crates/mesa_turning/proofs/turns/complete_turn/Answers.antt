@@ -5,6 +5,7 @@ use Rattle.mesa_history.specs.Run.{Finished}
 use Rattle.mesa_model.specs.declared.entries.Kind.TheVariants as kind
 use Rattle.mesa_skeleton.specs.Rows.{no_rows}
 use Rattle.mesa_walk.specs.Works.{closing_stage}
+use Rattle.mesa_passes.proofs.Answering.{step_drafts}
 use Rattle.mesa_passes.proofs.Turning.{Step, step_took}
 use Rattle.mesa_tasks.specs.Tasks.{claim_in}
 use Rattle.mesa_turning.proofs.Found.{granted_found}
@@ -91,3 +92,6 @@ complete-reply-requires-clause-granted g c =
       seen = c.running-ran.ensures.seen;
     } in
     granted_found c.args.pass _ (g.V.Service.shown c.value-vault.result.now).history (finds_numbers e) e.seen.short g.V.Service.granted _ c.requires.granted
+
+pub returns-clause-answers : goal.returns-clause-answers
+returns-clause-answers g c = step_drafts (whole g c) (c.args.merged ≡ Err compact.Draft) (owed_by_work c.args.merged) c.complete-reply.ensures.draft (owed_merged c.args.merged)

@@ -3,6 +3,7 @@ use Rattle.mesa_history.specs.Legal.{is_work}
 use Rattle.mesa_history.specs.Run.{First, Granted}
 use Rattle.mesa_model.specs.declared.entries.Kind.TheVariants as kind
 use Rattle.mesa_skeleton.specs.Rows.{no_rows}
+use Rattle.mesa_passes.proofs.Answering.{none_granting, step_none}
 use Rattle.mesa_passes.proofs.Turning.{Step, step_took, step_seen}
 use Rattle.mesa_walk.specs.Works.{stage_if}
 use Rattle.mesa_tasks.specs.Tasks.{claim_in}
@@ -79,3 +80,6 @@ returns-clause-mine g c = goes_on (whole g c) (stage_if claim_in Granted c.grant
 
 pub returns-clause-granted : goal.returns-clause-granted
 returns-clause-granted g c = granted_then g.V.Reader.FileReader.bytes g.V.Service.granted c.grant-task.result _ _ (sym (step_seen (whole g c))) c.grant-task.ensures.granted
+
+pub returns-clause-answers : goal.returns-clause-answers
+returns-clause-answers g c = step_none (whole g c) c.requires.sort.asked c.requires.sort.known (none_granting c.requires.sort.asked)

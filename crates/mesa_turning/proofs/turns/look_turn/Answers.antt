@@ -5,6 +5,7 @@ use Rattle.mesa_model.specs.declared.entries.Entry.{Entry}
 use Rattle.mesa_model.specs.declared.entries.Kind.TheVariants as kind
 use Rattle.mesa_skeleton.specs.Rows.{no_rows}
 use Rattle.mesa_walk.specs.Turns.{is_load}
+use Rattle.mesa_passes.proofs.Answering.{none_looking, step_none}
 use Rattle.mesa_passes.proofs.Turning.{Step, step_took, step_seen}
 use Rattle.mesa_service.specs.Sight.{sight_after}
 use Rattle.mesa_turning.proofs.Stepping.{Enters, asks, goes_on, one, room_for, step}
@@ -80,3 +81,6 @@ returns-clause-mine g c = goes_on (whole g c) Looked c.running-ran.result c.look
 pub returns-clause-glance : goal.returns-clause-glance
 returns-clause-glance g c =
     subst (λ (h : List Entry). IfOk c.look-glance.result (λ glance. glance ≡ sight_after g.V.Service.script (g.V.Service.start no_rows) g.V.Service.first_generation h)) (sym (step_seen (whole g c))) c.look-glance.ensures.glance
+
+pub returns-clause-answers : goal.returns-clause-answers
+returns-clause-answers g c = step_none (whole g c) c.requires.sort.asked c.requires.sort.known (none_looking c.requires.sort.asked)

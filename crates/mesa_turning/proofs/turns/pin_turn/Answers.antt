@@ -3,6 +3,7 @@ use Rattle.mesa_history.specs.Legal.{is_query}
 use Rattle.mesa_history.specs.Run.{First, Finished}
 use Rattle.mesa_model.specs.declared.entries.Kind.TheVariants as kind
 use Rattle.mesa_skeleton.specs.Rows.{no_rows}
+use Rattle.mesa_passes.proofs.Answering.{none_asking, step_none}
 use Rattle.mesa_passes.proofs.Turning.{Step, step_took, step_holds, step_seen}
 use Rattle.mesa_turning.proofs.Found.{query_opened, query_over, query_seen, query_turn}
 use Rattle.mesa_turning.proofs.Stepping.{Enters, asks, ends_unless, one, room_for, step}
@@ -80,3 +81,6 @@ returns-clause-open g c = query_opened g.V.Reader.FileReader.bytes g.V.Service.s
 
 pub returns-clause-refused : goal.returns-clause-refused
 returns-clause-refused g c = ends_unless (whole g c) Finished c.running-ran.result c.pin_query-pinned.result (query_over g.V.Reader.FileReader.bytes g.V.Service.script g.V.Service.start g.V.Service.tells (g.V.Service.shown c.value-vault.result.now) (g.V.Service.shown c.pin_query-pinned.new.self) c.args.who.session c.args.who.command c.pin_query-pinned.result c.pin_query-pinned.ensures.turn) c.running-ran.ensures.running
+
+pub returns-clause-answers : goal.returns-clause-answers
+returns-clause-answers g c = step_none (whole g c) c.requires.sort.asked c.requires.sort.known (none_asking c.requires.sort.asked kind.Decide c.requires.sort.is)

@@ -4,6 +4,7 @@ use Rattle.mesa_model.specs.declared.commands.Command.TheVariants as command
 use Rattle.mesa_model.specs.declared.entries.Kind.TheVariants as kind
 use Rattle.mesa_skeleton.specs.Rows.{no_rows}
 use Rattle.mesa_walk.specs.Turns.{is_load}
+use Rattle.mesa_passes.proofs.Answering.{answers_within, step_drafts}
 use Rattle.mesa_passes.proofs.Turning.{Step, step_took}
 use Rattle.mesa_service.specs.Sight.{sight_after}
 use Rattle.mesa_turning.proofs.Found.{prepared_found}
@@ -90,3 +91,8 @@ prepared_now-made-requires-after_bounds g c κs within same =
       seen = c.running-ran.ensures.seen;
     } in
     prepared_found c.args.pass _ (g.V.Service.shown c.value-vault.result.now).history (finds_numbers e) e.seen.short g.V.File.Made.bytes g.V.File.Made.id_of (sight_after g.V.Service.script (g.V.Service.start no_rows) g.V.Service.first_generation) c.args.generation c.args.rows.now c.args.made c.requires.made same
+
+pub returns-clause-answers : goal.returns-clause-answers
+returns-clause-answers g c =
+    answers_within g.V.Service.script (g.V.Service.start no_rows) c.args.who.session c.args.pass c.leave.result _ _ _ (owed_by_load c.prepared_now-made.result) c.prepared_now-made.ensures.later c.prepared_now-made.ensures.owes
+    (step_drafts (whole g c) (c.prepared_now-made.result ≡ Err load.Draft) (owed_by_load c.prepared_now-made.result) c.publish-reply.ensures.draft (owed_made c.prepared_now-made.result))

@@ -3,6 +3,7 @@ use Rattle.mesa_history.specs.Legal.{is_work}
 use Rattle.mesa_history.specs.Run.{Granted, Renewed}
 use Rattle.mesa_model.specs.declared.entries.Kind.TheVariants as kind
 use Rattle.mesa_skeleton.specs.Rows.{no_rows}
+use Rattle.mesa_passes.proofs.Answering.{none_renewing, step_none}
 use Rattle.mesa_passes.proofs.Turning.{Step, step_took}
 use Rattle.mesa_walk.specs.Works.{stage_if}
 use Rattle.mesa_service.specs.Works.{known_task}
@@ -95,3 +96,6 @@ renew-renewed-requires-clause-granted g c =
 
 pub returns-clause-granted : goal.returns-clause-granted
 returns-clause-granted g c = granted_later g.V.Service.granted (known_task g.V.Reader.FileReader.bytes c.args.task) c.args.pass.seen c.leave.result.seen (step_took (whole g c)).seen c.requires.granted
+
+pub returns-clause-answers : goal.returns-clause-answers
+returns-clause-answers g c = step_none (whole g c) c.requires.sort.asked c.requires.sort.known (none_renewing c.requires.sort.asked)

@@ -3,6 +3,7 @@ use Rattle.mesa_history.specs.Run.{First, Finished}
 use Rattle.mesa_model.specs.declared.entries.Kind.TheVariants as kind
 use Rattle.mesa_skeleton.specs.Rows.{no_rows}
 use Rattle.mesa_walk.specs.Turns.{is_simple}
+use Rattle.mesa_passes.proofs.Answering.{none_simple, step_none}
 use Rattle.mesa_passes.proofs.Turning.{Step, step_took}
 use Rattle.mesa_turning.proofs.Stepping.{Enters, asks, goes_on, one, room_for, step}
 use Rattle.mesa_turning.proofs.turns.simple_turn.Goals as goal
@@ -72,3 +73,6 @@ returns-clause-took g c = step_took (whole g c)
 
 pub returns-clause-mine : goal.returns-clause-mine
 returns-clause-mine g c = goes_on (whole g c) Finished c.running-ran.result c.simple-reply.ensures.turn c.running-ran.ensures.running
+
+pub returns-clause-answers : goal.returns-clause-answers
+returns-clause-answers g c = step_none (whole g c) c.requires.sort.asked c.requires.sort.known (none_simple c.requires.sort.asked kind.Decide c.requires.sort.is)
