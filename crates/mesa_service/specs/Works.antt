@@ -1,9 +1,10 @@
 -- Works whose files are handed out, and what they are merged to.
-use Rattle.std.specs.Prelude.{◌≡◌, ℕ, List, ◌++◌, Option, IfSome, Result, Ok, Err, ⊤}
+use Rattle.std.specs.Prelude.{◌≡◌, ℕ, List, ◌++◌, Option, None, IfSome, Result, Ok, Err, ⊤}
 use Rattle.mesa_file.specs.declared.damage.Damage.{Damage}
 use Rattle.mesa_span.specs.declared.works.Work.{Work}
 use Rattle.mesa_schema.specs.Changes.{Lineage}
 use Rattle.mesa_model.specs.declared.entries.Entry.{Entry}
+use Rattle.mesa_compact.specs.Bounded.{IsBounded}
 use Rattle.mesa_compact.specs.Tasks.{KnownView, known_views}
 use Rattle.mesa_merge.specs.Inputs.{Known, knowns_of}
 use Rattle.mesa_tasks.specs.GivingBack.{task_inputs}
@@ -40,15 +41,20 @@ pub record WasGranted (granted : List Entry → KnownTask → Type 0) (h : List 
   pub whole : past ++ later ≡ h
   pub was : granted past t
 
+-- Which damage a task's files may bring: what was found isn't what was wanted, and unless it was met where they were opened, it never comes where all files are told, each that of its index, and no sum over their rows leaves its type.
+pub record IsMergeDamage {R : Type 0} (bytes : R → Option (List ℕ)) (l : Lineage) (t : Task R) (d : Damage) : Type 0 where
+  pub differs : Differs d
+  pub never : t.damage ≡ None → IsBounded bytes l t → ⊥
+
 -- Why a task has no delta: a draft failed; or its files weren't read.
-abbrev pub IsUnmerged : {R : Type 0} → (R → ℕ) → Task R → CompactError → Type 0
-IsUnmerged faults t compact.Draft = ⊤
-IsUnmerged faults t (compact.File e) = IsUnread faults (task_inputs t) Differs e
+abbrev pub IsUnmerged : {R : Type 0} → (R → Option (List ℕ)) → (R → ℕ) → Lineage → Task R → CompactError → Type 0
+IsUnmerged bytes faults l t compact.Draft = ⊤
+IsUnmerged bytes faults l t (compact.File e) = IsUnread faults (task_inputs t) (IsMergeDamage bytes l t) e
 
 -- A task's delta, or why there is none.
 abbrev pub IsDeltaOf : {M R : Type 0} → (M → Option (List ℕ)) → (M → ℕ) → (R → Option (List ℕ)) → (R → ℕ) → Lineage → Task R → Result (NewDelta M) CompactError → Type 0
 IsDeltaOf bytes id_of read faults l t (Ok delta) = IsMerged bytes id_of read l t delta
-IsDeltaOf bytes id_of read faults l t (Err e) = IsUnmerged faults t e
+IsDeltaOf bytes id_of read faults l t (Err e) = IsUnmerged read faults l t e
 
 -- What a work is closed with: its files, which can be read still, and what came of merging them.
 abbrev pub HasMerged : {M R : Type 0} → (M → Option (List ℕ)) → (M → ℕ) → (R → Option (List ℕ)) → (R → ℕ) → Task R → Result (NewDelta M) CompactError → Type 0

@@ -12,8 +12,12 @@ use Rattle.mesa_walk.specs.Turns.{IsSeen, Shown}
 use Rattle.mesa_walk.specs.Walk.{run_at}
 use Rattle.mesa_passes.specs.Passes.{HasEnded}
 
+-- the last pass has seen the whole history
+pub seen_whole : (script : Script) (start : State) (v : Shown) (p : Known) → IsSeen script start v → p.seen ≡ numbers_of v.history → history_of p.seen ≡ v.history
+seen_whole script start v p seen is = ap history_of is ∙ history_told v.history seen.short
+
 pub whole_legal : (script : Script) (start : State) (v : Shown) (p : Known) → IsSeen script start v → p.seen ≡ numbers_of v.history → ((s : ℕ) → s < length script.sessions → HasEnded script start p s)
     → IsLegal start script v.history (not v.running)
 whole_legal script start v p seen is ended =
-    let same : history_of p.seen ≡ v.history = ap history_of is ∙ history_told v.history seen.short in
+    let same = seen_whole script start v p seen is in
     legal_ended start script v.history (not v.running) seen.fits seen.sink (λ s lt. subst (λ (h : List Entry). IsTrue (has_ended script (run_at script start h) s)) same (ended s lt).ended)

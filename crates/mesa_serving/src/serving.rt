@@ -3,6 +3,7 @@ ghost use Rattle.std.specs.Prelude.{◌≡◌, ◌<◌, ◌≤◌, ◌^◌, ℕ,
 ghost use Rattle.mesa_history.specs.Legal.{IsLegal};
 ghost use Rattle.mesa_history.specs.Run.{commands_of};
 ghost use Rattle.mesa_skeleton.specs.Rows.{no_rows};
+ghost use Rattle.mesa_passes.specs.Answers.{HaveCounted};
 ghost use Rattle.mesa_passes.specs.Passes.{turns_of};
 
 use mesa_disk::{Bench, Made};
@@ -33,7 +34,11 @@ pub fn serve<M: Made, V: Service<File = M>, R: Threads + Wait + Sync, B: Bench<M
     requires room { (turns_of V.script.sessions ≤ room) × (room ≤ V.room) × (room < 2 ^ 60) }
     requires benches { 8 ≤ length benches.old }
     ensures legal { IfOk result (λ v. IsLegal (V.start no_rows) V.script (V.shown v).history (not (V.shown v).running)) }
+
+    // Each session's bench counted the faults that the session's entries answer, while neither the clock nor its count stands at its last value.
+    ensures counted { IfOk result (λ v. HaveCounted B.faults V.script (V.start no_rows) (V.shown v).history 0 benches.old benches.new) }
     ensures none { IfErr result (λ v. v ≡ vault) }
+    ensures untouched { IfErr result (λ v. benches.new ≡ benches.old) }
 {
     let (lock, pass) = match TurnLock::new(alloc, vault, room) {
         Ok(made) => made,

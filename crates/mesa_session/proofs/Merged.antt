@@ -1,6 +1,6 @@
 -- A task whose files were merged: what is known of it is what was known before, and its delta is that of the files as they are now.
-use Rattle.std.proofs.Common.{◌≡◌, ℕ, List, Vec, [], ◌∷◌, map, length, refl, sym, ap, ◌∙◌, subst, arith, get_or}
-use Rattle.std.specs.Prelude.{Option, None, Some, option_map, Result, Ok, Err, IfOk, IfSome}
+use Rattle.std.proofs.Common.{◌≡◌, ℕ, zero, suc, ◌+◌, ◌≤◌, List, Vec, [], ◌∷◌, map, length, refl, sym, ap, ◌∙◌, subst, arith, get_or}
+use Rattle.std.specs.Prelude.{Option, None, Some, option_map, Result, Ok, Err, IfOk, IfErr, IfSome, min, slice_get}
 use Rattle.std.specs.declared.alloc.Global.{Global}
 use Rattle.mesa_schema.specs.declared.rows.Row.{Row}
 use Rattle.mesa_schema.specs.declared.views.View.{View}
@@ -11,6 +11,8 @@ use Rattle.mesa_schema.specs.Views.{view_columns, view_rows}
 use Rattle.mesa_delta.specs.Reading.{IsWhole}
 use Rattle.mesa_delta.specs.declared.error.FileError.TheVariants as file
 use Rattle.mesa_delta.specs.declared.input.Input.{Input}
+use Rattle.mesa_fault.specs.Causes.{HasFaultCause, last}
+use Rattle.mesa_file.specs.declared.damage.Damage.{Damage}
 use Rattle.mesa_merge.specs.Faults.{faults_of}
 use Rattle.mesa_merge.specs.Inputs.{Known, known_of, knowns_of}
 use Rattle.mesa_tasks.specs.GivingBack.{task_inputs}
@@ -23,9 +25,12 @@ use Rattle.mesa_tasks.specs.declared.merging.CompactError.TheVariants as compact
 use Rattle.mesa_tasks.specs.declared.merging.NewDelta.{NewDelta}
 use Rattle.mesa_tasks.specs.declared.merging.Task.{Task}
 use Rattle.mesa_tasks.specs.declared.merging.TaskView.{TaskView}
+use Rattle.mesa_compact.specs.Bounded.{AreBounded, AreOwnBounded, IsBounded}
 use Rattle.mesa_compact.specs.Tasks.{IsSameTask, IsTaskDamage, KnownView, known_view, known_views}
-use Rattle.mesa_compact.specs.Writing.{HasCauses}
+use Rattle.mesa_compact.specs.Writing.{HasCauses, IsDraftFault, damaged_by}
 use Rattle.mesa_tasks.specs.Errors.{Differs}
+use Rattle.mesa_passes.specs.Answers.{Owes}
+use Rattle.mesa_service.specs.Drafts.{owed_by_work}
 use Rattle.mesa_service.specs.Works.{IsDeltaOf, known_task}
 use Rattle.mesa_session.proofs.Damaged.{rose_failed, task_differs}
 
@@ -118,10 +123,43 @@ module _ {R : Type 0} (bytes : R → Option (List ℕ)) where
     files = files_stay made_bytes id_of l old new merged.rows delta.files same.views merged.files;
   }
 
+  own_bounded : (s : Columns) (new old : Option (Vec (Input R) Global)) → option_map (λ inputs. knowns_of bytes inputs.items) new ≡ option_map (λ inputs. knowns_of bytes inputs.items) old → AreOwnBounded bytes s new → AreOwnBounded bytes s old
+  own_bounded s None None known bounded = tt
+  own_bounded s (Some n) None known bounded = tt
+  own_bounded s None (Some o) known bounded = absurd (none_some _ known)
+  own_bounded s (Some n) (Some o) known bounded = subst (AreBounded s) (some_same _ _ known) bounded
+
+  -- what is so of a view's own files still was so before
+  own_stays : (s : Columns) (i : ℕ) (new old : List (TaskView R)) → known_views bytes new ≡ known_views bytes old → ((n : TaskView R) → slice_get new i ≡ Some n → AreOwnBounded bytes s n.inputs) → (o : TaskView R) → slice_get old i ≡ Some o → AreOwnBounded bytes s o.inputs
+  own_stays s i [] [] known bounded o has = absurd (none_some o has)
+  own_stays s i [] (o ∷ old) known bounded x has = absurd (cons_none _ _ (sym known))
+  own_stays s i (n ∷ new) [] known bounded o has = absurd (cons_none _ _ known)
+  own_stays s zero (n ∷ new) (o ∷ old) known bounded x has =
+      let same : known_view bytes n ≡ known_view bytes o = first_same _ _ _ _ known in
+      subst (λ (v : TaskView R). AreOwnBounded bytes s v.inputs) (some_same _ _ has) (own_bounded s n.inputs o.inputs (ap (λ (k : KnownView). k.own) same) (bounded n refl))
+  own_stays s (suc i) (n ∷ new) (o ∷ old) known bounded x has = own_stays s i new old (rest_same _ _ _ _ known) bounded x has
+
+  -- what is bounded still was before
+  bounded_stays : (l : Lineage) (old new : Task R) → IsSameTask bytes old new → IsBounded bytes l new → IsBounded bytes l old
+  bounded_stays l old new same bounded = record {
+    table = subst (AreBounded (columns_of l)) same.inputs bounded.table;
+    views = λ i v o had has. own_stays (view_columns (columns_of l) v) i new.views.items old.views.items same.views (λ n is. bounded.views i v n had is) o has;
+  }
+
   -- what came of a merge
-  pub closes : {M : Type 0} (made_bytes : M → Option (List ℕ)) (id_of : M → ℕ) (faults size : R → ℕ) (l : Lineage) (old new : Task R) (before now : ℕ) (r : Result (NewDelta M) CompactError) → IsSameTask bytes old new → IfSome old.damage Differs → IsTask bytes l old → IfOk r (λ delta. (k : Lineage) → IsTask bytes k old → IsMerged made_bytes id_of bytes k old delta) → HasCauses before now (faults_of faults (task_inputs old)) (faults_of faults (task_inputs new)) (IsTaskDamage bytes size old new) r → IsDeltaOf made_bytes id_of bytes faults l new r
-  closes made_bytes id_of faults size l old new before now (Ok delta) same met task merged causes = merged_stays made_bytes id_of l old new delta same (merged l task)
-  closes made_bytes id_of faults size l old new before now (Err compact.Draft) same met task merged causes = tt
-  closes made_bytes id_of faults size l old new before now (Err (compact.File file.Read)) same met task merged causes = rose_failed faults _ (task_inputs new) (causes.reads.failed refl)
-  closes made_bytes id_of faults size l old new before now (Err (compact.File (file.Damaged d))) same met task merged causes = task_differs bytes size old new d met (causes.damaged d refl)
-  closes made_bytes id_of faults size l old new before now (Err (compact.File file.Memory)) same met task merged causes = tt
+  pub closes : {M : Type 0} (made_bytes : M → Option (List ℕ)) (id_of : M → ℕ) (faults size : R → ℕ) (l : Lineage) (old new : Task R) (before now : ℕ) (r : Result (NewDelta M) CompactError) → IsSameTask bytes old new → IfSome old.damage Differs → IsTask bytes l old → IfOk r (λ delta. (k : Lineage) → IsTask bytes k old → IsMerged made_bytes id_of bytes k old delta) → HasCauses before now (faults_of faults (task_inputs old)) (faults_of faults (task_inputs new)) (IsTaskDamage bytes size old new) r
+      → IfErr r (λ e. (d : Damage) → e ≡ damaged_by d → old.damage ≡ None → (k : Lineage) → IsTask bytes k old → IsBounded bytes k old → ⊥) → IsDeltaOf made_bytes id_of bytes faults l new r
+  closes made_bytes id_of faults size l old new before now (Ok delta) same met task merged causes accepts = merged_stays made_bytes id_of l old new delta same (merged l task)
+  closes made_bytes id_of faults size l old new before now (Err compact.Draft) same met task merged causes accepts = tt
+  closes made_bytes id_of faults size l old new before now (Err (compact.File file.Read)) same met task merged causes accepts = rose_failed faults _ (task_inputs new) (causes.reads.failed refl)
+  closes made_bytes id_of faults size l old new before now (Err (compact.File (file.Damaged d))) same met task merged causes accepts = record {
+    differs = task_differs bytes size old new d met (causes.damaged d refl);
+    never = λ none bounded. accepts d refl (sym same.damage ∙ none) l task (bounded_stays l old new same bounded);
+  }
+  closes made_bytes id_of faults size l old new before now (Err (compact.File file.Memory)) same met task merged causes accepts = tt
+
+-- a bench counted the faults that a merge tells
+pub merged_owes : {T : Type 0} (before now : ℕ) (r : Result T CompactError) → HasFaultCause IsDraftFault before now r → Owes before now (owed_by_work r)
+merged_owes before now (Ok delta) cause low = let same : now ≡ before = cause.quiet in omega (arith, same)
+merged_owes before now (Err compact.Draft) cause low = let rose : min (before + 1) last ≤ now = cause.failed refl in omega (arith, rose, low)
+merged_owes before now (Err (compact.File e)) cause low = let later = cause.later in omega (arith, later)

@@ -2,9 +2,11 @@
 ghost use Rattle.std.specs.Prelude.{◌≡◌, ◌<◌, ◌≤◌, ◌+◌, ◌-◌, ◌*◌, ℕ, [], ◌∷◌, IsTrue, IfSome, is_some, length, drop};
 ghost use Rattle.std.specs.Thread.{IsSync};
 ghost use Rattle.mesa_history.specs.Run.{First, commands_of};
+ghost use Rattle.mesa_model.specs.Entry.{history_of};
 ghost use Rattle.mesa_skeleton.specs.Rows.{no_rows};
 ghost use Rattle.mesa_turn.specs.History.{has};
-ghost use Rattle.mesa_turn.specs.Passes.{IsExact};
+ghost use Rattle.mesa_turn.specs.Passes.{IsExact, Joins};
+ghost use Rattle.mesa_passes.specs.Answers.{HasCounted, HaveCounted, answered};
 ghost use Rattle.mesa_passes.specs.Passes.{HasEnded, HaveEnded, Mine, Waits, at_stage, turns_of};
 
 use mesa_disk::{Bench, Made};
@@ -38,6 +40,8 @@ fn part_next<V: Service>(lock: &TurnLock<V>, pass: Pass, next: u16, room: u64) -
     ensures rest { Waits V.script (V.start no_rows) result.0 (next + 1) }
     ensures name { result.1.names ≡ next ∷ [] }
     ensures mine { Mine V.script (V.start no_rows) result.1 next (at_stage 1 First) }
+    ensures fresh { answered V.script (V.start no_rows) next result.1 ≡ 0 }
+    ensures seen { result.0.seen ≡ pass.seen }
 {
     lock.split(pass, next, room)
 }
@@ -51,6 +55,7 @@ fn join_next<V: Service>(lock: &TurnLock<V>, rest: Pass, mine: Pass, next: u16) 
     requires mine { HasEnded V.script (V.start no_rows) mine next }
     ensures lock { result.lock ≡ rest.lock }
     ensures ended { HaveEnded V.script (V.start no_rows) result next }
+    ensures joins { Joins rest mine result }
 {
     lock.join(rest, mine)
 }
@@ -74,9 +79,11 @@ fn run_one<M: Made, V: Service<File = M>, R: Threads + Wait + Sync, B: Bench<M>,
     requires room { (3 * length (commands_of V.script session) ≤ pass.room) × (pass.limit ≤ V.room) }
     requires name { pass.names ≡ session ∷ [] }
     requires mine { Mine V.script (V.start no_rows) pass session (at_stage 1 First) }
+    requires fresh { answered V.script (V.start no_rows) session pass ≡ 0 }
     ensures lock { result.lock ≡ pass.lock }
     ensures name { result.names ≡ session ∷ [] }
     ensures ended { HasEnded V.script (V.start no_rows) result session }
+    ensures counted { HasCounted V.script (V.start no_rows) (history_of result.seen) session (B.faults bench.old) (B.faults bench.new) }
 {
     run_session(rt, alloc, lock, pass, script, session, bench, gate)
 }
@@ -102,6 +109,10 @@ fn run_rest<M: Made, V: Service<File = M>, R: Threads + Wait + Sync, B: Bench<M>
     requires benches { length V.script.sessions ≤ next + length benches.old }
     ensures lock { result.lock ≡ pass.lock }
     ensures ended { HaveEnded V.script (V.start no_rows) result next }
+    ensures counted { HaveCounted B.faults V.script (V.start no_rows) (history_of result.seen) next benches.old benches.new }
+
+    // What the prologue's bench counted is still enough.
+    ensures kept { (before now : ℕ) → HasCounted V.script (V.start no_rows) (history_of pass.seen) 0 before now → HasCounted V.script (V.start no_rows) (history_of result.seen) 0 before now }
 {
     if next as usize == script.sessions.len() {
         return pass;
@@ -117,9 +128,10 @@ fn run_rest<M: Made, V: Service<File = M>, R: Threads + Wait + Sync, B: Bench<M>
         rt,
         &mut || -> Option<Pass>
             requires script { (script.now ≡ V.script) × (length V.script.sessions ≤ 8) × (next < length V.script.sessions) × (length (commands_of V.script next) ≤ 200000) }
-            requires mine { IfSome left (λ a. (a.lock ≡ lock.now) × (3 * length (commands_of V.script next) ≤ a.room) × (a.limit ≤ V.room) × (a.names ≡ next ∷ []) × Mine V.script (V.start no_rows) a next (at_stage 1 First)) }
+            requires mine { IfSome left (λ a. (a.lock ≡ lock.now) × (3 * length (commands_of V.script next) ≤ a.room) × (a.limit ≤ V.room) × (a.names ≡ next ∷ []) × Mine V.script (V.start no_rows) a next (at_stage 1 First) × (answered V.script (V.start no_rows) next a ≡ 0)) }
             ensures some { is_some result ≡ is_some left.entry }
             ensures ended { IfSome left.entry (λ a. IfSome result (λ r. (r.lock ≡ a.lock) × (r.names ≡ next ∷ []) × HasEnded V.script (V.start no_rows) r next)) }
+            ensures counted { IfSome left.entry (λ a. IfSome result (λ r. HasCounted V.script (V.start no_rows) (history_of r.seen) next (B.faults bench.entry.now) (B.faults bench.exit.now))) }
         {
             let pass = left.take()?;
             Some(run_one(rt, alloc, lock, pass, script, next, bench, gate))
@@ -131,6 +143,8 @@ fn run_rest<M: Made, V: Service<File = M>, R: Threads + Wait + Sync, B: Bench<M>
             requires benches { length V.script.sessions ≤ behind + length tail.now }
             ensures some { is_some result ≡ is_some right.entry }
             ensures ended { IfSome right.entry (λ b. IfSome result (λ r. (r.lock ≡ b.lock) × HaveEnded V.script (V.start no_rows) r behind)) }
+            ensures counted { IfSome right.entry (λ b. IfSome result (λ r. HaveCounted B.faults V.script (V.start no_rows) (history_of r.seen) behind tail.entry.now tail.exit.now)) }
+            ensures kept { IfSome right.entry (λ b. IfSome result (λ r. (before now : ℕ) → HasCounted V.script (V.start no_rows) (history_of b.seen) 0 before now → HasCounted V.script (V.start no_rows) (history_of r.seen) 0 before now)) }
         {
             let pass = right.take()?;
             Some(run_rest(rt, other, lock, pass, script, behind, tail, gate))
@@ -162,6 +176,9 @@ pub fn run_all<M: Made, V: Service<File = M>, R: Threads + Wait + Sync, B: Bench
     ensures names { (n : ℕ) → n < 8 → IsTrue (has result.names n) }
     ensures own { (k : ℕ) → k < length result.seen → IsTrue (has result.own k) }
     ensures ended { (s : ℕ) → s < length V.script.sessions → HasEnded V.script (V.start no_rows) result s }
+
+    // Each session's bench counted the faults that the session's entries answer.
+    ensures counted { HaveCounted B.faults V.script (V.start no_rows) (history_of result.seen) 0 benches.old benches.new }
 {
     let (head, tail) = benches.split_at_mut(1);
     let pass = run_session(rt, alloc, lock, pass, script, 0, &mut head[0], gate);

@@ -1,5 +1,8 @@
 use Rattle.std.proofs.Common.{arith}
+use Rattle.mesa_skeleton.specs.Rows.{no_rows}
+use Rattle.mesa_passes.proofs.Answering.{answers_at, answers_owed}
 use Rattle.mesa_passes.proofs.Turning.{took_both, took_fewer}
+use Rattle.mesa_service.specs.Drafts.{owed_by_load}
 use Rattle.mesa_session.proofs.commands.load.Goals as goal
 
 pub returns-clause-took : goal.returns-clause-took

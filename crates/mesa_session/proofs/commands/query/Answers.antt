@@ -1,6 +1,8 @@
 use Rattle.std.proofs.Common.{arith, sym, subst}
 use Rattle.std.specs.Prelude.{IfOk}
 use Rattle.mesa_model.specs.Entry.{history_of}
+use Rattle.mesa_skeleton.specs.Rows.{no_rows}
+use Rattle.mesa_passes.proofs.Answering.{answers_both}
 use Rattle.mesa_passes.proofs.Turning.{took_both, took_fewer}
 use Rattle.mesa_service.specs.Pins.{CanBeAnswered, IsOpenQuery, KnownPin, known_pin}
 use Rattle.mesa_session.proofs.commands.query.Goals as goal
@@ -12,3 +14,6 @@ close_turn-requires-clause-open g c κs within =
 
 pub returns-in-Ok-clause-took : goal.returns-in-Ok-clause-took
 returns-in-Ok-clause-took g c = took_fewer _ _ _ 2 3 (omega arith) (took_both _ _ _ _ 1 1 c.pin_turn-pass.ensures.took c.close_turn.ensures.took)
+
+pub returns-in-Ok-clause-answers : goal.returns-in-Ok-clause-answers
+returns-in-Ok-clause-answers g c = answers_both g.V.Service.script (g.V.Service.start no_rows) c.args.who.session _ _ _ 0 0 0 c.close_turn.ensures.took.seen c.pin_turn-pass.ensures.answers c.close_turn.ensures.answers

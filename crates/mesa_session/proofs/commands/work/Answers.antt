@@ -1,4 +1,6 @@
 use Rattle.std.proofs.Common.{arith}
+use Rattle.mesa_skeleton.specs.Rows.{no_rows}
+use Rattle.mesa_passes.proofs.Answering.{answers_at, answers_both, answers_owed, answers_within}
 use Rattle.mesa_passes.proofs.Turning.{took_both, took_fewer}
 use Rattle.mesa_session.proofs.commands.work.Goals as goal
 
@@ -10,3 +12,22 @@ returns-in-Err-renewed-clause-took g c = took_fewer _ _ _ 2 3 (omega arith) (too
 
 pub returns-in-Ok-renewed-clause-took : goal.returns-in-Ok-renewed-clause-took
 returns-in-Ok-renewed-clause-took g c = took_both _ _ _ _ 2 1 (took_both _ _ _ _ 1 1 c.grant_turn-pass.ensures.took c.renew_turn-pass.ensures.took) c.complete_turn-in-Ok-renewed.ensures.took
+
+pub returns-then-is_err-clause-answers : goal.returns-then-is_err-clause-answers
+returns-then-is_err-clause-answers g c =
+    answers_owed g.V.Service.script (g.V.Service.start no_rows) c.args.who.session _ _ _ _ _ _ _ c.complete_turn.ensures.took.seen c.grant_turn-pass.ensures.answers c.merged-delta.ensures.owes
+    (answers_at g.V.Service.script (g.V.Service.start no_rows) c.args.who.session _ _ _ _ c.complete_turn.ensures.answers)
+
+pub returns-in-Err-task-clause-answers : goal.returns-in-Err-task-clause-answers
+returns-in-Err-task-clause-answers g c = answers_at g.V.Service.script (g.V.Service.start no_rows) c.args.who.session _ _ _ 0 c.grant_turn-pass.ensures.answers
+
+pub returns-in-Err-renewed-clause-answers : goal.returns-in-Err-renewed-clause-answers
+returns-in-Err-renewed-clause-answers g c =
+    let granted = answers_both g.V.Service.script (g.V.Service.start no_rows) c.args.who.session _ _ _ 0 0 0 c.renew_turn-pass.ensures.took.seen c.grant_turn-pass.ensures.answers c.renew_turn-pass.ensures.answers in
+    answers_within g.V.Service.script (g.V.Service.start no_rows) c.args.who.session _ _ _ _ 0 0 (λ low. let owes = c.merged-delta.ensures.owes low in omega (arith, owes)) (λ low. let owes = c.merged-delta.ensures.owes low in omega (arith, owes)) granted
+
+pub returns-in-Ok-renewed-clause-answers : goal.returns-in-Ok-renewed-clause-answers
+returns-in-Ok-renewed-clause-answers g c =
+    let granted = answers_both g.V.Service.script (g.V.Service.start no_rows) c.args.who.session _ _ _ 0 0 0 c.renew_turn-pass.ensures.took.seen c.grant_turn-pass.ensures.answers c.renew_turn-pass.ensures.answers in
+    answers_owed g.V.Service.script (g.V.Service.start no_rows) c.args.who.session _ _ _ _ _ _ _ c.complete_turn-in-Ok-renewed.ensures.took.seen granted c.merged-delta.ensures.owes
+    (answers_at g.V.Service.script (g.V.Service.start no_rows) c.args.who.session _ _ _ _ c.complete_turn-in-Ok-renewed.ensures.answers)

@@ -3,6 +3,7 @@ use Rattle.mesa_history.specs.Run.{Finished, commands_of}
 use Rattle.mesa_history.specs.Turns.{place_then}
 use Rattle.mesa_skeleton.specs.Rows.{no_rows}
 use Rattle.mesa_passes.specs.Passes.{Mine}
+use Rattle.mesa_passes.proofs.Answering.{answers_both}
 use Rattle.mesa_passes.proofs.Dividing.{gains}
 use Rattle.mesa_passes.proofs.Ending.{ended_cut, ended_whole}
 use Rattle.mesa_passes.proofs.Turning.{took_both, took_fewer}
@@ -25,12 +26,16 @@ returns-then-not-ran-clause-ended g c =
     ended_cut g.V.Service.script (g.V.Service.start no_rows) c.run_command-next.result.0 c.args.session (c.commands.i + 1)
     (subst (λ b. Mine g.V.Service.script (g.V.Service.start no_rows) c.run_command-next.result.0 c.args.session (place_then (not b) (c.commands.i + 1) Finished)) ran c.run_command-next.ensures.mine)
 
+pub returns-then-not-ran-clause-answers : goal.returns-then-not-ran-clause-answers
+returns-then-not-ran-clause-answers g c = answers_both g.V.Service.script (g.V.Service.start no_rows) c.args.session _ _ _ _ _ _ c.run_command-next.ensures.took.seen c.commands.invariant.answers c.run_command-next.ensures.answers
+
 pub commands-preserved : goal.commands-preserved
 commands-preserved g c =
     let i = c.commands.i in
     let ran : c.run_command-next.result.1 ≡ true = search rules in
     record {
       took = took_fewer _ _ _ (3 * i + 3) (3 * (i + 1)) (omega arith) (took_both _ _ _ _ (3 * i) 3 c.commands.invariant.took c.run_command-next.ensures.took);
+      answers = answers_both g.V.Service.script (g.V.Service.start no_rows) c.args.session _ _ _ _ _ _ c.run_command-next.ensures.took.seen c.commands.invariant.answers c.run_command-next.ensures.answers;
       mine = subst (λ b. Mine g.V.Service.script (g.V.Service.start no_rows) c.run_command-next.result.0 c.args.session (place_then (not b) (i + 1) Finished)) ran c.run_command-next.ensures.mine;
     }
 

@@ -1,8 +1,10 @@
 use Rattle.mesa_skeleton.specs.Rows.{no_rows}
-use Rattle.std.proofs.Common.{◌<◌, ◌+◌, subst, sym, ap, arith}
+use Rattle.std.proofs.Common.{◌<◌, ◌+◌, ◌∙◌, subst, sym, ap, arith}
 use Rattle.mesa_turn.specs.Passes.{Known, IsExact, left_of, part_of}
+use Rattle.mesa_passes.specs.Answers.{answered}
 use Rattle.mesa_passes.specs.Passes.{Mine, Waits, at_stage}
 use Rattle.mesa_history.specs.Run.{First}
+use Rattle.mesa_passes.proofs.Counting.{answered_fresh}
 use Rattle.mesa_passes.proofs.Dividing.{none_own, mine_part, waits_left, turns_next}
 use Rattle.mesa_sessions.proofs.all.part_next.Goals as goal
 
@@ -28,6 +30,13 @@ pub returns-clause-rest : goal.returns-clause-rest
 returns-clause-rest g c =
     let exact : IsExact (left_of c.args.next c.args.room c.args.pass) = subst IsExact c.split.ensures.kept c.split.ensures.exact.0 in
     subst (λ (z : Known). Waits g.V.Service.script (g.V.Service.start no_rows) z (c.args.next + 1)) (sym c.split.ensures.kept) (waits_left g.V.Service.script (g.V.Service.start no_rows) c.args.pass c.args.next c.args.room c.requires.waits (small g c) c.requires.next.0 exact)
+
+pub returns-clause-fresh : goal.returns-clause-fresh
+returns-clause-fresh g c = ap (answered g.V.Service.script (g.V.Service.start no_rows) c.args.next) c.split.ensures.given
+    ∙ answered_fresh g.V.Service.script (g.V.Service.start no_rows) c.args.next c.args.pass.seen (c.requires.waits.none c.args.next (omega arith) (small g c))
+
+pub returns-clause-seen : goal.returns-clause-seen
+returns-clause-seen g c = ap (λ (z : Known). z.seen) c.split.ensures.kept
 
 pub returns-clause-mine : goal.returns-clause-mine
 returns-clause-mine g c =
