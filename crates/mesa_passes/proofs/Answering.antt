@@ -24,7 +24,7 @@ use Rattle.mesa_history.specs.Legal.{AllFit, Fits, builds_files_in, is_query, is
 use Rattle.mesa_history.specs.Replay.{closes, go, runs}
 use Rattle.mesa_history.specs.Run.{Run, State, begins, command_at, command_of}
 use Rattle.mesa_history.proofs.Counting.{count_more}
-use Rattle.mesa_walk.specs.Turns.{Shown, entry, is_load, is_simple}
+use Rattle.mesa_walk.specs.Turns.{AnswersDraft, Shown, entry, is_load, is_simple}
 use Rattle.mesa_walk.specs.Walk.{run_at}
 use Rattle.mesa_passes.specs.Answers.{Answers, AreTimely, Owes, answered, answered_in}
 use Rattle.mesa_passes.proofs.Behind.{Others, all_behind, found_behind, none_others, within_one}
@@ -184,7 +184,7 @@ module _ {script : Script} {start : State} {p q : Known} {old new : Shown} {sess
   }
 
   -- the same by what a call says of its entry
-  pub step_drafts : (Failed : Type 0) (owed : ℕ) → (new.clock < last → (x : Entry) → new.history ≡ old.history ++ x ∷ [] → is_bench_fault session (run_at script start old.history) x ≡ true → Failed) → (Failed → 0 < owed) → Answers script start session p q 0 0 owed
+  pub step_drafts : (Failed : Type 0) (owed : ℕ) → AnswersDraft script start old new session Failed → (Failed → 0 < owed) → Answers script start session p q 0 0 owed
   step_drafts Failed owed draft some = step_answers owed (λ timely is.
       let low = (all_behind (λ (x : Entry). x.moment < last) old.history (e ∷ []) (subst AreTimely s.turn.grew timely)).0 in
       some (draft low e s.turn.grew is))
