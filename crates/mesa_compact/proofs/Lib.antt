@@ -6,3 +6,4 @@ pub mod Poured
 pub mod Whole
 pub mod Regrouped
 pub mod Tasking
+pub mod Known

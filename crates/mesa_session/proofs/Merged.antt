@@ -16,7 +16,6 @@ use Rattle.mesa_file.specs.declared.damage.Damage.{Damage}
 use Rattle.mesa_merge.specs.Faults.{faults_of}
 use Rattle.mesa_merge.specs.Inputs.{Known, known_of, knowns_of}
 use Rattle.mesa_tasks.specs.GivingBack.{task_inputs}
-use Rattle.mesa_tasks.specs.Inputs.{HaveRows, IsMergeOf, present_parts}
 use Rattle.mesa_tasks.specs.Tasks.{AreMergedViews, HaveMerged, IsMerged, IsTask, MergeOnlyTo}
 use Rattle.mesa_tasks.specs.declared.made.MadeFiles.{MadeFiles}
 use Rattle.mesa_tasks.specs.declared.made.MadeView.{MadeView}
@@ -27,34 +26,13 @@ use Rattle.mesa_tasks.specs.declared.merging.Task.{Task}
 use Rattle.mesa_tasks.specs.declared.merging.TaskView.{TaskView}
 use Rattle.mesa_compact.specs.Bounded.{AreBounded, AreOwnBounded, IsBounded}
 use Rattle.mesa_compact.specs.Tasks.{IsSameTask, IsTaskDamage, KnownView, known_view, known_views}
+use Rattle.mesa_compact.proofs.Known.{cons_none, first_same, merge_stays, none_some, only_stays, rest_same, some_same}
 use Rattle.mesa_compact.specs.Writing.{HasCauses, IsDraftFault, damaged_by}
 use Rattle.mesa_tasks.specs.Errors.{Differs}
 use Rattle.mesa_passes.specs.Answers.{Owes}
 use Rattle.mesa_service.specs.Drafts.{owed_by_work}
 use Rattle.mesa_service.specs.Works.{IsDeltaOf, known_task}
 use Rattle.mesa_session.proofs.Damaged.{rose_failed, task_differs}
-
--- ---- lists
-
-cons_none : {X : Type 0} (x : X) (xs : List X) → x ∷ xs ≡ [] → ⊥
-cons_none x xs same = let one : length (x ∷ xs) ≡ 0 = ap (λ l. length l) same in omega (arith, one)
-
-first_same : {X : Type 0} (x y : X) (xs ys : List X) → x ∷ xs ≡ y ∷ ys → x ≡ y
-first_same x y xs ys same = ap (λ l. get_or l 0 x) same
-
-rest : {X : Type 0} → List X → List X
-rest [] = []
-rest (x ∷ xs) = xs
-
-rest_same : {X : Type 0} (x y : X) (xs ys : List X) → x ∷ xs ≡ y ∷ ys → xs ≡ ys
-unfolding rest
-rest_same x y xs ys same = ap rest same
-
-none_some : {X : Type 0} (x : X) → None ≡ Some x → ⊥
-none_some x is = cc
-
-some_same : {X : Type 0} (x y : X) → Some x ≡ Some y → x ≡ y
-some_same {X = X} x y is = ap (λ (o : Option X). elim o [ None ↦ x | Some z ↦ z ]) is
 
 -- ---- what is known
 
@@ -63,36 +41,6 @@ module _ {R : Type 0} (bytes : R → Option (List ℕ)) where
   known_stays old new same = λ j. record { table = same.table j; work = same.work j; lease = same.lease j; epoch = same.epoch j; files = same.inputs j; views = same.views j; damage = same.damage j }
 
   -- ---- files of which the same is known
-
-  have_rows : (old new : List (Input R)) (parts : List (List Row)) → knowns_of bytes new ≡ knowns_of bytes old → HaveRows bytes old parts → HaveRows bytes new parts
-  have_rows [] [] parts known have = have
-  have_rows [] (n ∷ new) parts known have = absurd (cons_none _ _ known)
-  have_rows (o ∷ old) [] parts known have = absurd (cons_none _ _ (sym known))
-  have_rows (o ∷ old) (n ∷ new) [] known have = have
-  have_rows (o ∷ old) (n ∷ new) (rows ∷ parts) known have =
-      let same : known_of bytes n ≡ known_of bytes o = first_same _ _ _ _ known in
-      (subst (λ (k : Known). IsWhole k.file rows k.told) (sym same) have.0, have_rows old new parts (rest_same _ _ _ _ known) have.1)
-
-  same_lifted : (old new : List (Input R)) (parts : List (List Row)) → knowns_of bytes new ≡ knowns_of bytes old → present_parts old parts ≡ present_parts new parts
-  same_lifted [] [] parts known = refl
-  same_lifted [] (n ∷ new) parts known = absurd (cons_none _ _ known)
-  same_lifted (o ∷ old) [] parts known = absurd (cons_none _ _ (sym known))
-  same_lifted (o ∷ old) (n ∷ new) [] known = refl
-  same_lifted (o ∷ old) (n ∷ new) (rows ∷ parts) known =
-      let same : known_of bytes o ≡ known_of bytes n = sym (first_same _ _ _ _ known) in
-      λ j. map (λ (row : Row). lifted (same j).table (same j).epoch (epoch_of (same j).table) row) rows ∷ same_lifted old new parts (rest_same _ _ _ _ known) j
-
-  merge_stays : (s : Columns) (old new : List (Input R)) (rows : List Row) → knowns_of bytes new ≡ knowns_of bytes old → IsMergeOf bytes s old rows → IsMergeOf bytes s new rows
-  merge_stays s old new rows known merge = record {
-    parts = merge.parts;
-    whole = have_rows old new merge.parts known merge.whole;
-    fold = merge.fold ∙ ap (folded (aggs_of s)) (same_lifted old new merge.parts known);
-  }
-
-  only_stays : (s : Columns) (rows : List Row) (old new : Option (Vec (Input R) Global)) → option_map (λ inputs. knowns_of bytes inputs.items) new ≡ option_map (λ inputs. knowns_of bytes inputs.items) old → MergeOnlyTo bytes s rows new → MergeOnlyTo bytes s rows old
-  only_stays s rows None new known only = tt
-  only_stays s rows (Some o) None known only = absurd (none_some _ known)
-  only_stays s rows (Some o) (Some n) known only = λ its merge. only its (merge_stays s o.items n.items its (some_same _ _ known) merge)
 
   views_stay : {M : Type 0} (made_bytes : M → Option (List ℕ)) (id_of : M → ℕ) (s : Columns) (rows : List Row) (views : List View) (old new : List (TaskView R)) (made : List (MadeView M)) → known_views bytes new ≡ known_views bytes old
       → AreMergedViews made_bytes id_of bytes s rows views old made → AreMergedViews made_bytes id_of bytes s rows views new made
@@ -107,7 +55,7 @@ module _ {R : Type 0} (bytes : R → Option (List ℕ)) where
           number = are.0.number ∙ sym (ap (λ (k : KnownView). k.view) same);
           its = are.0.its;
           file = are.0.file;
-          grouped = λ only. are.0.grouped (only_stays (view_columns s v) (view_rows s v rows) o.inputs n.inputs (ap (λ (k : KnownView). k.own) same) only);
+          grouped = λ only. are.0.grouped (only_stays bytes (view_columns s v) (view_rows s v rows) n.inputs o.inputs (sym (ap (λ (k : KnownView). k.own) same)) only);
         },
         views_stay made_bytes id_of s rows views old new made (rest_same _ _ _ _ known) are.1,
       )
@@ -119,7 +67,7 @@ module _ {R : Type 0} (bytes : R → Option (List ℕ)) where
   pub merged_stays : {M : Type 0} (made_bytes : M → Option (List ℕ)) (id_of : M → ℕ) (l : Lineage) (old new : Task R) (delta : NewDelta M) → IsSameTask bytes old new → IsMerged made_bytes id_of bytes l old delta → IsMerged made_bytes id_of bytes l new delta
   merged_stays made_bytes id_of l old new delta same merged = record {
     rows = merged.rows;
-    merge = merge_stays (columns_of l) old.inputs.items new.inputs.items merged.rows same.inputs merged.merge;
+    merge = merge_stays bytes (columns_of l) old.inputs.items new.inputs.items merged.rows same.inputs merged.merge;
     files = files_stay made_bytes id_of l old new merged.rows delta.files same.views merged.files;
   }
 

@@ -18,27 +18,12 @@ use Rattle.mesa_tasks.specs.GivingBack.{pinned_inputs}
 use Rattle.mesa_tasks.specs.Pins.{relation_rows}
 use Rattle.mesa_tasks.specs.declared.querying.Pinned.{Pinned}
 use Rattle.mesa_tasks.specs.declared.querying.PinnedInput.{PinnedInput}
+use Rattle.mesa_compact.proofs.Known.{cons_none, first_same, rest_same}
 use Rattle.mesa_query.specs.Files.{IsDamageIn, inputs_in, owns_in}
 use Rattle.mesa_query.specs.Relation.{page_over, parts_pinned, parts_ungrouped, rows_under}
 use Rattle.mesa_service.specs.Damages.{IsUnread}
 use Rattle.mesa_service.specs.Pins.{IsAnswer, IsAnswerDamage, IsPageOver, heading_in, known_pin}
 use Rattle.mesa_session.proofs.Damaged.{query_differs, rose_failed}
-
--- ---- lists
-
-cons_none : {X : Type 0} (x : X) (xs : List X) → x ∷ xs ≡ [] → ⊥
-cons_none x xs same = let one : length (x ∷ xs) ≡ 0 = ap (λ l. length l) same in omega (arith, one)
-
-first_same : {X : Type 0} (x y : X) (xs ys : List X) → x ∷ xs ≡ y ∷ ys → x ≡ y
-first_same x y xs ys same = ap (λ l. get_or l 0 x) same
-
-rest : {X : Type 0} → List X → List X
-rest [] = []
-rest (x ∷ xs) = xs
-
-rest_same : {X : Type 0} (x y : X) (xs ys : List X) → x ∷ xs ≡ y ∷ ys → xs ≡ ys
-unfolding rest
-rest_same x y xs ys same = ap rest same
 
 -- ---- files of which the same is known
 
