@@ -80,7 +80,7 @@ view_folds s v parts is form =
 -- ---- the parts of a relation
 
 module _ (rows : Rows) (l : Lineage) where
-  table_parts : (ds : List Delta) → rows_of (map (part_of rows None) (map own_file (flat_map (table_wanted l) ds))) ≡ rows_of (map (present rows l) ds)
+  pub table_parts : (ds : List Delta) → rows_of (map (part_of rows None) (map own_file (flat_map (table_wanted l) ds))) ≡ rows_of (map (present rows l) ds)
   table_parts [] = refl
   table_parts (d ∷ ds) = by d.files (table_parts ds)
     where

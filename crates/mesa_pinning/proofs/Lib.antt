@@ -2,4 +2,7 @@ pub mod Opened
 pub mod Reading
 pub mod Given
 pub mod Folding
+pub mod Sums
+pub mod Bounds
+pub mod Unsound
 pub mod Telling

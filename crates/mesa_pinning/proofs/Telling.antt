@@ -1,16 +1,17 @@
 -- The files of a plan tell the answer over the content at its version.
-use Rattle.std.proofs.Common.{◌≡◌, ℕ, zero, suc, ◌<◌, List, [], ◌∷◌, map, length, refl, sym, ap, ◌∙◌, subst, true, Bool, false, Option, Some, None}
+use Rattle.std.proofs.Common.{◌≡◌, ℕ, zero, suc, ◌<◌, List, [], ◌∷◌, map, length, refl, sym, ap, ◌∙◌, subst, arith, true, Bool, false, Option, Some, None}
 use Rattle.std.specs.Prelude.{slice_get}
 use Rattle.std.specs.List.{AllByRecursion, list_all}
 use Rattle.mesa_schema.specs.Changes.{Lineage, columns_of}
 use Rattle.mesa_schema.specs.Columns.{Columns, aggs_of}
-use Rattle.mesa_schema.specs.Folded.{folded}
+use Rattle.mesa_schema.specs.Folded.{folded, rows_of}
 use Rattle.mesa_schema.specs.Lineages.{is_view_of}
 use Rattle.mesa_schema.specs.Views.{view_rows}
 use Rattle.mesa_schema.specs.declared.rows.Row.{Row}
 use Rattle.mesa_schema.specs.declared.views.View.{View}
 use Rattle.mesa_schema.proofs.Lists.{all_both}
 use Rattle.mesa_filter.specs.Query.{BuiltQuery, IsQueryOf, group_kinds}
+use Rattle.mesa_answer.specs.Answering.{KeepsSums}
 use Rattle.mesa_model.specs.Page.{page_of}
 use Rattle.mesa_model.specs.declared.replies.Page.{Page}
 use Rattle.mesa_model.specs.Query.{Answer, answer_rows}
@@ -28,7 +29,8 @@ use Rattle.mesa_image_laws.proofs.Plans.{planned_folds}
 use Rattle.mesa_catalog.proofs.Stocks.{all_at}
 use Rattle.mesa_merge.specs.Inputs.{Known, knowns_of}
 use Rattle.mesa_pinning.specs.Read.{IsPinnedFor, relation_read, view_read}
-use Rattle.mesa_pinning.specs.Told.{AreOfRelation, Tells, parts_known}
+use Rattle.mesa_pinning.specs.Told.{AreOfRelation, Tells, parts_known, parts_under}
+use Rattle.mesa_pinning.proofs.Bounds.{all_under, read_sums}
 use Rattle.mesa_pinning.proofs.Folding.{relation_folds, table_folds}
 use Rattle.mesa_pinning.proofs.Given.{AreGiven, IsGiven, IsSeen, all_given, all_parts, all_told, part_of, rows_seen}
 use Rattle.mesa_pinning.proofs.Reading.{IsThere, all_of, all_pinned, columns_read, view_seen}
@@ -58,6 +60,13 @@ same_page : (s t : Columns) (q : BuiltQuery) (view : Option ℕ) (ks : List Know
 same_page s t q view [] own contents a b = refl
 same_page s t q view (k ∷ ks) [] contents a b = refl
 same_page s t q view (k ∷ ks) (o ∷ own) contents a b = ap (λ (x : Columns). page_over x q (parts_known view (k ∷ ks) (o ∷ own) contents)) (columns_are s t view k.table o a.0 b.0)
+
+-- nor does any sum leave its type
+same_sums : (s t : Columns) (view : Option ℕ) (ks : List Known) (own : List Bool) (contents : List (List Row)) → AreOfRelation s view ks own → AreOfRelation t view ks own
+    → KeepsSums s (rows_of (parts_under view ks own contents)) → KeepsSums t (rows_of (parts_under view ks own contents))
+same_sums s t view [] own contents a b keeps c sum = omega arith
+same_sums s t view (k ∷ ks) [] contents a b keeps c sum = omega arith
+same_sums s t view (k ∷ ks) (o ∷ own) contents a b keeps = subst (λ (x : Columns). KeepsSums x (rows_of (parts_under view (k ∷ ks) (o ∷ own) contents))) (columns_are s t view k.table o a.0 b.0) keeps
 
 -- what was pinned is known to be of the relation
 pub pinned_of : {R : Type 0} (bytes : R → Option (List ℕ)) (s : Columns) (view : Option ℕ) (files : List (PinnedInput R)) → AllByRecursion (IsPinnedInput bytes s view) files → AreOfRelation s view (knowns_of bytes (inputs_in files)) (owns_in files)
@@ -138,6 +147,10 @@ module _ {R : Type 0} (bytes : R → Option (List ℕ)) (faults : R → ℕ) (to
         record {
           contents = contents;
           told = all_told rows image bytes faults told is_told is.files.wanted (inputs_in p.inputs.items) seen is.files.are is.files.opened all_seen;
+          sums = λ k known.
+              same_sums s k p.view ks (owns_in p.inputs.items) contents mine known
+              (subst (KeepsSums s) (sym (ap rows_of ((λ j. parts_under (is.view j) ks (is.files.own j) contents) ∙ all_under bytes faults told rows view is.files.wanted (inputs_in p.inputs.items) seen is.files.are is.files.opened)))
+              (read_sums rows oldest next t shaped stocked q.version view there));
           page = λ k known. page
               ∙ ap (λ (rs : List Row). page_of q.version q.limit q.resume (answer_rows s q.asked rs)) (sym (content_folds rows oldest next t shaped stocked q.version view there))
               ∙ ap (page_over s q) (sym (all_parts rows image bytes faults told is_told view is.files.wanted (inputs_in p.inputs.items) seen is.files.are is.files.opened))

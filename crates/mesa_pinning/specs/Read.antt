@@ -1,14 +1,14 @@
 -- The files by which a relation is read, opened for a query.
-use Rattle.std.specs.Prelude.{◌≡◌, ℕ, List, [], map, flat_map, true, Option, None, Some, slice_get}
+use Rattle.std.specs.Prelude.{◌≡◌, ◌⊎◌, ℕ, List, [], ◌∷◌, map, flat_map, true, Option, None, Some, slice_get}
 use Rattle.mesa_disk.specs.Image.{Image}
-use Rattle.mesa_schema.specs.Changes.{Lineage}
+use Rattle.mesa_schema.specs.Changes.{Lineage, columns_at}
 use Rattle.mesa_schema.specs.declared.views.View.{View}
 use Rattle.mesa_image.specs.Catalog.{Delta, Stock}
 use Rattle.mesa_image_laws.specs.Planned.{planned}
 use Rattle.mesa_plans.specs.Files.{Seen, Want, own_in, own_lineage, table_wanted, view_wanted, want_in, want_of}
 use Rattle.mesa_query.specs.Files.{inputs_in, owns_in}
 use Rattle.mesa_rules.specs.declared.found.Found.{Found}
-use Rattle.mesa_tasks.specs.Opening.{HaveOpened}
+use Rattle.mesa_tasks.specs.Opening.{HaveOpened, IsUnsound}
 use Rattle.mesa_tasks.specs.declared.opening.Wanted.{Wanted}
 use Rattle.mesa_tasks.specs.declared.querying.Pinned.{Pinned}
 use Rattle.mesa_tasks.specs.declared.querying.PinnedInput.{PinnedInput}
@@ -25,6 +25,11 @@ view_read l number deltas (Some v) = flat_map (view_wanted l (own_lineage l v) n
 abbrev pub relation_read : Lineage → Option ℕ → List Delta → List Seen
 relation_read l None deltas = map own_file (flat_map (table_wanted l) deltas)
 relation_read l (Some number) deltas = view_read l number deltas (slice_get l.views number)
+
+-- One of these files isn't the recorded one: what a read gives of it is no file of its reference.
+abbrev pub SomeUnsound : Option Image → List Want → Type 0
+SomeUnsound told [] = ⊥
+SomeUnsound told (w ∷ ws) = IsUnsound told (columns_at w.lineage w.epoch) w.file ⊎ SomeUnsound told ws
 
 -- All of these files were opened, in order, each with whether it is the relation's own.
 pub record HaveFiles {R : Type 0} (bytes : R → Option (List ℕ)) (faults : R → ℕ) (told : Option Image) (seen : List Seen) (files : List (PinnedInput R)) : Type 0 where

@@ -2,11 +2,13 @@
 use Rattle.std.specs.Prelude.{◌≡◌, ℕ, List, [], ◌∷◌, map, Bool, Option, ⊤}
 use Rattle.mesa_schema.specs.declared.rows.Row.{Row}
 use Rattle.mesa_schema.specs.Columns.{Columns}
+use Rattle.mesa_schema.specs.Folded.{rows_of}
+use Rattle.mesa_answer.specs.Answering.{KeepsSums}
 use Rattle.mesa_filter.specs.Query.{BuiltQuery, group_kinds}
 use Rattle.mesa_merge.specs.Inputs.{AreTold, Known, knowns_of, lifted_in}
 use Rattle.mesa_model.specs.Query.{Answer}
 use Rattle.mesa_query.specs.Files.{inputs_in, owns_in}
-use Rattle.mesa_query.specs.Relation.{page_over}
+use Rattle.mesa_query.specs.Relation.{page_over, rows_under}
 use Rattle.mesa_tasks.specs.Pins.{IsOfRelation, relation_rows}
 use Rattle.mesa_tasks.specs.declared.querying.Pinned.{Pinned}
 
@@ -17,16 +19,24 @@ parts_known view (k ∷ ks) [] contents = []
 parts_known view (k ∷ ks) (o ∷ own) [] = []
 parts_known view (k ∷ ks) (o ∷ own) (rows ∷ contents) = relation_rows view k.table (map (lifted_in k) rows) o ∷ parts_known view ks own contents
 
+-- The same before any rows are grouped: a table's rows under the view's keys, each by itself.
+abbrev pub parts_under : Option ℕ → List Known → List Bool → List (List Row) → List (List Row)
+parts_under view [] own contents = []
+parts_under view (k ∷ ks) [] contents = []
+parts_under view (k ∷ ks) (o ∷ own) [] = []
+parts_under view (k ∷ ks) (o ∷ own) (rows ∷ contents) = rows_under view k.table (map (lifted_in k) rows) o ∷ parts_under view ks own contents
+
 -- Each file is the relation's own, with these columns, or one of its table.
 abbrev pub AreOfRelation : Columns → Option ℕ → List Known → List Bool → Type 0
 AreOfRelation s view [] own = ⊤
 AreOfRelation s view (k ∷ ks) [] = ⊤
 AreOfRelation s view (k ∷ ks) (o ∷ own) = IsOfRelation s view k.table o × AreOfRelation s view ks own
 
--- Files tell the answer to a query: their bytes are told, and the page over their rows, whatever columns the relation has of which they are, is the answer's, at this version.
+-- Files tell the answer to a query: their bytes are told; and whatever columns the relation has of which they are, no sum over their rows leaves its type, and the page over them is the answer's, at this version.
 pub record TellAnswer (q : BuiltQuery) (version : ℕ) (view : Option ℕ) (files : List Known) (own : List Bool) (answer : Answer) : Type 0 where
   pub contents : List (List Row)
   pub told : AreTold files contents
+  pub sums : (s : Columns) → AreOfRelation s view files own → KeepsSums s (rows_of (parts_under view files own contents))
   pub page : (s : Columns) → AreOfRelation s view files own → answer.page ≡ page_over s q (parts_known view files own contents)
   pub at : answer.page.version ≡ version
   pub heading : answer.heading ≡ record { kinds = group_kinds q; prefix = q.prefix }

@@ -1,11 +1,13 @@
 // Opening the files of a query.
-ghost use Rattle.std.specs.Prelude.{◌≡◌, ◌≢◌, ◌<◌, ◌≤◌, ◌^◌, ℕ, IfErr, IfOk, IfSome, None, Some, length};
+ghost use Rattle.std.specs.Prelude.{◌≡◌, ◌≢◌, ◌<◌, ◌≤◌, ◌^◌, ℕ, IfErr, IfOk, IfSome, None, Some, length, map};
 ghost use Rattle.std.specs.List.{AllByRecursion};
 ghost use Rattle.mesa_delta.specs.declared.error.FileError.TheVariants as file_error;
 ghost use Rattle.mesa_disk.specs.Story.{Unmoved};
 ghost use Rattle.mesa_file.specs.declared.damage.Damage.{Damage as AnyDamage};
 ghost use Rattle.mesa_image.specs.Fitting.{deltas_of};
-ghost use Rattle.mesa_pinning.specs.Read.{HaveFiles, IsPinnedFor, relation_read};
+ghost use Rattle.mesa_image_laws.specs.Planned.{planned as planned_of};
+ghost use Rattle.mesa_pinning.specs.Read.{HaveFiles, IsPinnedFor, SomeUnsound, relation_read};
+ghost use Rattle.mesa_plans.specs.Files.{want_in, want_of};
 ghost use Rattle.mesa_plans.specs.Lent.{AreOfEpochs, lent_in};
 ghost use Rattle.mesa_query.specs.Files.{inputs_in, owns_in};
 ghost use Rattle.mesa_schema.specs.Changes.{epoch_of};
@@ -36,6 +38,8 @@ pub fn open_files<M: Made, D: Disk<M>>(
     ensures at { IfOk result (λ p. p.at ≡ at) }
     ensures files { (next : ℕ) → IsTable next table.now → IfOk result (IsPinnedFor D.Reader.bytes D.Reader.faults (D.story disk.old).told (stock_of next table.now) found) }
     ensures damage { IfErr result (λ e. (d : AnyDamage) → e ≡ file_error.Damaged d → d.want ≢ d.found) }
+    // A file that is damaged isn't the recorded one.
+    ensures unsound { (next : ℕ) → IsTable next table.now → IfErr result (λ e. (d : AnyDamage) → e ≡ file_error.Damaged d → SomeUnsound (D.story disk.old).told (map want_in (relation_read (stock_of next table.now).lineage found.relation.view (planned_of (stock_of next table.now) found.query.version)))) }
 {
     let deltas = planned(table, found.query.version());
     match open_relation(alloc, disk, table, found.relation.view, &deltas) {
@@ -67,6 +71,7 @@ fn open_relation<'a, M: Made, D: Disk<M>>(
     ensures counted { Counted (D.story disk.old) (D.story disk.new) (is_read_fault result) }
     ensures files { IfOk result (λ files. HaveFiles D.Reader.bytes D.Reader.faults (D.story disk.old).told (relation_read table.now.evolving.value view (lent_in deltas.now)) files.items) }
     ensures damage { IfErr result (λ e. (d : AnyDamage) → e ≡ file_error.Damaged d → d.want ≢ d.found) }
+    ensures unsound { IfErr result (λ e. (d : AnyDamage) → e ≡ file_error.Damaged d → SomeUnsound (D.story disk.old).told (map want_in (relation_read table.now.evolving.value view (lent_in deltas.now)))) }
 {
     match view {
         Some(view) => open_view(alloc, disk, table, view, deltas),
@@ -86,6 +91,7 @@ fn open_table<'a, M: Made, D: Disk<M>>(
     ensures counted { Counted (D.story disk.old) (D.story disk.new) (is_read_fault result) }
     ensures files { IfOk result (λ files. HaveFiles D.Reader.bytes D.Reader.faults (D.story disk.old).told (relation_read table.now.evolving.value None (lent_in deltas.now)) files.items) }
     ensures damage { IfErr result (λ e. (d : AnyDamage) → e ≡ file_error.Damaged d → d.want ≢ d.found) }
+    ensures unsound { IfErr result (λ e. (d : AnyDamage) → e ≡ file_error.Damaged d → SomeUnsound (D.story disk.old).told (map want_in (relation_read table.now.evolving.value None (lent_in deltas.now)))) }
 {
     let Ok(wanted) = table_files(alloc, &table.evolving, deltas) else {
         return Err(FileError::Memory);
@@ -110,6 +116,7 @@ fn open_view<'a, M: Made, D: Disk<M>>(
     ensures counted { Counted (D.story disk.old) (D.story disk.new) (is_read_fault result) }
     ensures files { IfOk result (λ files. HaveFiles D.Reader.bytes D.Reader.faults (D.story disk.old).told (relation_read table.now.evolving.value (Some view) (lent_in deltas.now)) files.items) }
     ensures damage { IfErr result (λ e. (d : AnyDamage) → e ≡ file_error.Damaged d → d.want ≢ d.found) }
+    ensures unsound { IfErr result (λ e. (d : AnyDamage) → e ≡ file_error.Damaged d → SomeUnsound (D.story disk.old).told (map want_in (relation_read table.now.evolving.value (Some view) (lent_in deltas.now)))) }
 {
     let Ok(columns) = own_columns(alloc, &table.evolving, view) else {
         return Err(FileError::Memory);
@@ -138,6 +145,7 @@ fn open_sources<M: Made, D: Disk<M>>(
     ensures own { IfOk result (λ files. owns_in files.items ≡ sources.now.own.items) }
     ensures opened { IfOk result (λ files. HaveOpened D.Reader.bytes D.Reader.faults (D.story disk.old).told sources.now.wanted.items (inputs_in files.items) None) }
     ensures damage { IfErr result (λ e. (d : AnyDamage) → e ≡ file_error.Damaged d → d.want ≢ d.found) }
+    ensures unsound { IfErr result (λ e. (d : AnyDamage) → e ≡ file_error.Damaged d → SomeUnsound (D.story disk.old).told (map want_of sources.now.wanted.items)) }
 {
     let Ok(mut files) = Vec::with_capacity(alloc, sources.own.len()) else {
         return Err(FileError::Memory);

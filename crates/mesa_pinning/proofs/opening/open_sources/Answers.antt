@@ -1,8 +1,12 @@
-use Rattle.std.proofs.Common.{◌≡◌, false, sym, ap, ◌∙◌, subst, length, Some}
+use Rattle.std.proofs.Common.{◌≡◌, List, map, false, sym, ap, ◌∙◌, subst, length, Some}
 use Rattle.mesa_file.specs.declared.damage.Damage.{Damage}
 use Rattle.mesa_tasks.specs.Opening.{HaveOpened}
+use Rattle.mesa_tasks.specs.declared.opening.Wanted.{Wanted}
 use Rattle.mesa_gather.proofs.Joined.{opened_differs}
+use Rattle.mesa_plans.specs.Files.{want_of}
+use Rattle.mesa_pinning.specs.Read.{SomeUnsound}
 use Rattle.mesa_pinning.proofs.Opened.{counted_back, opened_fresh, opened_many}
+use Rattle.mesa_pinning.proofs.Unsound.{opened_unsound}
 use Rattle.mesa_pinning.proofs.opening.open_sources.Goals as goal
 
 pub join-requires-clause-same : goal.join-requires-clause-same
@@ -22,3 +26,10 @@ returns-in-Some-clause-damage g c = λ d is.
     (subst (HaveOpened g.D.Reader.FileReader.bytes g.D.Reader.FileReader.faults (g.D.Disk.story c.args.disk.now).told c.deref.result.now c.in-Ok-open_all.field-0.inputs.items) c.in-Some.is c.in-Ok-open_all.ensures.opened) in
     let same : c.in-Some.damage ≡ d = cc in
     subst (λ (x : Damage). x.want ≡ x.found → ⊥) same met
+
+pub returns-in-Some-clause-unsound : goal.returns-in-Some-clause-unsound
+returns-in-Some-clause-unsound g c = λ d is.
+    let told = (g.D.Disk.story c.args.disk.now).told in
+    subst (λ (ws : List Wanted). SomeUnsound told (map want_of ws)) c.deref.ensures.value
+    (opened_unsound g.D.Reader.FileReader.bytes g.D.Reader.FileReader.faults told c.deref.result.now c.in-Ok-open_all.field-0.inputs.items c.in-Some.damage
+    (subst (HaveOpened g.D.Reader.FileReader.bytes g.D.Reader.FileReader.faults told c.deref.result.now c.in-Ok-open_all.field-0.inputs.items) c.in-Some.is c.in-Ok-open_all.ensures.opened))
