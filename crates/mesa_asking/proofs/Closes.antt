@@ -36,6 +36,7 @@ use Rattle.mesa_walk.specs.Causes.{Cause}
 use Rattle.mesa_walk.specs.Printing.{IsPut}
 use Rattle.mesa_walk.specs.Queries.{MayClose, closing_fault, closing_outcome, closing_told}
 use Rattle.mesa_walk.specs.Turns.{Shown, IsSeen, Takes, entry}
+use Rattle.mesa_walk.specs.Undamaged.{is_damaged}
 use Rattle.mesa_walk.specs.Walk.{Outset, Counts, run_at, run_of}
 
 -- a reader that has failed is counted
@@ -66,7 +67,8 @@ closed_query o g sound l story held h running refused v s number low few m momen
 module _ {K : Type 0} (held : K → Option (List ℕ)) (faults : K → ℕ) (n : Starts) (turns sinks : ℕ) (m after : Memory) (story new : Story) (log later : Log K) (v : IsEngine held faults n turns sinks m story log)
     (s number : ℕ) (low : s < 2 ^ 16) (few : number < 2 ^ 32) (mo : ℕ) (moment : mo ≡ story.moment) (ran : not log.printer.broken ≡ true) (unmoved : Unmoved story new) (at : ℕ) (tells : Rows → Answer → Type 0)
     (due : (w : Rows) → IsToClose n.script (run_at n.script (n.start w) log.history.items) s number at (tells w)) (cause : Option Cause) (may : MayClose cause) (counts : Counts story new (closing_fault cause))
-    (grew : later.history.items ≡ log.history.items ++ entry s number kind.Close (closing_outcome cause) mo ∷ []) (roomy : vec_capacity log.history ≤ vec_capacity later.history) (is : after ≡ with_ledger (answered_ledger m.ledger (is_of_another s)) m) where
+    (grew : later.history.items ≡ log.history.items ++ entry s number kind.Close (closing_outcome cause) mo ∷ []) (roomy : vec_capacity log.history ≤ vec_capacity later.history) (is : after ≡ with_ledger (answered_ledger m.ledger (is_of_another s)) m)
+    (undamaged : (w : Rows) → n.sound w → is_damaged (closing_outcome cause) ≡ false) where
   abbrev e : Entry
   e = entry s number kind.Close (closing_outcome cause) mo
 
@@ -74,7 +76,7 @@ module _ {K : Type 0} (held : K → Option (List ℕ)) (faults : K → ℕ) (n :
       → IsPut piece (not later.printer.broken) (held log.printer.sink) (held later.printer.sink) → GoesOn faults log.printer later.printer → later.refused ≡ (log.refused || is_some cause) → IsEngine held faults n turns sinks after new later
   closed_engine piece tells_it put goes refused =
       subst (λ (x : Memory). IsEngine held faults n turns sinks x new later) (sym is)
-      (turned_engine held faults n turns sinks m (with_ledger (answered_ledger m.ledger (is_of_another s)) m) story new log later e v grew roomy (moment ∙ sym unmoved.moment) (omega (arith, unmoved.moment)) (omega (arith, v.leased)) goes
+      (turned_engine held faults n turns sinks m (with_ledger (answered_ledger m.ledger (is_of_another s)) m) story new log later e v grew roomy (moment ∙ sym unmoved.moment) (omega (arith, unmoved.moment)) (omega (arith, v.leased)) undamaged goes
       (λ w b ok. subst (IsVault (outset_of n w) (n.origin w) b (answered_ledger m.ledger (is_of_another s)) new (held later.printer.sink) (log.history.items ++ e ∷ []) (not later.printer.broken)) (sym refused)
       (closed_query (outset_of n w) (n.origin w) b m.ledger story (held log.printer.sink) log.history.items (not log.printer.broken) log.refused (v.vault w b ok) s number low few mo moment ran new unmoved at (tells w) (due w) cause may counts
       (not later.printer.broken) (held later.printer.sink) piece (λ sound. tells_it w (ok sound)) put)))

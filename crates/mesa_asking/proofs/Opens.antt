@@ -5,12 +5,16 @@ use Rattle.std.proofs.lemmas.Bool.Decides.{leb_tells}
 use Rattle.mesa_asked.specs.Told.{IsDue as IsRefused}
 use Rattle.mesa_asked.specs.declared.failure.Failure.{Failure as AskedFailure}
 use Rattle.mesa_asked.specs.declared.failure.Failure.TheVariants as asked
+use Rattle.mesa_asking.specs.Closing.{cause_of}
 use Rattle.mesa_asking.specs.Opening.{asked_ledger, cause_refused}
+use Rattle.mesa_delta.specs.declared.error.FileError.{FileError}
+use Rattle.mesa_delta.specs.declared.error.FileError.TheVariants as file_error
 use Rattle.mesa_disk.specs.Story.{Story, Unmoved}
 use Rattle.mesa_engine.proofs.Turning.{passed_engine, told_engine}
 use Rattle.mesa_engine.proofs.Undone.{not_skipped}
 use Rattle.mesa_engine.specs.Engine.{IsEngine}
 use Rattle.mesa_fault.specs.Causes.{Rose, last}
+use Rattle.mesa_file.specs.declared.damage.Damage.{Damage}
 use Rattle.mesa_filter.specs.declared.words.QueryWords.{QueryWords}
 use Rattle.mesa_filter.specs.declared.words.VersionWord.{VersionWord}
 use Rattle.mesa_filter.specs.declared.words.VersionWord.TheVariants as asks
@@ -37,6 +41,7 @@ use Rattle.mesa_walk.specs.Causes.{Cause, Replies, Unread, Damaged, Unwritten, N
 use Rattle.mesa_walk.specs.Printing.{IsPut}
 use Rattle.mesa_walk.specs.Queries.{HasNoAnswer, IsOpenFrom, IsPinned, IsUnanswered}
 use Rattle.mesa_walk.specs.Turns.{Shown, IsSeen, Takes, entry}
+use Rattle.mesa_walk.specs.Undamaged.{is_damaged}
 use Rattle.mesa_walk.specs.Walk.{Outset, Counts, WalksOn, run_at, run_of}
 
 -- ---- why a query isn't answered
@@ -152,13 +157,26 @@ module _ {K : Type 0} (held : K → Option (List ℕ)) (faults : K → ℕ) (n :
   pub opened_engine : (after : Memory) → Answers m.ledger s words → m.ledger.closed ≡ None → Counts story new false → after ≡ with_ledger (asked_ledger m.ledger s words.version at) m
       → later.history.items ≡ log.history.items ++ entry s number kind.Decide outcome.Stands mo ∷ [] → later.printer ≡ log.printer → later.refused ≡ log.refused → IsEngine held faults n turns sinks after new later
   opened_engine after is was_open counts gives grew printer refused =
-      passed_engine held faults n turns sinks m after story new log later (entry s number kind.Decide outcome.Stands mo) v grew roomy moment not_earlier (let same = ap (λ (x : Memory). x.leased) gives in let leased = v.leased in omega (arith, same, leased)) printer refused
+      passed_engine held faults n turns sinks m after story new log later (entry s number kind.Decide outcome.Stands mo) v grew roomy moment not_earlier (let same = ap (λ (x : Memory). x.leased) gives in let leased = v.leased in omega (arith, same, leased)) (λ w sound. refl) printer refused
       (λ w b ok. subst (λ (x : Memory). IsVault (outset_of n w) (n.origin w) b x.ledger new (held log.printer.sink) (log.history.items ++ entry s number kind.Decide outcome.Stands mo ∷ []) (not log.printer.broken) log.refused) (sym gives)
       (opened_vault (outset_of n w) (n.origin w) b m.ledger story (held log.printer.sink) log.history.items (not log.printer.broken) log.refused (v.vault w b ok) s number low few words mo same_moment ran new unmoved (due w)
       Untold (pinned_untold b (v.vault w b ok).rows m.ledger s words is) counts at place was_open words.version))
 
-  pub unopened_engine : (cause : Cause) → HasNoAnswer (books_of no_rows m.ledger) s words cause → Counts story new (is_read_fault cause) → later.history.items ≡ log.history.items ++ entry s number kind.Decide (outcome_of cause) mo ∷ []
+  pub unopened_engine : (cause : Cause) → ((w : Rows) → n.sound w → is_damaged (outcome_of cause) ≡ false) → HasNoAnswer (books_of no_rows m.ledger) s words cause → Counts story new (is_read_fault cause) → later.history.items ≡ log.history.items ++ entry s number kind.Decide (outcome_of cause) mo ∷ []
       → PrintsBlock held faults log.printer later.printer (entry s number kind.Decide (outcome_of cause) mo) (told_at at (reply_of cause)) → later.refused ≡ (log.refused || is_refusal (reply_of cause)) → IsEngine held faults n turns sinks m new later
-  unopened_engine cause has counts grew prints refused =
-      told_engine held faults n turns sinks m m story new log later (entry s number kind.Decide (outcome_of cause) mo) v grew roomy moment not_earlier (let leased = v.leased in omega arith) (told_at at (reply_of cause)) (is_refusal (reply_of cause)) prints refused
+  unopened_engine cause undamaged has counts grew prints refused =
+      told_engine held faults n turns sinks m m story new log later (entry s number kind.Decide (outcome_of cause) mo) v grew roomy moment not_earlier (let leased = v.leased in omega arith) undamaged (told_at at (reply_of cause)) (is_refusal (reply_of cause)) prints refused
       (λ put w b ok. unopened_vault (outset_of n w) (n.origin w) b m.ledger story (held log.printer.sink) log.history.items (not log.printer.broken) log.refused (v.vault w b ok) s number low few words mo same_moment ran new unmoved (due w) cause has counts at place (not later.printer.broken) (held later.printer.sink) put)
+
+-- ---- damage
+
+-- the rules tell none
+pub rules_undamaged : (f : AskedFailure) → is_damaged (outcome_of (cause_refused f)) ≡ true → ⊥
+rules_undamaged (asked.Refused refusal) is = absurd cc
+rules_undamaged asked.Memory is = absurd cc
+
+-- what is told of files as damage is damage of one
+pub met_damage : (e : FileError) → is_damaged (outcome_of (cause_of e)) ≡ true → (d : Damage) × (e ≡ file_error.Damaged d)
+met_damage file_error.Read is = absurd cc
+met_damage (file_error.Damaged d) is = (d, refl)
+met_damage file_error.Memory is = absurd cc

@@ -2,7 +2,7 @@
 use Rattle.std.proofs.Common.{◌≡◌, ℕ, ◌<◌, ◌^◌, List, [], ◌∷◌, ◌++◌, length, Bool, true, false, IsTrue, refl, sym, ◌∙◌, ap, subst, Option, None, Some, Ok}
 use Rattle.std.specs.Prelude.{find, option_map}
 use Rattle.std.specs.List.{AllByRecursion}
-use Rattle.mesa_asking.specs.Opening.{HasItsFiles}
+use Rattle.mesa_asking.specs.Opening.{HasItsFiles, HasUnsoundFile, tells_damage}
 use Rattle.mesa_asking.specs.Seeing.{catalogue_asked}
 use Rattle.mesa_asking.proofs.Contents.{seen_columns, seen_content}
 use Rattle.mesa_asking.proofs.Opens.{Answers, Untold, one_answer, opened_from, pinned_untold}
@@ -19,7 +19,9 @@ use Rattle.mesa_filter.specs.declared.words.VersionWord.TheVariants as asks
 use Rattle.mesa_history.specs.Run.{First, State}
 use Rattle.mesa_history.specs.Turns.{IsDue}
 use Rattle.mesa_image.specs.Catalog.{Catalog, no_stock, stock_at}
-use Rattle.mesa_image.specs.Fitting.{shelved}
+use Rattle.mesa_image.specs.Fitting.{delta_shelved, deltas_of, shelved}
+use Rattle.mesa_image_laws.proofs.Lists.{all_unflat}
+use Rattle.mesa_image_laws.specs.Planned.{planned}
 use Rattle.mesa_image.specs.Shape.{IsCatalog, IsShaped}
 use Rattle.mesa_image.specs.Sound.{AreStocked, IsStocked, wants}
 use Rattle.mesa_ledger.proofs.Holding.{pins_of}
@@ -35,7 +37,12 @@ use Rattle.mesa_model.specs.declared.entries.Entry.{Entry}
 use Rattle.mesa_model.specs.declared.entries.Kind.TheVariants as kind
 use Rattle.mesa_model.specs.declared.entries.Outcome.TheVariants as outcome
 use Rattle.mesa_pinning.specs.Told.{Tells}
+use Rattle.mesa_log.specs.declared.failure.Failure.{Failure}
+use Rattle.mesa_pinning.proofs.Given.{AreGiven, IsGiven, all_given}
 use Rattle.mesa_pinning.proofs.Telling.{pinned_tells, stock_given}
+use Rattle.mesa_pinning.proofs.Unsound.{seen_sound}
+use Rattle.mesa_pinning.specs.Read.{relation_read}
+use Rattle.mesa_plans.proofs.Among.{all_planned}
 use Rattle.mesa_rules.specs.Found.{answer_found}
 use Rattle.mesa_skeleton.specs.Rows.{Rows, no_rows}
 use Rattle.mesa_tasks.specs.declared.querying.Pinned.{Pinned}
@@ -89,6 +96,20 @@ module _ (o : Outset) (g : Origin) (sound : Bool) (l : Ledger) (story : Story) (
       by (asks.At n) is = (let same : l.catalogue ≡ c = cc in present same)
       by (asks.Pin token) is = pinned token (find (is_held_pin session token) l.pins) refl is
 
+  -- none of its files is unsound
+  asked_sound : (session : ℕ) (words : QueryWords) → HasUnsoundFile story.told l session words → ⊥
+  asked_sound session words has =
+      let c = has.catalogue in
+      let f = has.found in
+      let t = stock_at c f.relation.table in
+      let image = (v.read ok).0 in
+      let told = (v.read ok).1 in
+      let read = asked_read image told session words.version c has.asked in
+      let there = name_there c words.relation f.relation has.relation in
+      let given = stock_given v.rows c image f.relation.table read.stocked read.has there.0 in
+      seen_sound v.rows image story.told told (relation_read t.lineage f.relation.view (planned t f.query.version))
+      (all_given v.rows image t.lineage f.relation.view there.1 (planned t f.query.version) (all_planned (AreGiven v.rows image t.lineage) t (all_unflat (IsGiven v.rows image) (delta_shelved t.lineage) (deltas_of t) given) f.query.version)) has.unsound
+
   -- Its files tell the answer that each state gives of which the vault's books are.
   pub asked_tells : {R : Type 0} (bytes : R → Option (List ℕ)) (faults : R → ℕ) (session : ℕ) (words : QueryWords) (p : Pinned R) → HasItsFiles bytes faults story.told l session words p
       → (s : State) (answer : Answer) → AreBooksOf sound (books_of v.rows l) s → query_answer s.warehouse session words ≡ Ok answer → Tells bytes p answer
@@ -141,3 +162,15 @@ opened_is bytes faults n l story new held h running refused v s number low few w
           let full = opened_from o (n.origin w) true l story held h running refused vault s number low few words m moment ran new unmoved (due w) (Tells bytes p) mine counts at place in
           subst (Tells bytes p) (one_answer o (h ++ entry s number kind.Decide outcome.Stands m ∷ []) s number at words Untold (Tells bytes p) bare full) full.told;
     }
+
+-- ---- damage
+
+not_so : (b : Bool) → (b ≡ true → ⊥) → b ≡ false
+not_so true never = absurd (never refl)
+not_so false never = refl
+
+-- On a sound store opening a query's files meets no damage.
+pub opened_undamaged : (n : Starts) (l : Ledger) (story : Story) (held : Option (List ℕ)) (h : List Entry) (running refused : Bool) → IsVaultAt n l story held h running refused → (s : ℕ) (words : QueryWords) (failure : Failure)
+    → (tells_damage failure ≡ true → HasUnsoundFile story.told l s words) → (w : Rows) → n.sound w → tells_damage failure ≡ false
+opened_undamaged n l story held h running refused v s words failure unsound w sound =
+    not_so (tells_damage failure) (λ is. let has = unsound is in asked_sound (outset_of n w) (n.origin w) true l story held h running refused (v w true (λ ok. sound)) refl has.opened s words has)

@@ -1,5 +1,5 @@
 -- What a query's first turn leaves.
-use Rattle.std.specs.Prelude.{◌≡◌, ℕ, List, Bool, false, Option, Some, Result, Ok, Err}
+use Rattle.std.specs.Prelude.{◌≡◌, ℕ, List, map, Bool, false, Option, None, Some, Result, Ok, Err}
 use Rattle.mesa_asked.specs.declared.failure.Failure.{Failure as AskedFailure}
 use Rattle.mesa_asked.specs.declared.failure.Failure.TheVariants as asked
 use Rattle.mesa_asking.specs.Seeing.{catalogue_asked}
@@ -15,12 +15,15 @@ use Rattle.mesa_log.specs.Failure.{cause_in}
 use Rattle.mesa_log.specs.declared.failure.Failure.{Failure}
 use Rattle.mesa_metadata.specs.Memory.{hold_now}
 use Rattle.mesa_model.specs.declared.replies.Reply.TheVariants as reply
-use Rattle.mesa_pinning.specs.Read.{IsPinnedFor}
+use Rattle.mesa_image_laws.specs.Planned.{planned}
+use Rattle.mesa_pinning.specs.Read.{IsPinnedFor, SomeUnsound, relation_read}
+use Rattle.mesa_plans.specs.Files.{want_in}
 use Rattle.mesa_rules.specs.Found.{IsAnswered, Sees}
 use Rattle.mesa_rules.specs.declared.found.Found.{Found}
 use Rattle.mesa_skeleton.specs.Rows.{no_rows}
 use Rattle.mesa_tasks.specs.declared.querying.Pinned.{Pinned}
-use Rattle.mesa_walk.specs.Causes.{Cause, NoMemory, Replies, is_read_fault}
+use Rattle.mesa_walk.specs.Causes.{Cause, NoMemory, Replies, is_read_fault, outcome_of}
+use Rattle.mesa_walk.specs.Undamaged.{is_damaged}
 
 -- the cause for which the rules answer no query
 abbrev pub cause_refused : AskedFailure → Cause
@@ -47,3 +50,16 @@ pub record HasItsFiles {R : Type 0} (bytes : R → Option (List ℕ)) (faults : 
   pub relation : relation_of catalogue words.relation ≡ Some found.relation
   pub answered : IsAnswered catalogue (Ok found.query.version) words found
   pub files : IsPinnedFor bytes faults told (stock_at catalogue found.relation.table) found p
+
+-- Of the files of what a session's query finds in the catalogue that it sees, one isn't the recorded one.
+pub record HasUnsoundFile (told : Option Image) (l : Ledger) (session : ℕ) (words : QueryWords) : Type 0 where
+  pub opened : l.closed ≡ None
+  pub catalogue : Catalog
+  pub asked : catalogue_asked l session words.version ≡ Some catalogue
+  pub found : Found
+  pub relation : relation_of catalogue words.relation ≡ Some found.relation
+  pub unsound : SomeUnsound told (map want_in (relation_read (stock_at catalogue found.relation.table).lineage found.relation.view (planned (stock_at catalogue found.relation.table) found.query.version)))
+
+-- whether damage is why there is nothing
+abbrev pub tells_damage : Failure → Bool
+tells_damage failure = is_damaged (outcome_of (cause_in failure))

@@ -1,5 +1,5 @@
 // A query's last turn.
-ghost use Rattle.std.specs.Prelude.{◌≡◌, ◌<◌, ◌≤◌, ◌||◌, ◌++◌, ◌∷◌, [], true, not, is_some, length, vec_capacity, vec_len, IfErr};
+ghost use Rattle.std.specs.Prelude.{◌≡◌, ◌<◌, ◌≤◌, ◌||◌, ◌++◌, ◌∷◌, [], true, false, not, is_some, length, vec_capacity, vec_len, IfErr};
 ghost use Rattle.mesa_asking.specs.Closing.{IsPageOf, IsToClose, cause_if, cause_of, closing_entry, closing_text};
 ghost use Rattle.mesa_tasks.specs.Errors.{HasDiffered};
 ghost use Rattle.mesa_history.specs.Run.{Finished};
@@ -12,8 +12,9 @@ ghost use Rattle.mesa_model.specs.declared.entries.Kind.TheVariants as kind;
 ghost use Rattle.mesa_skeleton.specs.Rows.{Rows, no_rows};
 ghost use Rattle.mesa_tasks.specs.GivingBack.{SomeFailed, pinned_inputs};
 ghost use Rattle.mesa_walk.specs.Printing.{IsPut};
-ghost use Rattle.mesa_walk.specs.Queries.{closing_fault};
+ghost use Rattle.mesa_walk.specs.Queries.{closing_fault, closing_outcome};
 ghost use Rattle.mesa_walk.specs.Turns.{Takes};
+ghost use Rattle.mesa_walk.specs.Undamaged.{is_damaged};
 ghost use Rattle.mesa_walk.specs.Walk.{run_at};
 
 use crate::damages::may_be_told;
@@ -82,6 +83,8 @@ pub fn close_query<N: Naming, M: Made, D: Disk<M>, K: Sink>(
     requires due { (w : Rows) → IsToClose N.script (run_at N.script (N.start w) engine.old.shown.history) who.session who.command pinned.at (λ answer. N.sound w → IsPageOf answered pinned.version answer) }
     requires damaged { IfErr answered HasDiffered }
     requires read { closing_fault (cause_if answered) ≡ true → SomeFailed D.Reader.faults (pinned_inputs pinned) }
+    // Nor does damage come in its place.
+    requires undamaged { (w : Rows) → N.sound w → is_damaged (closing_outcome (cause_if answered)) ≡ false }
     requires room { length engine.old.shown.history < N.room }
     ensures turn { Takes N.script (N.start no_rows) engine.old.shown engine.new.shown who.session who.command kind.Close Finished }
     // What the query held is given back, unless the sink had failed.

@@ -1,6 +1,6 @@
 // The files of a session's query, and what holds them.
-ghost use Rattle.std.specs.Prelude.{◌≡◌, IfErr, IfOk, OnErr, OnOk, Some};
-ghost use Rattle.mesa_asking.specs.Opening.{HasItsFiles, asked_ledger, is_unread};
+ghost use Rattle.std.specs.Prelude.{◌≡◌, true, IfErr, IfOk, OnErr, OnOk, Some};
+ghost use Rattle.mesa_asking.specs.Opening.{HasItsFiles, HasUnsoundFile, asked_ledger, is_unread, tells_damage};
 ghost use Rattle.mesa_asking.specs.Seeing.{catalogue_asked};
 ghost use Rattle.mesa_disk.specs.Story.{Unmoved};
 ghost use Rattle.mesa_image.specs.Catalog.{Catalog as AnyCatalog};
@@ -39,6 +39,7 @@ pub(crate) fn hold_files<M: Made, D: Disk<M>>(
     ensures files { IfOk result (HasItsFiles D.Reader.bytes D.Reader.faults (D.story disk.old).told metadata.old.ledger session words.now) }
     ensures held { OnOk result (metadata.new ≡ with_ledger (asked_ledger metadata.old.ledger session words.now.version at) metadata.old) }
     ensures refused { IfErr result (λ failure. HasNoAnswer (books_of no_rows metadata.old.ledger) session words.now (cause_in failure)) }
+    ensures unsound { IfErr result (λ failure. tells_damage failure ≡ true → HasUnsoundFile (D.story disk.old).told metadata.old.ledger session words.now) }
     ensures kept { OnErr result (metadata.new ≡ metadata.old) }
 {
     let pinned = match files_asked(alloc, disk, metadata, session, words, at) {

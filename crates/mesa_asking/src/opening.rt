@@ -1,7 +1,7 @@
 // The files of a session's query.
-ghost use Rattle.std.specs.Prelude.{◌≡◌, ◌≢◌, ℕ, IfErr, IfOk, Some};
+ghost use Rattle.std.specs.Prelude.{◌≡◌, ◌≢◌, ℕ, true, IfErr, IfOk, Some};
 ghost use Rattle.mesa_asking.specs.Closing.{cause_of};
-ghost use Rattle.mesa_asking.specs.Opening.{HasItsFiles, cause_refused, is_unread};
+ghost use Rattle.mesa_asking.specs.Opening.{HasItsFiles, HasUnsoundFile, cause_refused, is_unread, tells_damage};
 ghost use Rattle.mesa_asking.specs.Seeing.{catalogue_asked};
 ghost use Rattle.mesa_delta.specs.declared.error.FileError.TheVariants as file_error;
 ghost use Rattle.mesa_disk.specs.Story.{Unmoved};
@@ -43,6 +43,7 @@ pub(crate) fn files_asked<M: Made, D: Disk<M>>(
     ensures pinned { IfOk result (λ p. (s : Columns) × IsPinned D.Reader.bytes s p) }
     ensures files { IfOk result (HasItsFiles D.Reader.bytes D.Reader.faults (D.story disk.old).told metadata.now.ledger session words.now) }
     ensures refused { IfErr result (λ failure. HasNoAnswer (books_of no_rows metadata.now.ledger) session words.now (cause_in failure)) }
+    ensures unsound { IfErr result (λ failure. tells_damage failure ≡ true → HasUnsoundFile (D.story disk.old).told metadata.now.ledger session words.now) }
 {
     let Asked { catalog, found } = match ask(alloc, metadata, session, words) {
         Ok(asked) => asked,

@@ -24,6 +24,7 @@ use Rattle.mesa_skeleton.specs.Rows.{Rows}
 use Rattle.mesa_walk.specs.Causes.{Cause, Unwritten, is_read_fault, outcome_of, reply_of, told_at}
 use Rattle.mesa_walk.specs.Printing.{IsPut}
 use Rattle.mesa_walk.specs.Turns.{Shown, IsSeen, Takes, entry}
+use Rattle.mesa_walk.specs.Undamaged.{is_damaged}
 use Rattle.mesa_walk.specs.Walk.{Outset, Counts, IsAtClock, run_at, run_of}
 use Rattle.mesa_walk.proofs.Clock.{begun_moment}
 use Rattle.mesa_walk.proofs.Going.{unmerged_takes}
@@ -107,13 +108,18 @@ module _ (o : Outset) (g : Origin) (sound : Bool) (l : Ledger) (story : Story) (
       still_vault o g sound l story held h running refused v (turn_with (closing_cause (Some p) error)) new new_held now (refused || true) unmoved
       (shut_turn o sound (books_of v.rows l) story held h running refused v.walk s number low few name m ran at place moment new unmoved claim due p is quiet now new_held put)
 
+-- a vault that has closed tells no damage
+shut_undamaged : (closed : Option ℕ) (error : CompactError) → is_damaged (outcome_of (cause_of error)) ≡ false → is_damaged (outcome_of (closing_cause closed error)) ≡ false
+shut_undamaged None error is = is
+shut_undamaged (Some position) error is = refl
+
 -- ---- the engine behind it
 
 module _ {K R : Type 0} (held : K → Option (List ℕ)) (faults : K → ℕ) (n : Starts) (turns sinks : ℕ) (m after : Memory) (story new : Story) (log later : Log K) (v : IsEngine held faults n turns sinks m story log)
     (s number : ℕ) (low : s < 2 ^ 16) (few : number < 2 ^ 32) (name : List ℕ) (mo : ℕ) (moment : mo ≡ story.moment) (fits : mo < 2 ^ 64) (ran : not log.printer.broken ≡ true) (at : ℕ) (place : at ≡ length log.history.items) (claim : Claim)
     (due : (w : Rows) → IsDue n.script (run_at n.script (n.start w) log.history.items) s number (command.Work name) (Granted claim)) (unmoved : Unmoved story new)
     (failures : R → ℕ) (inputs : List (Input R)) (given : GivesBack failures inputs story new) (error : CompactError) (read : is_read_fault (cause_of error) ≡ true → SomeFailed failures inputs) (tells : TellsDamage (cause_of error))
-    (cause : Cause) (cause_is : cause ≡ closing_cause m.ledger.closed error)
+    (undamaged : (w : Rows) → n.sound w → is_damaged (outcome_of (cause_of error)) ≡ false) (cause : Cause) (cause_is : cause ≡ closing_cause m.ledger.closed error)
     (grew : later.history.items ≡ log.history.items ++ entry s number kind.Close (outcome_of cause) mo ∷ []) (roomy : vec_capacity log.history ≤ vec_capacity later.history)
     (is : after ≡ with_ledger (closing_ledger m.ledger.closed error (mo == last) at claim.table claim.lease m.ledger) m) where
   abbrev e : Entry
@@ -121,7 +127,8 @@ module _ {K R : Type 0} (held : K → Option (List ℕ)) (faults : K → ℕ) (n
 
   pub given_up_engine : PrintsBlock held faults log.printer later.printer (entry s number kind.Close (outcome_of cause) mo) (told_at at (reply_of cause)) → later.refused ≡ (log.refused || is_refusal (reply_of cause)) → IsEngine held faults n turns sinks after new later
   given_up_engine prints refused =
-      told_engine held faults n turns sinks m after story new log later e v grew roomy (moment ∙ sym unmoved.moment) (omega (arith, unmoved.moment)) (let same = ap (λ (x : Memory). x.leased) is in omega (arith, same, v.leased)) (told_at at (reply_of cause)) (is_refusal (reply_of cause)) prints refused
+      told_engine held faults n turns sinks m after story new log later e v grew roomy (moment ∙ sym unmoved.moment) (omega (arith, unmoved.moment)) (let same = ap (λ (x : Memory). x.leased) is in omega (arith, same, v.leased))
+      (λ w sound. ap (λ k. is_damaged (outcome_of k)) cause_is ∙ shut_undamaged m.ledger.closed error (undamaged w sound)) (told_at at (reply_of cause)) (is_refusal (reply_of cause)) prints refused
       (λ put w b ok.
       subst (λ (x : Memory). IsVault (outset_of n w) (n.origin w) b x.ledger new (held later.printer.sink) (log.history.items ++ e ∷ []) (not later.printer.broken) (log.refused || is_refusal (reply_of cause))) (sym is)
       (subst (λ (x : Cause). IsPut (block (entry s number kind.Close (outcome_of x) mo) (Some (told_at at (reply_of x)))) (not later.printer.broken) (held log.printer.sink) (held later.printer.sink)

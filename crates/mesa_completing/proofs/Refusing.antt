@@ -23,6 +23,7 @@ use Rattle.mesa_skeleton.specs.Rows.{Rows, no_rows}
 use Rattle.mesa_walk.specs.Causes.{Cause, outcome_of, reply_of, told_at}
 use Rattle.mesa_walk.specs.Printing.{IsPut}
 use Rattle.mesa_walk.specs.Turns.{Shown, IsSeen, Takes, entry}
+use Rattle.mesa_walk.specs.Undamaged.{is_damaged}
 use Rattle.mesa_walk.specs.Walk.{run_at, run_of}
 use Rattle.mesa_walk.proofs.Going.{complete_takes}
 use Rattle.mesa_walk.proofs.Turning.{counts_same, stays}
@@ -51,6 +52,11 @@ module _ (n : Starts) (w : Rows) (sound : Bool) (l : Ledger) (story : Story) (he
       leased_vault (outset_of n w) (n.origin w) sound l story held h running refused v (entry s number kind.Close (outcome_of (cause_met why.Memory)) m) story new_held now (refused || true) (stays story) (ended claim.table claim.lease l.leases) few_granted
       (starved_turn (outset_of n w) sound (books_of v.rows l) story held h running refused v.walk s number low few name m ran at place moment story (stays story) claim due has (counts_same story) now new_held put)
 
+-- no damage keeps a range from being swapped in
+refused_undamaged : (e : Unswapped) → is_damaged (outcome_of (cause_met e)) ≡ false
+refused_undamaged (why.Refused refusal) = refl
+refused_undamaged why.Memory = refl
+
 -- ---- the engine behind it
 
 module _ {K : Type 0} (held : K → Option (List ℕ)) (faults : K → ℕ) (n : Starts) (turns sinks : ℕ) (m after : Memory) (story : Story) (log later : Log K) (v : IsEngine held faults n turns sinks m story log)
@@ -61,7 +67,7 @@ module _ {K : Type 0} (held : K → Option (List ℕ)) (faults : K → ℕ) (n :
     (is : after ≡ with_ledger (unswapped_ledger e claim.table claim.lease m.ledger) m) where
   pub unswapped_engine : PrintsBlock held faults log.printer later.printer (entry s number kind.Close (outcome_of cause) mo) (told_at (length log.history.items) (reply_of cause)) → later.refused ≡ (log.refused || is_refusal (reply_of cause)) → IsEngine held faults n turns sinks after story later
   unswapped_engine prints refused =
-      told_engine held faults n turns sinks m after story story log later (entry s number kind.Close (outcome_of cause) mo) v grew roomy moment (omega arith) (let same = ap (λ (x : Memory). x.leased) is in omega (arith, same, v.leased)) (told_at (length log.history.items) (reply_of cause)) (is_refusal (reply_of cause)) prints refused
+      told_engine held faults n turns sinks m after story story log later (entry s number kind.Close (outcome_of cause) mo) v grew roomy moment (omega arith) (let same = ap (λ (x : Memory). x.leased) is in omega (arith, same, v.leased)) (λ w sound. ap (λ k. is_damaged (outcome_of k)) cause_is ∙ refused_undamaged e) (told_at (length log.history.items) (reply_of cause)) (is_refusal (reply_of cause)) prints refused
       (λ put w b ok.
       subst (λ (x : Memory). IsVault (outset_of n w) (n.origin w) b x.ledger story (held later.printer.sink) (log.history.items ++ entry s number kind.Close (outcome_of cause) mo ∷ []) (not later.printer.broken) (log.refused || is_refusal (reply_of cause))) (sym is)
       (subst (λ (x : Cause). IsPut (block (entry s number kind.Close (outcome_of x) mo) (Some (told_at (length log.history.items) (reply_of x)))) (not later.printer.broken) (held log.printer.sink) (held later.printer.sink)

@@ -84,7 +84,7 @@ module _ {K : Type 0} (held : K → Option (List ℕ)) (faults : K → ℕ) (n :
         → PrintsBlock held faults log.printer later.printer (entry session number kind.Close outcome.Stands moment) (told_at (length log.history.items) (swapped_reply t.work)) → later.refused ≡ (log.refused || is_refusal (swapped_reply t.work))
         → IsEngine held faults n turns sinks after new later
     swapped_engine end whole counts ledger_is rises leased grew roomy prints refused =
-        told_engine held faults n turns sinks m after story new log later (entry session number kind.Close outcome.Stands moment) v grew roomy moment_is worked.passes.later (let a = v.leased in omega (arith, a, leased))
+        told_engine held faults n turns sinks m after story new log later (entry session number kind.Close outcome.Stands moment) v grew roomy moment_is worked.passes.later (let a = v.leased in omega (arith, a, leased)) (λ w sound. refl)
         (told_at (length log.history.items) (swapped_reply t.work)) false prints (refused ∙ ap (λ b. log.refused || b) (swap_told t.work))
         (λ put w b ok. subst (λ l. IsVault (outset_of n w) (n.origin w) b l new (held later.printer.sink) (h ++ entry session number kind.Close outcome.Stands moment ∷ []) (not later.printer.broken) (log.refused || false)) (sym ledger_is)
         (swap_ends n w b m.ledger story (held log.printer.sink) h (not log.printer.broken) log.refused (v.vault w b ok) session number low few ran bytes read was t s is typed name (due w) (length h) refl checked (λ on. has w (ok on)) (λ on. tell w (ok on))
@@ -96,7 +96,7 @@ module _ {K : Type 0} (held : K → Option (List ℕ)) (faults : K → ℕ) (n :
         → PrintsBlock held faults log.printer later.printer (entry session number kind.Close outcome.WriteFault moment) (told_at (length log.history.items) (reply_of Unwritten)) → later.refused ≡ (log.refused || true)
         → IsEngine held faults n turns sinks after new later
     unswapped_engine counts ledger_is leased grew roomy prints refused =
-        told_engine held faults n turns sinks m after story new log later (entry session number kind.Close outcome.WriteFault moment) v grew roomy moment_is worked.passes.later (let a = v.leased in omega (arith, a, leased))
+        told_engine held faults n turns sinks m after story new log later (entry session number kind.Close outcome.WriteFault moment) v grew roomy moment_is worked.passes.later (let a = v.leased in omega (arith, a, leased)) (λ w sound. refl)
         (told_at (length log.history.items) (reply_of Unwritten)) true prints refused
         (λ put w b ok. subst (λ l. IsVault (outset_of n w) (n.origin w) b l new (held later.printer.sink) (h ++ entry session number kind.Close outcome.WriteFault moment ∷ []) (not later.printer.broken) (log.refused || true)) (sym ledger_is)
         (swap_fails n w b m.ledger story (held log.printer.sink) h (not log.printer.broken) log.refused (v.vault w b ok) session number low few ran bytes read was t s is typed name (due w) (length h) refl checked (λ on. has w (ok on)) (λ on. tell w (ok on))

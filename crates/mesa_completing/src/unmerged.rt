@@ -1,5 +1,5 @@
 // A work's last turn where its merge failed.
-ghost use Rattle.std.specs.Prelude.{◌≡◌, ◌<◌, ◌==◌, true, length};
+ghost use Rattle.std.specs.Prelude.{◌≡◌, ◌<◌, ◌==◌, true, false, length};
 ghost use Rattle.mesa_fault.specs.Causes.{last};
 ghost use Rattle.mesa_history.specs.Run.{Finished, Granted};
 ghost use Rattle.mesa_history.specs.Turns.{IsDue};
@@ -7,11 +7,12 @@ ghost use Rattle.mesa_log.specs.Failure.{cause_in};
 ghost use Rattle.mesa_metadata.specs.Memory.{with_ledger};
 ghost use Rattle.mesa_model.specs.declared.commands.Command.TheVariants as command;
 ghost use Rattle.mesa_model.specs.declared.entries.Kind.TheVariants as kind;
-ghost use Rattle.mesa_skeleton.specs.Rows.{no_rows};
+ghost use Rattle.mesa_skeleton.specs.Rows.{Rows, no_rows};
 ghost use Rattle.mesa_tasks.specs.GivingBack.{SomeFailed, task_inputs};
 ghost use Rattle.mesa_tasks.specs.declared.merging.CompactError.TheVariants as compact;
-ghost use Rattle.mesa_walk.specs.Causes.{is_read_fault};
+ghost use Rattle.mesa_walk.specs.Causes.{is_read_fault, outcome_of};
 ghost use Rattle.mesa_walk.specs.Turns.{AnswersDraft, Takes};
+ghost use Rattle.mesa_walk.specs.Undamaged.{is_damaged};
 ghost use Rattle.mesa_walk.specs.Walk.{run_at};
 ghost use Rattle.mesa_tasks.specs.Tasks.{claim_in};
 ghost use Rattle.mesa_completing.specs.Unmerged.{MergeDiffered, TellsDamage, cause_of, closing_cause, closing_ledger, unmerged_ledger};
@@ -103,6 +104,8 @@ pub fn give_up<N: Naming, M: Made, D: Disk<M>, K: Sink>(
     requires table { task.table < TABLES }
     requires read { is_read_fault (cause_of error) ≡ true → SomeFailed D.Reader.faults (task_inputs task) }
     requires damaged { MergeDiffered error }
+    // On a sound store no damage comes of a merge.
+    requires undamaged { (w : Rows) → N.sound w → is_damaged (outcome_of (cause_of error)) ≡ false }
     requires room { length engine.old.shown.history < N.room }
     ensures turn { Takes N.script (N.start no_rows) engine.old.shown engine.new.shown who.session who.command kind.Close Finished }
     ensures draft { AnswersDraft N.script (N.start no_rows) engine.old.shown engine.new.shown who.session (error ≡ compact.Draft) }

@@ -16,9 +16,10 @@ use Rattle.mesa_history.specs.Run.{State, Stage, Told, begins, place_of}
 use Rattle.mesa_history.specs.Turns.{IsDue, place_then}
 use Rattle.mesa_output.specs.Output.{block}
 use Rattle.mesa_printer.specs.declared.printer.Printer.{Printer}
-use Rattle.mesa_skeleton.specs.Rows.{no_rows}
+use Rattle.mesa_skeleton.specs.Rows.{Rows, no_rows}
 use Rattle.mesa_walk.specs.Printing.{IsPut}
 use Rattle.mesa_walk.specs.Turns.{Shown, IsSeen, Takes, entry}
+use Rattle.mesa_walk.specs.Undamaged.{NoneDamaged, is_damaged}
 use Rattle.mesa_walk.specs.Walk.{Counts, run_at}
 use Rattle.mesa_log.specs.declared.log.Log.{Log}
 use Rattle.mesa_log.specs.Printing.{GoesOn, PrintsBlock}
@@ -41,7 +42,8 @@ module _ {K : Type 0} (faults : K → ℕ) (sinks : ℕ) (old new : Printer K) (
       by false was = subst (λ x. Rose x (faults new.sink)) (whole was) (goes.cause was is)
 
 module _ {K : Type 0} (held : K → Option (List ℕ)) (faults : K → ℕ) (n : Starts) (turns sinks : ℕ) (m after : Memory) (story new : Story) (log later : Log K) (e : Entry) (v : IsEngine held faults n turns sinks m story log)
-    (grew : later.history.items ≡ log.history.items ++ e ∷ []) (roomy : vec_capacity log.history ≤ vec_capacity later.history) (moment : e.moment ≡ new.moment) (passes : story.moment ≤ new.moment) (leased : after.leased ≤ length log.history.items + 1) where
+    (grew : later.history.items ≡ log.history.items ++ e ∷ []) (roomy : vec_capacity log.history ≤ vec_capacity later.history) (moment : e.moment ≡ new.moment) (passes : story.moment ≤ new.moment) (leased : after.leased ≤ length log.history.items + 1)
+    (undamaged : (w : Rows) → n.sound w → is_damaged e.outcome ≡ false) where
   longer : length later.history.items ≡ length log.history.items + 1
   longer = ap length grew ∙ length-append log.history.items (e ∷ [])
 
@@ -59,6 +61,7 @@ module _ {K : Type 0} (held : K → Option (List ℕ)) (faults : K → ℕ) (n :
     failed = has_failed faults sinks log.printer later.printer goes v.failed v.whole;
     whole = still_whole faults sinks log.printer later.printer goes v.failed v.whole;
     first = λ none. absurd (let empty : length later.history.items ≡ 0 = ap length none in omega (arith, empty, longer));
+    undamaged = λ w sound. subst NoneDamaged (sym grew) (all_more (λ (x : Entry). is_damaged x.outcome ≡ false) log.history.items e (v.undamaged w sound) (undamaged w sound));
   }
 
   -- a turn that prints nothing
@@ -88,6 +91,7 @@ unmoved_engine held faults n turns sinks m story new log same counts v = record 
   failed = v.failed;
   whole = v.whole;
   first = v.first;
+  undamaged = v.undamaged;
 }
 
 -- ---- places

@@ -26,6 +26,7 @@ use Rattle.mesa_walk.specs.Changes.{Doing, IsDecided, HasFailed, HasNoPlan, fail
 use Rattle.mesa_walk.specs.Printing.{IsPut}
 use Rattle.mesa_walk.specs.Queries.{HasNoAnswer}
 use Rattle.mesa_walk.specs.Turns.{Shown, IsSeen, Takes, entry, is_simple}
+use Rattle.mesa_walk.specs.Undamaged.{is_damaged}
 use Rattle.mesa_walk.specs.Walk.{Outset, Counts, WalksOn, run_of}
 use Rattle.mesa_walk.specs.Works.{HasNoClaim}
 use Rattle.mesa_walk.proofs.Asking.{unpinned_turn, unpinned_ends}
@@ -99,14 +100,22 @@ deciding_unanswered (command.Work name) = refl
 same_books : (cause : Cause) (b : Bool) (at : ℕ) (books : Books) → is_of_device cause ≡ false → failed_books cause b at books ≡ books
 same_books (Replies r) b at books quiet = refl
 same_books Unread b at books quiet = cc
-same_books (Damaged damage) b at books quiet = refl
+same_books (Damaged damage) b at books quiet = cc
 same_books Unwritten b at books quiet = cc
 same_books NoMemory b at books quiet = refl
+
+-- nor does it meet damage
+pub quiet_undamaged : (cause : Cause) → is_of_device cause ≡ false → is_damaged (outcome_of cause) ≡ false
+quiet_undamaged (Replies r) quiet = refl
+quiet_undamaged Unread quiet = cc
+quiet_undamaged (Damaged damage) quiet = cc
+quiet_undamaged Unwritten quiet = cc
+quiet_undamaged NoMemory quiet = refl
 
 no_fault : (cause : Cause) → is_of_device cause ≡ false → is_read_fault cause ≡ false
 no_fault (Replies r) quiet = refl
 no_fault Unread quiet = cc
-no_fault (Damaged damage) quiet = refl
+no_fault (Damaged damage) quiet = cc
 no_fault Unwritten quiet = cc
 no_fault NoMemory quiet = refl
 

@@ -7,6 +7,7 @@ use Rattle.mesa_model.specs.declared.commands.Script.{Script}
 use Rattle.mesa_history.specs.Run.{State}
 use Rattle.mesa_skeleton.specs.Rows.{Rows}
 use Rattle.mesa_walk.specs.Turns.{Shown}
+use Rattle.mesa_walk.specs.Undamaged.{NoneDamaged}
 use Rattle.mesa_log.specs.declared.log.Log.{Log}
 use Rattle.mesa_ledger.specs.Ledger.{Ledger}
 use Rattle.mesa_ledger.specs.Vault.{Origin, Starts, IsVaultAt}
@@ -25,7 +26,7 @@ pub record Standing : Type 0 where
 abbrev pub most_turns : ℕ
 most_turns = 2 ^ 20
 
--- What an engine keeps: it is a vault, with room for each turn that the run may have yet. No lease was granted or renewed behind the last turn; no entry is from before the run; the sink's count of faults rose in the run exactly where its printer is broken; and before the first turn the sink has what it had at the start.
+-- What an engine keeps: it is a vault, with room for each turn that the run may have yet. No lease was granted or renewed behind the last turn; no entry is from before the run; the sink's count of faults rose in the run exactly where its printer is broken; before the first turn the sink has what it had at the start; and where the store was sound no entry met damage.
 pub record IsEngine {K : Type 0} (held : K → Option (List ℕ)) (faults : K → ℕ) (n : Starts) (turns sinks : ℕ) (m : Memory) (story : Story) (log : Log K) : Type 0 where
   pub vault : IsVaultAt n m.ledger story (held log.printer.sink) log.history.items (not log.printer.broken) log.refused
   pub room : turns ≤ vec_capacity log.history
@@ -35,3 +36,4 @@ pub record IsEngine {K : Type 0} (held : K → Option (List ℕ)) (faults : K �
   pub failed : log.printer.broken ≡ true → Rose sinks (faults log.printer.sink)
   pub whole : log.printer.broken ≡ false → faults log.printer.sink ≡ sinks
   pub first : log.history.items ≡ [] → held log.printer.sink ≡ n.at_start
+  pub undamaged : (w : Rows) → n.sound w → NoneDamaged log.history.items

@@ -13,7 +13,7 @@ use Rattle.mesa_history.specs.Run.{Stage, First, Looked, Run}
 use Rattle.mesa_history.specs.Legal.{is_due_at}
 use Rattle.mesa_history.specs.Turns.{IsDue}
 use Rattle.mesa_walk.specs.Books.{Books}
-use Rattle.mesa_walk.specs.Causes.{Cause, Unread, Unwritten}
+use Rattle.mesa_walk.specs.Causes.{Cause, Unread, Damaged, Unwritten}
 use Rattle.mesa_walk.specs.Changes.{HasFailed, HasNoPlan}
 use Rattle.mesa_walk.specs.Queries.{HasNoAnswer}
 use Rattle.mesa_walk.specs.Works.{HasNoClaim}
@@ -48,13 +48,14 @@ HasNotDone books position session (command.Explain words) cause = HasNoPlan book
 HasNotDone books position session (command.Query words) cause = HasNoAnswer books session words cause
 HasNotDone books position session (command.Work name) cause = HasNoClaim books position name cause
 
--- whether a device has to have failed for a cause
+-- whether a device has to have failed for a cause, or a file to be damaged
 abbrev pub is_of_device : Cause → Bool
 is_of_device Unread = true
+is_of_device (Damaged damage) = true
 is_of_device Unwritten = true
 is_of_device cause = false
 
--- The turn that decides a command does nothing for it, for a cause for which no device has to have failed.
+-- The turn that decides a command does nothing for it, for a cause for which no device has to have failed, and no file to be damaged.
 pub record Fails (script : Script) (r : Run) (books : Books) (position session number : ℕ) (k : Kind) (cause : Cause) : Type 0 where
   pub asked : Command
   pub due : IsDue script r session number asked (deciding_stage asked)

@@ -10,6 +10,7 @@ ghost use Rattle.mesa_ledger.specs.Vault.{outset_of};
 ghost use Rattle.mesa_metadata.specs.Memory.{opened_ledger};
 ghost use Rattle.mesa_skeleton.specs.Rows.{Rows, no_rows};
 ghost use Rattle.mesa_walk.specs.Printing.{IsPrinted};
+ghost use Rattle.mesa_walk.specs.Undamaged.{NoneDamaged};
 ghost use Rattle.mesa_walk.specs.Walk.{AllFound, HasCounted, faults_in, run_at};
 
 use crate::Engine;
@@ -82,6 +83,9 @@ impl<N: Naming, M: Made, D: Disk<M>, K: Sink> Engine<N, M, D, K> {
 
         // A run without a turn left the sink as it was.
         ensures first { result.2.items ≡ [] → K.held result.1 ≡ N.at_start }
+
+        // On a sound store no entry met damage.
+        ensures undamaged { (w : Rows) → N.sound w → NoneDamaged result.2.items }
 
         // On a sound store, while the clock is below its last value, what was printed is its output, and what a crash may have left is found.
         ensures printed { (w : Rows) → N.sound w → (D.story result.0).moment < last → IsPrinted N.script (begins (N.start w)) result.2.items self.shown.running N.at_start (K.held result.1) }

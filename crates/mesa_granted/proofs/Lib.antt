@@ -2,3 +2,4 @@ pub mod Same
 pub mod Merged
 pub mod Going
 pub mod Later
+pub mod Bounded

@@ -8,7 +8,8 @@ ghost use Rattle.mesa_image_laws.specs.Sourced.{Written};
 ghost use Rattle.mesa_ledger.specs.Vault.{Origin};
 ghost use Rattle.mesa_model.specs.declared.commands.Script.{Script as AnyScript};
 ghost use Rattle.mesa_model.specs.declared.entries.Entry.{Entry as AnyEntry};
-ghost use Rattle.mesa_schema.specs.Changes.{Lineage};
+ghost use Rattle.mesa_compact.specs.Bounded.{AreBounded, IsBounded};
+ghost use Rattle.mesa_schema.specs.Changes.{Lineage, columns_of};
 ghost use Rattle.mesa_schema.specs.Lineages.{IsLineage};
 ghost use Rattle.mesa_service.specs.Works.{known_task};
 ghost use Rattle.mesa_swapping.specs.Finished.{HasRange};
@@ -47,4 +48,9 @@ pub fn tables_go_on()
 pub fn ranges_go_on<R: FileReader>(task: &Task<R>)
     ensures { (was : Lineage) (script : AnyScript) (start : State) (origin : Origin) (past later : List AnyEntry) → last_of task.now.work < (run_at script start past).state.warehouse.next
         → HasRange R.bytes was task.now (written_at script start origin past task.now.table) → HasRange R.bytes was task.now (written_at script start origin (past ++ later) task.now.table) }
+{}
+
+/// Where the files of a task keep their sums by what was known of it at its grant, they keep them by whatever columns it is merged.
+pub fn bounds_are_known<R: FileReader>(task: &Task<R>)
+    ensures { (was l : Lineage) → IsKnownOf was (known_task R.bytes task.now) → IsTask R.bytes l task.now → AreBounded (columns_of was) (known_task R.bytes task.now).files → IsBounded R.bytes l task.now }
 {}

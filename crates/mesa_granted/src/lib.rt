@@ -4,4 +4,7 @@
 
 mod laws;
 
-pub use laws::{grants_are_known, merges_are_known, ranges_are_known, ranges_go_on, tables_go_on};
+pub use laws::{
+    bounds_are_known, grants_are_known, merges_are_known, ranges_are_known, ranges_go_on,
+    tables_go_on,
+};

@@ -29,6 +29,8 @@ use Rattle.mesa_tasks.specs.declared.opening.Unopened.TheVariants as un
 use Rattle.mesa_walk.specs.Causes.{Cause, Replies, Unread, Damaged, Unwritten, NoMemory, is_read_fault, outcome_of, reply_of, told_at}
 use Rattle.mesa_walk.specs.Printing.{IsPut}
 use Rattle.mesa_walk.specs.Turns.{Shown, IsSeen, Takes, entry}
+use Rattle.mesa_walk.specs.Books.{Books}
+use Rattle.mesa_walk.specs.Undamaged.{is_damaged}
 use Rattle.mesa_walk.specs.Walk.{Outset, Counts, run_at, run_of}
 use Rattle.mesa_walk.specs.Works.{HasNoClaim}
 use Rattle.mesa_walk.proofs.Going.{takes_as}
@@ -102,6 +104,14 @@ module _ (o : Outset) (g : Origin) (sound : Bool) (l : Ledger) (story : Story) (
 
 -- ---- the engine behind it
 
+-- no damage keeps a work from its claim
+claim_undamaged : (books : Books) (at : ℕ) (name : List ℕ) (cause : Cause) → HasNoClaim books at name cause → is_damaged (outcome_of cause) ≡ false
+claim_undamaged books at name (Replies r) has = refl
+claim_undamaged books at name Unread has = refl
+claim_undamaged books at name (Damaged damage) has = absurd has
+claim_undamaged books at name Unwritten has = refl
+claim_undamaged books at name NoMemory has = refl
+
 module _ {K : Type 0} (held : K → Option (List ℕ)) (faults : K → ℕ) (n : Starts) (turns sinks : ℕ) (m : Memory) (story new : Story) (log later : Log K) (v : IsEngine held faults n turns sinks m story log) (unmoved : Unmoved story new)
     (s number : ℕ) (low : s < 2 ^ 16) (few : number < 2 ^ 32) (name : List ℕ) (mo : ℕ) (moment : mo ≡ new.moment) (ran : not log.printer.broken ≡ true) (at : ℕ) (place : at ≡ length log.history.items)
     (due : (w : Rows) → IsDue n.script (run_at n.script (n.start w) log.history.items) s number (command.Work name) First) (roomy : vec_capacity log.history ≤ vec_capacity later.history) where
@@ -114,14 +124,14 @@ module _ {K : Type 0} (held : K → Option (List ℕ)) (faults : K → ℕ) (n :
   pub granted_engine : (claim : Claim) (after : Memory) → claim_of (books_of no_rows m.ledger).bare (books_of no_rows m.ledger).machine at name ≡ Ok claim → Counts story new false → after ≡ with_leases (granted claim.table at m.ledger.leases) (at + 1) m
       → later.history.items ≡ log.history.items ++ entry s number kind.Grant outcome.Stands mo ∷ [] → later.printer ≡ log.printer → later.refused ≡ log.refused → IsEngine held faults n turns sinks after new later
   granted_engine claim after is counts gives grew printer refused =
-      passed_engine held faults n turns sinks m after story new log later (entry s number kind.Grant outcome.Stands mo) v grew roomy moment not_earlier (let same = ap (λ (x : Memory). x.leased) gives in omega (arith, same, place)) printer refused
+      passed_engine held faults n turns sinks m after story new log later (entry s number kind.Grant outcome.Stands mo) v grew roomy moment not_earlier (let same = ap (λ (x : Memory). x.leased) gives in omega (arith, same, place)) (λ w sound. refl) printer refused
       (λ w b ok. subst (λ (x : Memory). IsVault (outset_of n w) (n.origin w) b x.ledger new (held log.printer.sink) (log.history.items ++ entry s number kind.Grant outcome.Stands mo ∷ []) (not log.printer.broken) log.refused) (sym gives)
       (granted_vault (outset_of n w) (n.origin w) b m.ledger story (held log.printer.sink) log.history.items (not log.printer.broken) log.refused (v.vault w b ok) s number low few name mo same_moment ran at place (due w) new unmoved claim is counts))
 
   pub ungranted_engine : (cause : Cause) → HasNoClaim (books_of no_rows m.ledger) at name cause → Counts story new (is_read_fault cause) → later.history.items ≡ log.history.items ++ entry s number kind.Grant (outcome_of cause) mo ∷ []
       → PrintsBlock held faults log.printer later.printer (entry s number kind.Grant (outcome_of cause) mo) (told_at at (reply_of cause)) → later.refused ≡ (log.refused || is_refusal (reply_of cause)) → IsEngine held faults n turns sinks m new later
   ungranted_engine cause has counts grew prints refused =
-      told_engine held faults n turns sinks m m story new log later (entry s number kind.Grant (outcome_of cause) mo) v grew roomy moment not_earlier (let leased = v.leased in omega arith) (told_at at (reply_of cause)) (is_refusal (reply_of cause)) prints refused
+      told_engine held faults n turns sinks m m story new log later (entry s number kind.Grant (outcome_of cause) mo) v grew roomy moment not_earlier (let leased = v.leased in omega arith) (λ w sound. claim_undamaged (books_of no_rows m.ledger) at name cause has) (told_at at (reply_of cause)) (is_refusal (reply_of cause)) prints refused
       (λ put w b ok. ungranted_vault (outset_of n w) (n.origin w) b m.ledger story (held log.printer.sink) log.history.items (not log.printer.broken) log.refused (v.vault w b ok) s number low few name mo same_moment ran at place (due w) new unmoved cause has counts (not later.printer.broken) (held later.printer.sink) put)
 
 -- ---- where it takes its session

@@ -4,3 +4,4 @@ pub mod Renewals
 pub mod WholeFiles
 pub mod Sound
 pub mod Ranges
+pub mod Bounded

@@ -77,14 +77,14 @@ module _ {K : Type 0} (held : K → Option (List ℕ)) (faults : K → ℕ) (n :
   pub renewed_engine : claim_checked (books_of no_rows m.ledger).bare (books_of no_rows m.ledger).machine at claim ≡ Ok tt → after ≡ with_leases (renewed claim.table claim.lease at m.ledger.leases) (at + 1) m → later.printer ≡ log.printer → later.refused ≡ log.refused
       → IsEngine held faults n turns sinks after story later
   renewed_engine holds is printer refused =
-      passed_engine held faults n turns sinks m after story story log later (entry s number kind.Renew outcome.Stands mo) v grew roomy moment (omega arith) (let same = ap (λ (x : Memory). x.leased) is in omega (arith, same, place)) printer refused
+      passed_engine held faults n turns sinks m after story story log later (entry s number kind.Renew outcome.Stands mo) v grew roomy moment (omega arith) (let same = ap (λ (x : Memory). x.leased) is in omega (arith, same, place)) (λ w sound. refl) printer refused
       (λ w b ok. subst (λ (x : Memory). IsVault (outset_of n w) (n.origin w) b x.ledger story (held log.printer.sink) (log.history.items ++ entry s number kind.Renew outcome.Stands mo ∷ []) (not log.printer.broken) log.refused) (sym is)
       (renewed_vault (outset_of n w) (n.origin w) b m.ledger story (held log.printer.sink) log.history.items (not log.printer.broken) log.refused (v.vault w b ok) s number low few name mo moment ran at place claim (due w) no_rows holds))
 
   pub lost_engine : (x : Refusal) → claim_checked (books_of no_rows m.ledger).bare (books_of no_rows m.ledger).machine at claim ≡ Err x → after.ledger ≡ m.ledger → after.leased ≤ at + 1 → PrintsBlock held faults log.printer later.printer (entry s number kind.Renew outcome.Stands mo) (told_at at (reply.Refused x))
       → later.refused ≡ (log.refused || true) → IsEngine held faults n turns sinks after story later
   lost_engine x lost same leased prints refused =
-      told_engine held faults n turns sinks m after story story log later (entry s number kind.Renew outcome.Stands mo) v grew roomy moment (omega arith) (omega (arith, leased, place)) (told_at at (reply.Refused x)) true prints refused
+      told_engine held faults n turns sinks m after story story log later (entry s number kind.Renew outcome.Stands mo) v grew roomy moment (omega arith) (omega (arith, leased, place)) (λ w sound. refl) (told_at at (reply.Refused x)) true prints refused
       (λ put w b ok. subst (λ (l : Ledger). IsVault (outset_of n w) (n.origin w) b l story (held later.printer.sink) (log.history.items ++ entry s number kind.Renew outcome.Stands mo ∷ []) (not later.printer.broken) (log.refused || true)) (sym same)
       (lost_vault (outset_of n w) (n.origin w) b m.ledger story (held log.printer.sink) log.history.items (not log.printer.broken) log.refused (v.vault w b ok) s number low few name mo moment ran at place claim (due w) no_rows x lost (not later.printer.broken) (held later.printer.sink) put))
 

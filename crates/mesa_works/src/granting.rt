@@ -1,5 +1,6 @@
 // A work's grant.
 ghost use Rattle.std.specs.Prelude.{◌≡◌, ◌≢◌, ◌+◌, ◌<◌, ◌≤◌, ◌^◌, ℕ, List, true, length, None, Some, Ok, IfOk, IfSome, OnOk};
+ghost use Rattle.mesa_compact.specs.Bounded.{IsBounded};
 ghost use Rattle.mesa_gather.specs.Gathered.{unread_views};
 ghost use Rattle.mesa_history.specs.Machine.{claim_of};
 ghost use Rattle.mesa_history.specs.Run.{First, Granted};
@@ -56,8 +57,9 @@ pub fn grant<N: Naming, M: Made, D: Disk<M>, K: Sink>(
     ensures views { IfOk result (λ t. t.views.items ≡ unread_views 0 (length (stock_at engine.old.ledger.catalogue t.table).lineage.views)) }
     ensures damage { IfOk result (λ t. IfSome t.damage (λ d. d.want ≢ d.found)) }
 
-    // On a sound store no file was damaged, and it has all that was written in its range.
+    // On a sound store no file was damaged, no sum over them leaves its type, and it has all that was written in its range.
     ensures whole { (w : Rows) → N.sound w → IfOk result (λ t. t.damage ≡ None) }
+    ensures bounded { (w : Rows) → N.sound w → IfOk result (λ t. IsBounded D.Reader.bytes (stock_at engine.old.ledger.catalogue t.table).lineage t) }
     ensures range { (w : Rows) → N.sound w → IfOk result (λ t. HasRange D.Reader.bytes (stock_at engine.old.ledger.catalogue t.table).lineage t (written_at N.script (N.start w) (N.origin w) engine.new.shown.history t.table)) }
 {
     if !engine.running() {
@@ -94,6 +96,7 @@ fn take<N: Naming, M: Made, D: Disk<M>, K: Sink>(
     ensures views { IfOk result (λ t. t.views.items ≡ unread_views 0 (length (stock_at engine.old.ledger.catalogue t.table).lineage.views)) }
     ensures damage { IfOk result (λ t. IfSome t.damage (λ d. d.want ≢ d.found)) }
     ensures whole { (w : Rows) → N.sound w → IfOk result (λ t. t.damage ≡ None) }
+    ensures bounded { (w : Rows) → N.sound w → IfOk result (λ t. IsBounded D.Reader.bytes (stock_at engine.old.ledger.catalogue t.table).lineage t) }
     ensures range { (w : Rows) → N.sound w → IfOk result (λ t. HasRange D.Reader.bytes (stock_at engine.old.ledger.catalogue t.table).lineage t (written_at N.script (N.start w) (N.origin w) engine.new.shown.history t.table)) }
 {
     one_file();

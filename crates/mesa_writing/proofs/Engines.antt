@@ -67,7 +67,7 @@ module _ {K : Type 0} (held : K → Option (List ℕ)) (faults : K → ℕ) (n :
         → PrintsBlock held faults log.printer later.printer (entry session number kind.Decide outcome.Stands moment) (told_at at change.tells) → later.refused ≡ (log.refused || is_refusal change.tells)
         → IsEngine held faults n turns sinks after new later
     written_engine end whole counts ledger_is rises leased grew roomy prints refused =
-        told_engine held faults n turns sinks m after story new log later (entry session number kind.Decide outcome.Stands moment) v grew roomy moment_is worked.passes.later (let a = v.leased in omega (arith, a, leased))
+        told_engine held faults n turns sinks m after story new log later (entry session number kind.Decide outcome.Stands moment) v grew roomy moment_is worked.passes.later (let a = v.leased in omega (arith, a, leased)) (λ w sound. refl)
         (told_at at change.tells) (is_refusal change.tells) prints refused
         (λ put w b is. subst (λ l. IsVault (outset_of n w) (n.origin w) b l new (held later.printer.sink) (h ++ entry session number kind.Decide outcome.Stands moment ∷ []) (not later.printer.broken) (log.refused || is_refusal change.tells)) (sym ledger_is)
         (write_stands n w b m.ledger story (held log.printer.sink) h (not log.printer.broken) log.refused (v.vault w b is) session number low few ran bytes change n.script (run_at n.script (n.start no_rows) h) to (due_for w) typed (λ ok. tell w (is ok))
@@ -79,7 +79,7 @@ module _ {K : Type 0} (held : K → Option (List ℕ)) (faults : K → ℕ) (n :
         → PrintsBlock held faults log.printer later.printer (entry session number kind.Decide outcome.WriteFault moment) (told_at at (reply_of Unwritten)) → later.refused ≡ (log.refused || true)
         → IsEngine held faults n turns sinks after new later
     unwritten_engine counts ledger_is leased grew roomy prints refused =
-        told_engine held faults n turns sinks m after story new log later (entry session number kind.Decide outcome.WriteFault moment) v grew roomy moment_is worked.passes.later (let a = v.leased in omega (arith, a, leased))
+        told_engine held faults n turns sinks m after story new log later (entry session number kind.Decide outcome.WriteFault moment) v grew roomy moment_is worked.passes.later (let a = v.leased in omega (arith, a, leased)) (λ w sound. refl)
         (told_at at (reply_of Unwritten)) true prints refused
         (λ put w b is. subst (λ l. IsVault (outset_of n w) (n.origin w) b l new (held later.printer.sink) (h ++ entry session number kind.Decide outcome.WriteFault moment ∷ []) (not later.printer.broken) (log.refused || true)) (sym ledger_is)
         (write_fails n w b m.ledger story (held log.printer.sink) h (not log.printer.broken) log.refused (v.vault w b is) session number low few ran bytes change n.script (run_at n.script (n.start no_rows) h) to (due_for w) typed (λ ok. tell w (is ok))

@@ -170,7 +170,7 @@ module _ {K : Type 0} (held : K → Option (List ℕ)) (faults : K → ℕ) (n :
       → later.history.items ≡ log.history.items ++ entry s number kind.Decide outcome.WriteFault moment ∷ [] → vec_capacity log.history ≤ vec_capacity later.history
       → PrintsBlock held faults log.printer later.printer (entry s number kind.Decide outcome.WriteFault moment) (told_at at (reply_of Unwritten)) → later.refused ≡ (log.refused || true) → IsEngine held faults n turns sinks after story later
   undrafted_engine what leased grew roomy prints refused =
-      told_engine held faults n turns sinks m after story story log later (entry s number kind.Decide outcome.WriteFault moment) v grew roomy moment_is (omega arith) (let a = v.leased in omega (arith, a, leased))
+      told_engine held faults n turns sinks m after story story log later (entry s number kind.Decide outcome.WriteFault moment) v grew roomy moment_is (omega arith) (let a = v.leased in omega (arith, a, leased)) (λ w sound. refl)
       (told_at at (reply_of Unwritten)) true prints refused
       (λ put w b is.
       let due' = due_alike n.script (n.start no_rows) (n.start w) log.history.items s number (command.Load words) Looked (alike w) refl due in

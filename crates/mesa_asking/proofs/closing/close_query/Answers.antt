@@ -55,7 +55,7 @@ kept g c =
     closed_engine g.K.Sink.held g.K.Sink.faults n N.room N.sink_faults i.metadata c.close_query.new.self story new i.log c.print.new.log c.engine.invariant s number c.print.ensures.short.session c.print.ensures.short.command mo (moment_is g c) (runs g c) c.retire_pinned.ensures.unmoved at
     (λ (w : Rows) (answer : Answer). N.sound w → IsPageOf answered version answer) (due_at g c) (cause_if answered) c.may_be_told.ensures
     (given_counts g.D.Reader.FileReader.faults (pinned_inputs c.args.pinned) story new (closing_fault (cause_if answered)) c.retire_pinned.ensures.given c.requires.read)
-    c.print.ensures.items c.print.ensures.room c.close_query.ensures (closing_text (closing_entry s number answered mo) at version answered)
+    c.print.ensures.items c.print.ensures.room c.close_query.ensures c.requires.undamaged (closing_text (closing_entry s number answered mo) at version answered)
     (λ w sound low. tells_answer s number mo at version answered (due_at g c w).opened.answer ((due_at g c w).opened.told sound))
     c.print.ensures.put c.print.ensures.goes c.print.ensures.refused
 

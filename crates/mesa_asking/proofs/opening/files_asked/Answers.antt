@@ -1,8 +1,8 @@
-use Rattle.std.proofs.Common.{◌<◌, ◌≤◌, length, sym, subst}
+use Rattle.std.proofs.Common.{◌≡◌, ◌<◌, ◌≤◌, length, map, true, sym, subst}
 use Rattle.std.specs.Prelude.{IfSome}
 use Rattle.std.specs.List.{AllByRecursion}
 use Rattle.mesa_asking.proofs.Contents.{columns_found}
-use Rattle.mesa_asking.proofs.Opens.{has_no_asked, has_no_files}
+use Rattle.mesa_asking.proofs.Opens.{has_no_asked, has_no_files, met_damage, rules_undamaged}
 use Rattle.mesa_asking.proofs.There.{name_there, view_within}
 use Rattle.mesa_asking.proofs.opening.files_asked.Goals as goal
 use Rattle.mesa_catalog.proofs.Stocks.{all_at}
@@ -11,13 +11,17 @@ use Rattle.mesa_image.specs.Catalog.{Delta, Stock, no_stock, stock_at}
 use Rattle.mesa_image.specs.Fitting.{deltas_of}
 use Rattle.mesa_image.specs.Shape.{IsShaped}
 use Rattle.mesa_ledger.specs.Ledger.{books_of}
-use Rattle.mesa_pinning.specs.Read.{IsPinnedFor}
+use Rattle.mesa_image_laws.specs.Planned.{planned}
+use Rattle.mesa_pinning.specs.Read.{IsPinnedFor, SomeUnsound, relation_read}
+use Rattle.mesa_plans.specs.Files.{want_in}
 use Rattle.mesa_pinning.proofs.Telling.{pinned_is}
 use Rattle.mesa_rules.specs.Found.{answer_found}
 use Rattle.mesa_schema.specs.Changes.{epoch_of}
 use Rattle.mesa_schema.specs.Columns.{Columns}
 use Rattle.mesa_skeleton.specs.Rows.{no_rows}
+use Rattle.mesa_walk.specs.Causes.{Cause, outcome_of}
 use Rattle.mesa_walk.specs.Queries.{HasNoAnswer}
+use Rattle.mesa_walk.specs.Undamaged.{is_damaged}
 
 pub returns-in-Err-clause-refused : goal.returns-in-Err-clause-refused
 returns-in-Err-clause-refused g c =
@@ -79,3 +83,21 @@ returns-in-Err-open_files-clause-refused g c =
     let f = c.in-Ok.asked.found in
     subst (HasNoAnswer (books_of no_rows l) s words) (sym c.failed.ensures)
     (has_no_files l s words _ c.opening_told.ensures sees.opened (answer_found sees.store f) (c.in-Ok.ensures.answered (books_of no_rows l).bare s sees))
+
+pub returns-in-Err-clause-unsound : goal.returns-in-Err-clause-unsound
+returns-in-Err-clause-unsound g c is = absurd (rules_undamaged c.in-Err.failure (subst (λ (k : Cause). is_damaged (outcome_of k) ≡ true) c.refused.ensures is))
+
+pub returns-in-Err-open_files-clause-unsound : goal.returns-in-Err-open_files-clause-unsound
+returns-in-Err-open_files-clause-unsound g c is =
+    let k = c.in-Ok.asked.catalog.now.catalogue in
+    let f = c.in-Ok.asked.found in
+    let told = (g.D.Disk.story c.args.disk.now).told in
+    let met = met_damage c.in-Err-open_files.error (subst (λ (x : Cause). is_damaged (outcome_of x) ≡ true) c.failed.ensures is) in
+    record {
+      opened = (c.in-Ok.ensures.sees no_rows).opened;
+      catalogue = k;
+      asked = c.in-Ok.ensures.catalogue;
+      found = f;
+      relation = c.in-Ok.ensures.relation;
+      unsound = subst (λ (u : Stock). SomeUnsound told (map want_in (relation_read u.lineage f.relation.view (planned u f.query.version)))) c.table-table.ensures.stock (c.in-Err-open_files.ensures.unsound k.next c.table-table.ensures.held met.0 met.1);
+    }

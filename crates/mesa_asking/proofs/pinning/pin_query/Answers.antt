@@ -1,7 +1,7 @@
 use Rattle.std.proofs.Common.{◌≡◌, ◌<◌, List, [], ◌∷◌, ◌++◌, length, true, false, not, refl, sym, ◌∙◌, ap, subst}
 use Rattle.mesa_asking.specs.Opening.{asked_ledger}
 use Rattle.mesa_asking.proofs.Opens.{opened_engine, unopened_engine, unopened_takes}
-use Rattle.mesa_asking.proofs.Telling.{asked_shaped, files_answered, opened_is}
+use Rattle.mesa_asking.proofs.Telling.{asked_shaped, files_answered, opened_is, opened_undamaged}
 use Rattle.mesa_asking.proofs.pinning.pin_query.Goals as goal
 use Rattle.mesa_engine.specs.Engine.{Standing, IsEngine, starts_of}
 use Rattle.mesa_history.specs.Run.{First, Finished}
@@ -140,7 +140,9 @@ over g c =
     let i = c.engine.inside in
     let short = c.fail.ensures.short in
     unopened_engine g.K.Sink.held g.K.Sink.faults n N.room N.sink_faults i.metadata (g.D.Disk.story i.disk) (g.D.Disk.story c.hold_files-held.new.disk) i.log c.fail.new.self c.engine.invariant c.hold_files-held.ensures.unmoved c.args.who.session c.args.who.command short.session short.command c.args.words.now
-    c.clock-moment.result c.clock-moment.ensures (ran_then g c) (length i.log.history.items) refl (due_then g c) c.fail.ensures.room (cause_in c.in-Err.failure) c.in-Err.ensures.refused c.in-Err.ensures.counts c.fail.ensures.items c.fail.ensures.told c.fail.ensures.refused
+    c.clock-moment.result c.clock-moment.ensures (ran_then g c) (length i.log.history.items) refl (due_then g c) c.fail.ensures.room (cause_in c.in-Err.failure)
+    (opened_undamaged n i.metadata.ledger (g.D.Disk.story i.disk) (g.K.Sink.held i.log.printer.sink) i.log.history.items (not i.log.printer.broken) i.log.refused c.engine.invariant.vault c.args.who.session c.args.words.now c.in-Err.failure c.in-Err.ensures.unsound)
+    c.in-Err.ensures.refused c.in-Err.ensures.counts c.fail.ensures.items c.fail.ensures.told c.fail.ensures.refused
 
 pub invariant_of-engine-in-Err : goal.invariant_of-engine-in-Err
 invariant_of-engine-in-Err g c =

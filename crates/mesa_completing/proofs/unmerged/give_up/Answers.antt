@@ -75,7 +75,7 @@ kept g c =
     given_up_engine g.K.Sink.held g.K.Sink.faults n N.room N.sink_faults i.metadata c.fall-failure.new.metadata (g.D.Disk.story i.disk) (g.D.Disk.story c.retire_task.new.disk) i.log c.fail.new.self c.engine.invariant
     s number c.fail.ensures.short.session c.fail.ensures.short.command name mo (c.clock-moment.ensures ∙ c.retire_task.ensures.unmoved.moment) (omega arith) (runs g c) c.position-at.result c.position-at.ensures claim
     (λ w. due_alike N.script (N.start no_rows) (N.start w) h s number (command.Work name) (Granted claim) (N.alike w) refl (due_at g c))
-    c.retire_task.ensures.unmoved g.D.Reader.FileReader.faults (task_inputs c.args.task) c.retire_task.ensures.given c.args.error c.requires.read c.may_be_told.ensures
+    c.retire_task.ensures.unmoved g.D.Reader.FileReader.faults (task_inputs c.args.task) c.retire_task.ensures.given c.args.error c.requires.read c.may_be_told.ensures c.requires.undamaged
     cause c.fall-failure.ensures.cause c.fail.ensures.items c.fail.ensures.room c.fall-failure.ensures.after
     (subst (λ at. PrintsBlock g.K.Sink.held g.K.Sink.faults i.log.printer c.fail.new.self.printer (entry s number kind.Close (outcome_of cause) mo) (told_at at (reply_of cause))) (sym c.position-at.ensures) c.fail.ensures.told)
     c.fail.ensures.refused

@@ -64,7 +64,7 @@ kept g c =
     let e : Entry = entry s number kind.Decide outcome.Stands m in
     let short : IsShort e = subst IsShort c.turn-turn.ensures.same c.turn-turn.ensures.short in
     let prints = subst (λ x. PrintsBlock g.K.Sink.held g.K.Sink.faults i.log.printer later.printer x (told_at at rep)) c.turn-turn.ensures.same (c.tell.ensures.told no_lines (c.deref.ensures.value ∙ c.in-Ok.ensures.lines)) in
-    told_engine g.K.Sink.held g.K.Sink.faults n N.room N.sink_faults i.metadata i.metadata story story i.log later e old (c.tell.ensures.items ∙ ap (λ x. h ++ x ∷ []) c.turn-turn.ensures.same) c.tell.ensures.room c.clock.ensures (omega arith) (omega (arith, old.leased))
+    told_engine g.K.Sink.held g.K.Sink.faults n N.room N.sink_faults i.metadata i.metadata story story i.log later e old (c.tell.ensures.items ∙ ap (λ x. h ++ x ∷ []) c.turn-turn.ensures.same) c.tell.ensures.room c.clock.ensures (omega arith) (omega (arith, old.leased)) (λ w sound. refl)
     (told_at at rep) (is_refusal rep) prints c.tell.ensures.refused
     (λ put w b is. explained_vault (outset_of n w) (n.origin w) b l story (g.K.Sink.held i.log.printer.sink) h (not i.log.printer.broken) i.log.refused (old.vault w b is) s number short.session short.command m c.clock.ensures (runs g c) at c.position-at.ensures words rep no_rows
     (due_alike N.script (N.start no_rows) (N.start w) h s number (command.Explain words) First (N.alike w) refl (due_at g c)) c.in-Ok.ensures.explained (not later.printer.broken) (g.K.Sink.held later.printer.sink) put)

@@ -1,4 +1,4 @@
-use Rattle.std.proofs.Common.{◌≡◌, [], ◌∷◌, ◌++◌, false, not, refl, sym, ◌∙◌, ap, subst, arith}
+use Rattle.std.proofs.Common.{◌≡◌, [], ◌∷◌, ◌++◌, Bool, true, false, not, refl, sym, ◌∙◌, ap, subst, arith}
 use Rattle.std.specs.Prelude.{IfOk}
 use Rattle.mesa_batch.specs.Glance.{Sight, tables_of}
 use Rattle.mesa_catalog.specs.Lookups.{sight_of}
@@ -14,6 +14,7 @@ use Rattle.mesa_ledger.specs.Vault.{Starts, outset_of}
 use Rattle.mesa_ledger.proofs.Beginning.{vault_at_seen}
 use Rattle.mesa_skeleton.specs.Rows.{no_rows}
 use Rattle.mesa_walk.specs.Turns.{Asks, Shown, Takes, entry, is_load, looking}
+use Rattle.mesa_walk.specs.Undamaged.{is_damaged}
 use Rattle.mesa_walk.specs.Walk.{run_at}
 use Rattle.mesa_walk.proofs.Alike.{due_alike}
 use Rattle.mesa_walk.proofs.Going.{look_takes}
@@ -30,6 +31,11 @@ turn_is : (g : _) (c : goal.After-pass g) → c.turn-turn.result ≡ entry c.arg
 turn_is g c =
     let running_is : c.running-running.result ≡ not c.engine.inside.log.printer.broken = c.running-running.ensures ∙ sym (ap (λ (s : Standing). s.shown.running) c.engine.view_is) in
     c.turn-turn.ensures.same ∙ ap (λ o. entry c.args.who.session c.args.who.command kind.Look o c.clock.result) (c.looking.ensures ∙ ap (λ r. looking r c.is_ok.result) running_is)
+
+look_undamaged : (running found : Bool) → is_damaged (looking running found) ≡ false
+look_undamaged false found = refl
+look_undamaged true true = refl
+look_undamaged true false = refl
 
 kept : (g : _) (c : goal.After-pass g)
     → IsEngine g.K.Sink.held g.K.Sink.faults (starts_of g.N.Naming.script g.N.Naming.start g.N.Naming.sound g.N.Naming.origin g.N.Naming.since g.N.Naming.counted g.N.Naming.at_start) g.N.Naming.room g.N.Naming.sink_faults c.engine.inside.metadata (g.D.Disk.story c.engine.inside.disk) c.pass.new.self
@@ -49,7 +55,7 @@ kept g c =
     let load = load_of due.asked due.is in
     let loads : IsDue N.script (run_at N.script (N.start no_rows) h) s number (command.Load load.0) First = subst (λ x. IsDue N.script (run_at N.script (N.start no_rows) h) s number x First) load.1 due.due in
     passed_engine g.K.Sink.held g.K.Sink.faults n N.room N.sink_faults i.metadata i.metadata story story i.log c.pass.new.self e old
-    (c.pass.ensures.items ∙ ap (λ x. h ++ x ∷ []) (turn_is g c)) c.pass.ensures.room c.clock.ensures (omega arith) (omega (arith, old.leased)) c.pass.ensures.printer c.pass.ensures.refused
+    (c.pass.ensures.items ∙ ap (λ x. h ++ x ∷ []) (turn_is g c)) c.pass.ensures.room c.clock.ensures (omega arith) (omega (arith, old.leased)) (λ w sound. look_undamaged running c.is_ok.result) c.pass.ensures.printer c.pass.ensures.refused
     (λ w b is. looked_vault (outset_of n w) (n.origin w) b i.metadata.ledger story (g.K.Sink.held i.log.printer.sink) h running i.log.refused (old.vault w b is) s number short.session short.command c.clock.result c.clock.ensures
     load.0 (due_alike N.script (N.start no_rows) (N.start w) h s number (command.Load load.0) First (N.alike w) refl loads) c.is_ok.result)
 

@@ -64,7 +64,7 @@ kept g c =
     let after : Memory = with_ledger (released_ledger l s token) i.metadata in
     let prints = subst (λ x. PrintsBlock g.K.Sink.held g.K.Sink.faults i.log.printer later.printer x (told_at at (reply.Released token))) c.turn-turn.ensures.same (c.tell.ensures.told no_lines refl) in
     subst (λ (x : Memory). IsEngine g.K.Sink.held g.K.Sink.faults n N.room N.sink_faults x story later) (sym c.release.ensures)
-    (told_engine g.K.Sink.held g.K.Sink.faults n N.room N.sink_faults i.metadata after story story i.log later e old (c.tell.ensures.items ∙ ap (λ x. h ++ x ∷ []) c.turn-turn.ensures.same) c.tell.ensures.room c.clock.ensures (omega arith) (omega (arith, old.leased))
+    (told_engine g.K.Sink.held g.K.Sink.faults n N.room N.sink_faults i.metadata after story story i.log later e old (c.tell.ensures.items ∙ ap (λ x. h ++ x ∷ []) c.turn-turn.ensures.same) c.tell.ensures.room c.clock.ensures (omega arith) (omega (arith, old.leased)) (λ w sound. refl)
     (told_at at (reply.Released token)) false prints c.tell.ensures.refused
     (λ put w b is. without_vault (outset_of n w) (n.origin w) b l story (g.K.Sink.held i.log.printer.sink) h (not i.log.printer.broken) i.log.refused (old.vault w b is) s number short.session short.command m c.clock.ensures (runs g c) at c.position-at.ensures c.in_default.ensures.opened token no_rows
     (due_alike N.script (N.start no_rows) (N.start w) h s number (command.Release token) First (N.alike w) refl (due_at g c)) c.in_default.ensures.released (not later.printer.broken) (g.K.Sink.held later.printer.sink) put))

@@ -18,6 +18,7 @@ use Rattle.mesa_image_laws.proofs.Plans.{due_work_fits}
 use Rattle.mesa_image_laws.specs.Moves.{first_of, is_base, last_of}
 use Rattle.mesa_ledger.specs.Vault.{IsVault, Starts, outset_of}
 use Rattle.mesa_ledger.proofs.Beginning.{vault_at_seen}
+use Rattle.mesa_compact.specs.Bounded.{IsBounded}
 use Rattle.mesa_log.specs.Failure.{cause_in}
 use Rattle.mesa_gather.specs.Gathered.{IsGathered, unread_views}
 use Rattle.mesa_lease.specs.Book.{granted}
@@ -35,6 +36,7 @@ use Rattle.mesa_walk.proofs.Alike.{due_alike}
 use Rattle.mesa_engine.specs.Engine.{Standing, IsEngine, starts_of}
 use Rattle.mesa_works.specs.Claims.{claim_as}
 use Rattle.mesa_works.specs.Ranged.{written_at}
+use Rattle.mesa_works.proofs.Bounded.{is_bounded}
 use Rattle.mesa_works.proofs.Claims.{work_ends}
 use Rattle.mesa_works.proofs.Ranges.{has_no_damage, has_range}
 use Rattle.mesa_works.proofs.Grants.{answers, fault_counts, granted_engine, granted_takes, has_no_claim, next_there, shaped_at, tables_there, ungranted_engine, ungranted_takes, unopened_counts}
@@ -194,6 +196,14 @@ returns-in-Ok-clause-whole g c w sound =
     let later = c.pass.new.self in
     has_no_damage c.one_file.ensures (outset_of (starts g c) w) (g.N.Naming.origin w) (leased g c) (g.D.Disk.story c.gather-gathered.new.disk) (g.K.Sink.held later.printer.sink) later.history.items (not later.printer.broken) later.refused (vault_behind g c w true (λ ok. sound)) (was_open g c)
     g.D.Reader.FileReader.bytes g.D.Reader.FileReader.faults (task_of g c) (table_there g c) (work_due g c) (is_task g c) _ c.in-Ok.ensures.views (gathered g c)
+
+pub returns-in-Ok-clause-bounded : goal.returns-in-Ok-clause-bounded
+returns-in-Ok-clause-bounded g c w sound =
+    let later = c.pass.new.self in
+    let t = task_of g c in
+    subst (λ (x : Standing). IsBounded g.D.Reader.FileReader.bytes (stock_at x.ledger.catalogue t.table).lineage t) c.engine.view_is
+    (is_bounded (outset_of (starts g c) w) (g.N.Naming.origin w) (leased g c) (g.D.Disk.story c.gather-gathered.new.disk) (g.K.Sink.held later.printer.sink) later.history.items (not later.printer.broken) later.refused (vault_behind g c w true (λ ok. sound)) (was_open g c)
+    g.D.Reader.FileReader.bytes g.D.Reader.FileReader.faults t (table_there g c) _ c.in-Ok.ensures.views (gathered g c) (returns-in-Ok-clause-whole g c w sound))
 
 pub returns-in-Ok-clause-range : goal.returns-in-Ok-clause-range
 returns-in-Ok-clause-range g c w sound =

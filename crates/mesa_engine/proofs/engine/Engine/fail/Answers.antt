@@ -16,7 +16,7 @@ use Rattle.mesa_walk.proofs.Alike.{due_alike}
 use Rattle.mesa_engine.specs.Engine.{Standing, IsEngine, starts_of}
 use Rattle.mesa_engine.specs.Failing.{Fails, deciding_stage, deciding_kind}
 use Rattle.mesa_engine.proofs.Drafting.{answers_none, quiet_cause}
-use Rattle.mesa_engine.proofs.Undone.{deciding_unanswered, failing_vault, failing_takes}
+use Rattle.mesa_engine.proofs.Undone.{deciding_unanswered, failing_vault, failing_takes, quiet_undamaged}
 use Rattle.mesa_engine.proofs.Turning.{told_engine}
 use Rattle.mesa_engine.proofs.engine.Engine.fail.Goals as goal
 
@@ -49,7 +49,7 @@ kept g c =
     let now = not later.printer.broken in
     let fails = fails_at g c in
     told_engine g.K.Sink.held g.K.Sink.faults n N.room N.sink_faults i.metadata i.metadata story story i.log later (entry s number c.args.kind (outcome_of cause) m) old
-    c.fail.ensures.items c.fail.ensures.room c.clock-moment.ensures (omega arith) (omega (arith, old.leased))
+    c.fail.ensures.items c.fail.ensures.room c.clock-moment.ensures (omega arith) (omega (arith, old.leased)) (λ w sound. quiet_undamaged cause fails.quiet)
     (told_at (length h) (reply_of cause)) (is_refusal (reply_of cause)) c.fail.ensures.told c.fail.ensures.refused
     (λ put w b is. subst (λ k. IsPut (block (entry s number k (outcome_of cause) m) (Some (told_at (length h) (reply_of cause)))) now held new_held → IsVault (outset_of n w) (n.origin w) b l story new_held (h ++ entry s number k (outcome_of cause) m ∷ []) now (i.log.refused || is_refusal (reply_of cause)))
     (sym fails.decides)

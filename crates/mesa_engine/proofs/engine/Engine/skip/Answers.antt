@@ -32,7 +32,7 @@ kept g c =
     let e = entry who.session who.command c.args.kind outcome.Skipped c.clock.result in
     let short : IsShort e = subst IsShort c.turn-turn.ensures.same c.turn-turn.ensures.short in
     passed_engine g.K.Sink.held g.K.Sink.faults n N.room N.sink_faults i.metadata i.metadata story story i.log c.pass.new.self e old
-    (c.pass.ensures.items ∙ ap (λ x. h ++ x ∷ []) c.turn-turn.ensures.same) c.pass.ensures.room c.clock.ensures (omega arith) (omega (arith, old.leased)) c.pass.ensures.printer c.pass.ensures.refused
+    (c.pass.ensures.items ∙ ap (λ x. h ++ x ∷ []) c.turn-turn.ensures.same) c.pass.ensures.room c.clock.ensures (omega arith) (omega (arith, old.leased)) (λ w sound. refl) c.pass.ensures.printer c.pass.ensures.refused
     (λ w b is. skipped_vault (outset_of n w) (n.origin w) b i.metadata.ledger story (g.K.Sink.held i.log.printer.sink) h (not i.log.printer.broken) i.log.refused (old.vault w b is)
     who.session who.command short.session short.command c.clock.result c.clock.ensures (due_at g c w).asked (due_at g c w).stage c.args.kind (due_at g c w).due (due_at g c w).comes (has_failed g c))
 

@@ -4,6 +4,7 @@ use Rattle.mesa_metadata.specs.Memory.{Memory}
 use Rattle.mesa_skeleton.specs.Rows.{no_rows}
 use Rattle.mesa_model.specs.declared.entries.Entry.{Entry}
 use Rattle.mesa_ledger.specs.Vault.{Starts, IsVault, outset_of}
+use Rattle.mesa_walk.specs.Undamaged.{NoneDamaged}
 use Rattle.mesa_engine.specs.Engine.{starts_of}
 use Rattle.mesa_engine.proofs.Beginning.{begun_vault}
 use Rattle.mesa_engine.proofs.engine.Engine.start.Goals as goal
@@ -27,4 +28,5 @@ invariant_of-result g c =
       failed = λ is. absurd (let never : false ≡ true = is in cc);
       whole = λ is. c.requires.faults;
       first = λ empty. (c.requires.begun no_rows false (λ is. absurd cc)).sink;
+      undamaged = λ w sound. subst NoneDamaged (sym c.requires.empty) tt;
     }

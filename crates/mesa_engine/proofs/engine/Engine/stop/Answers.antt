@@ -43,6 +43,9 @@ returns-clause-whole g c =
 pub returns-clause-first : goal.returns-clause-first
 returns-clause-first g c = c.self.invariant.first
 
+pub returns-clause-undamaged : goal.returns-clause-undamaged
+returns-clause-undamaged g c = c.self.invariant.undamaged
+
 pub returns-clause-printed : goal.returns-clause-printed
 returns-clause-printed g c w is low =
     subst (λ (s : Standing). IsPrinted g.N.Naming.script (begins (g.N.Naming.start w)) c.self.inside.log.history.items s.shown.running g.N.Naming.at_start (g.K.Sink.held c.self.inside.log.printer.sink)) c.self.view_is ((c.self.invariant.vault w true (λ ok. is)).walk.printed refl low)

@@ -1,0 +1,113 @@
+-- No sum over the files of a range leaves its type where the store is sound.
+use Rattle.std.proofs.Common.{◌≡◌, ◌∙◌, ℕ, zero, suc, ◌<◌, ◌^◌, List, [], ◌∷◌, length, map, true, refl, sym, ap, subst, zero-add, Option, None, Some}
+use Rattle.std.specs.Prelude.{IfSome, flat_map, slice_get}
+use Rattle.std.specs.List.{AllByRecursion}
+use Rattle.mesa_batch.specs.Totals.{abs_total}
+use Rattle.mesa_commit.specs.Images.{Has}
+use Rattle.mesa_compact.specs.Bounded.{AreBounded, AreOwnBounded, IsBounded}
+use Rattle.mesa_disk.specs.Image.{Image}
+use Rattle.mesa_disk.specs.Story.{Story}
+use Rattle.mesa_schema.specs.Changes.{Lineage, columns_of, epoch_of, lifted}
+use Rattle.mesa_schema.specs.Columns.{Columns, aggs_of}
+use Rattle.mesa_schema.specs.Folded.{rows_of}
+use Rattle.mesa_schema.specs.Views.{view_columns}
+use Rattle.mesa_schema.specs.declared.rows.Row.{Row}
+use Rattle.mesa_schema.specs.declared.views.View.{View}
+use Rattle.mesa_delta.specs.declared.input.Input.{Input}
+use Rattle.mesa_image.specs.Catalog.{Catalog, Delta, Stock, stock_at}
+use Rattle.mesa_image.specs.Contents.{Rows, present}
+use Rattle.mesa_image.specs.Fitting.{delta_shelved, deltas_of, shelved}
+use Rattle.mesa_image.specs.Sound.{wants}
+use Rattle.mesa_image_laws.proofs.Lists.{all_unflat, stock_found}
+use Rattle.mesa_image.specs.Sound.{IsStocked}
+use Rattle.mesa_image_laws.specs.Brought.{merged_of}
+use Rattle.mesa_image_laws.specs.Moves.{is_base, last_of}
+use Rattle.mesa_ledger.specs.Ledger.{Ledger}
+use Rattle.mesa_ledger.specs.Vault.{Origin, IsVault}
+use Rattle.mesa_ledger.proofs.Standing.{held_there}
+use Rattle.mesa_merge.specs.Inputs.{knowns_of, lifted_parts}
+use Rattle.mesa_model.specs.declared.entries.Entry.{Entry}
+use Rattle.mesa_gather.specs.Gathered.{IsGathered, unread_view}
+use Rattle.mesa_pinning.specs.Read.{own_file}
+use Rattle.mesa_pinning.proofs.Folding.{table_parts}
+use Rattle.mesa_pinning.proofs.Given.{AreGiven, IsGiven, IsSeen, all_given, all_told, part_of, rows_seen}
+use Rattle.mesa_pinning.proofs.Reading.{owned}
+use Rattle.mesa_pinning.proofs.Sums.{merged_sums}
+use Rattle.mesa_pinning.proofs.Telling.{stock_given}
+use Rattle.mesa_plans.proofs.Among.{all_merged}
+use Rattle.mesa_plans.specs.Files.{Seen, Want, table_wanted, want_in, want_of}
+use Rattle.mesa_tasks.specs.Opening.{HaveOpened}
+use Rattle.mesa_tasks.specs.declared.merging.Task.{Task}
+use Rattle.mesa_tasks.specs.declared.merging.TaskView.{TaskView}
+use Rattle.mesa_tasks.specs.declared.opening.Wanted.{Wanted}
+use Rattle.mesa_walk.specs.Walk.{Outset}
+use Rattle.mesa_works.proofs.Grants.{shaped_at}
+
+-- a view that has no files of its own has none that could be wrong
+unread_bounded : {R : Type 0} (bytes : R → Option (List ℕ)) (s : Columns) (numbers : List ℕ) (i : ℕ) (v : View) (t : TaskView R) → slice_get (map unread_view numbers) i ≡ Some t → AreOwnBounded bytes (view_columns s v) t.inputs
+unread_bounded bytes s [] i v t is = absurd cc
+unread_bounded bytes s (n ∷ numbers) zero v t is = let same : unread_view n ≡ t = cc in subst (λ (x : TaskView _). AreOwnBounded bytes (view_columns s v) x.inputs) same tt
+unread_bounded bytes s (n ∷ numbers) (suc i) v t is = unread_bounded bytes s numbers i v t is
+
+-- the rows of a table's files, lifted
+lifted_are : {R : Type 0} (bytes : R → Option (List ℕ)) (faults : R → ℕ) (told : Option Image) (rows : Rows) (ws : List Wanted) (is : List (Input R)) (wants : List Want) → map want_of ws ≡ wants → HaveOpened bytes faults told ws is None
+    → lifted_parts (knowns_of bytes is) (map (rows_seen rows) (map own_file wants)) ≡ map (part_of rows None) (map own_file wants)
+lifted_are bytes faults told rows [] [] [] same have = refl
+lifted_are bytes faults told rows [] [] (x ∷ wants) same have = absurd cc
+lifted_are bytes faults told rows [] (i ∷ is) wants same have = absurd have
+lifted_are bytes faults told rows (w ∷ ws) [] wants same have = absurd have
+lifted_are bytes faults told rows (w ∷ ws) (i ∷ is) [] same have = absurd cc
+lifted_are bytes faults told rows (w ∷ ws) (i ∷ is) (x ∷ wants) same have =
+    let first : want_of w ≡ x = cc in
+    let others : map want_of ws ≡ wants = cc in
+    let lineage : i.evolving.value ≡ x.lineage = have.0.lineage ∙ ap (λ (y : Want). y.lineage) first in
+    let epoch : i.epoch ≡ x.epoch = have.0.epoch ∙ ap (λ (y : Want). y.epoch) first in
+    λ j. map (lifted (lineage j) (epoch j) (epoch_of (lineage j))) (rows x.file.id) ∷ lifted_are bytes faults told rows ws is wants others have.1 j
+
+module _ (o : Outset) (g : Origin) (l : Ledger) (story : Story) (held : Option (List ℕ)) (h : List Entry) (running refused : _) (v : IsVault o g true l story held h running refused) (opened : l.closed ≡ None)
+    {R : Type 0} (bytes : R → Option (List ℕ)) (faults : R → ℕ) (t : Task R) (there : t.table < length l.catalogue.tables) (numbers : List ℕ) (views : t.views.items ≡ map unread_view numbers)
+    (gathered : IsGathered bytes faults story.told (stock_at l.catalogue t.table) t.work t) (whole : t.damage ≡ None) where
+  abbrev c : Catalog
+  c = l.catalogue
+
+  abbrev u : Stock
+  u = stock_at l.catalogue t.table
+
+  abbrev lin : Lineage
+  lin = u.lineage
+
+  abbrev image : Image
+  image = (v.read refl).0
+
+  abbrev ds : List Delta
+  ds = merged_of (stock_at l.catalogue t.table) (is_base t.work) (last_of t.work)
+
+  abbrev seen : List Seen
+  seen = map own_file (flat_map (table_wanted (stock_at l.catalogue t.table).lineage) (merged_of (stock_at l.catalogue t.table) (is_base t.work) (last_of t.work)))
+
+  has : Has (wants v.rows (shelved c)) image
+  has = held_there story v.bodies l.end c v.rows (v.stands refl opened) image (v.read refl).1
+
+  given : AllByRecursion (AreGiven v.rows image lin) ds
+  given = all_merged (AreGiven v.rows image lin) u (all_unflat (IsGiven v.rows image) (delta_shelved lin) (deltas_of u) (stock_given v.rows c image t.table (v.stocked refl).0 has there)) (is_base t.work) (last_of t.work)
+
+  all_open : HaveOpened bytes faults story.told gathered.wanted t.inputs.items None
+  all_open = subst (HaveOpened bytes faults story.told gathered.wanted t.inputs.items) whole gathered.opened
+
+  table_bounded : AreBounded (columns_of lin) (knowns_of bytes t.inputs.items)
+  table_bounded = record {
+    contents = map (rows_seen v.rows) seen;
+    told = all_told v.rows image bytes faults story.told (v.read refl).1 gathered.wanted t.inputs.items seen (gathered.are ∙ sym (owned (flat_map (table_wanted lin) ds))) all_open (all_given v.rows image lin None tt ds given);
+    bound = λ k sum.
+        let parts = lifted_are bytes faults story.told v.rows gathered.wanted t.inputs.items (flat_map (table_wanted lin) ds) gathered.are all_open in
+        let all = ap rows_of parts ∙ table_parts v.rows lin ds in
+        subst (λ n. n < 2 ^ 63) (sym (zero-add _)) (subst (λ (rs : List Row). abs_total k rs < 2 ^ 63) (sym all)
+        (merged_sums v.rows c.oldest c.next u (shaped_at c v.shaped t.table there) (stock_found (IsStocked v.rows) c.tables t.table there (v.stocked refl).0) (is_base t.work) (last_of t.work) k sum));
+  }
+
+  -- The sums over the files of a range, and over those of its views, stay in their type.
+  pub is_bounded : IsBounded bytes (stock_at l.catalogue t.table).lineage t
+  is_bounded = record {
+    table = table_bounded;
+    views = λ i view tv of_table of_task. unread_bounded bytes (columns_of lin) numbers i view tv (subst (λ (xs : List (TaskView R)). slice_get xs i ≡ Some tv) views of_task);
+  }
