@@ -6,4 +6,3 @@ pub mod Poured
 pub mod Whole
 pub mod Regrouped
 pub mod Tasking
-pub mod Known

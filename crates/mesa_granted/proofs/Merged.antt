@@ -20,7 +20,7 @@ use Rattle.mesa_tasks.specs.declared.merging.NewDelta.{NewDelta}
 use Rattle.mesa_tasks.specs.declared.merging.Task.{Task}
 use Rattle.mesa_tasks.specs.declared.merging.TaskView.{TaskView}
 use Rattle.mesa_granted.specs.Known.{IsKnownOf, unread_from}
-use Rattle.mesa_compact.proofs.Known.{cons_none, first_same, rest_same}
+use Rattle.mesa_service.proofs.Known.{cons_none, first_same, rest_same}
 
 module _ {R : Type 0} (bytes : R → Option (List ℕ)) where
   -- ---- what is known of a grant

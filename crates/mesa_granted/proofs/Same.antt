@@ -12,7 +12,7 @@ use Rattle.mesa_image_laws.specs.Moves.{first_of, last_of}
 use Rattle.mesa_image_laws.specs.Sourced.{Written, sources_from}
 use Rattle.mesa_service.specs.Works.{KnownTask, known_task}
 use Rattle.mesa_compact.specs.Tasks.{KnownView, known_view}
-use Rattle.mesa_compact.proofs.Known.{cons_none, first_same, merge_stays, only_stays, rest_same}
+use Rattle.mesa_service.proofs.Known.{cons_none, first_same, merge_stays, only_stays, rest_same}
 use Rattle.mesa_swapping.specs.Finished.{GroupOnly, HasRange}
 use Rattle.mesa_tasks.specs.declared.merging.Task.{Task}
 use Rattle.mesa_tasks.specs.declared.merging.TaskView.{TaskView}

@@ -26,7 +26,7 @@ use Rattle.mesa_tasks.specs.declared.merging.Task.{Task}
 use Rattle.mesa_tasks.specs.declared.merging.TaskView.{TaskView}
 use Rattle.mesa_compact.specs.Bounded.{AreBounded, AreOwnBounded, IsBounded}
 use Rattle.mesa_compact.specs.Tasks.{IsSameTask, IsTaskDamage, KnownView, known_view, known_views}
-use Rattle.mesa_compact.proofs.Known.{cons_none, first_same, merge_stays, none_some, only_stays, rest_same, some_same}
+use Rattle.mesa_service.proofs.Known.{cons_none, first_same, merge_stays, none_some, only_stays, rest_same, some_same}
 use Rattle.mesa_compact.specs.Writing.{HasCauses, IsDraftFault, damaged_by}
 use Rattle.mesa_tasks.specs.Errors.{Differs}
 use Rattle.mesa_passes.specs.Answers.{Owes}

@@ -18,7 +18,7 @@ use Rattle.mesa_tasks.specs.GivingBack.{pinned_inputs}
 use Rattle.mesa_tasks.specs.Pins.{relation_rows}
 use Rattle.mesa_tasks.specs.declared.querying.Pinned.{Pinned}
 use Rattle.mesa_tasks.specs.declared.querying.PinnedInput.{PinnedInput}
-use Rattle.mesa_compact.proofs.Known.{cons_none, first_same, rest_same}
+use Rattle.mesa_service.proofs.Known.{cons_none, first_same, rest_same}
 use Rattle.mesa_query.specs.Files.{IsDamageIn, inputs_in, owns_in}
 use Rattle.mesa_query.specs.Relation.{page_over, parts_pinned, parts_ungrouped, rows_under}
 use Rattle.mesa_service.specs.Damages.{IsUnread}
