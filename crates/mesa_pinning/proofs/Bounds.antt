@@ -1,12 +1,13 @@
 -- No sum over the files by which a relation is read leaves its type.
-use Rattle.std.proofs.Common.{◌≡◌, ℕ, zero, suc, ◌+◌, ◌<◌, ◌≤◌, ◌^◌, List, [], ◌∷◌, ◌++◌, map, length, refl, sym, ap, ◌∙◌, subst, arith, zero-add, Bool, true, false, ◌&&◌, cond, Option, Some, None}
+use Rattle.std.proofs.Common.{◌≡◌, ℕ, zero, suc, ◌+◌, ◌<◌, ◌≤◌, ◌^◌, List, [], ◌∷◌, ◌++◌, map, length, refl, sym, ap, ◌∙◌, subst, arith, lt-ltb, Bool, true, false, ◌&&◌, Option, Some, None}
 use Rattle.std.specs.Prelude.{flat_map, nat_lt, slice_get, ◌==◌}
-use Rattle.std.specs.List.{AllByRecursion, list_all, position_or_len}
+use Rattle.std.specs.List.{AllByRecursion, cons_option, list_all}
 use Rattle.std.proofs.lemmas.List.{append-nil, length-map, map-append}
 use Rattle.mesa_value.specs.declared.Agg.{Agg}
 use Rattle.mesa_value.specs.declared.Agg.TheVariants.{Sum}
 use Rattle.mesa_schema.specs.Changes.{Lineage, columns_of, epoch_of, lifted}
-use Rattle.mesa_schema.specs.Columns.{Columns, aggs_of, chosen, places_in, same_bytes, value_names}
+use Rattle.mesa_list.specs.Bytes.{same_bytes}
+use Rattle.mesa_schema.specs.Columns.{Columns, aggs_of, chosen, place_of, places_in, value_names}
 use Rattle.mesa_schema.specs.Folded.{folded, grouped, regrouped, rows_of}
 use Rattle.mesa_schema.specs.Laws.{AreFull}
 use Rattle.mesa_schema.specs.Rows.{AreRowsOf}
@@ -15,6 +16,7 @@ use Rattle.mesa_schema.specs.declared.columns.ValueColumn.{ValueColumn}
 use Rattle.mesa_schema.specs.declared.rows.Row.{Row}
 use Rattle.mesa_schema.specs.declared.views.View.{View}
 use Rattle.mesa_schema.proofs.Lists.{all_found}
+use Rattle.mesa_batch.proofs.NameNumbers.{position-within}
 use Rattle.mesa_batch.specs.Totals.{abs_total}
 use Rattle.mesa_fold.proofs.Merged.{folds_totals}
 use Rattle.mesa_filter.specs.Query.{are_places}
@@ -53,6 +55,9 @@ use Rattle.mesa_tasks.specs.declared.opening.Wanted.{Wanted}
 abbrev pub under_of : Rows → Option ℕ → Seen → List Row
 under_of rows view x = rows_under view x.want.lineage (map (lifted x.want.lineage x.want.epoch (epoch_of x.want.lineage)) (rows x.want.file.id)) x.own
 
+add_most : (a b x y : ℕ) → a ≤ b → x ≤ y → a + x ≤ b + y
+add_most a b x y p q = omega (arith, p, q)
+
 -- ---- the values that a view chooses
 
 both : (a b : Bool) → a ≡ true → b ≡ true → (a && b) ≡ true
@@ -62,12 +67,11 @@ both false b x y = absurd cc
 -- a name that is there has a place there
 places_there : (names asked : List (List ℕ)) → list_all (λ place. nat_lt place (length names)) (places_in names asked) ≡ true
 places_there names [] = refl
-places_there names (name ∷ asked) = by (nat_lt (position_or_len (same_bytes name) names) (length names)) refl (places_there names asked)
+places_there names (name ∷ asked) = by (place_of name names) refl (places_there names asked)
   where
-    by : (b : Bool) → nat_lt (position_or_len (same_bytes name) names) (length names) ≡ b → list_all (λ place. nat_lt place (length names)) (places_in names asked) ≡ true
-        → list_all (λ place. nat_lt place (length names)) (cons_option (cond b (Some (position_or_len (same_bytes name) names)) None) (places_in names asked)) ≡ true
-    by true is rest = both _ _ is rest
-    by false is rest = rest
+    by : (o : Option ℕ) → place_of name names ≡ o → list_all (λ place. nat_lt place (length names)) (places_in names asked) ≡ true → list_all (λ place. nat_lt place (length names)) (cons_option o (places_in names asked)) ≡ true
+    by None is rest = rest
+    by (Some i) is rest = both _ _ (lt-ltb i (length names) (position-within (same_bytes name) names i is)) rest
 
 value_places : (s : Columns) (v : View) → are_places (aggs_of s) (view_value_places s v) ≡ true
 value_places s v =
@@ -132,9 +136,6 @@ module _ (rows : Rows) (l : Lineage) (number : ℕ) (v : View) (there : slice_ge
           let whole = ap (abs_total c) cut ∙ abs_append c (under_view s v (now_of epoch f)) (under_view s v others) in
           subst (λ n. abs_total c (under_of rows (Some number) x ++ some) ≤ n) (sym whole) (subst (λ n. n ≤ abs_total c (under_view s v (now_of epoch f)) + abs_total c (under_view s v others)) (sym read)
           (add_most (abs_total c (under_of rows (Some number) x)) (abs_total c (under_view s v (now_of epoch f))) (abs_total c some) (abs_total c (under_view s v others)) one rest))
-        where
-          add_most : (a b x y : ℕ) → a ≤ b → x ≤ y → a + x ≤ b + y
-          add_most a b x y p q = omega (arith, p, q)
 
   view_keeps : (ds : List Delta) → AllByRecursion (AreGrouped rows l) ds → AreFormed rows l ds → KeepsSums (columns_of l) (rows_of (map (present rows l) ds)) → KeepsSums (view_columns (columns_of l) v) (rows_of (map (under_of rows (Some number)) (flat_map (view_wanted l (own_lineage l v) number) ds)))
   view_keeps ds all form keeps c sum =
