@@ -1,5 +1,4 @@
 pub mod Applies
-pub mod Copies
 pub mod Counted
 pub mod Dropped
 pub mod Generation

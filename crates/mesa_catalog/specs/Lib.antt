@@ -3,4 +3,3 @@ pub mod Lookups
 pub mod Named
 pub mod Readied
 pub mod Kept
-pub mod Copied

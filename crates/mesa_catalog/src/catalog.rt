@@ -11,6 +11,7 @@ use crate::ready::Ready;
 use crate::readying::make_room;
 use crate::shelves::Shelves;
 use mesa_record::Record;
+use mesa_shelf::NoRows;
 use std::alloc::{AllocError, Global};
 use std::marker::Model;
 
@@ -21,6 +22,8 @@ pub struct Catalog {
     pub(crate) ready: Option<Ready>,
     // No file that is named has a greater id.
     pub(crate) greatest: u64,
+    // What is lent for a version that brought a table nothing.
+    pub(crate) no_rows: NoRows,
 }
 
 impl Model for Catalog {
@@ -47,6 +50,7 @@ impl Catalog {
             },
             ready: None,
             greatest: 0,
+            no_rows: NoRows::new(),
         }
     }
 
@@ -64,6 +68,7 @@ impl Catalog {
             },
             ready: None,
             greatest: self.greatest,
+            no_rows: NoRows::new(),
         };
         Ok(copy)
     }

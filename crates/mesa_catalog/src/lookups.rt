@@ -1,16 +1,18 @@
 // What is asked of the catalogue. Where no error is told, nothing takes memory.
 ghost use Rattle.std.specs.Prelude.{◌≡◌, ◌<◌, ◌≤◌, ◌^◌, IfOk, length, map, sum_by};
+ghost use Rattle.std.specs.Option.{option_copied};
 ghost use Rattle.mesa_span.specs.Ranges.{IsInOrder};
 ghost use Rattle.mesa_batch.specs.Numbers.{known_of};
 ghost use Rattle.mesa_image.specs.Catalog.{ranges_of, stock_at};
 ghost use Rattle.mesa_shelf.specs.Meaning.{IsTable, stock_of};
+ghost use Rattle.mesa_shelf.specs.Ranged.{delta_at};
 ghost use Rattle.mesa_catalog.specs.Lookups.{changes_of, generation_of, known_in, relation_of, sight_of};
 
 use crate::Catalog;
 use mesa_batch::{Glance, Glanced};
 use mesa_list::TryCopy;
 use mesa_schema::{Evolving, Name, Totals};
-use mesa_shelf::{Relation, Table, ranges};
+use mesa_shelf::{Delta, Relation, Table, ranges};
 use mesa_span::Ranges;
 use std::alloc::{AllocError, Global};
 use std::sync::Arc;
@@ -53,6 +55,15 @@ impl Catalog {
         ensures few { self.now.catalogue.next < 2 ^ 32 }
     {
         self.shelves.table(table)
+    }
+
+    /// The delta of just these versions of the table of a number, if there is one: the base, a cumulative, or the singleton of one version.
+    pub fn delta(&self, table: u16, from: u32, to: u32) -> Option<&Delta>
+        requires { table < length self.now.catalogue.tables }
+        ensures { option_copied result ≡ delta_at (stock_at self.now.catalogue table) from to }
+    {
+        self.table(table)
+            .delta(self.shelves.next, &self.no_rows, from, to)
     }
 
     /// The columns of the table of a number, through its life, and its views.

@@ -8,3 +8,5 @@ pub mod Bounds
 pub mod Places
 pub mod Named
 pub mod Pushes
+pub mod Copies
+pub mod Ranged

@@ -3,3 +3,5 @@ pub mod Lookups
 pub mod Readied
 pub mod Named
 pub mod Files
+pub mod Copied
+pub mod Ranged

@@ -1,10 +1,12 @@
 //! A table as a catalogue in memory holds it: its name, its columns through its life, its totals, and its deltas with their files. It says what the table stands for, what each record makes of it, and what is asked of it.
 #![tactic(auto)]
 
+mod copying;
 mod counting;
 mod delta;
 mod finding;
 mod fitting;
+mod lending;
 mod loading;
 mod lookups;
 mod naming;
@@ -16,9 +18,11 @@ mod swapping;
 mod table;
 mod totals;
 
+pub use copying::share_table;
 pub use counting::{counts_files, counts_totals, keeps_bound, width_of};
 pub use delta::Delta;
 pub use fitting::{counts_files_if_any, may_be_base, may_be_cumulative};
+pub use lending::NoRows;
 pub use loading::load_part;
 pub use lookups::ranges;
 pub use ready::{ReadyPart, make_spare};

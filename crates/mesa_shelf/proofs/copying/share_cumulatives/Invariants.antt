@@ -1,6 +1,6 @@
 use Rattle.std.proofs.Common.{◌≡◌, map, take}
-use Rattle.mesa_catalog.specs.Copied.{value_in}
-use Rattle.mesa_catalog.proofs.copying.share_cumulatives.Given as goal
+use Rattle.mesa_shelf.specs.Copied.{value_in}
+use Rattle.mesa_shelf.proofs.copying.share_cumulatives.Given as goal
 
 -- the deltas so far
 abbrev pub invariant-loop-delta : goal.invariant-loop-delta

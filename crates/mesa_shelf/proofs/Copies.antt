@@ -10,7 +10,7 @@ use Rattle.mesa_image.specs.Catalog.{Delta, Ending, empty_delta, end_in}
 use Rattle.mesa_shelf.specs.declared.table.Base.{Base}
 use Rattle.mesa_shelf.specs.declared.table.Loaded.{Loaded}
 use Rattle.mesa_shelf.specs.declared.table.Table.{Table}
-use Rattle.mesa_catalog.specs.Copied.{loaded_as, value_in}
+use Rattle.mesa_shelf.specs.Copied.{loaded_as, value_in}
 use Rattle.mesa_shelf.specs.Meaning.{AreLoaded, IsTable, delta_or_empty, ending_of, singles_from, start_of_base, stock_of, tens_from, widths_of}
 use Rattle.mesa_shelf.proofs.Tens.{base_ends}
 

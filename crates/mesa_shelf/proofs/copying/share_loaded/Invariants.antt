@@ -1,6 +1,6 @@
 use Rattle.std.proofs.Common.{◌≡◌, map, take}
-use Rattle.mesa_catalog.specs.Copied.{loaded_as}
-use Rattle.mesa_catalog.proofs.copying.share_loaded.Given as goal
+use Rattle.mesa_shelf.specs.Copied.{loaded_as}
+use Rattle.mesa_shelf.proofs.copying.share_loaded.Given as goal
 
 -- the versions so far
 abbrev pub invariant-loop-single : goal.invariant-loop-single
