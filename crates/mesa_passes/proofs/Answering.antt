@@ -1,11 +1,11 @@
 -- Faults of benches, across the turns of others, and over one turn of a session.
-use Rattle.std.proofs.Common.{◌≡◌, ℕ, ◌+◌, ◌<◌, ◌≤◌, ◌==◌, ◌&&◌, ◌||◌, not, true, false, Bool, IsTrue, List, [], ◌∷◌, ◌++◌, length, refl, sym, ap, ◌∙◌, subst, arith, true≢false, Option, Some, None}
+use Rattle.std.proofs.Common.{◌≡◌, ℕ, ◌+◌, ◌<◌, ◌≤◌, ◌==◌, eq-eqb, ne_eqb, ◌&&◌, ◌||◌, not, true, false, Bool, List, [], ◌∷◌, ◌++◌, refl, sym, ap, ◌∙◌, subst, arith, true≢false, Option, Some, None}
 use Rattle.std.specs.List.{AllByRecursion}
 use Rattle.std.proofs.lemmas.Bool.{and_left, and_parts, and_right, not-true, or_from, or_parts}
 use Rattle.std.proofs.lemmas.List.{map-append}
 use mathlib.Core.List.{IsPrefix}
 use Rattle.mesa_fault.specs.Causes.{last}
-use Rattle.mesa_turn.specs.History.{has, entries_of}
+use Rattle.mesa_turn.specs.History.{has}
 use Rattle.mesa_turn.specs.Passes.{Known, Finds, IsExact, Joins}
 use Rattle.mesa_turn.proofs.Laws.{others_first, others_second}
 use Rattle.mesa_model.specs.declared.commands.Command.{Command}
@@ -34,14 +34,14 @@ use Rattle.mesa_passes.proofs.Turning.{Step, step_seen}
 
 count_append : (test : Run → Entry → Bool) (script : Script) (r : Run) (h more : List Entry) → count_in test script r (h ++ more) ≡ count_in test script r h + count_in test script (runs script r h) more
 unfolding runs count_in
-count_append test script r [] more = refl
+count_append test script r [] more = omega arith
 count_append test script r (e ∷ h) more = let rest = count_append test script (go script r e) h more in omega (arith, rest)
 
 same_eqb : (a b : ℕ) → (a == b) ≡ false → (b == a) ≡ false
-same_eqb a b is = grind (arith, nat_tests)
+same_eqb a b is = ne_eqb b a (λ same. true≢false (sym (eq-eqb a b (sym same)) ∙ is))
 
 -- entries of others answer no fault of a session's bench
-none_answered : (session : ℕ) (script : Script) (r : Run) (rest : List Entry) → AllByRecursion (λ (e : Entry). (session == e.session) ≡ false) rest → count_in (is_bench_fault session) script r rest ≡ 0
+pub none_answered : (session : ℕ) (script : Script) (r : Run) (rest : List Entry) → AllByRecursion (λ (e : Entry). (session == e.session) ≡ false) rest → count_in (is_bench_fault session) script r rest ≡ 0
 unfolding count_in
 none_answered session script r [] others = refl
 none_answered session script r (e ∷ rest) others =

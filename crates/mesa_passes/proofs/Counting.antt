@@ -1,12 +1,10 @@
 -- The counts of benches, over all of a history.
 use Rattle.std.proofs.Common.{◌≡◌, ℕ, zero, suc, ◌+◌, ◌<◌, ◌≤◌, ◌==◌, ne_eqb, true, false, List, [], ◌∷◌, length, refl, sym, ap, ◌∙◌, subst, arith, Option, None, Some, ⊎_elim}
-use Rattle.std.specs.Prelude.{slice_get}
 use Rattle.std.specs.List.{AllByRecursion}
 use Rattle.std.proofs.lemmas.Bool.{cases_lt}
 use Rattle.mesa_fault.specs.Causes.{last}
 use Rattle.mesa_turn.specs.History.{has, entries_of}
 use Rattle.mesa_turn.specs.Passes.{Known, Joins}
-use Rattle.mesa_turn.proofs.Names.{has_itself}
 use Rattle.mesa_model.specs.declared.commands.Script.{Script}
 use Rattle.mesa_model.specs.declared.entries.Entry.{Entry}
 use Rattle.mesa_model.specs.Entry.{history_of}
