@@ -1,5 +1,5 @@
 -- No sum over the files by which a relation is read leaves its type.
-use Rattle.std.proofs.Common.{◌≡◌, ℕ, zero, suc, ◌+◌, ◌<◌, ◌≤◌, ◌^◌, List, [], ◌∷◌, ◌++◌, map, length, refl, sym, ap, ◌∙◌, subst, arith, lt-ltb, Bool, true, false, ◌&&◌, Option, Some, None}
+use Rattle.std.proofs.Common.{◌≡◌, ℕ, ◌+◌, ◌<◌, ◌≤◌, ◌^◌, List, [], ◌∷◌, ◌++◌, map, length, refl, sym, ap, ◌∙◌, subst, arith, lt-ltb, Bool, true, false, ◌&&◌, Option, Some, None}
 use Rattle.std.specs.Prelude.{flat_map, nat_lt, slice_get, ◌==◌}
 use Rattle.std.specs.List.{AllByRecursion, cons_option, list_all}
 use Rattle.std.proofs.lemmas.List.{append-nil, length-map, map-append}
@@ -8,7 +8,7 @@ use Rattle.mesa_value.specs.declared.Agg.TheVariants.{Sum}
 use Rattle.mesa_schema.specs.Changes.{Lineage, columns_of, epoch_of, lifted}
 use Rattle.mesa_list.specs.Bytes.{same_bytes}
 use Rattle.mesa_schema.specs.Columns.{Columns, aggs_of, chosen, place_of, places_in, value_names}
-use Rattle.mesa_schema.specs.Folded.{folded, grouped, regrouped, rows_of}
+use Rattle.mesa_schema.specs.Folded.{folded, regrouped, rows_of}
 use Rattle.mesa_schema.specs.Laws.{AreFull}
 use Rattle.mesa_schema.specs.Rows.{AreRowsOf}
 use Rattle.mesa_schema.specs.Views.{view_columns, view_key_places, view_rows, view_value_places}
@@ -48,7 +48,6 @@ use Rattle.mesa_query.specs.Relation.{rows_under, under_some, under_view}
 use Rattle.mesa_record.specs.declared.record.Files.{Files}
 use Rattle.mesa_record.specs.declared.record.ViewRef.{ViewRef}
 use Rattle.mesa_tasks.specs.Opening.{HaveOpened}
-use Rattle.mesa_tasks.specs.Pins.{view_at}
 use Rattle.mesa_tasks.specs.declared.opening.Wanted.{Wanted}
 
 -- what a file's rows are in the relation before any are grouped

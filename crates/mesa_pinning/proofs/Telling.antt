@@ -64,8 +64,8 @@ same_page s t q view (k ∷ ks) (o ∷ own) contents a b = ap (λ (x : Columns).
 -- nor does any sum leave its type
 same_sums : (s t : Columns) (view : Option ℕ) (ks : List Known) (own : List Bool) (contents : List (List Row)) → AreOfRelation s view ks own → AreOfRelation t view ks own
     → KeepsSums s (rows_of (parts_under view ks own contents)) → KeepsSums t (rows_of (parts_under view ks own contents))
-same_sums s t view [] own contents a b keeps c sum = omega arith
-same_sums s t view (k ∷ ks) [] contents a b keeps c sum = omega arith
+same_sums s t view [] own contents a b keeps = λ c sum. omega arith
+same_sums s t view (k ∷ ks) [] contents a b keeps = λ c sum. omega arith
 same_sums s t view (k ∷ ks) (o ∷ own) contents a b keeps = subst (λ (x : Columns). KeepsSums x (rows_of (parts_under view (k ∷ ks) (o ∷ own) contents))) (columns_are s t view k.table o a.0 b.0) keeps
 
 -- what was pinned is known to be of the relation
