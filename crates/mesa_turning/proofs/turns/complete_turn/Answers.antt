@@ -1,5 +1,5 @@
-use Rattle.std.proofs.Common.{not, ap, ◌∙◌, sym}
-use Rattle.std.specs.Prelude.{is_ok}
+use Rattle.std.proofs.Common.{◌≡◌, not, ap, ◌∙◌, sym}
+use Rattle.std.specs.Prelude.{Err, is_ok}
 use Rattle.mesa_history.specs.Legal.{is_work}
 use Rattle.mesa_history.specs.Run.{Finished}
 use Rattle.mesa_model.specs.declared.entries.Kind.TheVariants as kind
@@ -7,7 +7,10 @@ use Rattle.mesa_skeleton.specs.Rows.{no_rows}
 use Rattle.mesa_walk.specs.Works.{closing_stage}
 use Rattle.mesa_passes.proofs.Answering.{step_drafts}
 use Rattle.mesa_passes.proofs.Turning.{Step, step_took}
+use Rattle.mesa_tasks.specs.declared.merging.CompactError.TheVariants as compact
+use Rattle.mesa_service.specs.Drafts.{owed_by_work}
 use Rattle.mesa_tasks.specs.Tasks.{claim_in}
+use Rattle.mesa_turning.proofs.Prepared.{owed_merged}
 use Rattle.mesa_turning.proofs.Found.{granted_found}
 use Rattle.mesa_turning.proofs.Stepping.{Enters, asks, finds_numbers, goes_on, one, room_for, step}
 use Rattle.mesa_turning.proofs.turns.complete_turn.Goals as goal

@@ -1,4 +1,5 @@
-use Rattle.std.proofs.Common.{refl, ap, ◌∙◌, sym}
+use Rattle.std.proofs.Common.{◌≡◌, refl, ap, ◌∙◌, sym}
+use Rattle.std.specs.Prelude.{Err}
 use Rattle.mesa_history.specs.Run.{Looked, Finished}
 use Rattle.mesa_model.specs.declared.commands.Command.TheVariants as command
 use Rattle.mesa_model.specs.declared.entries.Kind.TheVariants as kind
@@ -6,7 +7,10 @@ use Rattle.mesa_skeleton.specs.Rows.{no_rows}
 use Rattle.mesa_walk.specs.Turns.{is_load}
 use Rattle.mesa_passes.proofs.Answering.{answers_within, step_drafts}
 use Rattle.mesa_passes.proofs.Turning.{Step, step_took}
+use Rattle.mesa_tasks.specs.declared.prepared.LoadError.TheVariants as load
+use Rattle.mesa_service.specs.Drafts.{owed_by_load}
 use Rattle.mesa_service.specs.Sight.{sight_after}
+use Rattle.mesa_turning.proofs.Prepared.{owed_made}
 use Rattle.mesa_turning.proofs.Found.{prepared_found}
 use Rattle.mesa_turning.proofs.Stepping.{Enters, asks, finds_numbers, goes_on, one, room_for, step}
 use Rattle.mesa_turning.proofs.turns.publish_turn.Goals as goal
