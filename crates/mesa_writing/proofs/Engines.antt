@@ -1,5 +1,5 @@
 -- How a turn that writes keeps an engine.
-use Rattle.std.proofs.Common.{◌≡◌, ℕ, ◌+◌, ◌<◌, ◌≤◌, ◌^◌, List, [], ◌∷◌, ◌++◌, length, true, false, ◌||◌, not, sym, subst, arith, Option, None, Some, Ok}
+use Rattle.std.proofs.Common.{refl, ◌≡◌, ℕ, ◌+◌, ◌<◌, ◌≤◌, ◌^◌, List, [], ◌∷◌, ◌++◌, length, true, false, ◌||◌, not, sym, subst, arith, Option, None, Some, Ok}
 use Rattle.std.specs.Prelude.{vec_capacity}
 use Rattle.mesa_key.specs.Spelling.{AreBytes}
 use Rattle.mesa_disk.specs.Files.{AreAbsent, files_of}

@@ -37,10 +37,10 @@ use Rattle.mesa_trash.specs.Holding.{Among, freed, ids_of}
 use Rattle.mesa_walk.specs.Causes.{Unwritten, reply_of, told_at}
 use Rattle.mesa_walk.specs.Printing.{IsPut}
 use Rattle.mesa_walk.specs.Turns.{entry}
-use Rattle.mesa_walk.specs.Walk.{Outset, Counts, Passes, StandsForEither, Writes, run_of}
+use Rattle.mesa_walk.specs.Walk.{Counts, Passes, StandsForEither, Writes, run_of}
 use Rattle.mesa_ledger.specs.Ledger.{Ledger, first_id, holders, ids_held, next_id}
 use Rattle.mesa_ledger.specs.Recorded.{IsRecorded, failed_ledger, recorded_ledger, removed_by, waiting}
-use Rattle.mesa_ledger.specs.Vault.{Origin, IsVault, Starts, outset_of}
+use Rattle.mesa_ledger.specs.Vault.{IsVault, Starts, outset_of}
 use Rattle.mesa_ledger.proofs.Agreeing.{named_agree, same_kept}
 use Rattle.mesa_ledger.proofs.Filing.{filed_moved, holds_are}
 use Rattle.mesa_ledger.proofs.Renaming.{record_brings, record_renames}
