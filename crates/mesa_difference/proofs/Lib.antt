@@ -1,0 +1,4 @@
+pub mod Same
+pub mod Least
+pub mod Beside
+pub mod Differing
