@@ -1,0 +1,4 @@
+pub mod Found
+pub mod Ranges
+pub mod Faults
+pub mod Laws
