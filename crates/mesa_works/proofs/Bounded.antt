@@ -1,6 +1,6 @@
 -- No sum over the files of a range leaves its type where the store is sound.
 use Rattle.std.proofs.Common.{◌≡◌, ◌∙◌, ℕ, zero, suc, ◌<◌, ◌^◌, List, [], ◌∷◌, length, map, true, refl, sym, ap, subst, zero-add, Option, None, Some}
-use Rattle.std.specs.Prelude.{IfSome, flat_map, slice_get}
+use Rattle.std.specs.Prelude.{flat_map, slice_get}
 use Rattle.std.specs.List.{AllByRecursion}
 use Rattle.mesa_batch.specs.Totals.{abs_total}
 use Rattle.mesa_commit.specs.Images.{Has}
@@ -8,14 +8,14 @@ use Rattle.mesa_compact.specs.Bounded.{AreBounded, AreOwnBounded, IsBounded}
 use Rattle.mesa_disk.specs.Image.{Image}
 use Rattle.mesa_disk.specs.Story.{Story}
 use Rattle.mesa_schema.specs.Changes.{Lineage, columns_of, epoch_of, lifted}
-use Rattle.mesa_schema.specs.Columns.{Columns, aggs_of}
+use Rattle.mesa_schema.specs.Columns.{Columns}
 use Rattle.mesa_schema.specs.Folded.{rows_of}
 use Rattle.mesa_schema.specs.Views.{view_columns}
 use Rattle.mesa_schema.specs.declared.rows.Row.{Row}
 use Rattle.mesa_schema.specs.declared.views.View.{View}
 use Rattle.mesa_delta.specs.declared.input.Input.{Input}
 use Rattle.mesa_image.specs.Catalog.{Catalog, Delta, Stock, stock_at}
-use Rattle.mesa_image.specs.Contents.{Rows, present}
+use Rattle.mesa_image.specs.Contents.{Rows}
 use Rattle.mesa_image.specs.Fitting.{delta_shelved, deltas_of, shelved}
 use Rattle.mesa_image.specs.Sound.{wants}
 use Rattle.mesa_image_laws.proofs.Lists.{all_unflat, stock_found}
@@ -30,12 +30,12 @@ use Rattle.mesa_model.specs.declared.entries.Entry.{Entry}
 use Rattle.mesa_gather.specs.Gathered.{IsGathered, unread_view}
 use Rattle.mesa_pinning.specs.Read.{own_file}
 use Rattle.mesa_pinning.proofs.Folding.{table_parts}
-use Rattle.mesa_pinning.proofs.Given.{AreGiven, IsGiven, IsSeen, all_given, all_told, part_of, rows_seen}
+use Rattle.mesa_pinning.proofs.Given.{AreGiven, IsGiven, all_given, all_told, part_of, rows_seen}
 use Rattle.mesa_pinning.proofs.Reading.{owned}
 use Rattle.mesa_pinning.proofs.Sums.{merged_sums}
 use Rattle.mesa_pinning.proofs.Telling.{stock_given}
 use Rattle.mesa_plans.proofs.Among.{all_merged}
-use Rattle.mesa_plans.specs.Files.{Seen, Want, table_wanted, want_in, want_of}
+use Rattle.mesa_plans.specs.Files.{Seen, Want, table_wanted, want_of}
 use Rattle.mesa_tasks.specs.Opening.{HaveOpened}
 use Rattle.mesa_tasks.specs.declared.merging.Task.{Task}
 use Rattle.mesa_tasks.specs.declared.merging.TaskView.{TaskView}

@@ -1,5 +1,5 @@
 -- How a work's renewal keeps a vault.
-use Rattle.std.proofs.Common.{◌≡◌, ◌∙◌, ℕ, ◌<◌, ◌^◌, ◌≤◌, ◌+◌, List, [], ◌∷◌, ◌++◌, length, Bool, true, ◌||◌, not, sym, ap, subst, arith, Option, None, Some, Ok, Err}
+use Rattle.std.proofs.Common.{◌≡◌, ◌∙◌, ℕ, ◌<◌, ◌^◌, ◌≤◌, ◌+◌, List, [], ◌∷◌, ◌++◌, length, Bool, true, ◌||◌, not, sym, ap, subst, arith, Option, None, Some, Ok, Err, refl}
 use Rattle.std.specs.Prelude.{vec_capacity}
 use Rattle.mesa_list.specs.Checks.{◌>>◌, refuse_unless}
 use Rattle.mesa_disk.specs.Story.{Story}

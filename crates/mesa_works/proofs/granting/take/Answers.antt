@@ -1,4 +1,4 @@
-use Rattle.std.proofs.Common.{◌≡◌, ◌<◌, ◌≤◌, ◌+◌, [], ◌∷◌, ◌++◌, length, Bool, IsTrue, true, false, not, refl, sym, ◌∙◌, ap, subst, arith, Ok, Some}
+use Rattle.std.proofs.Common.{◌≡◌, ◌<◌, ◌≤◌, ◌+◌, [], ◌∷◌, ◌++◌, length, Bool, IsTrue, true, false, not, refl, sym, ◌∙◌, ap, subst, arith, Ok, None, Some}
 use Rattle.std.specs.List.{AllByRecursion}
 use Rattle.mesa_schema.specs.Changes.{Lineage, epoch_of}
 use Rattle.mesa_span.specs.Ranges.{base_before}
@@ -113,7 +113,7 @@ returns-in-Ok-clause-turn g c =
     let same : claim ≡ record { table = c.in-Ok.task.table; lease = c.lease.result; work = c.in-Ok.task.work } = λ i. record { table = sym c.in-Ok.ensures.table i; lease = sym c.lease.ensures.number i; work = sym c.in-Ok.ensures.work i } in
     subst (λ (x : Claim). Takes N.script (N.start no_rows) c.args.engine.now.shown shown s number kind.Grant (Granted x)) same
     (subst (λ (x : Standing). Takes N.script (N.start no_rows) x.shown shown s number kind.Grant (Granted claim)) c.engine.view_is
-    (granted_takes (outset_of n no_rows) (n.origin no_rows) false l story (g.K.Sink.held i.log.printer.sink) h (not i.log.printer.broken) i.log.refused (c.engine.invariant.vault no_rows false (λ z. absurd cc)) s number short.session short.command c.requires.due.0 (runs g c) c.position-at.ensures (due_at g c) new c.gather-gathered.ensures.unmoved story.moment shown refl
+    (granted_takes (outset_of n no_rows) (n.origin no_rows) false l story (g.K.Sink.held i.log.printer.sink) h (not i.log.printer.broken) i.log.refused (c.engine.invariant.vault no_rows false (λ z. absurd cc)) s number short.session short.command c.requires.due.0 (runs g c) c.position-at.result c.position-at.ensures (due_at g c) new c.gather-gathered.ensures.unmoved story.moment shown refl
     (vault_at_seen n c.lease.new.metadata.ledger new (g.K.Sink.held later.printer.sink) later.history.items (not later.printer.broken) later.refused new.moment (kept g c).vault)
     claim (claim_at g c) (c.pass.ensures.items ∙ ap (λ x. h ++ x ∷ []) c.turn-turn.ensures.same ∙ ap (λ x. h ++ entry s number kind.Grant outcome.Stands x ∷ []) c.clock-moment.ensures)))
 
@@ -133,7 +133,7 @@ table_there g c =
     subst (λ k. k < length l.catalogue.tables) (sym c.in-Ok.ensures.table) (subst (λ (x : Standing). c.args.claimed.table < length x.ledger.catalogue.tables) (sym c.engine.view_is) c.requires.there)
 
 -- its table is the catalogue's
-stock_is : (g : _) (c : goal.After-pass g) → stock_of _ c.table-table.result.now ≡ stock_at c.engine.inside.metadata.ledger.catalogue c.in-Ok.task.table
+stock_is : (g : _) (c : goal.After-pass g) → stock_of c.catalog.result.now.catalogue.next c.table-table.result.now ≡ stock_at c.engine.inside.metadata.ledger.catalogue c.in-Ok.task.table
 stock_is g c = c.table-table.ensures.stock ∙ ap (λ (k : Catalog). stock_at k c.args.claimed.table) c.catalog.ensures ∙ ap (stock_at c.engine.inside.metadata.ledger.catalogue) (sym c.in-Ok.ensures.table)
 
 -- its work is one that is due
