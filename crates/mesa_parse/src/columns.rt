@@ -58,8 +58,8 @@ fn aggregation(word: &[u8]) -> Option<Agg>
     }
 }
 
-// A key column: its name, and its type.
-fn key_column(alloc: Global, entry: &[u8]) -> Result<KeyWords, Failed>
+/// A key column: its name, and its type.
+pub(crate) fn key_column(alloc: Global, entry: &[u8]) -> Result<KeyWords, Failed>
     ensures read { IfOk result (λ column. key_words entry.now ≡ Ok column) }
     ensures refused { IfErr result (λ e. Tells e (key_words entry.now)) }
 {
@@ -73,8 +73,8 @@ fn key_column(alloc: Global, entry: &[u8]) -> Result<KeyWords, Failed>
     Ok(KeyWords { name, kind })
 }
 
-// A value column: its name, and its aggregation.
-fn value_column(alloc: Global, entry: &[u8]) -> Result<ValueWords, Failed>
+/// A value column: its name, and its aggregation.
+pub(crate) fn value_column(alloc: Global, entry: &[u8]) -> Result<ValueWords, Failed>
     ensures read { IfOk result (λ column. value_words entry.now ≡ Ok column) }
     ensures refused { IfErr result (λ e. Tells e (value_words entry.now)) }
 {

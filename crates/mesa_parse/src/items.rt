@@ -2,11 +2,12 @@
 ghost use Rattle.std.specs.Prelude.{◌≡◌, IfErr, IfOk, Ok};
 ghost use Rattle.csv.specs.Records.{fields_of};
 ghost use Rattle.mesa_batch.specs.Load.{row_from};
-ghost use Rattle.mesa_script.specs.Records.{Table, View, Row, Query, Expire};
-ghost use Rattle.mesa_script.specs.Items.{RowOf, Single, item_of};
+ghost use Rattle.mesa_script.specs.Records.{Lease, Table, View, Alter, Row, Query, Explain, Pin, Release, Expire, Work};
+ghost use Rattle.mesa_script.specs.Items.{LeaseOf, RowOf, Single, item_of};
 ghost use Rattle.mesa_parse.specs.Failures.{Tells};
 ghost use Rattle.mesa_parse.specs.Said.{item_as, name_as};
 
+use crate::changes::read_change;
 use crate::columns::{key_columns, names, value_columns};
 use crate::failed::Failed;
 use crate::kinds::Kind;
@@ -16,17 +17,29 @@ use crate::versions::version;
 use csv::ByteRecord;
 use mesa_filter::QueryWords;
 use mesa_list::Fields;
-use mesa_model::{Command, TableWords, ViewWords};
+use mesa_model::{AlterWords, Command, ExplainWords, TableWords, ViewWords};
+use mesa_script::Reason;
 use std::alloc::{AllocError, Global};
 
 /// What a record says.
 #[derive(Drop)]
 pub(crate) enum Said {
+    /// How many turns a lease lasts.
+    LeaseOf(u32),
+    NextSession,
     /// A row of a load: its table's name, and then its fields.
     Row(Fields),
     EndOfLoad,
     /// A command by itself.
     Single(Command),
+}
+
+// How many turns a lease lasts, which is one at least.
+fn lease(fields: &ByteRecord) -> Result<u32, Reason>
+    ensures read { IfOk result (λ turns. item_of Lease (fields_of fields.now) ≡ Ok (LeaseOf turns)) }
+    ensures refused { IfErr result (λ reason. item_of Lease (fields_of fields.now) ≡ Err reason) }
+{
+    number_in(1, MAX_NUMBER, field(fields, 1))
 }
 
 // A table with its columns.
@@ -56,6 +69,16 @@ fn view(alloc: Global, fields: &ByteRecord) -> Result<Command, AllocError>
     }))
 }
 
+// A table with a change of its columns.
+fn alter(alloc: Global, fields: &ByteRecord) -> Result<Command, Failed>
+    ensures read { IfOk result (λ command. item_of Alter (fields_of fields.now) ≡ Ok (Single command)) }
+    ensures refused { IfErr result (λ e. Tells e (item_of Alter (fields_of fields.now))) }
+{
+    let change = read_change(alloc, fields)?;
+    let table = words(alloc, fields, 1)?;
+    Ok(Command::Alter(AlterWords { table, change }))
+}
+
 // The words of a row of a load.
 #[tactic(auto, using(crate::proofs::RowItems::row_item))]
 fn row(alloc: Global, fields: &ByteRecord) -> Result<Fields, AllocError>
@@ -82,6 +105,34 @@ fn query(alloc: Global, fields: &ByteRecord) -> Result<Command, Failed>
     }))
 }
 
+// A table or view, and the version at which a query of it is explained, which is no pin's.
+fn explain(alloc: Global, fields: &ByteRecord) -> Result<Command, Failed>
+    ensures read { IfOk result (λ command. item_of Explain (fields_of fields.now) ≡ Ok (Single command)) }
+    ensures refused { IfErr result (λ e. Tells e (item_of Explain (fields_of fields.now))) }
+{
+    let version = version(false, field(fields, 2))?;
+    let relation = words(alloc, fields, 1)?;
+    Ok(Command::Explain(ExplainWords { relation, version }))
+}
+
+// The version to keep, which is no pin's.
+fn pin(fields: &ByteRecord) -> Result<Command, Failed>
+    ensures read { IfOk result (λ command. item_of Pin (fields_of fields.now) ≡ Ok (Single command)) }
+    ensures refused { IfErr result (λ e. Tells e (item_of Pin (fields_of fields.now))) }
+{
+    let version = version(false, field(fields, 1))?;
+    Ok(Command::Pin(version))
+}
+
+// The token of the pin to give back.
+fn release(fields: &ByteRecord) -> Result<Command, Failed>
+    ensures read { IfOk result (λ command. item_of Release (fields_of fields.now) ≡ Ok (Single command)) }
+    ensures refused { IfErr result (λ e. Tells e (item_of Release (fields_of fields.now))) }
+{
+    let token = number_in(0, MAX_NUMBER, field(fields, 1))?;
+    Ok(Command::Release(token))
+}
+
 // The version below which none is to be asked for any more.
 fn expire(fields: &ByteRecord) -> Result<Command, Failed>
     ensures read { IfOk result (λ command. item_of Expire (fields_of fields.now) ≡ Ok (Single command)) }
@@ -91,17 +142,32 @@ fn expire(fields: &ByteRecord) -> Result<Command, Failed>
     Ok(Command::Expire(version))
 }
 
+// The table of which deltas are to be merged.
+fn work(alloc: Global, fields: &ByteRecord) -> Result<Command, AllocError>
+    ensures { IfOk result (λ command. item_of Work (fields_of fields.now) ≡ Ok (Single command)) }
+{
+    Ok(Command::Work(words(alloc, fields, 1)?))
+}
+
 /// What a record of a kind says, or what is wrong with its words and numbers.
 pub(crate) fn read_item(alloc: Global, kind: Kind, fields: &ByteRecord) -> Result<Said, Failed>
     ensures read { IfOk result (λ said. item_of (name_as kind) (fields_of fields.now) ≡ Ok (item_as said)) }
     ensures refused { IfErr result (λ e. Tells e (item_of (name_as kind) (fields_of fields.now))) }
 {
-    match kind {
-        Kind::Table => Ok(Said::Single(table(alloc, fields)?)),
-        Kind::View => Ok(Said::Single(view(alloc, fields)?)),
-        Kind::Row => Ok(Said::Row(row(alloc, fields)?)),
-        Kind::Commit => Ok(Said::EndOfLoad),
-        Kind::Query => Ok(Said::Single(query(alloc, fields)?)),
-        Kind::Expire => Ok(Said::Single(expire(fields)?)),
-    }
+    let command = match kind {
+        Kind::Lease => return Ok(Said::LeaseOf(lease(fields)?)),
+        Kind::Session => return Ok(Said::NextSession),
+        Kind::Row => return Ok(Said::Row(row(alloc, fields)?)),
+        Kind::Commit => return Ok(Said::EndOfLoad),
+        Kind::Table => table(alloc, fields)?,
+        Kind::View => view(alloc, fields)?,
+        Kind::Alter => alter(alloc, fields)?,
+        Kind::Query => query(alloc, fields)?,
+        Kind::Explain => explain(alloc, fields)?,
+        Kind::Pin => pin(fields)?,
+        Kind::Release => release(fields)?,
+        Kind::Expire => expire(fields)?,
+        Kind::Work => work(alloc, fields)?,
+    };
+    Ok(Said::Single(command))
 }

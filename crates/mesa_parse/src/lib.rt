@@ -1,6 +1,7 @@
 //! Reading scripts: what their records say, as csv reads them.
 #![tactic(auto)]
 
+mod changes;
 mod columns;
 mod failed;
 mod items;
@@ -11,4 +12,5 @@ mod records;
 mod scripts;
 mod versions;
 
+pub use numbers::number_in;
 pub use scripts::parse;

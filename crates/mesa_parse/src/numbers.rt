@@ -8,7 +8,7 @@ use mesa_script::Reason;
 pub(crate) const MAX_NUMBER: u32 = 4_294_967_295;
 
 /// The number that a word of decimal digits spells, in a range whose ends are included.
-pub(crate) fn number_in(low: u32, high: u32, word: &[u8]) -> Result<u32, Reason>
+pub fn number_in(low: u32, high: u32, word: &[u8]) -> Result<u32, Reason>
     ensures { result ≡ number_between low high word.now }
 {
     if word.is_empty() {

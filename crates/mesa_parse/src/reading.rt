@@ -1,10 +1,9 @@
 // What was read of a script so far.
-ghost use Rattle.std.specs.Prelude.{◌≡◌, ◌≢◌, ℕ, IfErr, IfOk, OnOk, Ok};
-ghost use Rattle.mesa_script.specs.Records.{is_unbuilt};
+ghost use Rattle.std.specs.Prelude.{◌≡◌, ◌≢◌, IfErr, IfOk, OnOk, Ok};
 ghost use Rattle.mesa_script.specs.Script.{fits_order as follows, item_at, nothing_read, with_item, with_record};
 ghost use Rattle.csv.specs.Records.{fields_of};
 ghost use Rattle.mesa_parse.specs.Failures.{Tells};
-ghost use Rattle.mesa_script.specs.Items.{Single};
+ghost use Rattle.mesa_script.specs.Items.{NextSession, Single};
 ghost use Rattle.mesa_parse.specs.Ended.{ended};
 ghost use Rattle.mesa_parse.specs.Said.{item_as, name_as};
 
@@ -25,6 +24,9 @@ const DEFAULT_LEASE: u32 = 4096;
 
 /// How many commands a script may have.
 const MAX_COMMANDS: usize = 200_000;
+
+/// How many sessions a script may have, the prologue included.
+const MAX_SESSIONS: usize = 8;
 
 /// What was read so far: the lease's length, the sessions that are whole, the commands of the one
 /// at hand, the rows of a load that hasn't ended, and how many commands there were.
@@ -59,23 +61,30 @@ impl Reading {
         }
     }
 
-    // Whether a record of a kind may stand here: only a row or a commit follows a row.
-    fn fits_order(&self, kind: Kind) -> bool
-        ensures { (place : ℕ) → result ≡ follows place (name_as kind) self.now.rows }
+    // Whether a record of a kind may stand at a place: a lease is the first record, and only a row
+    // or a commit follows a row.
+    fn fits_order(&self, place: u64, kind: Kind) -> bool
+        ensures { result ≡ follows place (name_as kind) self.now.rows }
     {
-        matches!(kind, Kind::Row | Kind::Commit) || self.rows.is_empty()
+        match kind {
+            Kind::Row | Kind::Commit => true,
+            Kind::Lease => place == 1,
+            _ => self.rows.is_empty(),
+        }
     }
 
     // What the next record says, or what is wrong with it.
     fn next_said(&self, alloc: Global, place: u64, fields: &ByteRecord) -> Result<Said, Failed>
-        ensures read { IfOk result (λ said. item_at is_unbuilt place (fields_of fields.now) self.now.rows ≡ Ok (item_as said)) }
-        ensures refused { IfErr result (λ e. Tells e (item_at is_unbuilt place (fields_of fields.now) self.now.rows)) }
+        ensures read { IfOk result (λ said. item_at place (fields_of fields.now) self.now.rows ≡ Ok (item_as said)) }
+        ensures refused { IfErr result (λ e. Tells e (item_at place (fields_of fields.now) self.now.rows)) }
     {
-        let kind = Kind::of(fields)?;
+        let Some(kind) = Kind::of(fields) else {
+            return Err(Failed::Bad(Reason::Unknown));
+        };
         if !kind.fits_fields(fields) {
             return Err(Failed::Bad(Reason::Fields));
         }
-        if !self.fits_order(kind) {
+        if !self.fits_order(place, kind) {
             return Err(Failed::Bad(Reason::Order));
         }
         read_item(alloc, kind, fields)
@@ -102,12 +111,32 @@ impl Reading {
         Ok(())
     }
 
+    // Ends the session at hand and begins the next one.
+    fn next_session(&mut self, alloc: Global, place: u64) -> Result<(), ScriptError>
+        ensures read { OnOk result (with_item place NextSession self.old ≡ Ok self.new) }
+        ensures refused { IfErr result (λ e. e ≢ ScriptError.Memory → with_item place NextSession self.old ≡ Err e) }
+    {
+        if self.finished.len() >= MAX_SESSIONS - 1 {
+            return Err(ScriptError::TooManySessions { place });
+        }
+        let whole = mem::replace(&mut self.current, Items::new(alloc));
+        match self.finished.push(whole) {
+            Ok(()) => Ok(()),
+            Err(_) => Err(ScriptError::Memory),
+        }
+    }
+
     // Adds what a record says.
     fn add(&mut self, alloc: Global, place: u64, said: Said) -> Result<(), ScriptError>
         ensures read { OnOk result (with_item place (item_as said) self.old ≡ Ok self.new) }
         ensures refused { IfErr result (λ e. e ≢ ScriptError.Memory → with_item place (item_as said) self.old ≡ Err e) }
     {
         match said {
+            Said::LeaseOf(turns) => {
+                self.lease = turns;
+                Ok(())
+            }
+            Said::NextSession => self.next_session(alloc, place),
             Said::Row(words) => match self.rows.push(&words) {
                 Ok(()) => Ok(()),
                 Err(_) => Err(ScriptError::Memory),
@@ -127,8 +156,8 @@ impl Reading {
         place: u64,
         fields: &ByteRecord,
     ) -> Result<(), ScriptError>
-        ensures read { OnOk result (with_record is_unbuilt place (fields_of fields.now) self.old ≡ Ok self.new) }
-        ensures refused { IfErr result (λ e. e ≢ ScriptError.Memory → with_record is_unbuilt place (fields_of fields.now) self.old ≡ Err e) }
+        ensures read { OnOk result (with_record place (fields_of fields.now) self.old ≡ Ok self.new) }
+        ensures refused { IfErr result (λ e. e ≢ ScriptError.Memory → with_record place (fields_of fields.now) self.old ≡ Err e) }
     {
         match self.next_said(alloc, place, fields) {
             Ok(said) => self.add(alloc, place, said),

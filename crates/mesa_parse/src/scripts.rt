@@ -1,6 +1,6 @@
 // Scripts.
 ghost use Rattle.std.specs.Prelude.{◌≡◌, ◌≢◌, IfErr, IfOk, Ok};
-ghost use Rattle.mesa_script.specs.Script.{built_script_of};
+ghost use Rattle.mesa_script.specs.Script.{script_of};
 
 use crate::reading::Reading;
 use crate::records::{next_record, record_reader};
@@ -11,8 +11,8 @@ use std::alloc::Global;
 
 /// The script that bytes spell, or its first bad record.
 pub fn parse(alloc: Global, bytes: Vec<u8>) -> Result<Script, ScriptError>
-    ensures read { IfOk result (λ script. built_script_of bytes.items ≡ Ok script) }
-    ensures refused { IfErr result (λ e. e ≢ ScriptError.Memory → built_script_of bytes.items ≡ Err e) }
+    ensures read { IfOk result (λ script. script_of bytes.items ≡ Ok script) }
+    ensures refused { IfErr result (λ e. e ≢ ScriptError.Memory → script_of bytes.items ≡ Err e) }
 {
     let mut reader = record_reader(alloc, &bytes);
     let mut record = ByteRecord::new(alloc);

@@ -22,13 +22,6 @@ fn behind_pin(word: &[u8]) -> Option<&[u8]>
     }
 }
 
-/// Whether a word begins like the version of a pin.
-pub(crate) fn asks_pin(word: &[u8]) -> bool
-    ensures { result ≡ begins_pin word.now }
-{
-    behind_pin(word).is_some()
-}
-
 fn all_digits(word: &[u8]) -> bool
     ensures { result ≡ list_all is_digit word.now }
 {
