@@ -6,8 +6,7 @@ use Rattle.mesa_history.specs.Counting.{count_in, is_disk_fault, is_bench_fault}
 use Rattle.mesa_history.specs.Refused.{some_refused}
 use Rattle.mesa_history.specs.Run.{Run, begins}
 use Rattle.mesa_script.specs.declared.script.ScriptError.{ScriptError}
-use Rattle.mesa_script.specs.Records.{is_unbuilt}
-use Rattle.mesa_script.specs.Script.{built_script_of}
+use Rattle.mesa_script.specs.Script.{script_of}
 use Rattle.mesa_skeleton.specs.Rows.{Rows}
 use Rattle.mesa_image.specs.Catalog.{Catalog}
 use Rattle.mesa_opening.specs.declared.error.OpenError.{OpenError}
@@ -97,20 +96,20 @@ module _ {K D M B : Type 0} (ports : Ports K D M B) (g : Devices K D B) (done : 
       ]
     ]
 
-    text : (bytes : List ℕ) (script : Script) → built_script_of bytes ≡ Ok script → EndsText ports g done bytes → Completes done
+    text : (bytes : List ℕ) (script : Script) → script_of bytes ≡ Ok script → EndsText ports g done bytes → Completes done
     text bytes script is ends = elim ends [
       | inl p ↦ absurd (err_ok _ p.0 script p.1 is)
       | inr rest ↦ elim rest [
-        | inl p ↦ scripted p.0 (scripts_small is_unbuilt bytes p.0 p.1) p.2
+        | inl p ↦ scripted p.0 (scripts_small bytes p.0 p.1) p.2
         | inr p ↦ printed _ p.1
       ]
     ]
 
-    read : (input : Option (List ℕ)) (bytes : List ℕ) (script : Script) → input ≡ Some bytes → length bytes ≤ max_input → built_script_of bytes ≡ Ok script → EndsInput ports g done input → Completes done
+    read : (input : Option (List ℕ)) (bytes : List ℕ) (script : Script) → input ≡ Some bytes → length bytes ≤ max_input → script_of bytes ≡ Ok script → EndsInput ports g done input → Completes done
     read input bytes script known short is ends = elim ends [
       | inl q ↦ absurd (let long : max_input < length bytes = subst (λ o. IfSome o (λ b. max_input < length b)) known q.0 in omega (arith, long, short))
       | inr more ↦ elim more [
-        | inl q ↦ text q.0 script (ap built_script_of (sym (subst (λ o. IfSome o (λ all. all ≡ q.0)) known q.1)) ∙ is) q.3
+        | inl q ↦ text q.0 script (ap script_of (sym (subst (λ o. IfSome o (λ all. all ≡ q.0)) known q.1)) ∙ is) q.3
         | inr q ↦ printed _ q.1
       ]
     ]

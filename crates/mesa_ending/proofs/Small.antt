@@ -1,5 +1,5 @@
 -- Every script that bytes spell is small.
-use Rattle.std.proofs.Common.{◌≡◌, ⊎_elim, ◌+◌, ◌≤◌, ◌<◌, ℕ, zero, suc, List, [], ◌∷◌, ◌++◌, length, Bool, true, false, refl, subst, arith, length-append}
+use Rattle.std.proofs.Common.{◌≡◌, ⊎_elim, ◌+◌, ◌≤◌, ◌<◌, ℕ, zero, suc, List, [], ◌∷◌, ◌++◌, length, true, false, refl, subst, arith, length-append}
 use Rattle.std.specs.Prelude.{Result, Ok, Err, IfOk, nat_le, ◌==◌, if◌then◌else◌}
 use Rattle.std.proofs.lemmas.Bool.Decides.{leb_tells}
 use Rattle.mesa_list.specs.Checks.{◌>>◌, refuse_if, refused_as}
@@ -10,7 +10,7 @@ use Rattle.mesa_script.specs.declared.script.Reason.TheVariants as reason
 use Rattle.mesa_script.specs.declared.script.ScriptError.{ScriptError}
 use Rattle.mesa_script.specs.declared.script.ScriptError.TheVariants as bad
 use Rattle.mesa_script.specs.Items.{Item, LeaseOf, NextSession, RowOf, EndOfLoad, Single}
-use Rattle.mesa_script.specs.Script.{Read, nothing_read, item_at, with_item, with_record, read_from, script_from, script_without, records_of, max_commands, max_sessions}
+use Rattle.mesa_script.specs.Script.{Read, nothing_read, item_at, with_item, with_record, read_from, script_from, script_of, records_of, max_commands, max_sessions}
 use Rattle.mesa_history.specs.Run.{commands_of}
 use Rattle.mesa_history.proofs.Checks.{ok_on}
 use Rattle.mesa_ending.specs.Scripts.{IsSmall, commands_in}
@@ -54,40 +54,39 @@ item_more place (RowOf row) r was = record { sessions = was.sessions; count = wa
 item_more place EndOfLoad r was = command_more place (command.Load r.rows) r was
 item_more place (Single c) r was = command_more place c r was
 
-module _ (unbuilt : List (List ℕ) → Bool) where
-  any_item : (x : Result Item ScriptError) → IfOk x (λ item. Unit {0})
-  any_item (Ok item) = tt
-  any_item (Err e) = tt
+any_item : (x : Result Item ScriptError) → IfOk x (λ item. Unit {0})
+any_item (Ok item) = tt
+any_item (Err e) = tt
 
-  record_more : (place : ℕ) (fields : List (List ℕ)) (r : Read) → IsCounted r → IfOk (with_record unbuilt place fields r) IsCounted
-  record_more place fields r was =
-      ok_on IsCounted (λ (item : Item). Unit {0}) (refused_as (bad.BadRecord place) (item_at unbuilt place fields r.rows)) _
-      (any_item (refused_as (bad.BadRecord place) (item_at unbuilt place fields r.rows)))
-      (λ item is. item_more place item r was)
+record_more : (place : ℕ) (fields : List (List ℕ)) (r : Read) → IsCounted r → IfOk (with_record place fields r) IsCounted
+record_more place fields r was =
+    ok_on IsCounted (λ (item : Item). Unit {0}) (refused_as (bad.BadRecord place) (item_at place fields r.rows)) _
+    (any_item (refused_as (bad.BadRecord place) (item_at place fields r.rows)))
+    (λ item is. item_more place item r was)
 
-  end_small : (place : ℕ) (r : Read) → IsCounted r → IfOk (read_from unbuilt place [] r) IsCounted
-  end_small place r was = elim (length r.rows == 0) as (λ b. IfOk (if b then Ok r else Err (bad.BadRecord place reason.Order)) IsCounted) [ true ↦ was | false ↦ tt ]
+end_small : (place : ℕ) (r : Read) → IsCounted r → IfOk (read_from place [] r) IsCounted
+end_small place r was = elim (length r.rows == 0) as (λ b. IfOk (if b then Ok r else Err (bad.BadRecord place reason.Order)) IsCounted) [ true ↦ was | false ↦ tt ]
 
-  read_small : (place : ℕ) (all : List (List (List ℕ))) (r : Read) → IsCounted r → IfOk (read_from unbuilt place all r) IsCounted
-  read_small place [] r was = end_small place r was
-  read_small place (fields ∷ rest) r was = ok_on IsCounted IsCounted (with_record unbuilt place fields r) _ (record_more place fields r was) (λ next is. read_small (place + 1) rest next is)
+read_small : (place : ℕ) (all : List (List (List ℕ))) (r : Read) → IsCounted r → IfOk (read_from place all r) IsCounted
+read_small place [] r was = end_small place r was
+read_small place (fields ∷ rest) r was = ok_on IsCounted IsCounted (with_record place fields r) _ (record_more place fields r was) (λ next is. read_small (place + 1) rest next is)
 
-  script_small : (r : Read) → IsCounted r → IsSmall (script_from r)
-  script_small r was = record {
-    some = omega (arith, length-append r.finished (r.current ∷ []));
-    few = omega (arith, was.sessions, length-append r.finished (r.current ∷ []));
-    commands = omega (arith, was.count, was.few, commands_more r.finished (r.current ∷ []));
-  }
+script_small : (r : Read) → IsCounted r → IsSmall (script_from r)
+script_small r was = record {
+  some = omega (arith, length-append r.finished (r.current ∷ []));
+  few = omega (arith, was.sessions, length-append r.finished (r.current ∷ []));
+  commands = omega (arith, was.count, was.few, commands_more r.finished (r.current ∷ []));
+}
 
-  ok_is : {A E : Type 0} (P : A → Type 0) (x : Result A E) (a : A) → x ≡ Ok a → IfOk x P → P a
-  ok_is P x a is all = subst (λ r. IfOk r P) is all
+ok_is : {A E : Type 0} (P : A → Type 0) (x : Result A E) (a : A) → x ≡ Ok a → IfOk x P → P a
+ok_is P x a is all = subst (λ r. IfOk r P) is all
 
-  pub scripts_small : (bytes : List ℕ) (script : Script) → script_without unbuilt bytes ≡ Ok script → IsSmall script
-  scripts_small bytes script is =
-      ok_is IsSmall (script_without unbuilt bytes) script is
-      (ok_on IsSmall IsCounted (read_from unbuilt 1 (records_of bytes) nothing_read) _
-      (read_small 1 (records_of bytes) nothing_read (record { sessions = omega arith; count = refl; few = omega arith }))
-      (λ r was. script_small r was))
+pub scripts_small : (bytes : List ℕ) (script : Script) → script_of bytes ≡ Ok script → IsSmall script
+scripts_small bytes script is =
+    ok_is IsSmall (script_of bytes) script is
+    (ok_on IsSmall IsCounted (read_from 1 (records_of bytes) nothing_read) _
+    (read_small 1 (records_of bytes) nothing_read (record { sessions = omega arith; count = refl; few = omega arith }))
+    (λ r was. script_small r was))
 
 -- ---- of a session
 

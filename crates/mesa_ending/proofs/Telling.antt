@@ -5,7 +5,7 @@ use Rattle.mesa_fault.specs.Causes.{Rose}
 use Rattle.mesa_model.specs.declared.commands.Script.{Script}
 use Rattle.mesa_history.specs.Refused.{some_refused}
 use Rattle.mesa_history.specs.Run.{begins}
-use Rattle.mesa_script.specs.Script.{built_script_of}
+use Rattle.mesa_script.specs.Script.{script_of}
 use Rattle.mesa_skeleton.specs.Rows.{no_rows}
 use Rattle.mesa_image.specs.Catalog.{Catalog}
 use Rattle.mesa_opening.specs.declared.error.OpenError.{OpenError}
@@ -120,7 +120,7 @@ module _ {K D M B : Type 0} (ports : Ports K D M B) (given : Devices K D B) (don
   unopened quiet open_error.RunsFull why = late 9 (omega arith) quiet (λ e. absurd (omega (arith, e))) (λ e. absurd (omega (arith, e))) (λ e. inr why)
   unopened quiet open_error.Memory why = memory quiet
 
-  run_tells : (bytes : List ℕ) → IfSome input (λ all. all ≡ bytes) → (script : Script) → built_script_of bytes ≡ Ok script → now ≡ before → (c : Catalog) → HasRun ports given done script c → Told
+  run_tells : (bytes : List ℕ) → IfSome input (λ all. all ≡ bytes) → (script : Script) → script_of bytes ≡ Ok script → now ≡ before → (c : Catalog) → HasRun ports given done script c → Told
   run_tells bytes known script is quiet c has = elim has [
     | inl p ↦
         let le = one_or_none (some_refused script (begins (start_of script c no_rows)) done.history.items) in
@@ -141,7 +141,7 @@ module _ {K D M B : Type 0} (ports : Ports K D M B) (given : Devices K D B) (don
     | inr p ↦ failed_tells (λ four other. quiet) p.1 p.2
   ]
 
-  script_tells : (bytes : List ℕ) → IfSome input (λ all. all ≡ bytes) → (script : Script) → built_script_of bytes ≡ Ok script → now ≡ before → EndsScript ports given done script → Told
+  script_tells : (bytes : List ℕ) → IfSome input (λ all. all ≡ bytes) → (script : Script) → script_of bytes ≡ Ok script → now ≡ before → EndsScript ports given done script → Told
   script_tells bytes known script is quiet ends = elim ends [
     | inl p ↦ opening p.0 p.1
     | inr rest ↦ elim rest [

@@ -6,7 +6,7 @@ use Rattle.mesa_model.specs.declared.commands.Script.{Script}
 use Rattle.mesa_model.specs.declared.entries.Entry.{Entry}
 use Rattle.mesa_model.specs.declared.entries.Outcome.{Outcome}
 use Rattle.mesa_model.specs.declared.entries.Outcome.TheVariants as outcome
-use Rattle.mesa_script.specs.Script.{built_script_of}
+use Rattle.mesa_script.specs.Script.{script_of}
 use Rattle.mesa_skeleton.specs.Rows.{Rows}
 use Rattle.mesa_image.specs.Catalog.{Catalog}
 use Rattle.mesa_opening.specs.Opening.{most_runs}
@@ -40,7 +40,7 @@ pub record AsksFor (words : List (List ℕ)) (input : Option (List ℕ)) (script
   pub run : words ≡ codes "run" ∷ []
   pub known : input ≡ Some bytes
   pub short : length bytes ≤ max_input
-  pub read : built_script_of bytes ≡ Ok script
+  pub read : script_of bytes ≡ Ok script
 
 -- The store is sound, and may have a run more.
 pub record HasRoomToRun {K D M B : Type 0} (ports : Ports K D M B) (given : Devices K D B) (c : Catalog) (rows : Rows) : Type 0 where

@@ -4,7 +4,7 @@ use Rattle.std.specs.Io.KnownBytes.{Appends}
 use Rattle.mesa_fault.specs.Causes.{Rose}
 use Rattle.mesa_model.specs.declared.commands.Script.{Script}
 use Rattle.mesa_script.specs.declared.script.ScriptError.{ScriptError}
-use Rattle.mesa_script.specs.Script.{built_script_of}
+use Rattle.mesa_script.specs.Script.{script_of}
 use Rattle.mesa_skeleton.specs.Rows.{Rows}
 use Rattle.mesa_image.specs.Catalog.{Catalog}
 use Rattle.mesa_opening.specs.declared.error.OpenError.{OpenError}
@@ -64,8 +64,8 @@ module _ {K D M B : Type 0} (ports : Ports K D M B) (given : Devices K D B) (don
   -- How a call ends that has read its input: the bytes are no script, or they are one; or memory was short.
   abbrev pub EndsText : List ℕ → Type 0
   EndsText bytes =
-      ((error : ScriptError) × (built_script_of bytes ≡ Err error) × EndedBefore script_status (script_line error))
-      ⊎ ((script : Script) × (built_script_of bytes ≡ Ok script) × EndsScript script)
+      ((error : ScriptError) × (script_of bytes ≡ Err error) × EndedBefore script_status (script_line error))
+      ⊎ ((script : Script) × (script_of bytes ≡ Ok script) × EndsScript script)
       ⊎ EndedBefore memory_status memory_line
 
   -- How a call ends whose source didn't fail: its bytes are too many, or they were read; or memory was short.

@@ -3,7 +3,7 @@ use Rattle.std.specs.Prelude.{◌≡◌, ◌≢◌, ◌⊎◌, ◌<◌, ◌≤�
 use Rattle.mesa_fault.specs.Causes.{Rose}
 use Rattle.mesa_model.specs.declared.commands.Script.{Script}
 use Rattle.mesa_script.specs.declared.script.ScriptError.{ScriptError}
-use Rattle.mesa_script.specs.Script.{built_script_of}
+use Rattle.mesa_script.specs.Script.{script_of}
 use Rattle.mesa_skeleton.specs.Rows.{Rows}
 use Rattle.mesa_image.specs.Catalog.{Catalog}
 use Rattle.mesa_opening.specs.declared.error.OpenError.{OpenError}
@@ -19,14 +19,14 @@ use Rattle.mesa_ending.specs.declared.done.Done.{Done}
 
 -- these bytes are no script that the program runs
 abbrev pub IsNoScript : List ℕ → Type 0
-IsNoScript bytes = (error : ScriptError) × (built_script_of bytes ≡ Err error)
+IsNoScript bytes = (error : ScriptError) × (script_of bytes ≡ Err error)
 
 module _ {K D M B : Type 0} (ports : Ports K D M B) (given : Devices K D B) (done : Done K D B) where
   -- These bytes are a script, which was run to its end, and the status tells whether some reply is a refusal.
   pub record WasRun (bytes : List ℕ) : Type 0 where
     pub script : Script
     pub catalogue : Catalog
-    pub read : built_script_of bytes ≡ Ok script
+    pub read : script_of bytes ≡ Ok script
     pub ran : Ran ports given done script catalogue false
     pub status : (rows : Rows) → done.status ≡ status_of script (start_of script catalogue rows) done.history.items
 

@@ -9,7 +9,7 @@ ghost use Rattle.mesa_image.specs.Shape.{IsCatalog};
 ghost use Rattle.mesa_image.specs.Sound.{AreStocked, IsSoundAs};
 ghost use Rattle.mesa_model.specs.WellFormed.{IsWellFormed};
 ghost use Rattle.mesa_model.specs.declared.commands.Script.{Script};
-ghost use Rattle.mesa_script.specs.Script.{built_script_of};
+ghost use Rattle.mesa_script.specs.Script.{script_of};
 ghost use Rattle.mesa_skeleton.specs.Bare.{bare_state};
 ghost use Rattle.mesa_skeleton.specs.Rows.{Rows, no_rows};
 
@@ -31,5 +31,5 @@ pub fn empty_stores_are_sound()
 
 /// Every script that bytes spell has a prologue, and not too many sessions and commands.
 pub fn scripts_are_small()
-    ensures { (bytes : List ℕ) (script : Script) → built_script_of bytes ≡ Ok script → IsSmall script }
+    ensures { (bytes : List ℕ) (script : Script) → script_of bytes ≡ Ok script → IsSmall script }
 {}

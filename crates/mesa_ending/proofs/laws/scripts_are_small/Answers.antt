@@ -1,6 +1,5 @@
-use Rattle.mesa_script.specs.Records.{is_unbuilt}
 use Rattle.mesa_ending.proofs.Small.{scripts_small}
 use Rattle.mesa_ending.proofs.laws.scripts_are_small.Goals as goal
 
 pub returns : goal.returns
-returns c bytes script is = scripts_small is_unbuilt bytes script is
+returns c bytes script is = scripts_small bytes script is
