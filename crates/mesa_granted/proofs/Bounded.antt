@@ -7,7 +7,7 @@ use Rattle.mesa_schema.specs.declared.views.View.{View}
 use Rattle.mesa_schema.specs.Changes.{Lineage, columns_of}
 use Rattle.mesa_schema.specs.Columns.{Columns}
 use Rattle.mesa_schema.specs.Views.{view_columns}
-use Rattle.mesa_compact.specs.Bounded.{AreBounded, AreOwnBounded, AreViewsBounded, IsBounded}
+use Rattle.mesa_compact.specs.Bounded.{AreBounded, AreOwnBounded, IsBounded}
 use Rattle.mesa_compact.specs.Tasks.{KnownView, known_view}
 use Rattle.mesa_delta.specs.declared.input.Input.{Input}
 use Rattle.mesa_merge.specs.Inputs.{Known, knowns_of}
@@ -17,7 +17,7 @@ use Rattle.mesa_tasks.specs.Tasks.{IsTask}
 use Rattle.mesa_tasks.specs.declared.merging.Task.{Task}
 use Rattle.mesa_tasks.specs.declared.merging.TaskView.{TaskView}
 use Rattle.mesa_granted.specs.Known.{IsKnownOf, unread_from}
-use Rattle.mesa_granted.proofs.Same.{cons_none, first_same, rest_same}
+use Rattle.mesa_service.proofs.Known.{cons_none, first_same, rest_same}
 
 module _ {R : Type 0} (bytes : R → Option (List ℕ)) where
   no_own : (s : Columns) (own : Option (Vec (Input R) Global)) → option_map (λ inputs. knowns_of bytes inputs.items) own ≡ None → AreOwnBounded bytes s own
