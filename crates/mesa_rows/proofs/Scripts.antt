@@ -3,7 +3,7 @@ use Rattle.std.proofs.Common.{◌≡◌, ℕ, List, [], ◌∷◌, refl}
 use Rattle.std.specs.Prelude.{codes, Result, Ok, Err}
 use Rattle.mesa_model.specs.declared.commands.Script.{Script}
 use Rattle.mesa_script.specs.declared.script.ScriptError.{ScriptError}
-use Rattle.mesa_script.specs.Script.{script_of, built_script_of}
+use Rattle.mesa_script.specs.Script.{script_of}
 use Rattle.mesa_script.specs.Errors.{error_text}
 use Rattle.mesa_rows.specs.Rows.{lines}
 use Rattle.mesa_rows.proofs.OnLiterals.{on_literals}
@@ -21,9 +21,9 @@ unfolding on_literals
 unknown_record = refl
 
 -- The first bad record is told, whatever comes after it.
-first_bad_record : refusal_of (built_script_of (lines (
+first_bad_record : refusal_of (script_of (lines (
     codes "tabel,t"
-    ∷ codes "pin"
+    ∷ codes "pin,pin:1"
     ∷ []))) ≡ codes "place=1 reason=unknown"
 unfolding on_literals
 first_bad_record = refl
@@ -174,17 +174,45 @@ blank_lines : refusal_of (script_of (lines (
 unfolding on_literals
 blank_lines = refl
 
--- What isn't built yet comes before all else that is wrong with a record.
-work_unbuilt : refusal_of (built_script_of (lines (
+-- A work without its table.
+work_without_table : refusal_of (script_of (lines (
     codes "commit"
     ∷ codes "work"
-    ∷ []))) ≡ codes "place=2 reason=unbuilt"
+    ∷ []))) ≡ codes "place=2 reason=fields"
 unfolding on_literals
-work_unbuilt = refl
+work_without_table = refl
 
--- A query with a limit isn't built yet.
-page_unbuilt : refusal_of (built_script_of (lines (
-    codes "query,t,,,,,2"
-    ∷ []))) ≡ codes "place=1 reason=unbuilt"
+-- A limit one past the greatest.
+great_limit : refusal_of (script_of (lines (
+    codes "query,t,,,,,10000"
+    ∷ codes "query,t,,,,,10001"
+    ∷ []))) ≡ codes "place=2 reason=number"
 unfolding on_literals
-page_unbuilt = refl
+great_limit = refl
+
+-- A pin's version whose token is no number.
+pin_of_a_word : refusal_of (script_of (lines (
+    codes "query,t,pin:7"
+    ∷ codes "query,t,pin:x"
+    ∷ []))) ≡ codes "place=2 reason=word"
+unfolding on_literals
+pin_of_a_word = refl
+
+-- A pin of a pin's version.
+pinned_pin : refusal_of (script_of (lines (
+    codes "pin"
+    ∷ codes "pin,latest"
+    ∷ codes "pin,pin:1"
+    ∷ []))) ≡ codes "place=3 reason=word"
+unfolding on_literals
+pinned_pin = refl
+
+-- A session begins behind a row.
+session_after_row : refusal_of (script_of (lines (
+    codes "lease,1"
+    ∷ codes "session"
+    ∷ codes "row,t,1,5"
+    ∷ codes "session"
+    ∷ []))) ≡ codes "place=4 reason=order"
+unfolding on_literals
+session_after_row = refl
