@@ -1,8 +1,9 @@
 // Scripts that are read, and scripts that are refused.
 use crate::texts::text_of;
+use itoa::Buffer;
 use mesa_batch::{LoadRows, RowView};
-use mesa_filter::QueryWords;
-use mesa_model::{Command, TableWords, ViewWords};
+use mesa_filter::{QueryWords, VersionWord};
+use mesa_model::{AlterWords, ChangeWords, Command, TableWords, ViewWords};
 use mesa_parse::parse;
 use mesa_schema::Words;
 use mesa_script::{Reason, ScriptError};
@@ -61,6 +62,22 @@ fn push_load(out: &mut Vec<u8>, rows: &LoadRows) -> Result<(), AllocError> {
     Ok(())
 }
 
+fn push_number(out: &mut Vec<u8>, number: u32) -> Result<(), AllocError> {
+    out.push(b' ')?;
+    out.extend_from_slice(Buffer::new().format(number).as_bytes())
+}
+
+fn push_version(out: &mut Vec<u8>, version: VersionWord) -> Result<(), AllocError> {
+    match version {
+        VersionWord::Latest => out.extend_from_slice(b" latest"),
+        VersionWord::At(number) => push_number(out, number),
+        VersionWord::Pin(token) => {
+            out.extend_from_slice(b" pin")?;
+            push_number(out, token)
+        }
+    }
+}
+
 fn push_query(out: &mut Vec<u8>, words: &QueryWords) -> Result<(), AllocError> {
     out.extend_from_slice(b"query ")?;
     out.extend_from_slice(words.relation.as_slice())?;
@@ -68,20 +85,62 @@ fn push_query(out: &mut Vec<u8>, words: &QueryWords) -> Result<(), AllocError> {
         out.push(b',')?;
         out.extend_from_slice(part.as_slice())?;
     }
-    Ok(())
+    push_version(out, words.version)?;
+    push_number(out, words.limit)
+}
+
+// A change: its sign, its column's name, and its default behind a comma.
+fn push_alter(out: &mut Vec<u8>, words: &AlterWords) -> Result<(), AllocError> {
+    out.extend_from_slice(b"alter ")?;
+    out.extend_from_slice(words.table.as_slice())?;
+    let (sign, name, default) = match &words.change {
+        ChangeWords::AddValue { column, default } => (b" :", &column.name, Some(default)),
+        ChangeWords::DropValue { name } => (b" -", name, None),
+        ChangeWords::AddKey { column, default } => (b" +", &column.name, Some(default)),
+    };
+    out.extend_from_slice(sign)?;
+    out.extend_from_slice(name.as_slice())?;
+    let Some(default) = default else {
+        return Ok(());
+    };
+    out.push(b',')?;
+    out.extend_from_slice(default.as_slice())
+}
+
+fn push_named(out: &mut Vec<u8>, what: &[u8], name: &Words) -> Result<(), AllocError> {
+    out.extend_from_slice(what)?;
+    out.push(b' ')?;
+    out.extend_from_slice(name.as_slice())
 }
 
 fn push_command(out: &mut Vec<u8>, command: &Command) -> Result<(), AllocError> {
     match command {
         Command::Table(words) => push_table(out, words),
         Command::View(words) => push_view(out, words),
+        Command::Alter(words) => push_alter(out, words),
         Command::Load(rows) => push_load(out, rows),
         Command::Query(words) => push_query(out, words),
-        _ => out.extend_from_slice(b"other"),
+        Command::Explain(words) => {
+            push_named(out, b"explain", &words.relation)?;
+            push_version(out, words.version)
+        }
+        Command::Pin(version) => {
+            out.extend_from_slice(b"pin")?;
+            push_version(out, *version)
+        }
+        Command::Release(token) => {
+            out.extend_from_slice(b"release")?;
+            push_number(out, *token)
+        }
+        Command::Expire(version) => {
+            out.extend_from_slice(b"expire")?;
+            push_number(out, *version)
+        }
+        Command::Work(table) => push_named(out, b"work", table),
     }
 }
 
-// The words of a command, without its columns' types and its numbers.
+// The words of a command, without its columns' types.
 fn outline(alloc: Global, command: &Command) -> Result<String, Fail> {
     let mut out = Vec::new(alloc);
     push_command(&mut out, command)?;
@@ -89,22 +148,38 @@ fn outline(alloc: Global, command: &Command) -> Result<String, Fail> {
 }
 
 static TEXT: &str =
-    "table,a,day int;country text,clicks sum;low min\nrow,a,1,US,10,2\nrow,b,2,\"U,K\",-3\ncommit\ncommit\nview,c,a,country,clicks\nquery,c,007,country=US,-,clicks\nquery,c\nexpire,1\n";
+    "lease,007\ntable,a,day int;country text,clicks sum;low min\nrow,a,1,US,10,2\nrow,b,2,\"U,K\",-3\ncommit\ncommit\nview,c,a,country,clicks\nquery,c,007,country=US,-,clicks\nquery,c\nexpire,1\nsession\nalter,a,add_value,high max,-5\nalter,a,drop_value,low\nalter,a,add_key,hour int,x\nquery,c,pin:07,,,,10000,c/0/1/country/555300\nquery,c,latest,,,,01\nexplain,c\nexplain,a,3\npin\npin,4294967295\nrelease,0\nwork,a\n";
 
-static OUTLINES: [&str; 7] = [
+static OUTLINES: [&str; 18] = [
     "table a day country:clicks:low",
     "load a,1,US,10,2 b,2,U,K,-3",
     "load",
     "view a,country,clicks",
-    "query c,country=US,-,clicks,",
-    "query c,,,,",
-    "other",
+    "query c,country=US,-,clicks, 7 1000",
+    "query c,,,, latest 1000",
+    "expire 1",
+    "alter a :high,-5",
+    "alter a -low",
+    "alter a +hour,x",
+    "query c,,,,c/0/1/country/555300 pin 7 10000",
+    "query c,,,, latest 1",
+    "explain c latest",
+    "explain a 3",
+    "pin latest",
+    "pin 4294967295",
+    "release 0",
+    "work a",
 ];
 
 // Stops the test of commands with other words.
-fn expect(rt: &impl Abort, alloc: Global, commands: &[Command]) -> Result<(), Fail> {
-    assert_eq!(rt; commands.len(), OUTLINES.len());
-    for (command, want) in commands.iter().zip(&OUTLINES) {
+fn expect(
+    rt: &impl Abort,
+    alloc: Global,
+    commands: &[Command],
+    outlines: &[&str],
+) -> Result<(), Fail> {
+    assert_eq!(rt; commands.len(), outlines.len());
+    for (command, want) in commands.iter().zip(outlines) {
         let words = outline(alloc, command)?;
         assert_eq!(rt; words.as_str(), *want);
     }
@@ -115,8 +190,10 @@ fn expect(rt: &impl Abort, alloc: Global, commands: &[Command]) -> Result<(), Fa
 fn reads_a_script(rt: HostRuntime) -> Result<(), Fail> {
     let alloc = rt.alloc();
     let script = parse(alloc, TEXT.as_bytes().to_vec(alloc)?)?;
-    assert_eq!(rt; (script.lease, script.sessions.len()), (4096, 1));
-    expect(&rt, alloc, script.sessions.as_slice()[0].as_slice())
+    let sessions = script.sessions.as_slice();
+    assert_eq!(rt; (script.lease, sessions.len()), (7, 2));
+    expect(&rt, alloc, sessions[0].as_slice(), &OUTLINES[..7])?;
+    expect(&rt, alloc, sessions[1].as_slice(), &OUTLINES[7..])
 }
 
 // Why a text is refused, if it is.
@@ -125,28 +202,40 @@ fn refusal(alloc: Global, text: &str) -> Result<Option<ScriptError>, Fail> {
 }
 
 // A script, its first bad record, and what is wrong with it.
-static BAD: [(&str, u64, Reason); 22] = [
-    ("tabel,t\npin\n", 1, Reason::Unknown),
+static BAD: [(&str, u64, Reason); 34] = [
+    ("tabel,t\npin,pin:1\n", 1, Reason::Unknown),
     ("\u{feff}tabel,t\n", 1, Reason::Unknown),
-    ("table,t,k int,v sum\npin\n", 2, Reason::Unbuilt),
-    ("lease,5\n", 1, Reason::Unbuilt),
-    ("session\n", 1, Reason::Unbuilt),
-    ("query,t,,,,,5\n", 1, Reason::Unbuilt),
-    ("query,t,,,,,,,9\n", 1, Reason::Unbuilt),
-    ("query,t,pin:x\n", 1, Reason::Unbuilt),
     ("table,t,k int\n", 1, Reason::Fields),
     ("\n\nrow,t,1,5\ncommit,1\n", 2, Reason::Fields),
     ("query\n", 1, Reason::Fields),
+    ("query,t,,,,,,,9\n", 1, Reason::Fields),
+    ("alter,t,add_value,v sum\n", 1, Reason::Fields),
+    ("alter,t,drop_value,v,0\n", 1, Reason::Fields),
+    ("alter,t,rename\n", 1, Reason::Fields),
+    ("pin\npin,0,0\n", 2, Reason::Fields),
+    ("session\nsession,1\n", 2, Reason::Fields),
     ("row,t,1,5\nquery,t\n", 2, Reason::Order),
+    ("row,t,1,5\nsession\n", 2, Reason::Order),
     ("row,t,1,5\n", 2, Reason::Order),
     ("row,t,1,5\ntable,t\n", 2, Reason::Fields),
+    ("lease,5\nlease,5\n", 2, Reason::Order),
+    ("pin\nlease,0\n", 2, Reason::Order),
     ("table,t,k  int,v sum\n", 1, Reason::Word),
     ("table,t,k int;,v sum\n", 1, Reason::Word),
     ("table,t,k int,v avg\n", 1, Reason::Word),
+    ("alter,t,rename,v\n", 1, Reason::Word),
+    ("alter,t,add_key,k sum,0\n", 1, Reason::Word),
     ("query,t,x\n", 1, Reason::Word),
     ("query,t,-1\n", 1, Reason::Word),
+    ("query,t,pin:x,,,,0\n", 1, Reason::Word),
+    ("explain,t,pin:1\n", 1, Reason::Word),
+    ("pin,pin:1\n", 1, Reason::Word),
     ("query,t,4294967296\n", 1, Reason::Number),
-    ("expire,\n", 1, Reason::Number),
+    ("query,t,pin:4294967296\n", 1, Reason::Number),
+    ("query,t,,,,,0\n", 1, Reason::Number),
+    ("query,t,,,,,10001\n", 1, Reason::Number),
+    ("lease,0\n", 1, Reason::Number),
+    ("release,\n", 1, Reason::Number),
     ("expire,4294967295\nexpire,+1\n", 2, Reason::Number),
 ];
 
@@ -163,11 +252,11 @@ fn tells_the_first_bad_record(rt: HostRuntime) -> Result<(), Fail> {
     Ok(())
 }
 
-// So many commands, and some records behind them.
-fn commits(alloc: Global, count: u32, end: &[u8]) -> Result<Vec<u8>, AllocError> {
+// A record so many times, and some records behind it.
+fn repeated(alloc: Global, record: &[u8], count: u32, end: &[u8]) -> Result<Vec<u8>, AllocError> {
     let mut text = Vec::new(alloc);
     for _ in 0..count {
-        text.extend_from_slice(b"commit\n")?;
+        text.extend_from_slice(record)?;
     }
     text.extend_from_slice(end)?;
     Ok(text)
@@ -182,10 +271,24 @@ fn sessions(alloc: Global, text: Vec<u8>) -> Result<usize, ScriptError> {
 #[test]
 fn counts_commands(rt: HostRuntime) -> Result<(), Fail> {
     let alloc = rt.alloc();
-    let most = commits(alloc, 200_000, b"")?;
-    assert_eq!(rt; sessions(alloc, most), Ok(1));
-    let more = commits(alloc, 200_000, b"row,t,1,5\ncommit\n")?;
-    let want = ScriptError::TooManyCommands { place: 200_002 };
+    let most = repeated(alloc, b"commit\n", 200_000, b"session\n")?;
+    assert_eq!(rt; sessions(alloc, most), Ok(2));
+    let more = repeated(alloc, b"commit\n", 200_000, b"session\nrow,t,1,5\ncommit\n")?;
+    let want = ScriptError::TooManyCommands { place: 200_003 };
     assert_eq!(rt; sessions(alloc, more), Err(want));
+    Ok(())
+}
+
+#[test]
+fn counts_sessions(rt: HostRuntime) -> Result<(), Fail> {
+    let alloc = rt.alloc();
+    let most = repeated(alloc, b"session\n", 7, b"pin\n")?;
+    assert_eq!(rt; sessions(alloc, most), Ok(8));
+    let more = repeated(alloc, b"session\n", 7, b"pin\nsession\n")?;
+    let want = ScriptError::TooManySessions { place: 9 };
+    assert_eq!(rt; sessions(alloc, more), Err(want));
+    let behind = repeated(alloc, b"session\n", 8, b"session,1\n")?;
+    let want = ScriptError::TooManySessions { place: 8 };
+    assert_eq!(rt; sessions(alloc, behind), Err(want));
     Ok(())
 }
