@@ -1,0 +1,6 @@
+pub mod Rooms
+pub mod Due
+pub mod Sights
+pub mod Handed
+pub mod Granted
+pub mod Merged

@@ -1,2 +1,4 @@
 pub mod Vault
 pub mod Asked
+pub mod Standing
+pub mod Handing

@@ -1,8 +1,14 @@
 // What a turn's script asks.
-ghost use Rattle.std.specs.Prelude.{◌≡◌};
+ghost use Rattle.std.specs.Prelude.{◌≡◌, Some};
 ghost use Rattle.mesa_core.specs.Asked.{lent_command};
 ghost use Rattle.mesa_history.specs.Run.{command_at};
+ghost use Rattle.mesa_model.specs.declared.commands.Command.TheVariants as command;
+ghost use Rattle.mesa_history.specs.Legal.{is_query, is_work};
+ghost use Rattle.mesa_passes.specs.Passes.{HasSort};
+ghost use Rattle.mesa_walk.specs.Turns.{is_load};
 
+use mesa_batch::LoadRows;
+use mesa_filter::QueryWords;
 use mesa_log::Who;
 use mesa_model::{Command, Script};
 
@@ -13,4 +19,37 @@ pub(crate) fn command_of(script: &Script, who: Who) -> Option<&Command>
     let session = script.sessions.as_slice().get(who.session as usize)?;
     let place = who.command.checked_sub(1)?;
     session.as_slice().get(place as usize)
+}
+
+// The rows of the load that a turn is of.
+pub(crate) fn rows_of(script: &Script, who: Who) -> &LoadRows
+    requires { HasSort script.now who.session who.command is_load }
+    ensures { command_at script.now who.session who.command ≡ Some (command.Load result.now) }
+{
+    match command_of(script, who) {
+        Some(Command::Load(rows)) => rows,
+        _ => unreachable!(),
+    }
+}
+
+// The words of the query that a turn is of.
+pub(crate) fn words_of(script: &Script, who: Who) -> &QueryWords
+    requires { HasSort script.now who.session who.command is_query }
+    ensures { command_at script.now who.session who.command ≡ Some (command.Query result.now) }
+{
+    match command_of(script, who) {
+        Some(Command::Query(words)) => words,
+        _ => unreachable!(),
+    }
+}
+
+// The table's name of the work that a turn is of.
+pub(crate) fn name_of(script: &Script, who: Who) -> &[u8]
+    requires { HasSort script.now who.session who.command is_work }
+    ensures { command_at script.now who.session who.command ≡ Some (command.Work result.now) }
+{
+    match command_of(script, who) {
+        Some(Command::Work(name)) => name.as_slice(),
+        _ => unreachable!(),
+    }
 }

@@ -2,7 +2,16 @@
 #![tactic(auto)]
 
 mod asked;
+mod commands;
+mod loads;
+mod queries;
+mod room;
+mod standing;
+mod starting;
+mod turned;
 mod vault;
+mod works;
 
 pub use mesa_log::Who;
+pub use room::turns_of;
 pub use vault::Vault;

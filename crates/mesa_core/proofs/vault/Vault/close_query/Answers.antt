@@ -1,13 +1,27 @@
-use Rattle.std.proofs.Common.{◌<◌, sym, subst}
-use Rattle.mesa_asking.specs.Closing.{IsPageOf, IsToClose}
+use Rattle.std.proofs.Common.{sym, subst}
+use Rattle.mesa_core.specs.Handing.{Tells}
 use Rattle.mesa_core.specs.Vault.{Stand}
-use Rattle.mesa_fault.specs.Causes.{last}
-use Rattle.mesa_model.specs.Query.{Answer}
-use Rattle.mesa_walk.specs.Walk.{run_at}
+use Rattle.mesa_core.proofs.Handed.{has_differed, has_failed, none_damaged, to_close}
+use Rattle.mesa_service.specs.Pins.{IsOpenQuery, known_pin}
 use Rattle.mesa_core.proofs.vault.Vault.close_query.Goals as goal
 
 pub close_query-requires-clause-due : goal.close_query-requires-clause-due
 close_query-requires-clause-due g c κs within w =
     let N = g.N.Naming in
-    subst (λ (s : Stand). IsToClose N.script (run_at N.script (N.start w) s.shown.history) c.args.who.session c.args.who.command c.args.pinned.at
-    (λ (answer : Answer). N.sound w → s.shown.clock < last → IsPageOf c.args.answered c.args.pinned.version answer)) (sym c.self.view_is) (c.requires.due w)
+    let who = c.args.who in
+    let shown = c.self.inside.engine.shown in
+    let bytes = g.D.Reader.FileReader.bytes in
+    to_close bytes g.D.Reader.FileReader.faults c.args.pinned N.script N.start N.sound shown.history who.session who.command c.args.answer
+    (subst (λ (s : Stand). IsOpenQuery N.script N.start s.shown.history who.session who.command c.args.pinned.at (λ past. Tells N.sound (known_pin bytes c.args.pinned))) (sym c.self.view_is) c.requires.open)
+    c.requires.answer w
+
+pub close_query-requires-clause-damaged : goal.close_query-requires-clause-damaged
+close_query-requires-clause-damaged g c κs within = has_differed g.D.Reader.FileReader.bytes g.D.Reader.FileReader.faults c.args.pinned c.args.answer c.requires.answer
+
+pub close_query-requires-clause-read : goal.close_query-requires-clause-read
+close_query-requires-clause-read g c κs within = has_failed g.D.Reader.FileReader.bytes g.D.Reader.FileReader.faults c.args.pinned c.args.answer c.requires.answer
+
+pub close_query-requires-clause-undamaged : goal.close_query-requires-clause-undamaged
+close_query-requires-clause-undamaged g c κs within w ok =
+    let o = c.requires.open.opened w in
+    none_damaged g.D.Reader.FileReader.bytes g.D.Reader.FileReader.faults c.args.pinned c.args.answer o.answer c.requires.answer (o.told ok)

@@ -1,0 +1,61 @@
+-- What a work is granted, by the history at the end of its first turn.
+use Rattle.std.proofs.Common.{◌≡◌, ℕ, ◌<◌, List, length, sym, ap, subst, ◌∙◌, Option, None, Ok, Err}
+use Rattle.std.specs.Prelude.{IfOk, IfSome, Result}
+use Rattle.mesa_compact.specs.Bounded.{AreBounded, IsBounded}
+use Rattle.mesa_gather.specs.Gathered.{unread_views}
+use Rattle.mesa_granted.proofs.Merged.{grant_known}
+use Rattle.mesa_granted.proofs.Same.{range_known}
+use Rattle.mesa_history.specs.Run.{State}
+use Rattle.mesa_image.specs.Catalog.{Catalog, stock_at}
+use Rattle.mesa_image_laws.specs.Moves.{last_of}
+use Rattle.mesa_ledger.specs.Vault.{Origin}
+use Rattle.mesa_merge.specs.Inputs.{knowns_of}
+use Rattle.mesa_model.specs.declared.commands.Script.{Script}
+use Rattle.mesa_model.specs.declared.entries.Entry.{Entry}
+use Rattle.mesa_model.specs.Warehouse.{max_tables}
+use Rattle.mesa_schema.specs.Changes.{Lineage, columns_of}
+use Rattle.mesa_schema.specs.Lineages.{IsLineage}
+use Rattle.mesa_service.specs.Works.{CanBeMerged, known_task}
+use Rattle.mesa_skeleton.specs.Rows.{Rows, no_rows}
+use Rattle.mesa_swapping.specs.Finished.{HasRange}
+use Rattle.mesa_tasks.specs.Errors.{Differs}
+use Rattle.mesa_tasks.specs.Tasks.{IsTask}
+use Rattle.mesa_tasks.specs.declared.merging.Task.{Task}
+use Rattle.mesa_walk.specs.Walk.{run_at}
+use Rattle.mesa_works.specs.Ranged.{written_at}
+use Rattle.mesa_core.specs.Handing.{IsGranted, store_after}
+use Rattle.mesa_core.specs.Standing.{IsCatalogAfter}
+use Rattle.mesa_core.proofs.Sights.{counted_is, lineage_is}
+
+module _ {R : Type 0} (read : R → Option (List ℕ)) (script : Script) (start : Rows → State) (origin : Rows → Origin) (sound : Rows → Type 0) (generation : ℕ) (h : List Entry) (c : Catalog) (is : IsCatalogAfter script start generation h c) where
+  granted_as : (t : Task R) → t.table < max_tables → t.table < length (store_after script start h).tables → last_of t.work < (run_at script (start no_rows) h).state.warehouse.next
+      → IsTask read (stock_at c t.table).lineage t → t.views.items ≡ unread_views 0 (length (stock_at c t.table).lineage.views)
+      → ((w : Rows) → sound w → t.damage ≡ None) → ((w : Rows) → sound w → IsBounded read (stock_at c t.table).lineage t)
+      → ((w : Rows) → sound w → HasRange read (stock_at c t.table).lineage t (written_at script (start w) (origin w) h t.table))
+      → IsGranted read script start origin sound h (known_task read t)
+  granted_as t low there next task views whole bounded range =
+      let at = lineage_is script start generation h c is t.table in
+      record {
+        low = low;
+        there = there;
+        lineage = subst IsLineage at (is.lineages t.table (subst (λ n. t.table < n) (sym (counted_is script start generation h c is)) there));
+        known = grant_known read _ t (subst (λ (l : Lineage). IsTask read l t) at task) (views ∙ ap (λ (l : Lineage). unread_views 0 (length l.views)) at);
+        next = λ w. subst (λ n. last_of t.work < n) (sym (is.next no_rows) ∙ is.next w) next;
+        whole = whole;
+        bounded = λ w ok. subst (λ (l : Lineage). AreBounded (columns_of l) (knowns_of read t.inputs.items)) at (bounded w ok).table;
+        range = λ w ok. range_known read _ t _ (subst (λ (l : Lineage). HasRange read l t (written_at script (start w) (origin w) h t.table)) at (range w ok));
+      }
+
+  -- where a work is granted
+  pub granted_if : {E : Type 0} (r : Result (Task R) E) → IfOk r (λ t. t.table < max_tables) → IfOk r (λ t. t.table < length (store_after script start h).tables) → IfOk r (λ t. last_of t.work < (run_at script (start no_rows) h).state.warehouse.next)
+      → IfOk r (λ t. IsTask read (stock_at c t.table).lineage t) → IfOk r (λ t. t.views.items ≡ unread_views 0 (length (stock_at c t.table).lineage.views))
+      → ((w : Rows) → sound w → IfOk r (λ t. t.damage ≡ None)) → ((w : Rows) → sound w → IfOk r (λ t. IsBounded read (stock_at c t.table).lineage t))
+      → ((w : Rows) → sound w → IfOk r (λ t. HasRange read (stock_at c t.table).lineage t (written_at script (start w) (origin w) h t.table)))
+      → IfOk r (λ t. IsGranted read script start origin sound h (known_task read t))
+  granted_if (Ok t) low there next task views whole bounded range = granted_as t low there next task views whole bounded range
+  granted_if (Err e) low there next task views whole bounded range = tt
+
+  -- and what was granted can be merged
+  pub mergeable_if : {E : Type 0} (r : Result (Task R) E) → IfOk r (λ t. IsTask read (stock_at c t.table).lineage t) → IfOk r (λ t. IfSome t.damage Differs) → IfOk r (CanBeMerged read)
+  mergeable_if (Ok t) task damage = record { task = (_, task); damage = damage }
+  mergeable_if (Err e) task damage = tt

@@ -1,0 +1,89 @@
+-- What a work is closed with, as its last turn asks for it.
+use Rattle.std.proofs.Common.{◌≡◌, ℕ, ◌<◌, List, ◌++◌, length, true, false, refl, sym, ap, subst, ◌∙◌, Option, None, Ok}
+use Rattle.mesa_compact.specs.Bounded.{IsBounded}
+use Rattle.mesa_completing.specs.Unmerged.{MergeDiffered, cause_of}
+use Rattle.mesa_delta.specs.declared.error.FileError.TheVariants as file_error
+use Rattle.mesa_granted.specs.Known.{IsKnownOf, lineage_in}
+use Rattle.mesa_history.proofs.More.{runs-append}
+use Rattle.mesa_history.specs.Replay.{runs}
+use Rattle.mesa_history.specs.Run.{Run, State, begins}
+use Rattle.mesa_image.specs.Catalog.{Catalog, stock_at}
+use Rattle.mesa_image_laws.specs.Moves.{last_of}
+use Rattle.mesa_ledger.specs.Vault.{Origin}
+use Rattle.mesa_model.specs.declared.commands.Script.{Script}
+use Rattle.mesa_model.specs.declared.entries.Entry.{Entry}
+use Rattle.mesa_schema.specs.Changes.{Lineage}
+use Rattle.mesa_schema.specs.Lineages.{IsLineage}
+use Rattle.mesa_service.specs.Works.{HasMerged, IsUnmerged, WasGranted, known_task}
+use Rattle.mesa_skeleton.specs.Rows.{Rows, no_rows}
+use Rattle.mesa_swapping.specs.Finished.{HasRange, IsFinished}
+use Rattle.mesa_swapping.specs.Grown.{HasGrown}
+use Rattle.mesa_tasks.specs.GivingBack.{SomeFailed, task_inputs}
+use Rattle.mesa_tasks.specs.Tasks.{IsMerged, IsTask}
+use Rattle.mesa_tasks.specs.declared.merging.CompactError.{CompactError}
+use Rattle.mesa_tasks.specs.declared.merging.CompactError.TheVariants as compact
+use Rattle.mesa_tasks.specs.declared.merging.NewDelta.{NewDelta}
+use Rattle.mesa_tasks.specs.declared.merging.Task.{Task}
+use Rattle.mesa_walk.specs.Causes.{is_read_fault, outcome_of}
+use Rattle.mesa_walk.specs.Turns.{AnswersDraft, Shown}
+use Rattle.mesa_walk.specs.Undamaged.{is_damaged}
+use Rattle.mesa_walk.specs.Walk.{run_at}
+use Rattle.mesa_works.specs.Ranged.{written_at}
+use Rattle.mesa_core.specs.Handing.{IsGranted, store_after}
+use Rattle.mesa_core.specs.Standing.{IsCatalogAfter}
+use Rattle.mesa_core.proofs.Sights.{lineage_is}
+
+-- ---- a delta
+
+module _ {M R : Type 0} (made : M → Option (List ℕ)) (id_of : M → ℕ) (read : R → Option (List ℕ)) (faults : R → ℕ) (script : Script) (start : Rows → State) (origin : Rows → Origin) (sound : Rows → Type 0) (generation : ℕ) (h : List Entry) (c : Catalog) (t : Task R) (d : NewDelta M) where
+  pub finished_as : IsCatalogAfter script start generation h c → WasGranted (IsGranted read script start origin sound) h (known_task read t) → HasMerged made id_of read faults t (Ok d)
+      → ((was l : Lineage) → IsKnownOf was (known_task read t) → IsTask read l t → IsMerged made id_of read l t d → IsTask read was t × IsMerged made id_of read was t d)
+      → ((was : Lineage) (s : Script) (from : State) (o : Origin) (past later : List Entry) → last_of t.work < (run_at s from past).state.warehouse.next → HasRange read was t (written_at s from o past t.table) → HasRange read was t (written_at s from o (past ++ later) t.table))
+      → ((s : Script) (r : Run) (later : List Entry) (number : ℕ) → number < length r.state.warehouse.store.tables → IsLineage (lineage_in r.state.warehouse.store number) → HasGrown (lineage_in r.state.warehouse.store number) (lineage_in (runs s r later).state.warehouse.store number))
+      → (was : Lineage) × IsFinished made id_of read was (stock_at c t.table).lineage t d × ((w : Rows) → sound w → HasRange read was t (written_at script (start w) (origin w) h t.table))
+  finished_as is granted merged merges ranges tables =
+      let past = granted.past in
+      let later = granted.later in
+      let was = granted.was in
+      let r = run_at script (start no_rows) past in
+      let before = lineage_in (store_after script start past) t.table in
+      let both = merges before merged.0 was.known merged.1 merged.2 in
+      let whole : runs script r later ≡ run_at script (start no_rows) h = sym (runs-append script (begins (start no_rows)) past later) ∙ ap (run_at script (start no_rows)) granted.whole in
+      let now : lineage_in (runs script r later).state.warehouse.store t.table ≡ (stock_at c t.table).lineage =
+      ap (λ (x : Run). lineage_in x.state.warehouse.store t.table) whole ∙ sym (lineage_is script start generation h c is t.table) in (
+        before,
+        record {
+          grown = subst (HasGrown before) now (tables script r later t.table was.there was.lineage);
+          task = both.0;
+          merged = both.1;
+        },
+        λ w ok. subst (λ (x : List Entry). HasRange read before t (written_at script (start w) (origin w) x t.table)) granted.whole (ranges before script (start w) (origin w) past later (was.next w) (was.range w ok t refl)),
+      )
+
+-- ---- none
+
+module _ {R : Type 0} (read : R → Option (List ℕ)) (faults : R → ℕ) (l : Lineage) (t : Task R) where
+  pub unmerged_failed : (e : CompactError) → IsUnmerged read faults l t e → is_read_fault (cause_of e) ≡ true → SomeFailed faults (task_inputs t)
+  unmerged_failed compact.Draft has is = absurd (let never : false ≡ true = is in cc)
+  unmerged_failed (compact.File file_error.Read) has is = has
+  unmerged_failed (compact.File (file_error.Damaged d)) has is = absurd (let never : false ≡ true = is in cc)
+  unmerged_failed (compact.File file_error.Memory) has is = absurd (let never : false ≡ true = is in cc)
+
+  pub unmerged_differed : (e : CompactError) → IsUnmerged read faults l t e → MergeDiffered e
+  unmerged_differed compact.Draft has = tt
+  unmerged_differed (compact.File file_error.Read) has = tt
+  unmerged_differed (compact.File (file_error.Damaged d)) has = has.differs
+  unmerged_differed (compact.File file_error.Memory) has = tt
+
+  -- on a sound store no damage comes of it
+  pub unmerged_whole : (e : CompactError) → IsUnmerged read faults l t e → t.damage ≡ None → IsBounded read l t → is_damaged (outcome_of (cause_of e)) ≡ false
+  unmerged_whole compact.Draft has whole bounded = refl
+  unmerged_whole (compact.File file_error.Read) has whole bounded = refl
+  unmerged_whole (compact.File (file_error.Damaged d)) has whole bounded = absurd (has.never whole bounded)
+  unmerged_whole (compact.File file_error.Memory) has whole bounded = refl
+
+-- ---- a draft that failed
+
+-- why a turn may answer it
+pub answers_more : (script : Script) (start : State) (old new : Shown) (session : ℕ) {Failed Handed : Type 0} → (Failed → Handed) → AnswersDraft script start old new session Failed → AnswersDraft script start old new session Handed
+answers_more script start old new session why answers low e grew is = why (answers low e grew is)

@@ -1,0 +1,88 @@
+use Rattle.std.proofs.Common.{◌≡◌, Err, not, sym, ap, ◌∙◌, subst}
+use Rattle.std.specs.Prelude.{is_ok}
+use Rattle.mesa_history.specs.Legal.{is_work}
+use Rattle.mesa_history.specs.Run.{Granted, Renewed}
+use Rattle.mesa_model.specs.declared.commands.Command.TheVariants as command
+use Rattle.mesa_service.specs.Works.{HasMerged, WasGranted, known_task}
+use Rattle.mesa_skeleton.specs.Rows.{no_rows}
+use Rattle.mesa_tasks.specs.Tasks.{claim_in}
+use Rattle.mesa_tasks.specs.declared.merging.CompactError.TheVariants as compact
+use Rattle.mesa_walk.specs.Turns.{AnswersDraft, Asks}
+use Rattle.mesa_walk.specs.Walk.{run_at}
+use Rattle.mesa_walk.specs.Works.{closing_stage}
+use Rattle.mesa_core.specs.Handing.{IsGranted}
+use Rattle.mesa_core.specs.Vault.{Stand}
+use Rattle.mesa_core.proofs.Due.{due_of, sort_of}
+use Rattle.mesa_core.proofs.Merged.{answers_more, finished_as, unmerged_differed, unmerged_failed, unmerged_whole}
+use Rattle.mesa_core.proofs.vault.Vault.complete.Goals as goal
+
+pub name_of-name-requires : goal.name_of-name-requires
+name_of-name-requires g c = sort_of g.N.Naming.script _ _ c.args.who.session c.args.who.command (closing_stage (not (is_ok c.args.merged)) (claim_in c.args.task)) is_work c.self.invariant.script c.requires.due
+
+pub complete-requires-clause-due : goal.complete-requires-clause-due
+complete-requires-clause-due g c κs within =
+    let N = g.N.Naming in
+    let who = c.args.who in
+    let claim = claim_in c.args.task in
+    let due = subst (λ m. Asks N.script (run_at N.script (N.start no_rows) c.args.self.now.shown.history) who.session who.command (closing_stage (not (is_ok m)) claim) is_work) c.in-Ok.is c.requires.due in
+    due_of N.script _ (run_at N.script (N.start no_rows) c.self.inside.engine.shown.history) who.session who.command (Renewed claim) is_work (command.Work c.name_of-name.result.now) c.self.invariant.script
+    (subst (λ (s : Stand). Asks N.script (run_at N.script (N.start no_rows) s.shown.history) who.session who.command (Renewed claim) is_work) (sym c.self.view_is) due) c.name_of-name.ensures
+
+pub complete-requires-clause-table : goal.complete-requires-clause-table
+complete-requires-clause-table g c κs within = c.requires.granted.was.low
+
+pub complete-requires-clause-finished : goal.complete-requires-clause-finished
+complete-requires-clause-finished g c κs within =
+    let N = g.N.Naming in
+    let read = g.D.Reader.FileReader.bytes in
+    let t = c.args.task in
+    finished_as g.M.Made.bytes g.M.Made.id_of read g.D.Reader.FileReader.faults N.script N.start N.origin N.sound (N.origin no_rows).generation c.self.inside.engine.shown.history c.self.inside.engine.ledger.catalogue t c.in-Ok.delta c.catalogue.ensures
+    (subst (λ (s : Stand). WasGranted (IsGranted read N.script N.start N.origin N.sound) s.shown.history (known_task read t)) (sym c.self.view_is) c.requires.granted)
+    (subst (HasMerged g.M.Made.bytes g.M.Made.id_of read g.D.Reader.FileReader.faults t) c.in-Ok.is c.requires.merged)
+    c.merges_are_known.ensures c.ranges_go_on.ensures c.tables_go_on.ensures
+
+pub complete-requires-clause-told : goal.complete-requires-clause-told
+complete-requires-clause-told g c κs within = c.self.invariant.told
+
+pub give_up-requires-clause-due : goal.give_up-requires-clause-due
+give_up-requires-clause-due g c κs within =
+    let N = g.N.Naming in
+    let who = c.args.who in
+    let claim = claim_in c.args.task in
+    let due = subst (λ m. Asks N.script (run_at N.script (N.start no_rows) c.args.self.now.shown.history) who.session who.command (closing_stage (not (is_ok m)) claim) is_work) c.in-Err.is c.requires.due in
+    due_of N.script _ (run_at N.script (N.start no_rows) c.self.inside.engine.shown.history) who.session who.command (Granted claim) is_work (command.Work c.name_of-name.result.now) c.self.invariant.script
+    (subst (λ (s : Stand). Asks N.script (run_at N.script (N.start no_rows) s.shown.history) who.session who.command (Granted claim) is_work) (sym c.self.view_is) due) c.name_of-name.ensures
+
+pub give_up-requires-clause-table : goal.give_up-requires-clause-table
+give_up-requires-clause-table g c κs within = c.requires.granted.was.low
+
+pub give_up-requires-clause-read : goal.give_up-requires-clause-read
+give_up-requires-clause-read g c κs within is =
+    let has = subst (HasMerged g.M.Made.bytes g.M.Made.id_of g.D.Reader.FileReader.bytes g.D.Reader.FileReader.faults c.args.task) c.in-Err.is c.requires.merged in
+    unmerged_failed g.D.Reader.FileReader.bytes g.D.Reader.FileReader.faults has.0 c.args.task c.in-Err.error has.2 is
+
+pub give_up-requires-clause-damaged : goal.give_up-requires-clause-damaged
+give_up-requires-clause-damaged g c κs within =
+    let has = subst (HasMerged g.M.Made.bytes g.M.Made.id_of g.D.Reader.FileReader.bytes g.D.Reader.FileReader.faults c.args.task) c.in-Err.is c.requires.merged in
+    unmerged_differed g.D.Reader.FileReader.bytes g.D.Reader.FileReader.faults has.0 c.args.task c.in-Err.error has.2
+
+pub give_up-requires-clause-undamaged : goal.give_up-requires-clause-undamaged
+give_up-requires-clause-undamaged g c κs within w ok =
+    let read = g.D.Reader.FileReader.bytes in
+    let was = c.requires.granted.was in
+    let has = subst (HasMerged g.M.Made.bytes g.M.Made.id_of read g.D.Reader.FileReader.faults c.args.task) c.in-Err.is c.requires.merged in
+    unmerged_whole read g.D.Reader.FileReader.faults has.0 c.args.task c.in-Err.error has.2 (was.whole w ok) (c.bounds_are_known.ensures _ has.0 was.known has.1 (was.bounded w ok))
+
+pub returns-in-Ok-clause-draft : goal.returns-in-Ok-clause-draft
+returns-in-Ok-clause-draft g c =
+    let N = g.N.Naming in
+    let new = c.complete.new.engine.shown in
+    subst (λ (s : Stand). AnswersDraft N.script (N.start no_rows) s.shown new c.args.who.session (c.args.merged ≡ Err compact.Draft)) c.self.view_is
+    (answers_more N.script (N.start no_rows) c.self.inside.engine.shown new c.args.who.session (λ (never : ⊥). absurd never) c.complete.ensures.draft)
+
+pub returns-in-Err-clause-draft : goal.returns-in-Err-clause-draft
+returns-in-Err-clause-draft g c =
+    let N = g.N.Naming in
+    let new = c.give_up.new.engine.shown in
+    subst (λ (s : Stand). AnswersDraft N.script (N.start no_rows) s.shown new c.args.who.session (c.args.merged ≡ Err compact.Draft)) c.self.view_is
+    (answers_more N.script (N.start no_rows) c.self.inside.engine.shown new c.args.who.session (λ same. c.in-Err.is ∙ ap Err same) c.give_up.ensures.draft)

@@ -1,0 +1,36 @@
+use Rattle.std.proofs.Common.{sym, subst}
+use Rattle.mesa_history.specs.Legal.{is_query}
+use Rattle.mesa_history.specs.Run.{First}
+use Rattle.mesa_model.specs.declared.commands.Command.TheVariants as command
+use Rattle.mesa_service.specs.Pins.{TakesQuery}
+use Rattle.mesa_skeleton.specs.Rows.{no_rows}
+use Rattle.mesa_walk.specs.Turns.{Asks}
+use Rattle.mesa_walk.specs.Walk.{run_at}
+use Rattle.mesa_core.specs.Handing.{Tells}
+use Rattle.mesa_core.specs.Vault.{Stand}
+use Rattle.mesa_core.proofs.Due.{due_of, sort_of}
+use Rattle.mesa_core.proofs.Handed.{takes_query}
+use Rattle.mesa_core.proofs.vault.Vault.pin_query.Goals as goal
+
+pub words_of-words-requires : goal.words_of-words-requires
+words_of-words-requires g c = sort_of g.N.Naming.script _ _ c.args.who.session c.args.who.command First is_query c.self.invariant.script c.requires.due
+
+pub pin_query-requires-clause-due : goal.pin_query-requires-clause-due
+pin_query-requires-clause-due g c κs within =
+    let N = g.N.Naming in
+    let who = c.args.who in
+    due_of N.script _ (run_at N.script (N.start no_rows) c.self.inside.engine.shown.history) who.session who.command First is_query (command.Query c.words_of-words.result.now) c.self.invariant.script
+    (subst (λ (s : Stand). Asks N.script (run_at N.script (N.start no_rows) s.shown.history) who.session who.command First is_query) (sym c.self.view_is) c.requires.due) c.words_of-words.ensures
+
+pub returns : goal.returns
+returns g c =
+    let N = g.N.Naming in
+    let who = c.args.who in
+    let bytes = g.D.Reader.FileReader.bytes in
+    let old = c.self.inside.engine.shown in
+    let new = c.pin_query.new.engine.shown in
+    let e = c.pin_query.ensures in
+    record {
+      turn = subst (λ (s : Stand). TakesQuery bytes N.script N.start (λ past. Tells N.sound) s.shown new who.session who.command c.pin_query.result) c.self.view_is
+          (takes_query bytes N.script N.start N.sound old new who.session who.command c.words_of-words.result.now c.pin_query.result e.opened e.pinned e.turn e.seen e.ran e.over);
+    }

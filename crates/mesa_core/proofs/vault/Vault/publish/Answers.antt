@@ -1,0 +1,35 @@
+use Rattle.std.proofs.Common.{◌≡◌, ◌∙◌, Some, sym, ap, subst}
+use Rattle.mesa_batch.specs.Glance.{Sight}
+use Rattle.mesa_history.specs.Run.{Looked, command_at}
+use Rattle.mesa_model.specs.declared.commands.Command.TheVariants as command
+use Rattle.mesa_model.specs.declared.commands.Script.{Script}
+use Rattle.mesa_service.specs.Sight.{sight_after}
+use Rattle.mesa_skeleton.specs.Rows.{no_rows}
+use Rattle.mesa_tasks.specs.Batches.{HasPrepared}
+use Rattle.mesa_walk.specs.Turns.{Asks, is_load}
+use Rattle.mesa_walk.specs.Walk.{run_at}
+use Rattle.mesa_core.specs.Vault.{Stand}
+use Rattle.mesa_core.proofs.Due.{due_of, sort_of}
+use Rattle.mesa_core.proofs.vault.Vault.publish.Goals as goal
+
+pub rows_of-rows-requires : goal.rows_of-rows-requires
+rows_of-rows-requires g c = sort_of g.N.Naming.script _ _ c.args.who.session c.args.who.command Looked is_load c.self.invariant.script c.requires.due
+
+pub publish-requires-clause-due : goal.publish-requires-clause-due
+publish-requires-clause-due g c κs within =
+    let N = g.N.Naming in
+    let who = c.args.who in
+    due_of N.script _ (run_at N.script (N.start no_rows) c.self.inside.engine.shown.history) who.session who.command Looked is_load (command.Load c.rows_of-rows.result.now) c.self.invariant.script
+    (subst (λ (s : Stand). Asks N.script (run_at N.script (N.start no_rows) s.shown.history) who.session who.command Looked is_load) (sym c.self.view_is) c.requires.due) c.rows_of-rows.ensures
+
+pub publish-requires-clause-made : goal.publish-requires-clause-made
+publish-requires-clause-made g c κs within =
+    let N = g.N.Naming in
+    let who = c.args.who in
+    let rows = c.rows_of-rows.result.now in
+    let known : command_at N.script who.session who.command ≡ Some (command.Load rows) = ap (λ (s : Script). command_at s who.session who.command) (sym c.self.invariant.script) ∙ c.rows_of-rows.ensures in
+    let sight = c.catalogue.ensures.sight ∙ ap (λ (s : Stand). sight_after N.script (N.start no_rows) (N.origin no_rows).generation s.shown.history) c.self.view_is in
+    subst (λ (s : Sight). HasPrepared g.M.Made.bytes g.M.Made.id_of s rows c.args.made) (sym sight) (c.requires.made rows known)
+
+pub publish-requires-clause-told : goal.publish-requires-clause-told
+publish-requires-clause-told g c κs within = c.self.invariant.told

@@ -1,0 +1,17 @@
+-- What a catalogue is by the history of its run.
+use Rattle.std.specs.Prelude.{◌≡◌, ℕ, ◌<◌, List, length}
+use Rattle.mesa_catalog.specs.Lookups.{sight_of}
+use Rattle.mesa_history.specs.Run.{State}
+use Rattle.mesa_image.specs.Catalog.{Catalog, stock_at}
+use Rattle.mesa_model.specs.declared.commands.Script.{Script}
+use Rattle.mesa_model.specs.declared.entries.Entry.{Entry}
+use Rattle.mesa_schema.specs.Lineages.{IsLineage}
+use Rattle.mesa_service.specs.Sight.{sight_after}
+use Rattle.mesa_skeleton.specs.Rows.{Rows, no_rows}
+use Rattle.mesa_walk.specs.Walk.{run_at}
+
+-- A catalogue is that of a history, for a run that began with a generation: a load sees of it what the history says; it has as many versions, whatever rows the files had when the run began; and each table's columns and views followed the rules.
+pub record IsCatalogAfter (script : Script) (start : Rows → State) (generation : ℕ) (h : List Entry) (c : Catalog) : Type 0 where
+  pub sight : sight_of c ≡ sight_after script (start no_rows) generation h
+  pub next : (w : Rows) → c.next ≡ (run_at script (start w) h).state.warehouse.next
+  pub lineages : (number : ℕ) → number < length c.tables → IsLineage (stock_at c number).lineage

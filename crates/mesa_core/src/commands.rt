@@ -1,0 +1,39 @@
+// The one turn of a command that is no load, no query and no work.
+ghost use Rattle.std.specs.Prelude.{◌<◌, length};
+ghost use Rattle.mesa_history.specs.Run.{Finished, First};
+ghost use Rattle.mesa_model.specs.declared.entries.Kind.TheVariants as kind;
+ghost use Rattle.mesa_skeleton.specs.Rows.{no_rows};
+ghost use Rattle.mesa_walk.specs.Turns.{Asks, Takes, is_simple};
+ghost use Rattle.mesa_walk.specs.Walk.{run_at};
+
+use crate::Vault;
+use crate::asked::command_of;
+use crate::standing::allocator;
+use mesa_disk::{Disk, Made};
+use mesa_io::Sink;
+use mesa_ledger::Naming;
+use mesa_log::Who;
+use mesa_model::{Command, Reply};
+use mesa_quiet::{explain, pin, release};
+use mesa_writing::{alter, expire, table, view};
+
+impl<'s, N: Naming, M: Made, D: Disk<M>, K: Sink> Vault<'s, N, M, D, K> {
+    /// The one turn of a command that is no load, no query and no work.
+    pub fn simple(&mut self, who: Who) -> Reply
+        requires due { Asks N.script (run_at N.script (N.start no_rows) self.old.shown.history) who.session who.command First is_simple }
+        requires room { length self.old.shown.history < N.room }
+        ensures turn { Takes N.script (N.start no_rows) self.old.shown self.new.shown who.session who.command kind.Decide Finished }
+    {
+        let alloc = allocator(&self.engine);
+        match command_of(self.script, who) {
+            Some(Command::Table(words)) => table(alloc, &mut self.engine, who, words),
+            Some(Command::View(words)) => view(alloc, &mut self.engine, who, words),
+            Some(Command::Alter(words)) => alter(alloc, &mut self.engine, who, words),
+            Some(Command::Explain(words)) => explain(alloc, &mut self.engine, who, words),
+            Some(Command::Pin(asked)) => pin(&mut self.engine, who, *asked),
+            Some(Command::Release(token)) => release(&mut self.engine, who, *token),
+            Some(Command::Expire(version)) => expire(alloc, &mut self.engine, who, *version),
+            _ => unreachable!(),
+        }
+    }
+}

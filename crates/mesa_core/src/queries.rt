@@ -1,0 +1,49 @@
+// The turns of a query.
+ghost use Rattle.std.specs.Prelude.{◌<◌, length};
+ghost use Rattle.mesa_core.specs.Handing.{Tells};
+ghost use Rattle.mesa_history.specs.Legal.{is_query};
+ghost use Rattle.mesa_history.specs.Run.{Finished, First};
+ghost use Rattle.mesa_model.specs.declared.entries.Kind.TheVariants as kind;
+ghost use Rattle.mesa_service.specs.Pins.{HasAnswered, IsOpenQuery, TakesQuery, known_pin};
+ghost use Rattle.mesa_skeleton.specs.Rows.{no_rows};
+ghost use Rattle.mesa_walk.specs.Turns.{Asks, Takes};
+ghost use Rattle.mesa_walk.specs.Walk.{run_at};
+
+use crate::Vault;
+use crate::asked::words_of;
+use mesa_asking::{close_query, pin_query};
+use mesa_delta::FileError;
+use mesa_disk::{Disk, Made};
+use mesa_io::Sink;
+use mesa_ledger::Naming;
+use mesa_log::Who;
+use mesa_model::Reply;
+use mesa_script::Rendered;
+use mesa_tasks::Pinned;
+
+impl<'s, N: Naming, M: Made, D: Disk<M>, K: Sink> Vault<'s, N, M, D, K> {
+    /// A query's deciding turn: the files that answer it. They have to come back by `close_query`.
+    pub fn pin_query(&mut self, who: Who) -> Result<Pinned<D::Reader>, Reply>
+        requires due { Asks N.script (run_at N.script (N.start no_rows) self.old.shown.history) who.session who.command First is_query }
+        requires room { length self.old.shown.history < N.room }
+        ensures turn { TakesQuery D.Reader.bytes N.script N.start (λ past. Tells N.sound) self.old.shown self.new.shown who.session who.command result }
+    {
+        let words = words_of(self.script, who);
+        pin_query(&mut self.engine, who, words)
+    }
+
+    /// A query's last turn, in which its answer is printed. Takes no memory.
+    pub fn close_query(
+        &mut self,
+        who: Who,
+        pinned: Pinned<D::Reader>,
+        answer: Result<Rendered, FileError>,
+    )
+        requires open { IsOpenQuery N.script N.start self.old.shown.history who.session who.command pinned.at (λ past. Tells N.sound (known_pin D.Reader.bytes pinned)) }
+        requires answer { HasAnswered D.Reader.bytes D.Reader.faults pinned answer }
+        requires room { length self.old.shown.history < N.room }
+        ensures turn { Takes N.script (N.start no_rows) self.old.shown self.new.shown who.session who.command kind.Close Finished }
+    {
+        close_query(&mut self.engine, who, pinned, answer);
+    }
+}

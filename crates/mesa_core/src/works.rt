@@ -1,0 +1,87 @@
+// The turns of a work.
+ghost use Rattle.std.specs.Prelude.{◌≡◌, ◌<◌, true, not, Err, IfOk, OnOk, is_ok, length};
+ghost use Rattle.mesa_core.specs.Handing.{IsGranted};
+ghost use Rattle.mesa_history.specs.Legal.{is_work};
+ghost use Rattle.mesa_history.specs.Run.{Finished, First, Granted, Renewed};
+ghost use Rattle.mesa_model.specs.declared.entries.Kind.TheVariants as kind;
+ghost use Rattle.mesa_service.specs.Works.{CanBeMerged, HasMerged, WasGranted, known_task};
+ghost use Rattle.mesa_skeleton.specs.Rows.{no_rows};
+ghost use Rattle.mesa_tasks.specs.Tasks.{claim_in};
+ghost use Rattle.mesa_tasks.specs.declared.merging.CompactError.TheVariants as compact;
+ghost use Rattle.mesa_walk.specs.Turns.{AnswersDraft, Asks, Takes};
+ghost use Rattle.mesa_walk.specs.Walk.{run_at};
+ghost use Rattle.mesa_walk.specs.Works.{closing_stage, stage_if};
+
+use crate::Vault;
+use crate::asked::name_of;
+use crate::standing::{allocator, catalogue};
+use mesa_completing::{complete, give_up};
+use mesa_disk::{Disk, Made};
+use mesa_granted::{bounds_are_known, merges_are_known, ranges_go_on, tables_go_on};
+use mesa_io::Sink;
+use mesa_ledger::Naming;
+use mesa_log::Who;
+use mesa_model::Reply;
+use mesa_tasks::{CompactError, NewDelta, Task};
+use mesa_works::{grant, renew};
+
+impl<'s, N: Naming, M: Made, D: Disk<M>, K: Sink> Vault<'s, N, M, D, K> {
+    /// A work's first turn: the files that are to be merged. They have to come back by `renew` or `complete`.
+    pub fn grant(&mut self, who: Who) -> Result<Task<D::Reader>, Reply>
+        requires due { Asks N.script (run_at N.script (N.start no_rows) self.old.shown.history) who.session who.command First is_work }
+        requires room { length self.old.shown.history < N.room }
+        ensures turn { Takes N.script (N.start no_rows) self.old.shown self.new.shown who.session who.command kind.Grant (stage_if claim_in Granted result) }
+        ensures ran { OnOk result (self.old.shown.running ≡ true) }
+        ensures task { IfOk result (CanBeMerged D.Reader.bytes) }
+        ensures granted { IfOk result (λ t. IsGranted D.Reader.bytes N.script N.start N.origin N.sound self.new.shown.history (known_task D.Reader.bytes t)) }
+    {
+        let name = name_of(self.script, who);
+        let granted = grant(&mut self.engine, who, name);
+        catalogue(&self.engine);
+        granted
+    }
+
+    /// A work's turn once its files are merged: its lease holds anew.
+    pub fn renew(&mut self, who: Who, task: Task<D::Reader>) -> Result<Task<D::Reader>, Reply>
+        requires due { Asks N.script (run_at N.script (N.start no_rows) self.old.shown.history) who.session who.command (Granted (claim_in task)) is_work }
+        requires granted { WasGranted (IsGranted D.Reader.bytes N.script N.start N.origin N.sound) self.old.shown.history (known_task D.Reader.bytes task) }
+        requires room { length self.old.shown.history < N.room }
+        ensures turn { Takes N.script (N.start no_rows) self.old.shown self.new.shown who.session who.command kind.Renew (stage_if claim_in Renewed result) }
+        ensures ran { OnOk result (self.old.shown.running ≡ true) }
+        ensures same { IfOk result (λ t. t ≡ task) }
+    {
+        let name = name_of(self.script, who);
+        renew(&mut self.engine, who, name, task)
+    }
+
+    /// A work's last turn: what its files were merged to, once its lease was renewed, or why they weren't.
+    pub fn complete(
+        &mut self,
+        who: Who,
+        task: Task<D::Reader>,
+        merged: Result<NewDelta<M>, CompactError>,
+    ) -> Reply
+        requires due { Asks N.script (run_at N.script (N.start no_rows) self.old.shown.history) who.session who.command (closing_stage (not (is_ok merged)) (claim_in task)) is_work }
+        requires granted { WasGranted (IsGranted D.Reader.bytes N.script N.start N.origin N.sound) self.old.shown.history (known_task D.Reader.bytes task) }
+        requires merged { HasMerged M.bytes M.id_of D.Reader.bytes D.Reader.faults task merged }
+        requires room { length self.old.shown.history < N.room }
+        ensures turn { Takes N.script (N.start no_rows) self.old.shown self.new.shown who.session who.command kind.Close Finished }
+        ensures draft { AnswersDraft N.script (N.start no_rows) self.old.shown self.new.shown who.session (merged ≡ Err compact.Draft) }
+    {
+        catalogue(&self.engine);
+        let alloc = allocator(&self.engine);
+        let name = name_of(self.script, who);
+        match merged {
+            Ok(delta) => {
+                merges_are_known(&task, &delta);
+                ranges_go_on(&task);
+                tables_go_on();
+                complete(alloc, &mut self.engine, who, name, task, delta)
+            }
+            Err(error) => {
+                bounds_are_known(&task);
+                give_up(&mut self.engine, who, name, task, error)
+            }
+        }
+    }
+}
