@@ -1,9 +1,7 @@
-//! What a session asks of a run over a store: its turns, as calls of one trait. A session knows the run by these alone.
+//! What a session knows of a run over a store: what a load sees of the tables, what is known of the files that were
+//! handed out to it, and what came of reading them.
 #![tactic(auto)]
 
 mod laws;
-mod service;
 
 pub use laws::sights_last;
-pub use mesa_log::Who;
-pub use service::Service;
