@@ -1,0 +1,29 @@
+-- A call that ran nothing ends with what it printed.
+use Rattle.std.proofs.Common.{◌≡◌, inl, inr, ℕ, List, [], take, Bool, true, false, refl, sym, ◌∙◌, ap, subst}
+use Rattle.std.specs.Prelude.{if◌then◌else◌}
+use Rattle.std.specs.Io.KnownBytes.{Appends}
+use Rattle.mesa_fault.specs.Causes.{Rose}
+use Rattle.mesa_printer.specs.declared.printer.Printer.{Printer}
+use Rattle.mesa_printer.specs.Printed.{Printed}
+use Rattle.mesa_ending.specs.Ports.{Ports}
+use Rattle.mesa_ending.specs.Ending.{Ended, Prints}
+use Rattle.mesa_ending.specs.declared.done.Devices.{Devices}
+use Rattle.mesa_ending.specs.declared.done.Done.{Done}
+
+module _ {K D M B : Type 0} (ports : Ports K D M B) (given : Devices K D B) (done : Done K D B) where
+  pub printed_ends : (p : Printer K) (status : ℕ) (text : List ℕ) → Printed ports.held ports.sink_faults (record { sink = given.out; broken = false }) p text
+      → done.status ≡ (if p.broken then 5 else status) → done.out ≡ p.sink → done.benches.items ≡ given.benches.items → done.history.items ≡ [] → Ended ports given done status text
+  printed_ends p status text printed is out benches none = (none, benches, by p.broken refl)
+    where
+      by : (b : Bool) → p.broken ≡ b → Prints ports given done status text
+      by true broken = inr (
+        is ∙ ap (λ (b : Bool). if b then 5 else status) broken,
+        subst (λ o. Rose (ports.sink_faults given.out) (ports.sink_faults o)) (sym out) (printed.cause refl broken),
+        printed.front.0,
+        subst (λ o. Appends (ports.held given.out) (ports.held o) (take printed.front.0 text)) (sym out) printed.front.1,
+      )
+      by false whole = inl (
+        is ∙ ap (λ (b : Bool). if b then 5 else status) whole,
+        subst (λ o. ports.sink_faults o ≡ ports.sink_faults given.out) (sym out) (printed.quiet whole),
+        subst (λ o. Appends (ports.held given.out) (ports.held o) text) (sym out) (printed.whole whole).1,
+      )
