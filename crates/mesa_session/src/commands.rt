@@ -11,10 +11,12 @@ ghost use Rattle.mesa_passes.specs.Passes.{HasSort, Mine, Took, at_stage};
 use crate::gate::{Gate, Point};
 use crate::outside::{answered, merged};
 use mesa_batch::LoadRows;
-use mesa_disk::Bench;
+use mesa_core::Vault;
+use mesa_disk::{Bench, Disk, Made};
+use mesa_io::Sink;
+use mesa_ledger::Naming;
 use mesa_log::Who;
 use mesa_model::Command;
-use mesa_service::Service;
 use mesa_tasks::Serials;
 use mesa_turn::{Pass, TurnLock};
 use mesa_turning::{
@@ -28,10 +30,18 @@ use std::thread::Threads;
 // Of each command the second result is whether the sink had not failed before its last turn.
 
 // A load looks, is prepared outside, and is decided.
-fn load<V: Service, R: Threads + Wait + Sync, B: Bench<V::File>>(
+fn load<
+    's,
+    N: Naming + Send,
+    M: Made,
+    D: Disk<M>,
+    K: Sink + Send,
+    R: Threads + Wait + Sync,
+    B: Bench<M>,
+>(
     rt: &R,
     alloc: Global,
-    lock: &TurnLock<V>,
+    lock: &TurnLock<Vault<'s, N, M, D, K>>,
     pass: Pass,
     who: Who,
     rows: &LoadRows,
@@ -39,21 +49,21 @@ fn load<V: Service, R: Threads + Wait + Sync, B: Bench<V::File>>(
     ids: &mut Option<Serials>,
 ) -> (Pass, bool)
     requires lock { pass.lock ≡ lock.now }
-    requires few { length V.script.sessions ≤ 8 }
+    requires few { length N.script.sessions ≤ 8 }
     requires session { who.session < 8 }
-    requires room { (3 ≤ pass.room) × (pass.limit ≤ V.room) }
-    requires mine { Mine V.script (V.start no_rows) pass who.session (at_stage who.command First) }
-    requires known { command_at V.script who.session who.command ≡ Some (command.Load rows.now) }
+    requires room { (3 ≤ pass.room) × (pass.limit ≤ N.room) }
+    requires mine { Mine N.script (N.start no_rows) pass who.session (at_stage who.command First) }
+    requires known { command_at N.script who.session who.command ≡ Some (command.Load rows.now) }
     ensures took { Took who.session pass result.0 3 }
-    ensures mine { Mine V.script (V.start no_rows) result.0 who.session (place_then (not result.1) who.command Finished) }
-    ensures answers { Answers V.script (V.start no_rows) who.session pass result.0 (B.faults bench.old) (B.faults bench.new) 0 }
+    ensures mine { Mine N.script (N.start no_rows) result.0 who.session (place_then (not result.1) who.command Finished) }
+    ensures answers { Answers N.script (N.start no_rows) who.session pass result.0 (B.faults bench.old) (B.faults bench.new) 0 }
 {
     let (pass, ran, run, looked) = look_turn(rt, lock, pass, who);
     if !ran {
         return (pass, false);
     }
     let mut serials = ids_of(ids.take(), run, who.session);
-    let (generation, made) = prepared_first::<V, R, B>(
+    let (generation, made) = prepared_first::<N, M, R, B>(
         rt,
         alloc,
         bench,
@@ -78,21 +88,21 @@ fn load<V: Service, R: Threads + Wait + Sync, B: Bench<V::File>>(
 }
 
 // A query is decided, answered outside, and closes.
-fn query<V: Service, R: Wait>(
+fn query<'s, N: Naming + Send, M: Made, D: Disk<M>, K: Sink + Send, R: Wait>(
     rt: &R,
     alloc: Global,
-    lock: &TurnLock<V>,
+    lock: &TurnLock<Vault<'s, N, M, D, K>>,
     pass: Pass,
     who: Who,
 ) -> (Pass, bool)
     requires lock { pass.lock ≡ lock.now }
-    requires few { length V.script.sessions ≤ 8 }
-    requires room { (3 ≤ pass.room) × (pass.limit ≤ V.room) }
-    requires mine { Mine V.script (V.start no_rows) pass who.session (at_stage who.command First) }
-    requires sort { HasSort V.script who.session who.command is_query }
+    requires few { length N.script.sessions ≤ 8 }
+    requires room { (3 ≤ pass.room) × (pass.limit ≤ N.room) }
+    requires mine { Mine N.script (N.start no_rows) pass who.session (at_stage who.command First) }
+    requires sort { HasSort N.script who.session who.command is_query }
     ensures took { Took who.session pass result.0 3 }
-    ensures mine { Mine V.script (V.start no_rows) result.0 who.session (place_then (not result.1) who.command Finished) }
-    ensures answers { Answers V.script (V.start no_rows) who.session pass result.0 0 0 0 }
+    ensures mine { Mine N.script (N.start no_rows) result.0 who.session (place_then (not result.1) who.command Finished) }
+    ensures answers { Answers N.script (N.start no_rows) who.session pass result.0 0 0 0 }
 {
     let (pass, ran, pinned) = pin_turn(rt, lock, pass, who);
     match pinned {
@@ -105,10 +115,10 @@ fn query<V: Service, R: Wait>(
 }
 
 // A work is granted, merged outside, renewed, and completed. One whose merge failed isn't renewed.
-fn work<V: Service, R: Wait, B: Bench<V::File>, G: Gate>(
+fn work<'s, N: Naming + Send, M: Made, D: Disk<M>, K: Sink + Send, R: Wait, B: Bench<M>, G: Gate>(
     rt: &R,
     alloc: Global,
-    lock: &TurnLock<V>,
+    lock: &TurnLock<Vault<'s, N, M, D, K>>,
     pass: Pass,
     who: Who,
     bench: &mut B,
@@ -116,14 +126,14 @@ fn work<V: Service, R: Wait, B: Bench<V::File>, G: Gate>(
     gate: &G,
 ) -> (Pass, bool)
     requires lock { pass.lock ≡ lock.now }
-    requires few { length V.script.sessions ≤ 8 }
+    requires few { length N.script.sessions ≤ 8 }
     requires session { who.session < 8 }
-    requires room { (3 ≤ pass.room) × (pass.limit ≤ V.room) }
-    requires mine { Mine V.script (V.start no_rows) pass who.session (at_stage who.command First) }
-    requires sort { HasSort V.script who.session who.command is_work }
+    requires room { (3 ≤ pass.room) × (pass.limit ≤ N.room) }
+    requires mine { Mine N.script (N.start no_rows) pass who.session (at_stage who.command First) }
+    requires sort { HasSort N.script who.session who.command is_work }
     ensures took { Took who.session pass result.0 3 }
-    ensures mine { Mine V.script (V.start no_rows) result.0 who.session (place_then (not result.1) who.command Finished) }
-    ensures answers { Answers V.script (V.start no_rows) who.session pass result.0 (B.faults bench.old) (B.faults bench.new) 0 }
+    ensures mine { Mine N.script (N.start no_rows) result.0 who.session (place_then (not result.1) who.command Finished) }
+    ensures answers { Answers N.script (N.start no_rows) who.session pass result.0 (B.faults bench.old) (B.faults bench.new) 0 }
 {
     let (pass, ran, run, task) = grant_turn(rt, lock, pass, who);
     let mut task = match task {
@@ -145,10 +155,19 @@ fn work<V: Service, R: Wait, B: Bench<V::File>, G: Gate>(
 }
 
 /// A session's command, to its end or to a turn that finds that the sink has failed.
-pub(crate) fn run_command<V: Service, R: Threads + Wait + Sync, B: Bench<V::File>, G: Gate>(
+pub(crate) fn run_command<
+    's,
+    N: Naming + Send,
+    M: Made,
+    D: Disk<M>,
+    K: Sink + Send,
+    R: Threads + Wait + Sync,
+    B: Bench<M>,
+    G: Gate,
+>(
     rt: &R,
     alloc: Global,
-    lock: &TurnLock<V>,
+    lock: &TurnLock<Vault<'s, N, M, D, K>>,
     pass: Pass,
     who: Who,
     command: &Command,
@@ -157,14 +176,14 @@ pub(crate) fn run_command<V: Service, R: Threads + Wait + Sync, B: Bench<V::File
     gate: &G,
 ) -> (Pass, bool)
     requires lock { pass.lock ≡ lock.now }
-    requires few { length V.script.sessions ≤ 8 }
+    requires few { length N.script.sessions ≤ 8 }
     requires session { who.session < 8 }
-    requires room { (3 ≤ pass.room) × (pass.limit ≤ V.room) }
-    requires mine { Mine V.script (V.start no_rows) pass who.session (at_stage who.command First) }
-    requires known { command_at V.script who.session who.command ≡ Some command.now }
+    requires room { (3 ≤ pass.room) × (pass.limit ≤ N.room) }
+    requires mine { Mine N.script (N.start no_rows) pass who.session (at_stage who.command First) }
+    requires known { command_at N.script who.session who.command ≡ Some command.now }
     ensures took { Took who.session pass result.0 3 }
-    ensures mine { Mine V.script (V.start no_rows) result.0 who.session (place_then (not result.1) who.command Finished) }
-    ensures answers { Answers V.script (V.start no_rows) who.session pass result.0 (B.faults bench.old) (B.faults bench.new) 0 }
+    ensures mine { Mine N.script (N.start no_rows) result.0 who.session (place_then (not result.1) who.command Finished) }
+    ensures answers { Answers N.script (N.start no_rows) who.session pass result.0 (B.faults bench.old) (B.faults bench.new) 0 }
 {
     match command {
         Command::Load(rows) => load(rt, alloc, lock, pass, who, rows, bench, ids),

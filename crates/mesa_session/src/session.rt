@@ -7,10 +7,12 @@ ghost use Rattle.mesa_passes.specs.Passes.{Gains, HasEnded, Mine, Took, at_stage
 
 use crate::commands::run_command;
 use crate::gate::{Gate, Point};
-use mesa_disk::Bench;
+use mesa_core::Vault;
+use mesa_disk::{Bench, Disk, Made};
+use mesa_io::Sink;
+use mesa_ledger::Naming;
 use mesa_log::Who;
 use mesa_model::{Command, Script};
-use mesa_service::Service;
 use mesa_tasks::Serials;
 use mesa_turn::{Pass, TurnLock};
 use std::alloc::Global;
@@ -27,10 +29,19 @@ fn commands_of(script: &Script, session: u16) -> &[Command]
 
 /// Runs a session's commands, to their end or to a turn that finds that the sink has failed. The pass holds the
 /// session's name and has none of its turns; that of session 0 holds all names. May wait.
-pub fn run_session<V: Service, R: Threads + Wait + Sync, B: Bench<V::File>, G: Gate>(
+pub fn run_session<
+    's,
+    N: Naming + Send,
+    M: Made,
+    D: Disk<M>,
+    K: Sink + Send,
+    R: Threads + Wait + Sync,
+    B: Bench<M>,
+    G: Gate,
+>(
     rt: &R,
     alloc: Global,
-    lock: &TurnLock<V>,
+    lock: &TurnLock<Vault<'s, N, M, D, K>>,
     pass: Pass,
     script: &Script,
     session: u16,
@@ -38,22 +49,22 @@ pub fn run_session<V: Service, R: Threads + Wait + Sync, B: Bench<V::File>, G: G
     gate: &G,
 ) -> Pass
     requires lock { pass.lock ≡ lock.now }
-    requires script { script.now ≡ V.script }
-    requires few { length V.script.sessions ≤ 8 }
-    requires there { session < length V.script.sessions }
-    requires commands { length (commands_in V.script session) ≤ 200000 }
-    requires room { (3 * length (commands_in V.script session) ≤ pass.room) × (pass.limit ≤ V.room) }
-    requires mine { Mine V.script (V.start no_rows) pass session (at_stage 1 First) }
+    requires script { script.now ≡ N.script }
+    requires few { length N.script.sessions ≤ 8 }
+    requires there { session < length N.script.sessions }
+    requires commands { length (commands_in N.script session) ≤ 200000 }
+    requires room { (3 * length (commands_in N.script session) ≤ pass.room) × (pass.limit ≤ N.room) }
+    requires mine { Mine N.script (N.start no_rows) pass session (at_stage 1 First) }
 
     // The pass has seen more, and keeps its names and its own positions; at most three turns a command were taken.
-    ensures took { Took session pass result (3 * length (commands_in V.script session)) }
+    ensures took { Took session pass result (3 * length (commands_in N.script session)) }
 
     // The positions that became its own are those of the session's entries, which are all of its turns, or those up to a skipped one.
     ensures gains { Gains session pass result }
-    ensures ended { HasEnded V.script (V.start no_rows) result session }
+    ensures ended { HasEnded N.script (N.start no_rows) result session }
 
     // Of the faults of the session's bench no more were answered than its count rose by.
-    ensures answers { Answers V.script (V.start no_rows) session pass result (B.faults bench.old) (B.faults bench.new) 0 }
+    ensures answers { Answers N.script (N.start no_rows) session pass result (B.faults bench.old) (B.faults bench.new) 0 }
 {
     gate.reach(rt, Point::Started, session);
     let mut pass = pass;

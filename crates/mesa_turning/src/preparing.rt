@@ -11,9 +11,12 @@ ghost use Rattle.mesa_service.specs.Sight.{sight_after};
 ghost use Rattle.mesa_turning.specs.Loads.{StaysPrepared};
 
 use mesa_batch::{Glance, LoadRows};
-use mesa_disk::{Bench, Made};
+use mesa_core::Vault;
+use mesa_disk::{Bench, Disk, Made};
+use mesa_io::Sink;
+use mesa_ledger::Naming;
 use mesa_load::prepare;
-use mesa_service::{Service, sights_last};
+use mesa_service::sights_last;
 use mesa_tasks::{LoadError, Prepared, Serials};
 use std::alloc::{AllocError, Global};
 use std::thread::Threads;
@@ -59,16 +62,16 @@ fn generation_seen(looked: &Result<Glance, AllocError>) -> u64
 }
 
 /// A load's rows as they were prepared by its look, and the generation for which they stand.
-pub fn prepared_first<V: Service, R: Threads + Sync, B: Bench<V::File>>(
+pub fn prepared_first<N: Naming, M: Made, R: Threads + Sync, B: Bench<M>>(
     rt: &R,
     alloc: Global,
     bench: &mut B,
     ids: &mut Serials,
     looked: Result<Glance, AllocError>,
     rows: &LoadRows,
-) -> (u64, Result<Prepared<V::File>, LoadError>)
-    ensures stays { (h : List AnyEntry) → IfOk looked (λ g. g ≡ sight_after V.script (V.start no_rows) V.first_generation h)
-        → StaysPrepared V.File.bytes V.File.id_of (sight_after V.script (V.start no_rows) V.first_generation) h result.0 rows.now result.1 }
+) -> (u64, Result<Prepared<M>, LoadError>)
+    ensures stays { (h : List AnyEntry) → IfOk looked (λ g. g ≡ sight_after N.script (N.start no_rows) (N.origin no_rows).generation h)
+        → StaysPrepared M.bytes M.id_of (sight_after N.script (N.start no_rows) (N.origin no_rows).generation) h result.0 rows.now result.1 }
     ensures owes { Owes (B.faults bench.old) (B.faults bench.new) (owed_by_load result.1) }
 {
     sights_last();
@@ -77,19 +80,27 @@ pub fn prepared_first<V: Service, R: Threads + Sync, B: Bench<V::File>>(
 }
 
 /// They once more, in the deciding turn: those that there are, or anew where the generation has changed.
-pub(crate) fn prepared_now<V: Service, R: Threads + Sync, B: Bench<V::File>>(
+pub(crate) fn prepared_now<
+    's,
+    N: Naming + Send,
+    M: Made,
+    D: Disk<M>,
+    K: Sink + Send,
+    R: Threads + Sync,
+    B: Bench<M>,
+>(
     rt: &R,
     alloc: Global,
-    vault: &V,
+    vault: &Vault<'s, N, M, D, K>,
     bench: &mut B,
     ids: &mut Serials,
     generation: u64,
-    made: Result<Prepared<V::File>, LoadError>,
+    made: Result<Prepared<M>, LoadError>,
     rows: &LoadRows,
-) -> Result<Prepared<V::File>, LoadError>
-    requires { (sight_after V.script (V.start no_rows) V.first_generation (V.shown vault.now).history).generation ≡ generation
-        → HasPrepared V.File.bytes V.File.id_of (sight_after V.script (V.start no_rows) V.first_generation (V.shown vault.now).history) rows.now made }
-    ensures made { HasPrepared V.File.bytes V.File.id_of (sight_after V.script (V.start no_rows) V.first_generation (V.shown vault.now).history) rows.now result }
+) -> Result<Prepared<M>, LoadError>
+    requires { (sight_after N.script (N.start no_rows) (N.origin no_rows).generation vault.now.shown.history).generation ≡ generation
+        → HasPrepared M.bytes M.id_of (sight_after N.script (N.start no_rows) (N.origin no_rows).generation vault.now.shown.history) rows.now made }
+    ensures made { HasPrepared M.bytes M.id_of (sight_after N.script (N.start no_rows) (N.origin no_rows).generation vault.now.shown.history) rows.now result }
     ensures later { B.faults bench.new < last → B.faults bench.old ≤ B.faults bench.new }
     ensures owes { B.faults bench.new < last → B.faults bench.old + owed_by_load result ≤ B.faults bench.new + owed_by_load made }
 {

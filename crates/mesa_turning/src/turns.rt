@@ -5,6 +5,7 @@ ghost use Rattle.mesa_history.specs.Run.{First, Looked, Granted, Renewed, Finish
 ghost use Rattle.mesa_history.specs.Turns.{place_then};
 ghost use Rattle.mesa_model.specs.declared.commands.Command.TheVariants as command;
 ghost use Rattle.mesa_model.specs.Entry.{history_of};
+ghost use Rattle.mesa_core.specs.Handing.{IsGranted, Tells};
 ghost use Rattle.mesa_skeleton.specs.Rows.{no_rows};
 ghost use Rattle.mesa_walk.specs.Turns.{is_load, is_simple};
 ghost use Rattle.mesa_walk.specs.Works.{closing_stage, stage_if};
@@ -19,12 +20,14 @@ ghost use Rattle.mesa_turning.specs.Loads.{StaysPrepared};
 
 use crate::preparing::prepared_now;
 use mesa_batch::{Glance, LoadRows};
+use mesa_core::Vault;
 use mesa_delta::FileError;
-use mesa_disk::Bench;
+use mesa_disk::{Bench, Disk, Made};
+use mesa_io::Sink;
+use mesa_ledger::Naming;
 use mesa_log::Who;
 use mesa_model::Reply;
 use mesa_script::Rendered;
-use mesa_service::Service;
 use mesa_tasks::{CompactError, LoadError, NewDelta, Pinned, Prepared, Serials, Task};
 use mesa_turn::{Pass, TurnLock};
 use std::alloc::{AllocError, Global};
@@ -34,22 +37,22 @@ use std::thread::Threads;
 // Of each turn the second result is whether the sink had not failed before it.
 
 /// A load's look.
-pub fn look_turn<V: Service, R: Wait>(
+pub fn look_turn<'s, N: Naming + Send, M: Made, D: Disk<M>, K: Sink + Send, R: Wait>(
     rt: &R,
-    lock: &TurnLock<V>,
+    lock: &TurnLock<Vault<'s, N, M, D, K>>,
     pass: Pass,
     who: Who,
 ) -> (Pass, bool, u32, Result<Glance, AllocError>)
     requires lock { pass.lock ≡ lock.now }
-    requires few { length V.script.sessions ≤ 8 }
-    requires room { (0 < pass.room) × (pass.limit ≤ V.room) }
-    requires mine { Mine V.script (V.start no_rows) pass who.session (at_stage who.command First) }
-    requires sort { HasSort V.script who.session who.command is_load }
+    requires few { length N.script.sessions ≤ 8 }
+    requires room { (0 < pass.room) × (pass.limit ≤ N.room) }
+    requires mine { Mine N.script (N.start no_rows) pass who.session (at_stage who.command First) }
+    requires sort { HasSort N.script who.session who.command is_load }
     ensures took { Took who.session pass result.0 1 }
-    ensures mine { Mine V.script (V.start no_rows) result.0 who.session (place_then (not result.1) who.command Looked) }
+    ensures mine { Mine N.script (N.start no_rows) result.0 who.session (place_then (not result.1) who.command Looked) }
     ensures run { result.2 < 2 ^ 24 }
-    ensures glance { IfOk result.3 (λ g. g ≡ sight_after V.script (V.start no_rows) V.first_generation (history_of result.0.seen)) }
-    ensures answers { Answers V.script (V.start no_rows) who.session pass result.0 0 0 0 }
+    ensures glance { IfOk result.3 (λ g. g ≡ sight_after N.script (N.start no_rows) (N.origin no_rows).generation (history_of result.0.seen)) }
+    ensures answers { Answers N.script (N.start no_rows) who.session pass result.0 0 0 0 }
 {
     let mut held = lock.enter(rt, pass);
     let vault = held.value();
@@ -60,20 +63,20 @@ pub fn look_turn<V: Service, R: Wait>(
 }
 
 /// The one turn of a command that is no load, no query and no work.
-pub fn simple_turn<V: Service, R: Wait>(
+pub fn simple_turn<'s, N: Naming + Send, M: Made, D: Disk<M>, K: Sink + Send, R: Wait>(
     rt: &R,
-    lock: &TurnLock<V>,
+    lock: &TurnLock<Vault<'s, N, M, D, K>>,
     pass: Pass,
     who: Who,
 ) -> (Pass, bool)
     requires lock { pass.lock ≡ lock.now }
-    requires few { length V.script.sessions ≤ 8 }
-    requires room { (0 < pass.room) × (pass.limit ≤ V.room) }
-    requires mine { Mine V.script (V.start no_rows) pass who.session (at_stage who.command First) }
-    requires sort { HasSort V.script who.session who.command is_simple }
+    requires few { length N.script.sessions ≤ 8 }
+    requires room { (0 < pass.room) × (pass.limit ≤ N.room) }
+    requires mine { Mine N.script (N.start no_rows) pass who.session (at_stage who.command First) }
+    requires sort { HasSort N.script who.session who.command is_simple }
     ensures took { Took who.session pass result.0 1 }
-    ensures mine { Mine V.script (V.start no_rows) result.0 who.session (place_then (not result.1) who.command Finished) }
-    ensures answers { Answers V.script (V.start no_rows) who.session pass result.0 0 0 0 }
+    ensures mine { Mine N.script (N.start no_rows) result.0 who.session (place_then (not result.1) who.command Finished) }
+    ensures answers { Answers N.script (N.start no_rows) who.session pass result.0 0 0 0 }
 {
     let mut held = lock.enter(rt, pass);
     let vault = held.value();
@@ -83,27 +86,35 @@ pub fn simple_turn<V: Service, R: Wait>(
 }
 
 /// A load's deciding turn.
-pub fn publish_turn<V: Service, R: Threads + Wait + Sync, B: Bench<V::File>>(
+pub fn publish_turn<
+    's,
+    N: Naming + Send,
+    M: Made,
+    D: Disk<M>,
+    K: Sink + Send,
+    R: Threads + Wait + Sync,
+    B: Bench<M>,
+>(
     rt: &R,
     alloc: Global,
-    lock: &TurnLock<V>,
+    lock: &TurnLock<Vault<'s, N, M, D, K>>,
     pass: Pass,
     who: Who,
     rows: &LoadRows,
     bench: &mut B,
     ids: &mut Serials,
     generation: u64,
-    made: Result<Prepared<V::File>, LoadError>,
+    made: Result<Prepared<M>, LoadError>,
 ) -> (Pass, bool)
     requires lock { pass.lock ≡ lock.now }
-    requires few { length V.script.sessions ≤ 8 }
-    requires room { (0 < pass.room) × (pass.limit ≤ V.room) }
-    requires mine { Mine V.script (V.start no_rows) pass who.session (at_stage who.command Looked) }
-    requires known { command_at V.script who.session who.command ≡ Some (command.Load rows.now) }
-    requires made { StaysPrepared V.File.bytes V.File.id_of (sight_after V.script (V.start no_rows) V.first_generation) (history_of pass.seen) generation rows.now made }
+    requires few { length N.script.sessions ≤ 8 }
+    requires room { (0 < pass.room) × (pass.limit ≤ N.room) }
+    requires mine { Mine N.script (N.start no_rows) pass who.session (at_stage who.command Looked) }
+    requires known { command_at N.script who.session who.command ≡ Some (command.Load rows.now) }
+    requires made { StaysPrepared M.bytes M.id_of (sight_after N.script (N.start no_rows) (N.origin no_rows).generation) (history_of pass.seen) generation rows.now made }
     ensures took { Took who.session pass result.0 1 }
-    ensures mine { Mine V.script (V.start no_rows) result.0 who.session (place_then (not result.1) who.command Finished) }
-    ensures answers { Answers V.script (V.start no_rows) who.session pass result.0 (B.faults bench.old) (B.faults bench.new) (owed_by_load made) }
+    ensures mine { Mine N.script (N.start no_rows) result.0 who.session (place_then (not result.1) who.command Finished) }
+    ensures answers { Answers N.script (N.start no_rows) who.session pass result.0 (B.faults bench.old) (B.faults bench.new) (owed_by_load made) }
 {
     let mut held = lock.enter(rt, pass);
     let vault = held.value();
@@ -114,22 +125,22 @@ pub fn publish_turn<V: Service, R: Threads + Wait + Sync, B: Bench<V::File>>(
 }
 
 /// A query's deciding turn.
-pub fn pin_turn<V: Service, R: Wait>(
+pub fn pin_turn<'s, N: Naming + Send, M: Made, D: Disk<M>, K: Sink + Send, R: Wait>(
     rt: &R,
-    lock: &TurnLock<V>,
+    lock: &TurnLock<Vault<'s, N, M, D, K>>,
     pass: Pass,
     who: Who,
-) -> (Pass, bool, Result<Pinned<V::Reader>, Reply>)
+) -> (Pass, bool, Result<Pinned<D::Reader>, Reply>)
     requires lock { pass.lock ≡ lock.now }
-    requires few { length V.script.sessions ≤ 8 }
-    requires room { (0 < pass.room) × (pass.limit ≤ V.room) }
-    requires mine { Mine V.script (V.start no_rows) pass who.session (at_stage who.command First) }
-    requires sort { HasSort V.script who.session who.command is_query }
+    requires few { length N.script.sessions ≤ 8 }
+    requires room { (0 < pass.room) × (pass.limit ≤ N.room) }
+    requires mine { Mine N.script (N.start no_rows) pass who.session (at_stage who.command First) }
+    requires sort { HasSort N.script who.session who.command is_query }
     ensures took { Took who.session pass result.0 1 }
-    ensures holds { Holds V.script (V.start no_rows) result.0 who.session }
-    ensures open { IfOk result.2 (λ p. IsOpenQuery V.script V.start (history_of result.0.seen) who.session who.command p.at (λ past. V.tells past (known_pin V.Reader.bytes p)) × CanBeAnswered V.Reader.bytes p) }
-    ensures refused { IfErr result.2 (λ r. Mine V.script (V.start no_rows) result.0 who.session (place_then (not result.1) who.command Finished)) }
-    ensures answers { Answers V.script (V.start no_rows) who.session pass result.0 0 0 0 }
+    ensures holds { Holds N.script (N.start no_rows) result.0 who.session }
+    ensures open { IfOk result.2 (λ p. IsOpenQuery N.script N.start (history_of result.0.seen) who.session who.command p.at (λ past. Tells N.sound (known_pin D.Reader.bytes p)) × CanBeAnswered D.Reader.bytes p) }
+    ensures refused { IfErr result.2 (λ r. Mine N.script (N.start no_rows) result.0 who.session (place_then (not result.1) who.command Finished)) }
+    ensures answers { Answers N.script (N.start no_rows) who.session pass result.0 0 0 0 }
 {
     let mut held = lock.enter(rt, pass);
     let vault = held.value();
@@ -139,23 +150,23 @@ pub fn pin_turn<V: Service, R: Wait>(
 }
 
 /// A query's last turn.
-pub fn close_turn<V: Service, R: Wait>(
+pub fn close_turn<'s, N: Naming + Send, M: Made, D: Disk<M>, K: Sink + Send, R: Wait>(
     rt: &R,
-    lock: &TurnLock<V>,
+    lock: &TurnLock<Vault<'s, N, M, D, K>>,
     pass: Pass,
     who: Who,
-    pinned: Pinned<V::Reader>,
+    pinned: Pinned<D::Reader>,
     answer: Result<Rendered, FileError>,
 ) -> (Pass, bool)
     requires lock { pass.lock ≡ lock.now }
-    requires few { length V.script.sessions ≤ 8 }
-    requires room { (0 < pass.room) × (pass.limit ≤ V.room) }
-    requires holds { Holds V.script (V.start no_rows) pass who.session }
-    requires open { IsOpenQuery V.script V.start (history_of pass.seen) who.session who.command pinned.at (λ past. V.tells past (known_pin V.Reader.bytes pinned)) }
-    requires answer { HasAnswered V.Reader.bytes V.Reader.faults pinned answer }
+    requires few { length N.script.sessions ≤ 8 }
+    requires room { (0 < pass.room) × (pass.limit ≤ N.room) }
+    requires holds { Holds N.script (N.start no_rows) pass who.session }
+    requires open { IsOpenQuery N.script N.start (history_of pass.seen) who.session who.command pinned.at (λ past. Tells N.sound (known_pin D.Reader.bytes pinned)) }
+    requires answer { HasAnswered D.Reader.bytes D.Reader.faults pinned answer }
     ensures took { Took who.session pass result.0 1 }
-    ensures mine { Mine V.script (V.start no_rows) result.0 who.session (place_then (not result.1) who.command Finished) }
-    ensures answers { Answers V.script (V.start no_rows) who.session pass result.0 0 0 0 }
+    ensures mine { Mine N.script (N.start no_rows) result.0 who.session (place_then (not result.1) who.command Finished) }
+    ensures answers { Answers N.script (N.start no_rows) who.session pass result.0 0 0 0 }
 {
     let mut held = lock.enter(rt, pass);
     let vault = held.value();
@@ -165,24 +176,24 @@ pub fn close_turn<V: Service, R: Wait>(
 }
 
 /// A work's first turn.
-pub fn grant_turn<V: Service, R: Wait>(
+pub fn grant_turn<'s, N: Naming + Send, M: Made, D: Disk<M>, K: Sink + Send, R: Wait>(
     rt: &R,
-    lock: &TurnLock<V>,
+    lock: &TurnLock<Vault<'s, N, M, D, K>>,
     pass: Pass,
     who: Who,
-) -> (Pass, bool, u32, Result<Task<V::Reader>, Reply>)
+) -> (Pass, bool, u32, Result<Task<D::Reader>, Reply>)
     requires lock { pass.lock ≡ lock.now }
-    requires few { length V.script.sessions ≤ 8 }
-    requires room { (0 < pass.room) × (pass.limit ≤ V.room) }
-    requires mine { Mine V.script (V.start no_rows) pass who.session (at_stage who.command First) }
-    requires sort { HasSort V.script who.session who.command is_work }
+    requires few { length N.script.sessions ≤ 8 }
+    requires room { (0 < pass.room) × (pass.limit ≤ N.room) }
+    requires mine { Mine N.script (N.start no_rows) pass who.session (at_stage who.command First) }
+    requires sort { HasSort N.script who.session who.command is_work }
     ensures took { Took who.session pass result.0 1 }
-    ensures mine { Mine V.script (V.start no_rows) result.0 who.session (place_then (not result.1) who.command (stage_if claim_in Granted result.3)) }
+    ensures mine { Mine N.script (N.start no_rows) result.0 who.session (place_then (not result.1) who.command (stage_if claim_in Granted result.3)) }
     ensures ran { OnOk result.3 (result.1 ≡ true) }
     ensures run { result.2 < 2 ^ 24 }
-    ensures task { IfOk result.3 (CanBeMerged V.Reader.bytes) }
-    ensures granted { IfOk result.3 (λ t. WasGranted V.granted (history_of result.0.seen) (known_task V.Reader.bytes t)) }
-    ensures answers { Answers V.script (V.start no_rows) who.session pass result.0 0 0 0 }
+    ensures task { IfOk result.3 (CanBeMerged D.Reader.bytes) }
+    ensures granted { IfOk result.3 (λ t. WasGranted (IsGranted D.Reader.bytes N.script N.start N.origin N.sound) (history_of result.0.seen) (known_task D.Reader.bytes t)) }
+    ensures answers { Answers N.script (N.start no_rows) who.session pass result.0 0 0 0 }
 {
     let mut held = lock.enter(rt, pass);
     let vault = held.value();
@@ -193,25 +204,25 @@ pub fn grant_turn<V: Service, R: Wait>(
 }
 
 /// A work's turn once its files are merged.
-pub fn renew_turn<V: Service, R: Wait>(
+pub fn renew_turn<'s, N: Naming + Send, M: Made, D: Disk<M>, K: Sink + Send, R: Wait>(
     rt: &R,
-    lock: &TurnLock<V>,
+    lock: &TurnLock<Vault<'s, N, M, D, K>>,
     pass: Pass,
     who: Who,
-    task: Task<V::Reader>,
-) -> (Pass, bool, Result<Task<V::Reader>, Reply>)
+    task: Task<D::Reader>,
+) -> (Pass, bool, Result<Task<D::Reader>, Reply>)
     requires lock { pass.lock ≡ lock.now }
-    requires few { length V.script.sessions ≤ 8 }
-    requires room { (0 < pass.room) × (pass.limit ≤ V.room) }
-    requires mine { Mine V.script (V.start no_rows) pass who.session (at_stage who.command (Granted (claim_in task))) }
-    requires sort { HasSort V.script who.session who.command is_work }
-    requires granted { WasGranted V.granted (history_of pass.seen) (known_task V.Reader.bytes task) }
+    requires few { length N.script.sessions ≤ 8 }
+    requires room { (0 < pass.room) × (pass.limit ≤ N.room) }
+    requires mine { Mine N.script (N.start no_rows) pass who.session (at_stage who.command (Granted (claim_in task))) }
+    requires sort { HasSort N.script who.session who.command is_work }
+    requires granted { WasGranted (IsGranted D.Reader.bytes N.script N.start N.origin N.sound) (history_of pass.seen) (known_task D.Reader.bytes task) }
     ensures took { Took who.session pass result.0 1 }
-    ensures mine { Mine V.script (V.start no_rows) result.0 who.session (place_then (not result.1) who.command (stage_if claim_in Renewed result.2)) }
+    ensures mine { Mine N.script (N.start no_rows) result.0 who.session (place_then (not result.1) who.command (stage_if claim_in Renewed result.2)) }
     ensures ran { OnOk result.2 (result.1 ≡ true) }
     ensures same { IfOk result.2 (λ t. t ≡ task) }
-    ensures granted { WasGranted V.granted (history_of result.0.seen) (known_task V.Reader.bytes task) }
-    ensures answers { Answers V.script (V.start no_rows) who.session pass result.0 0 0 0 }
+    ensures granted { WasGranted (IsGranted D.Reader.bytes N.script N.start N.origin N.sound) (history_of result.0.seen) (known_task D.Reader.bytes task) }
+    ensures answers { Answers N.script (N.start no_rows) who.session pass result.0 0 0 0 }
 {
     let mut held = lock.enter(rt, pass);
     let vault = held.value();
@@ -221,24 +232,24 @@ pub fn renew_turn<V: Service, R: Wait>(
 }
 
 /// A work's last turn.
-pub fn complete_turn<V: Service, R: Wait>(
+pub fn complete_turn<'s, N: Naming + Send, M: Made, D: Disk<M>, K: Sink + Send, R: Wait>(
     rt: &R,
-    lock: &TurnLock<V>,
+    lock: &TurnLock<Vault<'s, N, M, D, K>>,
     pass: Pass,
     who: Who,
-    task: Task<V::Reader>,
-    merged: Result<NewDelta<V::File>, CompactError>,
+    task: Task<D::Reader>,
+    merged: Result<NewDelta<M>, CompactError>,
 ) -> (Pass, bool)
     requires lock { pass.lock ≡ lock.now }
-    requires few { length V.script.sessions ≤ 8 }
-    requires room { (0 < pass.room) × (pass.limit ≤ V.room) }
-    requires mine { Mine V.script (V.start no_rows) pass who.session (at_stage who.command (closing_stage (not (is_ok merged)) (claim_in task))) }
-    requires sort { HasSort V.script who.session who.command is_work }
-    requires granted { WasGranted V.granted (history_of pass.seen) (known_task V.Reader.bytes task) }
-    requires merged { HasMerged V.File.bytes V.File.id_of V.Reader.bytes V.Reader.faults task merged }
+    requires few { length N.script.sessions ≤ 8 }
+    requires room { (0 < pass.room) × (pass.limit ≤ N.room) }
+    requires mine { Mine N.script (N.start no_rows) pass who.session (at_stage who.command (closing_stage (not (is_ok merged)) (claim_in task))) }
+    requires sort { HasSort N.script who.session who.command is_work }
+    requires granted { WasGranted (IsGranted D.Reader.bytes N.script N.start N.origin N.sound) (history_of pass.seen) (known_task D.Reader.bytes task) }
+    requires merged { HasMerged M.bytes M.id_of D.Reader.bytes D.Reader.faults task merged }
     ensures took { Took who.session pass result.0 1 }
-    ensures mine { Mine V.script (V.start no_rows) result.0 who.session (place_then (not result.1) who.command Finished) }
-    ensures answers { Answers V.script (V.start no_rows) who.session pass result.0 0 0 (owed_by_work merged) }
+    ensures mine { Mine N.script (N.start no_rows) result.0 who.session (place_then (not result.1) who.command Finished) }
+    ensures answers { Answers N.script (N.start no_rows) who.session pass result.0 0 0 (owed_by_work merged) }
 {
     let mut held = lock.enter(rt, pass);
     let vault = held.value();

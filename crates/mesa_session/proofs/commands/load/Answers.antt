@@ -10,7 +10,7 @@ returns-clause-took g c = took_fewer _ _ _ 2 3 (omega arith) (took_both _ _ _ _ 
 
 pub returns-clause-answers : goal.returns-clause-answers
 returns-clause-answers g c =
-    answers_owed g.V.Service.script (g.V.Service.start no_rows) c.args.who.session _ _ _ _ _ _ (owed_by_load c.prepared_first.result.1) c.publish_turn-pass.ensures.took.seen c.look_turn-pass.ensures.answers c.prepared_first.ensures.owes c.publish_turn-pass.ensures.answers
+    answers_owed g.N.Naming.script (g.N.Naming.start no_rows) c.args.who.session _ _ _ _ _ _ (owed_by_load c.prepared_first-generation.result.1) c.publish_turn-pass.ensures.took.seen c.look_turn-pass.ensures.answers c.prepared_first-generation.ensures.owes c.publish_turn-pass.ensures.answers
 
 pub returns-then-not-ran-clause-answers : goal.returns-then-not-ran-clause-answers
-returns-then-not-ran-clause-answers g c = answers_at g.V.Service.script (g.V.Service.start no_rows) c.args.who.session _ _ _ 0 c.look_turn-pass.ensures.answers
+returns-then-not-ran-clause-answers g c = answers_at g.N.Naming.script (g.N.Naming.start no_rows) c.args.who.session _ _ _ 0 c.look_turn-pass.ensures.answers

@@ -15,19 +15,19 @@ returns-in-Ok-renewed-clause-took g c = took_both _ _ _ _ 2 1 (took_both _ _ _ _
 
 pub returns-then-is_err-clause-answers : goal.returns-then-is_err-clause-answers
 returns-then-is_err-clause-answers g c =
-    answers_owed g.V.Service.script (g.V.Service.start no_rows) c.args.who.session _ _ _ _ _ _ _ c.complete_turn.ensures.took.seen c.grant_turn-pass.ensures.answers c.merged-delta.ensures.owes
-    (answers_at g.V.Service.script (g.V.Service.start no_rows) c.args.who.session _ _ _ _ c.complete_turn.ensures.answers)
+    answers_owed g.N.Naming.script (g.N.Naming.start no_rows) c.args.who.session _ _ _ _ _ _ _ c.complete_turn.ensures.took.seen c.grant_turn-pass.ensures.answers c.merged-delta.ensures.owes
+    (answers_at g.N.Naming.script (g.N.Naming.start no_rows) c.args.who.session _ _ _ _ c.complete_turn.ensures.answers)
 
-pub returns-in-Err-task-clause-answers : goal.returns-in-Err-task-clause-answers
-returns-in-Err-task-clause-answers g c = answers_at g.V.Service.script (g.V.Service.start no_rows) c.args.who.session _ _ _ 0 c.grant_turn-pass.ensures.answers
+pub returns-in-Err-clause-answers : goal.returns-in-Err-clause-answers
+returns-in-Err-clause-answers g c = answers_at g.N.Naming.script (g.N.Naming.start no_rows) c.args.who.session _ _ _ 0 c.grant_turn-pass.ensures.answers
 
 pub returns-in-Err-renewed-clause-answers : goal.returns-in-Err-renewed-clause-answers
 returns-in-Err-renewed-clause-answers g c =
-    let granted = answers_both g.V.Service.script (g.V.Service.start no_rows) c.args.who.session _ _ _ 0 0 0 c.renew_turn-pass.ensures.took.seen c.grant_turn-pass.ensures.answers c.renew_turn-pass.ensures.answers in
-    answers_within g.V.Service.script (g.V.Service.start no_rows) c.args.who.session _ _ _ _ 0 0 (λ low. let owes = c.merged-delta.ensures.owes low in omega (arith, owes)) (λ low. let owes = c.merged-delta.ensures.owes low in omega (arith, owes)) granted
+    let granted = answers_both g.N.Naming.script (g.N.Naming.start no_rows) c.args.who.session _ _ _ 0 0 0 c.renew_turn-pass.ensures.took.seen c.grant_turn-pass.ensures.answers c.renew_turn-pass.ensures.answers in
+    answers_within g.N.Naming.script (g.N.Naming.start no_rows) c.args.who.session _ _ _ _ 0 0 (λ low. let owes = c.merged-delta.ensures.owes low in omega (arith, owes)) (λ low. let owes = c.merged-delta.ensures.owes low in omega (arith, owes)) granted
 
 pub returns-in-Ok-renewed-clause-answers : goal.returns-in-Ok-renewed-clause-answers
 returns-in-Ok-renewed-clause-answers g c =
-    let granted = answers_both g.V.Service.script (g.V.Service.start no_rows) c.args.who.session _ _ _ 0 0 0 c.renew_turn-pass.ensures.took.seen c.grant_turn-pass.ensures.answers c.renew_turn-pass.ensures.answers in
-    answers_owed g.V.Service.script (g.V.Service.start no_rows) c.args.who.session _ _ _ _ _ _ _ c.complete_turn-in-Ok-renewed.ensures.took.seen granted c.merged-delta.ensures.owes
-    (answers_at g.V.Service.script (g.V.Service.start no_rows) c.args.who.session _ _ _ _ c.complete_turn-in-Ok-renewed.ensures.answers)
+    let granted = answers_both g.N.Naming.script (g.N.Naming.start no_rows) c.args.who.session _ _ _ 0 0 0 c.renew_turn-pass.ensures.took.seen c.grant_turn-pass.ensures.answers c.renew_turn-pass.ensures.answers in
+    answers_owed g.N.Naming.script (g.N.Naming.start no_rows) c.args.who.session _ _ _ _ _ _ _ c.complete_turn-in-Ok-renewed.ensures.took.seen granted c.merged-delta.ensures.owes
+    (answers_at g.N.Naming.script (g.N.Naming.start no_rows) c.args.who.session _ _ _ _ c.complete_turn-in-Ok-renewed.ensures.answers)

@@ -13,8 +13,8 @@ pub returns-then-not-ran-clause-took : goal.returns-then-not-ran-clause-took
 returns-then-not-ran-clause-took g c =
     let i = c.commands.i in
     let lt : i < length c.commands_of-commands.result.now = c.commands-test.true in
-    let all : length c.commands_of-commands.result.now ≡ length (commands_of g.V.Service.script c.args.session) = search rules in
-    took_fewer _ _ _ (3 * i + 3) (3 * length (commands_of g.V.Service.script c.args.session)) (omega (arith, lt, all)) (took_both _ _ _ _ (3 * i) 3 c.commands.invariant.took c.run_command-next.ensures.took)
+    let all : length c.commands_of-commands.result.now ≡ length (commands_of g.N.Naming.script c.args.session) = search rules in
+    took_fewer _ _ _ (3 * i + 3) (3 * length (commands_of g.N.Naming.script c.args.session)) (omega (arith, lt, all)) (took_both _ _ _ _ (3 * i) 3 c.commands.invariant.took c.run_command-next.ensures.took)
 
 pub returns-then-not-ran-clause-gains : goal.returns-then-not-ran-clause-gains
 returns-then-not-ran-clause-gains g c =
@@ -23,11 +23,11 @@ returns-then-not-ran-clause-gains g c =
 pub returns-then-not-ran-clause-ended : goal.returns-then-not-ran-clause-ended
 returns-then-not-ran-clause-ended g c =
     let ran : c.run_command-next.result.1 ≡ false = search rules in
-    ended_cut g.V.Service.script (g.V.Service.start no_rows) c.run_command-next.result.0 c.args.session (c.commands.i + 1)
-    (subst (λ b. Mine g.V.Service.script (g.V.Service.start no_rows) c.run_command-next.result.0 c.args.session (place_then (not b) (c.commands.i + 1) Finished)) ran c.run_command-next.ensures.mine)
+    ended_cut g.N.Naming.script (g.N.Naming.start no_rows) c.run_command-next.result.0 c.args.session (c.commands.i + 1)
+    (subst (λ b. Mine g.N.Naming.script (g.N.Naming.start no_rows) c.run_command-next.result.0 c.args.session (place_then (not b) (c.commands.i + 1) Finished)) ran c.run_command-next.ensures.mine)
 
 pub returns-then-not-ran-clause-answers : goal.returns-then-not-ran-clause-answers
-returns-then-not-ran-clause-answers g c = answers_both g.V.Service.script (g.V.Service.start no_rows) c.args.session _ _ _ _ _ _ c.run_command-next.ensures.took.seen c.commands.invariant.answers c.run_command-next.ensures.answers
+returns-then-not-ran-clause-answers g c = answers_both g.N.Naming.script (g.N.Naming.start no_rows) c.args.session _ _ _ _ _ _ c.run_command-next.ensures.took.seen c.commands.invariant.answers c.run_command-next.ensures.answers
 
 pub commands-preserved : goal.commands-preserved
 commands-preserved g c =
@@ -35,8 +35,8 @@ commands-preserved g c =
     let ran : c.run_command-next.result.1 ≡ true = search rules in
     record {
       took = took_fewer _ _ _ (3 * i + 3) (3 * (i + 1)) (omega arith) (took_both _ _ _ _ (3 * i) 3 c.commands.invariant.took c.run_command-next.ensures.took);
-      answers = answers_both g.V.Service.script (g.V.Service.start no_rows) c.args.session _ _ _ _ _ _ c.run_command-next.ensures.took.seen c.commands.invariant.answers c.run_command-next.ensures.answers;
-      mine = subst (λ b. Mine g.V.Service.script (g.V.Service.start no_rows) c.run_command-next.result.0 c.args.session (place_then (not b) (i + 1) Finished)) ran c.run_command-next.ensures.mine;
+      answers = answers_both g.N.Naming.script (g.N.Naming.start no_rows) c.args.session _ _ _ _ _ _ c.run_command-next.ensures.took.seen c.commands.invariant.answers c.run_command-next.ensures.answers;
+      mine = subst (λ b. Mine g.N.Naming.script (g.N.Naming.start no_rows) c.run_command-next.result.0 c.args.session (place_then (not b) (i + 1) Finished)) ran c.run_command-next.ensures.mine;
     }
 
 pub returns-clause-gains : goal.returns-clause-gains
@@ -45,6 +45,6 @@ returns-clause-gains g c = gains _ _ _ _ c.commands.invariant.took c.requires.mi
 pub returns-clause-ended : goal.returns-clause-ended
 returns-clause-ended g c =
     let i = c.commands.i in
-    let all : length c.commands_of-commands.result.now ≡ length (commands_of g.V.Service.script c.args.session) = search rules in
+    let all : length c.commands_of-commands.result.now ≡ length (commands_of g.N.Naming.script c.args.session) = search rules in
     let past = c.commands-test.false in
-    ended_whole g.V.Service.script (g.V.Service.start no_rows) c.commands.pass c.args.session i (omega (arith, past, all)) c.commands.invariant.mine
+    ended_whole g.N.Naming.script (g.N.Naming.start no_rows) c.commands.pass c.args.session i (omega (arith, past, all)) c.commands.invariant.mine

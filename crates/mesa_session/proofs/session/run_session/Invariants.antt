@@ -9,6 +9,6 @@ use Rattle.mesa_session.proofs.session.run_session.Given as goal
 abbrev pub invariant-commands : goal.invariant-commands
 invariant-commands g l = record {
   took : Took l.session l.fn.pass l.pass (3 * l.i);
-  answers : Answers g.V.Service.script (g.V.Service.start no_rows) l.session l.fn.pass l.pass (g.B.Bench.faults l.fn.bench) (g.B.Bench.faults l.bench) 0;
-  mine : Mine g.V.Service.script (g.V.Service.start no_rows) l.pass l.session (at_stage (l.i + 1) First);
+  answers : Answers g.N.Naming.script (g.N.Naming.start no_rows) l.session l.fn.pass l.pass (g.B.Bench.faults l.fn.bench) (g.B.Bench.faults l.bench) 0;
+  mine : Mine g.N.Naming.script (g.N.Naming.start no_rows) l.pass l.session (at_stage (l.i + 1) First);
 }

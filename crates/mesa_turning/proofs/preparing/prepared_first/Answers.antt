@@ -5,5 +5,5 @@ use Rattle.mesa_turning.proofs.preparing.prepared_first.Goals as goal
 
 pub returns-clause-stays : goal.returns-clause-stays
 returns-clause-stays g c =
-    first_stays g.V.File.Made.bytes g.V.File.Made.id_of (sight_after g.V.Service.script (g.V.Service.start no_rows) g.V.Service.first_generation) (c.sights_last.ensures g.V.Service.script (g.V.Service.start no_rows) g.V.Service.first_generation)
+    first_stays g.M.Made.bytes g.M.Made.id_of (sight_after g.N.Naming.script (g.N.Naming.start no_rows) (g.N.Naming.origin no_rows).generation) (c.sights_last.ensures g.N.Naming.script (g.N.Naming.start no_rows) (g.N.Naming.origin no_rows).generation)
     c.args.looked c.generation_seen-generation.result c.args.rows.now c.prepared_by.result c.prepared_by.ensures.seen c.prepared_by.ensures.unseen c.generation_seen-generation.ensures

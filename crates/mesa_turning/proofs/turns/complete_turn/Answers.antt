@@ -1,5 +1,8 @@
-use Rattle.std.proofs.Common.{◌≡◌, not, ap, ◌∙◌, sym}
+use Rattle.std.proofs.Common.{refl, ◌≡◌, not, ap, ◌∙◌, sym}
 use Rattle.std.specs.Prelude.{Err, is_ok}
+use Rattle.mesa_core.specs.Vault.{Stand}
+use Rattle.mesa_model.specs.Entry.{numbers_of}
+use Rattle.mesa_core.specs.Handing.{IsGranted}
 use Rattle.mesa_history.specs.Legal.{is_work}
 use Rattle.mesa_history.specs.Run.{Finished}
 use Rattle.mesa_model.specs.declared.entries.Kind.TheVariants as kind
@@ -16,8 +19,8 @@ use Rattle.mesa_turning.proofs.Stepping.{Enters, asks, finds_numbers, goes_on, o
 use Rattle.mesa_turning.proofs.turns.complete_turn.Goals as goal
 
 pub complete-reply-requires-clause-due : goal.complete-reply-requires-clause-due
-complete-reply-requires-clause-due g c =
-    let e : Enters g.V.Service.script (g.V.Service.start no_rows) c.args.pass c.args.who.session _ _ (g.V.Service.shown c.value-vault.result.now) = record {
+complete-reply-requires-clause-due g c κs within =
+    let e : Enters g.N.Naming.script (g.N.Naming.start no_rows) c.args.pass c.args.who.session _ _ c.value-vault.result.now.shown = record {
       few = c.requires.few;
       holds = c.requires.mine.holds;
       room = c.requires.room.0;
@@ -25,14 +28,14 @@ complete-reply-requires-clause-due g c =
       finds = c.enter-held.ensures.finds;
       exact = c.enter-held.ensures.exact;
       took = c.enter-held.ensures.pass;
-      numbers = ap g.V.Turned.history (sym c.value-vault.ensures.value) ∙ (g.met.V.Service g.world.𝓛 g.world.𝓜 g.world.𝓡 ((λ s x. x), (λ x. x), (λ x. x), λ x. x)).numbered c.value-vault.result.now;
+      numbers = ap (λ (v : Stand). numbers_of v.shown.history) (sym c.value-vault.ensures.value);
       seen = c.running-ran.ensures.seen;
     } in
     asks e c.args.who.command (closing_stage (not (is_ok c.args.merged)) (claim_in c.args.task)) is_work c.requires.mine c.requires.sort
 
 pub complete-reply-requires-clause-room : goal.complete-reply-requires-clause-room
-complete-reply-requires-clause-room g c =
-    let e : Enters g.V.Service.script (g.V.Service.start no_rows) c.args.pass c.args.who.session _ _ (g.V.Service.shown c.value-vault.result.now) = record {
+complete-reply-requires-clause-room g c κs within =
+    let e : Enters g.N.Naming.script (g.N.Naming.start no_rows) c.args.pass c.args.who.session _ _ c.value-vault.result.now.shown = record {
       few = c.requires.few;
       holds = c.requires.mine.holds;
       room = c.requires.room.0;
@@ -40,14 +43,14 @@ complete-reply-requires-clause-room g c =
       finds = c.enter-held.ensures.finds;
       exact = c.enter-held.ensures.exact;
       took = c.enter-held.ensures.pass;
-      numbers = ap g.V.Turned.history (sym c.value-vault.ensures.value) ∙ (g.met.V.Service g.world.𝓛 g.world.𝓜 g.world.𝓡 ((λ s x. x), (λ x. x), (λ x. x), λ x. x)).numbered c.value-vault.result.now;
+      numbers = ap (λ (v : Stand). numbers_of v.shown.history) (sym c.value-vault.ensures.value);
       seen = c.running-ran.ensures.seen;
     } in
-    room_for e g.V.Service.room c.requires.room.1
+    room_for e g.N.Naming.room c.requires.room.1
 
 pub leave-requires-clause-one : goal.leave-requires-clause-one
 leave-requires-clause-one g c κs within =
-    let e : Enters g.V.Service.script (g.V.Service.start no_rows) c.args.pass c.args.who.session _ _ (g.V.Service.shown c.value-vault.result.now) = record {
+    let e : Enters g.N.Naming.script (g.N.Naming.start no_rows) c.args.pass c.args.who.session _ _ c.value-vault.result.now.shown = record {
       few = c.requires.few;
       holds = c.requires.mine.holds;
       room = c.requires.room.0;
@@ -55,14 +58,14 @@ leave-requires-clause-one g c κs within =
       finds = c.enter-held.ensures.finds;
       exact = c.enter-held.ensures.exact;
       took = c.enter-held.ensures.pass;
-      numbers = ap g.V.Turned.history (sym c.value-vault.ensures.value) ∙ (g.met.V.Service g.world.𝓛 g.world.𝓜 g.world.𝓡 ((λ s x. x), (λ x. x), (λ x. x), λ x. x)).numbered c.value-vault.result.now;
+      numbers = ap (λ (v : Stand). numbers_of v.shown.history) (sym c.value-vault.ensures.value);
       seen = c.running-ran.ensures.seen;
     } in
-    one e c.args.who.command kind.Close (g.V.Service.shown c.complete-reply.new.self) _ ((g.met.V.Service g.world.𝓛 g.world.𝓜 g.world.𝓡 ((λ s x. x), (λ x. x), (λ x. x), λ x. x)).numbered c.complete-reply.new.self) c.complete-reply.ensures.turn.turn c.complete-reply.ensures.turn.seen
+    one e c.args.who.command kind.Close c.complete-reply.new.self.shown _ refl c.complete-reply.ensures.turn.turn c.complete-reply.ensures.turn.seen
 
-whole : (g : _) (c : goal.Joined-reply g) → Step g.V.Service.script (g.V.Service.start no_rows) c.args.pass c.leave.result (g.V.Service.shown c.value-vault.result.now) (g.V.Service.shown c.complete-reply.new.self) c.args.who.session c.args.who.command kind.Close
+whole : (g : _) (c : goal.Joined-reply g) → Step g.N.Naming.script (g.N.Naming.start no_rows) c.args.pass c.leave.result c.value-vault.result.now.shown c.complete-reply.new.self.shown c.args.who.session c.args.who.command kind.Close
 whole g c =
-    let e : Enters g.V.Service.script (g.V.Service.start no_rows) c.args.pass c.args.who.session _ _ (g.V.Service.shown c.value-vault.result.now) = record {
+    let e : Enters g.N.Naming.script (g.N.Naming.start no_rows) c.args.pass c.args.who.session _ _ c.value-vault.result.now.shown = record {
       few = c.requires.few;
       holds = c.requires.mine.holds;
       room = c.requires.room.0;
@@ -70,10 +73,10 @@ whole g c =
       finds = c.enter-held.ensures.finds;
       exact = c.enter-held.ensures.exact;
       took = c.enter-held.ensures.pass;
-      numbers = ap g.V.Turned.history (sym c.value-vault.ensures.value) ∙ (g.met.V.Service g.world.𝓛 g.world.𝓜 g.world.𝓡 ((λ s x. x), (λ x. x), (λ x. x), λ x. x)).numbered c.value-vault.result.now;
+      numbers = ap (λ (v : Stand). numbers_of v.shown.history) (sym c.value-vault.ensures.value);
       seen = c.running-ran.ensures.seen;
     } in
-    step e c.args.who.command kind.Close (g.V.Service.shown c.complete-reply.new.self) _ ((g.met.V.Service g.world.𝓛 g.world.𝓜 g.world.𝓡 ((λ s x. x), (λ x. x), (λ x. x), λ x. x)).numbered c.complete-reply.new.self) c.complete-reply.ensures.turn.turn c.complete-reply.ensures.turn.seen c.leave.result c.leave.ensures.pass c.leave.ensures.exact
+    step e c.args.who.command kind.Close c.complete-reply.new.self.shown _ refl c.complete-reply.ensures.turn.turn c.complete-reply.ensures.turn.seen c.leave.result c.leave.ensures.pass c.leave.ensures.exact
 
 pub returns-clause-took : goal.returns-clause-took
 returns-clause-took g c = step_took (whole g c)
@@ -82,8 +85,8 @@ pub returns-clause-mine : goal.returns-clause-mine
 returns-clause-mine g c = goes_on (whole g c) Finished c.running-ran.result c.complete-reply.ensures.turn c.running-ran.ensures.running
 
 pub complete-reply-requires-clause-granted : goal.complete-reply-requires-clause-granted
-complete-reply-requires-clause-granted g c =
-    let e : Enters g.V.Service.script (g.V.Service.start no_rows) c.args.pass c.args.who.session _ _ (g.V.Service.shown c.value-vault.result.now) = record {
+complete-reply-requires-clause-granted g c κs within =
+    let e : Enters g.N.Naming.script (g.N.Naming.start no_rows) c.args.pass c.args.who.session _ _ c.value-vault.result.now.shown = record {
       few = c.requires.few;
       holds = c.requires.mine.holds;
       room = c.requires.room.0;
@@ -91,10 +94,10 @@ complete-reply-requires-clause-granted g c =
       finds = c.enter-held.ensures.finds;
       exact = c.enter-held.ensures.exact;
       took = c.enter-held.ensures.pass;
-      numbers = ap g.V.Turned.history (sym c.value-vault.ensures.value) ∙ (g.met.V.Service g.world.𝓛 g.world.𝓜 g.world.𝓡 ((λ s x. x), (λ x. x), (λ x. x), λ x. x)).numbered c.value-vault.result.now;
+      numbers = ap (λ (v : Stand). numbers_of v.shown.history) (sym c.value-vault.ensures.value);
       seen = c.running-ran.ensures.seen;
     } in
-    granted_found c.args.pass _ (g.V.Service.shown c.value-vault.result.now).history (finds_numbers e) e.seen.short g.V.Service.granted _ c.requires.granted
+    granted_found c.args.pass _ c.value-vault.result.now.shown.history (finds_numbers e) e.seen.short (IsGranted g.D.Reader.FileReader.bytes g.N.Naming.script g.N.Naming.start g.N.Naming.origin g.N.Naming.sound) _ c.requires.granted
 
 pub returns-clause-answers : goal.returns-clause-answers
 returns-clause-answers g c = step_drafts (whole g c) (c.args.merged ≡ Err compact.Draft) (owed_by_work c.args.merged) c.complete-reply.ensures.draft (owed_merged c.args.merged)

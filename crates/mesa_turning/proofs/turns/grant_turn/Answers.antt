@@ -1,4 +1,7 @@
-use Rattle.std.proofs.Common.{ap, ◌∙◌, sym}
+use Rattle.std.proofs.Common.{refl, ap, ◌∙◌, sym}
+use Rattle.mesa_core.specs.Vault.{Stand}
+use Rattle.mesa_model.specs.Entry.{numbers_of}
+use Rattle.mesa_core.specs.Handing.{IsGranted}
 use Rattle.mesa_history.specs.Legal.{is_work}
 use Rattle.mesa_history.specs.Run.{First, Granted}
 use Rattle.mesa_model.specs.declared.entries.Kind.TheVariants as kind
@@ -13,8 +16,8 @@ use Rattle.mesa_turning.proofs.turns.grant_turn.Goals as goal
 use Rattle.mesa_turning.proofs.turns.grant_turn.Goals.{After-leave}
 
 pub grant-task-requires-clause-due : goal.grant-task-requires-clause-due
-grant-task-requires-clause-due g c =
-    let e : Enters g.V.Service.script (g.V.Service.start no_rows) c.args.pass c.args.who.session _ _ (g.V.Service.shown c.value-vault.result.now) = record {
+grant-task-requires-clause-due g c κs within =
+    let e : Enters g.N.Naming.script (g.N.Naming.start no_rows) c.args.pass c.args.who.session _ _ c.value-vault.result.now.shown = record {
       few = c.requires.few;
       holds = c.requires.mine.holds;
       room = c.requires.room.0;
@@ -22,14 +25,14 @@ grant-task-requires-clause-due g c =
       finds = c.enter-held.ensures.finds;
       exact = c.enter-held.ensures.exact;
       took = c.enter-held.ensures.pass;
-      numbers = ap g.V.Turned.history (sym c.value-vault.ensures.value) ∙ (g.met.V.Service g.world.𝓛 g.world.𝓜 g.world.𝓡 ((λ s x. x), (λ x. x), (λ x. x), λ x. x)).numbered c.value-vault.result.now;
+      numbers = ap (λ (v : Stand). numbers_of v.shown.history) (sym c.value-vault.ensures.value);
       seen = c.running-ran.ensures.seen;
     } in
     asks e c.args.who.command First is_work c.requires.mine c.requires.sort
 
 pub grant-task-requires-clause-room : goal.grant-task-requires-clause-room
-grant-task-requires-clause-room g c =
-    let e : Enters g.V.Service.script (g.V.Service.start no_rows) c.args.pass c.args.who.session _ _ (g.V.Service.shown c.value-vault.result.now) = record {
+grant-task-requires-clause-room g c κs within =
+    let e : Enters g.N.Naming.script (g.N.Naming.start no_rows) c.args.pass c.args.who.session _ _ c.value-vault.result.now.shown = record {
       few = c.requires.few;
       holds = c.requires.mine.holds;
       room = c.requires.room.0;
@@ -37,14 +40,14 @@ grant-task-requires-clause-room g c =
       finds = c.enter-held.ensures.finds;
       exact = c.enter-held.ensures.exact;
       took = c.enter-held.ensures.pass;
-      numbers = ap g.V.Turned.history (sym c.value-vault.ensures.value) ∙ (g.met.V.Service g.world.𝓛 g.world.𝓜 g.world.𝓡 ((λ s x. x), (λ x. x), (λ x. x), λ x. x)).numbered c.value-vault.result.now;
+      numbers = ap (λ (v : Stand). numbers_of v.shown.history) (sym c.value-vault.ensures.value);
       seen = c.running-ran.ensures.seen;
     } in
-    room_for e g.V.Service.room c.requires.room.1
+    room_for e g.N.Naming.room c.requires.room.1
 
 pub leave-requires-clause-one : goal.leave-requires-clause-one
 leave-requires-clause-one g c κs within =
-    let e : Enters g.V.Service.script (g.V.Service.start no_rows) c.args.pass c.args.who.session _ _ (g.V.Service.shown c.value-vault.result.now) = record {
+    let e : Enters g.N.Naming.script (g.N.Naming.start no_rows) c.args.pass c.args.who.session _ _ c.value-vault.result.now.shown = record {
       few = c.requires.few;
       holds = c.requires.mine.holds;
       room = c.requires.room.0;
@@ -52,14 +55,14 @@ leave-requires-clause-one g c κs within =
       finds = c.enter-held.ensures.finds;
       exact = c.enter-held.ensures.exact;
       took = c.enter-held.ensures.pass;
-      numbers = ap g.V.Turned.history (sym c.value-vault.ensures.value) ∙ (g.met.V.Service g.world.𝓛 g.world.𝓜 g.world.𝓡 ((λ s x. x), (λ x. x), (λ x. x), λ x. x)).numbered c.value-vault.result.now;
+      numbers = ap (λ (v : Stand). numbers_of v.shown.history) (sym c.value-vault.ensures.value);
       seen = c.running-ran.ensures.seen;
     } in
-    one e c.args.who.command kind.Grant (g.V.Service.shown c.grant-task.new.self) _ ((g.met.V.Service g.world.𝓛 g.world.𝓜 g.world.𝓡 ((λ s x. x), (λ x. x), (λ x. x), λ x. x)).numbered c.grant-task.new.self) c.grant-task.ensures.turn.turn c.grant-task.ensures.turn.seen
+    one e c.args.who.command kind.Grant c.grant-task.new.self.shown _ refl c.grant-task.ensures.turn.turn c.grant-task.ensures.turn.seen
 
-whole : (g : _) (c : After-leave g) → Step g.V.Service.script (g.V.Service.start no_rows) c.args.pass c.leave.result (g.V.Service.shown c.value-vault.result.now) (g.V.Service.shown c.grant-task.new.self) c.args.who.session c.args.who.command kind.Grant
+whole : (g : _) (c : After-leave g) → Step g.N.Naming.script (g.N.Naming.start no_rows) c.args.pass c.leave.result c.value-vault.result.now.shown c.grant-task.new.self.shown c.args.who.session c.args.who.command kind.Grant
 whole g c =
-    let e : Enters g.V.Service.script (g.V.Service.start no_rows) c.args.pass c.args.who.session _ _ (g.V.Service.shown c.value-vault.result.now) = record {
+    let e : Enters g.N.Naming.script (g.N.Naming.start no_rows) c.args.pass c.args.who.session _ _ c.value-vault.result.now.shown = record {
       few = c.requires.few;
       holds = c.requires.mine.holds;
       room = c.requires.room.0;
@@ -67,10 +70,10 @@ whole g c =
       finds = c.enter-held.ensures.finds;
       exact = c.enter-held.ensures.exact;
       took = c.enter-held.ensures.pass;
-      numbers = ap g.V.Turned.history (sym c.value-vault.ensures.value) ∙ (g.met.V.Service g.world.𝓛 g.world.𝓜 g.world.𝓡 ((λ s x. x), (λ x. x), (λ x. x), λ x. x)).numbered c.value-vault.result.now;
+      numbers = ap (λ (v : Stand). numbers_of v.shown.history) (sym c.value-vault.ensures.value);
       seen = c.running-ran.ensures.seen;
     } in
-    step e c.args.who.command kind.Grant (g.V.Service.shown c.grant-task.new.self) _ ((g.met.V.Service g.world.𝓛 g.world.𝓜 g.world.𝓡 ((λ s x. x), (λ x. x), (λ x. x), λ x. x)).numbered c.grant-task.new.self) c.grant-task.ensures.turn.turn c.grant-task.ensures.turn.seen c.leave.result c.leave.ensures.pass c.leave.ensures.exact
+    step e c.args.who.command kind.Grant c.grant-task.new.self.shown _ refl c.grant-task.ensures.turn.turn c.grant-task.ensures.turn.seen c.leave.result c.leave.ensures.pass c.leave.ensures.exact
 
 pub returns-clause-took : goal.returns-clause-took
 returns-clause-took g c = step_took (whole g c)
@@ -79,7 +82,7 @@ pub returns-clause-mine : goal.returns-clause-mine
 returns-clause-mine g c = goes_on (whole g c) (stage_if claim_in Granted c.grant-task.result) c.running-ran.result c.grant-task.ensures.turn c.running-ran.ensures.running
 
 pub returns-clause-granted : goal.returns-clause-granted
-returns-clause-granted g c = granted_then g.V.Reader.FileReader.bytes g.V.Service.granted c.grant-task.result _ _ (sym (step_seen (whole g c))) c.grant-task.ensures.granted
+returns-clause-granted g c = granted_then g.D.Reader.FileReader.bytes (IsGranted g.D.Reader.FileReader.bytes g.N.Naming.script g.N.Naming.start g.N.Naming.origin g.N.Naming.sound) c.grant-task.result _ _ (sym (step_seen (whole g c))) c.grant-task.ensures.granted
 
 pub returns-clause-answers : goal.returns-clause-answers
 returns-clause-answers g c = step_none (whole g c) c.requires.sort.asked c.requires.sort.known (none_granting c.requires.sort.asked)

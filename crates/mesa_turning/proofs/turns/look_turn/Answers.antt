@@ -1,5 +1,7 @@
-use Rattle.std.proofs.Common.{◌≡◌, ap, ◌∙◌, sym, subst, List}
+use Rattle.std.proofs.Common.{refl, ◌≡◌, ap, ◌∙◌, sym, subst, List}
 use Rattle.std.specs.Prelude.{IfOk}
+use Rattle.mesa_core.specs.Vault.{Stand}
+use Rattle.mesa_model.specs.Entry.{numbers_of}
 use Rattle.mesa_history.specs.Run.{First, Looked}
 use Rattle.mesa_model.specs.declared.entries.Entry.{Entry}
 use Rattle.mesa_model.specs.declared.entries.Kind.TheVariants as kind
@@ -13,8 +15,8 @@ use Rattle.mesa_turning.proofs.turns.look_turn.Goals as goal
 use Rattle.mesa_turning.proofs.turns.look_turn.Goals.{After-leave}
 
 pub look-glance-requires-clause-due : goal.look-glance-requires-clause-due
-look-glance-requires-clause-due g c =
-    let e : Enters g.V.Service.script (g.V.Service.start no_rows) c.args.pass c.args.who.session _ _ (g.V.Service.shown c.value-vault.result.now) = record {
+look-glance-requires-clause-due g c κs within =
+    let e : Enters g.N.Naming.script (g.N.Naming.start no_rows) c.args.pass c.args.who.session _ _ c.value-vault.result.now.shown = record {
       few = c.requires.few;
       holds = c.requires.mine.holds;
       room = c.requires.room.0;
@@ -22,14 +24,14 @@ look-glance-requires-clause-due g c =
       finds = c.enter-held.ensures.finds;
       exact = c.enter-held.ensures.exact;
       took = c.enter-held.ensures.pass;
-      numbers = ap g.V.Turned.history (sym c.value-vault.ensures.value) ∙ (g.met.V.Service g.world.𝓛 g.world.𝓜 g.world.𝓡 ((λ s x. x), (λ x. x), (λ x. x), λ x. x)).numbered c.value-vault.result.now;
+      numbers = ap (λ (v : Stand). numbers_of v.shown.history) (sym c.value-vault.ensures.value);
       seen = c.running-ran.ensures.seen;
     } in
     asks e c.args.who.command First is_load c.requires.mine c.requires.sort
 
 pub look-glance-requires-clause-room : goal.look-glance-requires-clause-room
-look-glance-requires-clause-room g c =
-    let e : Enters g.V.Service.script (g.V.Service.start no_rows) c.args.pass c.args.who.session _ _ (g.V.Service.shown c.value-vault.result.now) = record {
+look-glance-requires-clause-room g c κs within =
+    let e : Enters g.N.Naming.script (g.N.Naming.start no_rows) c.args.pass c.args.who.session _ _ c.value-vault.result.now.shown = record {
       few = c.requires.few;
       holds = c.requires.mine.holds;
       room = c.requires.room.0;
@@ -37,14 +39,14 @@ look-glance-requires-clause-room g c =
       finds = c.enter-held.ensures.finds;
       exact = c.enter-held.ensures.exact;
       took = c.enter-held.ensures.pass;
-      numbers = ap g.V.Turned.history (sym c.value-vault.ensures.value) ∙ (g.met.V.Service g.world.𝓛 g.world.𝓜 g.world.𝓡 ((λ s x. x), (λ x. x), (λ x. x), λ x. x)).numbered c.value-vault.result.now;
+      numbers = ap (λ (v : Stand). numbers_of v.shown.history) (sym c.value-vault.ensures.value);
       seen = c.running-ran.ensures.seen;
     } in
-    room_for e g.V.Service.room c.requires.room.1
+    room_for e g.N.Naming.room c.requires.room.1
 
 pub leave-requires-clause-one : goal.leave-requires-clause-one
 leave-requires-clause-one g c κs within =
-    let e : Enters g.V.Service.script (g.V.Service.start no_rows) c.args.pass c.args.who.session _ _ (g.V.Service.shown c.value-vault.result.now) = record {
+    let e : Enters g.N.Naming.script (g.N.Naming.start no_rows) c.args.pass c.args.who.session _ _ c.value-vault.result.now.shown = record {
       few = c.requires.few;
       holds = c.requires.mine.holds;
       room = c.requires.room.0;
@@ -52,14 +54,14 @@ leave-requires-clause-one g c κs within =
       finds = c.enter-held.ensures.finds;
       exact = c.enter-held.ensures.exact;
       took = c.enter-held.ensures.pass;
-      numbers = ap g.V.Turned.history (sym c.value-vault.ensures.value) ∙ (g.met.V.Service g.world.𝓛 g.world.𝓜 g.world.𝓡 ((λ s x. x), (λ x. x), (λ x. x), λ x. x)).numbered c.value-vault.result.now;
+      numbers = ap (λ (v : Stand). numbers_of v.shown.history) (sym c.value-vault.ensures.value);
       seen = c.running-ran.ensures.seen;
     } in
-    one e c.args.who.command kind.Look (g.V.Service.shown c.look-glance.new.self) _ ((g.met.V.Service g.world.𝓛 g.world.𝓜 g.world.𝓡 ((λ s x. x), (λ x. x), (λ x. x), λ x. x)).numbered c.look-glance.new.self) c.look-glance.ensures.turn.turn c.look-glance.ensures.turn.seen
+    one e c.args.who.command kind.Look c.look-glance.new.self.shown _ refl c.look-glance.ensures.turn.turn c.look-glance.ensures.turn.seen
 
-whole : (g : _) (c : After-leave g) → Step g.V.Service.script (g.V.Service.start no_rows) c.args.pass c.leave.result (g.V.Service.shown c.value-vault.result.now) (g.V.Service.shown c.look-glance.new.self) c.args.who.session c.args.who.command kind.Look
+whole : (g : _) (c : After-leave g) → Step g.N.Naming.script (g.N.Naming.start no_rows) c.args.pass c.leave.result c.value-vault.result.now.shown c.look-glance.new.self.shown c.args.who.session c.args.who.command kind.Look
 whole g c =
-    let e : Enters g.V.Service.script (g.V.Service.start no_rows) c.args.pass c.args.who.session _ _ (g.V.Service.shown c.value-vault.result.now) = record {
+    let e : Enters g.N.Naming.script (g.N.Naming.start no_rows) c.args.pass c.args.who.session _ _ c.value-vault.result.now.shown = record {
       few = c.requires.few;
       holds = c.requires.mine.holds;
       room = c.requires.room.0;
@@ -67,10 +69,10 @@ whole g c =
       finds = c.enter-held.ensures.finds;
       exact = c.enter-held.ensures.exact;
       took = c.enter-held.ensures.pass;
-      numbers = ap g.V.Turned.history (sym c.value-vault.ensures.value) ∙ (g.met.V.Service g.world.𝓛 g.world.𝓜 g.world.𝓡 ((λ s x. x), (λ x. x), (λ x. x), λ x. x)).numbered c.value-vault.result.now;
+      numbers = ap (λ (v : Stand). numbers_of v.shown.history) (sym c.value-vault.ensures.value);
       seen = c.running-ran.ensures.seen;
     } in
-    step e c.args.who.command kind.Look (g.V.Service.shown c.look-glance.new.self) _ ((g.met.V.Service g.world.𝓛 g.world.𝓜 g.world.𝓡 ((λ s x. x), (λ x. x), (λ x. x), λ x. x)).numbered c.look-glance.new.self) c.look-glance.ensures.turn.turn c.look-glance.ensures.turn.seen c.leave.result c.leave.ensures.pass c.leave.ensures.exact
+    step e c.args.who.command kind.Look c.look-glance.new.self.shown _ refl c.look-glance.ensures.turn.turn c.look-glance.ensures.turn.seen c.leave.result c.leave.ensures.pass c.leave.ensures.exact
 
 pub returns-clause-took : goal.returns-clause-took
 returns-clause-took g c = step_took (whole g c)
@@ -80,7 +82,7 @@ returns-clause-mine g c = goes_on (whole g c) Looked c.running-ran.result c.look
 
 pub returns-clause-glance : goal.returns-clause-glance
 returns-clause-glance g c =
-    subst (λ (h : List Entry). IfOk c.look-glance.result (λ glance. glance ≡ sight_after g.V.Service.script (g.V.Service.start no_rows) g.V.Service.first_generation h)) (sym (step_seen (whole g c))) c.look-glance.ensures.glance
+    subst (λ (h : List Entry). IfOk c.look-glance.result (λ glance. glance ≡ sight_after g.N.Naming.script (g.N.Naming.start no_rows) (g.N.Naming.origin no_rows).generation h)) (sym (step_seen (whole g c))) c.look-glance.ensures.glance
 
 pub returns-clause-answers : goal.returns-clause-answers
 returns-clause-answers g c = step_none (whole g c) c.requires.sort.asked c.requires.sort.known (none_looking c.requires.sort.asked)

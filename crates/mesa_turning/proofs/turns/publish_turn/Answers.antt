@@ -1,5 +1,7 @@
 use Rattle.std.proofs.Common.{◌≡◌, refl, ap, ◌∙◌, sym}
 use Rattle.std.specs.Prelude.{Err}
+use Rattle.mesa_core.specs.Vault.{Stand}
+use Rattle.mesa_model.specs.Entry.{numbers_of}
 use Rattle.mesa_history.specs.Run.{Looked, Finished}
 use Rattle.mesa_model.specs.declared.commands.Command.TheVariants as command
 use Rattle.mesa_model.specs.declared.entries.Kind.TheVariants as kind
@@ -16,8 +18,8 @@ use Rattle.mesa_turning.proofs.Stepping.{Enters, asks, finds_numbers, goes_on, o
 use Rattle.mesa_turning.proofs.turns.publish_turn.Goals as goal
 
 pub publish-reply-requires-clause-due : goal.publish-reply-requires-clause-due
-publish-reply-requires-clause-due g c =
-    let e : Enters g.V.Service.script (g.V.Service.start no_rows) c.args.pass c.args.who.session _ _ (g.V.Service.shown c.value-vault.result.now) = record {
+publish-reply-requires-clause-due g c κs within =
+    let e : Enters g.N.Naming.script (g.N.Naming.start no_rows) c.args.pass c.args.who.session _ _ c.value-vault.result.now.shown = record {
       few = c.requires.few;
       holds = c.requires.mine.holds;
       room = c.requires.room.0;
@@ -25,14 +27,14 @@ publish-reply-requires-clause-due g c =
       finds = c.enter-held.ensures.finds;
       exact = c.enter-held.ensures.exact;
       took = c.enter-held.ensures.pass;
-      numbers = ap g.V.Turned.history (sym c.value-vault.ensures.value) ∙ (g.met.V.Service g.world.𝓛 g.world.𝓜 g.world.𝓡 ((λ s x. x), (λ x. x), (λ x. x), λ x. x)).numbered c.value-vault.result.now;
+      numbers = ap (λ (v : Stand). numbers_of v.shown.history) (sym c.value-vault.ensures.value);
       seen = c.running-ran.ensures.seen;
     } in
     asks e c.args.who.command Looked is_load c.requires.mine (record { asked = command.Load c.args.rows.now; known = c.requires.known; is = refl })
 
 pub publish-reply-requires-clause-room : goal.publish-reply-requires-clause-room
-publish-reply-requires-clause-room g c =
-    let e : Enters g.V.Service.script (g.V.Service.start no_rows) c.args.pass c.args.who.session _ _ (g.V.Service.shown c.value-vault.result.now) = record {
+publish-reply-requires-clause-room g c κs within =
+    let e : Enters g.N.Naming.script (g.N.Naming.start no_rows) c.args.pass c.args.who.session _ _ c.value-vault.result.now.shown = record {
       few = c.requires.few;
       holds = c.requires.mine.holds;
       room = c.requires.room.0;
@@ -40,14 +42,14 @@ publish-reply-requires-clause-room g c =
       finds = c.enter-held.ensures.finds;
       exact = c.enter-held.ensures.exact;
       took = c.enter-held.ensures.pass;
-      numbers = ap g.V.Turned.history (sym c.value-vault.ensures.value) ∙ (g.met.V.Service g.world.𝓛 g.world.𝓜 g.world.𝓡 ((λ s x. x), (λ x. x), (λ x. x), λ x. x)).numbered c.value-vault.result.now;
+      numbers = ap (λ (v : Stand). numbers_of v.shown.history) (sym c.value-vault.ensures.value);
       seen = c.running-ran.ensures.seen;
     } in
-    room_for e g.V.Service.room c.requires.room.1
+    room_for e g.N.Naming.room c.requires.room.1
 
 pub leave-requires-clause-one : goal.leave-requires-clause-one
 leave-requires-clause-one g c κs within =
-    let e : Enters g.V.Service.script (g.V.Service.start no_rows) c.args.pass c.args.who.session _ _ (g.V.Service.shown c.value-vault.result.now) = record {
+    let e : Enters g.N.Naming.script (g.N.Naming.start no_rows) c.args.pass c.args.who.session _ _ c.value-vault.result.now.shown = record {
       few = c.requires.few;
       holds = c.requires.mine.holds;
       room = c.requires.room.0;
@@ -55,14 +57,14 @@ leave-requires-clause-one g c κs within =
       finds = c.enter-held.ensures.finds;
       exact = c.enter-held.ensures.exact;
       took = c.enter-held.ensures.pass;
-      numbers = ap g.V.Turned.history (sym c.value-vault.ensures.value) ∙ (g.met.V.Service g.world.𝓛 g.world.𝓜 g.world.𝓡 ((λ s x. x), (λ x. x), (λ x. x), λ x. x)).numbered c.value-vault.result.now;
+      numbers = ap (λ (v : Stand). numbers_of v.shown.history) (sym c.value-vault.ensures.value);
       seen = c.running-ran.ensures.seen;
     } in
-    one e c.args.who.command kind.Decide (g.V.Service.shown c.publish-reply.new.self) _ ((g.met.V.Service g.world.𝓛 g.world.𝓜 g.world.𝓡 ((λ s x. x), (λ x. x), (λ x. x), λ x. x)).numbered c.publish-reply.new.self) c.publish-reply.ensures.turn.turn c.publish-reply.ensures.turn.seen
+    one e c.args.who.command kind.Decide c.publish-reply.new.self.shown _ refl c.publish-reply.ensures.turn.turn c.publish-reply.ensures.turn.seen
 
-whole : (g : _) (c : goal.Joined-reply g) → Step g.V.Service.script (g.V.Service.start no_rows) c.args.pass c.leave.result (g.V.Service.shown c.value-vault.result.now) (g.V.Service.shown c.publish-reply.new.self) c.args.who.session c.args.who.command kind.Decide
+whole : (g : _) (c : goal.Joined-reply g) → Step g.N.Naming.script (g.N.Naming.start no_rows) c.args.pass c.leave.result c.value-vault.result.now.shown c.publish-reply.new.self.shown c.args.who.session c.args.who.command kind.Decide
 whole g c =
-    let e : Enters g.V.Service.script (g.V.Service.start no_rows) c.args.pass c.args.who.session _ _ (g.V.Service.shown c.value-vault.result.now) = record {
+    let e : Enters g.N.Naming.script (g.N.Naming.start no_rows) c.args.pass c.args.who.session _ _ c.value-vault.result.now.shown = record {
       few = c.requires.few;
       holds = c.requires.mine.holds;
       room = c.requires.room.0;
@@ -70,10 +72,10 @@ whole g c =
       finds = c.enter-held.ensures.finds;
       exact = c.enter-held.ensures.exact;
       took = c.enter-held.ensures.pass;
-      numbers = ap g.V.Turned.history (sym c.value-vault.ensures.value) ∙ (g.met.V.Service g.world.𝓛 g.world.𝓜 g.world.𝓡 ((λ s x. x), (λ x. x), (λ x. x), λ x. x)).numbered c.value-vault.result.now;
+      numbers = ap (λ (v : Stand). numbers_of v.shown.history) (sym c.value-vault.ensures.value);
       seen = c.running-ran.ensures.seen;
     } in
-    step e c.args.who.command kind.Decide (g.V.Service.shown c.publish-reply.new.self) _ ((g.met.V.Service g.world.𝓛 g.world.𝓜 g.world.𝓡 ((λ s x. x), (λ x. x), (λ x. x), λ x. x)).numbered c.publish-reply.new.self) c.publish-reply.ensures.turn.turn c.publish-reply.ensures.turn.seen c.leave.result c.leave.ensures.pass c.leave.ensures.exact
+    step e c.args.who.command kind.Decide c.publish-reply.new.self.shown _ refl c.publish-reply.ensures.turn.turn c.publish-reply.ensures.turn.seen c.leave.result c.leave.ensures.pass c.leave.ensures.exact
 
 pub returns-clause-took : goal.returns-clause-took
 returns-clause-took g c = step_took (whole g c)
@@ -83,7 +85,7 @@ returns-clause-mine g c = goes_on (whole g c) Finished c.running-ran.result c.pu
 
 pub prepared_now-made-requires-after_bounds : goal.prepared_now-made-requires-after_bounds
 prepared_now-made-requires-after_bounds g c κs within same =
-    let e : Enters g.V.Service.script (g.V.Service.start no_rows) c.args.pass c.args.who.session _ _ (g.V.Service.shown c.value-vault.result.now) = record {
+    let e : Enters g.N.Naming.script (g.N.Naming.start no_rows) c.args.pass c.args.who.session _ _ c.value-vault.result.now.shown = record {
       few = c.requires.few;
       holds = c.requires.mine.holds;
       room = c.requires.room.0;
@@ -91,12 +93,12 @@ prepared_now-made-requires-after_bounds g c κs within same =
       finds = c.enter-held.ensures.finds;
       exact = c.enter-held.ensures.exact;
       took = c.enter-held.ensures.pass;
-      numbers = ap g.V.Turned.history (sym c.value-vault.ensures.value) ∙ (g.met.V.Service g.world.𝓛 g.world.𝓜 g.world.𝓡 ((λ s x. x), (λ x. x), (λ x. x), λ x. x)).numbered c.value-vault.result.now;
+      numbers = ap (λ (v : Stand). numbers_of v.shown.history) (sym c.value-vault.ensures.value);
       seen = c.running-ran.ensures.seen;
     } in
-    prepared_found c.args.pass _ (g.V.Service.shown c.value-vault.result.now).history (finds_numbers e) e.seen.short g.V.File.Made.bytes g.V.File.Made.id_of (sight_after g.V.Service.script (g.V.Service.start no_rows) g.V.Service.first_generation) c.args.generation c.args.rows.now c.args.made c.requires.made same
+    prepared_found c.args.pass _ c.value-vault.result.now.shown.history (finds_numbers e) e.seen.short g.M.Made.bytes g.M.Made.id_of (sight_after g.N.Naming.script (g.N.Naming.start no_rows) (g.N.Naming.origin no_rows).generation) c.args.generation c.args.rows.now c.args.made c.requires.made same
 
 pub returns-clause-answers : goal.returns-clause-answers
 returns-clause-answers g c =
-    answers_within g.V.Service.script (g.V.Service.start no_rows) c.args.who.session c.args.pass c.leave.result _ _ _ (owed_by_load c.prepared_now-made.result) c.prepared_now-made.ensures.later c.prepared_now-made.ensures.owes
+    answers_within g.N.Naming.script (g.N.Naming.start no_rows) c.args.who.session c.args.pass c.leave.result _ _ _ (owed_by_load c.prepared_now-made.result) c.prepared_now-made.ensures.later c.prepared_now-made.ensures.owes
     (step_drafts (whole g c) (c.prepared_now-made.result ≡ Err load.Draft) (owed_by_load c.prepared_now-made.result) c.publish-reply.ensures.draft (owed_made c.prepared_now-made.result))

@@ -1,4 +1,7 @@
-use Rattle.std.proofs.Common.{ap, ◌∙◌, sym}
+use Rattle.std.proofs.Common.{refl, ap, ◌∙◌, sym}
+use Rattle.mesa_core.specs.Vault.{Stand}
+use Rattle.mesa_model.specs.Entry.{numbers_of}
+use Rattle.mesa_core.specs.Handing.{IsGranted}
 use Rattle.mesa_history.specs.Legal.{is_work}
 use Rattle.mesa_history.specs.Run.{Granted, Renewed}
 use Rattle.mesa_model.specs.declared.entries.Kind.TheVariants as kind
@@ -14,8 +17,8 @@ use Rattle.mesa_turning.proofs.turns.renew_turn.Goals as goal
 use Rattle.mesa_turning.proofs.turns.renew_turn.Goals.{After-leave}
 
 pub renew-renewed-requires-clause-due : goal.renew-renewed-requires-clause-due
-renew-renewed-requires-clause-due g c =
-    let e : Enters g.V.Service.script (g.V.Service.start no_rows) c.args.pass c.args.who.session _ _ (g.V.Service.shown c.value-vault.result.now) = record {
+renew-renewed-requires-clause-due g c κs within =
+    let e : Enters g.N.Naming.script (g.N.Naming.start no_rows) c.args.pass c.args.who.session _ _ c.value-vault.result.now.shown = record {
       few = c.requires.few;
       holds = c.requires.mine.holds;
       room = c.requires.room.0;
@@ -23,14 +26,14 @@ renew-renewed-requires-clause-due g c =
       finds = c.enter-held.ensures.finds;
       exact = c.enter-held.ensures.exact;
       took = c.enter-held.ensures.pass;
-      numbers = ap g.V.Turned.history (sym c.value-vault.ensures.value) ∙ (g.met.V.Service g.world.𝓛 g.world.𝓜 g.world.𝓡 ((λ s x. x), (λ x. x), (λ x. x), λ x. x)).numbered c.value-vault.result.now;
+      numbers = ap (λ (v : Stand). numbers_of v.shown.history) (sym c.value-vault.ensures.value);
       seen = c.running-ran.ensures.seen;
     } in
     asks e c.args.who.command (Granted (claim_in c.args.task)) is_work c.requires.mine c.requires.sort
 
 pub renew-renewed-requires-clause-room : goal.renew-renewed-requires-clause-room
-renew-renewed-requires-clause-room g c =
-    let e : Enters g.V.Service.script (g.V.Service.start no_rows) c.args.pass c.args.who.session _ _ (g.V.Service.shown c.value-vault.result.now) = record {
+renew-renewed-requires-clause-room g c κs within =
+    let e : Enters g.N.Naming.script (g.N.Naming.start no_rows) c.args.pass c.args.who.session _ _ c.value-vault.result.now.shown = record {
       few = c.requires.few;
       holds = c.requires.mine.holds;
       room = c.requires.room.0;
@@ -38,14 +41,14 @@ renew-renewed-requires-clause-room g c =
       finds = c.enter-held.ensures.finds;
       exact = c.enter-held.ensures.exact;
       took = c.enter-held.ensures.pass;
-      numbers = ap g.V.Turned.history (sym c.value-vault.ensures.value) ∙ (g.met.V.Service g.world.𝓛 g.world.𝓜 g.world.𝓡 ((λ s x. x), (λ x. x), (λ x. x), λ x. x)).numbered c.value-vault.result.now;
+      numbers = ap (λ (v : Stand). numbers_of v.shown.history) (sym c.value-vault.ensures.value);
       seen = c.running-ran.ensures.seen;
     } in
-    room_for e g.V.Service.room c.requires.room.1
+    room_for e g.N.Naming.room c.requires.room.1
 
 pub leave-requires-clause-one : goal.leave-requires-clause-one
 leave-requires-clause-one g c κs within =
-    let e : Enters g.V.Service.script (g.V.Service.start no_rows) c.args.pass c.args.who.session _ _ (g.V.Service.shown c.value-vault.result.now) = record {
+    let e : Enters g.N.Naming.script (g.N.Naming.start no_rows) c.args.pass c.args.who.session _ _ c.value-vault.result.now.shown = record {
       few = c.requires.few;
       holds = c.requires.mine.holds;
       room = c.requires.room.0;
@@ -53,14 +56,14 @@ leave-requires-clause-one g c κs within =
       finds = c.enter-held.ensures.finds;
       exact = c.enter-held.ensures.exact;
       took = c.enter-held.ensures.pass;
-      numbers = ap g.V.Turned.history (sym c.value-vault.ensures.value) ∙ (g.met.V.Service g.world.𝓛 g.world.𝓜 g.world.𝓡 ((λ s x. x), (λ x. x), (λ x. x), λ x. x)).numbered c.value-vault.result.now;
+      numbers = ap (λ (v : Stand). numbers_of v.shown.history) (sym c.value-vault.ensures.value);
       seen = c.running-ran.ensures.seen;
     } in
-    one e c.args.who.command kind.Renew (g.V.Service.shown c.renew-renewed.new.self) _ ((g.met.V.Service g.world.𝓛 g.world.𝓜 g.world.𝓡 ((λ s x. x), (λ x. x), (λ x. x), λ x. x)).numbered c.renew-renewed.new.self) c.renew-renewed.ensures.turn.turn c.renew-renewed.ensures.turn.seen
+    one e c.args.who.command kind.Renew c.renew-renewed.new.self.shown _ refl c.renew-renewed.ensures.turn.turn c.renew-renewed.ensures.turn.seen
 
-whole : (g : _) (c : After-leave g) → Step g.V.Service.script (g.V.Service.start no_rows) c.args.pass c.leave.result (g.V.Service.shown c.value-vault.result.now) (g.V.Service.shown c.renew-renewed.new.self) c.args.who.session c.args.who.command kind.Renew
+whole : (g : _) (c : After-leave g) → Step g.N.Naming.script (g.N.Naming.start no_rows) c.args.pass c.leave.result c.value-vault.result.now.shown c.renew-renewed.new.self.shown c.args.who.session c.args.who.command kind.Renew
 whole g c =
-    let e : Enters g.V.Service.script (g.V.Service.start no_rows) c.args.pass c.args.who.session _ _ (g.V.Service.shown c.value-vault.result.now) = record {
+    let e : Enters g.N.Naming.script (g.N.Naming.start no_rows) c.args.pass c.args.who.session _ _ c.value-vault.result.now.shown = record {
       few = c.requires.few;
       holds = c.requires.mine.holds;
       room = c.requires.room.0;
@@ -68,10 +71,10 @@ whole g c =
       finds = c.enter-held.ensures.finds;
       exact = c.enter-held.ensures.exact;
       took = c.enter-held.ensures.pass;
-      numbers = ap g.V.Turned.history (sym c.value-vault.ensures.value) ∙ (g.met.V.Service g.world.𝓛 g.world.𝓜 g.world.𝓡 ((λ s x. x), (λ x. x), (λ x. x), λ x. x)).numbered c.value-vault.result.now;
+      numbers = ap (λ (v : Stand). numbers_of v.shown.history) (sym c.value-vault.ensures.value);
       seen = c.running-ran.ensures.seen;
     } in
-    step e c.args.who.command kind.Renew (g.V.Service.shown c.renew-renewed.new.self) _ ((g.met.V.Service g.world.𝓛 g.world.𝓜 g.world.𝓡 ((λ s x. x), (λ x. x), (λ x. x), λ x. x)).numbered c.renew-renewed.new.self) c.renew-renewed.ensures.turn.turn c.renew-renewed.ensures.turn.seen c.leave.result c.leave.ensures.pass c.leave.ensures.exact
+    step e c.args.who.command kind.Renew c.renew-renewed.new.self.shown _ refl c.renew-renewed.ensures.turn.turn c.renew-renewed.ensures.turn.seen c.leave.result c.leave.ensures.pass c.leave.ensures.exact
 
 pub returns-clause-took : goal.returns-clause-took
 returns-clause-took g c = step_took (whole g c)
@@ -80,8 +83,8 @@ pub returns-clause-mine : goal.returns-clause-mine
 returns-clause-mine g c = goes_on (whole g c) (stage_if claim_in Renewed c.renew-renewed.result) c.running-ran.result c.renew-renewed.ensures.turn c.running-ran.ensures.running
 
 pub renew-renewed-requires-clause-granted : goal.renew-renewed-requires-clause-granted
-renew-renewed-requires-clause-granted g c =
-    let e : Enters g.V.Service.script (g.V.Service.start no_rows) c.args.pass c.args.who.session _ _ (g.V.Service.shown c.value-vault.result.now) = record {
+renew-renewed-requires-clause-granted g c κs within =
+    let e : Enters g.N.Naming.script (g.N.Naming.start no_rows) c.args.pass c.args.who.session _ _ c.value-vault.result.now.shown = record {
       few = c.requires.few;
       holds = c.requires.mine.holds;
       room = c.requires.room.0;
@@ -89,13 +92,13 @@ renew-renewed-requires-clause-granted g c =
       finds = c.enter-held.ensures.finds;
       exact = c.enter-held.ensures.exact;
       took = c.enter-held.ensures.pass;
-      numbers = ap g.V.Turned.history (sym c.value-vault.ensures.value) ∙ (g.met.V.Service g.world.𝓛 g.world.𝓜 g.world.𝓡 ((λ s x. x), (λ x. x), (λ x. x), λ x. x)).numbered c.value-vault.result.now;
+      numbers = ap (λ (v : Stand). numbers_of v.shown.history) (sym c.value-vault.ensures.value);
       seen = c.running-ran.ensures.seen;
     } in
-    granted_found c.args.pass _ (g.V.Service.shown c.value-vault.result.now).history (finds_numbers e) e.seen.short g.V.Service.granted _ c.requires.granted
+    granted_found c.args.pass _ c.value-vault.result.now.shown.history (finds_numbers e) e.seen.short (IsGranted g.D.Reader.FileReader.bytes g.N.Naming.script g.N.Naming.start g.N.Naming.origin g.N.Naming.sound) _ c.requires.granted
 
 pub returns-clause-granted : goal.returns-clause-granted
-returns-clause-granted g c = granted_later g.V.Service.granted (known_task g.V.Reader.FileReader.bytes c.args.task) c.args.pass.seen c.leave.result.seen (step_took (whole g c)).seen c.requires.granted
+returns-clause-granted g c = granted_later (IsGranted g.D.Reader.FileReader.bytes g.N.Naming.script g.N.Naming.start g.N.Naming.origin g.N.Naming.sound) (known_task g.D.Reader.FileReader.bytes c.args.task) c.args.pass.seen c.leave.result.seen (step_took (whole g c)).seen c.requires.granted
 
 pub returns-clause-answers : goal.returns-clause-answers
 returns-clause-answers g c = step_none (whole g c) c.requires.sort.asked c.requires.sort.known (none_renewing c.requires.sort.asked)
