@@ -3,4 +3,5 @@
 
 mod serving;
 
+pub use mesa_sessions::{Gate, OpenGate, Point};
 pub use serving::serve;

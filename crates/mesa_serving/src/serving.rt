@@ -6,13 +6,11 @@ ghost use Rattle.mesa_skeleton.specs.Rows.{no_rows};
 ghost use Rattle.mesa_passes.specs.Answers.{HaveCounted};
 ghost use Rattle.mesa_passes.specs.Passes.{turns_of};
 
-use mesa_core::Vault;
 use mesa_disk::{Bench, Disk, Made};
 use mesa_io::Sink;
 use mesa_ledger::Naming;
 use mesa_model::Script;
-use mesa_session::Gate;
-use mesa_sessions::run_all;
+use mesa_sessions::{Gate, Vault, run_all};
 use mesa_turn::TurnLock;
 use std::alloc::Global;
 use std::sync::Wait;

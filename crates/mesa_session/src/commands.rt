@@ -11,7 +11,6 @@ ghost use Rattle.mesa_passes.specs.Passes.{HasSort, Mine, Took, at_stage};
 use crate::gate::{Gate, Point};
 use crate::outside::{answered, merged};
 use mesa_batch::LoadRows;
-use mesa_core::Vault;
 use mesa_disk::{Bench, Disk, Made};
 use mesa_io::Sink;
 use mesa_ledger::Naming;
@@ -20,7 +19,7 @@ use mesa_model::Command;
 use mesa_tasks::Serials;
 use mesa_turn::{Pass, TurnLock};
 use mesa_turning::{
-    close_turn, complete_turn, grant_turn, ids_of, look_turn, pin_turn, prepared_first,
+    Vault, close_turn, complete_turn, grant_turn, ids_of, look_turn, pin_turn, prepared_first,
     publish_turn, renew_turn, simple_turn,
 };
 use std::alloc::Global;

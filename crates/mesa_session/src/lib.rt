@@ -7,4 +7,5 @@ mod outside;
 mod session;
 
 pub use gate::{Gate, OpenGate, Point};
+pub use mesa_turning::Vault;
 pub use session::run_session;

@@ -9,12 +9,11 @@ ghost use Rattle.mesa_turn.specs.Passes.{IsExact, Joins};
 ghost use Rattle.mesa_passes.specs.Answers.{HasCounted, HaveCounted, answered};
 ghost use Rattle.mesa_passes.specs.Passes.{HasEnded, HaveEnded, Mine, Waits, at_stage, turns_of};
 
-use mesa_core::Vault;
 use mesa_disk::{Bench, Disk, Made};
 use mesa_io::Sink;
 use mesa_ledger::Naming;
 use mesa_model::Script;
-use mesa_session::{Gate, run_session};
+use mesa_session::{Gate, Vault, run_session};
 use mesa_turn::{Pass, TurnLock};
 use std::alloc::Global;
 use std::sync::Wait;

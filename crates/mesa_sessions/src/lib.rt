@@ -4,3 +4,4 @@
 mod all;
 
 pub use all::run_all;
+pub use mesa_session::{Gate, OpenGate, Point, Vault};

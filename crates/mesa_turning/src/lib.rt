@@ -4,6 +4,7 @@
 mod preparing;
 mod turns;
 
+pub use mesa_core::Vault;
 pub use preparing::{ids_of, prepared_first};
 pub use turns::{
     close_turn, complete_turn, grant_turn, look_turn, pin_turn, publish_turn, renew_turn,
