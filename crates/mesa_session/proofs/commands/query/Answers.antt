@@ -11,7 +11,7 @@ use Rattle.mesa_session.proofs.commands.query.Goals as goal
 pub close_turn-requires-clause-open : goal.close_turn-requires-clause-open
 close_turn-requires-clause-open g c κs within =
     let was = subst (λ o. IfOk o (λ p. IsOpenQuery g.N.Naming.script g.N.Naming.start (history_of c.pin_turn-pass.result.0.seen) c.args.who.session c.args.who.command p.at (λ past. Tells g.N.Naming.sound (known_pin g.D.Reader.FileReader.bytes p)) × CanBeAnswered g.D.Reader.FileReader.bytes p)) c.in-Ok.is c.pin_turn-pass.ensures.open in
-    subst (λ (k : KnownPin). IsOpenQuery g.N.Naming.script g.N.Naming.start (history_of c.pin_turn-pass.result.0.seen) c.args.who.session c.args.who.command k.at (λ past. (λ past. Tells g.N.Naming.sound) past k)) (sym c.answered-answer.ensures.known) was.0
+    subst (λ (k : KnownPin). IsOpenQuery g.N.Naming.script g.N.Naming.start (history_of c.pin_turn-pass.result.0.seen) c.args.who.session c.args.who.command k.at (λ past. Tells g.N.Naming.sound k)) (sym c.answered-answer.ensures.known) was.0
 
 pub returns-in-Ok-clause-took : goal.returns-in-Ok-clause-took
 returns-in-Ok-clause-took g c = took_fewer _ _ _ 2 3 (omega arith) (took_both _ _ _ _ 1 1 c.pin_turn-pass.ensures.took c.close_turn.ensures.took)
