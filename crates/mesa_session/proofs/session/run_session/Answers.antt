@@ -1,6 +1,8 @@
-use Rattle.std.proofs.Common.{rules, ◌≡◌, ◌<◌, ◌+◌, ◌*◌, true, false, not, length, arith, subst}
+use Rattle.std.proofs.Common.{rules, ◌≡◌, ◌<◌, ◌+◌, ◌*◌, true, false, not, List, length, get_or, arith, subst}
 use Rattle.mesa_history.specs.Run.{Finished, commands_of}
 use Rattle.mesa_history.specs.Turns.{place_then}
+use Rattle.mesa_history.proofs.Due.{command_there}
+use Rattle.mesa_model.specs.declared.commands.Command.{Command}
 use Rattle.mesa_skeleton.specs.Rows.{no_rows}
 use Rattle.mesa_passes.specs.Passes.{Mine}
 use Rattle.mesa_passes.proofs.Answering.{answers_both}
@@ -8,6 +10,12 @@ use Rattle.mesa_passes.proofs.Dividing.{gains}
 use Rattle.mesa_passes.proofs.Ending.{ended_cut, ended_whole}
 use Rattle.mesa_passes.proofs.Turning.{took_both, took_fewer}
 use Rattle.mesa_session.proofs.session.run_session.Goals as goal
+
+pub run_command-next-requires-clause-known : goal.run_command-next-requires-clause-known
+run_command-next-requires-clause-known g c κs within =
+    let same : c.commands_of-commands.result.now ≡ commands_of g.N.Naming.script c.args.session = search rules in
+    command_there g.N.Naming.script c.args.session c.commands.i c.index-commands-i.result c.index-commands-i.result (subst (λ (l : List Command). c.commands.i < length l) same c.commands-test.true)
+    (subst (λ (l : List Command). c.index-commands-i.result ≡ get_or l c.commands.i c.index-commands-i.result) same c.index-commands-i.is)
 
 pub returns-then-not-ran-clause-took : goal.returns-then-not-ran-clause-took
 returns-then-not-ran-clause-took g c =
