@@ -7,7 +7,7 @@ use Rattle.clap.specs.Simple.{built_leaf, entered, inherited, marked_built, name
 use Rattle.clap.specs.Faults.{bundle_fault, check_fault, defaults_fault, entered_fault, flag_word_fault, level_fault, other_fault, settle_fault, step_fault, turn_fault, walk_fault, word_fault}
 use Rattle.clap.specs.Kinds.{Kinds, or_else}
 use Rattle.clap.specs.Lexer.{long_of, long_of_rest, short_of, short_of_rest, strip_byte}
-use Rattle.clap.specs.Walk.{Held, Names, Step, Walk, after_step, arg_by_index, finished, idle, long_or_other, nothing_held, settled, short_or_plain, subcommand_met, subcommand_or_other, to_positional, trailing, value, walk, walk_from, walked, word_met}
+use Rattle.clap.specs.Walk.{Held, Names, Step, Walk, after_step, arg_by_index, finished, idle, long_or_other, nothing_held, settled, short_or_plain, subcommand_met, subcommand_or_other, to_positional, trailing, value, walk_from, walked, word_met}
 use Rattle.std.specs.Prelude.{option_and_then, option_map}
 use Rattle.std.specs.Option.{option_map_or}
 use Rattle.clap.proofs.OnLiterals.{clap_on_literals}

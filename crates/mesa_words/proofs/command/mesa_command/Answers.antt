@@ -2,7 +2,7 @@ use Rattle.std.proofs.Common.{◌≡◌, ◌∙◌, ap, ap₂, codes, rules}
 use Rattle.std.proofs.lemmas.Result.{IfOk-weaker}
 use Rattle.clap.specs.Words.{App, Shape, app_of, new_app, rule_of, with_rule, with_subcommand}
 use Rattle.clap.specs.Simple.{on_top}
-use Rattle.mesa_words.specs.Command.{gen, mesa, needed, set_up}
+use Rattle.mesa_words.specs.Command.{gen, needed, set_up}
 use Rattle.mesa_words.proofs.command.mesa_command.Goals as goal
 
 abbrev top_of : App → Shape
