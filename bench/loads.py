@@ -2,8 +2,8 @@
 """Prints a script of loads and queries: bench/loads.py ROWS [KIND QUERIES].
 
 The table has 10,000 keys. Each load has 1,000 rows of different keys, drawn at random
-with a fixed seed; every tenth load is followed by an expiry of all versions but the newest.
-Behind the loads stand QUERIES queries of one KIND: grouped, range or row."""
+with a fixed seed; every tenth load is followed by an expiry of all versions but the newest, and by the work
+that makes these versions the table's base. Behind the loads stand QUERIES queries of one KIND: grouped, range or row."""
 import random
 import sys
 
@@ -36,6 +36,7 @@ def script(rows, kind=None, queries=0):
         yield "commit"
         if version % KEPT == KEPT - 1:
             yield f"expire,{version}"
+            yield "work,sales"
     for _ in range(queries):
         yield QUERIES[kind]
 

@@ -1,15 +1,17 @@
 #!/usr/bin/env python3
-"""Measures the program: processor seconds and peak memory of loads, and the time of each kind of query.
+"""Measures the program: seconds, processor seconds and peak memory of loads, and the time of each kind of query.
 
     bench/run.py [PROGRAM]
 
 PROGRAM is the built program, by default crates/mesa/out/mesa, which `rt run` leaves there.
+Each run begins with no store, in a folder of its own below the current one, so that the syncs are those of its device.
 Each number is the best of three runs."""
 import os
 import pathlib
 import subprocess
 import sys
 import tempfile
+import time
 
 from loads import QUERIES, script
 
@@ -20,22 +22,24 @@ RUNS = 3
 
 
 def run(program, source):
-    """The processor seconds and the peak memory in MB of one run of the program."""
+    """The seconds, by the clock and of the processors, and the peak memory in MB of one run of the program."""
     source.seek(0)
-    child = subprocess.Popen([program, "run"], stdin=source, stdout=subprocess.DEVNULL)
-    _, status, used = os.wait4(child.pid, 0)
+    with tempfile.TemporaryDirectory(dir=os.getcwd()) as folder:
+        start = time.monotonic()
+        child = subprocess.Popen([program, "run"], cwd=folder, stdin=source, stdout=subprocess.DEVNULL)
+        _, status, used = os.wait4(child.pid, 0)
+        seconds = time.monotonic() - start
     child.returncode = os.waitstatus_to_exitcode(status)
     if child.returncode != 0:
         sys.exit(f"the program ended with status {child.returncode}")
-    return used.ru_utime + used.ru_stime, used.ru_maxrss / 1024
+    return seconds, used.ru_utime + used.ru_stime, used.ru_maxrss / 1024
 
 
 def measured(program, lines):
-    """The least seconds and memory of some runs over a script."""
+    """The least of some runs over a script."""
     with tempfile.TemporaryFile("w+") as source:
         source.writelines(line + "\n" for line in lines)
-        seconds, memory = zip(*(run(program, source) for _ in range(RUNS)))
-    return min(seconds), min(memory)
+        return [min(values) for values in zip(*(run(program, source) for _ in range(RUNS)))]
 
 
 def per_query(seconds):
@@ -44,16 +48,16 @@ def per_query(seconds):
 
 
 def main():
-    program = sys.argv[1] if len(sys.argv) > 1 else str(ROOT / "crates/mesa/out/mesa")
-    print(f"{os.cpu_count()} processors; the best of {RUNS} runs; a query's time over {QUERIES_A_RUN} of them")
-    print("| Rows loaded | Seconds | Peak MB | " + " | ".join(QUERIES) + " |")
-    print("|---|---|---|" + "---|" * len(QUERIES))
+    program = os.path.abspath(sys.argv[1] if len(sys.argv) > 1 else ROOT / "crates/mesa/out/mesa")
+    print(f"{os.cpu_count()} processors; the best of {RUNS} runs; a query's processor time over {QUERIES_A_RUN} of them")
+    print("| Rows loaded | Seconds | Processor seconds | Peak MB | " + " | ".join(QUERIES) + " |")
+    print("|---|---|---|---|" + "---|" * len(QUERIES))
     for rows in SIZES:
-        seconds, memory = measured(program, script(rows))
-        cells = [f"{rows:,}", f"{seconds:.2f}", f"{memory:.0f}"]
+        seconds, busy, memory = measured(program, script(rows))
+        cells = [f"{rows:,}", f"{seconds:.2f}", f"{busy:.2f}", f"{memory:.0f}"]
         for kind in QUERIES:
-            with_queries, _ = measured(program, script(rows, kind, QUERIES_A_RUN))
-            cells.append(per_query((with_queries - seconds) / QUERIES_A_RUN))
+            _, with_queries, _ = measured(program, script(rows, kind, QUERIES_A_RUN))
+            cells.append(per_query((with_queries - busy) / QUERIES_A_RUN))
         print("| " + " | ".join(cells) + " |", flush=True)
 
 

@@ -1,9 +1,9 @@
-//! Runs a script from standard input, and prints to standard output.
+//! Runs a script from standard input over the store in the folder `mesa-store`, and prints to standard output.
 #![tactic(auto)]
 
 use mesa_shell::program;
 use std::process::ExitCode;
 
 fn main(rt: HostRuntime) -> ExitCode {
-    program(&rt)
+    program(&rt, rt)
 }

@@ -1,1 +1,4 @@
-pub mod Telling
+pub mod Beginning
+pub mod Opened
+pub mod Parts
+pub mod Ran

@@ -1,4 +1,4 @@
-pub mod Answers
-pub mod Ending
+pub mod Start
+pub mod Begun
+pub mod Ran
 pub mod Exits
-pub mod Statuses

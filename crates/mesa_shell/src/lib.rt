@@ -1,10 +1,13 @@
-//! The top call: a script in, answers out, and how a call ends.
+//! The top call over a store: a script in, answers out, and how a call ends.
 #![tactic(auto)]
 
-mod errors;
+mod opening;
+mod running;
 mod shell;
 mod standard;
-pub mod statuses;
 
-pub use shell::{Done, MAX_INPUT, mesa};
+pub use mesa_ending::{Devices, Done};
+pub use mesa_serving::{Gate, OpenGate, Point};
+pub use mesa_telling::statuses;
+pub use shell::{MAX_INPUT, mesa};
 pub use standard::{flushed, program};

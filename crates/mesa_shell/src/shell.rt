@@ -1,88 +1,131 @@
 // The top call.
-ghost use Rattle.std.specs.Prelude.{◌≡◌, ◌≢◌, ◌≤◌, ◌*◌, [], ◌∷◌, length, map, codes, vec_capacity, true, false};
+ghost use Rattle.std.specs.Prelude.{◌≡◌, ◌≢◌, ◌≤◌, [], ◌∷◌, length, map, codes, true, false, if◌then◌else◌};
+ghost use Rattle.mesa_image.specs.Catalog.{Catalog as AnyCatalog};
 ghost use Rattle.mesa_model.specs.declared.commands.Script.{Script as AnyScript};
-ghost use Rattle.mesa_run.specs.Built.{IsBuilt, prologue_of};
-ghost use Rattle.mesa_shell.specs.Answers.{IsScriptOf};
-ghost use Rattle.mesa_laws.specs.Printed.{AnswersFromTheFold};
-ghost use Rattle.mesa_history.specs.Run.{nothing_there};
-ghost use Rattle.mesa_shell.specs.Ending as spec;
-ghost use Rattle.mesa_shell.specs.Exits.{script_line, script_status};
-ghost use Rattle.mesa_shell.specs.Statuses.{Tells};
+ghost use Rattle.mesa_skeleton.specs.Rows.{Rows};
+ghost use Rattle.mesa_ending.specs.Completing.{AsksFor, Completes, HasRoomToRun, NothingFailed};
+ghost use Rattle.mesa_ending.specs.Ending as spec;
+ghost use Rattle.mesa_ending.specs.Ports.{ports};
+ghost use Rattle.mesa_ending.specs.Scripts.{IsSmall};
+ghost use Rattle.mesa_ending.specs.Statuses.{Tells};
 
-use crate::errors::put_error;
-use crate::statuses;
+use crate::opening::open;
+use crate::running::{Left, run_begun};
+use mesa_disk::{Bench, Disk, Made};
+use mesa_ending::{Devices, Done, scripts_are_small};
 use mesa_io::{ReadError, Sink, Source, read_all};
-use mesa_laws::{answers_from_the_fold, keeps_well_formed};
-use mesa_model::{Entry, Script};
+use mesa_model::Script;
 use mesa_parse::parse;
-use mesa_printer::Printer;
-use mesa_run::{room, run, scripts_are_built};
 use mesa_script::ScriptError;
+use mesa_serving::Gate;
+use mesa_telling::{ended, ended_opening, ended_refused, lacks_memory, statuses};
 use std::alloc::Global;
+use std::sync::Wait;
+use std::thread::Threads;
 
 /// The longest input, in bytes.
 pub const MAX_INPUT: u64 = 67_108_864;
 
-/// What a call of the program leaves.
-#[derive(Drop)]
-pub struct Done<K> {
-    /// One of `statuses`.
-    pub status: u8,
-    /// The sink, with what was printed.
-    pub out: K,
-    /// The turns of the run, in order; none where nothing was run.
-    pub history: Vec<Entry>,
-}
-
-// Ends a call that ran nothing, with its line.
-fn ended<K: Sink>(alloc: Global, out: K, status: u8, line: &[u8]) -> Done<K>
-    ensures { spec.Ended K.held K.faults out result status line.now }
+// The status of a script that was run.
+fn run_status(failed: bool, refused: bool) -> u8
+    ensures { result ≡ (if failed then 5 else (if refused then 1 else 0)) }
 {
-    let mut printer = Printer {
-        sink: out,
-        broken: false,
-    };
-    printer.put(line);
-    let status = if printer.broken {
+    if failed {
         statuses::SINK_FAULT
+    } else if refused {
+        statuses::REFUSED
     } else {
-        status
-    };
-    Done {
-        status,
-        out: printer.sink,
-        history: Vec::new(alloc),
+        statuses::ANSWERED
     }
 }
 
-// Ends a call whose script is refused.
-fn refused<K: Sink>(alloc: Global, out: K, error: &ScriptError) -> Done<K>
-    ensures { spec.Ended K.held K.faults out result script_status (script_line error.now) }
+// Opens the store, and runs a script over it.
+fn run_script<M: Made, D: Disk<M>, K: Sink + Send, B: Bench<M>, R: Threads + Wait + Sync, G: Gate>(
+    rt: &R,
+    alloc: Global,
+    script: &Script,
+    given: Devices<K, D, B>,
+    gate: &G,
+) -> Done<K, D, B>
+    requires small { IsSmall script.now }
+    requires benches { 8 ≤ length given.benches.items }
+    ensures { spec.EndsScript (ports K.held K.faults D.story M.bytes B.faults) given result script.now }
 {
-    let mut printer = Printer {
-        sink: out,
-        broken: false,
+    let Devices { out, disk, benches } = given;
+    let begun = match open(alloc, disk) {
+        Ok(begun) => begun,
+        Err((error, disk)) => return ended_opening(alloc, Devices { out, disk, benches }, &error),
     };
-    printer.put(b"mesa: script ");
-    put_error(&mut printer, error);
-    printer.put(b"\n");
-    let status = if printer.broken {
-        statuses::SINK_FAULT
-    } else {
-        statuses::BAD_SCRIPT
-    };
-    Done {
-        status,
-        out: printer.sink,
-        history: Vec::new(alloc),
+    match run_begun(rt, alloc, script, begun, out, benches, gate) {
+        Ok(left) => {
+            let Left {
+                out,
+                disk,
+                benches,
+                history,
+                failed,
+                refused,
+            } = left;
+            Done {
+                status: run_status(failed, refused),
+                out,
+                disk,
+                benches,
+                history,
+            }
+        }
+        Err(given) => lacks_memory(alloc, given),
     }
 }
 
-// Ends a call for want of memory.
-fn lacks_memory<K: Sink>(alloc: Global, out: K) -> Done<K>
-    ensures { spec.LacksMemory K.held K.faults out result }
+// Runs the script of a text.
+fn run_text<M: Made, D: Disk<M>, K: Sink + Send, B: Bench<M>, R: Threads + Wait + Sync, G: Gate>(
+    rt: &R,
+    alloc: Global,
+    bytes: Vec<u8>,
+    given: Devices<K, D, B>,
+    gate: &G,
+) -> Done<K, D, B>
+    requires benches { 8 ≤ length given.benches.items }
+    ensures { spec.EndsText (ports K.held K.faults D.story M.bytes B.faults) given result bytes.items }
 {
-    ended(alloc, out, statuses::NO_MEMORY, b"mesa: memory\n")
+    scripts_are_small();
+    match parse(alloc, bytes) {
+        Ok(script) => run_script(rt, alloc, &script, given, gate),
+        Err(ScriptError::Memory) => lacks_memory(alloc, given),
+        Err(error) => ended_refused(alloc, given, &error),
+    }
+}
+
+// Reads the source, and runs its script.
+fn run_source<
+    S: Source,
+    M: Made,
+    D: Disk<M>,
+    K: Sink + Send,
+    B: Bench<M>,
+    R: Threads + Wait + Sync,
+    G: Gate,
+>(rt: &R, alloc: Global, src: &mut S, given: Devices<K, D, B>, gate: &G) -> Done<K, D, B>
+    requires benches { 8 ≤ length given.benches.items }
+    ensures { spec.EndsRun (ports K.held K.faults D.story M.bytes B.faults) given result (S.left src.old) (S.faults src.old) (S.faults src.new) }
+{
+    match read_all(alloc, src, MAX_INPUT) {
+        Ok(bytes) => run_text(rt, alloc, bytes, given, gate),
+        Err(ReadError::Fault) => ended(
+            alloc,
+            given,
+            statuses::SOURCE_FAULT,
+            b"mesa: source fault\n",
+        ),
+        Err(ReadError::TooLong { .. }) => ended(
+            alloc,
+            given,
+            statuses::TOO_LONG,
+            b"mesa: input over 67108864 bytes\n",
+        ),
+        Err(ReadError::Memory) => lacks_memory(alloc, given),
+    }
 }
 
 // Whether the words are `run` alone.
@@ -96,75 +139,41 @@ fn is_run(words: &[&str]) -> bool
     words[0] == "run"
 }
 
-// Runs a script, and ends.
-fn run_script<K: Sink>(alloc: Global, script: &Script, history: Vec<Entry>, out: K) -> Done<K>
-    requires built { IsBuilt script.now }
-    requires room { 3 * length (prologue_of script.now) ≤ vec_capacity history }
-    requires empty { history.items ≡ [] }
-    ensures { spec.HasRun K.held K.faults out result script.now }
-{
-    let log = run(alloc, script, out, history);
-    let status = if log.printer.broken {
-        statuses::SINK_FAULT
-    } else if log.refused {
-        statuses::REFUSED
-    } else {
-        statuses::ANSWERED
-    };
-    Done {
-        status,
-        out: log.printer.sink,
-        history: log.history,
-    }
-}
-
-// Runs the script of a text.
-fn run_text<K: Sink>(alloc: Global, bytes: Vec<u8>, out: K) -> Done<K>
-    ensures { spec.EndsText K.held K.faults bytes.items out result }
-{
-    scripts_are_built();
-    let script = match parse(alloc, bytes) {
-        Ok(script) => script,
-        Err(ScriptError::Memory) => return lacks_memory(alloc, out),
-        Err(error) => return refused(alloc, out, &error),
-    };
-    match room(alloc, &script) {
-        Ok(history) => run_script(alloc, &script, history, out),
-        Err(_) => lacks_memory(alloc, out),
-    }
-}
-
-// Reads the source and runs its script.
-fn run_source<S: Source, K: Sink>(alloc: Global, src: &mut S, out: K) -> Done<K>
-    ensures { spec.EndsRun K.held K.faults (S.left src.old) (S.faults src.old) (S.faults src.new) out result }
-{
-    match read_all(alloc, src, MAX_INPUT) {
-        Ok(bytes) => run_text(alloc, bytes, out),
-        Err(ReadError::Fault) => ended(alloc, out, statuses::SOURCE_FAULT, b"mesa: source fault\n"),
-        Err(ReadError::TooLong { .. }) => ended(
-            alloc,
-            out,
-            statuses::TOO_LONG,
-            b"mesa: input over 67108864 bytes\n",
-        ),
-        Err(ReadError::Memory) => lacks_memory(alloc, out),
-    }
-}
-
-/// The program: with the word `run` alone it reads a script from the source, runs it over a
-/// reference warehouse that begins empty, and prints every reply onto the sink. Nothing is kept.
-pub fn mesa<S: Source, K: Sink>(alloc: Global, words: &[&str], src: &mut S, out: K) -> Done<K>
-    ensures ends { spec.Ends K.held K.faults (map (λ w. w.now) words.now) (S.left src.old) (S.faults src.old) (S.faults src.new) out result }
-    ensures tells { Tells K.held K.faults (map (λ w. w.now) words.now) (S.left src.old) (S.faults src.old) (S.faults src.new) out result }
+/// The program: with the word `run` alone it reads a script from the source, opens the store on the
+/// disk, runs the script over it, each session but the first in a thread of its own, and prints every
+/// reply onto the sink. Session s builds its files on bench s.
+pub fn mesa<
+    S: Source,
+    M: Made,
+    D: Disk<M>,
+    K: Sink + Send,
+    B: Bench<M>,
+    R: Threads + Wait + Sync,
+    G: Gate,
+>(
+    rt: &R,
+    alloc: Global,
+    words: &[&str],
+    src: &mut S,
+    out: K,
+    disk: D,
+    benches: Vec<B>,
+    gate: &G,
+) -> Done<K, D, B>
+    requires benches { 8 ≤ length benches.items }
+    ensures ends { spec.Ends (ports K.held K.faults D.story M.bytes B.faults) (record { out = out; disk = disk; benches = benches }) result (map (λ w. w.now) words.now) (S.left src.old) (S.faults src.old) (S.faults src.new) }
+    ensures tells { Tells (ports K.held K.faults D.story M.bytes B.faults) (record { out = out; disk = disk; benches = benches }) result (map (λ w. w.now) words.now) (S.left src.old) (S.faults src.old) (S.faults src.new) }
     ensures untouched { map (λ w. w.now) words.now ≢ codes "run" ∷ [] → src.new ≡ src.old }
-    ensures answers { (script : AnyScript) → IsScriptOf (S.left src.old) script → AnswersFromTheFold script (nothing_there script) result.history.items }
+
+    // Where a script is to be run over a sound store and nothing fails, every reply is the reference warehouse's, or memory.
+    ensures completes { (script : AnyScript) (c : AnyCatalog) (rows : Rows) → AsksFor (map (λ w. w.now) words.now) (S.left src.old) script → HasRoomToRun (ports K.held K.faults D.story M.bytes B.faults) (record { out = out; disk = disk; benches = benches }) c rows
+        → NothingFailed (ports K.held K.faults D.story M.bytes B.faults) (record { out = out; disk = disk; benches = benches }) result (S.faults src.old) (S.faults src.new) → Completes result }
 {
-    answers_from_the_fold();
-    keeps_well_formed();
+    let given = Devices { out, disk, benches };
     if is_run(words) {
-        run_source(alloc, src, out)
+        run_source(rt, alloc, src, given, gate)
     } else {
         let line = b"mesa: usage: mesa run | mesa check | mesa gen SEED VERSIONS\n";
-        ended(alloc, out, statuses::USAGE, line)
+        ended(alloc, given, statuses::USAGE, line)
     }
 }

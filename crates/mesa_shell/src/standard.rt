@@ -1,15 +1,24 @@
-// The program over the standard streams.
+// The program over the standard streams and a folder.
 ghost use Rattle.mesa_io.specs.Standard.{sink_faults, sink_writer};
-ghost use Rattle.mesa_shell.specs.Ending.{Exits};
+ghost use Rattle.mesa_shell.specs.Exits.{Exits};
 ghost use Rattle.std.specs.Io.KnownBytes.{Keeps};
+ghost use Rattle.std.specs.Prelude.{◌≡◌, IfOk, length};
 
 use crate::shell::mesa;
-use crate::statuses;
+use mesa_dir::{DirBench, DirDisk};
+use mesa_ending::Done;
 use mesa_io::{SinkFailed, StdSink, StdSource};
+use mesa_serving::OpenGate;
+use mesa_telling::statuses;
 use std::alloc::{AllocError, Global};
 use std::env;
 use std::io::{BufWriter, ErrorKind, Write};
 use std::process::ExitCode;
+use std::sync::Wait;
+use std::thread::Threads;
+
+// The folder of the store, within the current one.
+const FOLDER: &str = "mesa-store";
 
 /// The status to exit with after a call that ended with this one. What the sink still holds back
 /// goes out; where that fails, so has the sink.
@@ -33,9 +42,9 @@ fn slices(alloc: Global, texts: &[String]) -> Result<Vec<&str>, AllocError> {
 }
 
 // The words behind the program's name; none where one of them is no text.
-fn words(rt: &HostRuntime) -> Result<Vec<String>, AllocError> {
-    let mut words = Vec::new(rt.alloc());
-    match env::args(rt) {
+fn words(host: &HostRuntime) -> Result<Vec<String>, AllocError> {
+    let mut words = Vec::new(host.alloc());
+    match env::args(host) {
         Ok(args) => {
             for word in args.skip(1) {
                 words.push(word)?;
@@ -47,23 +56,54 @@ fn words(rt: &HostRuntime) -> Result<Vec<String>, AllocError> {
     Ok(words)
 }
 
-// Runs the words over the standard streams; what is printed goes out in large pieces.
-fn run_words(rt: &HostRuntime) -> Result<u8, AllocError> {
-    let alloc = rt.alloc();
-    let words = words(rt)?;
-    let words = slices(alloc, &words)?;
-    let mut source = StdSource::new(rt.reader());
-    let Ok(out) = BufWriter::new(alloc, rt.stdout()) else {
-        return Err(AllocError);
-    };
-    let mut done = mesa(alloc, &words, &mut source, StdSink::new(out));
-    Ok(flushed(done.status, &mut done.out))
+// A bench for each session that a script may have.
+fn benches(
+    alloc: Global,
+    disk: &DirDisk<HostRuntime>,
+) -> Result<Vec<DirBench<HostRuntime>>, AllocError>
+    ensures { IfOk result (λ all. length all.items ≡ 8) }
+{
+    let (a, b, c, d) = (disk.bench()?, disk.bench()?, disk.bench()?, disk.bench()?);
+    let (e, f, g, h) = (disk.bench()?, disk.bench()?, disk.bench()?, disk.bench()?);
+    Ok(vec![in alloc; a, b, c, d, e, f, g, h]?)
 }
 
-/// The program: reads a script from standard input, runs it, and prints to standard output.
-pub fn program(rt: &HostRuntime) -> ExitCode {
-    match run_words(rt) {
+// Runs the words over the standard streams and the folder; what is printed goes out in large pieces.
+fn run_words<R: Threads + Wait + Sync>(rt: &R, host: HostRuntime) -> Result<u8, AllocError> {
+    let alloc = host.alloc();
+    let words = words(&host)?;
+    let words = slices(alloc, &words)?;
+    let mut source = StdSource::new(host.reader());
+    let Ok(out) = BufWriter::new(alloc, host.stdout()) else {
+        return Err(AllocError);
+    };
+    let out = StdSink::new(out);
+    let disk = DirDisk::open(host, FOLDER)?;
+    let benches = benches(alloc, &disk)?;
+    let Done {
+        status,
+        mut out,
+        disk: _disk,
+        benches: _benches,
+        history: _history,
+    } = mesa(
+        rt,
+        alloc,
+        &words,
+        &mut source,
+        out,
+        disk,
+        benches,
+        &OpenGate,
+    );
+    Ok(flushed(status, &mut out))
+}
+
+/// The program: reads a script from standard input, runs it over the store in the folder `mesa-store` of
+/// the current one, which is made where it is missing, and prints to standard output.
+pub fn program<R: Threads + Wait + Sync>(rt: &R, host: HostRuntime) -> ExitCode {
+    match run_words(rt, host) {
         Ok(status) => ExitCode::from(status),
-        Err(_) => ExitCode::from(statuses::NO_MEMORY),
+        Err(AllocError) => ExitCode::from(statuses::NO_MEMORY),
     }
 }

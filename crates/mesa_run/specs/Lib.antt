@@ -1,4 +1,0 @@
-pub mod Built
-pub mod Legal
-pub mod Places
-pub mod Outputs

@@ -1,0 +1,84 @@
+-- What an opening made of a store, from its two parts.
+use Rattle.std.proofs.Common.{◌≡◌, ⊎_elim, ℕ, ◌+◌, ◌<◌, ◌≤◌, [], sym, ◌∙◌, ap, subst, arith, Some, None}
+use Rattle.std.proofs.lemmas.Bool.{cases_lt}
+use Rattle.std.specs.Prelude.{Result, Ok, Err, IfOk, IfErr}
+use Rattle.mesa_disk.specs.Image.{Image}
+use Rattle.mesa_disk.specs.Story.{Story, Unmoved}
+use Rattle.mesa_disk.specs.declared.area.Area.TheVariants.{Zero}
+use Rattle.mesa_trash.specs.Filed.{FilesAdopted}
+use Rattle.mesa_skeleton.specs.Rows.{Rows}
+use Rattle.mesa_image.specs.Catalog.{Catalog, applied}
+use Rattle.mesa_image.specs.Shape.{IsCatalog}
+use Rattle.mesa_image_laws.specs.Ids.{HasOwnIds, named}
+use Rattle.mesa_image_laws.proofs.Wholes.{catalog_owns, catalog_shaped}
+use Rattle.mesa_opening.specs.declared.error.OpenError.{OpenError}
+use Rattle.mesa_opening.specs.declared.error.OpenError.TheVariants as open_error
+use Rattle.mesa_opening.specs.Opening.{HasReason, IsHeldAs, IsSoundStart, Keeps, first_id, most_runs, run_record}
+use Rattle.mesa_opening.proofs.Beginnings.{runs_few}
+use Rattle.mesa_ledger.specs.Vault.{IsRead}
+use Rattle.mesa_catalog.specs.declared.begun.Begun.{Begun}
+use Rattle.mesa_recover.specs.declared.opened.Opened.{Opened}
+use Rattle.mesa_recover.specs.Opened.{IsOpened}
+use Rattle.mesa_ending.proofs.Unmoved.{keeps_before, read_before, reason_before, sound_after}
+use Rattle.mesa_shell.specs.Begun.{HasBegun}
+
+run_shaped : (c : Catalog) (number : ℕ) → IsCatalog c → IsCatalog (applied c (run_record number))
+run_shaped c number is = record { tables = is.tables; names = is.names; oldest = is.oldest; few = is.few; most = is.most }
+
+run_owns : (c : Catalog) (number : ℕ) → c.run ≤ number → HasOwnIds c → HasOwnIds (applied c (run_record number))
+run_owns c number le own = record { once = own.once; runs = λ id some. let most = own.runs id some in omega (arith, most, le) }
+
+module _ {D : Type 0} (story : D → Story) (old : Story) (o : Opened D) (is : IsOpened (story o.disk) o) (still : Unmoved old (story o.disk))
+    (faults : (story o.disk).faults ≡ old.faults) (reads : (story o.disk).read_faults ≡ old.read_faults) where
+  abbrev known : Catalog
+  known = o.catalog.catalogue
+
+  begun_from : (b : Begun D) → b.run ≡ o.last_run + 1 → b.catalog.catalogue ≡ applied known (run_record b.run) → b.catalog.reserved ≡ None → b.since ≡ o.since → b.end < (story b.disk).len Zero
+      → ((rows : Rows) → IsSoundStart (story o.disk) known rows → IsHeldAs (story b.disk) b.end b.catalog.catalogue rows) → Keeps (story o.disk) (story b.disk)
+      → FilesAdopted 0 (first_id b.run) (first_id (b.run + 1)) (named b.catalog.catalogue) [] [] (story b.disk).told
+      → ((i : Image) → (story o.disk).told ≡ Some i → IsRead (story b.disk))
+      → ((story b.disk).faults ≡ (story o.disk).faults) × ((story b.disk).read_faults ≡ (story o.disk).read_faults) → (story o.disk).moment ≤ (story b.disk).moment → o.last_run < most_runs → HasBegun story old b
+  begun_from b run applies free since long held keeps filed told quiet later less =
+      let read = is.reads in
+      record {
+        catalogue = known;
+        reads = (is.bodies, o.end, read_before old (story o.disk) still is.bodies o.end known read);
+        number = omega (arith, less, is.run);
+        applies = applies;
+        ready = record {
+          run = ap (λ (c : Catalog). c.run) applies;
+          few = omega (arith, run, less);
+          free = free;
+          shaped = subst IsCatalog (sym applies) (run_shaped known b.run (catalog_shaped is.bodies known read.bytes read.records));
+          own = subst HasOwnIds (sym applies) (run_owns known b.run (omega (arith, run, is.run)) (catalog_owns is.bodies known read.bytes read.records));
+          long = long;
+          filed = filed;
+          since = omega (arith, since, is.now, later);
+        };
+        keeps = keeps_before old (story o.disk) still (story b.disk) keeps;
+        held = λ rows start. held rows (sound_after old (story o.disk) still known rows start);
+        told = λ i at. told i (still.told ∙ at);
+        since = since ∙ is.now ∙ still.moment;
+        faults = quiet.0 ∙ faults;
+        read_faults = quiet.1 ∙ reads;
+      }
+
+  pub has_begun : (r : Result (Begun D) (OpenError × D)) → IfOk r (λ b. b.run ≡ o.last_run + 1) → IfOk r (λ b. b.catalog.catalogue ≡ applied known (run_record b.run)) → IfOk r (λ b. b.catalog.reserved ≡ None)
+      → IfOk r (λ b. (b.area ≡ Zero) × (b.since ≡ o.since)) → IfOk r (λ b. b.end < (story b.disk).len Zero)
+      → IfOk r (λ b. (rows : Rows) → IsSoundStart (story o.disk) known rows → IsHeldAs (story b.disk) b.end b.catalog.catalogue rows) → IfOk r (λ b. Keeps (story o.disk) (story b.disk))
+      → IfOk r (λ b. FilesAdopted 0 (first_id b.run) (first_id (b.run + 1)) (named b.catalog.catalogue) [] [] (story b.disk).told)
+      → IfOk r (λ b. (i : Image) → (story o.disk).told ≡ Some i → IsRead (story b.disk))
+      → IfOk r (λ b. ((story b.disk).faults ≡ (story o.disk).faults) × ((story b.disk).read_faults ≡ (story o.disk).read_faults)) → IfOk r (λ b. (story o.disk).moment ≤ (story b.disk).moment)
+      → (o.last_run ≡ most_runs → r ≡ Err (open_error.RunsFull, o.disk)) → IfOk r (HasBegun story old)
+  has_begun (Ok b) run applies free place long held keeps filed told quiet later full =
+      begun_from b run applies free place.1 long held keeps filed told quiet later
+      (⊎_elim (λ lt. lt) (λ ge. absurd (let few = runs_few is.bodies known is.reads.records in let last : o.last_run ≡ most_runs = omega (arith, ge, few, is.run) in let never : Ok b ≡ Err (open_error.RunsFull, o.disk) = full last in cc never)) (cases_lt o.last_run most_runs))
+  has_begun (Err e) run applies free place long held keeps filed told quiet later full = tt
+
+  pub reason_from : (r : Result (Begun D) (OpenError × D)) → IfErr r (λ e. HasReason (story o.disk) (story e.1) e.0) → IfErr r (λ e. HasReason old (story e.1) e.0)
+  reason_from (Ok b) reason = tt
+  reason_from (Err e) reason = reason_before old (story o.disk) still (story e.1) e.0 faults reads reason
+
+  pub keeps_from : (r : Result (Begun D) (OpenError × D)) → IfErr r (λ e. Keeps (story o.disk) (story e.1)) → IfErr r (λ e. Keeps old (story e.1))
+  keeps_from (Ok b) keeps = tt
+  keeps_from (Err e) keeps = keeps_before old (story o.disk) still (story e.1) keeps

@@ -1,0 +1,64 @@
+use Rattle.std.proofs.Common.{◌≡◌, [], length, true, false, not, refl, sym, ◌∙◌, ap, subst, arith, Bool}
+use Rattle.mesa_model.specs.declared.commands.Script.{Script}
+use Rattle.mesa_passes.specs.Passes.{turns_of}
+use Rattle.mesa_skeleton.specs.Rows.{no_rows}
+use Rattle.mesa_core.specs.Vault.{Stand}
+use Rattle.mesa_walk.specs.Walk.{AllFound}
+use Rattle.mesa_catalog.specs.declared.begun.Begun.{Begun}
+use Rattle.mesa_ending.specs.Run.{RanAnyhow, outset_from}
+use Rattle.mesa_ending.specs.declared.done.Devices.{Devices}
+use Rattle.mesa_ending.proofs.Small.{session_small}
+use Rattle.mesa_shell.proofs.Parts.{benches_counted, fits_room, ran_anyhow, refilled}
+use Rattle.mesa_shell.proofs.running.run_named.Goals as goal
+
+-- ---- the vault is put into its lock
+
+pub serve-requires-clause-few : goal.serve-requires-clause-few
+serve-requires-clause-few g c lives bounds = (c.requires.small.some, c.requires.small.few)
+
+pub serve-requires-clause-commands : goal.serve-requires-clause-commands
+serve-requires-clause-commands g c lives bounds s = let most = session_small g.N.Naming.script s in omega (arith, most, c.requires.small.commands)
+
+pub serve-requires-clause-empty : goal.serve-requires-clause-empty
+serve-requires-clause-empty g c lives bounds = ap (λ (s : Stand). s.shown.history) c.in-Ok.ensures.started
+
+pub serve-requires-clause-room : goal.serve-requires-clause-room
+serve-requires-clause-room g c lives bounds = fits_room _ _ _ _ (c.turns_of-room.ensures ∙ ap (λ (s : Script). turns_of s.sessions) c.requires.script) c.requires.room c.requires.few (omega arith)
+
+-- ---- no memory was there
+
+pub returns-in-Err-clause-kept : goal.returns-in-Err-clause-kept
+returns-in-Err-clause-kept g c w sound =
+    let N = g.N.Naming in
+    let same : c.unbegun.result.disk ≡ c.args.begun.disk = ap (λ (d : Devices _ _ _). d.disk) c.unbegun.ensures ∙ ap (λ (b : Begun _). b.disk) c.in-Err.ensures.given_back.0 in
+    subst (λ d. AllFound (outset_from N.script (N.start w) N.since N.counted N.at_start) [] (g.D.Disk.story d)) (sym same) ((c.requires.begun w true (λ is. sound)).found refl)
+
+pub returns-in-Err-serve-clause-memory : goal.returns-in-Err-serve-clause-memory
+returns-in-Err-serve-clause-memory g c =
+    let started = c.in-Err-serve.ensures.none ∙ c.in-Ok.ensures.started in
+    let none = c.stop-disk-in-Err-serve.ensures.history ∙ ap (λ (s : Stand). s.shown.history) started in
+    let begun = c.requires.begun no_rows false (λ is. absurd cc) in
+    let lent = c.deref_mut.ensures.value in (
+      c.stop-disk-in-Err-serve.ensures.first none ∙ sym begun.sink,
+      c.stop-disk-in-Err-serve.ensures.whole (ap (λ (s : Stand). s.shown.running) started) ∙ sym c.requires.faults,
+      refilled c.args.benches.len c.args.benches.items c.serve.new.benches c.args.benches.ok.0 (c.serve.auto.benches ∙ ap length lent) ∙ c.in-Err-serve.ensures.untouched ∙ lent,
+    )
+
+-- ---- the run
+
+pub returns-in-Ok-serve-clause-anyhow : goal.returns-in-Ok-serve-clause-anyhow
+returns-in-Ok-serve-clause-anyhow g c w =
+    let N = g.N.Naming in
+    let s = c.stop-disk.ensures in
+    let v = c.in-Ok-serve.vault.shown in
+    let h = c.stop-disk.result.2.items in
+    let story = g.D.Disk.story c.stop-disk.result.0 in
+    subst (λ (running : Bool). RanAnyhow N.script (N.start w) h (not running) N.since N.counted story) (sym c.running-failed.ensures.running)
+    (ran_anyhow N.script (N.start no_rows) (N.start w) (N.alike w) v.history h s.history v.running N.since N.counted story c.in-Ok-serve.ensures.legal s.since s.until (s.counts w))
+
+pub returns-in-Ok-serve-clause-benches : goal.returns-in-Ok-serve-clause-benches
+returns-in-Ok-serve-clause-benches g c w =
+    let N = g.N.Naming in
+    let s = c.stop-disk.ensures in
+    benches_counted g.B.Bench.faults (g.D.Disk.story c.stop-disk.result.0) N.script (N.start no_rows) (N.start w) (N.alike w) c.in-Ok-serve.vault.shown.history c.stop-disk.result.2.items s.history s.until
+    c.args.benches.len c.args.benches.items c.deref_mut.result.now c.serve.new.benches c.args.benches.ok.0 c.deref_mut.ensures.value c.serve.auto.benches c.in-Ok-serve.ensures.counted

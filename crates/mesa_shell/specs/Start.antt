@@ -1,0 +1,10 @@
+-- What a run over a store finds when it begins.
+use Rattle.mesa_skeleton.specs.Rows.{Rows}
+use Rattle.mesa_image.specs.Catalog.{Catalog, stock_at}
+use Rattle.mesa_image_laws.specs.Sourced.{found_written}
+use Rattle.mesa_catalog.specs.Lookups.{generation_of}
+use Rattle.mesa_ledger.specs.Vault.{Origin}
+
+-- what a run finds written of each table of a catalogue, and how often its tables, views and columns had changed
+abbrev pub origin_of : Catalog → Rows → Origin
+origin_of c rows = record { found = λ number. found_written rows (stock_at c number); generation = generation_of c }
