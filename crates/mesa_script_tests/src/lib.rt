@@ -1,4 +1,5 @@
-//! Scripts that are read, and replies and pages that are printed, against texts written by hand.
+//! Scripts that are read and a generated one, words that the program is called with, and replies and
+//! pages that are printed, against texts written by hand.
 #![tactic(auto)]
 
 #[cfg(test)]
@@ -9,3 +10,5 @@ mod pages;
 mod scripts;
 #[cfg(test)]
 mod texts;
+#[cfg(test)]
+mod words;
