@@ -1,5 +1,5 @@
 // Changes of schemas.
-use crate::cases::{Case, run_all};
+use crate::trial::{Case, run_all};
 use std::test::Fail;
 
 static CASES: [Case; 4] = [

@@ -2,8 +2,6 @@
 #![tactic(auto)]
 
 #[cfg(test)]
-mod cases;
-#[cfg(test)]
 mod changes;
 #[cfg(test)]
 mod limits;
@@ -17,5 +15,7 @@ mod rows;
 mod scripts;
 #[cfg(test)]
 mod statuses;
+#[cfg(test)]
+mod trial;
 #[cfg(test)]
 mod works;

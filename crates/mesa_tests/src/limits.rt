@@ -1,5 +1,5 @@
 // Limits, and the refusals at them.
-use crate::cases::{Case, expect, push_line, run_all};
+use crate::trial::{Case, expect, push_line, run_all};
 use std::alloc::{AllocError, Global};
 use std::test::Fail;
 

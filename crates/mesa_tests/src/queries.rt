@@ -1,5 +1,5 @@
 // Pages, pins, views whose files are made later, and files of several blocks.
-use crate::cases::{Case, expect, push_line, run_all};
+use crate::trial::{Case, expect, push_line, run_all};
 use std::alloc::{AllocError, Global};
 use std::test::Fail;
 

@@ -1,6 +1,5 @@
 // Records as spreadsheets and other programs write them.
-use crate::cases::{expect, expect_trial};
-use mesa_trial::{Call, OpenGate, benches, call_program, empty_disk};
+use crate::trial::{Call, call_program, expect};
 use std::alloc::Global;
 use std::process::Abort;
 use std::sync::Wait;
@@ -36,14 +35,12 @@ static NO_UTF8: Call<'static> = Call {
 };
 
 fn run_no_utf8<R: Abort + Threads + Wait + Sync>(rt: &R, alloc: Global) -> Result<(), Fail> {
-    let benches = benches(alloc, &[])?;
-    assert!(rt; benches.len() == 8);
-    let trial = call_program(rt, alloc, &NO_UTF8, empty_disk(alloc), benches, &OpenGate)?;
+    let trial = call_program(rt, alloc, &NO_UTF8)?;
     let text = "0.1@0 table t\n\
          0.2@2 refused bad_row row=1 column=1\n\
          0.3@3 refused no_table\n\
          0.4@4 refused future asked=latest newest=none\n";
-    expect_trial(rt, &trial, "no utf8", 1, text);
+    trial.expect(rt, "no utf8", 1, text);
     Ok(())
 }
 

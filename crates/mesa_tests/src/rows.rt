@@ -1,5 +1,5 @@
 // Scripts of tables, views, loads, queries and expiries.
-use crate::cases::{Case, run_all};
+use crate::trial::{Case, run_all};
 use std::test::Fail;
 
 static CASES: [Case; 11] = [

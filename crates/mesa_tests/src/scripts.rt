@@ -1,7 +1,5 @@
 // Scripts that are refused.
-use crate::cases::expect_trial;
-use mesa_disk::{Area, Disk};
-use mesa_trial::{empty_disk, run};
+use crate::trial::run;
 use std::alloc::Global;
 use std::process::Abort;
 use std::sync::Wait;
@@ -46,14 +44,9 @@ fn expect_refusal<R: Abort + Threads + Wait + Sync>(
 ) -> Result<(), Fail> {
     let (script, place, reason) = *refusal;
     let line = format!(in alloc; "mesa: script place={place} reason={reason}\n")?;
-    let trial = run(rt, alloc, script, empty_disk(alloc))?;
-    expect_trial(rt, &trial, script, 3, line.as_str());
-    assert_eq!(rt; trial.history.len(), 0, "the turns of {script}");
-    assert_eq!(rt;
-        trial.disk.journal_len(Area::Zero),
-        0,
-        "the journal of {script}"
-    );
+    let trial = run(rt, alloc, script)?;
+    trial.expect(rt, script, 3, line.as_str());
+    assert_eq!(rt; trial.turns, 0, "the turns of {script}");
     Ok(())
 }
 

@@ -1,6 +1,5 @@
 // How calls end that run nothing, or whose streams fail.
-use crate::cases::expect_trial;
-use mesa_trial::{Call, OpenGate, benches, call_program, empty_disk};
+use crate::trial::{Call, call_program};
 use std::alloc::{AllocError, Global};
 use std::process::Abort;
 use std::sync::Wait;
@@ -90,22 +89,9 @@ fn expect_ending<R: Abort + Threads + Wait + Sync>(
     alloc: Global,
     ending: &Ending,
 ) -> Result<(), Fail> {
-    let benches = benches(alloc, &[])?;
-    let trial = call_program(
-        rt,
-        alloc,
-        &ending.call,
-        empty_disk(alloc),
-        benches,
-        &OpenGate,
-    )?;
-    expect_trial(rt, &trial, ending.name, ending.status, ending.text);
-    assert_eq!(rt;
-        trial.history.len(),
-        ending.turns,
-        "the turns of {}",
-        ending.name
-    );
+    let trial = call_program(rt, alloc, &ending.call)?;
+    trial.expect(rt, ending.name, ending.status, ending.text);
+    assert_eq!(rt; trial.turns, ending.turns, "the turns of {}", ending.name);
     Ok(())
 }
 
@@ -138,15 +124,9 @@ fn expect_too_long<R: Abort + Threads + Wait + Sync>(
         source_fails: &[],
         sink_fails: &[],
     };
-    let benches = benches(alloc, &[])?;
-    let trial = call_program(rt, alloc, &given, empty_disk(alloc), benches, &OpenGate)?;
-    expect_trial(
-        rt,
-        &trial,
-        "input too long",
-        9,
-        "mesa: input over 67108864 bytes\n",
-    );
+    let trial = call_program(rt, alloc, &given)?;
+    let text = "mesa: input over 67108864 bytes\n";
+    trial.expect(rt, "input too long", 9, text);
     Ok(())
 }
 

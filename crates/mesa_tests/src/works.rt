@@ -1,5 +1,5 @@
 // Works: their leases, what they swap in, and what plans read afterwards.
-use crate::cases::{Case, expect, push_line, run_all};
+use crate::trial::{Case, expect, push_line, run_all};
 use std::alloc::{AllocError, Global};
 use std::test::Fail;
 

@@ -1,5 +1,5 @@
 use Rattle.std.proofs.Common.{◌≡◌, length}
-use Rattle.mesa_trial.proofs.bench.benches.Given as goal
+use Rattle.mesa_tests.proofs.trial.benches.Given as goal
 
 -- as many benches as were counted
 abbrev pub invariant-benches : goal.invariant-benches
