@@ -67,6 +67,7 @@ fn join_next<'s, N: Naming + Send, M: Made, D: Disk<M>, K: Sink + Send>(
     ensures lock { result.lock ≡ rest.lock }
     ensures ended { HaveEnded N.script (N.start no_rows) result next }
     ensures joins { Joins rest mine result }
+    ensures rest { HaveEnded N.script (N.start no_rows) rest (next + 1) }
 {
     lock.join(rest, mine)
 }
