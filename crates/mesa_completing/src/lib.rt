@@ -1,4 +1,4 @@
-//! A work's last turn: its range is swapped in, or it is told why it isn't.
+//! A work's last turn: its range is swapped in, or it is told why it isn't. Passes on the turns of the crates below, so that who has the last turn has all of them.
 #![tactic(auto)]
 
 mod checking;
@@ -7,4 +7,7 @@ mod readying;
 mod unmerged;
 
 pub use completing::complete;
+pub use mesa_asking::{close_query, pin_query};
+pub use mesa_works::{grant, renew};
+pub use mesa_writing::{alter, expire, publish, table, view};
 pub use unmerged::give_up;

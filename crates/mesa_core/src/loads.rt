@@ -22,7 +22,7 @@ use mesa_log::Who;
 use mesa_model::Reply;
 use mesa_quiet::look;
 use mesa_tasks::{LoadError, Prepared};
-use mesa_writing::publish;
+use mesa_completing::publish;
 use std::alloc::AllocError;
 
 impl<'s, N: Naming, M: Made, D: Disk<M>, K: Sink> Vault<'s, N, M, D, K> {

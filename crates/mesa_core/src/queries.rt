@@ -11,7 +11,7 @@ ghost use Rattle.mesa_walk.specs.Walk.{run_at};
 
 use crate::Vault;
 use crate::asked::words_of;
-use mesa_asking::{close_query, pin_query};
+use mesa_completing::{close_query, pin_query};
 use mesa_delta::FileError;
 use mesa_disk::{Disk, Made};
 use mesa_io::Sink;

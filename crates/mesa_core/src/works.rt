@@ -15,7 +15,7 @@ ghost use Rattle.mesa_walk.specs.Works.{closing_stage, stage_if};
 use crate::Vault;
 use crate::asked::name_of;
 use crate::standing::{allocator, catalogue};
-use mesa_completing::{complete, give_up};
+use mesa_completing::{complete, give_up, grant, renew};
 use mesa_disk::{Disk, Made};
 use mesa_granted::{bounds_are_known, merges_are_known, ranges_go_on, tables_go_on};
 use mesa_io::Sink;
@@ -23,7 +23,6 @@ use mesa_ledger::Naming;
 use mesa_log::Who;
 use mesa_model::Reply;
 use mesa_tasks::{CompactError, NewDelta, Task};
-use mesa_works::{grant, renew};
 
 impl<'s, N: Naming, M: Made, D: Disk<M>, K: Sink> Vault<'s, N, M, D, K> {
     /// A work's first turn: the files that are to be merged. They have to come back by `renew` or `complete`.

@@ -10,7 +10,13 @@ ghost use Rattle.mesa_passes.specs.Passes.{HasSort, Mine, Took, at_stage};
 
 use crate::gate::{Gate, Point};
 use crate::outside::{answered, merged};
+use crate::preparing::{ids_of, prepared_first};
+use crate::turns::{
+    close_turn, complete_turn, grant_turn, look_turn, pin_turn, publish_turn, renew_turn,
+    simple_turn,
+};
 use mesa_batch::LoadRows;
+use mesa_core::Vault;
 use mesa_disk::{Bench, Disk, Made};
 use mesa_io::Sink;
 use mesa_ledger::Naming;
@@ -18,10 +24,6 @@ use mesa_log::Who;
 use mesa_model::Command;
 use mesa_tasks::Serials;
 use mesa_turn::{Pass, TurnLock};
-use mesa_turning::{
-    Vault, close_turn, complete_turn, grant_turn, ids_of, look_turn, pin_turn, prepared_first,
-    publish_turn, renew_turn, simple_turn,
-};
 use std::alloc::Global;
 use std::sync::Wait;
 use std::thread::Threads;

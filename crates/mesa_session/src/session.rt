@@ -7,6 +7,7 @@ ghost use Rattle.mesa_passes.specs.Passes.{Gains, HasEnded, Mine, Took, at_stage
 
 use crate::commands::run_command;
 use crate::gate::{Gate, Point};
+use mesa_core::Vault;
 use mesa_disk::{Bench, Disk, Made};
 use mesa_io::Sink;
 use mesa_ledger::Naming;
@@ -14,7 +15,6 @@ use mesa_log::Who;
 use mesa_model::{Command, Script};
 use mesa_tasks::Serials;
 use mesa_turn::{Pass, TurnLock};
-use mesa_turning::Vault;
 use std::alloc::Global;
 use std::sync::Wait;
 use std::thread::Threads;

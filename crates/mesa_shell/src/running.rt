@@ -16,14 +16,13 @@ ghost use Rattle.mesa_ending.specs.Start.{AreTold};
 ghost use Rattle.mesa_shell.specs.Begun.{IsReadyToRun};
 ghost use Rattle.mesa_shell.specs.Ran.{HasNotRun, RanFrom};
 
-use mesa_core::{Vault, turns_of};
 use mesa_disk::{Bench, Disk, Made};
 use mesa_ending::Devices;
 use mesa_io::Sink;
 use mesa_ledger::Naming;
 use mesa_model::{Entry, Script};
 use mesa_recover::Begun;
-use mesa_serving::{Gate, serve};
+use mesa_sessions::{Gate, Vault, serve, turns_of};
 use std::alloc::{AllocError, Global};
 use std::marker::Brand;
 use std::sync::Wait;

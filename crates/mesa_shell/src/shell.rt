@@ -17,7 +17,7 @@ use mesa_io::{ReadError, Sink, Source, read_all};
 use mesa_model::Script;
 use mesa_parse::parse;
 use mesa_script::ScriptError;
-use mesa_serving::Gate;
+use mesa_sessions::Gate;
 use mesa_telling::{ended, ended_opening, ended_refused, lacks_memory, statuses};
 use std::alloc::Global;
 use std::sync::Wait;

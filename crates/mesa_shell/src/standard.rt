@@ -8,7 +8,7 @@ use crate::shell::mesa;
 use mesa_dir::{DirBench, DirDisk};
 use mesa_ending::Done;
 use mesa_io::{SinkFailed, StdSink, StdSource};
-use mesa_serving::OpenGate;
+use mesa_sessions::OpenGate;
 use mesa_telling::statuses;
 use std::alloc::{AllocError, Global};
 use std::env;

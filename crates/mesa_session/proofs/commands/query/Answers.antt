@@ -1,6 +1,6 @@
 use Rattle.std.proofs.Common.{arith, sym, subst}
 use Rattle.std.specs.Prelude.{IfOk}
-use Rattle.mesa_turning.specs.Handed.{Tells}
+use Rattle.mesa_core.specs.Handing.{Tells}
 use Rattle.mesa_model.specs.Entry.{history_of}
 use Rattle.mesa_skeleton.specs.Rows.{no_rows}
 use Rattle.mesa_passes.proofs.Answering.{answers_both}

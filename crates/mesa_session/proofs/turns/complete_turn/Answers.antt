@@ -1,0 +1,103 @@
+use Rattle.std.proofs.Common.{refl, ◌≡◌, not, ap, ◌∙◌, sym}
+use Rattle.std.specs.Prelude.{Err, is_ok}
+use Rattle.mesa_core.specs.Vault.{Stand}
+use Rattle.mesa_model.specs.Entry.{numbers_of}
+use Rattle.mesa_core.specs.Handing.{IsGranted}
+use Rattle.mesa_history.specs.Legal.{is_work}
+use Rattle.mesa_history.specs.Run.{Finished}
+use Rattle.mesa_model.specs.declared.entries.Kind.TheVariants as kind
+use Rattle.mesa_skeleton.specs.Rows.{no_rows}
+use Rattle.mesa_walk.specs.Works.{closing_stage}
+use Rattle.mesa_passes.proofs.Answering.{step_drafts}
+use Rattle.mesa_passes.proofs.Turning.{Step, step_took}
+use Rattle.mesa_tasks.specs.declared.merging.CompactError.TheVariants as compact
+use Rattle.mesa_service.specs.Drafts.{owed_by_work}
+use Rattle.mesa_tasks.specs.Tasks.{claim_in}
+use Rattle.mesa_session.proofs.Prepared.{owed_merged}
+use Rattle.mesa_session.proofs.Found.{granted_found}
+use Rattle.mesa_session.proofs.Stepping.{Enters, asks, finds_numbers, goes_on, one, room_for, step}
+use Rattle.mesa_session.proofs.turns.complete_turn.Goals as goal
+
+pub complete-reply-requires-clause-due : goal.complete-reply-requires-clause-due
+complete-reply-requires-clause-due g c κs within =
+    let e : Enters g.N.Naming.script (g.N.Naming.start no_rows) c.args.pass c.args.who.session _ _ c.value-vault.result.now.shown = record {
+      few = c.requires.few;
+      holds = c.requires.mine.holds;
+      room = c.requires.room.0;
+      ticket = _;
+      finds = c.enter-held.ensures.finds;
+      exact = c.enter-held.ensures.exact;
+      took = c.enter-held.ensures.pass;
+      numbers = ap (λ (v : Stand). numbers_of v.shown.history) (sym c.value-vault.ensures.value);
+      seen = c.running-ran.ensures.seen;
+    } in
+    asks e c.args.who.command (closing_stage (not (is_ok c.args.merged)) (claim_in c.args.task)) is_work c.requires.mine c.requires.sort
+
+pub complete-reply-requires-clause-room : goal.complete-reply-requires-clause-room
+complete-reply-requires-clause-room g c κs within =
+    let e : Enters g.N.Naming.script (g.N.Naming.start no_rows) c.args.pass c.args.who.session _ _ c.value-vault.result.now.shown = record {
+      few = c.requires.few;
+      holds = c.requires.mine.holds;
+      room = c.requires.room.0;
+      ticket = _;
+      finds = c.enter-held.ensures.finds;
+      exact = c.enter-held.ensures.exact;
+      took = c.enter-held.ensures.pass;
+      numbers = ap (λ (v : Stand). numbers_of v.shown.history) (sym c.value-vault.ensures.value);
+      seen = c.running-ran.ensures.seen;
+    } in
+    room_for e g.N.Naming.room c.requires.room.1
+
+pub leave-requires-clause-one : goal.leave-requires-clause-one
+leave-requires-clause-one g c κs within =
+    let e : Enters g.N.Naming.script (g.N.Naming.start no_rows) c.args.pass c.args.who.session _ _ c.value-vault.result.now.shown = record {
+      few = c.requires.few;
+      holds = c.requires.mine.holds;
+      room = c.requires.room.0;
+      ticket = _;
+      finds = c.enter-held.ensures.finds;
+      exact = c.enter-held.ensures.exact;
+      took = c.enter-held.ensures.pass;
+      numbers = ap (λ (v : Stand). numbers_of v.shown.history) (sym c.value-vault.ensures.value);
+      seen = c.running-ran.ensures.seen;
+    } in
+    one e c.args.who.command kind.Close c.complete-reply.new.self.shown _ refl c.complete-reply.ensures.turn.turn c.complete-reply.ensures.turn.seen
+
+whole : (g : _) (c : goal.Joined-reply g) → Step g.N.Naming.script (g.N.Naming.start no_rows) c.args.pass c.leave.result c.value-vault.result.now.shown c.complete-reply.new.self.shown c.args.who.session c.args.who.command kind.Close
+whole g c =
+    let e : Enters g.N.Naming.script (g.N.Naming.start no_rows) c.args.pass c.args.who.session _ _ c.value-vault.result.now.shown = record {
+      few = c.requires.few;
+      holds = c.requires.mine.holds;
+      room = c.requires.room.0;
+      ticket = _;
+      finds = c.enter-held.ensures.finds;
+      exact = c.enter-held.ensures.exact;
+      took = c.enter-held.ensures.pass;
+      numbers = ap (λ (v : Stand). numbers_of v.shown.history) (sym c.value-vault.ensures.value);
+      seen = c.running-ran.ensures.seen;
+    } in
+    step e c.args.who.command kind.Close c.complete-reply.new.self.shown _ refl c.complete-reply.ensures.turn.turn c.complete-reply.ensures.turn.seen c.leave.result c.leave.ensures.pass c.leave.ensures.exact
+
+pub returns-clause-took : goal.returns-clause-took
+returns-clause-took g c = step_took (whole g c)
+
+pub returns-clause-mine : goal.returns-clause-mine
+returns-clause-mine g c = goes_on (whole g c) Finished c.running-ran.result c.complete-reply.ensures.turn c.running-ran.ensures.running
+
+pub complete-reply-requires-clause-granted : goal.complete-reply-requires-clause-granted
+complete-reply-requires-clause-granted g c κs within =
+    let e : Enters g.N.Naming.script (g.N.Naming.start no_rows) c.args.pass c.args.who.session _ _ c.value-vault.result.now.shown = record {
+      few = c.requires.few;
+      holds = c.requires.mine.holds;
+      room = c.requires.room.0;
+      ticket = _;
+      finds = c.enter-held.ensures.finds;
+      exact = c.enter-held.ensures.exact;
+      took = c.enter-held.ensures.pass;
+      numbers = ap (λ (v : Stand). numbers_of v.shown.history) (sym c.value-vault.ensures.value);
+      seen = c.running-ran.ensures.seen;
+    } in
+    granted_found c.args.pass _ c.value-vault.result.now.shown.history (finds_numbers e) e.seen.short (IsGranted g.D.Reader.FileReader.bytes g.N.Naming.script g.N.Naming.start g.N.Naming.origin g.N.Naming.sound) _ c.requires.granted
+
+pub returns-clause-answers : goal.returns-clause-answers
+returns-clause-answers g c = step_drafts (whole g c) (c.args.merged ≡ Err compact.Draft) (owed_by_work c.args.merged) c.complete-reply.ensures.draft (owed_merged c.args.merged)

@@ -1,0 +1,80 @@
+use Rattle.std.proofs.Common.{refl, ap, ◌∙◌, sym}
+use Rattle.mesa_core.specs.Vault.{Stand}
+use Rattle.mesa_model.specs.Entry.{numbers_of}
+use Rattle.mesa_history.specs.Run.{First, Finished}
+use Rattle.mesa_model.specs.declared.entries.Kind.TheVariants as kind
+use Rattle.mesa_skeleton.specs.Rows.{no_rows}
+use Rattle.mesa_walk.specs.Turns.{is_simple}
+use Rattle.mesa_passes.proofs.Answering.{none_simple, step_none}
+use Rattle.mesa_passes.proofs.Turning.{Step, step_took}
+use Rattle.mesa_session.proofs.Stepping.{Enters, asks, goes_on, one, room_for, step}
+use Rattle.mesa_session.proofs.turns.simple_turn.Goals as goal
+
+pub simple-reply-requires-clause-due : goal.simple-reply-requires-clause-due
+simple-reply-requires-clause-due g c κs within =
+    let e : Enters g.N.Naming.script (g.N.Naming.start no_rows) c.args.pass c.args.who.session _ _ c.value-vault.result.now.shown = record {
+      few = c.requires.few;
+      holds = c.requires.mine.holds;
+      room = c.requires.room.0;
+      ticket = _;
+      finds = c.enter-held.ensures.finds;
+      exact = c.enter-held.ensures.exact;
+      took = c.enter-held.ensures.pass;
+      numbers = ap (λ (v : Stand). numbers_of v.shown.history) (sym c.value-vault.ensures.value);
+      seen = c.running-ran.ensures.seen;
+    } in
+    asks e c.args.who.command First is_simple c.requires.mine c.requires.sort
+
+pub simple-reply-requires-clause-room : goal.simple-reply-requires-clause-room
+simple-reply-requires-clause-room g c κs within =
+    let e : Enters g.N.Naming.script (g.N.Naming.start no_rows) c.args.pass c.args.who.session _ _ c.value-vault.result.now.shown = record {
+      few = c.requires.few;
+      holds = c.requires.mine.holds;
+      room = c.requires.room.0;
+      ticket = _;
+      finds = c.enter-held.ensures.finds;
+      exact = c.enter-held.ensures.exact;
+      took = c.enter-held.ensures.pass;
+      numbers = ap (λ (v : Stand). numbers_of v.shown.history) (sym c.value-vault.ensures.value);
+      seen = c.running-ran.ensures.seen;
+    } in
+    room_for e g.N.Naming.room c.requires.room.1
+
+pub leave-requires-clause-one : goal.leave-requires-clause-one
+leave-requires-clause-one g c κs within =
+    let e : Enters g.N.Naming.script (g.N.Naming.start no_rows) c.args.pass c.args.who.session _ _ c.value-vault.result.now.shown = record {
+      few = c.requires.few;
+      holds = c.requires.mine.holds;
+      room = c.requires.room.0;
+      ticket = _;
+      finds = c.enter-held.ensures.finds;
+      exact = c.enter-held.ensures.exact;
+      took = c.enter-held.ensures.pass;
+      numbers = ap (λ (v : Stand). numbers_of v.shown.history) (sym c.value-vault.ensures.value);
+      seen = c.running-ran.ensures.seen;
+    } in
+    one e c.args.who.command kind.Decide c.simple-reply.new.self.shown _ refl c.simple-reply.ensures.turn.turn c.simple-reply.ensures.turn.seen
+
+whole : (g : _) (c : goal.Joined-reply g) → Step g.N.Naming.script (g.N.Naming.start no_rows) c.args.pass c.leave.result c.value-vault.result.now.shown c.simple-reply.new.self.shown c.args.who.session c.args.who.command kind.Decide
+whole g c =
+    let e : Enters g.N.Naming.script (g.N.Naming.start no_rows) c.args.pass c.args.who.session _ _ c.value-vault.result.now.shown = record {
+      few = c.requires.few;
+      holds = c.requires.mine.holds;
+      room = c.requires.room.0;
+      ticket = _;
+      finds = c.enter-held.ensures.finds;
+      exact = c.enter-held.ensures.exact;
+      took = c.enter-held.ensures.pass;
+      numbers = ap (λ (v : Stand). numbers_of v.shown.history) (sym c.value-vault.ensures.value);
+      seen = c.running-ran.ensures.seen;
+    } in
+    step e c.args.who.command kind.Decide c.simple-reply.new.self.shown _ refl c.simple-reply.ensures.turn.turn c.simple-reply.ensures.turn.seen c.leave.result c.leave.ensures.pass c.leave.ensures.exact
+
+pub returns-clause-took : goal.returns-clause-took
+returns-clause-took g c = step_took (whole g c)
+
+pub returns-clause-mine : goal.returns-clause-mine
+returns-clause-mine g c = goes_on (whole g c) Finished c.running-ran.result c.simple-reply.ensures.turn c.running-ran.ensures.running
+
+pub returns-clause-answers : goal.returns-clause-answers
+returns-clause-answers g c = step_none (whole g c) c.requires.sort.asked c.requires.sort.known (none_simple c.requires.sort.asked kind.Decide c.requires.sort.is)

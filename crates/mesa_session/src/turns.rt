@@ -1,0 +1,259 @@
+// One turn of each sort.
+ghost use Rattle.std.specs.Prelude.{◌≡◌, ◌<◌, ◌≤◌, ◌^◌, not, true, IfOk, IfErr, OnOk, Some, is_ok, length};
+ghost use Rattle.mesa_history.specs.Legal.{is_query, is_work};
+ghost use Rattle.mesa_history.specs.Run.{First, Looked, Granted, Renewed, Finished, command_at};
+ghost use Rattle.mesa_history.specs.Turns.{place_then};
+ghost use Rattle.mesa_model.specs.declared.commands.Command.TheVariants as command;
+ghost use Rattle.mesa_model.specs.Entry.{history_of};
+ghost use Rattle.mesa_core.specs.Handing.{IsGranted, Tells};
+ghost use Rattle.mesa_skeleton.specs.Rows.{no_rows};
+ghost use Rattle.mesa_walk.specs.Turns.{is_load, is_simple};
+ghost use Rattle.mesa_walk.specs.Works.{closing_stage, stage_if};
+ghost use Rattle.mesa_passes.specs.Answers.{Answers};
+ghost use Rattle.mesa_passes.specs.Passes.{HasSort, Holds, Mine, Took, at_stage};
+ghost use Rattle.mesa_service.specs.Drafts.{owed_by_load, owed_by_work};
+ghost use Rattle.mesa_service.specs.Pins.{CanBeAnswered, HasAnswered, IsOpenQuery, known_pin};
+ghost use Rattle.mesa_service.specs.Sight.{sight_after};
+ghost use Rattle.mesa_service.specs.Works.{CanBeMerged, HasMerged, WasGranted, known_task};
+ghost use Rattle.mesa_tasks.specs.Tasks.{claim_in};
+ghost use Rattle.mesa_session.specs.Loads.{StaysPrepared};
+
+use crate::preparing::prepared_now;
+use mesa_batch::{Glance, LoadRows};
+use mesa_core::Vault;
+use mesa_delta::FileError;
+use mesa_disk::{Bench, Disk, Made};
+use mesa_io::Sink;
+use mesa_ledger::Naming;
+use mesa_log::Who;
+use mesa_model::Reply;
+use mesa_script::Rendered;
+use mesa_tasks::{CompactError, LoadError, NewDelta, Pinned, Prepared, Serials, Task};
+use mesa_turn::{Pass, TurnLock};
+use std::alloc::{AllocError, Global};
+use std::sync::Wait;
+use std::thread::Threads;
+
+// Of each turn the second result is whether the sink had not failed before it.
+
+/// A load's look.
+pub fn look_turn<'s, N: Naming + Send, M: Made, D: Disk<M>, K: Sink + Send, R: Wait>(
+    rt: &R,
+    lock: &TurnLock<Vault<'s, N, M, D, K>>,
+    pass: Pass,
+    who: Who,
+) -> (Pass, bool, u32, Result<Glance, AllocError>)
+    requires lock { pass.lock ≡ lock.now }
+    requires few { length N.script.sessions ≤ 8 }
+    requires room { (0 < pass.room) × (pass.limit ≤ N.room) }
+    requires mine { Mine N.script (N.start no_rows) pass who.session (at_stage who.command First) }
+    requires sort { HasSort N.script who.session who.command is_load }
+    ensures took { Took who.session pass result.0 1 }
+    ensures mine { Mine N.script (N.start no_rows) result.0 who.session (place_then (not result.1) who.command Looked) }
+    ensures run { result.2 < 2 ^ 24 }
+    ensures glance { IfOk result.3 (λ g. g ≡ sight_after N.script (N.start no_rows) (N.origin no_rows).generation (history_of result.0.seen)) }
+    ensures answers { Answers N.script (N.start no_rows) who.session pass result.0 0 0 0 }
+{
+    let mut held = lock.enter(rt, pass);
+    let vault = held.value();
+    let ran = vault.running();
+    let run = vault.run();
+    let glance = vault.look(who);
+    (lock.leave(held), ran, run, glance)
+}
+
+/// The one turn of a command that is no load, no query and no work.
+pub fn simple_turn<'s, N: Naming + Send, M: Made, D: Disk<M>, K: Sink + Send, R: Wait>(
+    rt: &R,
+    lock: &TurnLock<Vault<'s, N, M, D, K>>,
+    pass: Pass,
+    who: Who,
+) -> (Pass, bool)
+    requires lock { pass.lock ≡ lock.now }
+    requires few { length N.script.sessions ≤ 8 }
+    requires room { (0 < pass.room) × (pass.limit ≤ N.room) }
+    requires mine { Mine N.script (N.start no_rows) pass who.session (at_stage who.command First) }
+    requires sort { HasSort N.script who.session who.command is_simple }
+    ensures took { Took who.session pass result.0 1 }
+    ensures mine { Mine N.script (N.start no_rows) result.0 who.session (place_then (not result.1) who.command Finished) }
+    ensures answers { Answers N.script (N.start no_rows) who.session pass result.0 0 0 0 }
+{
+    let mut held = lock.enter(rt, pass);
+    let vault = held.value();
+    let ran = vault.running();
+    let _reply = vault.simple(who);
+    (lock.leave(held), ran)
+}
+
+/// A load's deciding turn.
+pub fn publish_turn<
+    's,
+    N: Naming + Send,
+    M: Made,
+    D: Disk<M>,
+    K: Sink + Send,
+    R: Threads + Wait + Sync,
+    B: Bench<M>,
+>(
+    rt: &R,
+    alloc: Global,
+    lock: &TurnLock<Vault<'s, N, M, D, K>>,
+    pass: Pass,
+    who: Who,
+    rows: &LoadRows,
+    bench: &mut B,
+    ids: &mut Serials,
+    generation: u64,
+    made: Result<Prepared<M>, LoadError>,
+) -> (Pass, bool)
+    requires lock { pass.lock ≡ lock.now }
+    requires few { length N.script.sessions ≤ 8 }
+    requires room { (0 < pass.room) × (pass.limit ≤ N.room) }
+    requires mine { Mine N.script (N.start no_rows) pass who.session (at_stage who.command Looked) }
+    requires known { command_at N.script who.session who.command ≡ Some (command.Load rows.now) }
+    requires made { StaysPrepared M.bytes M.id_of (sight_after N.script (N.start no_rows) (N.origin no_rows).generation) (history_of pass.seen) generation rows.now made }
+    ensures took { Took who.session pass result.0 1 }
+    ensures mine { Mine N.script (N.start no_rows) result.0 who.session (place_then (not result.1) who.command Finished) }
+    ensures answers { Answers N.script (N.start no_rows) who.session pass result.0 (B.faults bench.old) (B.faults bench.new) (owed_by_load made) }
+{
+    let mut held = lock.enter(rt, pass);
+    let vault = held.value();
+    let ran = vault.running();
+    let made = prepared_now(rt, alloc, vault, bench, ids, generation, made, rows);
+    let _reply = vault.publish(who, made);
+    (lock.leave(held), ran)
+}
+
+/// A query's deciding turn.
+pub fn pin_turn<'s, N: Naming + Send, M: Made, D: Disk<M>, K: Sink + Send, R: Wait>(
+    rt: &R,
+    lock: &TurnLock<Vault<'s, N, M, D, K>>,
+    pass: Pass,
+    who: Who,
+) -> (Pass, bool, Result<Pinned<D::Reader>, Reply>)
+    requires lock { pass.lock ≡ lock.now }
+    requires few { length N.script.sessions ≤ 8 }
+    requires room { (0 < pass.room) × (pass.limit ≤ N.room) }
+    requires mine { Mine N.script (N.start no_rows) pass who.session (at_stage who.command First) }
+    requires sort { HasSort N.script who.session who.command is_query }
+    ensures took { Took who.session pass result.0 1 }
+    ensures holds { Holds N.script (N.start no_rows) result.0 who.session }
+    ensures open { IfOk result.2 (λ p. IsOpenQuery N.script N.start (history_of result.0.seen) who.session who.command p.at (λ past. Tells N.sound (known_pin D.Reader.bytes p)) × CanBeAnswered D.Reader.bytes p) }
+    ensures refused { IfErr result.2 (λ r. Mine N.script (N.start no_rows) result.0 who.session (place_then (not result.1) who.command Finished)) }
+    ensures answers { Answers N.script (N.start no_rows) who.session pass result.0 0 0 0 }
+{
+    let mut held = lock.enter(rt, pass);
+    let vault = held.value();
+    let ran = vault.running();
+    let pinned = vault.pin_query(who);
+    (lock.leave(held), ran, pinned)
+}
+
+/// A query's last turn.
+pub fn close_turn<'s, N: Naming + Send, M: Made, D: Disk<M>, K: Sink + Send, R: Wait>(
+    rt: &R,
+    lock: &TurnLock<Vault<'s, N, M, D, K>>,
+    pass: Pass,
+    who: Who,
+    pinned: Pinned<D::Reader>,
+    answer: Result<Rendered, FileError>,
+) -> (Pass, bool)
+    requires lock { pass.lock ≡ lock.now }
+    requires few { length N.script.sessions ≤ 8 }
+    requires room { (0 < pass.room) × (pass.limit ≤ N.room) }
+    requires holds { Holds N.script (N.start no_rows) pass who.session }
+    requires open { IsOpenQuery N.script N.start (history_of pass.seen) who.session who.command pinned.at (λ past. Tells N.sound (known_pin D.Reader.bytes pinned)) }
+    requires answer { HasAnswered D.Reader.bytes D.Reader.faults pinned answer }
+    ensures took { Took who.session pass result.0 1 }
+    ensures mine { Mine N.script (N.start no_rows) result.0 who.session (place_then (not result.1) who.command Finished) }
+    ensures answers { Answers N.script (N.start no_rows) who.session pass result.0 0 0 0 }
+{
+    let mut held = lock.enter(rt, pass);
+    let vault = held.value();
+    let ran = vault.running();
+    vault.close_query(who, pinned, answer);
+    (lock.leave(held), ran)
+}
+
+/// A work's first turn.
+pub fn grant_turn<'s, N: Naming + Send, M: Made, D: Disk<M>, K: Sink + Send, R: Wait>(
+    rt: &R,
+    lock: &TurnLock<Vault<'s, N, M, D, K>>,
+    pass: Pass,
+    who: Who,
+) -> (Pass, bool, u32, Result<Task<D::Reader>, Reply>)
+    requires lock { pass.lock ≡ lock.now }
+    requires few { length N.script.sessions ≤ 8 }
+    requires room { (0 < pass.room) × (pass.limit ≤ N.room) }
+    requires mine { Mine N.script (N.start no_rows) pass who.session (at_stage who.command First) }
+    requires sort { HasSort N.script who.session who.command is_work }
+    ensures took { Took who.session pass result.0 1 }
+    ensures mine { Mine N.script (N.start no_rows) result.0 who.session (place_then (not result.1) who.command (stage_if claim_in Granted result.3)) }
+    ensures ran { OnOk result.3 (result.1 ≡ true) }
+    ensures run { result.2 < 2 ^ 24 }
+    ensures task { IfOk result.3 (CanBeMerged D.Reader.bytes) }
+    ensures granted { IfOk result.3 (λ t. WasGranted (IsGranted D.Reader.bytes N.script N.start N.origin N.sound) (history_of result.0.seen) (known_task D.Reader.bytes t)) }
+    ensures answers { Answers N.script (N.start no_rows) who.session pass result.0 0 0 0 }
+{
+    let mut held = lock.enter(rt, pass);
+    let vault = held.value();
+    let ran = vault.running();
+    let run = vault.run();
+    let task = vault.grant(who);
+    (lock.leave(held), ran, run, task)
+}
+
+/// A work's turn once its files are merged.
+pub fn renew_turn<'s, N: Naming + Send, M: Made, D: Disk<M>, K: Sink + Send, R: Wait>(
+    rt: &R,
+    lock: &TurnLock<Vault<'s, N, M, D, K>>,
+    pass: Pass,
+    who: Who,
+    task: Task<D::Reader>,
+) -> (Pass, bool, Result<Task<D::Reader>, Reply>)
+    requires lock { pass.lock ≡ lock.now }
+    requires few { length N.script.sessions ≤ 8 }
+    requires room { (0 < pass.room) × (pass.limit ≤ N.room) }
+    requires mine { Mine N.script (N.start no_rows) pass who.session (at_stage who.command (Granted (claim_in task))) }
+    requires sort { HasSort N.script who.session who.command is_work }
+    requires granted { WasGranted (IsGranted D.Reader.bytes N.script N.start N.origin N.sound) (history_of pass.seen) (known_task D.Reader.bytes task) }
+    ensures took { Took who.session pass result.0 1 }
+    ensures mine { Mine N.script (N.start no_rows) result.0 who.session (place_then (not result.1) who.command (stage_if claim_in Renewed result.2)) }
+    ensures ran { OnOk result.2 (result.1 ≡ true) }
+    ensures same { IfOk result.2 (λ t. t ≡ task) }
+    ensures granted { WasGranted (IsGranted D.Reader.bytes N.script N.start N.origin N.sound) (history_of result.0.seen) (known_task D.Reader.bytes task) }
+    ensures answers { Answers N.script (N.start no_rows) who.session pass result.0 0 0 0 }
+{
+    let mut held = lock.enter(rt, pass);
+    let vault = held.value();
+    let ran = vault.running();
+    let renewed = vault.renew(who, task);
+    (lock.leave(held), ran, renewed)
+}
+
+/// A work's last turn.
+pub fn complete_turn<'s, N: Naming + Send, M: Made, D: Disk<M>, K: Sink + Send, R: Wait>(
+    rt: &R,
+    lock: &TurnLock<Vault<'s, N, M, D, K>>,
+    pass: Pass,
+    who: Who,
+    task: Task<D::Reader>,
+    merged: Result<NewDelta<M>, CompactError>,
+) -> (Pass, bool)
+    requires lock { pass.lock ≡ lock.now }
+    requires few { length N.script.sessions ≤ 8 }
+    requires room { (0 < pass.room) × (pass.limit ≤ N.room) }
+    requires mine { Mine N.script (N.start no_rows) pass who.session (at_stage who.command (closing_stage (not (is_ok merged)) (claim_in task))) }
+    requires sort { HasSort N.script who.session who.command is_work }
+    requires granted { WasGranted (IsGranted D.Reader.bytes N.script N.start N.origin N.sound) (history_of pass.seen) (known_task D.Reader.bytes task) }
+    requires merged { HasMerged M.bytes M.id_of D.Reader.bytes D.Reader.faults task merged }
+    ensures took { Took who.session pass result.0 1 }
+    ensures mine { Mine N.script (N.start no_rows) result.0 who.session (place_then (not result.1) who.command Finished) }
+    ensures answers { Answers N.script (N.start no_rows) who.session pass result.0 0 0 (owed_by_work merged) }
+{
+    let mut held = lock.enter(rt, pass);
+    let vault = held.value();
+    let ran = vault.running();
+    let _reply = vault.complete(who, task, merged);
+    (lock.leave(held), ran)
+}
