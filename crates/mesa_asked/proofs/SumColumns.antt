@@ -5,7 +5,7 @@ use Rattle.std.proofs.lemmas.List.Sums.{sum_by-cons}
 use Rattle.mesa_value.specs.declared.Agg.{Agg}
 use Rattle.mesa_value.specs.declared.Agg.TheVariants as agg
 use Rattle.mesa_schema.specs.declared.columns.ValueColumn.{ValueColumn}
-use Rattle.mesa_batch.specs.Totals.{is_sum, sum_places, sums_in}
+use Rattle.mesa_model.specs.mesa_batch.Totals.{is_sum, sum_places, sums_in}
 
 abbrev agg_of : ValueColumn → Agg
 agg_of column = column.agg

@@ -1,7 +1,7 @@
 -- What a refusal tells.
 use Rattle.std.specs.Prelude.{◌≡◌, ℕ, List, Result, Err, ⊤}
-use Rattle.mesa_batch.specs.declared.words.BatchError.{BatchError}
-use Rattle.mesa_batch.specs.declared.words.BatchError.TheVariants as batch
+use Rattle.mesa_model.specs.mesa_batch.declared.words.BatchError.{BatchError}
+use Rattle.mesa_model.specs.mesa_batch.declared.words.BatchError.TheVariants as batch
 use Rattle.mesa_schema.specs.declared.changes.ChangeError.{ChangeError}
 use Rattle.mesa_schema.specs.declared.changes.ChangeError.TheVariants as change
 use Rattle.mesa_schema.specs.declared.schema.SchemaError.{SchemaError}

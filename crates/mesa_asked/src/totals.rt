@@ -1,7 +1,7 @@
 // What a change of a schema makes of a table's totals.
 ghost use Rattle.std.specs.Prelude.{◌≡◌, ◌≤◌, IfOk, count_by, length, map};
 ghost use Rattle.mesa_schema.specs.declared.columns.ValueColumn.{ValueColumn as Column};
-ghost use Rattle.mesa_batch.specs.Totals.{is_sum as adds, sums_in, totals_after, totals_without};
+ghost use Rattle.mesa_model.specs.mesa_batch.Totals.{is_sum as adds, sums_in, totals_after, totals_without};
 
 use mesa_list::{Items, TryCopy};
 use mesa_schema::{Change, Schema, Totals, ValueColumn, place_of};

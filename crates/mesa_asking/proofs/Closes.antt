@@ -30,14 +30,14 @@ use Rattle.mesa_output.specs.Output.{block}
 use Rattle.mesa_script.specs.declared.rendered.Rendered.{Rendered}
 use Rattle.mesa_skeleton.specs.Rows.{Rows}
 use Rattle.mesa_tasks.specs.GivingBack.{GivesBack, SomeFailed}
-use Rattle.mesa_walk.proofs.Asking.{close_turn}
-use Rattle.mesa_walk.proofs.Going.{close_takes}
-use Rattle.mesa_walk.specs.Causes.{Cause}
-use Rattle.mesa_walk.specs.Printing.{IsPut}
-use Rattle.mesa_walk.specs.Queries.{MayClose, closing_fault, closing_outcome, closing_told}
-use Rattle.mesa_walk.specs.Turns.{Shown, IsSeen, Takes, entry}
-use Rattle.mesa_walk.specs.Undamaged.{is_damaged}
-use Rattle.mesa_walk.specs.Walk.{Outset, Counts, run_at, run_of}
+use Rattle.mesa_ledger.proofs.mesa_walk.Asking.{close_turn}
+use Rattle.mesa_ledger.proofs.mesa_walk.Going.{close_takes}
+use Rattle.mesa_ledger.specs.mesa_walk.Causes.{Cause}
+use Rattle.mesa_ledger.specs.mesa_walk.Printing.{IsPut}
+use Rattle.mesa_ledger.specs.mesa_walk.Queries.{MayClose, closing_fault, closing_outcome, closing_told}
+use Rattle.mesa_ledger.specs.mesa_walk.Turns.{Shown, IsSeen, Takes, entry}
+use Rattle.mesa_ledger.specs.mesa_walk.Undamaged.{is_damaged}
+use Rattle.mesa_ledger.specs.mesa_walk.Walk.{Outset, Counts, run_at, run_of}
 
 -- a reader that has failed is counted
 some_counted : {R : Type 0} (faults : R → ℕ) (old new : ℕ) (inputs : List (Input R)) → AllByRecursion (λ (i : Input R). 0 < faults (reader_in i) → Rose old new) inputs → SomeFailed faults inputs → Rose old new

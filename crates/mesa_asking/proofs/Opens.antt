@@ -35,14 +35,14 @@ use Rattle.mesa_model.specs.declared.entries.Outcome.TheVariants as outcome
 use Rattle.mesa_output.specs.Output.{block}
 use Rattle.mesa_skeleton.specs.Rows.{Rows, no_rows}
 use Rattle.mesa_tasks.specs.Opening.{Counted}
-use Rattle.mesa_walk.proofs.Asking.{pinned_open, pinned_turn, unpinned_ends, unpinned_turn}
-use Rattle.mesa_walk.proofs.Going.{takes_as}
-use Rattle.mesa_walk.specs.Causes.{Cause, Replies, Unread, Damaged, Unwritten, NoMemory, is_read_fault, outcome_of, reply_of, told_at}
-use Rattle.mesa_walk.specs.Printing.{IsPut}
-use Rattle.mesa_walk.specs.Queries.{HasNoAnswer, IsOpenFrom, IsPinned, IsUnanswered}
-use Rattle.mesa_walk.specs.Turns.{Shown, IsSeen, Takes, entry}
-use Rattle.mesa_walk.specs.Undamaged.{is_damaged}
-use Rattle.mesa_walk.specs.Walk.{Outset, Counts, WalksOn, run_at, run_of}
+use Rattle.mesa_ledger.proofs.mesa_walk.Asking.{pinned_open, pinned_turn, unpinned_ends, unpinned_turn}
+use Rattle.mesa_ledger.proofs.mesa_walk.Going.{takes_as}
+use Rattle.mesa_ledger.specs.mesa_walk.Causes.{Cause, Replies, Unread, Damaged, Unwritten, NoMemory, is_read_fault, outcome_of, reply_of, told_at}
+use Rattle.mesa_ledger.specs.mesa_walk.Printing.{IsPut}
+use Rattle.mesa_ledger.specs.mesa_walk.Queries.{HasNoAnswer, IsOpenFrom, IsPinned, IsUnanswered}
+use Rattle.mesa_ledger.specs.mesa_walk.Turns.{Shown, IsSeen, Takes, entry}
+use Rattle.mesa_ledger.specs.mesa_walk.Undamaged.{is_damaged}
+use Rattle.mesa_ledger.specs.mesa_walk.Walk.{Outset, Counts, WalksOn, run_at, run_of}
 
 -- ---- why a query isn't answered
 

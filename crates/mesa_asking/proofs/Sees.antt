@@ -8,7 +8,7 @@ use Rattle.mesa_catalog.specs.Lookups.{known_as}
 use Rattle.mesa_filter.specs.declared.words.QueryWords.{QueryWords}
 use Rattle.mesa_filter.specs.declared.words.VersionWord.{VersionWord}
 use Rattle.mesa_filter.specs.declared.words.VersionWord.TheVariants as asks
-use Rattle.mesa_image.specs.Catalog.{Catalog}
+use Rattle.mesa_catalog.specs.mesa_image.Catalog.{Catalog}
 use Rattle.mesa_ledger.specs.Ledger.{HeldPin, Ledger, bare_held, books_of, skeleton_of, skeletons_from}
 use Rattle.mesa_ledger.specs.Turned.{is_held_pin}
 use Rattle.mesa_list.specs.Checks.{◌>>=◌, ◌>>◌}

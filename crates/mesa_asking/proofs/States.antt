@@ -12,9 +12,9 @@ use Rattle.mesa_filter.specs.declared.words.VersionWord.{VersionWord}
 use Rattle.mesa_filter.specs.declared.words.VersionWord.TheVariants as asks
 use Rattle.mesa_history.specs.Found.{Kept}
 use Rattle.mesa_history.specs.Run.{State}
-use Rattle.mesa_image.specs.Catalog.{Catalog}
-use Rattle.mesa_image.specs.Contents.{Rows, kept_of}
-use Rattle.mesa_image.specs.Shape.{IsCatalog}
+use Rattle.mesa_catalog.specs.mesa_image.Catalog.{Catalog}
+use Rattle.mesa_catalog.specs.mesa_image.Contents.{Rows, kept_of}
+use Rattle.mesa_catalog.specs.mesa_image.Shape.{IsCatalog}
 use Rattle.mesa_ledger.specs.Ledger.{HeldPin, Ledger, bare_held, books_of, held_with}
 use Rattle.mesa_ledger.specs.Turned.{is_held_pin}
 use Rattle.mesa_ledger.specs.Vault.{IsVersioned}
@@ -27,7 +27,7 @@ use Rattle.mesa_model.specs.declared.replies.Refusal.{Refusal}
 use Rattle.mesa_model.specs.declared.replies.Refusal.TheVariants as no
 use Rattle.mesa_rules.specs.Found.{Sees}
 use Rattle.mesa_skeleton.specs.Rows.{no_rows}
-use Rattle.mesa_walk.specs.Books.{AreBooksOf}
+use Rattle.mesa_ledger.specs.mesa_walk.Books.{AreBooksOf}
 
 -- A query sees a catalogue's tables and this version in a warehouse, and their contents there.
 pub record SeesContents (rows : Rows) (c : Catalog) (version : ℕ) (words : QueryWords) (session : ℕ) (w : Warehouse) : Type 0 where

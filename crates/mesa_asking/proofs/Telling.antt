@@ -18,12 +18,12 @@ use Rattle.mesa_filter.specs.declared.words.VersionWord.{VersionWord}
 use Rattle.mesa_filter.specs.declared.words.VersionWord.TheVariants as asks
 use Rattle.mesa_history.specs.Run.{First, State}
 use Rattle.mesa_history.specs.Turns.{IsDue}
-use Rattle.mesa_image.specs.Catalog.{Catalog, no_stock, stock_at}
-use Rattle.mesa_image.specs.Fitting.{delta_shelved, deltas_of, shelved}
-use Rattle.mesa_image_laws.proofs.Lists.{all_unflat}
-use Rattle.mesa_image_laws.specs.Planned.{planned}
-use Rattle.mesa_image.specs.Shape.{IsCatalog, IsShaped}
-use Rattle.mesa_image.specs.Sound.{AreStocked, IsStocked, wants}
+use Rattle.mesa_catalog.specs.mesa_image.Catalog.{Catalog, no_stock, stock_at}
+use Rattle.mesa_catalog.specs.mesa_image.Fitting.{delta_shelved, deltas_of, shelved}
+use Rattle.mesa_ledger.proofs.mesa_image_laws.Lists.{all_unflat}
+use Rattle.mesa_ledger.specs.mesa_image_laws.Planned.{planned}
+use Rattle.mesa_catalog.specs.mesa_image.Shape.{IsCatalog, IsShaped}
+use Rattle.mesa_catalog.specs.mesa_image.Sound.{AreStocked, IsStocked, wants}
 use Rattle.mesa_ledger.proofs.Holding.{pins_of}
 use Rattle.mesa_ledger.proofs.Lists.{map_all}
 use Rattle.mesa_ledger.proofs.Staying.{there_now}
@@ -42,15 +42,15 @@ use Rattle.mesa_pinning.proofs.Given.{AreGiven, IsGiven, all_given}
 use Rattle.mesa_pinning.proofs.Telling.{pinned_tells, stock_given}
 use Rattle.mesa_pinning.proofs.Unsound.{seen_sound}
 use Rattle.mesa_pinning.specs.Read.{relation_read}
-use Rattle.mesa_plans.proofs.Among.{all_planned}
+use Rattle.mesa_pinning.proofs.mesa_plans.Among.{all_planned}
 use Rattle.mesa_rules.specs.Found.{answer_found}
 use Rattle.mesa_skeleton.specs.Rows.{Rows, no_rows}
 use Rattle.mesa_tasks.specs.declared.querying.Pinned.{Pinned}
 use Rattle.mesa_trash.specs.Filed.{PinFiles}
-use Rattle.mesa_walk.specs.Books.{AreBooksOf}
-use Rattle.mesa_walk.specs.Queries.{IsOpen, IsPinned}
-use Rattle.mesa_walk.specs.Turns.{entry}
-use Rattle.mesa_walk.specs.Walk.{Outset, Counts, run_at}
+use Rattle.mesa_ledger.specs.mesa_walk.Books.{AreBooksOf}
+use Rattle.mesa_ledger.specs.mesa_walk.Queries.{IsOpen, IsPinned}
+use Rattle.mesa_ledger.specs.mesa_walk.Turns.{entry}
+use Rattle.mesa_ledger.specs.mesa_walk.Walk.{Outset, Counts, run_at}
 
 -- ---- the catalogue that a query sees
 

@@ -10,10 +10,10 @@ use Rattle.mesa_schema.specs.Changes.{Lineage}
 use Rattle.mesa_schema.specs.Columns.{place_of}
 use Rattle.mesa_schema.specs.declared.views.View.{View}
 use Rattle.mesa_catalog.specs.Lookups.{relation_from, relation_of}
-use Rattle.mesa_image.specs.Catalog.{Catalog, Stock, no_stock, stock_at}
+use Rattle.mesa_catalog.specs.mesa_image.Catalog.{Catalog, Stock, no_stock, stock_at}
 use Rattle.mesa_pinning.proofs.Reading.{IsThere}
-use Rattle.mesa_shelf.specs.Lookups.{relation_in, view_names}
-use Rattle.mesa_shelf.specs.declared.relation.Relation.{Relation as Place}
+use Rattle.mesa_catalog.specs.mesa_shelf.Lookups.{relation_in, view_names}
+use Rattle.mesa_catalog.specs.mesa_shelf.declared.relation.Relation.{Relation as Place}
 
 -- a view that was found by its name is one
 view_there : (name : List ℕ) (l : Lineage) (i : ℕ) → place_of name (view_names l) ≡ Some i → IsThere l (Some i)

@@ -12,9 +12,9 @@ use Rattle.mesa_model.specs.declared.entries.Kind.TheVariants as kind
 use Rattle.mesa_output.specs.Output.{block}
 use Rattle.mesa_script.specs.Rows.{rendered}
 use Rattle.mesa_script.specs.declared.rendered.Rendered.{Rendered}
-use Rattle.mesa_walk.specs.Causes.{Cause, Unread, Damaged, NoMemory, reply_of, told_at}
-use Rattle.mesa_walk.specs.Queries.{IsOpenFrom, closing_outcome}
-use Rattle.mesa_walk.specs.Turns.{entry}
+use Rattle.mesa_ledger.specs.mesa_walk.Causes.{Cause, Unread, Damaged, NoMemory, reply_of, told_at}
+use Rattle.mesa_ledger.specs.mesa_walk.Queries.{IsOpenFrom, closing_outcome}
+use Rattle.mesa_ledger.specs.mesa_walk.Turns.{entry}
 
 -- A session's query was answered at a position and isn't closed yet, and this is told of its answer.
 pub record IsToClose (script : Script) (r : Run) (session number position : ℕ) (tells : Answer → Type 0) : Type 0 where

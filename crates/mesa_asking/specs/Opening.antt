@@ -8,22 +8,22 @@ use Rattle.mesa_disk.specs.Image.{Image}
 use Rattle.mesa_filter.specs.declared.words.QueryWords.{QueryWords}
 use Rattle.mesa_filter.specs.declared.words.VersionWord.{VersionWord}
 use Rattle.mesa_filter.specs.declared.words.VersionWord.TheVariants as asks
-use Rattle.mesa_image.specs.Catalog.{Catalog, stock_at}
+use Rattle.mesa_catalog.specs.mesa_image.Catalog.{Catalog, stock_at}
 use Rattle.mesa_ledger.specs.Ledger.{Ledger, books_of}
 use Rattle.mesa_ledger.specs.Turned.{queried_ledger}
 use Rattle.mesa_log.specs.Failure.{cause_in}
 use Rattle.mesa_log.specs.declared.failure.Failure.{Failure}
 use Rattle.mesa_metadata.specs.Memory.{hold_now}
 use Rattle.mesa_model.specs.declared.replies.Reply.TheVariants as reply
-use Rattle.mesa_image_laws.specs.Planned.{planned}
+use Rattle.mesa_ledger.specs.mesa_image_laws.Planned.{planned}
 use Rattle.mesa_pinning.specs.Read.{IsPinnedFor, SomeUnsound, relation_read}
-use Rattle.mesa_plans.specs.Files.{want_in}
+use Rattle.mesa_pinning.specs.mesa_plans.Files.{want_in}
 use Rattle.mesa_rules.specs.Found.{IsAnswered, Sees}
 use Rattle.mesa_rules.specs.declared.found.Found.{Found}
 use Rattle.mesa_skeleton.specs.Rows.{no_rows}
 use Rattle.mesa_tasks.specs.declared.querying.Pinned.{Pinned}
-use Rattle.mesa_walk.specs.Causes.{Cause, NoMemory, Replies, is_read_fault, outcome_of}
-use Rattle.mesa_walk.specs.Undamaged.{is_damaged}
+use Rattle.mesa_ledger.specs.mesa_walk.Causes.{Cause, NoMemory, Replies, is_read_fault, outcome_of}
+use Rattle.mesa_ledger.specs.mesa_walk.Undamaged.{is_damaged}
 
 -- the cause for which the rules answer no query
 abbrev pub cause_refused : AskedFailure → Cause

@@ -11,11 +11,11 @@ ghost use Rattle.mesa_model.specs.Entry.{IsShort};
 ghost use Rattle.mesa_model.specs.declared.entries.Kind.TheVariants as kind;
 ghost use Rattle.mesa_skeleton.specs.Rows.{Rows, no_rows};
 ghost use Rattle.mesa_tasks.specs.GivingBack.{SomeFailed, pinned_inputs};
-ghost use Rattle.mesa_walk.specs.Printing.{IsPut};
-ghost use Rattle.mesa_walk.specs.Queries.{closing_fault, closing_outcome};
-ghost use Rattle.mesa_walk.specs.Turns.{Takes};
-ghost use Rattle.mesa_walk.specs.Undamaged.{is_damaged};
-ghost use Rattle.mesa_walk.specs.Walk.{run_at};
+ghost use Rattle.mesa_ledger.specs.mesa_walk.Printing.{IsPut};
+ghost use Rattle.mesa_ledger.specs.mesa_walk.Queries.{closing_fault, closing_outcome};
+ghost use Rattle.mesa_ledger.specs.mesa_walk.Turns.{Takes};
+ghost use Rattle.mesa_ledger.specs.mesa_walk.Undamaged.{is_damaged};
+ghost use Rattle.mesa_ledger.specs.mesa_walk.Walk.{run_at};
 
 use crate::damages::may_be_told;
 use crate::give_back;

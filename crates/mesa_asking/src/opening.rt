@@ -6,15 +6,15 @@ ghost use Rattle.mesa_asking.specs.Seeing.{catalogue_asked};
 ghost use Rattle.mesa_delta.specs.declared.error.FileError.TheVariants as file_error;
 ghost use Rattle.mesa_disk.specs.Story.{Unmoved};
 ghost use Rattle.mesa_file.specs.declared.damage.Damage.{Damage as AnyDamage};
-ghost use Rattle.mesa_image.specs.Catalog.{Catalog as AnyCatalog};
-ghost use Rattle.mesa_image.specs.Shape.{IsCatalog};
+ghost use Rattle.mesa_catalog.specs.mesa_image.Catalog.{Catalog as AnyCatalog};
+ghost use Rattle.mesa_catalog.specs.mesa_image.Shape.{IsCatalog};
 ghost use Rattle.mesa_ledger.specs.Ledger.{books_of};
 ghost use Rattle.mesa_log.specs.Failure.{cause_in};
 ghost use Rattle.mesa_schema.specs.Columns.{Columns};
 ghost use Rattle.mesa_skeleton.specs.Rows.{no_rows};
 ghost use Rattle.mesa_tasks.specs.Opening.{Counted};
 ghost use Rattle.mesa_tasks.specs.Pins.{IsPinned};
-ghost use Rattle.mesa_walk.specs.Queries.{HasNoAnswer, IsUnanswered};
+ghost use Rattle.mesa_ledger.specs.mesa_walk.Queries.{HasNoAnswer, IsUnanswered};
 
 use crate::closing::failed;
 use crate::{Asked, ask, can_be_told};

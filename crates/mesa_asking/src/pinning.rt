@@ -9,9 +9,9 @@ ghost use Rattle.mesa_pinning.specs.Told.{Tells};
 ghost use Rattle.mesa_schema.specs.Columns.{Columns};
 ghost use Rattle.mesa_skeleton.specs.Rows.{no_rows};
 ghost use Rattle.mesa_tasks.specs.Pins.{IsPinned};
-ghost use Rattle.mesa_walk.specs.Queries.{IsOpen};
-ghost use Rattle.mesa_walk.specs.Turns.{IsSeen, IsTurn, Takes};
-ghost use Rattle.mesa_walk.specs.Walk.{run_at};
+ghost use Rattle.mesa_ledger.specs.mesa_walk.Queries.{IsOpen};
+ghost use Rattle.mesa_ledger.specs.mesa_walk.Turns.{IsSeen, IsTurn, Takes};
+ghost use Rattle.mesa_ledger.specs.mesa_walk.Walk.{run_at};
 
 use crate::holding::hold_files;
 use mesa_disk::{Disk, Made};

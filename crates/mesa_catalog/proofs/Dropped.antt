@@ -4,8 +4,8 @@ use Rattle.std.specs.Prelude.{Option, Some, None, flat_map}
 use Rattle.std.specs.declared.alloc.Global.{Global}
 use Rattle.std.specs.declared.sync.Arc.{Arc}
 use Rattle.mesa_record.specs.declared.record.Files.{Files}
-use Rattle.mesa_image.specs.Catalog.{Delta, start_in}
-use Rattle.mesa_image.specs.Fitting.{base_deltas, delta_in}
+use Rattle.mesa_image_laws.specs.mesa_image.Catalog.{Delta, start_in}
+use Rattle.mesa_image_laws.specs.mesa_image.Fitting.{base_deltas, delta_in}
 use Rattle.mesa_image_laws.specs.Ids.{delta_ids, dropped_deltas, file_ids}
 use Rattle.mesa_shelf.specs.declared.table.Table.{Table}
 use Rattle.mesa_shelf.specs.Meaning.{IsTable, start_of_base, stock_of}

@@ -7,8 +7,8 @@ use Rattle.std.proofs.lemmas.List.Sums.{sum_by-append, sum_by-cons}
 use Rattle.mesa_record.specs.declared.record.Part.{Part}
 use Rattle.mesa_record.specs.declared.record.Record.{Record}
 use Rattle.mesa_record.specs.declared.record.Record.TheVariants as record_of
-use Rattle.mesa_image.specs.Catalog.{Catalog, stock_at}
-use Rattle.mesa_image.specs.Fitting.{are_new_ids, brings_new_files, brought, has_number, part_shelved, run_of_id, shelved_id, stock_shelved}
+use Rattle.mesa_image_laws.specs.mesa_image.Catalog.{Catalog, stock_at}
+use Rattle.mesa_image_laws.specs.mesa_image.Fitting.{are_new_ids, brings_new_files, brought, has_number, part_shelved, run_of_id, shelved_id, stock_shelved}
 use Rattle.mesa_image_laws.specs.Ids.{named, times}
 use Rattle.mesa_shelf.specs.Named.{table_ids}
 use Rattle.mesa_shelf.specs.Meaning.{stock_of}

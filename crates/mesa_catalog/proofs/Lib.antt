@@ -1,3 +1,6 @@
+pub use Rattle.mesa_image_laws.proofs.mesa_history as mesa_history
+pub use Rattle.mesa_image_laws.proofs as mesa_image_laws
+pub use Rattle.mesa_shelf.proofs as mesa_shelf
 pub mod Applies
 pub mod Counted
 pub mod Dropped

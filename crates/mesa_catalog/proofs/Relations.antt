@@ -8,8 +8,8 @@ use Rattle.mesa_list.specs.Bytes.{same_bytes}
 use Rattle.mesa_schema.specs.Names.{has_name}
 use Rattle.mesa_schema.specs.Columns.{place_of}
 use Rattle.mesa_schema.proofs.Maps.{is_some_position}
-use Rattle.mesa_image.specs.Catalog.{Stock}
-use Rattle.mesa_image.specs.Fitting.{names_in}
+use Rattle.mesa_image_laws.specs.mesa_image.Catalog.{Stock}
+use Rattle.mesa_image_laws.specs.mesa_image.Fitting.{names_in}
 use Rattle.mesa_shelf.specs.declared.relation.Relation.{Relation}
 use Rattle.mesa_shelf.specs.declared.table.Table.{Table}
 use Rattle.mesa_catalog.specs.Lookups.{relation_from}

@@ -5,8 +5,8 @@ use Rattle.std.specs.List.Sorted.{IsNonDecreasingBy}
 use Rattle.std.proofs.lemmas.Bool.Decides.{nat_tests}
 use Rattle.std.proofs.lemmas.List.Sorted.{IsPermutation-map, sum_by-IsPermutation}
 use Rattle.std.proofs.lemmas.Simd.{map-map}
-use Rattle.mesa_image.specs.Catalog.{Catalog}
-use Rattle.mesa_image.specs.Fitting.{shelved, stock_shelved}
+use Rattle.mesa_image_laws.specs.mesa_image.Catalog.{Catalog}
+use Rattle.mesa_image_laws.specs.mesa_image.Fitting.{shelved, stock_shelved}
 use Rattle.mesa_image_laws.specs.Ids.{named, times}
 use Rattle.mesa_shelf.specs.declared.recorded.Recorded.{Recorded}
 use Rattle.mesa_shelf.specs.declared.table.Table.{Table}

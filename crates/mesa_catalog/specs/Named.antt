@@ -3,7 +3,7 @@ use Rattle.std.specs.Prelude.{◌≡◌, ℕ, ◌<◌, List, [], ◌∷◌, flat
 use Rattle.mesa_record.specs.declared.record.Part.{Part}
 use Rattle.mesa_record.specs.declared.record.Record.{Record}
 use Rattle.mesa_record.specs.declared.record.Record.TheVariants as record_of
-use Rattle.mesa_image.specs.Fitting.{has_number, run_of_id}
+use Rattle.mesa_image_laws.specs.mesa_image.Fitting.{has_number, run_of_id}
 use Rattle.mesa_image_laws.specs.Ids.{times}
 use Rattle.mesa_shelf.specs.Named.{file_ids, ids_if_any, table_ids}
 use Rattle.mesa_catalog.specs.declared.shelves.Shelves.{Shelves}

@@ -1,6 +1,6 @@
 // Taking a record in, without memory.
 ghost use Rattle.std.specs.Prelude.{◌≡◌};
-ghost use Rattle.mesa_image.specs.Catalog.{applied};
+ghost use Rattle.mesa_image_laws.specs.mesa_image.Catalog.{applied};
 ghost use Rattle.mesa_catalog.specs.declared.ready.Ready.TheVariants as ready_of;
 ghost use Rattle.mesa_catalog.specs.Meaning.{IsShelved, catalogue_of};
 ghost use Rattle.mesa_catalog.specs.Readied.{IsReady, record_in};

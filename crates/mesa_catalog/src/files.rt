@@ -1,7 +1,7 @@
 // The files that a catalogue names.
 ghost use Rattle.std.specs.Prelude.{◌≡◌, ◌++◌, ◌≤◌, ◌^◌, ℕ, flat_map, map, IfOk, IsTrue, OnOk};
 ghost use Rattle.std.specs.List.{AllByRecursion};
-ghost use Rattle.mesa_image.specs.Fitting.{fits as fits_catalog, kind_fits, stock_shelved};
+ghost use Rattle.mesa_image_laws.specs.mesa_image.Fitting.{fits as fits_catalog, kind_fits, stock_shelved};
 ghost use Rattle.mesa_image_laws.specs.Ids.{dropped_ids, named};
 ghost use Rattle.mesa_shelf.specs.declared.table.Table.{Table as Held};
 ghost use Rattle.mesa_shelf.specs.Files.{AreRecorded, recorded_of};

@@ -2,7 +2,7 @@
 ghost use Rattle.std.specs.Prelude.{◌≡◌, ◌==◌, ◌^◌, ◌-◌, ◌≤◌, ◌<◌, [], ◌∷◌, ℕ, flat_map, count_by, map, min, IfSome, IsTrue};
 ghost use Rattle.std.specs.List.{list_all, list_any, AllByRecursion};
 ghost use Rattle.mesa_record.specs.declared.record.ViewRef.{ViewRef as Seen};
-ghost use Rattle.mesa_image.specs.Fitting.{are_new_ids, has_number};
+ghost use Rattle.mesa_image_laws.specs.mesa_image.Fitting.{are_new_ids, has_number};
 ghost use Rattle.mesa_image_laws.specs.Ids.{times as times_of};
 ghost use Rattle.mesa_shelf.specs.declared.table.Table.{Table as Held};
 ghost use Rattle.mesa_shelf.specs.Named.{file_ids, table_ids, view_id};

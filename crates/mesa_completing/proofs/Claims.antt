@@ -20,8 +20,8 @@ use Rattle.mesa_history.specs.Turns.{IsDue}
 use Rattle.mesa_history.proofs.Claiming.{held_is_live}
 use Rattle.mesa_image.specs.Catalog.{no_stock, ranges_of, stock_at}
 use Rattle.mesa_skeleton.specs.Rows.{no_rows}
-use Rattle.mesa_walk.specs.Walk.{Outset, run_of}
-use Rattle.mesa_walk.proofs.Working.{checked_open}
+use Rattle.mesa_ledger.specs.mesa_walk.Walk.{Outset, run_of}
+use Rattle.mesa_ledger.proofs.mesa_walk.Working.{checked_open}
 use Rattle.mesa_ledger.specs.Ledger.{Ledger, books_of}
 use Rattle.mesa_ledger.specs.Vault.{Origin, IsVault}
 use Rattle.mesa_ledger.proofs.Beginning.{vault_claims}

@@ -21,14 +21,14 @@ use Rattle.mesa_model.specs.declared.entries.Kind.TheVariants as kind
 use Rattle.mesa_model.specs.declared.entries.Outcome.TheVariants as outcome
 use Rattle.mesa_output.specs.Output.{block}
 use Rattle.mesa_skeleton.specs.Rows.{Rows}
-use Rattle.mesa_walk.specs.Causes.{Cause, Unwritten, is_read_fault, outcome_of, reply_of, told_at}
-use Rattle.mesa_walk.specs.Printing.{IsPut}
-use Rattle.mesa_walk.specs.Turns.{Shown, IsSeen, Takes, entry}
-use Rattle.mesa_walk.specs.Undamaged.{is_damaged}
-use Rattle.mesa_walk.specs.Walk.{Outset, Counts, IsAtClock, run_at, run_of}
-use Rattle.mesa_walk.proofs.Clock.{begun_moment}
-use Rattle.mesa_walk.proofs.Going.{unmerged_takes}
-use Rattle.mesa_walk.proofs.Working.{shut_turn, unmerged_turn}
+use Rattle.mesa_ledger.specs.mesa_walk.Causes.{Cause, Unwritten, is_read_fault, outcome_of, reply_of, told_at}
+use Rattle.mesa_ledger.specs.mesa_walk.Printing.{IsPut}
+use Rattle.mesa_ledger.specs.mesa_walk.Turns.{Shown, IsSeen, Takes, entry}
+use Rattle.mesa_ledger.specs.mesa_walk.Undamaged.{is_damaged}
+use Rattle.mesa_ledger.specs.mesa_walk.Walk.{Outset, Counts, IsAtClock, run_at, run_of}
+use Rattle.mesa_ledger.proofs.mesa_walk.Clock.{begun_moment}
+use Rattle.mesa_ledger.proofs.mesa_walk.Going.{unmerged_takes}
+use Rattle.mesa_ledger.proofs.mesa_walk.Working.{shut_turn, unmerged_turn}
 use Rattle.mesa_ledger.specs.Ledger.{Ledger, books_of}
 use Rattle.mesa_ledger.specs.Vault.{Origin, Starts, IsVault, outset_of}
 use Rattle.mesa_ledger.proofs.Staying.{closed_vault, leased_vault, still_vault}

@@ -20,14 +20,14 @@ use Rattle.mesa_model.specs.declared.entries.Entry.{Entry}
 use Rattle.mesa_model.specs.declared.entries.Kind.TheVariants as kind
 use Rattle.mesa_output.specs.Output.{block}
 use Rattle.mesa_skeleton.specs.Rows.{Rows, no_rows}
-use Rattle.mesa_walk.specs.Causes.{Cause, outcome_of, reply_of, told_at}
-use Rattle.mesa_walk.specs.Printing.{IsPut}
-use Rattle.mesa_walk.specs.Turns.{Shown, IsSeen, Takes, entry}
-use Rattle.mesa_walk.specs.Undamaged.{is_damaged}
-use Rattle.mesa_walk.specs.Walk.{run_at, run_of}
-use Rattle.mesa_walk.proofs.Going.{complete_takes}
-use Rattle.mesa_walk.proofs.Turning.{counts_same, stays}
-use Rattle.mesa_walk.proofs.Working.{lost_turn, starved_turn}
+use Rattle.mesa_ledger.specs.mesa_walk.Causes.{Cause, outcome_of, reply_of, told_at}
+use Rattle.mesa_ledger.specs.mesa_walk.Printing.{IsPut}
+use Rattle.mesa_ledger.specs.mesa_walk.Turns.{Shown, IsSeen, Takes, entry}
+use Rattle.mesa_ledger.specs.mesa_walk.Undamaged.{is_damaged}
+use Rattle.mesa_ledger.specs.mesa_walk.Walk.{run_at, run_of}
+use Rattle.mesa_ledger.proofs.mesa_walk.Going.{complete_takes}
+use Rattle.mesa_ledger.proofs.mesa_walk.Turning.{counts_same, stays}
+use Rattle.mesa_ledger.proofs.mesa_walk.Working.{lost_turn, starved_turn}
 use Rattle.mesa_engine.specs.Engine.{IsEngine}
 use Rattle.mesa_engine.proofs.Turning.{told_engine}
 use Rattle.mesa_engine.proofs.Undone.{not_skipped}

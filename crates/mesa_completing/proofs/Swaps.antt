@@ -27,17 +27,17 @@ use Rattle.mesa_image.specs.Contents.{kept_of}
 use Rattle.mesa_image.specs.Fitting.{Shelved, brought, fits, shelved, shelved_id}
 use Rattle.mesa_image.specs.Held.{IsHeld, IsUnnamed}
 use Rattle.mesa_image.specs.Sound.{AreStocked, StandsFor, wants}
-use Rattle.mesa_image_laws.proofs.Agreeing.{agree_stocked, agree_wants}
-use Rattle.mesa_image_laws.proofs.AllSourced.{agree_sourced, merge_written, swap_replaces, swap_sourced}
-use Rattle.mesa_image_laws.proofs.Ids.{own_ids}
-use Rattle.mesa_image_laws.proofs.Moving.{kind_of, swap_step}
-use Rattle.mesa_image_laws.proofs.Swapping.{swap_there, swap_within}
-use Rattle.mesa_image_laws.proofs.Wholes.{fits_shaped}
-use Rattle.mesa_image_laws.specs.Brought.{AreTold, Replaces, merged_of}
-use Rattle.mesa_image_laws.specs.Ids.{brought_ids, dropped_ids, named}
-use Rattle.mesa_image_laws.specs.Moves.{Moves, first_of, is_base, kept_swapped, last_of, work_of}
-use Rattle.mesa_image_laws.specs.Sourced.{HasSources, IsMadeOf, Written}
-use Rattle.mesa_catalog.specs.Lookups.{generation_of, turns_generation}
+use Rattle.mesa_ledger.proofs.mesa_image_laws.Agreeing.{agree_stocked, agree_wants}
+use Rattle.mesa_ledger.proofs.mesa_image_laws.AllSourced.{agree_sourced, merge_written, swap_replaces, swap_sourced}
+use Rattle.mesa_ledger.proofs.mesa_image_laws.Ids.{own_ids}
+use Rattle.mesa_ledger.proofs.mesa_image_laws.Moving.{kind_of, swap_step}
+use Rattle.mesa_ledger.proofs.mesa_image_laws.Swapping.{swap_there, swap_within}
+use Rattle.mesa_ledger.proofs.mesa_image_laws.Wholes.{fits_shaped}
+use Rattle.mesa_ledger.specs.mesa_image_laws.Brought.{AreTold, Replaces, merged_of}
+use Rattle.mesa_ledger.specs.mesa_image_laws.Ids.{brought_ids, dropped_ids, named}
+use Rattle.mesa_ledger.specs.mesa_image_laws.Moves.{Moves, first_of, is_base, kept_swapped, last_of, work_of}
+use Rattle.mesa_ledger.specs.mesa_image_laws.Sourced.{HasSources, IsMadeOf, Written}
+use Rattle.mesa_metadata.specs.mesa_catalog.Lookups.{generation_of, turns_generation}
 use Rattle.mesa_store.specs.Store.{Writes as IsWritten}
 use Rattle.mesa_output.specs.Output.{block}
 use Rattle.mesa_skeleton.specs.Rows.{Rows, no_rows}
@@ -45,12 +45,12 @@ use Rattle.mesa_trash.proofs.Filing.{freed_unnamed}
 use Rattle.mesa_trash.specs.Filed.{Renames}
 use Rattle.mesa_trash.specs.Holding.{Among, freed, ids_of}
 use Rattle.mesa_tasks.specs.declared.merging.Task.{Task}
-use Rattle.mesa_walk.specs.Causes.{Unwritten, reply_of, told_at}
-use Rattle.mesa_walk.specs.Printing.{IsPut}
-use Rattle.mesa_walk.specs.Turns.{entry}
-use Rattle.mesa_walk.specs.Walk.{Outset, Counts, Passes, StandsForEither, Writes, run_of}
-use Rattle.mesa_walk.specs.Works.{Swaps}
-use Rattle.mesa_walk.proofs.Working.{checked_open}
+use Rattle.mesa_ledger.specs.mesa_walk.Causes.{Unwritten, reply_of, told_at}
+use Rattle.mesa_ledger.specs.mesa_walk.Printing.{IsPut}
+use Rattle.mesa_ledger.specs.mesa_walk.Turns.{entry}
+use Rattle.mesa_ledger.specs.mesa_walk.Walk.{Outset, Counts, Passes, StandsForEither, Writes, run_of}
+use Rattle.mesa_ledger.specs.mesa_walk.Works.{Swaps}
+use Rattle.mesa_ledger.proofs.mesa_walk.Working.{checked_open}
 use Rattle.mesa_ledger.specs.Ledger.{Ledger, books_of, first_id, holders, ids_held, next_id}
 use Rattle.mesa_ledger.specs.Recorded.{IsRecorded, failed_ledger, recorded_ledger, removed_by, waiting}
 use Rattle.mesa_ledger.specs.Vault.{Origin, IsVault, Starts, outset_of, written_by}
@@ -60,7 +60,7 @@ use Rattle.mesa_ledger.proofs.Renaming.{record_brings, record_renames}
 use Rattle.mesa_ledger.proofs.Sources.{sources_stay}
 use Rattle.mesa_ledger.proofs.Swapping.{swap_accepts, swap_is, swapped_as}
 use Rattle.mesa_ledger.proofs.Writing.{swapped_vault, unswapped_vault}
-use Rattle.mesa_publishing.specs.Published.{AllTell, rows_with}
+use Rattle.mesa_swapping.specs.mesa_publishing.Published.{AllTell, rows_with}
 use Rattle.mesa_swapping.specs.Finished.{HasRange}
 use Rattle.mesa_swapping.specs.Swapped.{IsSwapped, delta_of, swap_of}
 use Rattle.mesa_swapping.specs.declared.swapping.Swapped.{Swapped}

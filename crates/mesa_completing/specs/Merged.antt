@@ -5,8 +5,8 @@ use Rattle.mesa_lease.specs.Book.{ended}
 use Rattle.mesa_ledger.specs.Ledger.{Ledger}
 use Rattle.mesa_ledger.specs.Turned.{leased_ledger}
 use Rattle.mesa_model.specs.declared.replies.Reply.TheVariants as reply
-use Rattle.mesa_walk.specs.Books.{Books}
-use Rattle.mesa_walk.specs.Causes.{Cause, Replies, NoMemory}
+use Rattle.mesa_ledger.specs.mesa_walk.Books.{Books}
+use Rattle.mesa_ledger.specs.mesa_walk.Causes.{Cause, Replies, NoMemory}
 use Rattle.mesa_completing.specs.declared.completing.Unswapped.{Unswapped}
 use Rattle.mesa_completing.specs.declared.completing.Unswapped.TheVariants as why
 

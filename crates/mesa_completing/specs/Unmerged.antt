@@ -10,7 +10,7 @@ use Rattle.mesa_ledger.specs.Turned.{closed_ledger, leased_ledger}
 use Rattle.mesa_tasks.specs.Errors.{HasDiffered}
 use Rattle.mesa_tasks.specs.declared.merging.CompactError.{CompactError}
 use Rattle.mesa_tasks.specs.declared.merging.CompactError.TheVariants as compact
-use Rattle.mesa_walk.specs.Causes.{Cause, Replies, Unread, Damaged, Unwritten, NoMemory}
+use Rattle.mesa_ledger.specs.mesa_walk.Causes.{Cause, Replies, Unread, Damaged, Unwritten, NoMemory}
 
 -- why a merge failed
 abbrev pub cause_of : CompactError → Cause

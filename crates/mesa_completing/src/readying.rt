@@ -2,7 +2,7 @@
 ghost use Rattle.std.specs.Prelude.{◌≡◌, ◌+◌, ◌<◌, ◌≤◌, ◌^◌, ℕ, Some, Ok, IfOk, OnErr, length};
 ghost use Rattle.mesa_image.specs.Catalog.{ranges_of};
 ghost use Rattle.mesa_image.specs.Shape.{IsCatalog};
-ghost use Rattle.mesa_image_laws.specs.Ids.{dropped_ids, named};
+ghost use Rattle.mesa_ledger.specs.mesa_image_laws.Ids.{dropped_ids, named};
 ghost use Rattle.mesa_key.specs.Spelling.{AreBytes};
 ghost use Rattle.mesa_ledger.specs.Ledger.{most_files, next_id};
 ghost use Rattle.mesa_ledger.specs.Recorded.{removed_by};

@@ -10,10 +10,10 @@ ghost use Rattle.mesa_model.specs.declared.entries.Kind.TheVariants as kind;
 ghost use Rattle.mesa_skeleton.specs.Rows.{Rows, no_rows};
 ghost use Rattle.mesa_tasks.specs.GivingBack.{SomeFailed, task_inputs};
 ghost use Rattle.mesa_tasks.specs.declared.merging.CompactError.TheVariants as compact;
-ghost use Rattle.mesa_walk.specs.Causes.{is_read_fault, outcome_of};
-ghost use Rattle.mesa_walk.specs.Turns.{AnswersDraft, Takes};
-ghost use Rattle.mesa_walk.specs.Undamaged.{is_damaged};
-ghost use Rattle.mesa_walk.specs.Walk.{run_at};
+ghost use Rattle.mesa_ledger.specs.mesa_walk.Causes.{is_read_fault, outcome_of};
+ghost use Rattle.mesa_ledger.specs.mesa_walk.Turns.{AnswersDraft, Takes};
+ghost use Rattle.mesa_ledger.specs.mesa_walk.Undamaged.{is_damaged};
+ghost use Rattle.mesa_ledger.specs.mesa_walk.Walk.{run_at};
 ghost use Rattle.mesa_tasks.specs.Tasks.{claim_in};
 ghost use Rattle.mesa_completing.specs.Unmerged.{MergeDiffered, TellsDamage, cause_of, closing_cause, closing_ledger, unmerged_ledger};
 

@@ -1,28 +1,28 @@
 -- What a work is granted, by the history at the end of its first turn.
 use Rattle.std.proofs.Common.{◌≡◌, ℕ, ◌<◌, List, length, sym, ap, subst, ◌∙◌, Option, None, Ok, Err}
 use Rattle.std.specs.Prelude.{IfOk, IfSome, Result}
-use Rattle.mesa_compact.specs.Bounded.{AreBounded, IsBounded}
-use Rattle.mesa_gather.specs.Gathered.{unread_views}
+use Rattle.mesa_granted.specs.mesa_compact.Bounded.{AreBounded, IsBounded}
+use Rattle.mesa_granted.specs.mesa_gather.Gathered.{unread_views}
 use Rattle.mesa_granted.proofs.Merged.{grant_known}
 use Rattle.mesa_granted.proofs.Same.{range_known}
 use Rattle.mesa_history.specs.Run.{State}
 use Rattle.mesa_image.specs.Catalog.{Catalog, stock_at}
 use Rattle.mesa_image_laws.specs.Moves.{last_of}
 use Rattle.mesa_ledger.specs.Vault.{Origin}
-use Rattle.mesa_merge.specs.Inputs.{knowns_of}
+use Rattle.mesa_granted.specs.mesa_merge.Inputs.{knowns_of}
 use Rattle.mesa_model.specs.declared.commands.Script.{Script}
 use Rattle.mesa_model.specs.declared.entries.Entry.{Entry}
 use Rattle.mesa_model.specs.Warehouse.{max_tables}
 use Rattle.mesa_schema.specs.Changes.{Lineage, columns_of}
 use Rattle.mesa_schema.specs.Lineages.{IsLineage}
-use Rattle.mesa_service.specs.Works.{CanBeMerged, known_task}
+use Rattle.mesa_granted.specs.mesa_service.Works.{CanBeMerged, known_task}
 use Rattle.mesa_skeleton.specs.Rows.{Rows, no_rows}
-use Rattle.mesa_swapping.specs.Finished.{HasRange}
+use Rattle.mesa_completing.specs.mesa_swapping.Finished.{HasRange}
 use Rattle.mesa_tasks.specs.Errors.{Differs}
 use Rattle.mesa_tasks.specs.Tasks.{IsTask}
 use Rattle.mesa_tasks.specs.declared.merging.Task.{Task}
 use Rattle.mesa_walk.specs.Walk.{run_at}
-use Rattle.mesa_works.specs.Ranged.{written_at}
+use Rattle.mesa_granted.specs.mesa_works.Ranged.{written_at}
 use Rattle.mesa_core.specs.Handing.{IsGranted, store_after}
 use Rattle.mesa_core.specs.Standing.{IsCatalogAfter}
 use Rattle.mesa_core.proofs.Sights.{counted_is, lineage_is}

@@ -3,27 +3,27 @@ use Rattle.std.proofs.Common.{◌≡◌, ℕ, List, [], ◌∷◌, append-nil, t
 use Rattle.std.specs.Prelude.{IfErr, IfOk, OnErr, OnOk, Result}
 use Rattle.std.specs.List.{AllByRecursion}
 use Rattle.mesa_answer.specs.Answering.{KeepsSums}
-use Rattle.mesa_asking.specs.Closing.{IsPageOf as IsClosedWith, IsToClose, cause_if}
+use Rattle.mesa_completing.specs.mesa_asking.Closing.{IsPageOf as IsClosedWith, IsToClose, cause_if}
 use Rattle.mesa_filter.specs.declared.words.QueryWords.{QueryWords}
 use Rattle.mesa_delta.specs.declared.error.FileError.{FileError}
 use Rattle.mesa_delta.specs.declared.error.FileError.TheVariants as file_error
 use Rattle.mesa_history.specs.Run.{State, Finished}
-use Rattle.mesa_merge.specs.Inputs.{Known, knowns_of}
+use Rattle.mesa_granted.specs.mesa_merge.Inputs.{Known, knowns_of}
 use Rattle.mesa_model.specs.declared.commands.Script.{Script}
 use Rattle.mesa_model.specs.declared.entries.Entry.{Entry}
 use Rattle.mesa_model.specs.declared.entries.Kind.TheVariants as kind
 use Rattle.mesa_model.specs.declared.replies.Reply.{Reply}
 use Rattle.mesa_model.specs.Query.{Answer}
-use Rattle.mesa_query.specs.Files.{inputs_in, owns_in}
-use Rattle.mesa_pinning.specs.Told.{AreOfRelation, parts_known, parts_under}
-use Rattle.mesa_pinning.specs.Told.{Tells as TellsOf}
-use Rattle.mesa_query.specs.Relation.{page_over, parts_pinned, parts_ungrouped, rows_ungrouped}
+use Rattle.mesa_granted.specs.mesa_query.Files.{inputs_in, owns_in}
+use Rattle.mesa_granted.specs.mesa_pinning.Told.{AreOfRelation, parts_known, parts_under}
+use Rattle.mesa_granted.specs.mesa_pinning.Told.{Tells as TellsOf}
+use Rattle.mesa_granted.specs.mesa_query.Relation.{page_over, parts_pinned, parts_ungrouped, rows_ungrouped}
 use Rattle.mesa_schema.specs.declared.rows.Row.{Row}
 use Rattle.mesa_schema.specs.Columns.{Columns}
 use Rattle.mesa_schema.specs.Folded.{rows_of}
 use Rattle.mesa_script.specs.Rows.{rendered}
 use Rattle.mesa_script.specs.declared.rendered.Rendered.{Rendered}
-use Rattle.mesa_service.specs.Pins.{HasAnswered, IsOpenQuery, TakesQuery, heading_in, known_pin}
+use Rattle.mesa_granted.specs.mesa_service.Pins.{HasAnswered, IsOpenQuery, TakesQuery, heading_in, known_pin}
 use Rattle.mesa_skeleton.specs.Rows.{Rows, no_rows}
 use Rattle.mesa_tasks.specs.Errors.{HasDiffered}
 use Rattle.mesa_tasks.specs.GivingBack.{SomeFailed, pinned_inputs}

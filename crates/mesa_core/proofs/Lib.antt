@@ -1,3 +1,4 @@
+pub use Rattle.mesa_passes.proofs as mesa_passes
 pub mod Rooms
 pub mod Due
 pub mod Sights

@@ -18,7 +18,7 @@ use Rattle.mesa_ledger.specs.Vault.{Starts, IsVault, IsVaultAt, outset_of}
 use Rattle.mesa_model.specs.declared.commands.Script.{Script}
 use Rattle.mesa_model.specs.declared.entries.Entry.{Entry}
 use Rattle.mesa_model.specs.Warehouse.{Store, Table, Warehouse, no_table}
-use Rattle.mesa_service.specs.Sight.{tables_known}
+use Rattle.mesa_granted.specs.mesa_service.Sight.{tables_known}
 use Rattle.mesa_skeleton.proofs.Lists.{at_same}
 use Rattle.mesa_skeleton.specs.Bare.{bare_store}
 use Rattle.mesa_skeleton.specs.Rows.{Rows, no_rows}

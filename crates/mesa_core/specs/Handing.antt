@@ -1,6 +1,6 @@
 -- What files that are handed out tell.
 use Rattle.std.specs.Prelude.{◌≡◌, ℕ, ◌<◌, List, Option, None, length}
-use Rattle.mesa_compact.specs.Bounded.{AreBounded}
+use Rattle.mesa_granted.specs.mesa_compact.Bounded.{AreBounded}
 use Rattle.mesa_history.specs.Run.{State}
 use Rattle.mesa_image_laws.specs.Moves.{last_of}
 use Rattle.mesa_ledger.specs.Vault.{Origin}
@@ -9,14 +9,14 @@ use Rattle.mesa_model.specs.declared.entries.Entry.{Entry}
 use Rattle.mesa_model.specs.Query.{Answer}
 use Rattle.mesa_model.specs.Warehouse.{Store, max_tables}
 use Rattle.mesa_walk.specs.Walk.{run_at}
-use Rattle.mesa_works.specs.Ranged.{written_at}
+use Rattle.mesa_granted.specs.mesa_works.Ranged.{written_at}
 use Rattle.mesa_granted.specs.Known.{AllHaveRange, IsKnownOf, lineage_in}
 use Rattle.mesa_schema.specs.Changes.{columns_of}
 use Rattle.mesa_schema.specs.Lineages.{IsLineage}
 use Rattle.mesa_skeleton.specs.Rows.{Rows, no_rows}
-use Rattle.mesa_pinning.specs.Told.{TellAnswer}
-use Rattle.mesa_service.specs.Pins.{KnownPin}
-use Rattle.mesa_service.specs.Works.{KnownTask}
+use Rattle.mesa_granted.specs.mesa_pinning.Told.{TellAnswer}
+use Rattle.mesa_granted.specs.mesa_service.Pins.{KnownPin}
+use Rattle.mesa_granted.specs.mesa_service.Works.{KnownTask}
 
 -- What a query's files tell of its answer: all of it where the store was sound.
 abbrev pub Tells : (Rows → Type 0) → KnownPin → Rows → Answer → Type 0

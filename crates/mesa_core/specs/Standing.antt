@@ -6,7 +6,7 @@ use Rattle.mesa_image.specs.Catalog.{Catalog, stock_at}
 use Rattle.mesa_model.specs.declared.commands.Script.{Script}
 use Rattle.mesa_model.specs.declared.entries.Entry.{Entry}
 use Rattle.mesa_schema.specs.Lineages.{IsLineage}
-use Rattle.mesa_service.specs.Sight.{sight_after}
+use Rattle.mesa_granted.specs.mesa_service.Sight.{sight_after}
 use Rattle.mesa_skeleton.specs.Rows.{Rows, no_rows}
 use Rattle.mesa_walk.specs.Walk.{run_at}
 

@@ -9,13 +9,13 @@ ghost use Rattle.mesa_walk.specs.Walk.{run_at};
 use crate::Vault;
 use crate::asked::command_of;
 use crate::standing::allocator;
+use mesa_completing::{alter, expire, table, view};
 use mesa_disk::{Disk, Made};
 use mesa_io::Sink;
 use mesa_ledger::Naming;
 use mesa_log::Who;
 use mesa_model::{Command, Reply};
 use mesa_quiet::{explain, pin, release};
-use mesa_completing::{alter, expire, table, view};
 
 impl<'s, N: Naming, M: Made, D: Disk<M>, K: Sink> Vault<'s, N, M, D, K> {
     /// The one turn of a command that is no load, no query and no work.

@@ -4,7 +4,7 @@ ghost use Rattle.mesa_batch.specs.declared.words.RowWords.{RowWords as AnyWords}
 ghost use Rattle.mesa_history.specs.Run.{Finished, First, Looked, command_at};
 ghost use Rattle.mesa_model.specs.declared.commands.Command.TheVariants as command;
 ghost use Rattle.mesa_model.specs.declared.entries.Kind.TheVariants as kind;
-ghost use Rattle.mesa_service.specs.Sight.{sight_after};
+ghost use Rattle.mesa_granted.specs.mesa_service.Sight.{sight_after};
 ghost use Rattle.mesa_skeleton.specs.Rows.{no_rows};
 ghost use Rattle.mesa_tasks.specs.Batches.{HasPrepared};
 ghost use Rattle.mesa_tasks.specs.declared.prepared.LoadError.TheVariants as load;
@@ -15,6 +15,7 @@ use crate::Vault;
 use crate::asked::rows_of;
 use crate::standing::{allocator, catalogue};
 use mesa_batch::Glance;
+use mesa_completing::publish;
 use mesa_disk::{Disk, Made};
 use mesa_io::Sink;
 use mesa_ledger::Naming;
@@ -22,7 +23,6 @@ use mesa_log::Who;
 use mesa_model::Reply;
 use mesa_quiet::look;
 use mesa_tasks::{LoadError, Prepared};
-use mesa_completing::publish;
 use std::alloc::AllocError;
 
 impl<'s, N: Naming, M: Made, D: Disk<M>, K: Sink> Vault<'s, N, M, D, K> {

@@ -4,7 +4,7 @@ ghost use Rattle.mesa_core.specs.Handing.{Tells};
 ghost use Rattle.mesa_history.specs.Legal.{is_query};
 ghost use Rattle.mesa_history.specs.Run.{Finished, First};
 ghost use Rattle.mesa_model.specs.declared.entries.Kind.TheVariants as kind;
-ghost use Rattle.mesa_service.specs.Pins.{HasAnswered, IsOpenQuery, TakesQuery, known_pin};
+ghost use Rattle.mesa_granted.specs.mesa_service.Pins.{HasAnswered, IsOpenQuery, TakesQuery, known_pin};
 ghost use Rattle.mesa_skeleton.specs.Rows.{no_rows};
 ghost use Rattle.mesa_walk.specs.Turns.{Asks, Takes};
 ghost use Rattle.mesa_walk.specs.Walk.{run_at};

@@ -2,7 +2,7 @@
 ghost use Rattle.std.specs.Prelude.{◌≡◌, ◌<◌, ◌^◌, IfOk};
 ghost use Rattle.mesa_history.specs.Refused.{some_refused};
 ghost use Rattle.mesa_history.specs.Run.{begins};
-ghost use Rattle.mesa_service.specs.Sight.{sight_after};
+ghost use Rattle.mesa_granted.specs.mesa_service.Sight.{sight_after};
 ghost use Rattle.mesa_skeleton.specs.Rows.{Rows, no_rows};
 ghost use Rattle.mesa_walk.specs.Turns.{IsSeen};
 

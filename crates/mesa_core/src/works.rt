@@ -4,7 +4,7 @@ ghost use Rattle.mesa_core.specs.Handing.{IsGranted};
 ghost use Rattle.mesa_history.specs.Legal.{is_work};
 ghost use Rattle.mesa_history.specs.Run.{Finished, First, Granted, Renewed};
 ghost use Rattle.mesa_model.specs.declared.entries.Kind.TheVariants as kind;
-ghost use Rattle.mesa_service.specs.Works.{CanBeMerged, HasMerged, WasGranted, known_task};
+ghost use Rattle.mesa_granted.specs.mesa_service.Works.{CanBeMerged, HasMerged, WasGranted, known_task};
 ghost use Rattle.mesa_skeleton.specs.Rows.{no_rows};
 ghost use Rattle.mesa_tasks.specs.Tasks.{claim_in};
 ghost use Rattle.mesa_tasks.specs.declared.merging.CompactError.TheVariants as compact;

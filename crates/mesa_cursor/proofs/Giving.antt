@@ -2,7 +2,7 @@
 use Rattle.std.proofs.Common.{◌≡◌, ◌≢◌, ◌⊎◌, inl, inr, ℕ, zero, suc, ◌+◌, ◌<◌, ◌≤◌, List, [], ◌∷◌, ◌++◌, refl, sym, ◌∙◌, ap, subst, length, get_or, take, arith, length-append}
 use Rattle.std.proofs.lemmas.List.{append-nil, map-append, length-map}
 use Rattle.std.specs.Prelude.{map, Option, Some}
-use Rattle.mesa_block.specs.Rows.{most_rows}
+use Rattle.mesa_delta.specs.mesa_block.Rows.{most_rows}
 use Rattle.mesa_schema.specs.declared.rows.Row.{Row}
 use Rattle.mesa_schema.specs.Changes.{columns_at, epoch_of}
 use Rattle.mesa_schema.specs.Columns.{Columns}

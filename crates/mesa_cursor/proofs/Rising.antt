@@ -6,9 +6,9 @@ use Rattle.std.specs.Ordering.{is_lt}
 use Rattle.std.specs.declared.cmp.Ordering.{Ordering}
 use Rattle.std.specs.declared.cmp.Ordering.TheVariants.{Less, Equal, Greater}
 use Rattle.std.specs.Cmp.Lexicographic.{nat_list_cmp_total}
-use Rattle.mesa_key.specs.Order.{byte_cmp}
-use Rattle.mesa_block.specs.Rows.{Rise}
-use Rattle.mesa_block.specs.Spelling.{key_of}
+use Rattle.mesa_schema.specs.mesa_key.Order.{byte_cmp}
+use Rattle.mesa_delta.specs.mesa_block.Rows.{Rise}
+use Rattle.mesa_delta.specs.mesa_block.Spelling.{key_of}
 use Rattle.mesa_schema.specs.declared.rows.Row.{Row}
 use Rattle.mesa_schema.specs.Changes.{Lineage, columns_at, columns_of, epoch_of, lifted}
 use Rattle.mesa_schema.specs.Columns.{Columns}

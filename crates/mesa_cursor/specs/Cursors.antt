@@ -5,7 +5,7 @@ use Rattle.mesa_schema.specs.declared.lifting.Lift.{Lift}
 use Rattle.mesa_schema.specs.Changes.{columns_at, epoch_of, lifted}
 use Rattle.mesa_schema.specs.Folded.{rows_of}
 use Rattle.mesa_schema.specs.Lifting.{Lifts}
-use Rattle.mesa_block.specs.Rows.{most_rows}
+use Rattle.mesa_delta.specs.mesa_block.Rows.{most_rows}
 use Rattle.mesa_delta.specs.Reading.{HasRead, IsIndexed, IsReaderOf, IsWhole, index_of, reader_of}
 use Rattle.mesa_delta.specs.Spread.{blocks_of}
 use Rattle.mesa_delta.specs.declared.input.Input.{Input}

@@ -5,8 +5,8 @@ use Rattle.std.specs.List.{AllByRecursion}
 use Rattle.std.specs.Ordering.{is_le}
 use Rattle.std.proofs.lemmas.List.{length-drop, take_all}
 use Rattle.sha2.specs.Sha256.{sha256}
-use Rattle.mesa_file.specs.declared.damage.Damage.{Damage}
-use Rattle.mesa_file.specs.declared.file_ref.FileRef.{FileRef}
+use Rattle.mesa_disk.specs.mesa_file.declared.damage.Damage.{Damage}
+use Rattle.mesa_disk.specs.mesa_file.declared.file_ref.FileRef.{FileRef}
 use Rattle.mesa_key.specs.Order.{byte_cmp, short_key}
 use Rattle.mesa_schema.specs.declared.rows.Row.{Row}
 use Rattle.mesa_schema.specs.Columns.{Columns}

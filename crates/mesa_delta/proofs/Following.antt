@@ -1,7 +1,7 @@
 -- What a read block adds to what was read.
 use Rattle.std.proofs.Common.{◌≡◌, ◌⊎◌, inl, inr, ℕ, ◌<◌, List, [], ◌∷◌, ◌++◌, length, take, refl, sym, ap, subst, ◌∙◌, arith, Option, Some}
-use Rattle.mesa_file.specs.declared.damage.Damage.{Damage}
-use Rattle.mesa_file.specs.declared.damage.Seen.TheVariants as seen
+use Rattle.mesa_disk.specs.mesa_file.declared.damage.Damage.{Damage}
+use Rattle.mesa_disk.specs.mesa_file.declared.damage.Seen.TheVariants as seen
 use Rattle.mesa_schema.specs.declared.rows.Row.{Row}
 use Rattle.mesa_block.specs.Spelling.{block}
 use Rattle.mesa_delta.specs.declared.place.Entry.{Entry}

@@ -10,7 +10,7 @@ use Rattle.mesa_schema.specs.Schema.{is_schema}
 use Rattle.mesa_key.specs.Order.{short_key}
 use Rattle.mesa_schema.specs.Columns.{Columns, kinds_of, aggs_of}
 use Rattle.mesa_delta.specs.declared.place.Entry.{Entry}
-use Rattle.mesa_file.specs.declared.file_ref.FileRef.{FileRef}
+use Rattle.mesa_disk.specs.mesa_file.declared.file_ref.FileRef.{FileRef}
 use Rattle.mesa_delta.specs.Indexed.{IsIndexOf, tail_length}
 use Rattle.mesa_delta.specs.Places.{spelled, Follow, HasWidths, shorts_of, tail_spelled}
 use Rattle.mesa_delta.specs.Seeking.{NeverFall}

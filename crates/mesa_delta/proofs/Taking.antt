@@ -10,7 +10,7 @@ use Rattle.mesa_schema.specs.Columns.{aggs_of}
 use Rattle.mesa_block.specs.Fill.{Built}
 use Rattle.mesa_block.specs.Rows.{IsRow, Rise}
 use Rattle.mesa_block.specs.Spelling.{block, key_of}
-use Rattle.mesa_file.specs.declared.file_ref.FileRef.{FileRef}
+use Rattle.mesa_disk.specs.mesa_file.declared.file_ref.FileRef.{FileRef}
 use Rattle.mesa_delta.specs.Spread.{Filling, spread, with_more, nothing_filled, blocks_of}
 use Rattle.mesa_delta.specs.Tail.{tail_of}
 use Rattle.mesa_delta.specs.File.{IsFile}

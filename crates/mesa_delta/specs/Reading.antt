@@ -8,8 +8,8 @@ use Rattle.mesa_schema.specs.Columns.{Columns}
 use Rattle.mesa_schema.specs.Folded.{rows_of}
 use Rattle.mesa_block.specs.Rows.{AreRows, Rise}
 use Rattle.mesa_block.specs.Spelling.{block, key_of}
-use Rattle.mesa_file.specs.declared.damage.Damage.{Damage}
-use Rattle.mesa_file.specs.declared.file_ref.FileRef.{FileRef}
+use Rattle.mesa_disk.specs.mesa_file.declared.damage.Damage.{Damage}
+use Rattle.mesa_disk.specs.mesa_file.declared.file_ref.FileRef.{FileRef}
 use Rattle.mesa_delta.specs.Damages.{IsPieceDamage, IsWrongLength}
 use Rattle.mesa_delta.specs.File.{IsFile, file_bytes, file_tail}
 use Rattle.mesa_delta.specs.Indexed.{Indexed, tail_length}

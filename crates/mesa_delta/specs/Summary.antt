@@ -7,7 +7,7 @@ use Rattle.mesa_value.specs.Agg.{Combines}
 use Rattle.mesa_schema.specs.declared.rows.Row.{Row}
 use Rattle.mesa_schema.specs.Columns.{Columns, aggs_of}
 use Rattle.mesa_schema.specs.Folded.{all_combined}
-use Rattle.mesa_file.specs.declared.file_ref.FileRef.{FileRef}
+use Rattle.mesa_disk.specs.mesa_file.declared.file_ref.FileRef.{FileRef}
 use Rattle.mesa_delta.specs.Spread.{blocks_of}
 use Rattle.mesa_delta.specs.Tail.{first_key}
 use Rattle.mesa_delta.specs.File.{file_bytes, file_tail}

@@ -1,6 +1,6 @@
 // Blocks that are written through a draft.
 ghost use Rattle.std.specs.Prelude.{◌≡◌, IsTrue, ◌<◌, ◌≤◌, ◌^◌, ℕ, List, [], ◌∷◌, ◌++◌, length, map, IfOk, OnOk, IfErr, None};
-ghost use Rattle.mesa_fault.specs.Causes.{HasFaultCause};
+ghost use Rattle.mesa_disk.specs.mesa_fault.Causes.{HasFaultCause};
 ghost use Rattle.mesa_schema.specs.Columns.{Columns};
 ghost use Rattle.mesa_block.specs.Fill.{after, fit};
 ghost use Rattle.mesa_block.specs.Rows.{IsRow, Rise};

@@ -1,3 +1,6 @@
+pub use Rattle.mesa_fault.specs as mesa_fault
+pub use Rattle.mesa_file.specs as mesa_file
+pub use Rattle.mesa_file.specs.mesa_key as mesa_key
 pub mod Image
 pub mod Story
 pub mod Files

@@ -1,3 +1,4 @@
+pub use Rattle.mesa_opening.proofs as mesa_opening
 pub mod Small
 pub mod Alike
 pub mod WellFormed

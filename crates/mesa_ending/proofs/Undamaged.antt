@@ -26,9 +26,9 @@ use Rattle.mesa_commit.specs.Images.{Has}
 use Rattle.mesa_image.specs.Catalog.{Catalog}
 use Rattle.mesa_image.specs.Fitting.{Shelved, catalog, shelved, stock_shelved}
 use Rattle.mesa_image.specs.Sound.{IsSoundAs, IsStocked, IsTold, bytes_of, wants}
-use Rattle.mesa_image_laws.proofs.Lists.{all_flat}
-use Rattle.mesa_shelf.specs.declared.recorded.Recorded.{Recorded}
-use Rattle.mesa_shelf.specs.Files.{recorded_of}
+use Rattle.mesa_opening.proofs.mesa_image_laws.Lists.{all_flat}
+use Rattle.mesa_opening.specs.mesa_shelf.declared.recorded.Recorded.{Recorded}
+use Rattle.mesa_opening.specs.mesa_shelf.Files.{recorded_of}
 use Rattle.mesa_opening.specs.Damages.{HasDamagedFile, IsFileDamage}
 use Rattle.mesa_opening.proofs.Reasons.{recorded_all}
 

@@ -18,8 +18,8 @@ use Rattle.mesa_image.specs.Contents.{present, deltas_to, content, table_of, kep
 use Rattle.mesa_image.specs.Fitting.{deltas_of, delta_shelved, names_in}
 use Rattle.mesa_image.specs.Shape.{IsShaped, IsCatalog}
 use Rattle.mesa_image.specs.Sound.{IsStocked, AreStocked, IsTold}
-use Rattle.mesa_image_laws.proofs.Formed.{AreFormed, all_formed, rows_formed, up_to}
-use Rattle.mesa_image_laws.proofs.Lists.{all_unflat}
+use Rattle.mesa_opening.proofs.mesa_image_laws.Formed.{AreFormed, all_formed, rows_formed, up_to}
+use Rattle.mesa_opening.proofs.mesa_image_laws.Lists.{all_unflat}
 use Rattle.mesa_ending.specs.Start.{start_of}
 
 content_is : (rows : Rows) (t : Stock) (oldest next : ℕ) → IsShaped oldest next t → IsStocked rows t → (version : ℕ) → IsContent (columns_of t.lineage) (content rows t version)

@@ -1,3 +1,4 @@
+pub use Rattle.mesa_opening.specs as mesa_opening
 pub mod Ports
 pub mod Exits
 pub mod Scripts

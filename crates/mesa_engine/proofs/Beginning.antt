@@ -1,11 +1,11 @@
 -- An engine before its first turn.
 use Rattle.std.proofs.Common.{◌≡◌, ℕ, List, [], Bool, true, false, sym, ap, subst, Option}
 use Rattle.mesa_disk.specs.Story.{Story}
-use Rattle.mesa_image.specs.Catalog.{Catalog}
+use Rattle.mesa_catalog.specs.mesa_image.Catalog.{Catalog}
 use Rattle.mesa_lease.specs.Book.{Book}
-use Rattle.mesa_skeleton.specs.Rows.{Rows}
-use Rattle.mesa_walk.specs.Books.{AreBooksOf}
-use Rattle.mesa_walk.proofs.Beginning.{started}
+use Rattle.mesa_ledger.specs.mesa_skeleton.Rows.{Rows}
+use Rattle.mesa_ledger.specs.mesa_walk.Books.{AreBooksOf}
+use Rattle.mesa_ledger.proofs.mesa_walk.Beginning.{started}
 use Rattle.mesa_ledger.specs.Ledger.{books_of}
 use Rattle.mesa_ledger.specs.Vault.{Starts, IsVault, outset_of}
 use Rattle.mesa_ledger.proofs.Beginning.{first_ledger, started_vault}

@@ -6,9 +6,9 @@ use Rattle.mesa_batch.specs.Glance.{tables_of}
 use Rattle.mesa_catalog.specs.Lookups.{sight_of}
 use Rattle.mesa_disk.specs.Story.{Story}
 use Rattle.mesa_model.specs.declared.entries.Entry.{Entry}
-use Rattle.mesa_walk.specs.Sight.{tables_seen}
-use Rattle.mesa_walk.specs.Walk.{Outset, run_of}
-use Rattle.mesa_walk.proofs.Skeletons.{named_is}
+use Rattle.mesa_ledger.specs.mesa_walk.Sight.{tables_seen}
+use Rattle.mesa_ledger.specs.mesa_walk.Walk.{Outset, run_of}
+use Rattle.mesa_ledger.proofs.mesa_walk.Skeletons.{named_is}
 use Rattle.mesa_ledger.specs.Ledger.{Ledger, books_of}
 use Rattle.mesa_ledger.specs.Vault.{Origin, IsVault}
 use Rattle.mesa_ledger.proofs.Changing.{tables_are}

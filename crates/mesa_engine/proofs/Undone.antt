@@ -9,32 +9,32 @@ use Rattle.mesa_model.specs.declared.entries.Entry.{Entry}
 use Rattle.mesa_model.specs.declared.entries.Kind.{Kind}
 use Rattle.mesa_model.specs.declared.entries.Kind.TheVariants as kind
 use Rattle.mesa_model.specs.declared.entries.Outcome.TheVariants as outcome
-use Rattle.mesa_history.specs.Legal.{is_answered, is_due_at}
-use Rattle.mesa_history.specs.Replay.{closes, is_skip}
-use Rattle.mesa_history.specs.Refused.{is_refusal}
-use Rattle.mesa_history.specs.Run.{Stage, First, Looked, Finished}
-use Rattle.mesa_history.specs.Turns.{IsDue}
+use Rattle.mesa_catalog.specs.mesa_history.Legal.{is_answered, is_due_at}
+use Rattle.mesa_catalog.specs.mesa_history.Replay.{closes, is_skip}
+use Rattle.mesa_catalog.specs.mesa_history.Refused.{is_refusal}
+use Rattle.mesa_catalog.specs.mesa_history.Run.{Stage, First, Looked, Finished}
+use Rattle.mesa_catalog.specs.mesa_history.Turns.{IsDue}
 use Rattle.mesa_model.specs.Load.{load_batch}
 use Rattle.mesa_model.specs.Pins.{make_pin, release_pin}
 use Rattle.mesa_model.specs.Tables.{alter_table, make_table, make_view}
 use Rattle.mesa_model.specs.Versions.{expire_to}
-use Rattle.mesa_output.specs.Output.{block}
-use Rattle.mesa_skeleton.specs.Rows.{Rows}
-use Rattle.mesa_walk.specs.Books.{Books}
-use Rattle.mesa_walk.specs.Causes.{Cause, Replies, Unread, Damaged, Unwritten, NoMemory, outcome_of, reply_of, told_at, is_read_fault}
-use Rattle.mesa_walk.specs.Changes.{Doing, IsDecided, HasFailed, HasNoPlan, failed_books}
-use Rattle.mesa_walk.specs.Printing.{IsPut}
-use Rattle.mesa_walk.specs.Queries.{HasNoAnswer}
-use Rattle.mesa_walk.specs.Turns.{Shown, IsSeen, Takes, entry, is_simple}
-use Rattle.mesa_walk.specs.Undamaged.{is_damaged}
-use Rattle.mesa_walk.specs.Walk.{Outset, Counts, WalksOn, run_of}
-use Rattle.mesa_walk.specs.Works.{HasNoClaim}
-use Rattle.mesa_walk.proofs.Asking.{unpinned_turn, unpinned_ends}
-use Rattle.mesa_walk.proofs.Changing.{alter_decided, expire_decided, load_decided, pin_decided, release_decided, table_decided, view_decided, fails_turn}
-use Rattle.mesa_walk.proofs.Going.{publish_takes, simple_takes, takes_as}
-use Rattle.mesa_walk.proofs.Reading.{unexplained_turn}
-use Rattle.mesa_walk.proofs.Turning.{stays, counts_same, skipped_turn}
-use Rattle.mesa_walk.proofs.Working.{ungranted_turn, ungranted_ends}
+use Rattle.mesa_ledger.specs.mesa_output.Output.{block}
+use Rattle.mesa_ledger.specs.mesa_skeleton.Rows.{Rows}
+use Rattle.mesa_ledger.specs.mesa_walk.Books.{Books}
+use Rattle.mesa_ledger.specs.mesa_walk.Causes.{Cause, Replies, Unread, Damaged, Unwritten, NoMemory, outcome_of, reply_of, told_at, is_read_fault}
+use Rattle.mesa_ledger.specs.mesa_walk.Changes.{Doing, IsDecided, HasFailed, HasNoPlan, failed_books}
+use Rattle.mesa_ledger.specs.mesa_walk.Printing.{IsPut}
+use Rattle.mesa_ledger.specs.mesa_walk.Queries.{HasNoAnswer}
+use Rattle.mesa_ledger.specs.mesa_walk.Turns.{Shown, IsSeen, Takes, entry, is_simple}
+use Rattle.mesa_ledger.specs.mesa_walk.Undamaged.{is_damaged}
+use Rattle.mesa_ledger.specs.mesa_walk.Walk.{Outset, Counts, WalksOn, run_of}
+use Rattle.mesa_ledger.specs.mesa_walk.Works.{HasNoClaim}
+use Rattle.mesa_ledger.proofs.mesa_walk.Asking.{unpinned_turn, unpinned_ends}
+use Rattle.mesa_ledger.proofs.mesa_walk.Changing.{alter_decided, expire_decided, load_decided, pin_decided, release_decided, table_decided, view_decided, fails_turn}
+use Rattle.mesa_ledger.proofs.mesa_walk.Going.{publish_takes, simple_takes, takes_as}
+use Rattle.mesa_ledger.proofs.mesa_walk.Reading.{unexplained_turn}
+use Rattle.mesa_ledger.proofs.mesa_walk.Turning.{stays, counts_same, skipped_turn}
+use Rattle.mesa_ledger.proofs.mesa_walk.Working.{ungranted_turn, ungranted_ends}
 use Rattle.mesa_ledger.specs.Ledger.{Ledger, books_of}
 use Rattle.mesa_ledger.specs.Vault.{Origin, IsVault}
 use Rattle.mesa_ledger.proofs.Staying.{still_vault}

@@ -1,19 +1,19 @@
 -- What an engine is begun with.
 use Rattle.std.specs.Prelude.{◌≡◌, ℕ, ◌+◌, ◌<◌, ◌≤◌, List, [], Bool, Option, IsTrue}
 use Rattle.mesa_disk.specs.Story.{Story}
-use Rattle.mesa_history.specs.Claims.{HasRanges}
+use Rattle.mesa_catalog.specs.mesa_history.Claims.{HasRanges}
 use Rattle.mesa_lease.specs.Book.{begun}
 use Rattle.mesa_model.specs.Warehouse.{max_tables}
-use Rattle.mesa_image.specs.Catalog.{Catalog}
-use Rattle.mesa_image.specs.Held.{IsHeld}
-use Rattle.mesa_image.specs.Shape.{IsCatalog}
-use Rattle.mesa_image.specs.Sound.{AreStocked}
-use Rattle.mesa_image_laws.specs.Ids.{HasOwnIds, named}
-use Rattle.mesa_image_laws.specs.Sourced.{HasSources, all_written}
-use Rattle.mesa_skeleton.specs.Rows.{Rows}
-use Rattle.mesa_trash.specs.Holding.{Among}
-use Rattle.mesa_walk.specs.Books.{AreBooksOf}
-use Rattle.mesa_walk.specs.Walk.{AllFound}
+use Rattle.mesa_catalog.specs.mesa_image.Catalog.{Catalog}
+use Rattle.mesa_catalog.specs.mesa_image.Held.{IsHeld}
+use Rattle.mesa_catalog.specs.mesa_image.Shape.{IsCatalog}
+use Rattle.mesa_catalog.specs.mesa_image.Sound.{AreStocked}
+use Rattle.mesa_ledger.specs.mesa_image_laws.Ids.{HasOwnIds, named}
+use Rattle.mesa_ledger.specs.mesa_image_laws.Sourced.{HasSources, all_written}
+use Rattle.mesa_ledger.specs.mesa_skeleton.Rows.{Rows}
+use Rattle.mesa_ledger.specs.mesa_trash.Holding.{Among}
+use Rattle.mesa_ledger.specs.mesa_walk.Books.{AreBooksOf}
+use Rattle.mesa_ledger.specs.mesa_walk.Walk.{AllFound}
 use Rattle.mesa_ledger.specs.Ledger.{books_of, first_id}
 use Rattle.mesa_ledger.specs.Vault.{Starts, IsRead, IsReady, outset_of}
 use Rattle.mesa_catalog.specs.Lookups.{generation_of}

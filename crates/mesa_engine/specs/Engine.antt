@@ -4,10 +4,10 @@ use Rattle.std.specs.List.{AllByRecursion}
 use Rattle.mesa_fault.specs.Causes.{Rose}
 use Rattle.mesa_disk.specs.Story.{Story}
 use Rattle.mesa_model.specs.declared.commands.Script.{Script}
-use Rattle.mesa_history.specs.Run.{State}
-use Rattle.mesa_skeleton.specs.Rows.{Rows}
-use Rattle.mesa_walk.specs.Turns.{Shown}
-use Rattle.mesa_walk.specs.Undamaged.{NoneDamaged}
+use Rattle.mesa_catalog.specs.mesa_history.Run.{State}
+use Rattle.mesa_ledger.specs.mesa_skeleton.Rows.{Rows}
+use Rattle.mesa_ledger.specs.mesa_walk.Turns.{Shown}
+use Rattle.mesa_ledger.specs.mesa_walk.Undamaged.{NoneDamaged}
 use Rattle.mesa_log.specs.declared.log.Log.{Log}
 use Rattle.mesa_ledger.specs.Ledger.{Ledger}
 use Rattle.mesa_ledger.specs.Vault.{Origin, Starts, IsVaultAt}

@@ -9,14 +9,14 @@ use Rattle.mesa_model.specs.Load.{load_batch}
 use Rattle.mesa_model.specs.Tables.{alter_table, make_table, make_view}
 use Rattle.mesa_model.specs.Pins.{make_pin, release_pin}
 use Rattle.mesa_model.specs.Versions.{expire_to}
-use Rattle.mesa_history.specs.Run.{Stage, First, Looked, Run}
-use Rattle.mesa_history.specs.Legal.{is_due_at}
-use Rattle.mesa_history.specs.Turns.{IsDue}
-use Rattle.mesa_walk.specs.Books.{Books}
-use Rattle.mesa_walk.specs.Causes.{Cause, Unread, Damaged, Unwritten}
-use Rattle.mesa_walk.specs.Changes.{HasFailed, HasNoPlan}
-use Rattle.mesa_walk.specs.Queries.{HasNoAnswer}
-use Rattle.mesa_walk.specs.Works.{HasNoClaim}
+use Rattle.mesa_catalog.specs.mesa_history.Run.{Stage, First, Looked, Run}
+use Rattle.mesa_catalog.specs.mesa_history.Legal.{is_due_at}
+use Rattle.mesa_catalog.specs.mesa_history.Turns.{IsDue}
+use Rattle.mesa_ledger.specs.mesa_walk.Books.{Books}
+use Rattle.mesa_ledger.specs.mesa_walk.Causes.{Cause, Unread, Damaged, Unwritten}
+use Rattle.mesa_ledger.specs.mesa_walk.Changes.{HasFailed, HasNoPlan}
+use Rattle.mesa_ledger.specs.mesa_walk.Queries.{HasNoAnswer}
+use Rattle.mesa_ledger.specs.mesa_walk.Works.{HasNoClaim}
 
 -- A turn of this kind is due to a session's command.
 pub record Comes (script : Script) (r : Run) (session number : ℕ) (k : Kind) : Type 0 where

@@ -2,11 +2,11 @@
 ghost use Rattle.std.specs.Prelude.{◌≡◌, ◌+◌, ◌<◌, ◌^◌, IfOk};
 ghost use Rattle.mesa_batch.specs.Glance.{tables_of};
 ghost use Rattle.mesa_catalog.specs.Lookups.{sight_of};
-ghost use Rattle.mesa_history.specs.Refused.{some_refused};
-ghost use Rattle.mesa_history.specs.Run.{begins};
-ghost use Rattle.mesa_skeleton.specs.Rows.{Rows, no_rows};
-ghost use Rattle.mesa_walk.specs.Sight.{schema_changes, tables_seen};
-ghost use Rattle.mesa_walk.specs.Walk.{run_at};
+ghost use Rattle.mesa_catalog.specs.mesa_history.Refused.{some_refused};
+ghost use Rattle.mesa_catalog.specs.mesa_history.Run.{begins};
+ghost use Rattle.mesa_ledger.specs.mesa_skeleton.Rows.{Rows, no_rows};
+ghost use Rattle.mesa_ledger.specs.mesa_walk.Sight.{schema_changes, tables_seen};
+ghost use Rattle.mesa_ledger.specs.mesa_walk.Walk.{run_at};
 
 use mesa_batch::Glance;
 use mesa_disk::{Disk, Made};

@@ -1,13 +1,13 @@
 // Turns that do nothing for their command.
 ghost use Rattle.std.specs.Prelude.{◌≡◌, ◌<◌, true, false, length};
 ghost use Rattle.mesa_engine.specs.Failing.{Comes, Fails};
-ghost use Rattle.mesa_history.specs.Run.{Finished, Stage};
+ghost use Rattle.mesa_catalog.specs.mesa_history.Run.{Finished, Stage};
 ghost use Rattle.mesa_ledger.specs.Ledger.{books_of};
 ghost use Rattle.mesa_log.specs.Failure.{cause_in};
-ghost use Rattle.mesa_skeleton.specs.Rows.{Rows, no_rows};
-ghost use Rattle.mesa_walk.specs.Causes.{reply_of};
-ghost use Rattle.mesa_walk.specs.Turns.{AnswersDraft, Takes};
-ghost use Rattle.mesa_walk.specs.Walk.{run_at};
+ghost use Rattle.mesa_ledger.specs.mesa_skeleton.Rows.{Rows, no_rows};
+ghost use Rattle.mesa_ledger.specs.mesa_walk.Causes.{reply_of};
+ghost use Rattle.mesa_ledger.specs.mesa_walk.Turns.{AnswersDraft, Takes};
+ghost use Rattle.mesa_ledger.specs.mesa_walk.Walk.{run_at};
 
 use crate::Engine;
 use mesa_disk::{Disk, Made};

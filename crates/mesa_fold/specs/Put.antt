@@ -2,7 +2,7 @@
 use Rattle.std.specs.Prelude.{◌≡◌, ℕ, List, [], ◌∷◌, map, T}
 use Rattle.std.specs.FinMap.Entries.{is_sorted}
 use Rattle.mesa_value.specs.declared.Agg.{Agg}
-use Rattle.mesa_key.specs.Order.{byte_cmp}
+use Rattle.mesa_schema.specs.mesa_key.Order.{byte_cmp}
 use Rattle.mesa_schema.specs.declared.rows.Row.{Row}
 use Rattle.mesa_schema.specs.Folded.{folded}
 

@@ -1,7 +1,7 @@
 // A batch of rows folded into rows that stand in the order of their keys.
 ghost use Rattle.std.specs.Prelude.{◌≡◌, ◌↔◌, ◌+◌, ◌<◌, ◌≤◌, List, [], ◌∷◌, length, vec_len, vec_capacity, IsTrue, OnErr, OnOk};
 ghost use Rattle.std.specs.List.Sorted.{IsBinarySearchResult, IsSearchInRange};
-ghost use Rattle.mesa_key.specs.Order.{byte_cmp};
+ghost use Rattle.mesa_schema.specs.mesa_key.Order.{byte_cmp};
 ghost use Rattle.mesa_schema.specs.declared.rows.Row.{Row as RowOf};
 ghost use Rattle.mesa_schema.specs.Folded.{AllCombine, folded, row_combined};
 ghost use Rattle.mesa_schema.specs.Laws.{AreFull};

@@ -1,1 +1,2 @@
+pub use Rattle.mesa_shelf.specs as mesa_shelf
 pub mod Gathered

@@ -7,10 +7,10 @@ use Rattle.mesa_schema.specs.declared.views.View.{View}
 use Rattle.mesa_schema.specs.Changes.{Lineage, columns_of}
 use Rattle.mesa_schema.specs.Columns.{Columns}
 use Rattle.mesa_schema.specs.Views.{view_columns}
-use Rattle.mesa_compact.specs.Bounded.{AreBounded, AreOwnBounded, IsBounded}
-use Rattle.mesa_compact.specs.Tasks.{KnownView, known_view}
+use Rattle.mesa_service.specs.mesa_compact.Bounded.{AreBounded, AreOwnBounded, IsBounded}
+use Rattle.mesa_service.specs.mesa_compact.Tasks.{KnownView, known_view}
 use Rattle.mesa_delta.specs.declared.input.Input.{Input}
-use Rattle.mesa_merge.specs.Inputs.{Known, knowns_of}
+use Rattle.mesa_service.specs.mesa_merge.Inputs.{Known, knowns_of}
 use Rattle.mesa_service.specs.Works.{known_task}
 use Rattle.mesa_tasks.specs.Inputs.{AreInputsOf}
 use Rattle.mesa_tasks.specs.Tasks.{IsTask}

@@ -13,15 +13,15 @@ use Rattle.mesa_history.specs.Law.{Accepted, accepted_by, accepted_in}
 use Rattle.mesa_history.specs.Replay.{go, runs}
 use Rattle.mesa_history.specs.Run.{Run, State, begins}
 use Rattle.mesa_history.specs.Sources.{Source, range_rows}
-use Rattle.mesa_image_laws.specs.Moves.{last_of, first_of}
-use Rattle.mesa_image_laws.specs.Sourced.{Written, batch_written, source_written, sources_from}
+use Rattle.mesa_works.specs.mesa_image_laws.Moves.{last_of, first_of}
+use Rattle.mesa_works.specs.mesa_image_laws.Sourced.{Written, batch_written, source_written, sources_from}
 use Rattle.mesa_laws.proofs.Moves.{Moves}
 use Rattle.mesa_laws.proofs.Turns.{go_moves}
-use Rattle.mesa_ledger.specs.Vault.{Origin}
-use Rattle.mesa_ledger.proofs.Lists.{all_joined}
-use Rattle.mesa_swapping.specs.Finished.{GroupOnly, HasRange, sources_in}
+use Rattle.mesa_works.specs.mesa_ledger.Vault.{Origin}
+use Rattle.mesa_works.proofs.mesa_ledger.Lists.{all_joined}
+use Rattle.mesa_works.specs.mesa_swapping.Finished.{GroupOnly, HasRange, sources_in}
 use Rattle.mesa_tasks.specs.declared.merging.Task.{Task}
-use Rattle.mesa_walk.specs.Walk.{run_at}
+use Rattle.mesa_service.specs.mesa_walk.Walk.{run_at}
 use Rattle.mesa_works.specs.Ranged.{written_at}
 
 -- ---- batches

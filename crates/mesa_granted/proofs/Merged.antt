@@ -9,10 +9,10 @@ use Rattle.mesa_schema.specs.Changes.{Lineage, columns_of}
 use Rattle.mesa_schema.specs.Columns.{Columns, aggs_of}
 use Rattle.mesa_schema.specs.Folded.{folded}
 use Rattle.mesa_delta.specs.declared.input.Input.{Input}
-use Rattle.mesa_gather.specs.Gathered.{unread_views}
-use Rattle.mesa_merge.specs.Inputs.{Known, knowns_of}
+use Rattle.mesa_works.specs.mesa_gather.Gathered.{unread_views}
+use Rattle.mesa_service.specs.mesa_merge.Inputs.{Known, knowns_of}
 use Rattle.mesa_service.specs.Works.{known_task}
-use Rattle.mesa_compact.specs.Tasks.{KnownView, known_view}
+use Rattle.mesa_service.specs.mesa_compact.Tasks.{KnownView, known_view}
 use Rattle.mesa_tasks.specs.Inputs.{AreInputsOf, present_parts}
 use Rattle.mesa_tasks.specs.Tasks.{AreTaskViews, HasOwn, HaveMerged, IsMerged, IsTask}
 use Rattle.mesa_tasks.specs.declared.made.MadeFiles.{MadeFiles}

@@ -5,9 +5,9 @@ use Rattle.std.proofs.lemmas.List.{length-append, length-set, length-map}
 use Rattle.std.proofs.lemmas.List.Quantifiers.{position-Some}
 use mathlib.Core.Logic.{dite}
 use native.Mathlib.Decide.{ℕ_discrete}
-use Rattle.mesa_list.specs.Bytes.{same_bytes}
+use Rattle.mesa_span.specs.mesa_list.Bytes.{same_bytes}
 use Rattle.mesa_span.specs.declared.ranges.Ranges.{Ranges}
-use Rattle.mesa_list.specs.Checks.{refuse_unless, refused_as}
+use Rattle.mesa_span.specs.mesa_list.Checks.{refuse_unless, refused_as}
 use Rattle.mesa_span.specs.Work.{next_work, swapped}
 use Rattle.mesa_lease.specs.Book.{holder, is_held, other_holder}
 use Rattle.mesa_model.specs.declared.commands.Command.{Command}

@@ -2,14 +2,14 @@
 use Rattle.std.proofs.Common.{◌≡◌, ℕ, suc, ◌+◌, ◌≤◌, ◌-◌, drop, List, [], ◌∷◌, length, false, true, refl, ap, arith, ok_or, nat_le, nat_lt, is_none, set, Bool, ltb-false}
 use Rattle.std.specs.Prelude.{Result, Ok, Err, IfOk}
 use Rattle.std.proofs.lemmas.List.{length-append, length-set, length-map}
-use Rattle.mesa_list.specs.Checks.{◌>>◌, refuse_if, refuse_unless, refused_as}
-use Rattle.mesa_schema.specs.Names.{is_name}
-use Rattle.mesa_schema.specs.Schema.{schema_checked}
-use Rattle.mesa_schema.specs.Changes.{columns_of, change_checked}
-use Rattle.mesa_batch.specs.declared.words.RowWords.{RowWords}
-use Rattle.mesa_batch.specs.Batch.{Placed, batch_of}
-use Rattle.mesa_filter.specs.declared.words.VersionWord.{VersionWord}
-use Rattle.mesa_filter.specs.declared.words.VersionWord.TheVariants as asks
+use Rattle.mesa_span.specs.mesa_list.Checks.{◌>>◌, refuse_if, refuse_unless, refused_as}
+use Rattle.mesa_model.specs.mesa_schema.Names.{is_name}
+use Rattle.mesa_model.specs.mesa_schema.Schema.{schema_checked}
+use Rattle.mesa_model.specs.mesa_schema.Changes.{columns_of, change_checked}
+use Rattle.mesa_model.specs.mesa_batch.declared.words.RowWords.{RowWords}
+use Rattle.mesa_model.specs.mesa_batch.Batch.{Placed, batch_of}
+use Rattle.mesa_model.specs.mesa_filter.declared.words.VersionWord.{VersionWord}
+use Rattle.mesa_model.specs.mesa_filter.declared.words.VersionWord.TheVariants as asks
 use Rattle.mesa_model.specs.declared.commands.Command.{Command}
 use Rattle.mesa_model.specs.declared.commands.Command.TheVariants as command
 use Rattle.mesa_model.specs.declared.commands.TableWords.{TableWords}

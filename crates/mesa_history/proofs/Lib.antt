@@ -1,3 +1,4 @@
+pub use Rattle.mesa_span.proofs as mesa_span
 pub mod More
 pub mod Places
 pub mod Refusing

@@ -1,11 +1,11 @@
 -- The fold law: after any history each content is the fold of what stood at the start and of the batches accepted since.
 use Rattle.std.specs.Prelude.{◌≡◌, ℕ, ◌-◌, ◌<◌, ◌≤◌, List, [], ◌∷◌, ◌++◌, map, filter, nat_lt, nat_le, if◌then◌else◌, Option, Some, None, slice_get, slice_index_or, Result, Ok, Err}
-use Rattle.mesa_schema.specs.declared.rows.Row.{Row}
-use Rattle.mesa_schema.specs.Columns.{aggs_of}
-use Rattle.mesa_schema.specs.Changes.{columns_of, epoch_of, lifted}
-use Rattle.mesa_schema.specs.Folded.{folded}
-use Rattle.mesa_batch.specs.declared.words.BatchError.{BatchError}
-use Rattle.mesa_batch.specs.Batch.{Placed, batch_of, rows_for}
+use Rattle.mesa_model.specs.mesa_schema.declared.rows.Row.{Row}
+use Rattle.mesa_model.specs.mesa_schema.Columns.{aggs_of}
+use Rattle.mesa_model.specs.mesa_schema.Changes.{columns_of, epoch_of, lifted}
+use Rattle.mesa_model.specs.mesa_schema.Folded.{folded}
+use Rattle.mesa_model.specs.mesa_batch.declared.words.BatchError.{BatchError}
+use Rattle.mesa_model.specs.mesa_batch.Batch.{Placed, batch_of, rows_for}
 use Rattle.mesa_model.specs.declared.commands.Command.{Command}
 use Rattle.mesa_model.specs.declared.commands.Command.TheVariants as command
 use Rattle.mesa_model.specs.declared.commands.Script.{Script}

@@ -13,7 +13,7 @@ use Rattle.mesa_model.specs.declared.replies.Reply.{Reply}
 use Rattle.mesa_model.specs.declared.replies.Reply.TheVariants as reply
 use Rattle.mesa_model.specs.declared.replies.Refusal.{Refusal}
 use Rattle.mesa_model.specs.declared.replies.Refusal.TheVariants as no
-use Rattle.mesa_batch.specs.Batch.{batch_of}
+use Rattle.mesa_model.specs.mesa_batch.Batch.{batch_of}
 use Rattle.mesa_model.specs.Warehouse.{Store}
 use Rattle.mesa_model.specs.Load.{tables_named}
 use Rattle.mesa_history.specs.Run.{State, Stage, First, Looked, Answered, Granted, Renewed, Finished, CutOff, Place, Told, Last, Silent, Printed, Skipped, Run, place_of, command_at, command_of, begins}

@@ -1,3 +1,9 @@
+pub use Rattle.mesa_model.specs.mesa_batch as mesa_batch
+pub use Rattle.mesa_model.specs.mesa_file as mesa_file
+pub use Rattle.mesa_model.specs.mesa_filter as mesa_filter
+pub use Rattle.mesa_model.specs as mesa_model
+pub use Rattle.mesa_model.specs.mesa_schema as mesa_schema
+pub use Rattle.mesa_span.specs as mesa_span
 pub mod Machine
 pub mod Run
 pub mod Replay

@@ -1,7 +1,7 @@
 -- RangeMachine: each table's ranges of deltas and its lease, without any rows.
 use Rattle.std.specs.Prelude.{ℕ, ◌+◌, List, [], ◌∷◌, ◌++◌, Option, Some, None, slice_index_or, slice_set, Result, Ok, Err}
 use Rattle.std.specs.Option.{ok_or}
-use Rattle.mesa_list.specs.Checks.{◌>>=◌, ◌>>◌, refuse_unless, refused_as}
+use Rattle.mesa_span.specs.mesa_list.Checks.{◌>>=◌, ◌>>◌, refuse_unless, refused_as}
 use Rattle.mesa_span.specs.declared.ranges.Ranges.{Ranges}
 use Rattle.mesa_span.specs.declared.works.Work.{Work}
 use Rattle.mesa_span.specs.declared.works.Work.TheVariants as work

@@ -1,10 +1,10 @@
 -- Sources: the rows of a table as they were written first.
 use Rattle.std.specs.Prelude.{ℕ, List, map, filter, ◌&&◌, nat_le, slice_index_or}
-use Rattle.mesa_schema.specs.declared.rows.Row.{Row}
-use Rattle.mesa_schema.specs.Columns.{aggs_of}
-use Rattle.mesa_schema.specs.Changes.{Lineage, columns_at, lifted}
-use Rattle.mesa_schema.specs.Folded.{folded}
-use Rattle.mesa_batch.specs.Batch.{rows_for}
+use Rattle.mesa_model.specs.mesa_schema.declared.rows.Row.{Row}
+use Rattle.mesa_model.specs.mesa_schema.Columns.{aggs_of}
+use Rattle.mesa_model.specs.mesa_schema.Changes.{Lineage, columns_at, lifted}
+use Rattle.mesa_model.specs.mesa_schema.Folded.{folded}
+use Rattle.mesa_model.specs.mesa_batch.Batch.{rows_for}
 use Rattle.mesa_history.specs.Law.{Accepted}
 
 -- Rows of a table, and the epoch whose columns they have.

@@ -2,7 +2,7 @@
 use Rattle.std.proofs.Common.{refl, ◌≤◌, [], inl, arith}
 use Rattle.mesa_history.specs.Found.{kept_of as kept_in_state}
 use Rattle.mesa_history.specs.Run.{nothing_there}
-use Rattle.mesa_model.specs.declared.commands.Script.{Script}
+use Rattle.mesa_history.specs.mesa_model.declared.commands.Script.{Script}
 use Rattle.mesa_image.specs.Catalog.{empty_catalog}
 use Rattle.mesa_image.specs.Fitting.{catalog_from}
 use Rattle.mesa_image.specs.Contents.{Rows, kept_of}

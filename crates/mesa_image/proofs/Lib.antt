@@ -1,3 +1,6 @@
+pub use Rattle.mesa_history.proofs as mesa_history
+pub use Rattle.mesa_record.proofs as mesa_record
+pub use Rattle.mesa_history.proofs.mesa_span as mesa_span
 mod Bodies
 mod OneRow
 mod AcrossBase

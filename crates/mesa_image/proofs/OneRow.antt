@@ -1,11 +1,11 @@
 -- A store with one table, a batch of one row, and an empty batch.
 use Rattle.std.proofs.Common.{◌≡◌, refl, ℕ, List, [], ◌∷◌, ◌++◌, Some, None}
 use Rattle.std.specs.Prelude.{pos, codes, ◌==◌, if◌then◌else◌}
-use Rattle.mesa_value.specs.declared.Agg.TheVariants as agg
-use Rattle.mesa_key.specs.declared.KeyType.TheVariants as kind
-use Rattle.mesa_schema.specs.declared.rows.Row.{Row}
-use Rattle.mesa_schema.specs.Changes.{Lineage}
-use Rattle.mesa_file.specs.declared.file_ref.FileRef.{FileRef}
+use Rattle.mesa_record.specs.mesa_value.declared.Agg.TheVariants as agg
+use Rattle.mesa_record.specs.mesa_key.declared.KeyType.TheVariants as kind
+use Rattle.mesa_history.specs.mesa_schema.declared.rows.Row.{Row}
+use Rattle.mesa_history.specs.mesa_schema.Changes.{Lineage}
+use Rattle.mesa_history.specs.mesa_file.declared.file_ref.FileRef.{FileRef}
 use Rattle.mesa_record.specs.Reading.{fields_of, file_ref_at, files_at}
 use Rattle.mesa_record.specs.Reading as reading
 use Rattle.mesa_image.specs.Catalog.{Catalog, empty_delta}

@@ -1,12 +1,12 @@
 -- The catalogue: what the records of a journal say of the tables and their deltas.
 use Rattle.std.specs.Prelude.{ℕ, ◌+◌, ◌-◌, List, [], ◌∷◌, ◌++◌, map, drop, replicate, find, Bool, true, false, ◌==◌, Option, Some, None, option_map, slice_index_or, slice_set}
-use Rattle.mesa_schema.specs.declared.changes.Change.{Change}
-use Rattle.mesa_schema.specs.Columns.{Columns, aggs_of}
-use Rattle.mesa_schema.specs.Changes.{Lineage, columns_of, with_change}
-use Rattle.mesa_schema.specs.Views.{with_view}
-use Rattle.mesa_batch.specs.Totals.{sums_in, totals_after, totals_with}
-use Rattle.mesa_span.specs.declared.ranges.Ranges.{Ranges}
-use Rattle.mesa_span.specs.Ranges.{base_before, start_of}
+use Rattle.mesa_history.specs.mesa_schema.declared.changes.Change.{Change}
+use Rattle.mesa_history.specs.mesa_schema.Columns.{Columns, aggs_of}
+use Rattle.mesa_history.specs.mesa_schema.Changes.{Lineage, columns_of, with_change}
+use Rattle.mesa_history.specs.mesa_schema.Views.{with_view}
+use Rattle.mesa_history.specs.mesa_batch.Totals.{sums_in, totals_after, totals_with}
+use Rattle.mesa_history.specs.mesa_span.declared.ranges.Ranges.{Ranges}
+use Rattle.mesa_history.specs.mesa_span.Ranges.{base_before, start_of}
 use Rattle.mesa_record.specs.declared.record.Record.{Record}
 use Rattle.mesa_record.specs.declared.record.Record.TheVariants as record_of
 use Rattle.mesa_record.specs.declared.record.Files.{Files}

@@ -1,11 +1,11 @@
 -- The reference warehouse that a catalogue and the rows of its files stand for.
 use Rattle.std.specs.Prelude.{ℕ, ◌+◌, ◌-◌, List, [], ◌++◌, map, take, Option, Some, None}
 use Rattle.std.specs.List.{range_with_len}
-use Rattle.mesa_schema.specs.declared.rows.Row.{Row}
-use Rattle.mesa_schema.specs.Columns.{aggs_of}
-use Rattle.mesa_schema.specs.Changes.{Lineage, columns_of, epoch_of, lifted}
-use Rattle.mesa_schema.specs.Folded.{folded}
-use Rattle.mesa_model.specs.Warehouse.{Table}
+use Rattle.mesa_history.specs.mesa_schema.declared.rows.Row.{Row}
+use Rattle.mesa_history.specs.mesa_schema.Columns.{aggs_of}
+use Rattle.mesa_history.specs.mesa_schema.Changes.{Lineage, columns_of, epoch_of, lifted}
+use Rattle.mesa_history.specs.mesa_schema.Folded.{folded}
+use Rattle.mesa_history.specs.mesa_model.Warehouse.{Table}
 use Rattle.mesa_history.specs.Found.{Kept}
 use Rattle.mesa_record.specs.declared.record.Files.{Files}
 use Rattle.mesa_image.specs.Catalog.{Delta, Stock, Catalog, ranges_of, start_in}

@@ -1,19 +1,19 @@
 -- Which records fit a catalogue, and the catalogue of a journal.
 use Rattle.std.specs.Prelude.{ℕ, ◌+◌, ◌-◌, ◌^◌, ◌/◌, List, [], ◌∷◌, ◌++◌, map, length, flat_map, Bool, true, false, not, ◌&&◌, ◌==◌, nat_lt, nat_le, Option, Some, None, is_none, Result, Ok, Err, is_ok, slice_get}
 use Rattle.std.specs.List.{list_all, list_any}
-use Rattle.mesa_schema.specs.declared.views.View.{View}
-use Rattle.mesa_schema.specs.declared.changes.Change.{Change}
-use Rattle.mesa_schema.specs.Names.{has_name}
-use Rattle.mesa_schema.specs.Columns.{Columns, aggs_of}
-use Rattle.mesa_schema.specs.Schema.{is_schema}
-use Rattle.mesa_schema.specs.Changes.{Lineage, columns_at, columns_of, epoch_of, change_checked}
-use Rattle.mesa_schema.specs.Views.{max_views, view_checked, view_columns}
-use Rattle.mesa_batch.specs.Totals.{over_bound, sums_in}
-use Rattle.mesa_file.specs.declared.file_ref.FileRef.{FileRef}
-use Rattle.mesa_span.specs.declared.ranges.Ranges.{Ranges}
-use Rattle.mesa_span.specs.Ranges.{base_before, start_of}
-use Rattle.mesa_span.specs.Work.{missing_end}
-use Rattle.mesa_model.specs.Warehouse.{max_tables, max_versions}
+use Rattle.mesa_history.specs.mesa_schema.declared.views.View.{View}
+use Rattle.mesa_history.specs.mesa_schema.declared.changes.Change.{Change}
+use Rattle.mesa_history.specs.mesa_schema.Names.{has_name}
+use Rattle.mesa_history.specs.mesa_schema.Columns.{Columns, aggs_of}
+use Rattle.mesa_history.specs.mesa_schema.Schema.{is_schema}
+use Rattle.mesa_history.specs.mesa_schema.Changes.{Lineage, columns_at, columns_of, epoch_of, change_checked}
+use Rattle.mesa_history.specs.mesa_schema.Views.{max_views, view_checked, view_columns}
+use Rattle.mesa_history.specs.mesa_batch.Totals.{over_bound, sums_in}
+use Rattle.mesa_history.specs.mesa_file.declared.file_ref.FileRef.{FileRef}
+use Rattle.mesa_history.specs.mesa_span.declared.ranges.Ranges.{Ranges}
+use Rattle.mesa_history.specs.mesa_span.Ranges.{base_before, start_of}
+use Rattle.mesa_history.specs.mesa_span.Work.{missing_end}
+use Rattle.mesa_history.specs.mesa_model.Warehouse.{max_tables, max_versions}
 use Rattle.mesa_record.specs.declared.record.Record.{Record}
 use Rattle.mesa_record.specs.declared.record.Record.TheVariants as record_of
 use Rattle.mesa_record.specs.declared.record.ViewRef.{ViewRef}

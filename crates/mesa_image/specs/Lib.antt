@@ -1,3 +1,11 @@
+pub use Rattle.mesa_delta.specs.mesa_block as mesa_block
+pub use Rattle.mesa_commit.specs as mesa_commit
+pub use Rattle.mesa_delta.specs as mesa_delta
+pub use Rattle.mesa_commit.specs.mesa_disk as mesa_disk
+pub use Rattle.mesa_history.specs as mesa_history
+pub use Rattle.mesa_history.specs.mesa_model as mesa_model
+pub use Rattle.mesa_record.specs as mesa_record
+pub use Rattle.mesa_history.specs.mesa_span as mesa_span
 pub mod Catalog
 pub mod Fitting
 pub mod Contents

@@ -1,13 +1,13 @@
 -- What every catalogue keeps, whatever records made it.
 use Rattle.std.specs.Prelude.{◌≡◌, ℕ, ◌+◌, ◌^◌, ◌<◌, ◌≤◌, ◌⊎◌, length, flat_map, IsTrue, is_none}
 use Rattle.std.specs.List.{AllByRecursion}
-use Rattle.mesa_schema.specs.Names.{repeated}
-use Rattle.mesa_schema.specs.Columns.{aggs_of}
-use Rattle.mesa_schema.specs.Changes.{columns_of, epoch_of}
-use Rattle.mesa_schema.specs.Lineages.{IsLineage}
-use Rattle.mesa_batch.specs.Totals.{sums_in}
-use Rattle.mesa_span.specs.Ranges.{IsReachable}
-use Rattle.mesa_model.specs.Warehouse.{max_tables, max_versions}
+use Rattle.mesa_history.specs.mesa_schema.Names.{repeated}
+use Rattle.mesa_history.specs.mesa_schema.Columns.{aggs_of}
+use Rattle.mesa_history.specs.mesa_schema.Changes.{columns_of, epoch_of}
+use Rattle.mesa_history.specs.mesa_schema.Lineages.{IsLineage}
+use Rattle.mesa_history.specs.mesa_batch.Totals.{sums_in}
+use Rattle.mesa_history.specs.mesa_span.Ranges.{IsReachable}
+use Rattle.mesa_history.specs.mesa_model.Warehouse.{max_tables, max_versions}
 use Rattle.mesa_image.specs.Catalog.{Delta, Ending, Stock, Catalog, ranges_of, start_in}
 use Rattle.mesa_image.specs.Fitting.{deltas_of, names_in}
 

@@ -2,15 +2,15 @@
 use Rattle.std.specs.Prelude.{◌≡◌, ℕ, ◌+◌, ◌-◌, List, [], ◌++◌, map, take, Option, Some, None, IfSome, slice_get}
 use Rattle.std.specs.List.{AllByRecursion}
 use Rattle.std.specs.FinMap.{empty}
-use Rattle.mesa_schema.specs.declared.rows.Row.{Row}
-use Rattle.mesa_schema.specs.declared.views.View.{View}
-use Rattle.mesa_schema.specs.Columns.{aggs_of}
-use Rattle.mesa_schema.specs.Changes.{Lineage, columns_at, columns_of}
-use Rattle.mesa_schema.specs.Views.{view_rows}
-use Rattle.mesa_schema.specs.Folded.{folded, rows_of}
-use Rattle.mesa_batch.specs.Totals.{AreAtMost, abs_totals}
-use Rattle.mesa_disk.specs.Image.{Image}
-use Rattle.mesa_journal.specs.Journal.{IsJournal}
+use Rattle.mesa_history.specs.mesa_schema.declared.rows.Row.{Row}
+use Rattle.mesa_history.specs.mesa_schema.declared.views.View.{View}
+use Rattle.mesa_history.specs.mesa_schema.Columns.{aggs_of}
+use Rattle.mesa_history.specs.mesa_schema.Changes.{Lineage, columns_at, columns_of}
+use Rattle.mesa_history.specs.mesa_schema.Views.{view_rows}
+use Rattle.mesa_history.specs.mesa_schema.Folded.{folded, rows_of}
+use Rattle.mesa_history.specs.mesa_batch.Totals.{AreAtMost, abs_totals}
+use Rattle.mesa_commit.specs.mesa_disk.Image.{Image}
+use Rattle.mesa_commit.specs.mesa_journal.Journal.{IsJournal}
 use Rattle.mesa_commit.specs.Images.{Has}
 use Rattle.mesa_record.specs.declared.record.ViewRef.{ViewRef}
 use Rattle.mesa_delta.specs.File.{IsFile, file_bytes}

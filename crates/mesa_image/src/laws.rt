@@ -2,7 +2,7 @@
 ghost use Rattle.mesa_history.specs.Found.{kept_of as kept_in_state};
 ghost use Rattle.mesa_history.specs.Run.{nothing_there};
 ghost use Rattle.mesa_image.specs.Sound.{IsSound, StandsFor, empty_image};
-ghost use Rattle.mesa_model.specs.declared.commands.Script.{Script};
+ghost use Rattle.mesa_history.specs.mesa_model.declared.commands.Script.{Script};
 
 /// An image in which nothing was written is sound, and stands for a warehouse in which nothing was
 /// done.

@@ -2,22 +2,22 @@
 use Rattle.std.proofs.Common.{◌≡◌, ℕ, zero, suc, ◌+◌, ◌-◌, List, ◌∷◌, ◌++◌, map, take, Option, Some, None, refl, sym, ◌∙◌, ap, subst, slice_get}
 use Rattle.std.specs.Prelude.{IfSome}
 use Rattle.std.specs.List.{AllByRecursion, range_with_len}
-use Rattle.mesa_schema.specs.declared.rows.Row.{Row}
-use Rattle.mesa_schema.specs.declared.views.View.{View}
-use Rattle.mesa_schema.specs.Columns.{aggs_of}
-use Rattle.mesa_schema.specs.Changes.{Lineage, columns_at, columns_of, epoch_of, lifted}
-use Rattle.mesa_schema.specs.Views.{view_rows}
-use Rattle.mesa_schema.specs.Folded.{folded, rows_of}
-use Rattle.mesa_batch.specs.Totals.{AreAtMost, abs_totals}
-use Rattle.mesa_record.specs.declared.record.Files.{Files}
-use Rattle.mesa_record.specs.declared.record.ViewRef.{ViewRef}
-use Rattle.mesa_delta.specs.File.{IsFile, file_bytes}
-use Rattle.mesa_delta.specs.Summary.{IsReferenceOf}
+use Rattle.mesa_fold.specs.mesa_schema.declared.rows.Row.{Row}
+use Rattle.mesa_fold.specs.mesa_schema.declared.views.View.{View}
+use Rattle.mesa_fold.specs.mesa_schema.Columns.{aggs_of}
+use Rattle.mesa_fold.specs.mesa_schema.Changes.{Lineage, columns_at, columns_of, epoch_of, lifted}
+use Rattle.mesa_fold.specs.mesa_schema.Views.{view_rows}
+use Rattle.mesa_fold.specs.mesa_schema.Folded.{folded, rows_of}
+use Rattle.mesa_fold.specs.mesa_batch.Totals.{AreAtMost, abs_totals}
+use Rattle.mesa_image.specs.mesa_record.declared.record.Files.{Files}
+use Rattle.mesa_image.specs.mesa_record.declared.record.ViewRef.{ViewRef}
+use Rattle.mesa_image.specs.mesa_delta.File.{IsFile, file_bytes}
+use Rattle.mesa_image.specs.mesa_delta.Summary.{IsReferenceOf}
 use Rattle.mesa_image.specs.Catalog.{Delta, Ending, Stock, Catalog, ranges_of, start_in}
 use Rattle.mesa_image.specs.Fitting.{Shelved, base_deltas, delta_in, deltas_of, delta_shelved, stock_shelved, shelved, view_shelved}
 use Rattle.mesa_image.specs.Contents.{Rows, rows_in, present, deltas_to, content, table_of, kept_of}
 use Rattle.mesa_image.specs.Sound.{IsTold, IsMerged, IsGrouped, IsGroupedAs, AreGrouped, IsTotalled, IsStocked, AreStocked, wanted, wants}
-use Rattle.mesa_schema.proofs.Lists.{all_append, all_both, same_maps}
+use Rattle.mesa_fold.proofs.mesa_schema.Lists.{all_append, all_both, same_maps}
 use Rattle.mesa_image_laws.proofs.Lists.{all_front, all_back, all_take, all_unflat, all_unmap}
 
 module _ (old new : Rows) where

@@ -3,23 +3,23 @@ use Rattle.std.proofs.Common.{◌≡◌, inl, inr, ℕ, zero, suc, ◌+◌, ◌<
 use Rattle.std.proofs.lemmas.List.{length-map, map-append}
 use Rattle.std.specs.Prelude.{IfSome}
 use Rattle.std.specs.List.{AllByRecursion}
-use Rattle.mesa_schema.specs.declared.changes.Change.{Change}
-use Rattle.mesa_schema.proofs.Lists.{all_append, all_so}
-use Rattle.mesa_span.specs.Ranges.{base_before}
-use Rattle.mesa_span.specs.Work.{missing_end}
-use Rattle.mesa_schema.specs.declared.columns.KeyColumn.{KeyColumn}
-use Rattle.mesa_schema.specs.declared.columns.ValueColumn.{ValueColumn}
-use Rattle.mesa_schema.specs.Columns.{Columns, aggs_of}
-use Rattle.mesa_schema.specs.Changes.{Lineage, columns_at, columns_of, epoch_of}
-use Rattle.mesa_schema.specs.Folded.{folded}
-use Rattle.mesa_schema.specs.Rows.{AreRowsOf}
-use Rattle.mesa_batch.specs.Batch.{rows_for}
-use Rattle.mesa_history.specs.Law.{Accepted}
-use Rattle.mesa_history.specs.Sources.{Source, range_rows}
-use Rattle.mesa_record.specs.declared.record.Files.{Files}
-use Rattle.mesa_record.specs.declared.record.Part.{Part}
-use Rattle.mesa_record.specs.declared.record.Record.TheVariants as record_of
-use Rattle.mesa_record.specs.Rules.{IsTypedChange}
+use Rattle.mesa_fold.specs.mesa_schema.declared.changes.Change.{Change}
+use Rattle.mesa_fold.proofs.mesa_schema.Lists.{all_append, all_so}
+use Rattle.mesa_image.specs.mesa_span.Ranges.{base_before}
+use Rattle.mesa_image.specs.mesa_span.Work.{missing_end}
+use Rattle.mesa_fold.specs.mesa_schema.declared.columns.KeyColumn.{KeyColumn}
+use Rattle.mesa_fold.specs.mesa_schema.declared.columns.ValueColumn.{ValueColumn}
+use Rattle.mesa_fold.specs.mesa_schema.Columns.{Columns, aggs_of}
+use Rattle.mesa_fold.specs.mesa_schema.Changes.{Lineage, columns_at, columns_of, epoch_of}
+use Rattle.mesa_fold.specs.mesa_schema.Folded.{folded}
+use Rattle.mesa_fold.specs.mesa_schema.Rows.{AreRowsOf}
+use Rattle.mesa_fold.specs.mesa_batch.Batch.{rows_for}
+use Rattle.mesa_image.specs.mesa_history.Law.{Accepted}
+use Rattle.mesa_image.specs.mesa_history.Sources.{Source, range_rows}
+use Rattle.mesa_image.specs.mesa_record.declared.record.Files.{Files}
+use Rattle.mesa_image.specs.mesa_record.declared.record.Part.{Part}
+use Rattle.mesa_image.specs.mesa_record.declared.record.Record.TheVariants as record_of
+use Rattle.mesa_image.specs.mesa_record.Rules.{IsTypedChange}
 use Rattle.mesa_image.specs.Catalog.{Catalog, Delta, Ending, Stock, applied, merged_delta, new_stock, no_stock, part_of, ranges_of, start_in, stock_at, stock_changed, stock_loaded, stock_swapped, stock_viewed, stocks_loaded}
 use Rattle.mesa_image.specs.Fitting.{base_deltas, delta_in, files_fit_if_any, fits, is_number, is_there, may_be_work, shelved, stock_shelved, swap_fits}
 use Rattle.mesa_image.specs.Contents.{Rows, content, present}

@@ -1,7 +1,7 @@
 -- One body more.
 use Rattle.std.proofs.Common.{◌≡◌, ℕ, List, [], ◌∷◌, ◌++◌, Option, Some, None, Ok, true, refl, ◌∙◌, ap}
-use Rattle.mesa_record.specs.declared.record.Record.{Record}
-use Rattle.mesa_record.specs.Reading.{record_at}
+use Rattle.mesa_image.specs.mesa_record.declared.record.Record.{Record}
+use Rattle.mesa_image.specs.mesa_record.Reading.{record_at}
 use Rattle.mesa_image.specs.Catalog.{Catalog, empty_catalog, applied}
 use Rattle.mesa_image.specs.Fitting.{fits, with_body, read_record, applied_if, then_bodies, catalog_from, catalog}
 

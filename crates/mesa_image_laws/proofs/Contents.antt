@@ -3,19 +3,19 @@ use Rattle.std.proofs.Common.{◌≡◌, ◌⊎◌, ⊎_elim, inl, inr, ℕ, zer
 use Rattle.std.proofs.lemmas.List.{append-nil, map-append, take-append-le, take_all, length-append, map-id}
 use Rattle.std.proofs.lemmas.List.FromFn.{map-range_with_len_more}
 use Rattle.std.specs.List.{range_with_len}
-use Rattle.mesa_value.specs.declared.Agg.{Agg}
-use Rattle.mesa_schema.specs.declared.rows.Row.{Row}
-use Rattle.mesa_schema.specs.Columns.{aggs_of}
-use Rattle.mesa_schema.specs.Changes.{Lineage, columns_of, epoch_of, lifted}
-use Rattle.mesa_schema.specs.Folded.{folded}
-use Rattle.mesa_schema.proofs.Refolds.{refolded}
-use Rattle.mesa_schema.proofs.Lists.{map_is}
-use Rattle.mesa_schema.proofs.PresentRows.{lifted_now}
-use Rattle.mesa_model.specs.Load.{newest_content}
-use Rattle.mesa_record.specs.declared.record.Part.{Part}
+use Rattle.mesa_fold.specs.mesa_value.declared.Agg.{Agg}
+use Rattle.mesa_fold.specs.mesa_schema.declared.rows.Row.{Row}
+use Rattle.mesa_fold.specs.mesa_schema.Columns.{aggs_of}
+use Rattle.mesa_fold.specs.mesa_schema.Changes.{Lineage, columns_of, epoch_of, lifted}
+use Rattle.mesa_fold.specs.mesa_schema.Folded.{folded}
+use Rattle.mesa_fold.proofs.mesa_schema.Refolds.{refolded}
+use Rattle.mesa_fold.proofs.mesa_schema.Lists.{map_is}
+use Rattle.mesa_fold.proofs.mesa_schema.PresentRows.{lifted_now}
+use Rattle.mesa_image.specs.mesa_model.Load.{newest_content}
+use Rattle.mesa_image.specs.mesa_record.declared.record.Part.{Part}
 use Rattle.mesa_image.specs.Catalog.{Delta, Ending, Stock, start_in, end_in, stock_loaded, stock_swapped, empty_delta, part_delta}
 use Rattle.mesa_image.specs.Fitting.{base_deltas}
-use Rattle.mesa_span.specs.Ranges.{start_of}
+use Rattle.mesa_image.specs.mesa_span.Ranges.{start_of}
 use Rattle.std.specs.Prelude.{option_map}
 use Rattle.mesa_image.specs.Contents.{Rows, present, deltas_to, content}
 use Rattle.mesa_image.specs.Shape.{IsShaped}

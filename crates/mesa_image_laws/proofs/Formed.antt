@@ -1,15 +1,15 @@
 -- The rows of a sound table's deltas have the form of its present columns.
 use Rattle.std.proofs.Common.{ℕ, ◌+◌, ◌-◌, ◌≤◌, List, [], ◌∷◌, ◌++◌, map, Option, Some, None}
 use Rattle.std.specs.List.{AllByRecursion}
-use Rattle.mesa_schema.specs.declared.rows.Row.{Row}
-use Rattle.mesa_schema.specs.Changes.{Lineage, columns_at, columns_of, epoch_of, lifted}
-use Rattle.mesa_schema.specs.Folded.{rows_of}
-use Rattle.mesa_schema.specs.Lineages.{IsLineage}
-use Rattle.mesa_schema.specs.Rows.{AreRowsOf, IsRowOf}
-use Rattle.mesa_schema.proofs.Lists.{all_append, all_map, all_so}
-use Rattle.mesa_schema.proofs.PresentRows.{present_form}
-use Rattle.mesa_block.specs.Rows.{IsRow}
-use Rattle.mesa_record.specs.declared.record.Files.{Files}
+use Rattle.mesa_fold.specs.mesa_schema.declared.rows.Row.{Row}
+use Rattle.mesa_fold.specs.mesa_schema.Changes.{Lineage, columns_at, columns_of, epoch_of, lifted}
+use Rattle.mesa_fold.specs.mesa_schema.Folded.{rows_of}
+use Rattle.mesa_fold.specs.mesa_schema.Lineages.{IsLineage}
+use Rattle.mesa_fold.specs.mesa_schema.Rows.{AreRowsOf, IsRowOf}
+use Rattle.mesa_fold.proofs.mesa_schema.Lists.{all_append, all_map, all_so}
+use Rattle.mesa_fold.proofs.mesa_schema.PresentRows.{present_form}
+use Rattle.mesa_image.specs.mesa_block.Rows.{IsRow}
+use Rattle.mesa_image.specs.mesa_record.declared.record.Files.{Files}
 use Rattle.mesa_image.specs.Catalog.{Delta, Stock, start_in}
 use Rattle.mesa_image.specs.Fitting.{base_deltas, delta_in, deltas_of, delta_shelved}
 use Rattle.mesa_image.specs.Contents.{Rows, present, deltas_to}

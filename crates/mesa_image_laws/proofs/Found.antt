@@ -3,18 +3,18 @@ use Rattle.std.proofs.Common.{◌≡◌, inl, inr, ℕ, zero, suc, ◌+◌, ◌-
 use Rattle.std.proofs.lemmas.List.{length-replicate}
 use Rattle.std.specs.Prelude.{IfSome, option_map}
 use Rattle.std.specs.List.{AllByRecursion, range_with_len}
-use Rattle.mesa_schema.specs.declared.rows.Row.{Row}
-use Rattle.mesa_schema.specs.Columns.{Columns, aggs_of}
-use Rattle.mesa_schema.specs.Changes.{Lineage, columns_at, columns_of, epoch_of, lifted}
-use Rattle.mesa_schema.specs.Folded.{rows_of}
-use Rattle.mesa_schema.specs.Lineages.{IsLineage}
-use Rattle.mesa_schema.specs.Rows.{AreRowsOf, IsRowOf, keys_rise}
-use Rattle.mesa_schema.proofs.Lists.{all_append, all_both, all_filter, all_map, all_so}
-use Rattle.mesa_schema.proofs.PresentRows.{present_rise}
-use Rattle.mesa_block.specs.Rows.{IsRow}
-use Rattle.mesa_span.specs.Ranges.{Rise, base_before, end_of}
-use Rattle.mesa_history.specs.Sources.{Source, range_rows}
-use Rattle.mesa_record.specs.declared.record.Files.{Files}
+use Rattle.mesa_fold.specs.mesa_schema.declared.rows.Row.{Row}
+use Rattle.mesa_fold.specs.mesa_schema.Columns.{Columns, aggs_of}
+use Rattle.mesa_fold.specs.mesa_schema.Changes.{Lineage, columns_at, columns_of, epoch_of, lifted}
+use Rattle.mesa_fold.specs.mesa_schema.Folded.{rows_of}
+use Rattle.mesa_fold.specs.mesa_schema.Lineages.{IsLineage}
+use Rattle.mesa_fold.specs.mesa_schema.Rows.{AreRowsOf, IsRowOf, keys_rise}
+use Rattle.mesa_fold.proofs.mesa_schema.Lists.{all_append, all_both, all_filter, all_map, all_so}
+use Rattle.mesa_fold.proofs.mesa_schema.PresentRows.{present_rise}
+use Rattle.mesa_image.specs.mesa_block.Rows.{IsRow}
+use Rattle.mesa_image.specs.mesa_span.Ranges.{Rise, base_before, end_of}
+use Rattle.mesa_image.specs.mesa_history.Sources.{Source, range_rows}
+use Rattle.mesa_image.specs.mesa_record.declared.record.Files.{Files}
 use Rattle.mesa_image.specs.Catalog.{Catalog, Delta, Ending, Stock, empty_base, empty_delta, end_in, new_stock, start_in}
 use Rattle.mesa_image.specs.Fitting.{base_deltas, delta_in, delta_shelved, deltas_of}
 use Rattle.mesa_image.specs.Contents.{Rows, present, rows_in}

@@ -7,13 +7,13 @@ use Rattle.std.proofs.lemmas.List.{map-append, take-append-drop}
 use Rattle.std.proofs.lemmas.List.Sums.{sum_by-append}
 use Rattle.std.proofs.lemmas.Simd.{map-map}
 use Rattle.std.specs.List.{AllByRecursion, list_all}
-use Rattle.mesa_schema.specs.Changes.{Lineage}
-use Rattle.mesa_model.specs.Warehouse.{max_versions}
-use Rattle.mesa_record.specs.declared.record.Files.{Files}
-use Rattle.mesa_record.specs.declared.record.Part.{Part}
-use Rattle.mesa_record.specs.declared.record.Record.{Record}
-use Rattle.mesa_record.specs.declared.record.Record.TheVariants as record_of
-use Rattle.mesa_record.specs.Rules.{are_parts, is_part, keeps_rules, rise_from}
+use Rattle.mesa_fold.specs.mesa_schema.Changes.{Lineage}
+use Rattle.mesa_image.specs.mesa_model.Warehouse.{max_versions}
+use Rattle.mesa_image.specs.mesa_record.declared.record.Files.{Files}
+use Rattle.mesa_image.specs.mesa_record.declared.record.Part.{Part}
+use Rattle.mesa_image.specs.mesa_record.declared.record.Record.{Record}
+use Rattle.mesa_image.specs.mesa_record.declared.record.Record.TheVariants as record_of
+use Rattle.mesa_image.specs.mesa_record.Rules.{are_parts, is_part, keeps_rules, rise_from}
 use Rattle.mesa_image.specs.Catalog.{Catalog, Delta, Ending, Stock, applied, empty_delta, merged_delta, new_stock, no_stock, part_delta, part_of, start_in, stock_at, stock_changed, stock_loaded, stock_swapped, stock_viewed, stocks_loaded}
 use Rattle.mesa_image.specs.Fitting.{are_new_ids, base_deltas, brings_new_files, delta_in, delta_shelved, deltas_of, files_shelved, fits, has_number, is_there, kind_fits, max_runs, part_fits, part_shelved, publish_fits, run_of_id, shelved_id, stock_shelved, swap_fits, view_shelved}
 use Rattle.mesa_image_laws.specs.Ids.{HasOwnIds, IsNewId, brought_ids, delta_ids, dropped_deltas, dropped_ids, file_ids, named, times}

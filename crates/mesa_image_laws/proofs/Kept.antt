@@ -3,18 +3,18 @@ use Rattle.std.proofs.Common.{◌≡◌, ◌⊎◌, ℕ, zero, suc, ◌+◌, ◌
 use Rattle.std.proofs.lemmas.List.{map-append, map-set}
 use Rattle.std.specs.Prelude.{Bool}
 use Rattle.std.specs.List.{AllByRecursion, range_with_len}
-use Rattle.mesa_schema.specs.declared.rows.Row.{Row}
-use Rattle.mesa_schema.specs.Columns.{aggs_of}
-use Rattle.mesa_schema.specs.Changes.{columns_of}
-use Rattle.mesa_schema.proofs.Lists.{map_at}
-use Rattle.mesa_batch.specs.Batch.{Placed, rows_for}
-use Rattle.mesa_batch.specs.Totals.{abs_total, abs_totals, sum_places, totals_with}
-use Rattle.mesa_span.specs.Work.{swapped}
-use Rattle.mesa_model.specs.Warehouse.{Table}
-use Rattle.mesa_model.specs.Load.{table_loaded, tables_loaded}
-use Rattle.mesa_record.specs.declared.record.Part.{Part}
-use Rattle.mesa_record.specs.declared.record.Files.{Files}
-use Rattle.mesa_record.specs.declared.record.Record.TheVariants as record_of
+use Rattle.mesa_fold.specs.mesa_schema.declared.rows.Row.{Row}
+use Rattle.mesa_fold.specs.mesa_schema.Columns.{aggs_of}
+use Rattle.mesa_fold.specs.mesa_schema.Changes.{columns_of}
+use Rattle.mesa_fold.proofs.mesa_schema.Lists.{map_at}
+use Rattle.mesa_fold.specs.mesa_batch.Batch.{Placed, rows_for}
+use Rattle.mesa_fold.specs.mesa_batch.Totals.{abs_total, abs_totals, sum_places, totals_with}
+use Rattle.mesa_image.specs.mesa_span.Work.{swapped}
+use Rattle.mesa_image.specs.mesa_model.Warehouse.{Table}
+use Rattle.mesa_image.specs.mesa_model.Load.{table_loaded, tables_loaded}
+use Rattle.mesa_image.specs.mesa_record.declared.record.Part.{Part}
+use Rattle.mesa_image.specs.mesa_record.declared.record.Files.{Files}
+use Rattle.mesa_image.specs.mesa_record.declared.record.Record.TheVariants as record_of
 use Rattle.mesa_image.specs.Catalog.{Delta, Stock, Catalog, start_in, end_in, ranges_of, part_of, stock_loaded, stocks_loaded, stock_swapped, stock_at, no_stock, merged_delta, applied}
 use Rattle.mesa_image.specs.Contents.{Rows, content, table_of, kept_of}
 use Rattle.mesa_image.specs.Shape.{IsShaped, IsCatalog}

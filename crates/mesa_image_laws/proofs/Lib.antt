@@ -1,3 +1,5 @@
+pub use Rattle.mesa_image.proofs.mesa_history as mesa_history
+pub use Rattle.mesa_fold.proofs.mesa_schema as mesa_schema
 pub mod Lists
 pub mod Bodies
 pub mod Contents

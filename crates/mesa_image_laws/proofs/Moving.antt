@@ -1,19 +1,19 @@
 -- Each record that fits moves a catalogue to one that stands for what its command makes.
 use Rattle.std.proofs.Common.{◌≡◌, ℕ, ◌<◌, List, length, Option, Some, Bool, true, ◌&&◌, nat_le, nat_lt, is_ok, subst, sym}
-use Rattle.mesa_schema.specs.declared.changes.Change.{Change}
-use Rattle.mesa_schema.specs.declared.columns.KeyColumn.{KeyColumn}
-use Rattle.mesa_schema.specs.declared.columns.ValueColumn.{ValueColumn}
-use Rattle.mesa_schema.specs.Changes.{columns_of}
-use Rattle.mesa_schema.specs.Views.{max_views, view_checked}
-use Rattle.mesa_schema.proofs.Lists.{all_map}
-use Rattle.mesa_batch.specs.Batch.{Placed}
-use Rattle.mesa_disk.specs.Image.{file_of}
-use Rattle.mesa_commit.specs.Images.{Has}
-use Rattle.mesa_record.specs.declared.record.Files.{Files}
-use Rattle.mesa_record.specs.declared.record.Part.{Part}
-use Rattle.mesa_record.specs.declared.record.Record.{Record}
-use Rattle.mesa_record.specs.declared.record.Record.TheVariants as record_of
-use Rattle.mesa_record.specs.Rules.{IsTypedChange}
+use Rattle.mesa_fold.specs.mesa_schema.declared.changes.Change.{Change}
+use Rattle.mesa_fold.specs.mesa_schema.declared.columns.KeyColumn.{KeyColumn}
+use Rattle.mesa_fold.specs.mesa_schema.declared.columns.ValueColumn.{ValueColumn}
+use Rattle.mesa_fold.specs.mesa_schema.Changes.{columns_of}
+use Rattle.mesa_fold.specs.mesa_schema.Views.{max_views, view_checked}
+use Rattle.mesa_fold.proofs.mesa_schema.Lists.{all_map}
+use Rattle.mesa_fold.specs.mesa_batch.Batch.{Placed}
+use Rattle.mesa_image.specs.mesa_disk.Image.{file_of}
+use Rattle.mesa_image.specs.mesa_commit.Images.{Has}
+use Rattle.mesa_image.specs.mesa_record.declared.record.Files.{Files}
+use Rattle.mesa_image.specs.mesa_record.declared.record.Part.{Part}
+use Rattle.mesa_image.specs.mesa_record.declared.record.Record.{Record}
+use Rattle.mesa_image.specs.mesa_record.declared.record.Record.TheVariants as record_of
+use Rattle.mesa_image.specs.mesa_record.Rules.{IsTypedChange}
 use Rattle.mesa_image.specs.Catalog.{Catalog, applied, merged_delta, stock_at}
 use Rattle.mesa_image.specs.Fitting.{brings_new_files, fits, is_new_name, is_there, kind_fits, shelved}
 use Rattle.mesa_image.specs.Contents.{Rows, kept_of}

@@ -3,15 +3,15 @@ use Rattle.std.proofs.Common.{◌≡◌, ◌≢◌, ℕ, suc, ◌+◌, ◌-◌, 
 use Rattle.std.proofs.lemmas.Bool.Decides.{nat_tests}
 use Rattle.std.proofs.lemmas.List.{map-append}
 use Rattle.std.specs.List.{AllByRecursion}
-use Rattle.mesa_schema.specs.Changes.{Lineage}
-use Rattle.mesa_record.specs.declared.record.Part.{Part}
-use Rattle.mesa_record.specs.declared.record.Files.{Files}
-use Rattle.mesa_record.specs.declared.record.Record.{Record}
-use Rattle.mesa_record.specs.declared.record.Record.TheVariants as record_of
+use Rattle.mesa_fold.specs.mesa_schema.Changes.{Lineage}
+use Rattle.mesa_image.specs.mesa_record.declared.record.Part.{Part}
+use Rattle.mesa_image.specs.mesa_record.declared.record.Files.{Files}
+use Rattle.mesa_image.specs.mesa_record.declared.record.Record.{Record}
+use Rattle.mesa_image.specs.mesa_record.declared.record.Record.TheVariants as record_of
 use Rattle.mesa_image.specs.Catalog.{Delta, Stock, Catalog, start_in, part_of, stock_loaded, stocks_loaded, stock_swapped, stock_at, no_stock, merged_delta, applied, empty_delta, part_delta}
 use Rattle.mesa_image.specs.Fitting.{Shelved, base_deltas, delta_in, deltas_of, delta_shelved, stock_shelved, files_shelved, part_shelved, shelved, shelved_id, brought, are_new_ids, brings_new_files, fits, has_number, kind_fits}
 use Rattle.mesa_image.specs.Held.{IsUnnamed}
-use Rattle.mesa_schema.proofs.Lists.{all_append, all_so, all_drop, all_set}
+use Rattle.mesa_fold.proofs.mesa_schema.Lists.{all_append, all_so, all_drop, all_set}
 use Rattle.mesa_image_laws.proofs.Lists.{all_front, all_back, all_flat, all_unflat, all_unmap, both_true, not_true, stock_found}
 
 module _ (P : Shelved → Type 0) where

@@ -4,18 +4,18 @@ use Rattle.std.specs.Prelude.{find, option_map}
 use Rattle.std.specs.List.{range_with_len}
 use Rattle.std.proofs.lemmas.Bool.Decides.{nat_tests}
 use Rattle.std.proofs.lemmas.List.{map-append}
-use Rattle.mesa_schema.specs.Columns.{aggs_of}
-use Rattle.mesa_schema.specs.Changes.{columns_of}
-use Rattle.mesa_schema.specs.Folded.{folded}
-use Rattle.mesa_schema.proofs.Lists.{all_found}
-use Rattle.mesa_span.specs.declared.ranges.Ranges.{Ranges}
-use Rattle.mesa_span.specs.declared.works.Work.{Work}
-use Rattle.mesa_span.specs.declared.works.Work.TheVariants as work
-use Rattle.mesa_span.specs.Plan.{longest}
-use Rattle.mesa_span.specs.Ranges.{base_before, end_of, start_of}
-use Rattle.mesa_span.specs.Work.{is_missing, missing_end, next_work}
-use Rattle.mesa_span.proofs.Longest.{longest_is}
-use Rattle.mesa_span.proofs.Reachable.{reachable_in_order}
+use Rattle.mesa_fold.specs.mesa_schema.Columns.{aggs_of}
+use Rattle.mesa_fold.specs.mesa_schema.Changes.{columns_of}
+use Rattle.mesa_fold.specs.mesa_schema.Folded.{folded}
+use Rattle.mesa_fold.proofs.mesa_schema.Lists.{all_found}
+use Rattle.mesa_image.specs.mesa_span.declared.ranges.Ranges.{Ranges}
+use Rattle.mesa_image.specs.mesa_span.declared.works.Work.{Work}
+use Rattle.mesa_image.specs.mesa_span.declared.works.Work.TheVariants as work
+use Rattle.mesa_image.specs.mesa_span.Plan.{longest}
+use Rattle.mesa_image.specs.mesa_span.Ranges.{base_before, end_of, start_of}
+use Rattle.mesa_image.specs.mesa_span.Work.{is_missing, missing_end, next_work}
+use Rattle.mesa_image.proofs.mesa_span.Longest.{longest_is}
+use Rattle.mesa_image.proofs.mesa_span.Reachable.{reachable_in_order}
 use Rattle.mesa_image.specs.Catalog.{Catalog, Ending, Stock, end_in, ranges_of, start_in}
 use Rattle.mesa_image.specs.Fitting.{base_deltas, is_number, may_be_base, may_be_cumulative, may_be_work}
 use Rattle.mesa_image.specs.Contents.{Rows, content, present}

@@ -1,18 +1,18 @@
 -- A batch keeps the rows of a catalogue sound.
 use Rattle.std.proofs.Common.{◌≡◌, ℕ, suc, ◌+◌, ◌<◌, List, [], ◌∷◌, length, Some, ◌∙◌, ap, subst, arith, slice_index_or}
 use Rattle.std.specs.List.{AllByRecursion}
-use Rattle.mesa_batch.specs.Batch.{Placed, rows_for}
-use Rattle.mesa_disk.specs.Image.{Image, file_of}
-use Rattle.mesa_commit.specs.Images.{Has}
-use Rattle.mesa_record.specs.declared.record.Part.{Part}
-use Rattle.mesa_record.specs.declared.record.Record.TheVariants as record_of
+use Rattle.mesa_fold.specs.mesa_batch.Batch.{Placed, rows_for}
+use Rattle.mesa_image.specs.mesa_disk.Image.{Image, file_of}
+use Rattle.mesa_image.specs.mesa_commit.Images.{Has}
+use Rattle.mesa_image.specs.mesa_record.declared.record.Part.{Part}
+use Rattle.mesa_image.specs.mesa_record.declared.record.Record.TheVariants as record_of
 use Rattle.mesa_image.specs.Catalog.{Stock, Catalog, part_of, stock_at, no_stock, stocks_loaded, applied}
 use Rattle.mesa_image.specs.Fitting.{part_shelved, shelved, brought}
 use Rattle.mesa_image.specs.Contents.{Rows}
 use Rattle.mesa_image.specs.Sound.{wants, wanted, IsTold, IsStocked, AreStocked}
 use Rattle.mesa_image.specs.Shape.{IsShaped, IsCatalog}
 use Rattle.mesa_image_laws.specs.Brought.{AreTold, BringsAll}
-use Rattle.mesa_schema.proofs.Lists.{all_map}
+use Rattle.mesa_fold.proofs.mesa_schema.Lists.{all_map}
 use Rattle.mesa_image_laws.proofs.Lists.{all_unmap, all_unflat}
 use Rattle.mesa_image_laws.proofs.Named.{BroughtTo, found_part, named_published}
 use Rattle.mesa_image_laws.proofs.Stocked.{loaded_stocked}

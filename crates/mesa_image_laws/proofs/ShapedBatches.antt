@@ -4,22 +4,22 @@ use Rattle.std.proofs.lemmas.Bool.Decides.{nat_tests}
 use Rattle.std.proofs.lemmas.Bool.{leb-false}
 use Rattle.std.specs.Prelude.{option_map}
 use Rattle.std.specs.List.{AllByRecursion, list_all, list_any, range_with_len}
-use Rattle.mesa_schema.specs.Columns.{aggs_of}
-use Rattle.mesa_schema.specs.Names.{repeated}
-use Rattle.mesa_schema.specs.Changes.{columns_of, epoch_of}
-use Rattle.mesa_schema.proofs.Lists.{all_found}
-use Rattle.mesa_schema.proofs.Maps.{is_some_position}
-use Rattle.mesa_batch.specs.Totals.{over_bound, totals_with}
-use Rattle.mesa_span.specs.declared.works.Work.TheVariants as work
-use Rattle.mesa_span.specs.Ranges.{end_of}
-use Rattle.mesa_span.specs.Work.{is_missing, missing_end, possible_ends}
-use Rattle.mesa_span.proofs.Reachable.{works_keep}
-use Rattle.mesa_batch.specs.Totals.{sums_in}
-use Rattle.mesa_model.specs.Warehouse.{max_versions}
-use Rattle.mesa_span.specs.Ranges.{base_before}
-use Rattle.mesa_record.specs.declared.record.Files.{Files}
-use Rattle.mesa_record.specs.declared.record.Part.{Part}
-use Rattle.mesa_record.specs.declared.record.Record.TheVariants as record_of
+use Rattle.mesa_fold.specs.mesa_schema.Columns.{aggs_of}
+use Rattle.mesa_fold.specs.mesa_schema.Names.{repeated}
+use Rattle.mesa_fold.specs.mesa_schema.Changes.{columns_of, epoch_of}
+use Rattle.mesa_fold.proofs.mesa_schema.Lists.{all_found}
+use Rattle.mesa_fold.proofs.mesa_schema.Maps.{is_some_position}
+use Rattle.mesa_fold.specs.mesa_batch.Totals.{over_bound, totals_with}
+use Rattle.mesa_image.specs.mesa_span.declared.works.Work.TheVariants as work
+use Rattle.mesa_image.specs.mesa_span.Ranges.{end_of}
+use Rattle.mesa_image.specs.mesa_span.Work.{is_missing, missing_end, possible_ends}
+use Rattle.mesa_image.proofs.mesa_span.Reachable.{works_keep}
+use Rattle.mesa_fold.specs.mesa_batch.Totals.{sums_in}
+use Rattle.mesa_image.specs.mesa_model.Warehouse.{max_versions}
+use Rattle.mesa_image.specs.mesa_span.Ranges.{base_before}
+use Rattle.mesa_image.specs.mesa_record.declared.record.Files.{Files}
+use Rattle.mesa_image.specs.mesa_record.declared.record.Part.{Part}
+use Rattle.mesa_image.specs.mesa_record.declared.record.Record.TheVariants as record_of
 use Rattle.mesa_image.specs.Catalog.{Delta, Stock, Catalog, start_in, ranges_of, no_stock, stock_at, stock_loaded, stocks_loaded, stock_swapped, merged_delta, part_of, with_stock, applied}
 use Rattle.mesa_image.specs.Fitting.{names_in, is_there, files_fit, files_fit_if_any, part_fits, publish_fits, may_be_work, is_number, swap_fits}
 use Rattle.mesa_image.specs.Shape.{IsShaped, IsCatalog}

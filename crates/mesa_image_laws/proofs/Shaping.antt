@@ -2,19 +2,19 @@
 use Rattle.std.proofs.Common.{◌≡◌, inl, ℕ, suc, ◌+◌, ◌-◌, ◌^◌, ◌<◌, ◌≤◌, List, [], ◌∷◌, ◌++◌, map, length, Option, Some, None, true, false, refl, sym, ◌∙◌, ap, subst, arith, length-append, length-drop}
 use Rattle.std.proofs.lemmas.List.{map-append}
 use Rattle.std.specs.List.{AllByRecursion}
-use Rattle.mesa_schema.specs.Columns.{aggs_of}
-use Rattle.mesa_schema.specs.Changes.{columns_of, epoch_of}
-use Rattle.mesa_batch.specs.Totals.{totals_with}
-use Rattle.mesa_batch.specs.Totals.{sums_in}
-use Rattle.mesa_span.specs.declared.works.Work.TheVariants as work
-use Rattle.mesa_span.specs.Ranges.{IsReachable}
-use Rattle.mesa_span.specs.Work.{swapped}
-use Rattle.mesa_record.specs.declared.record.Part.{Part}
-use Rattle.mesa_record.specs.declared.record.Record.TheVariants as record_of
+use Rattle.mesa_fold.specs.mesa_schema.Columns.{aggs_of}
+use Rattle.mesa_fold.specs.mesa_schema.Changes.{columns_of, epoch_of}
+use Rattle.mesa_fold.specs.mesa_batch.Totals.{totals_with}
+use Rattle.mesa_fold.specs.mesa_batch.Totals.{sums_in}
+use Rattle.mesa_image.specs.mesa_span.declared.works.Work.TheVariants as work
+use Rattle.mesa_image.specs.mesa_span.Ranges.{IsReachable}
+use Rattle.mesa_image.specs.mesa_span.Work.{swapped}
+use Rattle.mesa_image.specs.mesa_record.declared.record.Part.{Part}
+use Rattle.mesa_image.specs.mesa_record.declared.record.Record.TheVariants as record_of
 use Rattle.mesa_image.specs.Catalog.{Delta, Ending, Stock, Catalog, start_in, ranges_of, stock_loaded, stock_swapped, applied, empty_delta, part_delta}
 use Rattle.mesa_image.specs.Fitting.{base_deltas, delta_in, deltas_of}
 use Rattle.mesa_image.specs.Shape.{IsShaped, IsCatalog}
-use Rattle.mesa_schema.proofs.Lists.{all_append, all_drop, all_so}
+use Rattle.mesa_fold.proofs.mesa_schema.Lists.{all_append, all_drop, all_so}
 use Rattle.mesa_image_laws.proofs.Lists.{all_front, all_back}
 use Rattle.mesa_image_laws.proofs.Kept.{ranges_swapped}
 

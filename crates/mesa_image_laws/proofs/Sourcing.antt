@@ -3,17 +3,17 @@ use Rattle.std.proofs.Common.{◌≡◌, ℕ, zero, suc, ◌+◌, ◌-◌, ◌<�
 use Rattle.std.specs.Prelude.{IfSome}
 use Rattle.std.proofs.lemmas.List.{map-append}
 use Rattle.std.specs.List.{AllByRecursion}
-use Rattle.mesa_schema.specs.declared.rows.Row.{Row}
-use Rattle.mesa_schema.specs.declared.changes.Change.{Change}
-use Rattle.mesa_schema.specs.Columns.{aggs_of}
-use Rattle.mesa_schema.specs.Changes.{Lineage, columns_of, epoch_of, lifted, with_change}
-use Rattle.mesa_schema.specs.Folded.{folded}
-use Rattle.mesa_schema.specs.Lineages.{HasDefault, IsLineage}
-use Rattle.mesa_schema.proofs.Lists.{all_append, all_both, all_filter, all_map, all_so}
-use Rattle.mesa_schema.proofs.Refolds.{refolded}
-use Rattle.mesa_span.specs.Ranges.{Rise}
-use Rattle.mesa_history.specs.Sources.{range_rows}
-use Rattle.mesa_record.specs.declared.record.Part.{Part}
+use Rattle.mesa_fold.specs.mesa_schema.declared.rows.Row.{Row}
+use Rattle.mesa_fold.specs.mesa_schema.declared.changes.Change.{Change}
+use Rattle.mesa_fold.specs.mesa_schema.Columns.{aggs_of}
+use Rattle.mesa_fold.specs.mesa_schema.Changes.{Lineage, columns_of, epoch_of, lifted, with_change}
+use Rattle.mesa_fold.specs.mesa_schema.Folded.{folded}
+use Rattle.mesa_fold.specs.mesa_schema.Lineages.{HasDefault, IsLineage}
+use Rattle.mesa_fold.proofs.mesa_schema.Lists.{all_append, all_both, all_filter, all_map, all_so}
+use Rattle.mesa_fold.proofs.mesa_schema.Refolds.{refolded}
+use Rattle.mesa_image.specs.mesa_span.Ranges.{Rise}
+use Rattle.mesa_image.specs.mesa_history.Sources.{range_rows}
+use Rattle.mesa_image.specs.mesa_record.declared.record.Part.{Part}
 use Rattle.mesa_image.specs.Catalog.{Delta, Ending, Stock, empty_delta, part_delta, start_in, stock_changed, stock_loaded, stock_swapped, stock_viewed}
 use Rattle.mesa_image.specs.Fitting.{base_deltas, delta_in}
 use Rattle.mesa_image.specs.Contents.{Rows, content, deltas_to, present}

@@ -1,12 +1,12 @@
 -- A merged range on a whole catalogue.
 use Rattle.std.proofs.Common.{◌≡◌, ℕ, ◌<◌, List, length, Option, Some, Bool, true, false, ◌&&◌, ◌==◌, nat_le}
 use Rattle.std.specs.List.{AllByRecursion}
-use Rattle.mesa_schema.specs.Changes.{epoch_of}
-use Rattle.mesa_schema.proofs.Lists.{all_map, all_set}
-use Rattle.mesa_disk.specs.Image.{Image, file_of}
-use Rattle.mesa_commit.specs.Images.{Has}
-use Rattle.mesa_record.specs.declared.record.Files.{Files}
-use Rattle.mesa_record.specs.declared.record.Record.TheVariants as record_of
+use Rattle.mesa_fold.specs.mesa_schema.Changes.{epoch_of}
+use Rattle.mesa_fold.proofs.mesa_schema.Lists.{all_map, all_set}
+use Rattle.mesa_image.specs.mesa_disk.Image.{Image, file_of}
+use Rattle.mesa_image.specs.mesa_commit.Images.{Has}
+use Rattle.mesa_image.specs.mesa_record.declared.record.Files.{Files}
+use Rattle.mesa_image.specs.mesa_record.declared.record.Record.TheVariants as record_of
 use Rattle.mesa_image.specs.Catalog.{Delta, Catalog, start_in, ranges_of, stock_at, stock_swapped, merged_delta, applied}
 use Rattle.mesa_image.specs.Fitting.{shelved, brought, kind_fits, swap_fits, may_be_base, is_there, files_fit_if_any}
 use Rattle.mesa_image.specs.Contents.{Rows}

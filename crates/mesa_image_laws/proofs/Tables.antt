@@ -3,18 +3,18 @@ use Rattle.std.proofs.Common.{◌≡◌, ℕ, zero, suc, ◌+◌, ◌-◌, List,
 use Rattle.std.proofs.lemmas.List.{map-append}
 use Rattle.std.specs.Prelude.{option_map}
 use Rattle.std.specs.List.{AllByRecursion, range_with_len}
-use Rattle.mesa_value.specs.declared.Agg.{Agg}
-use Rattle.mesa_schema.specs.declared.rows.Row.{Row}
-use Rattle.mesa_schema.specs.declared.columns.KeyColumn.{KeyColumn}
-use Rattle.mesa_schema.specs.declared.columns.ValueColumn.{ValueColumn}
-use Rattle.mesa_schema.specs.Columns.{Columns, aggs_of}
-use Rattle.mesa_schema.specs.Changes.{Lineage, epoch_of, lifted}
-use Rattle.mesa_schema.specs.Folded.{folded, folded_at, keys_of, rows_of}
-use Rattle.mesa_schema.proofs.Lists.{all_append, all_replicate, all_so}
-use Rattle.mesa_batch.specs.Totals.{AreAtMost, abs_total, abs_totals, sum_places}
-use Rattle.mesa_span.specs.Ranges.{base_before}
-use Rattle.mesa_record.specs.declared.record.Files.{Files}
-use Rattle.mesa_record.specs.declared.record.Record.TheVariants as record_of
+use Rattle.mesa_fold.specs.mesa_value.declared.Agg.{Agg}
+use Rattle.mesa_fold.specs.mesa_schema.declared.rows.Row.{Row}
+use Rattle.mesa_fold.specs.mesa_schema.declared.columns.KeyColumn.{KeyColumn}
+use Rattle.mesa_fold.specs.mesa_schema.declared.columns.ValueColumn.{ValueColumn}
+use Rattle.mesa_fold.specs.mesa_schema.Columns.{Columns, aggs_of}
+use Rattle.mesa_fold.specs.mesa_schema.Changes.{Lineage, epoch_of, lifted}
+use Rattle.mesa_fold.specs.mesa_schema.Folded.{folded, folded_at, keys_of, rows_of}
+use Rattle.mesa_fold.proofs.mesa_schema.Lists.{all_append, all_replicate, all_so}
+use Rattle.mesa_fold.specs.mesa_batch.Totals.{AreAtMost, abs_total, abs_totals, sum_places}
+use Rattle.mesa_image.specs.mesa_span.Ranges.{base_before}
+use Rattle.mesa_image.specs.mesa_record.declared.record.Files.{Files}
+use Rattle.mesa_image.specs.mesa_record.declared.record.Record.TheVariants as record_of
 use Rattle.mesa_image.specs.Catalog.{Delta, Stock, Catalog, applied, empty_base, empty_delta, end_in, new_stock, ranges_of, start_in}
 use Rattle.mesa_image.specs.Fitting.{Shelved, base_deltas, delta_shelved, deltas_of, shelved, stock_shelved}
 use Rattle.mesa_image.specs.Contents.{Rows, content, deltas_to, kept_of, present, rows_in, table_of}

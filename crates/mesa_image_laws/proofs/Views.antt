@@ -2,14 +2,14 @@
 use Rattle.std.proofs.Common.{◌≡◌, ℕ, zero, suc, ◌<◌, List, [], ◌∷◌, ◌++◌, map, length, flat_map, Option, Some, None, refl, sym, ◌∙◌, ap, subst, slice_get, slice_index_or, slice_set, arith}
 use Rattle.std.proofs.lemmas.List.{map-set}
 use Rattle.std.specs.List.{AllByRecursion}
-use Rattle.mesa_schema.specs.declared.views.View.{View}
-use Rattle.mesa_schema.specs.Changes.{Lineage, columns_at, columns_of}
-use Rattle.mesa_schema.specs.Views.{with_view}
-use Rattle.mesa_schema.proofs.Lists.{all_set, all_so, map_at}
-use Rattle.mesa_model.specs.Warehouse.{no_table}
-use Rattle.mesa_record.specs.declared.record.Files.{Files}
-use Rattle.mesa_record.specs.declared.record.ViewRef.{ViewRef}
-use Rattle.mesa_record.specs.declared.record.Record.TheVariants as record_of
+use Rattle.mesa_fold.specs.mesa_schema.declared.views.View.{View}
+use Rattle.mesa_fold.specs.mesa_schema.Changes.{Lineage, columns_at, columns_of}
+use Rattle.mesa_fold.specs.mesa_schema.Views.{with_view}
+use Rattle.mesa_fold.proofs.mesa_schema.Lists.{all_set, all_so, map_at}
+use Rattle.mesa_image.specs.mesa_model.Warehouse.{no_table}
+use Rattle.mesa_image.specs.mesa_record.declared.record.Files.{Files}
+use Rattle.mesa_image.specs.mesa_record.declared.record.ViewRef.{ViewRef}
+use Rattle.mesa_image.specs.mesa_record.declared.record.Record.TheVariants as record_of
 use Rattle.mesa_image.specs.Catalog.{Delta, Stock, Catalog, applied, no_stock, ranges_of, stock_at, stock_viewed}
 use Rattle.mesa_image.specs.Fitting.{columns_seen, delta_shelved, deltas_of, shelved, stock_shelved, view_shelved}
 use Rattle.mesa_image.specs.Contents.{Rows, kept_of, table_of}

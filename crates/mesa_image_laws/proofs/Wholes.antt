@@ -1,13 +1,13 @@
 -- Every catalogue that bodies spell keeps what catalogues keep.
 use Rattle.std.proofs.Common.{◌≡◌, inr, ℕ, List, [], ◌∷◌, Option, Some, None, Result, Ok, Err, Bool, true, false, nat_le, nat_lt, refl, subst, arith}
 use Rattle.std.specs.List.{AllByRecursion}
-use Rattle.mesa_key.specs.Spelling.{AreBytes}
-use Rattle.mesa_record.specs.declared.record.Record.{Record}
-use Rattle.mesa_record.specs.declared.record.Record.TheVariants as record_of
-use Rattle.mesa_record.specs.declared.error.RecordError.{RecordError}
-use Rattle.mesa_record.specs.Reading.{record_at}
-use Rattle.mesa_record.specs.Rules.{IsRecord, IsTyped}
-use Rattle.mesa_record.proofs.RecordsBoth.{record_found}
+use Rattle.mesa_fold.specs.mesa_key.Spelling.{AreBytes}
+use Rattle.mesa_image.specs.mesa_record.declared.record.Record.{Record}
+use Rattle.mesa_image.specs.mesa_record.declared.record.Record.TheVariants as record_of
+use Rattle.mesa_image.specs.mesa_record.declared.error.RecordError.{RecordError}
+use Rattle.mesa_image.specs.mesa_record.Reading.{record_at}
+use Rattle.mesa_image.specs.mesa_record.Rules.{IsRecord, IsTyped}
+use Rattle.mesa_image.proofs.mesa_record.RecordsBoth.{record_found}
 use Rattle.mesa_image.specs.Catalog.{Catalog, empty_catalog, applied}
 use Rattle.mesa_image.specs.Fitting.{fits, kind_fits, brings_new_files, with_body, read_record, applied_if, then_bodies, catalog_from, catalog}
 use Rattle.mesa_image.specs.Shape.{IsCatalog}

@@ -1,10 +1,10 @@
 -- The ids of the files that a catalogue names.
 use Rattle.std.specs.Prelude.{◌≡◌, ℕ, ◌+◌, ◌-◌, ◌<◌, ◌≤◌, List, [], ◌∷◌, ◌++◌, map, take, flat_map, true, ◌==◌, Option, Some, None}
 use Rattle.std.specs.List.{count_by}
-use Rattle.mesa_record.specs.declared.record.Files.{Files}
-use Rattle.mesa_record.specs.declared.record.Record.{Record}
-use Rattle.mesa_record.specs.declared.record.Record.TheVariants as record_of
-use Rattle.mesa_record.specs.declared.record.ViewRef.{ViewRef}
+use Rattle.mesa_image.specs.mesa_record.declared.record.Files.{Files}
+use Rattle.mesa_image.specs.mesa_record.declared.record.Record.{Record}
+use Rattle.mesa_image.specs.mesa_record.declared.record.Record.TheVariants as record_of
+use Rattle.mesa_image.specs.mesa_record.declared.record.ViewRef.{ViewRef}
 use Rattle.mesa_image.specs.Catalog.{Catalog, Delta, Stock, start_in, stock_at}
 use Rattle.mesa_image.specs.Fitting.{base_deltas, brought, delta_in, run_of_id, shelved, shelved_id}
 

@@ -1,22 +1,22 @@
 -- What each command makes of what is kept, and what its record makes of the catalogue that stands for it.
 use Rattle.std.specs.Prelude.{◌≡◌, ℕ, List, [], ◌∷◌, ◌++◌, None, Bool, true, false, slice_set, slice_index_or}
-use Rattle.mesa_schema.specs.declared.changes.Change.{Change}
-use Rattle.mesa_schema.specs.declared.views.View.{View}
-use Rattle.mesa_schema.specs.Columns.{Columns}
-use Rattle.mesa_schema.specs.Views.{with_view}
-use Rattle.mesa_batch.specs.Batch.{Placed}
-use Rattle.mesa_span.specs.declared.works.Work.{Work}
-use Rattle.mesa_span.specs.declared.works.Work.TheVariants as work
-use Rattle.mesa_span.specs.Ranges.{new_ranges}
-use Rattle.mesa_span.specs.Work.{swapped}
-use Rattle.mesa_disk.specs.Image.{Image}
-use Rattle.mesa_commit.specs.Images.{Has}
-use Rattle.mesa_model.specs.Warehouse.{Table, Warehouse, table_at, with_table, with_tables}
-use Rattle.mesa_model.specs.Load.{with_batch}
-use Rattle.mesa_model.specs.Tables.{new_table, table_changed}
-use Rattle.mesa_model.specs.Versions.{store_from}
-use Rattle.mesa_history.specs.Found.{Kept}
-use Rattle.mesa_record.specs.declared.record.Record.{Record}
+use Rattle.mesa_fold.specs.mesa_schema.declared.changes.Change.{Change}
+use Rattle.mesa_fold.specs.mesa_schema.declared.views.View.{View}
+use Rattle.mesa_fold.specs.mesa_schema.Columns.{Columns}
+use Rattle.mesa_fold.specs.mesa_schema.Views.{with_view}
+use Rattle.mesa_fold.specs.mesa_batch.Batch.{Placed}
+use Rattle.mesa_image.specs.mesa_span.declared.works.Work.{Work}
+use Rattle.mesa_image.specs.mesa_span.declared.works.Work.TheVariants as work
+use Rattle.mesa_image.specs.mesa_span.Ranges.{new_ranges}
+use Rattle.mesa_image.specs.mesa_span.Work.{swapped}
+use Rattle.mesa_image.specs.mesa_disk.Image.{Image}
+use Rattle.mesa_image.specs.mesa_commit.Images.{Has}
+use Rattle.mesa_image.specs.mesa_model.Warehouse.{Table, Warehouse, table_at, with_table, with_tables}
+use Rattle.mesa_image.specs.mesa_model.Load.{with_batch}
+use Rattle.mesa_image.specs.mesa_model.Tables.{new_table, table_changed}
+use Rattle.mesa_image.specs.mesa_model.Versions.{store_from}
+use Rattle.mesa_image.specs.mesa_history.Found.{Kept}
+use Rattle.mesa_image.specs.mesa_record.declared.record.Record.{Record}
 use Rattle.mesa_image.specs.Catalog.{Catalog, applied}
 use Rattle.mesa_image.specs.Fitting.{brought, shelved}
 use Rattle.mesa_image.specs.Contents.{Rows, kept_of}

@@ -1,6 +1,6 @@
 -- The deltas that a query at a version reads.
 use Rattle.std.specs.Prelude.{ℕ, ◌+◌, ◌-◌, List, ◌∷◌, ◌++◌, map, take, drop, find, ◌==◌, Option, Some, None}
-use Rattle.mesa_span.specs.Plan.{longest}
+use Rattle.mesa_image.specs.mesa_span.Plan.{longest}
 use Rattle.mesa_image.specs.Catalog.{Delta, Ending, Stock, end_in, start_in}
 use Rattle.mesa_image.specs.Fitting.{base_deltas}
 

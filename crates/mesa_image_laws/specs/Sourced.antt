@@ -1,12 +1,12 @@
 -- What the rows of a delta were made of: what a run found of a table when it began, and what the batches brought to it since.
 use Rattle.std.specs.Prelude.{◌≡◌, ℕ, ◌+◌, ◌<◌, ◌≤◌, List, [], ◌∷◌, ◌++◌, map, filter, length, ◌&&◌, nat_le, Option, None, Some, IfSome, ⊤}
 use Rattle.std.specs.List.{AllByRecursion}
-use Rattle.mesa_schema.specs.Changes.{Lineage, columns_at, columns_of, epoch_of}
-use Rattle.mesa_schema.specs.Rows.{AreRowsOf}
-use Rattle.mesa_batch.specs.Batch.{Named, Placed, rows_for}
-use Rattle.mesa_span.specs.Ranges.{Rise}
-use Rattle.mesa_history.specs.Law.{Accepted}
-use Rattle.mesa_history.specs.Sources.{Source, source_in, range_rows}
+use Rattle.mesa_fold.specs.mesa_schema.Changes.{Lineage, columns_at, columns_of, epoch_of}
+use Rattle.mesa_fold.specs.mesa_schema.Rows.{AreRowsOf}
+use Rattle.mesa_fold.specs.mesa_batch.Batch.{Named, Placed, rows_for}
+use Rattle.mesa_image.specs.mesa_span.Ranges.{Rise}
+use Rattle.mesa_image.specs.mesa_history.Law.{Accepted}
+use Rattle.mesa_image.specs.mesa_history.Sources.{Source, source_in, range_rows}
 use Rattle.mesa_image.specs.Catalog.{Catalog, Delta, Ending, Stock, start_in}
 use Rattle.mesa_image.specs.Contents.{Rows, rows_in, present}
 

@@ -1,5 +1,5 @@
 // What each record moves.
-ghost use Rattle.mesa_batch.specs.Batch.{Placed};
+ghost use Rattle.mesa_fold.specs.mesa_batch.Batch.{Placed};
 ghost use Rattle.mesa_image.specs.Catalog.{Catalog, merged_delta, stock_at};
 ghost use Rattle.mesa_image.specs.Contents.{Rows, kept_of};
 ghost use Rattle.mesa_image.specs.Fitting.{fits};
@@ -7,13 +7,13 @@ ghost use Rattle.mesa_image.specs.Shape.{IsCatalog};
 ghost use Rattle.mesa_image.specs.Sound.{AreStocked};
 ghost use Rattle.mesa_image_laws.specs.Brought.{AreTold, BringsAll, Merges};
 ghost use Rattle.mesa_image_laws.specs.Moves.{Moves, kept_altered, kept_expired, kept_loaded, kept_made, kept_swapped, kept_viewed, work_of};
-ghost use Rattle.mesa_record.specs.declared.record.Files.{Files as FilesOf};
-ghost use Rattle.mesa_record.specs.declared.record.Part.{Part as PartOf};
-ghost use Rattle.mesa_record.specs.declared.record.Record.TheVariants as record_of;
-ghost use Rattle.mesa_record.specs.Rules.{IsTypedChange};
-ghost use Rattle.mesa_schema.specs.declared.changes.Change.{Change as ChangeOf};
-ghost use Rattle.mesa_schema.specs.declared.columns.KeyColumn.{KeyColumn as KeyOf};
-ghost use Rattle.mesa_schema.specs.declared.columns.ValueColumn.{ValueColumn as ValueOf};
+ghost use Rattle.mesa_image.specs.mesa_record.declared.record.Files.{Files as FilesOf};
+ghost use Rattle.mesa_image.specs.mesa_record.declared.record.Part.{Part as PartOf};
+ghost use Rattle.mesa_image.specs.mesa_record.declared.record.Record.TheVariants as record_of;
+ghost use Rattle.mesa_image.specs.mesa_record.Rules.{IsTypedChange};
+ghost use Rattle.mesa_fold.specs.mesa_schema.declared.changes.Change.{Change as ChangeOf};
+ghost use Rattle.mesa_fold.specs.mesa_schema.declared.columns.KeyColumn.{KeyColumn as KeyOf};
+ghost use Rattle.mesa_fold.specs.mesa_schema.declared.columns.ValueColumn.{ValueColumn as ValueOf};
 ghost use Rattle.std.specs.Prelude.{◌≡◌, ℕ, Bool, List, Option, true};
 
 /// The beginning of a run moves nothing that is kept.

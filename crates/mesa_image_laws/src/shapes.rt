@@ -2,10 +2,10 @@
 ghost use Rattle.mesa_image.specs.Catalog.{Catalog, applied};
 ghost use Rattle.mesa_image.specs.Fitting.{catalog, fits};
 ghost use Rattle.mesa_image.specs.Shape.{IsCatalog};
-ghost use Rattle.mesa_key.specs.Spelling.{AreBytes};
-ghost use Rattle.mesa_record.specs.declared.record.Record.{Record as RecordOf};
-ghost use Rattle.mesa_record.specs.Reading.{record_at};
-ghost use Rattle.mesa_record.specs.Rules.{IsTyped};
+ghost use Rattle.mesa_fold.specs.mesa_key.Spelling.{AreBytes};
+ghost use Rattle.mesa_image.specs.mesa_record.declared.record.Record.{Record as RecordOf};
+ghost use Rattle.mesa_image.specs.mesa_record.Reading.{record_at};
+ghost use Rattle.mesa_image.specs.mesa_record.Rules.{IsTyped};
 ghost use Rattle.std.specs.List.{AllByRecursion};
 ghost use Rattle.std.specs.Prelude.{◌≡◌, ◌++◌, ◌∷◌, ℕ, List, Ok, Some, [], true};
 

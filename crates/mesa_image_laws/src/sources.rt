@@ -1,8 +1,8 @@
 // What the rows of deltas were made of.
-ghost use Rattle.mesa_batch.specs.Batch.{Placed, batch_of};
-ghost use Rattle.mesa_batch.specs.declared.words.RowWords.{RowWords as WordsOf};
-ghost use Rattle.mesa_history.specs.Law.{Accepted};
-ghost use Rattle.mesa_history.specs.Sources.{range_rows};
+ghost use Rattle.mesa_fold.specs.mesa_batch.Batch.{Placed, batch_of};
+ghost use Rattle.mesa_fold.specs.mesa_batch.declared.words.RowWords.{RowWords as WordsOf};
+ghost use Rattle.mesa_image.specs.mesa_history.Law.{Accepted};
+ghost use Rattle.mesa_image.specs.mesa_history.Sources.{range_rows};
 ghost use Rattle.mesa_image.specs.Catalog.{Catalog, Delta, applied, merged_delta, stock_at};
 ghost use Rattle.mesa_image.specs.Contents.{Rows, content, present};
 ghost use Rattle.mesa_image.specs.Fitting.{fits, may_be_work};
@@ -10,16 +10,16 @@ ghost use Rattle.mesa_image.specs.Shape.{IsCatalog};
 ghost use Rattle.mesa_image.specs.Sound.{AreStocked};
 ghost use Rattle.mesa_image_laws.specs.Brought.{BringsAll, Replaces, merged_of};
 ghost use Rattle.mesa_image_laws.specs.Sourced.{HasSources, IsAccepted, IsMadeOf, IsMergedOf, Written, epoch_in, found_written, sources_from, tables_read, written_with};
-ghost use Rattle.mesa_record.specs.declared.record.Files.{Files as FilesOf};
-ghost use Rattle.mesa_record.specs.declared.record.Part.{Part as PartOf};
-ghost use Rattle.mesa_record.specs.declared.record.Record.TheVariants as record_of;
-ghost use Rattle.mesa_record.specs.Rules.{IsTypedChange};
-ghost use Rattle.mesa_schema.specs.Changes.{columns_of, epoch_of};
-ghost use Rattle.mesa_schema.specs.Columns.{aggs_of};
-ghost use Rattle.mesa_schema.specs.declared.changes.Change.{Change as ChangeOf};
-ghost use Rattle.mesa_schema.specs.declared.columns.KeyColumn.{KeyColumn as KeyOf};
-ghost use Rattle.mesa_schema.specs.declared.columns.ValueColumn.{ValueColumn as ValueOf};
-ghost use Rattle.mesa_schema.specs.Folded.{folded};
+ghost use Rattle.mesa_image.specs.mesa_record.declared.record.Files.{Files as FilesOf};
+ghost use Rattle.mesa_image.specs.mesa_record.declared.record.Part.{Part as PartOf};
+ghost use Rattle.mesa_image.specs.mesa_record.declared.record.Record.TheVariants as record_of;
+ghost use Rattle.mesa_image.specs.mesa_record.Rules.{IsTypedChange};
+ghost use Rattle.mesa_fold.specs.mesa_schema.Changes.{columns_of, epoch_of};
+ghost use Rattle.mesa_fold.specs.mesa_schema.Columns.{aggs_of};
+ghost use Rattle.mesa_fold.specs.mesa_schema.declared.changes.Change.{Change as ChangeOf};
+ghost use Rattle.mesa_fold.specs.mesa_schema.declared.columns.KeyColumn.{KeyColumn as KeyOf};
+ghost use Rattle.mesa_fold.specs.mesa_schema.declared.columns.ValueColumn.{ValueColumn as ValueOf};
+ghost use Rattle.mesa_fold.specs.mesa_schema.Folded.{folded};
 ghost use Rattle.std.specs.Prelude.{◌≡◌, ◌≤◌, ◌<◌, ℕ, Bool, List, Ok, Option, length, map, true};
 
 /// A sound catalogue was made of what a run finds written of it.

@@ -6,12 +6,12 @@ ghost use Rattle.mesa_image.specs.Shape.{IsShaped};
 ghost use Rattle.mesa_image.specs.Sound.{IsStocked};
 ghost use Rattle.mesa_image_laws.specs.Moves.{first_of, is_base, last_of};
 ghost use Rattle.mesa_image_laws.specs.Planned.{planned};
-ghost use Rattle.mesa_schema.specs.Changes.{columns_of};
-ghost use Rattle.mesa_schema.specs.Columns.{aggs_of};
-ghost use Rattle.mesa_schema.specs.Folded.{folded};
-ghost use Rattle.mesa_span.specs.declared.works.Work.{Work as WorkOf};
-ghost use Rattle.mesa_span.specs.Ranges.{base_before};
-ghost use Rattle.mesa_span.specs.Work.{next_work};
+ghost use Rattle.mesa_fold.specs.mesa_schema.Changes.{columns_of};
+ghost use Rattle.mesa_fold.specs.mesa_schema.Columns.{aggs_of};
+ghost use Rattle.mesa_fold.specs.mesa_schema.Folded.{folded};
+ghost use Rattle.mesa_image.specs.mesa_span.declared.works.Work.{Work as WorkOf};
+ghost use Rattle.mesa_image.specs.mesa_span.Ranges.{base_before};
+ghost use Rattle.mesa_image.specs.mesa_span.Work.{next_work};
 ghost use Rattle.std.specs.Prelude.{◌≡◌, ◌≤◌, ℕ, Some, map, true};
 
 /// A work that was due for a table's ranges may be swapped in while they stay, however far the oldest

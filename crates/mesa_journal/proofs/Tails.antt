@@ -4,7 +4,7 @@ use Rattle.std.specs.List.{AllByRecursion}
 use Rattle.std.proofs.lemmas.Bool.{cases_lt}
 use Rattle.std.proofs.lemmas.List.{drop_at, get_or-take, get_or_past, length-take, length-take-le}
 use Rattle.std.proofs.lemmas.Nat.{be_bytes_4}
-use Rattle.mesa_key.specs.Spelling.{AreBytes}
+use Rattle.mesa_disk.specs.mesa_key.Spelling.{AreBytes}
 use Rattle.mesa_journal.specs.Journal.{word, of_word, needed_of, frames, AllFit}
 use Rattle.mesa_journal.specs.Read.{placed_from}
 use Rattle.mesa_journal.specs.declared.reading.Body.{Body}

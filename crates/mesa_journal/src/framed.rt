@@ -1,5 +1,5 @@
 ghost use Rattle.std.specs.Prelude.{◌≡◌, ◌^◌, ◌<◌, [], ◌∷◌, length, IfOk};
-ghost use Rattle.mesa_key.specs.Spelling.{AreBytes};
+ghost use Rattle.mesa_disk.specs.mesa_key.Spelling.{AreBytes};
 ghost use Rattle.mesa_journal.specs.Journal.{record_bytes};
 
 use mesa_list::TryCopy;
@@ -15,7 +15,7 @@ pub struct Framed {
 
 impl Model for Framed {
     ghost use Rattle.std.specs.Prelude.{◌≡◌, ◌-◌, ◌<◌, ◌^◌, ◌∷◌, ℕ, List, length, take, drop};
-    ghost use Rattle.mesa_key.specs.Spelling.{AreBytes};
+    ghost use Rattle.mesa_disk.specs.mesa_key.Spelling.{AreBytes};
     ghost use Rattle.mesa_journal.specs.Journal.{body_of_frame, record_bytes};
 
     ghost Value = { List ℕ };

@@ -1,9 +1,9 @@
 ghost use Rattle.std.specs.Prelude.{◌≡◌, ◌+◌, ◌^◌, ◌<◌, ◌≤◌, ◌++◌, ℕ, List, length, Some, IfOk, IfErr, IfSome, IsNone};
 ghost use Rattle.std.specs.List.{AllByRecursion};
-ghost use Rattle.mesa_fault.specs.Causes.{HasFaultCause};
+ghost use Rattle.mesa_disk.specs.mesa_fault.Causes.{HasFaultCause};
 ghost use Rattle.mesa_disk.specs.Image.{Image, area_of};
 ghost use Rattle.mesa_disk.specs.Story.{Unmoved};
-ghost use Rattle.mesa_key.specs.Spelling.{AreBytes};
+ghost use Rattle.mesa_disk.specs.mesa_key.Spelling.{AreBytes};
 ghost use Rattle.mesa_journal.specs.Journal.{IsJournal, IsDamaged, word, needed_of};
 ghost use Rattle.mesa_journal.specs.Read.{bodies_of, Finds, Agrees, AgreesOnDamage};
 ghost use Rattle.mesa_journal.specs.declared.reading.JournalError.TheVariants.{Fault, Memory as WantOfMemory};

@@ -1,9 +1,9 @@
 ghost use Rattle.std.specs.Prelude.{◌≡◌, ◌+◌, ◌<◌, ◌≤◌, ℕ, List, [], ◌∷◌, ◌++◌, length, IfOk, OnOk, Some};
-ghost use Rattle.mesa_fault.specs.Causes.{Rose, HasCause};
+ghost use Rattle.mesa_disk.specs.mesa_fault.Causes.{Rose, HasCause};
 ghost use Rattle.mesa_disk.specs.Story.{Steps, After, Follows, Elapses};
 ghost use Rattle.mesa_disk.specs.Image.{Image, area_of, InArea, AnyChange};
 ghost use Rattle.mesa_disk.specs.declared.area.Area.{Area};
-ghost use Rattle.mesa_key.specs.Spelling.{AreBytes};
+ghost use Rattle.mesa_disk.specs.mesa_key.Spelling.{AreBytes};
 ghost use Rattle.mesa_journal.specs.Journal.{IsJournal};
 ghost use Rattle.mesa_journal.specs.Settled.{IsSettled, IsWithinAppend};
 

@@ -1,17 +1,17 @@
 -- What one entry more does to what was accepted, and to the schemas.
 use Rattle.std.proofs.Common.{◌≡◌, ◌+◌, List, [], ◌∷◌, ◌++◌, false, refl, sym, ap, ◌∙◌, append_assoc, append-nil, arith, Option, None, Some}
-use Rattle.mesa_model.specs.declared.commands.Command.{Command}
-use Rattle.mesa_model.specs.declared.commands.Script.{Script}
-use Rattle.mesa_model.specs.declared.entries.Entry.{Entry}
-use Rattle.mesa_model.specs.declared.replies.Reply.{Reply}
-use Rattle.mesa_model.specs.declared.replies.Reply.TheVariants as reply
-use Rattle.mesa_model.specs.Warehouse.{Store}
-use Rattle.mesa_history.specs.Counting.{one_if}
-use Rattle.mesa_history.specs.Law.{Accepted, accepted_as, accepted_if_told, accepted_by, accepted_in}
-use Rattle.mesa_history.specs.Legal.{is_written, wrote}
-use Rattle.mesa_history.specs.Replay.{told_by, go, runs}
-use Rattle.mesa_history.specs.Run.{Run, Told, command_of}
-use Rattle.mesa_history.proofs.Counting.{count_more}
+use Rattle.mesa_image_laws.specs.mesa_model.declared.commands.Command.{Command}
+use Rattle.mesa_image_laws.specs.mesa_model.declared.commands.Script.{Script}
+use Rattle.mesa_image_laws.specs.mesa_model.declared.entries.Entry.{Entry}
+use Rattle.mesa_image_laws.specs.mesa_model.declared.replies.Reply.{Reply}
+use Rattle.mesa_image_laws.specs.mesa_model.declared.replies.Reply.TheVariants as reply
+use Rattle.mesa_image_laws.specs.mesa_model.Warehouse.{Store}
+use Rattle.mesa_image_laws.specs.mesa_history.Counting.{one_if}
+use Rattle.mesa_image_laws.specs.mesa_history.Law.{Accepted, accepted_as, accepted_if_told, accepted_by, accepted_in}
+use Rattle.mesa_image_laws.specs.mesa_history.Legal.{is_written, wrote}
+use Rattle.mesa_image_laws.specs.mesa_history.Replay.{told_by, go, runs}
+use Rattle.mesa_image_laws.specs.mesa_history.Run.{Run, Told, command_of}
+use Rattle.mesa_image_laws.proofs.mesa_history.Counting.{count_more}
 use Rattle.mesa_walk.specs.Sight.{is_of_schemas, tells_of_schemas, changes_schemas, schema_changes}
 
 pub accepted_more : (script : Script) (r : Run) (h : List Entry) (e : Entry) → accepted_in script r (h ++ e ∷ []) ≡ accepted_in script r h ++ accepted_by script (runs script r h) e

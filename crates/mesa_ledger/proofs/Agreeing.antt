@@ -1,14 +1,14 @@
 -- What a vault stands for doesn't change with the rows of files that are to come.
 use Rattle.std.proofs.Common.{◌≡◌, ℕ, ◌<◌, ◌≤◌, List, [], ◌∷◌, map, length, Bool, arith, refl, Option}
 use Rattle.std.specs.List.{AllByRecursion}
-use Rattle.mesa_disk.specs.Story.{Story}
-use Rattle.mesa_model.specs.declared.entries.Entry.{Entry}
-use Rattle.mesa_model.specs.Pins.{store_at}
-use Rattle.mesa_image.specs.Contents.{kept_of}
-use Rattle.mesa_image.specs.Fitting.{shelved}
+use Rattle.mesa_walk.specs.mesa_disk.Story.{Story}
+use Rattle.mesa_image_laws.specs.mesa_model.declared.entries.Entry.{Entry}
+use Rattle.mesa_image_laws.specs.mesa_model.Pins.{store_at}
+use Rattle.mesa_image_laws.specs.mesa_image.Contents.{kept_of}
+use Rattle.mesa_image_laws.specs.mesa_image.Fitting.{shelved}
 use Rattle.mesa_image_laws.proofs.Agreeing.{Agrees, agree_kept}
 use Rattle.mesa_image_laws.specs.Ids.{named}
-use Rattle.mesa_skeleton.specs.Rows.{Rows}
+use Rattle.mesa_walk.specs.mesa_skeleton.Rows.{Rows}
 use Rattle.mesa_trash.specs.Holding.{Held, IsHoldOf}
 use Rattle.mesa_walk.specs.Walk.{Outset}
 use Rattle.mesa_ledger.specs.Ledger.{HeldPin, Ledger, held_with, next_id, Holder, holders, ids_held}

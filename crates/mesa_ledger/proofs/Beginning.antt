@@ -1,18 +1,18 @@
 -- A vault before its first turn, one whose disk gave readers back, and what a session sees of one.
 use Rattle.std.proofs.Common.{◌≡◌, ℕ, ◌<◌, List, [], Bool, true, false, ◌∙◌, subst, arith, Option, None, IsTrue}
-use Rattle.mesa_disk.specs.Story.{Story, Unmoved}
-use Rattle.mesa_model.specs.declared.entries.Entry.{Entry}
-use Rattle.mesa_history.specs.Claims.{HasRanges, HasClaimAt}
-use Rattle.mesa_history.specs.Counting.{count_in}
-use Rattle.mesa_history.specs.Law.{accepted_in}
-use Rattle.mesa_history.specs.Run.{begins, place_of}
-use Rattle.mesa_history.proofs.Claims.{runs_hold, begins_hold}
-use Rattle.mesa_image.specs.Catalog.{Catalog}
-use Rattle.mesa_image.specs.Held.{IsHeld}
-use Rattle.mesa_image.specs.Shape.{IsCatalog}
-use Rattle.mesa_image.specs.Sound.{AreStocked}
+use Rattle.mesa_walk.specs.mesa_disk.Story.{Story, Unmoved}
+use Rattle.mesa_image_laws.specs.mesa_model.declared.entries.Entry.{Entry}
+use Rattle.mesa_image_laws.specs.mesa_history.Claims.{HasRanges, HasClaimAt}
+use Rattle.mesa_image_laws.specs.mesa_history.Counting.{count_in}
+use Rattle.mesa_image_laws.specs.mesa_history.Law.{accepted_in}
+use Rattle.mesa_image_laws.specs.mesa_history.Run.{begins, place_of}
+use Rattle.mesa_image_laws.proofs.mesa_history.Claims.{runs_hold, begins_hold}
+use Rattle.mesa_image_laws.specs.mesa_image.Catalog.{Catalog}
+use Rattle.mesa_image_laws.specs.mesa_image.Held.{IsHeld}
+use Rattle.mesa_image_laws.specs.mesa_image.Shape.{IsCatalog}
+use Rattle.mesa_image_laws.specs.mesa_image.Sound.{AreStocked}
 use Rattle.mesa_image_laws.specs.Ids.{HasOwnIds, named}
-use Rattle.mesa_skeleton.specs.Rows.{Rows, no_rows}
+use Rattle.mesa_walk.specs.mesa_skeleton.Rows.{Rows, no_rows}
 use Rattle.mesa_trash.specs.Holding.{Among}
 use Rattle.mesa_trash.proofs.Filing.{filed_first}
 use Rattle.mesa_walk.specs.Turns.{IsSeen}

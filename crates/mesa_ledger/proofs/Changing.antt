@@ -3,37 +3,37 @@ use Rattle.std.proofs.Common.{◌≡◌, ℕ, ◌+◌, ◌<◌, ◌≤◌, List,
 use Rattle.std.specs.Prelude.{slice_set}
 use Rattle.std.proofs.lemmas.List.{map-set}
 use Rattle.std.proofs.lemmas.Simd.{map-map}
-use Rattle.mesa_batch.specs.Batch.{Named, Placed, batch_of, rows_for}
-use Rattle.mesa_batch.specs.declared.words.RowWords.{RowWords}
-use Rattle.mesa_schema.specs.declared.changes.Change.{Change}
-use Rattle.mesa_schema.specs.declared.views.View.{View}
-use Rattle.mesa_schema.specs.Columns.{Columns}
-use Rattle.mesa_schema.specs.Changes.{Lineage, columns_of, epoch_of}
-use Rattle.mesa_schema.specs.Views.{with_view}
-use Rattle.mesa_disk.specs.Story.{Story}
-use Rattle.mesa_model.specs.declared.commands.AlterWords.{AlterWords}
-use Rattle.mesa_model.specs.declared.commands.TableWords.{TableWords}
-use Rattle.mesa_model.specs.declared.commands.ViewWords.{ViewWords}
-use Rattle.mesa_model.specs.declared.entries.Entry.{Entry}
-use Rattle.mesa_model.specs.declared.replies.Reply.{Reply}
-use Rattle.mesa_model.specs.declared.replies.Reply.TheVariants as reply
-use Rattle.mesa_model.specs.Load.{load_batch, tables_loaded, tables_named, table_loaded, with_batch}
-use Rattle.mesa_model.specs.Relations.{table_number}
-use Rattle.mesa_model.specs.Tables.{make_table, make_view, alter_table, columns_asked, new_table, change_asked, table_changed}
-use Rattle.mesa_model.specs.Versions.{expire_to, store_from}
-use Rattle.mesa_model.specs.Warehouse.{Table, Warehouse, table_at, with_table, no_table}
-use Rattle.mesa_history.specs.Found.{Kept, kept_of as kept_by}
-use Rattle.mesa_history.specs.Machine.{with_new_table}
-use Rattle.mesa_history.specs.Replay.{stepped}
-use Rattle.mesa_history.specs.Run.{State}
-use Rattle.mesa_record.specs.declared.record.Part.{Part}
-use Rattle.mesa_record.specs.declared.record.Record.TheVariants as record_of
-use Rattle.mesa_record.specs.Rules.{IsTypedChange}
+use Rattle.mesa_image_laws.specs.mesa_batch.Batch.{Named, Placed, batch_of, rows_for}
+use Rattle.mesa_image_laws.specs.mesa_batch.declared.words.RowWords.{RowWords}
+use Rattle.mesa_image_laws.specs.mesa_schema.declared.changes.Change.{Change}
+use Rattle.mesa_image_laws.specs.mesa_schema.declared.views.View.{View}
+use Rattle.mesa_image_laws.specs.mesa_schema.Columns.{Columns}
+use Rattle.mesa_image_laws.specs.mesa_schema.Changes.{Lineage, columns_of, epoch_of}
+use Rattle.mesa_image_laws.specs.mesa_schema.Views.{with_view}
+use Rattle.mesa_walk.specs.mesa_disk.Story.{Story}
+use Rattle.mesa_image_laws.specs.mesa_model.declared.commands.AlterWords.{AlterWords}
+use Rattle.mesa_image_laws.specs.mesa_model.declared.commands.TableWords.{TableWords}
+use Rattle.mesa_image_laws.specs.mesa_model.declared.commands.ViewWords.{ViewWords}
+use Rattle.mesa_image_laws.specs.mesa_model.declared.entries.Entry.{Entry}
+use Rattle.mesa_image_laws.specs.mesa_model.declared.replies.Reply.{Reply}
+use Rattle.mesa_image_laws.specs.mesa_model.declared.replies.Reply.TheVariants as reply
+use Rattle.mesa_image_laws.specs.mesa_model.Load.{load_batch, tables_loaded, tables_named, table_loaded, with_batch}
+use Rattle.mesa_image_laws.specs.mesa_model.Relations.{table_number}
+use Rattle.mesa_image_laws.specs.mesa_model.Tables.{make_table, make_view, alter_table, columns_asked, new_table, change_asked, table_changed}
+use Rattle.mesa_image_laws.specs.mesa_model.Versions.{expire_to, store_from}
+use Rattle.mesa_image_laws.specs.mesa_model.Warehouse.{Table, Warehouse, table_at, with_table, no_table}
+use Rattle.mesa_image_laws.specs.mesa_history.Found.{Kept, kept_of as kept_by}
+use Rattle.mesa_image_laws.specs.mesa_history.Machine.{with_new_table}
+use Rattle.mesa_image_laws.specs.mesa_history.Replay.{stepped}
+use Rattle.mesa_image_laws.specs.mesa_history.Run.{State}
+use Rattle.mesa_image_laws.specs.mesa_record.declared.record.Part.{Part}
+use Rattle.mesa_image_laws.specs.mesa_record.declared.record.Record.TheVariants as record_of
+use Rattle.mesa_image_laws.specs.mesa_record.Rules.{IsTypedChange}
 use Rattle.mesa_span.specs.Ranges.{new_ranges}
-use Rattle.mesa_image.specs.Catalog.{Catalog, Stock, applied, new_stock, no_stock, ranges_of, stock_at, stock_changed, stock_viewed, stocks_loaded}
-use Rattle.mesa_image.specs.Contents.{kept_of, table_of}
-use Rattle.mesa_image.specs.Fitting.{alter_fits}
-use Rattle.mesa_image.specs.Shape.{IsCatalog}
+use Rattle.mesa_image_laws.specs.mesa_image.Catalog.{Catalog, Stock, applied, new_stock, no_stock, ranges_of, stock_at, stock_changed, stock_viewed, stocks_loaded}
+use Rattle.mesa_image_laws.specs.mesa_image.Contents.{kept_of, table_of}
+use Rattle.mesa_image_laws.specs.mesa_image.Fitting.{alter_fits}
+use Rattle.mesa_image_laws.specs.mesa_image.Shape.{IsCatalog}
 use Rattle.mesa_image_laws.proofs.Agreeing.{agree_stocked}
 use Rattle.mesa_image_laws.proofs.Changes.{alter_moves}
 use Rattle.mesa_image_laws.proofs.Kept.{expire_moves, publish_moves}
@@ -42,10 +42,10 @@ use Rattle.mesa_image_laws.proofs.Views.{ranges_same, view_moves}
 use Rattle.mesa_image_laws.specs.Brought.{BringsAll}
 use Rattle.mesa_image_laws.specs.Moves.{kept_altered, kept_expired, kept_loaded, kept_made, kept_viewed}
 use Rattle.mesa_image_laws.specs.Sourced.{tables_read}
-use Rattle.mesa_skeleton.proofs.Lists.{append_same, at_same, set_same}
-use Rattle.mesa_skeleton.proofs.Steps.{alter-bare, expire-bare, load-bare, number_bare, table-bare, view-bare}
-use Rattle.mesa_skeleton.specs.Bare.{bare, bare_table}
-use Rattle.mesa_skeleton.specs.Rows.{Rows}
+use Rattle.mesa_walk.proofs.mesa_skeleton.Lists.{append_same, at_same, set_same}
+use Rattle.mesa_walk.proofs.mesa_skeleton.Steps.{alter-bare, expire-bare, load-bare, number_bare, table-bare, view-bare}
+use Rattle.mesa_walk.specs.mesa_skeleton.Bare.{bare, bare_table}
+use Rattle.mesa_walk.specs.mesa_skeleton.Rows.{Rows}
 use Rattle.mesa_walk.specs.Books.{Books, AreBooksOf}
 use Rattle.mesa_walk.specs.Changes.{IsChange}
 use Rattle.mesa_walk.specs.Walk.{Outset}

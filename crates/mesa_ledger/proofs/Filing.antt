@@ -4,15 +4,15 @@ use Rattle.std.specs.Prelude.{filter}
 use Rattle.std.specs.List.{AllByRecursion}
 use Rattle.std.proofs.lemmas.List.{map-append}
 use Rattle.std.proofs.lemmas.Simd.{map-map}
-use Rattle.mesa_disk.specs.Image.{Image}
-use Rattle.mesa_commit.specs.Images.{Has}
-use Rattle.mesa_commit.specs.Turn.{MovesOnly, made_ids}
-use Rattle.mesa_image.specs.Catalog.{Catalog}
-use Rattle.mesa_image.specs.Fitting.{Shelved, shelved, shelved_id}
-use Rattle.mesa_image.specs.Sound.{wants}
+use Rattle.mesa_walk.specs.mesa_disk.Image.{Image}
+use Rattle.mesa_trash.specs.mesa_commit.Images.{Has}
+use Rattle.mesa_trash.specs.mesa_commit.Turn.{MovesOnly, made_ids}
+use Rattle.mesa_image_laws.specs.mesa_image.Catalog.{Catalog}
+use Rattle.mesa_image_laws.specs.mesa_image.Fitting.{Shelved, shelved, shelved_id}
+use Rattle.mesa_image_laws.specs.mesa_image.Sound.{wants}
 use Rattle.mesa_image_laws.proofs.Agreeing.{Agrees, agree_wants}
 use Rattle.mesa_image_laws.specs.Ids.{named}
-use Rattle.mesa_skeleton.specs.Rows.{Rows}
+use Rattle.mesa_walk.specs.mesa_skeleton.Rows.{Rows}
 use Rattle.mesa_trash.specs.declared.trash.Hold.{Hold}
 use Rattle.mesa_trash.specs.declared.trash.Dropped.{Dropped}
 use Rattle.mesa_trash.specs.Filed.{AreGiven, Renames, waits_after}

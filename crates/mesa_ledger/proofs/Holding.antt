@@ -3,14 +3,14 @@ use Rattle.std.proofs.Common.{◌≡◌, ℕ, ◌+◌, ◌<◌, ◌≤◌, List,
 use Rattle.std.specs.Prelude.{filter, if◌then◌else◌}
 use Rattle.std.specs.List.{AllByRecursion}
 use Rattle.std.proofs.lemmas.Bool.Decides.{nat_tests}
-use Rattle.mesa_commit.specs.Images.{Has}
-use Rattle.mesa_disk.specs.Image.{Image}
-use Rattle.mesa_image.specs.Catalog.{Catalog}
-use Rattle.mesa_image.specs.Fitting.{shelved}
-use Rattle.mesa_image.specs.Shape.{IsCatalog}
-use Rattle.mesa_image.specs.Sound.{AreStocked, wants}
+use Rattle.mesa_trash.specs.mesa_commit.Images.{Has}
+use Rattle.mesa_walk.specs.mesa_disk.Image.{Image}
+use Rattle.mesa_image_laws.specs.mesa_image.Catalog.{Catalog}
+use Rattle.mesa_image_laws.specs.mesa_image.Fitting.{shelved}
+use Rattle.mesa_image_laws.specs.mesa_image.Shape.{IsCatalog}
+use Rattle.mesa_image_laws.specs.mesa_image.Sound.{AreStocked, wants}
 use Rattle.mesa_image_laws.specs.Ids.{named}
-use Rattle.mesa_skeleton.specs.Rows.{Rows}
+use Rattle.mesa_walk.specs.mesa_skeleton.Rows.{Rows}
 use Rattle.mesa_trash.specs.declared.trash.Hold.{Hold}
 use Rattle.mesa_trash.specs.Filed.{PinFiles}
 use Rattle.mesa_trash.specs.Holding.{Held, IsHoldOf, AreFiled}

@@ -1,3 +1,5 @@
+pub use Rattle.mesa_image_laws.proofs as mesa_image_laws
+pub use Rattle.mesa_walk.proofs as mesa_walk
 pub mod Lists
 pub mod Standing
 pub mod Holding

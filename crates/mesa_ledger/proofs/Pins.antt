@@ -4,11 +4,11 @@ use Rattle.std.specs.Prelude.{filter}
 use Rattle.std.specs.List.{AllByRecursion}
 use Rattle.std.proofs.lemmas.List.{map-append}
 use Rattle.std.proofs.lemmas.Simd.{map-map}
-use Rattle.mesa_model.specs.Pins.{counted_at, is_pin, store_at}
-use Rattle.mesa_model.specs.Warehouse.{Pin, Store, Table}
-use Rattle.mesa_image.specs.Catalog.{Catalog, Stock}
-use Rattle.mesa_skeleton.specs.Bare.{bare_pin, bare_store, bare_table}
-use Rattle.mesa_skeleton.specs.Rows.{Rows}
+use Rattle.mesa_image_laws.specs.mesa_model.Pins.{counted_at, is_pin, store_at}
+use Rattle.mesa_image_laws.specs.mesa_model.Warehouse.{Pin, Store, Table}
+use Rattle.mesa_image_laws.specs.mesa_image.Catalog.{Catalog, Stock}
+use Rattle.mesa_walk.specs.mesa_skeleton.Bare.{bare_pin, bare_store, bare_table}
+use Rattle.mesa_walk.specs.mesa_skeleton.Rows.{Rows}
 use Rattle.mesa_trash.specs.declared.trash.Hold.{Hold}
 use Rattle.mesa_walk.specs.Books.{pinned_books, released_books}
 use Rattle.mesa_ledger.specs.Ledger.{HeldPin, Ledger, skeleton_of, skeletons_from, bare_held, held_with, books_of}

@@ -2,11 +2,11 @@
 use Rattle.std.proofs.Common.{◌≡◌, ℕ, ◌+◌, ◌*◌, ◌<◌, ◌≤◌, List, [], ◌∷◌, ◌++◌, map, length, Bool, sym, ◌∙◌, ap, subst, arith, Option, None}
 use Rattle.std.specs.List.{AllByRecursion}
 use Rattle.std.proofs.lemmas.List.{length-append}
-use Rattle.mesa_disk.specs.Story.{Story, Unmoved}
+use Rattle.mesa_walk.specs.mesa_disk.Story.{Story, Unmoved}
 use Rattle.mesa_lease.specs.Book.{Book}
-use Rattle.mesa_model.specs.declared.entries.Entry.{Entry}
-use Rattle.mesa_history.specs.Run.{begins}
-use Rattle.mesa_image.specs.Catalog.{Catalog}
+use Rattle.mesa_image_laws.specs.mesa_model.declared.entries.Entry.{Entry}
+use Rattle.mesa_image_laws.specs.mesa_history.Run.{begins}
+use Rattle.mesa_image_laws.specs.mesa_image.Catalog.{Catalog}
 use Rattle.mesa_image_laws.specs.Ids.{named}
 use Rattle.mesa_trash.specs.Holding.{AreFiled}
 use Rattle.mesa_walk.specs.Walk.{Outset, WalksOn}

@@ -2,23 +2,23 @@
 use Rattle.std.proofs.Common.{◌≡◌, ◌⊎◌, ℕ, ◌+◌, ◌*◌, ◌<◌, ◌≤◌, List, [], ◌∷◌, ◌++◌, map, length, Bool, refl, sym, ◌∙◌, ap, subst, arith, Option, None, Some, IsTrue}
 use Rattle.std.specs.List.{AllByRecursion}
 use Rattle.std.proofs.lemmas.List.{length-append}
-use Rattle.mesa_disk.specs.Files.{AreGone}
-use Rattle.mesa_disk.specs.Image.{Image}
-use Rattle.mesa_disk.specs.Story.{Story, Steps}
-use Rattle.mesa_disk.specs.declared.area.Area.TheVariants.{Zero}
-use Rattle.mesa_commit.specs.Images.{Has}
-use Rattle.mesa_commit.specs.Turn.{MovesOnly}
+use Rattle.mesa_walk.specs.mesa_disk.Files.{AreGone}
+use Rattle.mesa_walk.specs.mesa_disk.Image.{Image}
+use Rattle.mesa_walk.specs.mesa_disk.Story.{Story, Steps}
+use Rattle.mesa_walk.specs.mesa_disk.declared.area.Area.TheVariants.{Zero}
+use Rattle.mesa_trash.specs.mesa_commit.Images.{Has}
+use Rattle.mesa_trash.specs.mesa_commit.Turn.{MovesOnly}
 use Rattle.mesa_lease.specs.Book.{Book}
-use Rattle.mesa_model.specs.declared.entries.Entry.{Entry}
-use Rattle.mesa_model.specs.declared.replies.Reply.{Reply}
-use Rattle.mesa_history.specs.Counting.{one_if}
-use Rattle.mesa_history.specs.Run.{begins}
-use Rattle.mesa_image.specs.Catalog.{Catalog}
-use Rattle.mesa_image.specs.Held.{IsHeld}
-use Rattle.mesa_image.specs.Sound.{AreStocked}
+use Rattle.mesa_image_laws.specs.mesa_model.declared.entries.Entry.{Entry}
+use Rattle.mesa_image_laws.specs.mesa_model.declared.replies.Reply.{Reply}
+use Rattle.mesa_image_laws.specs.mesa_history.Counting.{one_if}
+use Rattle.mesa_image_laws.specs.mesa_history.Run.{begins}
+use Rattle.mesa_image_laws.specs.mesa_image.Catalog.{Catalog}
+use Rattle.mesa_image_laws.specs.mesa_image.Held.{IsHeld}
+use Rattle.mesa_image_laws.specs.mesa_image.Sound.{AreStocked}
 use Rattle.mesa_image_laws.proofs.Agreeing.{agree_stocked}
 use Rattle.mesa_image_laws.specs.Ids.{named}
-use Rattle.mesa_skeleton.specs.Rows.{Rows}
+use Rattle.mesa_walk.specs.mesa_skeleton.Rows.{Rows}
 use Rattle.mesa_trash.specs.Filed.{AreFresh, AreMoved, PinFiles, Renames}
 use Rattle.mesa_trash.specs.Holding.{Among, Held, AreFiled, IsHoldOf, ids_of, freed, kept}
 use Rattle.mesa_trash.proofs.Adopting.{fresh_stays, named_stays}

@@ -4,15 +4,15 @@ use Rattle.std.proofs.lemmas.Bool.{cases_lt}
 use Rattle.std.proofs.lemmas.List.{map-append}
 use Rattle.std.proofs.lemmas.List.Sums.{sum_by-append}
 use Rattle.std.proofs.lemmas.Simd.{map-map}
-use Rattle.mesa_schema.specs.Changes.{Lineage}
-use Rattle.mesa_commit.specs.Turn.{made_ids}
-use Rattle.mesa_record.specs.declared.record.Files.{Files}
-use Rattle.mesa_record.specs.declared.record.Record.{Record}
-use Rattle.mesa_record.specs.declared.record.Record.TheVariants as record_of
-use Rattle.mesa_record.specs.Rules.{keeps_rules}
-use Rattle.mesa_history.proofs.Places.{same_is}
-use Rattle.mesa_image.specs.Catalog.{Catalog, Delta, Stock, applied, no_stock, start_in, stock_at}
-use Rattle.mesa_image.specs.Fitting.{base_deltas, delta_in, delta_shelved, deltas_of, files_shelved, fits, shelved_id, stock_shelved, view_shelved}
+use Rattle.mesa_image_laws.specs.mesa_schema.Changes.{Lineage}
+use Rattle.mesa_trash.specs.mesa_commit.Turn.{made_ids}
+use Rattle.mesa_image_laws.specs.mesa_record.declared.record.Files.{Files}
+use Rattle.mesa_image_laws.specs.mesa_record.declared.record.Record.{Record}
+use Rattle.mesa_image_laws.specs.mesa_record.declared.record.Record.TheVariants as record_of
+use Rattle.mesa_image_laws.specs.mesa_record.Rules.{keeps_rules}
+use Rattle.mesa_image_laws.proofs.mesa_history.Places.{same_is}
+use Rattle.mesa_image_laws.specs.mesa_image.Catalog.{Catalog, Delta, Stock, applied, no_stock, start_in, stock_at}
+use Rattle.mesa_image_laws.specs.mesa_image.Fitting.{base_deltas, delta_in, delta_shelved, deltas_of, files_shelved, fits, shelved_id, stock_shelved, view_shelved}
 use Rattle.mesa_image_laws.specs.Ids.{HasOwnIds, brought_ids, delta_ids, dropped_deltas, dropped_ids, file_ids, named, times}
 use Rattle.mesa_image_laws.proofs.Ids.{brought_own, counted}
 use Rattle.mesa_image_laws.proofs.Lists.{is_equal}

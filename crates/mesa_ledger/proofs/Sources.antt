@@ -1,31 +1,31 @@
 -- What was written of each table, once a turn's record is written.
 use Rattle.std.proofs.Common.{◌≡◌, ℕ, ◌<◌, List, [], ◌∷◌, ◌++◌, map, length, Bool, refl, sym, ◌∙◌, ap, subst, append-nil, Option, None, Some, IsTrue, Ok}
 use Rattle.std.proofs.lemmas.Simd.{map-map}
-use Rattle.mesa_batch.specs.Batch.{Named, Placed, batch_of}
-use Rattle.mesa_batch.specs.declared.words.RowWords.{RowWords}
-use Rattle.mesa_schema.specs.Changes.{epoch_of}
-use Rattle.mesa_disk.specs.Story.{Story}
-use Rattle.mesa_model.specs.declared.commands.Command.{Command}
-use Rattle.mesa_model.specs.declared.commands.Command.TheVariants as command
-use Rattle.mesa_model.specs.declared.commands.Script.{Script}
-use Rattle.mesa_model.specs.declared.entries.Entry.{Entry}
-use Rattle.mesa_model.specs.declared.replies.Reply.{Reply}
-use Rattle.mesa_model.specs.declared.replies.Reply.TheVariants as reply
-use Rattle.mesa_model.specs.Load.{tables_named}
-use Rattle.mesa_model.specs.Warehouse.{Store, Table, Warehouse}
-use Rattle.mesa_history.specs.Law.{Accepted, accepted_as, accepted_if_told, accepted_in, batch_or_none}
-use Rattle.mesa_history.specs.Replay.{runs, told_by}
-use Rattle.mesa_history.specs.Run.{Run, begins, command_of}
-use Rattle.mesa_record.specs.declared.record.Part.{Part}
-use Rattle.mesa_record.specs.declared.record.Record.TheVariants as record_of
-use Rattle.mesa_image.specs.Catalog.{Catalog, applied}
+use Rattle.mesa_image_laws.specs.mesa_batch.Batch.{Named, Placed, batch_of}
+use Rattle.mesa_image_laws.specs.mesa_batch.declared.words.RowWords.{RowWords}
+use Rattle.mesa_image_laws.specs.mesa_schema.Changes.{epoch_of}
+use Rattle.mesa_walk.specs.mesa_disk.Story.{Story}
+use Rattle.mesa_image_laws.specs.mesa_model.declared.commands.Command.{Command}
+use Rattle.mesa_image_laws.specs.mesa_model.declared.commands.Command.TheVariants as command
+use Rattle.mesa_image_laws.specs.mesa_model.declared.commands.Script.{Script}
+use Rattle.mesa_image_laws.specs.mesa_model.declared.entries.Entry.{Entry}
+use Rattle.mesa_image_laws.specs.mesa_model.declared.replies.Reply.{Reply}
+use Rattle.mesa_image_laws.specs.mesa_model.declared.replies.Reply.TheVariants as reply
+use Rattle.mesa_image_laws.specs.mesa_model.Load.{tables_named}
+use Rattle.mesa_image_laws.specs.mesa_model.Warehouse.{Store, Table, Warehouse}
+use Rattle.mesa_image_laws.specs.mesa_history.Law.{Accepted, accepted_as, accepted_if_told, accepted_in, batch_or_none}
+use Rattle.mesa_image_laws.specs.mesa_history.Replay.{runs, told_by}
+use Rattle.mesa_image_laws.specs.mesa_history.Run.{Run, begins, command_of}
+use Rattle.mesa_image_laws.specs.mesa_record.declared.record.Part.{Part}
+use Rattle.mesa_image_laws.specs.mesa_record.declared.record.Record.TheVariants as record_of
+use Rattle.mesa_image_laws.specs.mesa_image.Catalog.{Catalog, applied}
 use Rattle.mesa_image_laws.proofs.Accepted.{read_accepted}
 use Rattle.mesa_image_laws.proofs.AllSourced.{agree_sourced, publish_sourced, written_more}
 use Rattle.mesa_image_laws.specs.Brought.{BringsAll}
 use Rattle.mesa_image_laws.specs.Sourced.{HasSources, Written, all_written, epoch_in, tables_read}
-use Rattle.mesa_skeleton.proofs.Lists.{maps_same}
-use Rattle.mesa_skeleton.specs.Bare.{bare_table}
-use Rattle.mesa_skeleton.specs.Rows.{Rows}
+use Rattle.mesa_walk.proofs.mesa_skeleton.Lists.{maps_same}
+use Rattle.mesa_walk.specs.mesa_skeleton.Bare.{bare_table}
+use Rattle.mesa_walk.specs.mesa_skeleton.Rows.{Rows}
 use Rattle.mesa_walk.specs.Causes.{told_at}
 use Rattle.mesa_walk.specs.Walk.{Outset, run_of}
 use Rattle.mesa_walk.proofs.Skeletons.{named_is}

@@ -1,15 +1,15 @@
 -- What a read gives, and what a crash may leave, of a vault's catalogue.
 use Rattle.std.proofs.Common.{◌≡◌, inr, ℕ, ◌<◌, List, refl, sym, ◌∙◌, subst, Some}
-use Rattle.mesa_disk.specs.Image.{Image}
-use Rattle.mesa_disk.specs.Story.{Story, Unmoved}
-use Rattle.mesa_disk.specs.declared.area.Area.TheVariants.{Zero}
-use Rattle.mesa_commit.specs.Images.{Has}
-use Rattle.mesa_image.specs.Catalog.{Catalog}
-use Rattle.mesa_image.specs.Contents.{kept_of}
-use Rattle.mesa_image.specs.Fitting.{shelved}
-use Rattle.mesa_image.specs.Held.{IsHeld}
-use Rattle.mesa_image.specs.Sound.{StandsFor, wants}
-use Rattle.mesa_skeleton.specs.Rows.{Rows}
+use Rattle.mesa_walk.specs.mesa_disk.Image.{Image}
+use Rattle.mesa_walk.specs.mesa_disk.Story.{Story, Unmoved}
+use Rattle.mesa_walk.specs.mesa_disk.declared.area.Area.TheVariants.{Zero}
+use Rattle.mesa_trash.specs.mesa_commit.Images.{Has}
+use Rattle.mesa_image_laws.specs.mesa_image.Catalog.{Catalog}
+use Rattle.mesa_image_laws.specs.mesa_image.Contents.{kept_of}
+use Rattle.mesa_image_laws.specs.mesa_image.Fitting.{shelved}
+use Rattle.mesa_image_laws.specs.mesa_image.Held.{IsHeld}
+use Rattle.mesa_image_laws.specs.mesa_image.Sound.{StandsFor, wants}
+use Rattle.mesa_walk.specs.mesa_skeleton.Rows.{Rows}
 use Rattle.mesa_walk.specs.Walk.{AllStand}
 use Rattle.mesa_ledger.specs.Ledger.{Ledger}
 use Rattle.mesa_ledger.specs.Vault.{IsReady, AreThere}

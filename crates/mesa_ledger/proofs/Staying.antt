@@ -1,14 +1,14 @@
 -- How each turn that moves no image keeps a vault.
 use Rattle.std.proofs.Common.{◌≡◌, ℕ, ◌+◌, ◌<◌, ◌≤◌, List, [], ◌∷◌, ◌++◌, length, Bool, true, not, refl, sym, ap, subst, arith, Option, None, Some, IsTrue}
 use Rattle.std.specs.Prelude.{filter}
-use Rattle.mesa_commit.specs.Images.{Has}
-use Rattle.mesa_disk.specs.Image.{Image}
-use Rattle.mesa_disk.specs.Story.{Story, Unmoved}
+use Rattle.mesa_trash.specs.mesa_commit.Images.{Has}
+use Rattle.mesa_walk.specs.mesa_disk.Image.{Image}
+use Rattle.mesa_walk.specs.mesa_disk.Story.{Story, Unmoved}
 use Rattle.mesa_lease.specs.Book.{Book}
-use Rattle.mesa_model.specs.declared.entries.Entry.{Entry}
-use Rattle.mesa_image.specs.Contents.{kept_of}
-use Rattle.mesa_image.specs.Fitting.{shelved}
-use Rattle.mesa_image.specs.Sound.{StandsFor, wants}
+use Rattle.mesa_image_laws.specs.mesa_model.declared.entries.Entry.{Entry}
+use Rattle.mesa_image_laws.specs.mesa_image.Contents.{kept_of}
+use Rattle.mesa_image_laws.specs.mesa_image.Fitting.{shelved}
+use Rattle.mesa_image_laws.specs.mesa_image.Sound.{StandsFor, wants}
 use Rattle.mesa_trash.specs.declared.trash.Hold.{Hold}
 use Rattle.mesa_walk.specs.Books.{pinned_books, released_books}
 use Rattle.mesa_walk.specs.Walk.{Outset, WalksOn, AllStand}

@@ -4,22 +4,22 @@ use Rattle.std.specs.Prelude.{slice_set, slice_index_or, if◌then◌else◌, �
 use Rattle.std.proofs.lemmas.List.{map-set}
 use Rattle.mesa_lease.specs.Book.{Book, ended, last_of, with_last}
 use Rattle.mesa_lease.specs.declared.lease.Lease.{Lease}
-use Rattle.mesa_schema.proofs.Lists.{map_at}
+use Rattle.mesa_image_laws.proofs.mesa_schema.Lists.{map_at}
 use Rattle.mesa_span.specs.declared.works.Work.{Work}
 use Rattle.mesa_span.specs.declared.works.Work.TheVariants as range
 use Rattle.mesa_span.specs.Work.{swapped}
-use Rattle.mesa_disk.specs.Story.{Story}
-use Rattle.mesa_model.specs.declared.entries.Entry.{Entry}
-use Rattle.mesa_history.specs.Machine.{Claim, swapped_reply}
-use Rattle.mesa_record.specs.declared.record.Files.{Files}
-use Rattle.mesa_record.specs.declared.record.Record.TheVariants as record_of
-use Rattle.mesa_image.specs.Catalog.{Catalog, Delta, Stock, applied, merged_delta, no_stock, ranges_of, stock_at, stock_swapped}
-use Rattle.mesa_image.specs.Contents.{kept_of}
+use Rattle.mesa_walk.specs.mesa_disk.Story.{Story}
+use Rattle.mesa_image_laws.specs.mesa_model.declared.entries.Entry.{Entry}
+use Rattle.mesa_image_laws.specs.mesa_history.Machine.{Claim, swapped_reply}
+use Rattle.mesa_image_laws.specs.mesa_record.declared.record.Files.{Files}
+use Rattle.mesa_image_laws.specs.mesa_record.declared.record.Record.TheVariants as record_of
+use Rattle.mesa_image_laws.specs.mesa_image.Catalog.{Catalog, Delta, Stock, applied, merged_delta, no_stock, ranges_of, stock_at, stock_swapped}
+use Rattle.mesa_image_laws.specs.mesa_image.Contents.{kept_of}
 use Rattle.mesa_image_laws.proofs.Kept.{IsWithin, ranges_swapped, set_same as set_back, swap_moves}
 use Rattle.mesa_image_laws.specs.Brought.{Replaces, merged_of}
 use Rattle.mesa_image_laws.specs.Moves.{kept_swapped, work_of}
-use Rattle.mesa_skeleton.proofs.Lists.{set_same}
-use Rattle.mesa_skeleton.specs.Rows.{Rows}
+use Rattle.mesa_walk.proofs.mesa_skeleton.Lists.{set_same}
+use Rattle.mesa_walk.specs.mesa_skeleton.Rows.{Rows}
 use Rattle.mesa_walk.specs.Books.{Books, swapped_books}
 use Rattle.mesa_walk.specs.Walk.{Outset}
 use Rattle.mesa_walk.specs.Works.{Swaps}

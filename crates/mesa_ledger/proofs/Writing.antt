@@ -1,34 +1,34 @@
 -- How a command that writes, and the swap of a work, keep a vault.
 use Rattle.std.proofs.Common.{◌≡◌, ℕ, ◌+◌, ◌<◌, ◌^◌, ◌≤◌, List, [], ◌∷◌, ◌++◌, length, Bool, true, false, ◌||◌, sym, ◌∙◌, subst, Ok, arith, Option, None, Some, IsTrue}
-use Rattle.mesa_disk.specs.Files.{AreGone}
-use Rattle.mesa_disk.specs.Image.{Image}
-use Rattle.mesa_disk.specs.Story.{Story, Steps}
-use Rattle.mesa_disk.specs.declared.area.Area.TheVariants.{Zero}
-use Rattle.mesa_commit.specs.Turn.{MovesOnly}
+use Rattle.mesa_walk.specs.mesa_disk.Files.{AreGone}
+use Rattle.mesa_walk.specs.mesa_disk.Image.{Image}
+use Rattle.mesa_walk.specs.mesa_disk.Story.{Story, Steps}
+use Rattle.mesa_walk.specs.mesa_disk.declared.area.Area.TheVariants.{Zero}
+use Rattle.mesa_trash.specs.mesa_commit.Turn.{MovesOnly}
 use Rattle.mesa_lease.specs.Book.{ended}
 use Rattle.mesa_span.specs.declared.works.Work.{Work}
 use Rattle.mesa_span.specs.declared.works.Work.TheVariants as range
-use Rattle.mesa_model.specs.declared.commands.Command.{Command}
-use Rattle.mesa_model.specs.declared.commands.Command.TheVariants as command
-use Rattle.mesa_model.specs.declared.entries.Entry.{Entry}
-use Rattle.mesa_model.specs.declared.entries.Kind.TheVariants as kind
-use Rattle.mesa_model.specs.declared.entries.Outcome.{Outcome}
-use Rattle.mesa_model.specs.declared.entries.Outcome.TheVariants as outcome
-use Rattle.mesa_model.specs.declared.replies.Reply.{Reply}
-use Rattle.mesa_history.specs.Counting.{one_if}
-use Rattle.mesa_history.specs.Legal.{is_writing, is_written}
-use Rattle.mesa_history.specs.Machine.{Claim, claim_checked, swapped_reply}
-use Rattle.mesa_history.specs.Refused.{is_refusal}
-use Rattle.mesa_history.specs.Replay.{told_by}
-use Rattle.mesa_history.specs.Run.{Renewed, Stage}
-use Rattle.mesa_history.specs.Turns.{IsDue}
-use Rattle.mesa_image.specs.Catalog.{Catalog}
-use Rattle.mesa_image.specs.Contents.{kept_of}
-use Rattle.mesa_image.specs.Held.{IsHeld}
-use Rattle.mesa_image.specs.Sound.{AreStocked, StandsFor}
+use Rattle.mesa_image_laws.specs.mesa_model.declared.commands.Command.{Command}
+use Rattle.mesa_image_laws.specs.mesa_model.declared.commands.Command.TheVariants as command
+use Rattle.mesa_image_laws.specs.mesa_model.declared.entries.Entry.{Entry}
+use Rattle.mesa_image_laws.specs.mesa_model.declared.entries.Kind.TheVariants as kind
+use Rattle.mesa_image_laws.specs.mesa_model.declared.entries.Outcome.{Outcome}
+use Rattle.mesa_image_laws.specs.mesa_model.declared.entries.Outcome.TheVariants as outcome
+use Rattle.mesa_image_laws.specs.mesa_model.declared.replies.Reply.{Reply}
+use Rattle.mesa_image_laws.specs.mesa_history.Counting.{one_if}
+use Rattle.mesa_image_laws.specs.mesa_history.Legal.{is_writing, is_written}
+use Rattle.mesa_image_laws.specs.mesa_history.Machine.{Claim, claim_checked, swapped_reply}
+use Rattle.mesa_image_laws.specs.mesa_history.Refused.{is_refusal}
+use Rattle.mesa_image_laws.specs.mesa_history.Replay.{told_by}
+use Rattle.mesa_image_laws.specs.mesa_history.Run.{Renewed, Stage}
+use Rattle.mesa_image_laws.specs.mesa_history.Turns.{IsDue}
+use Rattle.mesa_image_laws.specs.mesa_image.Catalog.{Catalog}
+use Rattle.mesa_image_laws.specs.mesa_image.Contents.{kept_of}
+use Rattle.mesa_image_laws.specs.mesa_image.Held.{IsHeld}
+use Rattle.mesa_image_laws.specs.mesa_image.Sound.{AreStocked, StandsFor}
 use Rattle.mesa_image_laws.specs.Sourced.{HasSources}
-use Rattle.mesa_output.specs.Output.{block}
-use Rattle.mesa_skeleton.specs.Rows.{Rows}
+use Rattle.mesa_walk.specs.mesa_output.Output.{block}
+use Rattle.mesa_walk.specs.mesa_skeleton.Rows.{Rows}
 use Rattle.mesa_walk.specs.Books.{swapped_books}
 use Rattle.mesa_walk.specs.Causes.{Unwritten, reply_of, told_at}
 use Rattle.mesa_walk.specs.Changes.{Doing, IsChange, IsDecided}

@@ -1,15 +1,15 @@
 -- What a vault has in its memory, and the books that it stands for.
 use Rattle.std.specs.Prelude.{ℕ, ◌+◌, ◌*◌, ◌^◌, List, [], ◌++◌, map, Option}
 use Rattle.mesa_lease.specs.Book.{Book}
-use Rattle.mesa_schema.specs.Views.{max_views}
-use Rattle.mesa_model.specs.Warehouse.{Table, Store, Pin, max_tables}
-use Rattle.mesa_model.specs.Pins.{store_at}
-use Rattle.mesa_image.specs.Catalog.{Stock, Catalog, ranges_of}
-use Rattle.mesa_image.specs.Fitting.{shelved}
-use Rattle.mesa_image.specs.Contents.{kept_of}
-use Rattle.mesa_image.specs.Sound.{wants}
+use Rattle.mesa_image_laws.specs.mesa_schema.Views.{max_views}
+use Rattle.mesa_image_laws.specs.mesa_model.Warehouse.{Table, Store, Pin, max_tables}
+use Rattle.mesa_image_laws.specs.mesa_model.Pins.{store_at}
+use Rattle.mesa_image_laws.specs.mesa_image.Catalog.{Stock, Catalog, ranges_of}
+use Rattle.mesa_image_laws.specs.mesa_image.Fitting.{shelved}
+use Rattle.mesa_image_laws.specs.mesa_image.Contents.{kept_of}
+use Rattle.mesa_image_laws.specs.mesa_image.Sound.{wants}
 use Rattle.mesa_image_laws.specs.Ids.{named}
-use Rattle.mesa_skeleton.specs.Rows.{Rows}
+use Rattle.mesa_walk.specs.mesa_skeleton.Rows.{Rows}
 use Rattle.mesa_trash.specs.declared.trash.Dropped.{Dropped}
 use Rattle.mesa_trash.specs.declared.trash.Hold.{Hold}
 use Rattle.mesa_trash.specs.Filed.{PinFiles}

@@ -1,11 +1,11 @@
 -- What a record does to a vault's memory.
 use Rattle.std.specs.Prelude.{◌≡◌, ℕ, ◌+◌, ◌<◌, ◌≤◌, List, ◌++◌, map, Option, Some}
-use Rattle.mesa_commit.specs.Turn.{made_ids}
-use Rattle.mesa_image.specs.Catalog.{Catalog}
-use Rattle.mesa_image.specs.Shape.{IsCatalog}
+use Rattle.mesa_trash.specs.mesa_commit.Turn.{made_ids}
+use Rattle.mesa_image_laws.specs.mesa_image.Catalog.{Catalog}
+use Rattle.mesa_image_laws.specs.mesa_image.Shape.{IsCatalog}
 use Rattle.mesa_lease.specs.Book.{Book}
 use Rattle.mesa_image_laws.specs.Ids.{HasOwnIds, named}
-use Rattle.mesa_skeleton.specs.Rows.{Rows}
+use Rattle.mesa_walk.specs.mesa_skeleton.Rows.{Rows}
 use Rattle.mesa_trash.specs.declared.trash.Dropped.{Dropped}
 use Rattle.mesa_trash.specs.declared.trash.Hold.{Hold}
 use Rattle.mesa_trash.specs.Filed.{AreGiven, Renames, waits_after}

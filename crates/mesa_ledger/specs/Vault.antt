@@ -1,22 +1,22 @@
 -- What a vault keeps whenever no turn is under way.
 use Rattle.std.specs.Prelude.{◌≡◌, ℕ, ◌+◌, ◌*◌, ◌<◌, ◌≤◌, List, map, Bool, Option, None, Some, IsTrue, length}
 use Rattle.std.specs.List.{AllByRecursion}
-use Rattle.mesa_disk.specs.Image.{Image}
-use Rattle.mesa_disk.specs.Story.{Story}
-use Rattle.mesa_disk.specs.declared.area.Area.TheVariants.{Zero}
-use Rattle.mesa_commit.specs.Images.{Has}
-use Rattle.mesa_model.specs.declared.commands.Script.{Script}
-use Rattle.mesa_model.specs.declared.entries.Entry.{Entry}
-use Rattle.mesa_history.specs.Claims.{HasRanges}
-use Rattle.mesa_history.specs.Law.{Accepted, accepted_in}
-use Rattle.mesa_history.specs.Run.{State, begins}
-use Rattle.mesa_image.specs.Catalog.{Catalog}
-use Rattle.mesa_image.specs.Held.{IsHeld}
-use Rattle.mesa_image.specs.Shape.{IsCatalog}
-use Rattle.mesa_image.specs.Sound.{AreStocked, StandsFor}
+use Rattle.mesa_walk.specs.mesa_disk.Image.{Image}
+use Rattle.mesa_walk.specs.mesa_disk.Story.{Story}
+use Rattle.mesa_walk.specs.mesa_disk.declared.area.Area.TheVariants.{Zero}
+use Rattle.mesa_trash.specs.mesa_commit.Images.{Has}
+use Rattle.mesa_image_laws.specs.mesa_model.declared.commands.Script.{Script}
+use Rattle.mesa_image_laws.specs.mesa_model.declared.entries.Entry.{Entry}
+use Rattle.mesa_image_laws.specs.mesa_history.Claims.{HasRanges}
+use Rattle.mesa_image_laws.specs.mesa_history.Law.{Accepted, accepted_in}
+use Rattle.mesa_image_laws.specs.mesa_history.Run.{State, begins}
+use Rattle.mesa_image_laws.specs.mesa_image.Catalog.{Catalog}
+use Rattle.mesa_image_laws.specs.mesa_image.Held.{IsHeld}
+use Rattle.mesa_image_laws.specs.mesa_image.Shape.{IsCatalog}
+use Rattle.mesa_image_laws.specs.mesa_image.Sound.{AreStocked, StandsFor}
 use Rattle.mesa_image_laws.specs.Ids.{HasOwnIds, named}
 use Rattle.mesa_image_laws.specs.Sourced.{Written, all_written, HasSources}
-use Rattle.mesa_skeleton.specs.Rows.{Rows}
+use Rattle.mesa_walk.specs.mesa_skeleton.Rows.{Rows}
 use Rattle.mesa_trash.specs.Filed.{AreFresh, AreNamedOrWait, PinFiles}
 use Rattle.mesa_trash.specs.Holding.{AreFiled, ids_of}
 use Rattle.mesa_walk.specs.Sight.{schema_changes}

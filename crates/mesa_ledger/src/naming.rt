@@ -1,9 +1,9 @@
 // What names a run.
 ghost use Rattle.std.specs.Prelude.{ℕ, List, Option, None, [], ◌≡◌, refl};
-ghost use Rattle.mesa_history.specs.Run.{State, nothing_there};
-ghost use Rattle.mesa_model.specs.declared.commands.Script.{Script as AnyScript};
-ghost use Rattle.mesa_skeleton.specs.Bare.{bare_state};
-ghost use Rattle.mesa_skeleton.specs.Rows.{Rows, no_rows};
+ghost use Rattle.mesa_image_laws.specs.mesa_history.Run.{State, nothing_there};
+ghost use Rattle.mesa_image_laws.specs.mesa_model.declared.commands.Script.{Script as AnyScript};
+ghost use Rattle.mesa_walk.specs.mesa_skeleton.Bare.{bare_state};
+ghost use Rattle.mesa_walk.specs.mesa_skeleton.Rows.{Rows, no_rows};
 ghost use Rattle.mesa_ledger.specs.Vault.{Origin};
 
 use std::marker::Brand;

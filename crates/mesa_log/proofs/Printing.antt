@@ -4,15 +4,15 @@ use Rattle.mesa_model.specs.declared.entries.Entry.{Entry}
 use Rattle.mesa_model.specs.Query.{Heading}
 use Rattle.mesa_model.specs.declared.replies.Page.{Page}
 use Rattle.mesa_model.specs.declared.replies.Reply.TheVariants as reply
-use Rattle.mesa_history.specs.Run.{Told}
-use Rattle.mesa_output.specs.Output.{block}
+use Rattle.mesa_walk.specs.mesa_history.Run.{Told}
+use Rattle.mesa_walk.specs.mesa_output.Output.{block}
 use Rattle.mesa_printer.specs.declared.printer.Printer.{Printer}
 use Rattle.mesa_printer.specs.Printed.{Printed}
 use Rattle.mesa_script.specs.Replies.{head_line}
 use Rattle.mesa_script.specs.Rows.{body_of, rendered}
 use Rattle.mesa_script.specs.declared.rendered.Rendered.{Rendered}
 use Rattle.mesa_walk.specs.Printing.{IsPut}
-use Rattle.mesa_history.specs.Replay.{no_rows}
+use Rattle.mesa_walk.specs.mesa_history.Replay.{no_rows}
 use Rattle.mesa_walk.specs.Causes.{reply_of}
 use Rattle.mesa_log.specs.declared.failure.Failure.{Failure}
 use Rattle.mesa_log.specs.declared.failure.Failure.TheVariants as failure

@@ -3,8 +3,8 @@ use Rattle.std.specs.Prelude.{◌≡◌, ℕ, List, ◌++◌, true, false, not, 
 use Rattle.mesa_fault.specs.Causes.{Rose}
 use Rattle.mesa_model.specs.declared.entries.Entry.{Entry}
 use Rattle.mesa_model.specs.declared.replies.Reply.TheVariants as reply
-use Rattle.mesa_history.specs.Run.{Told}
-use Rattle.mesa_output.specs.Output.{block}
+use Rattle.mesa_walk.specs.mesa_history.Run.{Told}
+use Rattle.mesa_walk.specs.mesa_output.Output.{block}
 use Rattle.mesa_printer.specs.declared.printer.Printer.{Printer}
 use Rattle.mesa_script.specs.Replies.{head_line}
 use Rattle.mesa_script.specs.declared.rendered.Rendered.{Rendered}

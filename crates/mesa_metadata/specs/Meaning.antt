@@ -3,7 +3,7 @@ use Rattle.std.specs.Prelude.{ℕ, ◌+◌, ◌<◌, ◌≤◌, ◌^◌, List, �
 use Rattle.std.specs.declared.alloc.Global.{Global}
 use Rattle.mesa_trash.specs.declared.trash.Hold.{Hold}
 use Rattle.mesa_record.specs.declared.record.Record.{Record}
-use Rattle.mesa_image.specs.Fitting.{fits}
+use Rattle.mesa_catalog.specs.mesa_image.Fitting.{fits}
 use Rattle.mesa_trash.specs.declared.trash.Dropped.{Dropped}
 use Rattle.mesa_catalog.specs.Kept.{Reserved}
 use Rattle.mesa_ledger.specs.Ledger.{HeldPin, OpenQuery}

@@ -1,9 +1,9 @@
 -- What a vault has in its memory between turns.
 use Rattle.std.specs.Prelude.{◌≡◌, ℕ, ◌≤◌, [], not, ◌==◌, Bool, Option, None, Some}
 use Rattle.mesa_lease.specs.Book.{Book, begun}
-use Rattle.mesa_model.specs.Warehouse.{max_tables}
+use Rattle.mesa_ledger.specs.mesa_model.Warehouse.{max_tables}
 use Rattle.mesa_record.specs.declared.record.Record.{Record}
-use Rattle.mesa_image.specs.Catalog.{Catalog}
+use Rattle.mesa_catalog.specs.mesa_image.Catalog.{Catalog}
 use Rattle.mesa_trash.specs.declared.trash.Hold.{Hold}
 use Rattle.mesa_catalog.specs.Lookups.{generation_of}
 use Rattle.mesa_ledger.specs.Ledger.{OpenQuery, Ledger, next_id}

@@ -1,6 +1,6 @@
 // Pins and open queries.
 ghost use Rattle.std.specs.Prelude.{◌≡◌, ◌+◌, ◌<◌, ◌^◌, is_some, find, IfOk, OnErr, OnOk};
-ghost use Rattle.mesa_model.specs.Pins.{count_at};
+ghost use Rattle.mesa_ledger.specs.mesa_model.Pins.{count_at};
 ghost use Rattle.mesa_ledger.specs.Turned.{answered_ledger, is_held_pin, pinned_ledger, queried_ledger, released_ledger};
 ghost use Rattle.mesa_metadata.specs.Memory.{hold_now, is_of_another, with_ledger};
 

@@ -1,7 +1,7 @@
 // The record of a turn: memory first, then a change that takes none and can't fail.
 ghost use Rattle.std.specs.Prelude.{◌≡◌, ◌+◌, ◌<◌, ◌^◌, length, IsTrue, IfOk, OnErr, OnOk, None, Some};
-ghost use Rattle.mesa_image.specs.Catalog.{applied};
-ghost use Rattle.mesa_image.specs.Fitting.{fits};
+ghost use Rattle.mesa_catalog.specs.mesa_image.Catalog.{applied};
+ghost use Rattle.mesa_catalog.specs.mesa_image.Fitting.{fits};
 ghost use Rattle.mesa_catalog.specs.Lookups.{generation_of, turns_generation};
 ghost use Rattle.mesa_ledger.specs.Recorded.{failed_ledger, recorded_ledger, removed_by};
 ghost use Rattle.mesa_metadata.specs.Memory.{HasRoomFor, with_ledger};

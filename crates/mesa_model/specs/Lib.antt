@@ -1,3 +1,7 @@
+pub use Rattle.mesa_batch.specs as mesa_batch
+pub use Rattle.mesa_file.specs as mesa_file
+pub use Rattle.mesa_filter.specs as mesa_filter
+pub use Rattle.mesa_schema.specs as mesa_schema
 pub mod Entry
 pub mod Warehouse
 pub mod Relations

@@ -16,12 +16,12 @@ use Rattle.mesa_record.specs.declared.record.Record.TheVariants as record_of
 use Rattle.mesa_record.specs.Reading.{record_at}
 use Rattle.mesa_record.specs.declared.record.Record.{Record}
 use Rattle.mesa_record.specs.declared.error.RecordError.{RecordError}
-use Rattle.mesa_image.specs.Catalog.{Catalog, applied, empty_catalog}
-use Rattle.mesa_image.specs.Fitting.{applied_if, catalog, catalog_from, fits, max_runs, read_record, shelved, then_bodies, with_body}
-use Rattle.mesa_image.specs.Contents.{Rows, kept_of}
+use Rattle.mesa_image_laws.specs.mesa_image.Catalog.{Catalog, applied, empty_catalog}
+use Rattle.mesa_image_laws.specs.mesa_image.Fitting.{applied_if, catalog, catalog_from, fits, max_runs, read_record, shelved, then_bodies, with_body}
+use Rattle.mesa_image_laws.specs.mesa_image.Contents.{Rows, kept_of}
 use Rattle.mesa_commit.specs.Images.{Has}
-use Rattle.mesa_image.specs.Sound.{AreStocked, StandsFor, wants}
-use Rattle.mesa_image.specs.Held.{IsHeld, IsStep, StandsForEither}
+use Rattle.mesa_image_laws.specs.mesa_image.Sound.{AreStocked, StandsFor, wants}
+use Rattle.mesa_image_laws.specs.mesa_image.Held.{IsHeld, IsStep, StandsForEither}
 use Rattle.mesa_image_laws.specs.Ids.{HasOwnIds, named, times}
 use Rattle.mesa_store.specs.Store.{IsFound, Writes}
 use Rattle.mesa_opening.specs.declared.error.OpenError.{OpenError}

@@ -11,8 +11,8 @@ use Rattle.mesa_journal.specs.Read.{bodies_of, placed_from}
 use Rattle.mesa_journal.specs.declared.reading.Body.{Body}
 use Rattle.mesa_journal.proofs.Bytes.{length-word}
 use Rattle.mesa_record.specs.Reading.{record_at}
-use Rattle.mesa_image.specs.Catalog.{Catalog, empty_catalog}
-use Rattle.mesa_image.specs.Fitting.{catalog, catalog_from, with_body}
+use Rattle.mesa_image_laws.specs.mesa_image.Catalog.{Catalog, empty_catalog}
+use Rattle.mesa_image_laws.specs.mesa_image.Fitting.{catalog, catalog_from, with_body}
 use Rattle.mesa_store.proofs.Bodies.{body_more}
 use Rattle.mesa_shelf.specs.declared.recorded.Recorded.{Recorded}
 use Rattle.mesa_opening.specs.declared.error.OpenError.{OpenError}

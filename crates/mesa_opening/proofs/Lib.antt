@@ -1,3 +1,4 @@
+pub use Rattle.mesa_image_laws.proofs as mesa_image_laws
 pub mod Tails
 pub mod Firsts
 pub mod Reasons

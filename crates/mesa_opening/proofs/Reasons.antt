@@ -15,8 +15,8 @@ use Rattle.mesa_journal.specs.declared.reading.Body.{Body}
 use Rattle.mesa_journal.specs.declared.reading.JournalRead.{JournalRead}
 use Rattle.mesa_journal.specs.declared.reading.JournalError.{JournalError}
 use Rattle.mesa_journal.specs.declared.reading.JournalError.TheVariants as journal
-use Rattle.mesa_image.specs.Catalog.{Catalog}
-use Rattle.mesa_image.specs.Fitting.{catalog, shelved}
+use Rattle.mesa_image_laws.specs.mesa_image.Catalog.{Catalog}
+use Rattle.mesa_image_laws.specs.mesa_image.Fitting.{catalog, shelved}
 use Rattle.mesa_shelf.specs.declared.recorded.Recorded.{Recorded}
 use Rattle.mesa_shelf.specs.Files.{AreRecorded, recorded_of}
 use Rattle.mesa_opening.specs.declared.error.OpenError.{OpenError}

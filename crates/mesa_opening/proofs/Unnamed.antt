@@ -16,9 +16,9 @@ use Rattle.mesa_disk.proofs.Others.{area_others}
 use Rattle.mesa_commit.specs.Turn.{MovesOnly}
 use Rattle.mesa_trash.specs.Holding.{Among}
 use Rattle.mesa_trash.specs.Filed.{AreNamedOrWait}
-use Rattle.mesa_image.specs.Catalog.{Catalog}
-use Rattle.mesa_image.specs.Fitting.{Shelved, has_number, shelved, shelved_id}
-use Rattle.mesa_image.specs.Held.{IsUnnamed}
+use Rattle.mesa_image_laws.specs.mesa_image.Catalog.{Catalog}
+use Rattle.mesa_image_laws.specs.mesa_image.Fitting.{Shelved, has_number, shelved, shelved_id}
+use Rattle.mesa_image_laws.specs.mesa_image.Held.{IsUnnamed}
 use Rattle.mesa_image_laws.specs.Ids.{named}
 use Rattle.mesa_shelf.specs.declared.recorded.Recorded.{Recorded}
 use Rattle.mesa_shelf.specs.Files.{AreRecorded, RiseFrom, recorded_of, recorded_id}

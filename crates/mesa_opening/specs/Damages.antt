@@ -11,9 +11,9 @@ use Rattle.mesa_record.specs.declared.record.Record.{Record}
 use Rattle.mesa_record.specs.declared.error.RecordError.{RecordError}
 use Rattle.mesa_record.specs.declared.error.RecordError.TheVariants as fault
 use Rattle.mesa_record.specs.Reading.{record_at}
-use Rattle.mesa_delta.specs.Damages.{IsWrongLength, IsWrongDigest}
-use Rattle.mesa_image.specs.Catalog.{Catalog}
-use Rattle.mesa_image.specs.Fitting.{fits, catalog}
+use Rattle.mesa_image_laws.specs.mesa_delta.Damages.{IsWrongLength, IsWrongDigest}
+use Rattle.mesa_image_laws.specs.mesa_image.Catalog.{Catalog}
+use Rattle.mesa_image_laws.specs.mesa_image.Fitting.{fits, catalog}
 use Rattle.mesa_shelf.specs.declared.recorded.Recorded.{Recorded}
 use Rattle.mesa_shelf.specs.Files.{AreRecorded}
 

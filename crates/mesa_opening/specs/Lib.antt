@@ -1,3 +1,4 @@
+pub use Rattle.mesa_shelf.specs as mesa_shelf
 pub mod Damages
 pub mod Checking
 pub mod Misfits

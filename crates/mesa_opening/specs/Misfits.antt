@@ -6,7 +6,7 @@ use Rattle.mesa_record.specs.declared.error.RecordError.TheVariants as fault
 use Rattle.mesa_record.specs.Reading.{record_at}
 use Rattle.mesa_journal.specs.declared.reading.JournalError.{JournalError}
 use Rattle.mesa_journal.specs.declared.reading.JournalError.TheVariants as journal
-use Rattle.mesa_image.specs.Catalog.{Catalog}
+use Rattle.mesa_image_laws.specs.mesa_image.Catalog.{Catalog}
 use Rattle.mesa_opening.specs.declared.error.OpenError.{OpenError}
 use Rattle.mesa_opening.specs.declared.error.OpenError.TheVariants as open_error
 use Rattle.mesa_opening.specs.Damages.{IsFirstMisfit, misfit_of}

@@ -8,14 +8,14 @@ use Rattle.mesa_disk.specs.Story.{Story}
 use Rattle.mesa_disk.specs.declared.area.Area.{Area}
 use Rattle.mesa_disk.specs.declared.area.Area.TheVariants.{Zero}
 use Rattle.mesa_journal.specs.Journal.{IsJournal}
-use Rattle.mesa_image.specs.Catalog.{Catalog}
+use Rattle.mesa_image_laws.specs.mesa_image.Catalog.{Catalog}
 use Rattle.mesa_record.specs.Reading.{record_at}
-use Rattle.mesa_image.specs.Fitting.{catalog, fits, shelved}
-use Rattle.mesa_image.specs.Contents.{Rows, kept_of}
+use Rattle.mesa_image_laws.specs.mesa_image.Fitting.{catalog, fits, shelved}
+use Rattle.mesa_image_laws.specs.mesa_image.Contents.{Rows, kept_of}
 use Rattle.mesa_record.specs.declared.record.Record.{Record}
 use Rattle.mesa_record.specs.declared.record.Record.TheVariants as record_of
-use Rattle.mesa_image.specs.Sound.{IsSoundAs, StandsFor}
-use Rattle.mesa_image.specs.Held.{IsHeld, IsUnnamed}
+use Rattle.mesa_image_laws.specs.mesa_image.Sound.{IsSoundAs, StandsFor}
+use Rattle.mesa_image_laws.specs.mesa_image.Held.{IsHeld, IsUnnamed}
 use Rattle.mesa_shelf.specs.Files.{recorded_of}
 use Rattle.mesa_opening.specs.declared.error.OpenError.{OpenError}
 use Rattle.mesa_opening.specs.declared.error.OpenError.TheVariants as open_error

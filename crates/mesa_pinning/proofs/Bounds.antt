@@ -20,22 +20,22 @@ use Rattle.mesa_batch.proofs.NameNumbers.{position-within}
 use Rattle.mesa_batch.specs.Totals.{abs_total}
 use Rattle.mesa_fold.proofs.Merged.{folds_totals}
 use Rattle.mesa_filter.specs.Query.{are_places}
-use Rattle.mesa_answer.specs.Answering.{KeepsSums}
-use Rattle.mesa_answer.proofs.Bounds.{bound_regrouped, full_regrouped}
-use Rattle.mesa_answer.proofs.Picked.{chosen-map}
-use Rattle.mesa_catalog.proofs.Loads.{found_passes}
+use Rattle.mesa_query.specs.mesa_answer.Answering.{KeepsSums}
+use Rattle.mesa_query.proofs.mesa_answer.Bounds.{bound_regrouped, full_regrouped}
+use Rattle.mesa_query.proofs.mesa_answer.Picked.{chosen-map}
+use Rattle.mesa_rules.proofs.mesa_catalog.Loads.{found_passes}
 use Rattle.mesa_delta.specs.declared.input.Input.{Input}
 use Rattle.mesa_disk.specs.Image.{Image}
-use Rattle.mesa_image.specs.Catalog.{Delta, Stock}
-use Rattle.mesa_image.specs.Contents.{Rows, present, rows_if_any}
-use Rattle.mesa_image.specs.Fitting.{delta_shelved, deltas_of}
-use Rattle.mesa_image.specs.Shape.{IsShaped}
-use Rattle.mesa_image.specs.Sound.{AreGrouped, IsGrouped, IsGroupedAs, IsStocked, IsTold}
-use Rattle.mesa_image_laws.specs.Planned.{planned}
-use Rattle.mesa_image_laws.proofs.Contents.{present_now}
-use Rattle.mesa_image_laws.proofs.Formed.{AreFormed, all_formed, rows_formed}
-use Rattle.mesa_image_laws.proofs.Lists.{all_unflat, is_equal}
-use Rattle.mesa_merge.specs.Inputs.{knowns_of}
+use Rattle.mesa_shelf.specs.mesa_image.Catalog.{Delta, Stock}
+use Rattle.mesa_shelf.specs.mesa_image.Contents.{Rows, present, rows_if_any}
+use Rattle.mesa_shelf.specs.mesa_image.Fitting.{delta_shelved, deltas_of}
+use Rattle.mesa_shelf.specs.mesa_image.Shape.{IsShaped}
+use Rattle.mesa_shelf.specs.mesa_image.Sound.{AreGrouped, IsGrouped, IsGroupedAs, IsStocked, IsTold}
+use Rattle.mesa_plans.specs.mesa_image_laws.Planned.{planned}
+use Rattle.mesa_plans.proofs.mesa_image_laws.Contents.{present_now}
+use Rattle.mesa_plans.proofs.mesa_image_laws.Formed.{AreFormed, all_formed, rows_formed}
+use Rattle.mesa_plans.proofs.mesa_image_laws.Lists.{all_unflat, is_equal}
+use Rattle.mesa_query.specs.mesa_merge.Inputs.{knowns_of}
 use Rattle.mesa_pinning.specs.Read.{own_file, relation_read, view_read}
 use Rattle.mesa_pinning.specs.Told.{parts_under}
 use Rattle.mesa_pinning.proofs.Given.{part_of, rows_seen}

@@ -19,13 +19,13 @@ use Rattle.mesa_schema.specs.declared.views.ViewError.TheVariants as no
 use Rattle.mesa_schema.proofs.GroupedFolds.{groups_folded}
 use Rattle.mesa_schema.proofs.Lists.{all_found}
 use Rattle.mesa_schema.proofs.Passing.{passed_first}
-use Rattle.mesa_answer.proofs.Picked.{chosen-map}
-use Rattle.mesa_catalog.proofs.Loads.{found_passes}
-use Rattle.mesa_image.specs.Catalog.{Delta}
-use Rattle.mesa_image.specs.Contents.{Rows, present, rows_if_any}
-use Rattle.mesa_image.specs.Sound.{AreGrouped, IsGrouped, IsGroupedAs}
-use Rattle.mesa_image_laws.proofs.Contents.{present_now}
-use Rattle.mesa_image_laws.proofs.Lists.{is_equal}
+use Rattle.mesa_query.proofs.mesa_answer.Picked.{chosen-map}
+use Rattle.mesa_rules.proofs.mesa_catalog.Loads.{found_passes}
+use Rattle.mesa_shelf.specs.mesa_image.Catalog.{Delta}
+use Rattle.mesa_shelf.specs.mesa_image.Contents.{Rows, present, rows_if_any}
+use Rattle.mesa_shelf.specs.mesa_image.Sound.{AreGrouped, IsGrouped, IsGroupedAs}
+use Rattle.mesa_plans.proofs.mesa_image_laws.Contents.{present_now}
+use Rattle.mesa_plans.proofs.mesa_image_laws.Lists.{is_equal}
 use Rattle.mesa_pinning.specs.Read.{own_file, relation_read}
 use Rattle.mesa_pinning.proofs.Given.{part_of}
 use Rattle.mesa_plans.specs.Files.{files_seen, files_wanted, own_lineage, seen_by, table_wanted, view_file, view_wanted}

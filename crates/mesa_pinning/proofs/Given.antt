@@ -8,18 +8,18 @@ use Rattle.mesa_schema.specs.Columns.{Columns}
 use Rattle.mesa_schema.specs.declared.rows.Row.{Row}
 use Rattle.mesa_schema.specs.declared.views.View.{View}
 use Rattle.mesa_schema.proofs.Lists.{all_found}
-use Rattle.mesa_catalog.proofs.Loads.{found_passes}
+use Rattle.mesa_rules.proofs.mesa_catalog.Loads.{found_passes}
 use Rattle.mesa_delta.specs.File.{IsFile, file_bytes}
 use Rattle.mesa_delta.specs.Spread.{blocks_of}
 use Rattle.mesa_delta.specs.declared.input.Input.{Input}
 use Rattle.mesa_disk.specs.Image.{Image, file_of}
-use Rattle.mesa_image.specs.Catalog.{Delta}
-use Rattle.mesa_image.specs.Contents.{Rows}
-use Rattle.mesa_image.specs.Fitting.{Shelved, columns_seen, delta_shelved, files_shelved, view_shelved}
-use Rattle.mesa_image.specs.Sound.{IsTold, bytes_of}
-use Rattle.mesa_image_laws.proofs.Lists.{all_unmap, is_equal}
-use Rattle.mesa_merge.specs.Inputs.{AreTold, known_of, knowns_of}
-use Rattle.mesa_merge.specs.Inputs.{IsTold as IsToldInput}
+use Rattle.mesa_shelf.specs.mesa_image.Catalog.{Delta}
+use Rattle.mesa_shelf.specs.mesa_image.Contents.{Rows}
+use Rattle.mesa_shelf.specs.mesa_image.Fitting.{Shelved, columns_seen, delta_shelved, files_shelved, view_shelved}
+use Rattle.mesa_shelf.specs.mesa_image.Sound.{IsTold, bytes_of}
+use Rattle.mesa_plans.proofs.mesa_image_laws.Lists.{all_unmap, is_equal}
+use Rattle.mesa_query.specs.mesa_merge.Inputs.{AreTold, known_of, knowns_of}
+use Rattle.mesa_query.specs.mesa_merge.Inputs.{IsTold as IsToldInput}
 use Rattle.mesa_pinning.specs.Read.{own_file, relation_read, view_read}
 use Rattle.mesa_pinning.specs.Told.{parts_known}
 use Rattle.mesa_pinning.proofs.Reading.{IsThere}

@@ -1,3 +1,4 @@
+pub use Rattle.mesa_plans.proofs as mesa_plans
 pub mod Opened
 pub mod Reading
 pub mod Given

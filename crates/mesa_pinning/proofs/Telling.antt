@@ -11,23 +11,23 @@ use Rattle.mesa_schema.specs.declared.rows.Row.{Row}
 use Rattle.mesa_schema.specs.declared.views.View.{View}
 use Rattle.mesa_schema.proofs.Lists.{all_both}
 use Rattle.mesa_filter.specs.Query.{BuiltQuery, IsQueryOf, group_kinds}
-use Rattle.mesa_answer.specs.Answering.{KeepsSums}
-use Rattle.mesa_model.specs.Page.{page_of}
-use Rattle.mesa_model.specs.declared.replies.Page.{Page}
-use Rattle.mesa_model.specs.Query.{Answer, answer_rows}
+use Rattle.mesa_query.specs.mesa_answer.Answering.{KeepsSums}
+use Rattle.mesa_rules.specs.mesa_model.Page.{page_of}
+use Rattle.mesa_rules.specs.mesa_model.declared.replies.Page.{Page}
+use Rattle.mesa_rules.specs.mesa_model.Query.{Answer, answer_rows}
 use Rattle.mesa_commit.specs.Images.{Has}
 use Rattle.mesa_disk.specs.Image.{Image, file_of}
-use Rattle.mesa_image.specs.Catalog.{Catalog, Delta, Stock, no_stock, stock_at}
-use Rattle.mesa_image.specs.Contents.{Rows, content, present}
-use Rattle.mesa_image.specs.Fitting.{Shelved, delta_shelved, deltas_of, shelved, stock_shelved}
-use Rattle.mesa_image.specs.Shape.{IsShaped}
-use Rattle.mesa_image.specs.Sound.{AreGrouped, AreStocked, IsStocked, IsTold, bytes_of, wanted, wants}
-use Rattle.mesa_image_laws.specs.Planned.{planned}
-use Rattle.mesa_image_laws.proofs.Formed.{all_formed, rows_formed}
-use Rattle.mesa_image_laws.proofs.Lists.{all_unflat, all_unmap, both_true}
-use Rattle.mesa_image_laws.proofs.Plans.{planned_folds}
-use Rattle.mesa_catalog.proofs.Stocks.{all_at}
-use Rattle.mesa_merge.specs.Inputs.{Known, knowns_of}
+use Rattle.mesa_shelf.specs.mesa_image.Catalog.{Catalog, Delta, Stock, no_stock, stock_at}
+use Rattle.mesa_shelf.specs.mesa_image.Contents.{Rows, content, present}
+use Rattle.mesa_shelf.specs.mesa_image.Fitting.{Shelved, delta_shelved, deltas_of, shelved, stock_shelved}
+use Rattle.mesa_shelf.specs.mesa_image.Shape.{IsShaped}
+use Rattle.mesa_shelf.specs.mesa_image.Sound.{AreGrouped, AreStocked, IsStocked, IsTold, bytes_of, wanted, wants}
+use Rattle.mesa_plans.specs.mesa_image_laws.Planned.{planned}
+use Rattle.mesa_plans.proofs.mesa_image_laws.Formed.{all_formed, rows_formed}
+use Rattle.mesa_plans.proofs.mesa_image_laws.Lists.{all_unflat, all_unmap, both_true}
+use Rattle.mesa_plans.proofs.mesa_image_laws.Plans.{planned_folds}
+use Rattle.mesa_rules.proofs.mesa_catalog.Stocks.{all_at}
+use Rattle.mesa_query.specs.mesa_merge.Inputs.{Known, knowns_of}
 use Rattle.mesa_pinning.specs.Read.{IsPinnedFor, relation_read, view_read}
 use Rattle.mesa_pinning.specs.Told.{AreOfRelation, Tells, parts_known, parts_under}
 use Rattle.mesa_pinning.proofs.Bounds.{all_under, read_sums}

@@ -3,10 +3,10 @@ use Rattle.std.specs.Prelude.{◌≡◌, ℕ, List, [], ◌∷◌, map, Bool, Op
 use Rattle.mesa_schema.specs.declared.rows.Row.{Row}
 use Rattle.mesa_schema.specs.Columns.{Columns}
 use Rattle.mesa_schema.specs.Folded.{rows_of}
-use Rattle.mesa_answer.specs.Answering.{KeepsSums}
+use Rattle.mesa_query.specs.mesa_answer.Answering.{KeepsSums}
 use Rattle.mesa_filter.specs.Query.{BuiltQuery, group_kinds}
-use Rattle.mesa_merge.specs.Inputs.{AreTold, Known, knowns_of, lifted_in}
-use Rattle.mesa_model.specs.Query.{Answer}
+use Rattle.mesa_query.specs.mesa_merge.Inputs.{AreTold, Known, knowns_of, lifted_in}
+use Rattle.mesa_rules.specs.mesa_model.Query.{Answer}
 use Rattle.mesa_query.specs.Files.{inputs_in, owns_in}
 use Rattle.mesa_query.specs.Relation.{page_over, rows_under}
 use Rattle.mesa_tasks.specs.Pins.{IsOfRelation, relation_rows}

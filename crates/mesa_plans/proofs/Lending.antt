@@ -4,8 +4,8 @@ use Rattle.std.specs.Prelude.{flat_map, is_some, nat_le, nat_lt, Some, option_ma
 use Rattle.std.proofs.lemmas.Bool.Decides.{nat_tests}
 use Rattle.std.proofs.lemmas.List.Elements.{filter-append, filter_agree}
 use Rattle.mesa_span.specs.Ranges.{end_of, start_behind}
-use Rattle.mesa_image.specs.Catalog.{Delta, start_in}
-use Rattle.mesa_image.specs.Fitting.{base_deltas}
+use Rattle.mesa_image_laws.specs.mesa_image.Catalog.{Delta, start_in}
+use Rattle.mesa_image_laws.specs.mesa_image.Fitting.{base_deltas}
 use Rattle.mesa_image_laws.specs.Brought.{merged_of}
 use Rattle.mesa_image_laws.specs.Planned.{behind_base, longest_to}
 use Rattle.mesa_shelf.specs.declared.table.Loaded.{Loaded}

@@ -1,2 +1,3 @@
+pub use Rattle.mesa_image_laws.specs as mesa_image_laws
 pub mod Lent
 pub mod Files

@@ -1,2 +1,3 @@
+pub use Rattle.mesa_script.specs as mesa_script
 pub mod Lines
 pub mod Writing

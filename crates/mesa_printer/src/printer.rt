@@ -1,7 +1,7 @@
 // Printing onto a sink, without memory.
 ghost use Rattle.std.specs.Prelude.{decimal, ◌++◌};
 ghost use Rattle.mesa_printer.specs.Printed.{Printed};
-ghost use Rattle.mesa_script.specs.Replies.{head_line};
+ghost use Rattle.mesa_print.specs.mesa_script.Replies.{head_line};
 
 use itoa::Buffer;
 use mesa_io::{Sink, write_all};

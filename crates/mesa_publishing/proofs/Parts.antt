@@ -17,16 +17,16 @@ use Rattle.mesa_record.specs.declared.record.ViewRef.{ViewRef}
 use Rattle.mesa_record.specs.declared.record.Files.{Files}
 use Rattle.mesa_record.specs.declared.record.Part.{Part}
 use Rattle.mesa_block.specs.Rows.{IsRow}
-use Rattle.mesa_delta.specs.File.{IsFile, file_bytes}
-use Rattle.mesa_delta.specs.Summary.{IsReferenceOf, all_noted, values_of}
-use Rattle.mesa_image.specs.Catalog.{Delta, Stock, part_delta}
-use Rattle.mesa_image.specs.Contents.{Rows, present}
-use Rattle.mesa_image.specs.Fitting.{columns_seen, counts_columns, counts_view, files_fit, files_shelved, is_view_ref, shelved_id, view_shelved}
-use Rattle.mesa_image.specs.Sound.{AreGrouped, IsGrouped, IsGroupedAs, IsTold, wants}
+use Rattle.mesa_tasks.specs.mesa_delta.File.{IsFile, file_bytes}
+use Rattle.mesa_tasks.specs.mesa_delta.Summary.{IsReferenceOf, all_noted, values_of}
+use Rattle.mesa_catalog.specs.mesa_image.Catalog.{Delta, Stock, part_delta}
+use Rattle.mesa_catalog.specs.mesa_image.Contents.{Rows, present}
+use Rattle.mesa_catalog.specs.mesa_image.Fitting.{columns_seen, counts_columns, counts_view, files_fit, files_shelved, is_view_ref, shelved_id, view_shelved}
+use Rattle.mesa_catalog.specs.mesa_image.Sound.{AreGrouped, IsGrouped, IsGroupedAs, IsTold, wants}
 use Rattle.mesa_commit.specs.Turn.{told_files}
-use Rattle.mesa_image_laws.specs.Brought.{Brings}
-use Rattle.mesa_image_laws.proofs.Contents.{present_now}
-use Rattle.mesa_image_laws.proofs.Lifted.{columns_now}
+use Rattle.mesa_catalog.specs.mesa_image_laws.Brought.{Brings}
+use Rattle.mesa_catalog.proofs.mesa_image_laws.Contents.{present_now}
+use Rattle.mesa_catalog.proofs.mesa_image_laws.Lifted.{columns_now}
 use Rattle.mesa_tasks.specs.Made.{AreMadeFiles, AreMadeViews, IsMadeFile, content_of}
 use Rattle.mesa_tasks.specs.declared.made.MadeFile.{MadeFile}
 use Rattle.mesa_tasks.specs.declared.made.MadeFiles.{MadeFiles}

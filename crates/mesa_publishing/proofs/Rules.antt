@@ -33,13 +33,13 @@ use Rattle.mesa_record.specs.declared.record.Part.{Part}
 use Rattle.mesa_record.specs.declared.record.ViewRef.{ViewRef}
 use Rattle.mesa_record.specs.Rules.{are_files, are_parts, is_count_of_columns, is_file_ref, is_key_length, is_part, rise_from}
 use Rattle.mesa_block.specs.Rows.{IsRow}
-use Rattle.mesa_delta.specs.File.{IsFile}
-use Rattle.mesa_delta.specs.Spread.{spread}
-use Rattle.mesa_delta.specs.Summary.{IsReferenceOf, last_key}
-use Rattle.mesa_delta.specs.Tail.{first_key}
-use Rattle.mesa_image.specs.Catalog.{Catalog, Stock, stock_at}
-use Rattle.mesa_image.specs.Shape.{IsCatalog, IsShaped}
-use Rattle.mesa_image_laws.proofs.Lists.{both_true, is_equal}
+use Rattle.mesa_tasks.specs.mesa_delta.File.{IsFile}
+use Rattle.mesa_tasks.specs.mesa_delta.Spread.{spread}
+use Rattle.mesa_tasks.specs.mesa_delta.Summary.{IsReferenceOf, last_key}
+use Rattle.mesa_tasks.specs.mesa_delta.Tail.{first_key}
+use Rattle.mesa_catalog.specs.mesa_image.Catalog.{Catalog, Stock, stock_at}
+use Rattle.mesa_catalog.specs.mesa_image.Shape.{IsCatalog, IsShaped}
+use Rattle.mesa_catalog.proofs.mesa_image_laws.Lists.{both_true, is_equal}
 use Rattle.mesa_catalog.specs.Lookups.{known_as, sight_of}
 use Rattle.mesa_tasks.specs.Batches.{AreParts, HasFiles, Share, share_of, shares, shares_from}
 use Rattle.mesa_tasks.specs.Made.{AreMadeFiles, AreMadeViews, IsMadeFile, content_of}

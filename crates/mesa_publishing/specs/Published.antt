@@ -15,17 +15,17 @@ use Rattle.mesa_model.specs.declared.replies.Reply.TheVariants as reply
 use Rattle.mesa_record.specs.declared.record.Part.{Part}
 use Rattle.mesa_record.specs.declared.record.Record.TheVariants as record_of
 use Rattle.mesa_record.specs.Rules.{keeps_rules}
-use Rattle.mesa_image.specs.Catalog.{Catalog}
-use Rattle.mesa_image.specs.Contents.{Rows}
-use Rattle.mesa_image.specs.Fitting.{brought, fits}
-use Rattle.mesa_image.specs.Sound.{wants}
-use Rattle.mesa_image_laws.specs.Brought.{AreTold, BringsAll}
-use Rattle.mesa_image_laws.specs.Ids.{brought_ids}
+use Rattle.mesa_catalog.specs.mesa_image.Catalog.{Catalog}
+use Rattle.mesa_catalog.specs.mesa_image.Contents.{Rows}
+use Rattle.mesa_catalog.specs.mesa_image.Fitting.{brought, fits}
+use Rattle.mesa_catalog.specs.mesa_image.Sound.{wants}
+use Rattle.mesa_catalog.specs.mesa_image_laws.Brought.{AreTold, BringsAll}
+use Rattle.mesa_catalog.specs.mesa_image_laws.Ids.{brought_ids}
 use Rattle.mesa_catalog.specs.Lookups.{sight_of}
-use Rattle.mesa_skeleton.specs.Rows.{no_rows}
+use Rattle.mesa_metadata.specs.mesa_skeleton.Rows.{no_rows}
 use Rattle.mesa_tasks.specs.Batches.{Share, shares}
-use Rattle.mesa_ledger.specs.Ledger.{Ledger, books_of, next_id}
-use Rattle.mesa_ledger.specs.Recorded.{Adopts}
+use Rattle.mesa_metadata.specs.mesa_ledger.Ledger.{Ledger, books_of, next_id}
+use Rattle.mesa_metadata.specs.mesa_ledger.Recorded.{Adopts}
 use Rattle.mesa_publishing.specs.declared.publishing.Published.{Published}
 
 -- ---- the rows that a batch brings

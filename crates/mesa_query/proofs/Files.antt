@@ -10,7 +10,7 @@ use Rattle.mesa_file.specs.declared.damage.Damage.{Damage}
 use Rattle.mesa_delta.specs.declared.error.FileError.{FileError}
 use Rattle.mesa_delta.specs.declared.error.FileError.TheVariants.{Read}
 use Rattle.mesa_delta.specs.declared.input.Input.{Input}
-use Rattle.mesa_cursor.specs.Cursors.{IsSameInput, reader_in}
+use Rattle.mesa_scan.specs.mesa_cursor.Cursors.{IsSameInput, reader_in}
 use Rattle.mesa_merge.specs.Faults.{HaveFaultCause, faults_of}
 use Rattle.mesa_merge.specs.Inputs.{knowns_of}
 use Rattle.mesa_merge.proofs.Causing.{cause_kept}

@@ -1,3 +1,5 @@
+pub use Rattle.mesa_answer.specs as mesa_answer
+pub use Rattle.mesa_merge.specs as mesa_merge
 pub mod Relation
 pub mod Files
 pub mod Laws

@@ -8,7 +8,7 @@ ghost use Rattle.mesa_schema.specs.Columns.{kinds_of};
 ghost use Rattle.mesa_schema.specs.Folded.{rows_of};
 ghost use Rattle.mesa_filter.specs.Filter.{filtered};
 ghost use Rattle.mesa_delta.specs.declared.error.FileError.TheVariants as file_error;
-ghost use Rattle.mesa_cursor.specs.Cursors.{IsSameInput, reader_in};
+ghost use Rattle.mesa_scan.specs.mesa_cursor.Cursors.{IsSameInput, reader_in};
 ghost use Rattle.mesa_merge.specs.Faults.{HaveFaultCause, faults_of};
 ghost use Rattle.mesa_merge.specs.Inputs.{AreTold, IsTold, known_of, knowns_of};
 ghost use Rattle.mesa_answer.specs.Answering.{KeepsSums};

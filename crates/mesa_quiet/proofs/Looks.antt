@@ -9,10 +9,10 @@ use Rattle.mesa_model.specs.declared.entries.Kind.TheVariants as kind
 use Rattle.mesa_history.specs.Replay.{is_skip}
 use Rattle.mesa_history.specs.Run.{First}
 use Rattle.mesa_history.specs.Turns.{IsDue}
-use Rattle.mesa_walk.specs.Turns.{entry, is_load, looking}
-use Rattle.mesa_walk.specs.Walk.{Outset, run_of}
-use Rattle.mesa_walk.proofs.Reading.{look_turn}
-use Rattle.mesa_walk.proofs.Turning.{stays}
+use Rattle.mesa_ledger.specs.mesa_walk.Turns.{entry, is_load, looking}
+use Rattle.mesa_ledger.specs.mesa_walk.Walk.{Outset, run_of}
+use Rattle.mesa_ledger.proofs.mesa_walk.Reading.{look_turn}
+use Rattle.mesa_ledger.proofs.mesa_walk.Turning.{stays}
 use Rattle.mesa_ledger.specs.Ledger.{Ledger, books_of}
 use Rattle.mesa_ledger.specs.Vault.{Origin, IsVault}
 use Rattle.mesa_ledger.proofs.Staying.{still_vault}

@@ -27,13 +27,13 @@ use Rattle.mesa_history.specs.Turns.{IsDue}
 use Rattle.mesa_output.specs.Output.{block}
 use Rattle.mesa_rules.specs.Seen.{HasCatalog, known_of}
 use Rattle.mesa_skeleton.specs.Rows.{Rows}
-use Rattle.mesa_walk.specs.Causes.{told_at}
-use Rattle.mesa_walk.specs.Changes.{MakesPin}
-use Rattle.mesa_walk.specs.Printing.{IsPut}
-use Rattle.mesa_walk.specs.Turns.{entry}
-use Rattle.mesa_walk.specs.Walk.{Outset, run_of}
-use Rattle.mesa_walk.proofs.Pinning.{pin_turn}
-use Rattle.mesa_walk.proofs.Turning.{stays}
+use Rattle.mesa_ledger.specs.mesa_walk.Causes.{told_at}
+use Rattle.mesa_ledger.specs.mesa_walk.Changes.{MakesPin}
+use Rattle.mesa_ledger.specs.mesa_walk.Printing.{IsPut}
+use Rattle.mesa_ledger.specs.mesa_walk.Turns.{entry}
+use Rattle.mesa_ledger.specs.mesa_walk.Walk.{Outset, run_of}
+use Rattle.mesa_ledger.proofs.mesa_walk.Pinning.{pin_turn}
+use Rattle.mesa_ledger.proofs.mesa_walk.Turning.{stays}
 use Rattle.mesa_ledger.specs.Ledger.{Ledger, bare_held, books_of, skeleton_of}
 use Rattle.mesa_ledger.specs.Turned.{pinned_ledger}
 use Rattle.mesa_ledger.specs.Vault.{Origin, IsVault}

@@ -28,13 +28,13 @@ use Rattle.mesa_output.specs.Output.{block}
 use Rattle.mesa_quiet.specs.Asked.{cause_asked}
 use Rattle.mesa_skeleton.specs.Rows.{Rows}
 use Rattle.mesa_span.specs.Plan.{plan}
-use Rattle.mesa_walk.specs.Causes.{told_at}
-use Rattle.mesa_walk.specs.Changes.{HasNoPlan, is_plain}
-use Rattle.mesa_walk.specs.Printing.{IsPut}
-use Rattle.mesa_walk.specs.Turns.{entry}
-use Rattle.mesa_walk.specs.Walk.{Outset, run_of}
-use Rattle.mesa_walk.proofs.Reading.{explained_turn}
-use Rattle.mesa_walk.proofs.Turning.{stays}
+use Rattle.mesa_ledger.specs.mesa_walk.Causes.{told_at}
+use Rattle.mesa_ledger.specs.mesa_walk.Changes.{HasNoPlan, is_plain}
+use Rattle.mesa_ledger.specs.mesa_walk.Printing.{IsPut}
+use Rattle.mesa_ledger.specs.mesa_walk.Turns.{entry}
+use Rattle.mesa_ledger.specs.mesa_walk.Walk.{Outset, run_of}
+use Rattle.mesa_ledger.proofs.mesa_walk.Reading.{explained_turn}
+use Rattle.mesa_ledger.proofs.mesa_walk.Turning.{stays}
 use Rattle.mesa_ledger.specs.Ledger.{Ledger, books_of}
 use Rattle.mesa_ledger.specs.Vault.{Origin, IsVault}
 use Rattle.mesa_ledger.proofs.Staying.{still_vault}

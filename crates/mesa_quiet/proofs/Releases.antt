@@ -16,14 +16,14 @@ use Rattle.mesa_history.specs.Run.{First}
 use Rattle.mesa_history.specs.Turns.{IsDue}
 use Rattle.mesa_output.specs.Output.{block}
 use Rattle.mesa_skeleton.specs.Rows.{Rows}
-use Rattle.mesa_walk.specs.Books.{without_pin}
-use Rattle.mesa_walk.specs.Causes.{told_at}
-use Rattle.mesa_walk.specs.Changes.{ReleasesPin}
-use Rattle.mesa_walk.specs.Printing.{IsPut}
-use Rattle.mesa_walk.specs.Turns.{entry}
-use Rattle.mesa_walk.specs.Walk.{Outset, run_of}
-use Rattle.mesa_walk.proofs.Pinning.{release_turn}
-use Rattle.mesa_walk.proofs.Turning.{stays}
+use Rattle.mesa_ledger.specs.mesa_walk.Books.{without_pin}
+use Rattle.mesa_ledger.specs.mesa_walk.Causes.{told_at}
+use Rattle.mesa_ledger.specs.mesa_walk.Changes.{ReleasesPin}
+use Rattle.mesa_ledger.specs.mesa_walk.Printing.{IsPut}
+use Rattle.mesa_ledger.specs.mesa_walk.Turns.{entry}
+use Rattle.mesa_ledger.specs.mesa_walk.Walk.{Outset, run_of}
+use Rattle.mesa_ledger.proofs.mesa_walk.Pinning.{release_turn}
+use Rattle.mesa_ledger.proofs.mesa_walk.Turning.{stays}
 use Rattle.mesa_ledger.specs.Ledger.{HeldPin, Ledger, bare_held, books_of}
 use Rattle.mesa_ledger.specs.Turned.{is_held_pin, released_ledger}
 use Rattle.mesa_ledger.specs.Vault.{Origin, IsVault}

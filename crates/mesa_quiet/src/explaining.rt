@@ -13,9 +13,9 @@ ghost use Rattle.mesa_model.specs.declared.entries.Kind.TheVariants as kind;
 ghost use Rattle.mesa_quiet.specs.Asked.{cause_asked};
 ghost use Rattle.mesa_script.specs.Rows.{body_of};
 ghost use Rattle.mesa_skeleton.specs.Rows.{no_rows};
-ghost use Rattle.mesa_walk.specs.Changes.{HasNoPlan};
-ghost use Rattle.mesa_walk.specs.Turns.{Takes};
-ghost use Rattle.mesa_walk.specs.Walk.{run_at};
+ghost use Rattle.mesa_ledger.specs.mesa_walk.Changes.{HasNoPlan};
+ghost use Rattle.mesa_ledger.specs.mesa_walk.Turns.{Takes};
+ghost use Rattle.mesa_ledger.specs.mesa_walk.Walk.{run_at};
 
 use crate::spans::lines_of;
 use mesa_disk::{Disk, Made};

@@ -1,14 +1,14 @@
 // A load's first turn.
 ghost use Rattle.std.specs.Prelude.{◌≡◌, ◌<◌, true, length, IfOk, OnOk};
 ghost use Rattle.mesa_batch.specs.Glance.{tables_of};
-ghost use Rattle.mesa_catalog.specs.Lookups.{sight_of};
+ghost use Rattle.mesa_rules.specs.mesa_catalog.Lookups.{sight_of};
 ghost use Rattle.mesa_history.specs.Run.{First, Looked};
 ghost use Rattle.mesa_model.specs.declared.entries.Kind.TheVariants as kind;
 ghost use Rattle.mesa_skeleton.specs.Rows.{no_rows};
-ghost use Rattle.mesa_walk.specs.Sight.{tables_seen};
-ghost use Rattle.mesa_walk.specs.Turns as spec;
-ghost use Rattle.mesa_walk.specs.Turns.{Asks, Takes, is_load};
-ghost use Rattle.mesa_walk.specs.Walk.{run_at};
+ghost use Rattle.mesa_ledger.specs.mesa_walk.Sight.{tables_seen};
+ghost use Rattle.mesa_ledger.specs.mesa_walk.Turns as spec;
+ghost use Rattle.mesa_ledger.specs.mesa_walk.Turns.{Asks, Takes, is_load};
+ghost use Rattle.mesa_ledger.specs.mesa_walk.Walk.{run_at};
 
 use mesa_batch::Glance;
 use mesa_disk::{Disk, Made};

@@ -3,7 +3,7 @@ ghost use Rattle.std.specs.Prelude.{◌≡◌, ◌++◌, ◌∷◌, [], true, de
 ghost use Rattle.mesa_history.specs.Replay.{no_rows as no_heading};
 ghost use Rattle.mesa_model.specs.declared.replies.Reply.TheVariants as reply;
 ghost use Rattle.mesa_script.specs.Rows.{body_of};
-ghost use Rattle.mesa_walk.specs.Changes.{is_plain};
+ghost use Rattle.mesa_ledger.specs.mesa_walk.Changes.{is_plain};
 
 use itoa::Buffer;
 use mesa_model::Reply;

@@ -25,10 +25,10 @@ use Rattle.mesa_model.specs.Query.{Answer, answer_rows, query_answer}
 use Rattle.mesa_model.specs.Refusals.{no_such_table, query_refusal}
 use Rattle.mesa_model.specs.Relations.{Relation, relation_columns, relation_content, relation_from, relation_of}
 use Rattle.mesa_model.specs.Warehouse.{Store, Table, Warehouse, no_table, table_at}
-use Rattle.mesa_image.specs.Catalog.{Stock, Catalog, no_stock, stock_at}
-use Rattle.mesa_shelf.specs.declared.relation.Relation.{Relation as Place}
+use Rattle.mesa_catalog.specs.mesa_image.Catalog.{Stock, Catalog, no_stock, stock_at}
+use Rattle.mesa_catalog.specs.mesa_shelf.declared.relation.Relation.{Relation as Place}
 use Rattle.mesa_catalog.specs.Lookups.{known_as, relation_from as place_from, relation_of as place_named}
-use Rattle.mesa_shelf.specs.Lookups.{view_names}
+use Rattle.mesa_catalog.specs.mesa_shelf.Lookups.{view_names}
 use Rattle.mesa_asked.specs.declared.failure.Failure.{Failure}
 use Rattle.mesa_asked.specs.Built.{IsBuiltOf}
 use Rattle.mesa_asked.specs.Told.{IsDue}

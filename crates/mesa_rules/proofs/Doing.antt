@@ -21,8 +21,8 @@ use Rattle.mesa_model.specs.Refusals.{bad_schema, change_refusal, no_such_table,
 use Rattle.mesa_model.specs.Tables.{alter_table, change_asked, changed_name, columns_asked, make_table, make_view}
 use Rattle.mesa_model.specs.Versions.{expire_to, store_from, version_checked}
 use Rattle.mesa_model.specs.Warehouse.{Warehouse, max_tables}
-use Rattle.mesa_image.specs.Catalog.{Stock, Catalog, no_stock, stock_at}
-use Rattle.mesa_image.specs.Fitting.{names_in}
+use Rattle.mesa_catalog.specs.mesa_image.Catalog.{Stock, Catalog, no_stock, stock_at}
+use Rattle.mesa_catalog.specs.mesa_image.Fitting.{names_in}
 use Rattle.mesa_catalog.specs.Lookups.{relation_of}
 use Rattle.mesa_catalog.proofs.Relations.{known_name}
 use Rattle.mesa_asked.specs.declared.failure.Failure.{Failure}

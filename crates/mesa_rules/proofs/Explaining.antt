@@ -10,9 +10,9 @@ use Rattle.mesa_model.specs.Refusals.{no_such_table}
 use Rattle.mesa_model.specs.Relations.{relation_of}
 use Rattle.mesa_model.specs.Versions.{version_asked}
 use Rattle.mesa_model.specs.Warehouse.{Warehouse}
-use Rattle.mesa_history.specs.Machine.{Machine, explained, ranges_at}
-use Rattle.mesa_image.specs.Catalog.{Catalog, no_stock, ranges_of, stock_at}
-use Rattle.mesa_shelf.specs.declared.relation.Relation.{Relation as Place}
+use Rattle.mesa_catalog.specs.mesa_history.Machine.{Machine, explained, ranges_at}
+use Rattle.mesa_catalog.specs.mesa_image.Catalog.{Catalog, no_stock, ranges_of, stock_at}
+use Rattle.mesa_catalog.specs.mesa_shelf.declared.relation.Relation.{Relation as Place}
 use Rattle.mesa_catalog.specs.Lookups.{relation_of as place_named}
 use Rattle.mesa_rules.specs.Found.{relation_seen}
 use Rattle.mesa_rules.specs.Seen.{HasCatalog}

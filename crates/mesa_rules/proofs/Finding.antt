@@ -5,9 +5,9 @@ use Rattle.std.specs.Option.{option_or}
 use Rattle.std.proofs.lemmas.List.{at_drop_more, at_drop_all}
 use Rattle.mesa_list.specs.Bytes.{same_bytes}
 use Rattle.mesa_schema.specs.Columns.{place_of}
-use Rattle.mesa_image.specs.Catalog.{Catalog, no_stock, stock_at}
-use Rattle.mesa_shelf.specs.declared.relation.Relation.{Relation}
-use Rattle.mesa_shelf.specs.Lookups.{relation_in, view_names}
+use Rattle.mesa_catalog.specs.mesa_image.Catalog.{Catalog, no_stock, stock_at}
+use Rattle.mesa_catalog.specs.mesa_shelf.declared.relation.Relation.{Relation}
+use Rattle.mesa_catalog.specs.mesa_shelf.Lookups.{relation_in, view_names}
 use Rattle.mesa_catalog.specs.Lookups.{relation_from}
 
 -- no table is left

@@ -26,9 +26,9 @@ use Rattle.mesa_model.specs.declared.replies.Refusal.{Refusal}
 use Rattle.mesa_model.specs.declared.replies.SchemaFault.TheVariants as fault
 use Rattle.mesa_model.specs.Refusals.{bad_schema, schema_refusal, view_refusal}
 use Rattle.mesa_model.specs.Tables.{names_are_good}
-use Rattle.mesa_image.specs.Catalog.{Catalog, stock_at}
-use Rattle.mesa_image.specs.Fitting.{brings_new_files, fits, kind_fits, names_in}
-use Rattle.mesa_shelf.proofs.Counts.{chosen_count}
+use Rattle.mesa_catalog.specs.mesa_image.Catalog.{Catalog, stock_at}
+use Rattle.mesa_catalog.specs.mesa_image.Fitting.{brings_new_files, fits, kind_fits, names_in}
+use Rattle.mesa_catalog.proofs.mesa_shelf.Counts.{chosen_count}
 use Rattle.std.proofs.lemmas.List.{length-map}
 use Rattle.mesa_asked.specs.Asked.{columns_checked, more_views_checked}
 

@@ -1,3 +1,4 @@
+pub use Rattle.mesa_catalog.proofs as mesa_catalog
 pub mod Doing
 pub mod Fits
 pub mod Seen

@@ -12,8 +12,8 @@ use Rattle.mesa_schema.specs.Names.{has_name}
 use Rattle.mesa_batch.specs.Glance.{Known}
 use Rattle.mesa_model.specs.Relations.{Relation, is_taken, relation_from, table_number}
 use Rattle.mesa_model.specs.Warehouse.{Table, Warehouse, no_table, table_at}
-use Rattle.mesa_image.specs.Catalog.{Stock, Catalog, no_stock, stock_at}
-use Rattle.mesa_image.specs.Fitting.{names_in}
+use Rattle.mesa_catalog.specs.mesa_image.Catalog.{Stock, Catalog, no_stock, stock_at}
+use Rattle.mesa_catalog.specs.mesa_image.Fitting.{names_in}
 use Rattle.mesa_catalog.specs.Lookups.{known_as, relation_of}
 use Rattle.mesa_catalog.proofs.Relations.{known_name}
 use Rattle.mesa_rules.specs.Seen.{HasCatalog, known_of, number_of}

@@ -9,8 +9,8 @@ use Rattle.mesa_model.specs.Page.{page_of}
 use Rattle.mesa_model.specs.Query.{Answer, answer_rows, query_answer, store_asked, version_seen}
 use Rattle.mesa_model.specs.Relations.{Relation, relation_columns, relation_content}
 use Rattle.mesa_model.specs.Warehouse.{Store, Table, Warehouse, table_at}
-use Rattle.mesa_image.specs.Catalog.{Stock, Catalog, stock_at}
-use Rattle.mesa_shelf.specs.declared.relation.Relation.{Relation as Place}
+use Rattle.mesa_catalog.specs.mesa_image.Catalog.{Stock, Catalog, stock_at}
+use Rattle.mesa_catalog.specs.mesa_shelf.declared.relation.Relation.{Relation as Place}
 use Rattle.mesa_catalog.specs.Lookups.{known_as}
 use Rattle.mesa_asked.specs.Built.{IsBuiltOf}
 use Rattle.mesa_rules.specs.declared.found.Found.{Found}

@@ -3,9 +3,9 @@ ghost use Rattle.std.specs.Prelude.{◌≡◌, ◌<◌, ℕ, map, Ok, Some, IfOk
 ghost use Rattle.mesa_filter.specs.Query.{IsQueryOf};
 ghost use Rattle.mesa_model.specs.Query.{query_answer};
 ghost use Rattle.mesa_model.specs.Warehouse.{Warehouse};
-ghost use Rattle.mesa_history.specs.Machine.{Machine, explained};
-ghost use Rattle.mesa_image.specs.Catalog.{ranges_of, stock_at};
-ghost use Rattle.mesa_image.specs.Shape.{IsCatalog};
+ghost use Rattle.mesa_catalog.specs.mesa_history.Machine.{Machine, explained};
+ghost use Rattle.mesa_catalog.specs.mesa_image.Catalog.{ranges_of, stock_at};
+ghost use Rattle.mesa_catalog.specs.mesa_image.Shape.{IsCatalog};
 ghost use Rattle.mesa_catalog.specs.Lookups.{relation_of};
 ghost use Rattle.mesa_asked.specs.Told.{IsDue};
 ghost use Rattle.mesa_rules.specs.Found.{IsAnswered, IsFound, Sees, columns_at};

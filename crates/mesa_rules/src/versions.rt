@@ -5,7 +5,7 @@ ghost use Rattle.mesa_model.specs.declared.replies.Reply.TheVariants as reply;
 ghost use Rattle.mesa_model.specs.Pins.{make_pin, next_token, with_pin};
 ghost use Rattle.mesa_model.specs.Versions.{expire_to, version_asked as version_of, version_checked};
 ghost use Rattle.mesa_model.specs.Warehouse.{Warehouse};
-ghost use Rattle.mesa_image.specs.Shape.{IsCatalog};
+ghost use Rattle.mesa_catalog.specs.mesa_image.Shape.{IsCatalog};
 ghost use Rattle.mesa_rules.specs.Ruled.{IsRuled};
 ghost use Rattle.mesa_rules.specs.Seen.{HasCatalog};
 

@@ -2,7 +2,7 @@
 use Rattle.std.specs.Prelude.{ℕ, List, drop, true, false, Option, Some, None, Result, Ok, Err}
 use Rattle.mesa_list.specs.Checks.{◌>>=◌, each_of}
 use Rattle.mesa_list.specs.Split.{entries_of}
-use Rattle.mesa_batch.specs.declared.words.RowWords.{RowWords}
+use Rattle.mesa_model.specs.mesa_batch.declared.words.RowWords.{RowWords}
 use Rattle.mesa_model.specs.declared.commands.ChangeWords.{ChangeWords}
 use Rattle.mesa_model.specs.declared.commands.ChangeWords.TheVariants as words
 use Rattle.mesa_model.specs.declared.commands.Command.{Command}

@@ -1,12 +1,12 @@
 -- The text of every reply.
 use Rattle.std.specs.Prelude.{ℕ, List, [], ◌∷◌, ◌++◌, length, codes, decimal, Bool, if◌then◌else◌, Option, Some, None, is_some}
 use Rattle.std.specs.Int.{w64, to_be_bytes}
-use Rattle.mesa_filter.specs.declared.words.VersionWord.{VersionWord}
-use Rattle.mesa_filter.specs.declared.words.VersionWord.TheVariants as asks
-use Rattle.mesa_filter.specs.Hex.{hex_of}
-use Rattle.mesa_file.specs.declared.damage.Seen.{Seen}
-use Rattle.mesa_file.specs.declared.damage.Seen.TheVariants as seen
-use Rattle.mesa_file.specs.declared.damage.Damage.{Damage}
+use Rattle.mesa_model.specs.mesa_filter.declared.words.VersionWord.{VersionWord}
+use Rattle.mesa_model.specs.mesa_filter.declared.words.VersionWord.TheVariants as asks
+use Rattle.mesa_model.specs.mesa_filter.Hex.{hex_of}
+use Rattle.mesa_model.specs.mesa_file.declared.damage.Seen.{Seen}
+use Rattle.mesa_model.specs.mesa_file.declared.damage.Seen.TheVariants as seen
+use Rattle.mesa_model.specs.mesa_file.declared.damage.Damage.{Damage}
 use Rattle.mesa_model.specs.declared.replies.SchemaFault.{SchemaFault}
 use Rattle.mesa_model.specs.declared.replies.SchemaFault.TheVariants as fault
 use Rattle.mesa_model.specs.declared.replies.Refusal.{Refusal}

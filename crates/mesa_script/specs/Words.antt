@@ -5,14 +5,14 @@ use Rattle.std.specs.Option.{ok_or}
 use Rattle.mesa_list.specs.Bytes.{same_bytes}
 use Rattle.mesa_list.specs.Checks.{◌>>=◌, ◌>>◌, refuse_unless}
 use Rattle.mesa_list.specs.Split.{split_at}
-use Rattle.mesa_value.specs.declared.Agg.{Agg}
-use Rattle.mesa_value.specs.declared.Agg.TheVariants as agg
-use Rattle.mesa_key.specs.declared.KeyType.{KeyType}
-use Rattle.mesa_key.specs.declared.KeyType.TheVariants as kind
+use Rattle.mesa_schema.specs.mesa_value.declared.Agg.{Agg}
+use Rattle.mesa_schema.specs.mesa_value.declared.Agg.TheVariants as agg
+use Rattle.mesa_schema.specs.mesa_key.declared.KeyType.{KeyType}
+use Rattle.mesa_schema.specs.mesa_key.declared.KeyType.TheVariants as kind
 use Rattle.mesa_schema.specs.Names.{is_digit}
 use Rattle.mesa_schema.specs.Numbers.{number_of}
-use Rattle.mesa_filter.specs.declared.words.VersionWord.{VersionWord}
-use Rattle.mesa_filter.specs.declared.words.VersionWord.TheVariants as asks
+use Rattle.mesa_model.specs.mesa_filter.declared.words.VersionWord.{VersionWord}
+use Rattle.mesa_model.specs.mesa_filter.declared.words.VersionWord.TheVariants as asks
 use Rattle.mesa_model.specs.declared.commands.KeyWords.{KeyWords}
 use Rattle.mesa_model.specs.declared.commands.ValueWords.{ValueWords}
 use Rattle.mesa_script.specs.declared.script.Reason.{Reason}

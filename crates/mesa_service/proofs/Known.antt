@@ -8,9 +8,9 @@ use Rattle.mesa_schema.specs.Columns.{Columns, aggs_of}
 use Rattle.mesa_schema.specs.Folded.{folded}
 use Rattle.mesa_delta.specs.Reading.{IsWhole}
 use Rattle.mesa_delta.specs.declared.input.Input.{Input}
-use Rattle.mesa_merge.specs.Inputs.{Known, known_of, knowns_of}
-use Rattle.mesa_tasks.specs.Inputs.{HaveRows, IsMergeOf, present_parts}
-use Rattle.mesa_tasks.specs.Tasks.{MergeOnlyTo}
+use Rattle.mesa_compact.specs.mesa_merge.Inputs.{Known, known_of, knowns_of}
+use Rattle.mesa_compact.specs.mesa_tasks.Inputs.{HaveRows, IsMergeOf, present_parts}
+use Rattle.mesa_compact.specs.mesa_tasks.Tasks.{MergeOnlyTo}
 
 -- ---- lists
 

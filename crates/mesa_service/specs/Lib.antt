@@ -1,3 +1,7 @@
+pub use Rattle.mesa_compact.specs as mesa_compact
+pub use Rattle.mesa_compact.specs.mesa_merge as mesa_merge
+pub use Rattle.mesa_query.specs as mesa_query
+pub use Rattle.mesa_walk.specs as mesa_walk
 pub mod Sight
 pub mod Damages
 pub mod Drafts

@@ -6,15 +6,15 @@ use Rattle.mesa_schema.specs.Changes.{Lineage}
 use Rattle.mesa_model.specs.declared.entries.Entry.{Entry}
 use Rattle.mesa_compact.specs.Bounded.{IsBounded}
 use Rattle.mesa_compact.specs.Tasks.{KnownView, known_views}
-use Rattle.mesa_merge.specs.Inputs.{Known, knowns_of}
-use Rattle.mesa_tasks.specs.GivingBack.{task_inputs}
-use Rattle.mesa_tasks.specs.Tasks.{IsTask, IsMerged}
-use Rattle.mesa_tasks.specs.declared.merging.CompactError.{CompactError}
-use Rattle.mesa_tasks.specs.declared.merging.CompactError.TheVariants as compact
-use Rattle.mesa_tasks.specs.declared.merging.NewDelta.{NewDelta}
-use Rattle.mesa_tasks.specs.declared.merging.Task.{Task}
+use Rattle.mesa_compact.specs.mesa_merge.Inputs.{Known, knowns_of}
+use Rattle.mesa_compact.specs.mesa_tasks.GivingBack.{task_inputs}
+use Rattle.mesa_compact.specs.mesa_tasks.Tasks.{IsTask, IsMerged}
+use Rattle.mesa_compact.specs.mesa_tasks.declared.merging.CompactError.{CompactError}
+use Rattle.mesa_compact.specs.mesa_tasks.declared.merging.CompactError.TheVariants as compact
+use Rattle.mesa_compact.specs.mesa_tasks.declared.merging.NewDelta.{NewDelta}
+use Rattle.mesa_compact.specs.mesa_tasks.declared.merging.Task.{Task}
 use Rattle.mesa_service.specs.Damages.{IsUnread}
-use Rattle.mesa_tasks.specs.Errors.{Differs}
+use Rattle.mesa_compact.specs.mesa_tasks.Errors.{Differs}
 
 -- What is known of a task while its files are handed out, however much of them was read.
 pub record KnownTask : Type 0 where

@@ -12,8 +12,8 @@ use Rattle.mesa_delta.specs.Reading.{IsBlockDamage}
 use Rattle.mesa_delta.specs.declared.input.Input.{Input}
 use Rattle.mesa_cursor.specs.Cursors.{reader_in}
 use Rattle.mesa_scan.specs.Damaged.{IsDamaged}
-use Rattle.mesa_view.specs.SumDamage.{IsSumDamage}
-use Rattle.mesa_merge.specs.Faults.{SomeRose, faults_of}
+use Rattle.mesa_compact.specs.mesa_view.SumDamage.{IsSumDamage}
+use Rattle.mesa_compact.specs.mesa_merge.Faults.{SomeRose, faults_of}
 use Rattle.mesa_tasks.specs.declared.querying.PinnedInput.{PinnedInput}
 use Rattle.mesa_query.specs.Files.{IsDamageIn, IsDamageOf}
 use Rattle.mesa_tasks.specs.declared.merging.Task.{Task}

@@ -30,8 +30,8 @@ use Rattle.mesa_tasks.specs.declared.prepared.LoadError.{LoadError}
 use Rattle.mesa_tasks.specs.declared.prepared.Prepared.{Prepared}
 use Rattle.mesa_tasks.specs.declared.merging.Task.{Task}
 use Rattle.mesa_tasks.specs.declared.querying.Pinned.{Pinned}
-use Rattle.mesa_passes.proofs.Behind.{comes_in_time, place_found, whole_found}
-use Rattle.mesa_passes.proofs.Turning.{found_history}
+use Rattle.mesa_core.proofs.mesa_passes.Behind.{comes_in_time, place_found, whole_found}
+use Rattle.mesa_core.proofs.mesa_passes.Turning.{found_history}
 use Rattle.mesa_tasks.specs.Batches.{HasPrepared}
 use Rattle.mesa_service.specs.Pins.{CanBeAnswered, IsOpenQuery, KnownPin, TakesQuery, known_pin}
 use Rattle.mesa_service.specs.Works.{KnownTask, WasGranted, known_task}

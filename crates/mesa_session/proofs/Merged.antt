@@ -13,8 +13,8 @@ use Rattle.mesa_delta.specs.declared.error.FileError.TheVariants as file
 use Rattle.mesa_delta.specs.declared.input.Input.{Input}
 use Rattle.mesa_fault.specs.Causes.{HasFaultCause, last}
 use Rattle.mesa_file.specs.declared.damage.Damage.{Damage}
-use Rattle.mesa_merge.specs.Faults.{faults_of}
-use Rattle.mesa_merge.specs.Inputs.{Known, known_of, knowns_of}
+use Rattle.mesa_compact.specs.mesa_merge.Faults.{faults_of}
+use Rattle.mesa_compact.specs.mesa_merge.Inputs.{Known, known_of, knowns_of}
 use Rattle.mesa_tasks.specs.GivingBack.{task_inputs}
 use Rattle.mesa_tasks.specs.Tasks.{AreMergedViews, HaveMerged, IsMerged, IsTask, MergeOnlyTo}
 use Rattle.mesa_tasks.specs.declared.made.MadeFiles.{MadeFiles}
@@ -29,7 +29,7 @@ use Rattle.mesa_compact.specs.Tasks.{IsSameTask, IsTaskDamage, KnownView, known_
 use Rattle.mesa_service.proofs.Known.{cons_none, first_same, merge_stays, none_some, only_stays, rest_same, some_same}
 use Rattle.mesa_compact.specs.Writing.{HasCauses, IsDraftFault, damaged_by}
 use Rattle.mesa_tasks.specs.Errors.{Differs}
-use Rattle.mesa_passes.specs.Answers.{Owes}
+use Rattle.mesa_core.specs.mesa_passes.Answers.{Owes}
 use Rattle.mesa_service.specs.Drafts.{owed_by_work}
 use Rattle.mesa_service.specs.Works.{IsDeltaOf, known_task}
 use Rattle.mesa_session.proofs.Damaged.{rose_failed, task_differs}

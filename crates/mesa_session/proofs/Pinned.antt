@@ -12,8 +12,8 @@ use Rattle.mesa_script.specs.Rows.{rendered}
 use Rattle.mesa_answer.specs.Answering.{KeepsSums}
 use Rattle.mesa_delta.specs.declared.error.FileError.{FileError}
 use Rattle.mesa_delta.specs.declared.error.FileError.TheVariants as file
-use Rattle.mesa_merge.specs.Faults.{SomeRose, faults_of}
-use Rattle.mesa_merge.specs.Inputs.{Known, AreTold, known_of, knowns_of}
+use Rattle.mesa_compact.specs.mesa_merge.Faults.{SomeRose, faults_of}
+use Rattle.mesa_compact.specs.mesa_merge.Inputs.{Known, AreTold, known_of, knowns_of}
 use Rattle.mesa_tasks.specs.GivingBack.{pinned_inputs}
 use Rattle.mesa_tasks.specs.Pins.{relation_rows}
 use Rattle.mesa_tasks.specs.declared.querying.Pinned.{Pinned}

@@ -14,7 +14,7 @@ use Rattle.mesa_tasks.specs.declared.prepared.Prepared.{Prepared}
 use Rattle.mesa_tasks.specs.declared.merging.CompactError.{CompactError}
 use Rattle.mesa_tasks.specs.declared.merging.CompactError.TheVariants as compact
 use Rattle.mesa_load.specs.Preparing.{IsReason}
-use Rattle.mesa_passes.specs.Answers.{Owes}
+use Rattle.mesa_core.specs.mesa_passes.Answers.{Owes}
 use Rattle.mesa_service.specs.Drafts.{owed_by_load, owed_by_work}
 use Rattle.mesa_session.specs.Loads.{StaysPrepared}
 

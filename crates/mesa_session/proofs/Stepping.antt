@@ -11,8 +11,8 @@ use Rattle.mesa_history.specs.Run.{State, Stage, place_of}
 use Rattle.mesa_history.specs.Turns.{place_then}
 use Rattle.mesa_walk.specs.Turns.{Shown, Asks, IsTurn, IsSeen, Takes}
 use Rattle.mesa_walk.specs.Walk.{run_at}
-use Rattle.mesa_passes.specs.Passes.{HasSort, Holds, Mine, at_stage}
-use Rattle.mesa_passes.proofs.Turning.{Step, asked, one_more, step_mine}
+use Rattle.mesa_core.specs.mesa_passes.Passes.{HasSort, Holds, Mine, at_stage}
+use Rattle.mesa_core.proofs.mesa_passes.Turning.{Step, asked, one_more, step_mine}
 use Rattle.mesa_session.proofs.Found.{room_left}
 
 -- What entering a turn finds: a history that is a run's, as a session relies on it.

@@ -5,8 +5,8 @@ ghost use Rattle.mesa_history.specs.Run.{First, Finished, command_at};
 ghost use Rattle.mesa_history.specs.Turns.{place_then};
 ghost use Rattle.mesa_model.specs.declared.commands.Command.TheVariants as command;
 ghost use Rattle.mesa_skeleton.specs.Rows.{no_rows};
-ghost use Rattle.mesa_passes.specs.Answers.{Answers};
-ghost use Rattle.mesa_passes.specs.Passes.{HasSort, Mine, Took, at_stage};
+ghost use Rattle.mesa_core.specs.mesa_passes.Answers.{Answers};
+ghost use Rattle.mesa_core.specs.mesa_passes.Passes.{HasSort, Mine, Took, at_stage};
 
 use crate::gate::{Gate, Point};
 use crate::outside::{answered, merged};

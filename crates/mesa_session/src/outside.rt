@@ -5,7 +5,7 @@ ghost use Rattle.mesa_key.specs.Spelling.{is_spelling};
 ghost use Rattle.mesa_schema.specs.declared.rows.Row.{Row as AnyRow};
 ghost use Rattle.mesa_filter.specs.Query.{group_kinds as kinds_grouped};
 ghost use Rattle.mesa_script.specs.Rows.{rendered};
-ghost use Rattle.mesa_passes.specs.Answers.{Owes};
+ghost use Rattle.mesa_core.specs.mesa_passes.Answers.{Owes};
 ghost use Rattle.mesa_service.specs.Drafts.{owed_by_work};
 ghost use Rattle.mesa_service.specs.Pins.{CanBeAnswered, HasAnswered, heading_in, known_pin};
 ghost use Rattle.mesa_service.specs.Works.{CanBeMerged, HasMerged, known_task};

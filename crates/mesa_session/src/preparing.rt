@@ -5,7 +5,7 @@ ghost use Rattle.mesa_model.specs.declared.entries.Entry.{Entry as AnyEntry};
 ghost use Rattle.mesa_skeleton.specs.Rows.{no_rows};
 ghost use Rattle.mesa_tasks.specs.declared.prepared.LoadError.TheVariants as load;
 ghost use Rattle.mesa_tasks.specs.Batches.{HasPrepared};
-ghost use Rattle.mesa_passes.specs.Answers.{Owes};
+ghost use Rattle.mesa_core.specs.mesa_passes.Answers.{Owes};
 ghost use Rattle.mesa_service.specs.Drafts.{owed_by_load};
 ghost use Rattle.mesa_service.specs.Sight.{sight_after};
 ghost use Rattle.mesa_session.specs.Loads.{StaysPrepared};

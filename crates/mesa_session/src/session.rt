@@ -2,8 +2,8 @@
 ghost use Rattle.std.specs.Prelude.{◌≡◌, ◌<◌, ◌≤◌, ◌*◌, length};
 ghost use Rattle.mesa_history.specs.Run.{First, commands_of as commands_in};
 ghost use Rattle.mesa_skeleton.specs.Rows.{no_rows};
-ghost use Rattle.mesa_passes.specs.Answers.{Answers};
-ghost use Rattle.mesa_passes.specs.Passes.{Gains, HasEnded, Mine, Took, at_stage};
+ghost use Rattle.mesa_core.specs.mesa_passes.Answers.{Answers};
+ghost use Rattle.mesa_core.specs.mesa_passes.Passes.{Gains, HasEnded, Mine, Took, at_stage};
 
 use crate::commands::run_command;
 use crate::gate::{Gate, Point};

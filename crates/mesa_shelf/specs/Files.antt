@@ -6,7 +6,7 @@ use Rattle.mesa_schema.specs.Changes.{Lineage}
 use Rattle.mesa_record.specs.declared.record.ViewRef.{ViewRef}
 use Rattle.mesa_image.specs.Catalog.{Catalog, Delta}
 use Rattle.mesa_image.specs.Fitting.{Shelved, delta_shelved, shelved, view_shelved}
-use Rattle.mesa_delta.specs.Reading.{tail_place}
+use Rattle.mesa_image.specs.mesa_delta.Reading.{tail_place}
 use Rattle.mesa_shelf.specs.declared.recorded.Recorded.{Recorded}
 use Rattle.mesa_shelf.specs.declared.table.Loaded.{Loaded}
 

@@ -1,3 +1,4 @@
+pub use Rattle.mesa_image.specs as mesa_image
 pub mod Meaning
 pub mod Lookups
 pub mod Readied

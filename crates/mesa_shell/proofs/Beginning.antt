@@ -23,9 +23,9 @@ use Rattle.mesa_image_laws.specs.Sourced.{HasSources, Written, all_written, foun
 use Rattle.mesa_image_laws.proofs.AllSourced.{all_found}
 use Rattle.mesa_ledger.specs.Ledger.{books_of, first_id, skeleton_of}
 use Rattle.mesa_ledger.specs.Vault.{IsReady, Starts}
-use Rattle.mesa_metadata.specs.Memory.{opened_ledger}
-use Rattle.mesa_engine.specs.Beginning.{IsBegun}
-use Rattle.mesa_engine.specs.Engine.{most_turns, starts_of}
+use Rattle.mesa_sessions.specs.mesa_metadata.Memory.{opened_ledger}
+use Rattle.mesa_sessions.specs.mesa_engine.Beginning.{IsBegun}
+use Rattle.mesa_sessions.specs.mesa_engine.Engine.{most_turns, starts_of}
 use Rattle.mesa_catalog.specs.declared.begun.Begun.{Begun}
 use Rattle.mesa_passes.specs.Passes.{turns_of}
 use Rattle.mesa_ending.specs.Scripts.{IsSmall, commands_in}

@@ -11,10 +11,10 @@ use Rattle.mesa_image.specs.Catalog.{Catalog, applied}
 use Rattle.mesa_image.specs.Shape.{IsCatalog}
 use Rattle.mesa_image_laws.specs.Ids.{HasOwnIds, named}
 use Rattle.mesa_image_laws.proofs.Wholes.{catalog_owns, catalog_shaped}
-use Rattle.mesa_opening.specs.declared.error.OpenError.{OpenError}
-use Rattle.mesa_opening.specs.declared.error.OpenError.TheVariants as open_error
-use Rattle.mesa_opening.specs.Opening.{HasReason, IsHeldAs, IsSoundStart, Keeps, first_id, most_runs, run_record}
-use Rattle.mesa_opening.proofs.Beginnings.{runs_few}
+use Rattle.mesa_ending.specs.mesa_opening.declared.error.OpenError.{OpenError}
+use Rattle.mesa_ending.specs.mesa_opening.declared.error.OpenError.TheVariants as open_error
+use Rattle.mesa_ending.specs.mesa_opening.Opening.{HasReason, IsHeldAs, IsSoundStart, Keeps, first_id, most_runs, run_record}
+use Rattle.mesa_ending.proofs.mesa_opening.Beginnings.{runs_few}
 use Rattle.mesa_ledger.specs.Vault.{IsRead}
 use Rattle.mesa_catalog.specs.declared.begun.Begun.{Begun}
 use Rattle.mesa_recover.specs.declared.opened.Opened.{Opened}

@@ -17,7 +17,7 @@ use Rattle.mesa_image.specs.Catalog.{Catalog}
 use Rattle.mesa_image.specs.Contents.{kept_of}
 use Rattle.mesa_image.specs.Sound.{StandsFor}
 use Rattle.mesa_image_laws.proofs.Wholes.{catalog_shaped}
-use Rattle.mesa_opening.specs.Opening.{IsSoundStart, Keeps}
+use Rattle.mesa_ending.specs.mesa_opening.Opening.{IsSoundStart, Keeps}
 use Rattle.mesa_catalog.specs.declared.begun.Begun.{Begun}
 use Rattle.mesa_ending.specs.Counting.{HasBenchCounts}
 use Rattle.mesa_ending.specs.Ports.{Ports}

@@ -11,7 +11,7 @@ use Rattle.mesa_image.specs.Contents.{kept_of}
 use Rattle.mesa_image.specs.Shape.{IsCatalog}
 use Rattle.mesa_image.specs.Sound.{StandsFor}
 use Rattle.mesa_image_laws.specs.Ids.{HasOwnIds, named}
-use Rattle.mesa_opening.specs.Opening.{IsHeldAs, IsSoundStart, Keeps, ReadsAs, first_id, most_runs, run_record}
+use Rattle.mesa_ending.specs.mesa_opening.Opening.{IsHeldAs, IsSoundStart, Keeps, ReadsAs, first_id, most_runs, run_record}
 use Rattle.mesa_ledger.specs.Vault.{IsRead}
 use Rattle.mesa_catalog.specs.declared.begun.Begun.{Begun}
 use Rattle.mesa_ending.specs.Start.{AreTold}

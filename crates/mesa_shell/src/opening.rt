@@ -1,6 +1,6 @@
 // Opening a store for a run.
 ghost use Rattle.std.specs.Prelude.{IfErr, IfOk};
-ghost use Rattle.mesa_opening.specs.Opening.{HasReason, Keeps};
+ghost use Rattle.mesa_ending.specs.mesa_opening.Opening.{HasReason, Keeps};
 ghost use Rattle.mesa_shell.specs.Begun.{HasBegun};
 
 use mesa_disk::{Disk, Made};

@@ -1,8 +1,8 @@
 // The run of a script over a store on which it has begun.
 ghost use Rattle.std.specs.Prelude.{◌≡◌, ◌+◌, ◌<◌, ◌≤◌, ◌^◌, [], Bool, true, false, None, IfErr, IfOk, IsTrue, length};
 ghost use Rattle.mesa_fault.specs.Causes.{last, Rose};
-ghost use Rattle.mesa_engine.specs.Beginning.{IsBegun};
-ghost use Rattle.mesa_engine.specs.Engine.{most_turns, starts_of};
+ghost use Rattle.mesa_sessions.specs.mesa_engine.Beginning.{IsBegun};
+ghost use Rattle.mesa_sessions.specs.mesa_engine.Engine.{most_turns, starts_of};
 ghost use Rattle.mesa_history.specs.Refused.{some_refused};
 ghost use Rattle.mesa_history.specs.Run.{begins};
 ghost use Rattle.mesa_skeleton.specs.Rows.{Rows};

@@ -1,3 +1,4 @@
+pub use Rattle.mesa_history.proofs as mesa_history
 pub mod Lists
 pub mod Steps
 pub mod Turns

@@ -3,37 +3,37 @@ use Rattle.std.proofs.Common.{◌≡◌, ℕ, ◌+◌, List, [], ◌∷◌, ◌+
 use Rattle.std.specs.Prelude.{if◌then◌else◌}
 use Rattle.mesa_list.specs.Bytes.{same_bytes}
 use Rattle.mesa_list.specs.Checks.{◌>>=◌, ◌>>◌, refuse_if, refuse_unless, refused_as}
-use Rattle.mesa_schema.specs.declared.views.View.{View}
-use Rattle.mesa_schema.specs.Names.{is_name}
-use Rattle.mesa_schema.specs.Columns.{place_of}
-use Rattle.mesa_schema.specs.Schema.{schema_checked}
-use Rattle.mesa_schema.specs.Changes.{Lineage, columns_of, epoch_of, change_checked}
-use Rattle.mesa_batch.specs.declared.words.RowWords.{RowWords}
-use Rattle.mesa_batch.specs.Batch.{Named, Placed, batch_of, rows_for}
-use Rattle.mesa_filter.specs.declared.words.QueryWords.{QueryWords}
-use Rattle.mesa_filter.specs.declared.words.VersionWord.{VersionWord}
-use Rattle.mesa_filter.specs.declared.words.VersionWord.TheVariants as asks
-use Rattle.mesa_filter.specs.Asked.{asked_of}
-use Rattle.mesa_filter.specs.Resume.{resume_of}
-use Rattle.mesa_model.specs.declared.commands.TableWords.{TableWords}
-use Rattle.mesa_model.specs.declared.commands.ViewWords.{ViewWords}
-use Rattle.mesa_model.specs.declared.commands.AlterWords.{AlterWords}
-use Rattle.mesa_model.specs.declared.commands.ExplainWords.{ExplainWords}
-use Rattle.mesa_model.specs.declared.commands.Command.{Command}
-use Rattle.mesa_model.specs.declared.commands.Command.TheVariants as command
-use Rattle.mesa_model.specs.declared.replies.Refusal.{Refusal}
-use Rattle.mesa_model.specs.declared.replies.Refusal.TheVariants as no
-use Rattle.mesa_model.specs.declared.replies.Reply.{Reply}
-use Rattle.mesa_model.specs.declared.replies.Reply.TheVariants as reply
-use Rattle.mesa_model.specs.Warehouse.{Table, Store, Pin, Warehouse, max_pins, max_tables, max_versions, no_table, table_at}
-use Rattle.mesa_model.specs.Refusals.{refuse_closed, no_such_table, query_refusal, batch_refusal, schema_refusal, change_refusal}
-use Rattle.mesa_model.specs.Relations.{Relation, relation_from, relation_of, relation_columns, is_taken, table_number}
-use Rattle.mesa_model.specs.Versions.{version_asked, version_checked, store_from, expire_to}
-use Rattle.mesa_model.specs.Pins.{is_pin, pin_of, next_token, store_at, make_pin, release_pin}
-use Rattle.mesa_model.specs.Load.{tables_named, bound_checked, bounds_checked, table_loaded, tables_loaded, load_batch}
-use Rattle.mesa_model.specs.Tables.{columns_asked, names_are_good, new_table, make_table, view_of_table_checked, make_view, change_asked, changed_name, table_changed, alter_table}
-use Rattle.mesa_model.specs.Query.{Answer, store_asked, version_seen, query_answer}
-use Rattle.mesa_model.specs.Step.{done_or_refused, reply_to_query, step}
+use Rattle.mesa_history.specs.mesa_schema.declared.views.View.{View}
+use Rattle.mesa_history.specs.mesa_schema.Names.{is_name}
+use Rattle.mesa_history.specs.mesa_schema.Columns.{place_of}
+use Rattle.mesa_history.specs.mesa_schema.Schema.{schema_checked}
+use Rattle.mesa_history.specs.mesa_schema.Changes.{Lineage, columns_of, epoch_of, change_checked}
+use Rattle.mesa_history.specs.mesa_batch.declared.words.RowWords.{RowWords}
+use Rattle.mesa_history.specs.mesa_batch.Batch.{Named, Placed, batch_of, rows_for}
+use Rattle.mesa_history.specs.mesa_filter.declared.words.QueryWords.{QueryWords}
+use Rattle.mesa_history.specs.mesa_filter.declared.words.VersionWord.{VersionWord}
+use Rattle.mesa_history.specs.mesa_filter.declared.words.VersionWord.TheVariants as asks
+use Rattle.mesa_history.specs.mesa_filter.Asked.{asked_of}
+use Rattle.mesa_history.specs.mesa_filter.Resume.{resume_of}
+use Rattle.mesa_history.specs.mesa_model.declared.commands.TableWords.{TableWords}
+use Rattle.mesa_history.specs.mesa_model.declared.commands.ViewWords.{ViewWords}
+use Rattle.mesa_history.specs.mesa_model.declared.commands.AlterWords.{AlterWords}
+use Rattle.mesa_history.specs.mesa_model.declared.commands.ExplainWords.{ExplainWords}
+use Rattle.mesa_history.specs.mesa_model.declared.commands.Command.{Command}
+use Rattle.mesa_history.specs.mesa_model.declared.commands.Command.TheVariants as command
+use Rattle.mesa_history.specs.mesa_model.declared.replies.Refusal.{Refusal}
+use Rattle.mesa_history.specs.mesa_model.declared.replies.Refusal.TheVariants as no
+use Rattle.mesa_history.specs.mesa_model.declared.replies.Reply.{Reply}
+use Rattle.mesa_history.specs.mesa_model.declared.replies.Reply.TheVariants as reply
+use Rattle.mesa_history.specs.mesa_model.Warehouse.{Table, Store, Pin, Warehouse, max_pins, max_tables, max_versions, no_table, table_at}
+use Rattle.mesa_history.specs.mesa_model.Refusals.{refuse_closed, no_such_table, query_refusal, batch_refusal, schema_refusal, change_refusal}
+use Rattle.mesa_history.specs.mesa_model.Relations.{Relation, relation_from, relation_of, relation_columns, is_taken, table_number}
+use Rattle.mesa_history.specs.mesa_model.Versions.{version_asked, version_checked, store_from, expire_to}
+use Rattle.mesa_history.specs.mesa_model.Pins.{is_pin, pin_of, next_token, store_at, make_pin, release_pin}
+use Rattle.mesa_history.specs.mesa_model.Load.{tables_named, bound_checked, bounds_checked, table_loaded, tables_loaded, load_batch}
+use Rattle.mesa_history.specs.mesa_model.Tables.{columns_asked, names_are_good, new_table, make_table, view_of_table_checked, make_view, change_asked, changed_name, table_changed, alter_table}
+use Rattle.mesa_history.specs.mesa_model.Query.{Answer, store_asked, version_seen, query_answer}
+use Rattle.mesa_history.specs.mesa_model.Step.{done_or_refused, reply_to_query, step}
 use Rattle.mesa_history.specs.Machine.{Machine, claim_of, explained}
 use Rattle.mesa_skeleton.specs.Bare.{bare, bare_table, bare_store, bare_pin, bare_done, bare_reply, bare_answer, bare_result}
 use Rattle.mesa_skeleton.proofs.Lists.{same_check, same_value, same_bare, some_bare, is_some_same, maps_same, length_same, at_same, set_same, append_same, find_same, filter_same}

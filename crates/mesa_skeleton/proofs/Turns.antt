@@ -1,19 +1,19 @@
 -- A turn does the same to a run without rows: it tells the same but for a page's rows, leaves the session at the same stage, and the same skeleton.
 use Rattle.std.proofs.Common.{◌≡◌, ℕ, Bool, true, false, refl, sym, ◌∙◌, ap, Option, Some, None, Result, Ok, Err}
-use Rattle.mesa_model.specs.declared.commands.Command.{Command}
-use Rattle.mesa_model.specs.declared.commands.Command.TheVariants as command
-use Rattle.mesa_model.specs.declared.commands.Script.{Script}
-use Rattle.mesa_model.specs.declared.entries.Entry.{Entry}
-use Rattle.mesa_model.specs.declared.entries.Kind.{Kind}
-use Rattle.mesa_model.specs.declared.entries.Kind.TheVariants as kind
-use Rattle.mesa_model.specs.declared.entries.Outcome.{Outcome}
-use Rattle.mesa_model.specs.declared.entries.Outcome.TheVariants as outcome
-use Rattle.mesa_model.specs.declared.replies.Refusal.{Refusal}
-use Rattle.mesa_model.specs.declared.replies.Refusal.TheVariants as no
-use Rattle.mesa_model.specs.declared.replies.Reply.{Reply}
-use Rattle.mesa_model.specs.declared.replies.Reply.TheVariants as reply
-use Rattle.mesa_model.specs.Warehouse.{Warehouse}
-use Rattle.mesa_model.specs.Query.{Answer, query_answer}
+use Rattle.mesa_history.specs.mesa_model.declared.commands.Command.{Command}
+use Rattle.mesa_history.specs.mesa_model.declared.commands.Command.TheVariants as command
+use Rattle.mesa_history.specs.mesa_model.declared.commands.Script.{Script}
+use Rattle.mesa_history.specs.mesa_model.declared.entries.Entry.{Entry}
+use Rattle.mesa_history.specs.mesa_model.declared.entries.Kind.{Kind}
+use Rattle.mesa_history.specs.mesa_model.declared.entries.Kind.TheVariants as kind
+use Rattle.mesa_history.specs.mesa_model.declared.entries.Outcome.{Outcome}
+use Rattle.mesa_history.specs.mesa_model.declared.entries.Outcome.TheVariants as outcome
+use Rattle.mesa_history.specs.mesa_model.declared.replies.Refusal.{Refusal}
+use Rattle.mesa_history.specs.mesa_model.declared.replies.Refusal.TheVariants as no
+use Rattle.mesa_history.specs.mesa_model.declared.replies.Reply.{Reply}
+use Rattle.mesa_history.specs.mesa_model.declared.replies.Reply.TheVariants as reply
+use Rattle.mesa_history.specs.mesa_model.Warehouse.{Warehouse}
+use Rattle.mesa_history.specs.mesa_model.Query.{Answer, query_answer}
 use Rattle.mesa_history.specs.Machine.{Machine, Claim, claim_of, claim_checked, explained}
 use Rattle.mesa_history.specs.Run.{State, Stage, First, Looked, Answered, Granted, Renewed, Finished, CutOff, Run, place_of, command_of}
 use Rattle.mesa_history.specs.Replay.{turned, turn_as, turn_of, standing, decide, decided, decided_query, decided_explain, grants, renews, renew, completes, close, prints, leaves, refused_turn, closed_if, closes, machine_after, no_rows, some_damage, work_name}

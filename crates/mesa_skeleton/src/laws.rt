@@ -1,18 +1,18 @@
 // Laws of skeletons.
 ghost use Rattle.std.specs.Prelude.{◌≡◌, ℕ, List, Bool};
-ghost use Rattle.mesa_filter.specs.declared.words.QueryWords.{QueryWords};
+ghost use Rattle.mesa_history.specs.mesa_filter.declared.words.QueryWords.{QueryWords};
 ghost use Rattle.mesa_history.specs.Legal.{IsLegal};
 ghost use Rattle.mesa_history.specs.Machine.{Machine, claim_of, explained};
 ghost use Rattle.mesa_history.specs.Refused.{some_refused};
 ghost use Rattle.mesa_history.specs.Replay.{runs, turned};
 ghost use Rattle.mesa_history.specs.Run.{Run, State, begins};
-ghost use Rattle.mesa_model.specs.Query.{query_answer};
-ghost use Rattle.mesa_model.specs.Step.{step};
-ghost use Rattle.mesa_model.specs.Warehouse.{Warehouse};
-ghost use Rattle.mesa_model.specs.declared.commands.Command.{Command};
-ghost use Rattle.mesa_model.specs.declared.commands.ExplainWords.{ExplainWords};
-ghost use Rattle.mesa_model.specs.declared.commands.Script.{Script};
-ghost use Rattle.mesa_model.specs.declared.entries.Entry.{Entry};
+ghost use Rattle.mesa_history.specs.mesa_model.Query.{query_answer};
+ghost use Rattle.mesa_history.specs.mesa_model.Step.{step};
+ghost use Rattle.mesa_history.specs.mesa_model.Warehouse.{Warehouse};
+ghost use Rattle.mesa_history.specs.mesa_model.declared.commands.Command.{Command};
+ghost use Rattle.mesa_history.specs.mesa_model.declared.commands.ExplainWords.{ExplainWords};
+ghost use Rattle.mesa_history.specs.mesa_model.declared.commands.Script.{Script};
+ghost use Rattle.mesa_history.specs.mesa_model.declared.entries.Entry.{Entry};
 ghost use Rattle.mesa_skeleton.specs.Bare.{bare, bare_answer, bare_done, bare_result, bare_run, bare_state, bare_turned};
 
 /// A command does the same to a warehouse and to its skeleton: it is refused alike, and else has the

@@ -9,7 +9,7 @@ use Rattle.mesa_disk.specs.Story.{Story}
 use Rattle.mesa_disk.specs.declared.area.Area.TheVariants.{Zero}
 use Rattle.mesa_commit.specs.Images.{ids_of, Shows, Stands}
 use Rattle.mesa_commit.specs.Turn.{AreApart, Brings, OldOrNew}
-use Rattle.mesa_record.specs.declared.record.Record.{Record}
+use Rattle.mesa_image.specs.mesa_record.declared.record.Record.{Record}
 use Rattle.mesa_image.specs.Catalog.{Catalog, applied}
 use Rattle.mesa_image.specs.Fitting.{Shelved, fits, kind_fits, catalog, shelved, brought, shelved_id, are_new_ids, has_number, run_of_id}
 use Rattle.mesa_image.specs.Contents.{Rows, kept_of}

@@ -7,7 +7,7 @@ use Rattle.mesa_disk.specs.Story.{Story}
 use Rattle.mesa_journal.specs.Journal.{IsJournal}
 use Rattle.mesa_commit.specs.Images.{Has}
 use Rattle.mesa_commit.specs.Turn.{told_files}
-use Rattle.mesa_record.specs.declared.record.Record.{Record}
+use Rattle.mesa_image.specs.mesa_record.declared.record.Record.{Record}
 use Rattle.mesa_image.specs.Catalog.{Catalog, applied}
 use Rattle.mesa_image.specs.Fitting.{brought, catalog, shelved}
 use Rattle.mesa_image.specs.Contents.{Rows, kept_of}

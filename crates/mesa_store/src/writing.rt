@@ -7,7 +7,7 @@ ghost use Rattle.mesa_disk.specs.Story.{Spans, Steps};
 ghost use Rattle.mesa_disk.specs.declared.area.Area.{Area};
 ghost use Rattle.mesa_disk.specs.declared.area.Area.TheVariants.{Zero};
 ghost use Rattle.mesa_commit.specs.Turn.{AreApart, MovesOnly, made_ids};
-ghost use Rattle.mesa_record.specs.declared.record.Record.{Record};
+ghost use Rattle.mesa_image.specs.mesa_record.declared.record.Record.{Record};
 ghost use Rattle.mesa_image.specs.Catalog.{Catalog, applied};
 ghost use Rattle.mesa_image.specs.Contents.{Rows, kept_of};
 ghost use Rattle.mesa_image.specs.Held.{IsHeld, StandsForEither};

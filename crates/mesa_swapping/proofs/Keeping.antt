@@ -24,7 +24,7 @@ use Rattle.mesa_delta.specs.File.{IsFile}
 use Rattle.mesa_delta.specs.Spread.{spread}
 use Rattle.mesa_delta.specs.Summary.{IsReferenceOf, last_key}
 use Rattle.mesa_delta.specs.Tail.{first_key}
-use Rattle.mesa_image_laws.proofs.Lists.{is_equal}
+use Rattle.mesa_metadata.proofs.mesa_image_laws.Lists.{is_equal}
 use Rattle.mesa_publishing.proofs.Parts.{true_counts}
 
 pub all_true : {a b : Bool} → a ≡ true → b ≡ true → (a && b) ≡ true

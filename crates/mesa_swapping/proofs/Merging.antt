@@ -19,11 +19,11 @@ use Rattle.mesa_delta.specs.File.{file_bytes}
 use Rattle.mesa_record.specs.Rules.{are_files_if_any, is_file_ref, rise_from}
 use Rattle.mesa_record.specs.declared.record.ViewRef.{ViewRef}
 use Rattle.mesa_commit.specs.Turn.{told_files}
-use Rattle.mesa_image.specs.Catalog.{Delta, merged_delta}
-use Rattle.mesa_image.specs.Contents.{Rows, present, rows_in}
-use Rattle.mesa_image.specs.Fitting.{columns_seen, counts_columns, counts_view, files_fit_if_any, files_shelved, is_view_ref, shelved_id, view_shelved}
-use Rattle.mesa_image.specs.Sound.{AreGrouped, IsGrouped, IsGroupedAs, IsTold, wants}
-use Rattle.mesa_image_laws.proofs.Lists.{both_true}
+use Rattle.mesa_metadata.specs.mesa_image.Catalog.{Delta, merged_delta}
+use Rattle.mesa_metadata.specs.mesa_image.Contents.{Rows, present, rows_in}
+use Rattle.mesa_metadata.specs.mesa_image.Fitting.{columns_seen, counts_columns, counts_view, files_fit_if_any, files_shelved, is_view_ref, shelved_id, view_shelved}
+use Rattle.mesa_metadata.specs.mesa_image.Sound.{AreGrouped, IsGrouped, IsGroupedAs, IsTold, wants}
+use Rattle.mesa_metadata.proofs.mesa_image_laws.Lists.{both_true}
 use Rattle.mesa_tasks.specs.Made.{IsMadeFile}
 use Rattle.mesa_tasks.specs.Tasks.{AreMergedViews, AreTaskViews, HaveMerged}
 use Rattle.mesa_tasks.specs.declared.made.MadeFile.{MadeFile}

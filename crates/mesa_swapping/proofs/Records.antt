@@ -12,20 +12,20 @@ use Rattle.mesa_trash.specs.Holding.{Among}
 use Rattle.mesa_record.specs.Rules.{keeps_rules}
 use Rattle.mesa_record.specs.declared.record.Files.{Files}
 use Rattle.mesa_record.specs.declared.record.Record.{Record}
-use Rattle.mesa_history.specs.Sources.{Source, range_rows}
-use Rattle.mesa_image.specs.Catalog.{Catalog}
-use Rattle.mesa_image.specs.Contents.{Rows}
-use Rattle.mesa_image.specs.Fitting.{are_new_ids, brings_new_files, brought, files_fit_if_any, fits, may_be_work}
-use Rattle.mesa_image.specs.Shape.{IsCatalog, IsShaped}
-use Rattle.mesa_image.specs.Sound.{wants}
-use Rattle.mesa_image_laws.specs.Brought.{AreTold}
-use Rattle.mesa_image_laws.specs.Ids.{brought_ids, named}
-use Rattle.mesa_image_laws.specs.Moves.{first_of, is_base, last_of}
-use Rattle.mesa_image_laws.specs.Sourced.{Written}
-use Rattle.mesa_image_laws.proofs.Lists.{stock_found}
+use Rattle.mesa_tasks.specs.mesa_history.Sources.{Source, range_rows}
+use Rattle.mesa_metadata.specs.mesa_image.Catalog.{Catalog}
+use Rattle.mesa_metadata.specs.mesa_image.Contents.{Rows}
+use Rattle.mesa_metadata.specs.mesa_image.Fitting.{are_new_ids, brings_new_files, brought, files_fit_if_any, fits, may_be_work}
+use Rattle.mesa_metadata.specs.mesa_image.Shape.{IsCatalog, IsShaped}
+use Rattle.mesa_metadata.specs.mesa_image.Sound.{wants}
+use Rattle.mesa_metadata.specs.mesa_image_laws.Brought.{AreTold}
+use Rattle.mesa_metadata.specs.mesa_image_laws.Ids.{brought_ids, named}
+use Rattle.mesa_metadata.specs.mesa_image_laws.Moves.{first_of, is_base, last_of}
+use Rattle.mesa_metadata.specs.mesa_image_laws.Sourced.{Written}
+use Rattle.mesa_metadata.proofs.mesa_image_laws.Lists.{stock_found}
 use Rattle.mesa_tasks.specs.declared.merging.NewDelta.{NewDelta}
 use Rattle.mesa_tasks.specs.declared.merging.Task.{Task}
-use Rattle.mesa_ledger.specs.Ledger.{Ledger, first_id, most_files, next_id}
+use Rattle.mesa_metadata.specs.mesa_ledger.Ledger.{Ledger, first_id, most_files, next_id}
 use Rattle.mesa_publishing.specs.Adopted.{files_if_any, told_under}
 use Rattle.mesa_publishing.specs.Published.{rows_with}
 use Rattle.mesa_publishing.proofs.Ids.{new_ids, rows_stand, rows_stay, under_distinct, under_given, under_ids}

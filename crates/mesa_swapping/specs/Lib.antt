@@ -1,3 +1,4 @@
+pub use Rattle.mesa_publishing.specs as mesa_publishing
 pub mod Grown
 pub mod Finished
 pub mod Swapped

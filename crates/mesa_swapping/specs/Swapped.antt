@@ -8,18 +8,18 @@ use Rattle.mesa_record.specs.Rules.{keeps_rules}
 use Rattle.mesa_record.specs.declared.record.Files.{Files}
 use Rattle.mesa_record.specs.declared.record.Record.{Record}
 use Rattle.mesa_record.specs.declared.record.Record.TheVariants as record_of
-use Rattle.mesa_image.specs.Catalog.{Delta, Stock, merged_delta, stock_at}
-use Rattle.mesa_image.specs.Contents.{Rows}
-use Rattle.mesa_image.specs.Fitting.{brought, fits}
-use Rattle.mesa_image.specs.Sound.{AreGrouped, wants}
-use Rattle.mesa_image_laws.specs.Brought.{AreTold}
-use Rattle.mesa_image_laws.specs.Ids.{brought_ids}
-use Rattle.mesa_image_laws.specs.Moves.{first_of, is_base, last_of}
-use Rattle.mesa_image_laws.specs.Sourced.{IsMergedOf, Written}
+use Rattle.mesa_metadata.specs.mesa_image.Catalog.{Delta, Stock, merged_delta, stock_at}
+use Rattle.mesa_metadata.specs.mesa_image.Contents.{Rows}
+use Rattle.mesa_metadata.specs.mesa_image.Fitting.{brought, fits}
+use Rattle.mesa_metadata.specs.mesa_image.Sound.{AreGrouped, wants}
+use Rattle.mesa_metadata.specs.mesa_image_laws.Brought.{AreTold}
+use Rattle.mesa_metadata.specs.mesa_image_laws.Ids.{brought_ids}
+use Rattle.mesa_metadata.specs.mesa_image_laws.Moves.{first_of, is_base, last_of}
+use Rattle.mesa_metadata.specs.mesa_image_laws.Sourced.{IsMergedOf, Written}
 use Rattle.mesa_tasks.specs.declared.made.MadeFiles.{MadeFiles}
 use Rattle.mesa_tasks.specs.declared.merging.Task.{Task}
-use Rattle.mesa_ledger.specs.Ledger.{Ledger, next_id}
-use Rattle.mesa_ledger.specs.Recorded.{Adopts}
+use Rattle.mesa_metadata.specs.mesa_ledger.Ledger.{Ledger, next_id}
+use Rattle.mesa_metadata.specs.mesa_ledger.Recorded.{Adopts}
 use Rattle.mesa_publishing.specs.Adopted.{files_under}
 use Rattle.mesa_publishing.specs.Published.{AllTell, rows_with}
 use Rattle.mesa_swapping.specs.declared.swapping.Swapped.{Swapped}

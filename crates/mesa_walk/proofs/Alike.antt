@@ -1,11 +1,11 @@
 -- What is due hangs on a start's skeleton alone, where no answer is open.
 use Rattle.std.proofs.Common.{◌≡◌, ℕ, List, Bool, false, not, ◌&&◌, ◌==◌, IsTrue, refl, sym, ◌∙◌, ap, subst}
-use Rattle.mesa_model.specs.declared.commands.Command.{Command}
-use Rattle.mesa_model.specs.declared.commands.Script.{Script}
-use Rattle.mesa_model.specs.declared.entries.Entry.{Entry}
-use Rattle.mesa_history.specs.Run.{State, Stage, First, Looked, Answered, Granted, Renewed, Finished, CutOff, Place, Run, place_of, begins}
-use Rattle.mesa_history.specs.Legal.{is_answered}
-use Rattle.mesa_history.specs.Turns.{IsDue}
+use Rattle.mesa_skeleton.specs.mesa_model.declared.commands.Command.{Command}
+use Rattle.mesa_skeleton.specs.mesa_model.declared.commands.Script.{Script}
+use Rattle.mesa_skeleton.specs.mesa_model.declared.entries.Entry.{Entry}
+use Rattle.mesa_skeleton.specs.mesa_history.Run.{State, Stage, First, Looked, Answered, Granted, Renewed, Finished, CutOff, Place, Run, place_of, begins}
+use Rattle.mesa_skeleton.specs.mesa_history.Legal.{is_answered}
+use Rattle.mesa_skeleton.specs.mesa_history.Turns.{IsDue}
 use Rattle.mesa_skeleton.specs.Bare.{bare_state, bare_stage, bare_place, bare_run}
 use Rattle.mesa_skeleton.proofs.Alike.{runs_alike}
 use Rattle.mesa_walk.specs.Turns.{Asks}

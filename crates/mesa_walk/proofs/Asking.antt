@@ -3,25 +3,25 @@ use Rattle.std.proofs.Common.{◌≡◌, ℕ, ◌<◌, ◌^◌, List, [], ◌∷
 use Rattle.std.specs.Prelude.{is_none, is_some}
 use Rattle.mesa_fault.specs.Causes.{last}
 use Rattle.mesa_disk.specs.Story.{Story, Unmoved}
-use Rattle.mesa_filter.specs.declared.words.QueryWords.{QueryWords}
-use Rattle.mesa_model.specs.declared.commands.Command.{Command}
-use Rattle.mesa_model.specs.declared.commands.Command.TheVariants as command
-use Rattle.mesa_model.specs.declared.entries.Entry.{Entry}
-use Rattle.mesa_model.specs.declared.entries.Kind.TheVariants as kind
-use Rattle.mesa_model.specs.declared.entries.Outcome.{Outcome}
-use Rattle.mesa_model.specs.declared.entries.Outcome.TheVariants as outcome
-use Rattle.mesa_model.specs.declared.replies.Refusal.TheVariants as no
-use Rattle.mesa_model.specs.declared.replies.Reply.TheVariants as reply
-use Rattle.mesa_model.specs.Entry.{IsShort}
-use Rattle.mesa_model.specs.Query.{Answer, query_answer}
-use Rattle.mesa_model.specs.Warehouse.{Warehouse}
-use Rattle.mesa_history.specs.Run.{First, Answered, Finished, Stage, Told, Run, begins}
-use Rattle.mesa_history.specs.Replay.{Turned, decided_query, leaves, prints, turn_of, some_damage}
-use Rattle.mesa_history.specs.Legal.{is_written}
-use Rattle.mesa_history.specs.Refused.{is_refusal}
-use Rattle.mesa_history.specs.Turns.{IsDue}
-use Rattle.mesa_history.proofs.More.{runs_more}
-use Rattle.mesa_history.proofs.Turns.{turned_at, goes_to, prologue_after}
+use Rattle.mesa_skeleton.specs.mesa_filter.declared.words.QueryWords.{QueryWords}
+use Rattle.mesa_skeleton.specs.mesa_model.declared.commands.Command.{Command}
+use Rattle.mesa_skeleton.specs.mesa_model.declared.commands.Command.TheVariants as command
+use Rattle.mesa_skeleton.specs.mesa_model.declared.entries.Entry.{Entry}
+use Rattle.mesa_skeleton.specs.mesa_model.declared.entries.Kind.TheVariants as kind
+use Rattle.mesa_skeleton.specs.mesa_model.declared.entries.Outcome.{Outcome}
+use Rattle.mesa_skeleton.specs.mesa_model.declared.entries.Outcome.TheVariants as outcome
+use Rattle.mesa_skeleton.specs.mesa_model.declared.replies.Refusal.TheVariants as no
+use Rattle.mesa_skeleton.specs.mesa_model.declared.replies.Reply.TheVariants as reply
+use Rattle.mesa_skeleton.specs.mesa_model.Entry.{IsShort}
+use Rattle.mesa_skeleton.specs.mesa_model.Query.{Answer, query_answer}
+use Rattle.mesa_skeleton.specs.mesa_model.Warehouse.{Warehouse}
+use Rattle.mesa_skeleton.specs.mesa_history.Run.{First, Answered, Finished, Stage, Told, Run, begins}
+use Rattle.mesa_skeleton.specs.mesa_history.Replay.{Turned, decided_query, leaves, prints, turn_of, some_damage}
+use Rattle.mesa_skeleton.specs.mesa_history.Legal.{is_written}
+use Rattle.mesa_skeleton.specs.mesa_history.Refused.{is_refusal}
+use Rattle.mesa_skeleton.specs.mesa_history.Turns.{IsDue}
+use Rattle.mesa_skeleton.proofs.mesa_history.More.{runs_more}
+use Rattle.mesa_skeleton.proofs.mesa_history.Turns.{turned_at, goes_to, prologue_after}
 use Rattle.mesa_output.specs.Output.{block}
 use Rattle.mesa_skeleton.specs.Bare.{bare_answer, bare_result}
 use Rattle.mesa_skeleton.proofs.Steps.{query-bare}

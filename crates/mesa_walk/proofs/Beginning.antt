@@ -4,11 +4,11 @@ use Rattle.std.specs.Io.KnownBytes.{Appends}
 use Rattle.std.proofs.KnownBytes.{Appends-nil}
 use Rattle.mesa_fault.specs.Causes.{last}
 use Rattle.mesa_disk.specs.Story.{Story, Unmoved}
-use Rattle.mesa_model.specs.declared.entries.Entry.{Entry}
-use Rattle.mesa_history.specs.Replay.{runs}
-use Rattle.mesa_history.specs.Legal.{AllFit}
-use Rattle.mesa_history.specs.Counting.{count_in}
-use Rattle.mesa_history.specs.Refused.{some_refused}
+use Rattle.mesa_skeleton.specs.mesa_model.declared.entries.Entry.{Entry}
+use Rattle.mesa_skeleton.specs.mesa_history.Replay.{runs}
+use Rattle.mesa_skeleton.specs.mesa_history.Legal.{AllFit}
+use Rattle.mesa_skeleton.specs.mesa_history.Counting.{count_in}
+use Rattle.mesa_skeleton.specs.mesa_history.Refused.{some_refused}
 use Rattle.mesa_output.specs.Output.{IsOutput}
 use Rattle.mesa_walk.specs.Books.{Books, AreBooksOf}
 use Rattle.mesa_walk.specs.Walk.{Outset, run_of, AllBy, IsAtClock, AllFound, IsWalk, Counts}

@@ -2,35 +2,35 @@
 use Rattle.std.proofs.Common.{◌≡◌, ℕ, ◌<◌, ◌≤◌, ◌^◌, List, length, Bool, true, false, not, ◌||◌, ◌&&◌, IsTrue, refl, sym, ◌∙◌, ap, subst, arith, Option, Some, Ok, Err}
 use Rattle.mesa_fault.specs.Causes.{Rose, last}
 use Rattle.mesa_disk.specs.Story.{Story, Spans}
-use Rattle.mesa_batch.specs.declared.words.RowWords.{RowWords}
-use Rattle.mesa_filter.specs.declared.words.VersionWord.{VersionWord}
-use Rattle.mesa_model.specs.declared.commands.AlterWords.{AlterWords}
-use Rattle.mesa_model.specs.declared.commands.Command.{Command}
-use Rattle.mesa_model.specs.declared.commands.Command.TheVariants as command
-use Rattle.mesa_model.specs.declared.commands.TableWords.{TableWords}
-use Rattle.mesa_model.specs.declared.commands.ViewWords.{ViewWords}
-use Rattle.mesa_model.specs.declared.entries.Entry.{Entry}
-use Rattle.mesa_model.specs.declared.entries.Kind.TheVariants as kind
-use Rattle.mesa_model.specs.declared.entries.Outcome.{Outcome}
-use Rattle.mesa_model.specs.declared.entries.Outcome.TheVariants as outcome
-use Rattle.mesa_model.specs.declared.replies.Refusal.{Refusal}
-use Rattle.mesa_model.specs.declared.replies.Refusal.TheVariants as no
-use Rattle.mesa_model.specs.declared.replies.Reply.{Reply}
-use Rattle.mesa_model.specs.Entry.{IsShort}
-use Rattle.mesa_model.specs.Load.{load_batch}
-use Rattle.mesa_model.specs.Pins.{make_pin, release_pin}
-use Rattle.mesa_model.specs.Step.{done_or_refused}
-use Rattle.mesa_model.specs.Tables.{make_table, make_view, alter_table}
-use Rattle.mesa_model.specs.Versions.{expire_to}
-use Rattle.mesa_model.specs.Warehouse.{Store, Warehouse}
-use Rattle.mesa_history.specs.Run.{State, Stage, First, Looked, Run}
-use Rattle.mesa_history.specs.Replay.{Turned, decide, decided, stepped, prints, refuses, closed_if, closes, stood, turned}
-use Rattle.mesa_history.specs.Legal.{is_due_at, is_release, is_work, is_writing, is_written, builds_files, outcome_fits, wrote}
-use Rattle.mesa_history.specs.Found.{Kept, kept_of}
-use Rattle.mesa_history.specs.Refused.{is_refusal}
-use Rattle.mesa_history.specs.Turns.{IsDue}
-use Rattle.mesa_history.proofs.More.{kept_after}
-use Rattle.mesa_history.proofs.Turns.{renewal_at, turned_at}
+use Rattle.mesa_skeleton.specs.mesa_batch.declared.words.RowWords.{RowWords}
+use Rattle.mesa_skeleton.specs.mesa_filter.declared.words.VersionWord.{VersionWord}
+use Rattle.mesa_skeleton.specs.mesa_model.declared.commands.AlterWords.{AlterWords}
+use Rattle.mesa_skeleton.specs.mesa_model.declared.commands.Command.{Command}
+use Rattle.mesa_skeleton.specs.mesa_model.declared.commands.Command.TheVariants as command
+use Rattle.mesa_skeleton.specs.mesa_model.declared.commands.TableWords.{TableWords}
+use Rattle.mesa_skeleton.specs.mesa_model.declared.commands.ViewWords.{ViewWords}
+use Rattle.mesa_skeleton.specs.mesa_model.declared.entries.Entry.{Entry}
+use Rattle.mesa_skeleton.specs.mesa_model.declared.entries.Kind.TheVariants as kind
+use Rattle.mesa_skeleton.specs.mesa_model.declared.entries.Outcome.{Outcome}
+use Rattle.mesa_skeleton.specs.mesa_model.declared.entries.Outcome.TheVariants as outcome
+use Rattle.mesa_skeleton.specs.mesa_model.declared.replies.Refusal.{Refusal}
+use Rattle.mesa_skeleton.specs.mesa_model.declared.replies.Refusal.TheVariants as no
+use Rattle.mesa_skeleton.specs.mesa_model.declared.replies.Reply.{Reply}
+use Rattle.mesa_skeleton.specs.mesa_model.Entry.{IsShort}
+use Rattle.mesa_skeleton.specs.mesa_model.Load.{load_batch}
+use Rattle.mesa_skeleton.specs.mesa_model.Pins.{make_pin, release_pin}
+use Rattle.mesa_skeleton.specs.mesa_model.Step.{done_or_refused}
+use Rattle.mesa_skeleton.specs.mesa_model.Tables.{make_table, make_view, alter_table}
+use Rattle.mesa_skeleton.specs.mesa_model.Versions.{expire_to}
+use Rattle.mesa_skeleton.specs.mesa_model.Warehouse.{Store, Warehouse}
+use Rattle.mesa_skeleton.specs.mesa_history.Run.{State, Stage, First, Looked, Run}
+use Rattle.mesa_skeleton.specs.mesa_history.Replay.{Turned, decide, decided, stepped, prints, refuses, closed_if, closes, stood, turned}
+use Rattle.mesa_skeleton.specs.mesa_history.Legal.{is_due_at, is_release, is_work, is_writing, is_written, builds_files, outcome_fits, wrote}
+use Rattle.mesa_skeleton.specs.mesa_history.Found.{Kept, kept_of}
+use Rattle.mesa_skeleton.specs.mesa_history.Refused.{is_refusal}
+use Rattle.mesa_skeleton.specs.mesa_history.Turns.{IsDue}
+use Rattle.mesa_skeleton.proofs.mesa_history.More.{kept_after}
+use Rattle.mesa_skeleton.proofs.mesa_history.Turns.{renewal_at, turned_at}
 use Rattle.mesa_output.specs.Output.{block}
 use Rattle.mesa_skeleton.specs.Bare.{bare_done, bare_result}
 use Rattle.mesa_skeleton.proofs.Steps.{expire-bare, load-bare, table-bare, view-bare, alter-bare, pin-bare, release-bare}

@@ -3,16 +3,16 @@ use Rattle.std.proofs.Common.{◌≡◌, ⊎_elim, ℕ, ◌+◌, ◌-◌, ◌^�
 use Rattle.std.specs.Prelude.{min, nat_le, is_some, if◌then◌else◌}
 use Rattle.std.proofs.lemmas.Bool.Decides.{leb_tells}
 use Rattle.mesa_fault.specs.Causes.{Rose, last}
-use Rattle.mesa_model.specs.declared.commands.Command.{Command}
-use Rattle.mesa_model.specs.declared.commands.Script.{Script}
-use Rattle.mesa_model.specs.declared.entries.Entry.{Entry}
-use Rattle.mesa_model.specs.declared.entries.Outcome.{Outcome}
-use Rattle.mesa_model.specs.declared.entries.Outcome.TheVariants as outcome
-use Rattle.mesa_history.specs.Run.{State, Stage, First, Place, Told, place_of, begins}
-use Rattle.mesa_history.specs.Replay.{closes, is_later, is_later_than, last_moment_of, runs}
-use Rattle.mesa_history.specs.Legal.{fits_moment, wrote, is_same_moment}
-use Rattle.mesa_history.specs.Turns.{IsDue}
-use Rattle.mesa_history.proofs.More.{last_moment_is}
+use Rattle.mesa_skeleton.specs.mesa_model.declared.commands.Command.{Command}
+use Rattle.mesa_skeleton.specs.mesa_model.declared.commands.Script.{Script}
+use Rattle.mesa_skeleton.specs.mesa_model.declared.entries.Entry.{Entry}
+use Rattle.mesa_skeleton.specs.mesa_model.declared.entries.Outcome.{Outcome}
+use Rattle.mesa_skeleton.specs.mesa_model.declared.entries.Outcome.TheVariants as outcome
+use Rattle.mesa_skeleton.specs.mesa_history.Run.{State, Stage, First, Place, Told, place_of, begins}
+use Rattle.mesa_skeleton.specs.mesa_history.Replay.{closes, is_later, is_later_than, last_moment_of, runs}
+use Rattle.mesa_skeleton.specs.mesa_history.Legal.{fits_moment, wrote, is_same_moment}
+use Rattle.mesa_skeleton.specs.mesa_history.Turns.{IsDue}
+use Rattle.mesa_skeleton.proofs.mesa_history.More.{last_moment_is}
 use Rattle.mesa_walk.specs.Walk.{IsAtClock, run_at}
 
 le_is : (a b : ℕ) → a ≤ b → nat_le a b ≡ true

@@ -1,16 +1,16 @@
 -- Turns that may come, by their outcome.
 use Rattle.std.proofs.Common.{◌≡◌, ℕ, Bool, true, false, not, IsTrue, refl, sym, subst, Option, None, ◌||◌, ◌&&◌}
 use Rattle.std.specs.Prelude.{is_none}
-use Rattle.mesa_model.specs.declared.commands.Command.{Command}
-use Rattle.mesa_model.specs.declared.entries.Kind.{Kind}
-use Rattle.mesa_model.specs.declared.entries.Kind.TheVariants as kind
-use Rattle.mesa_model.specs.declared.entries.Outcome.{Outcome}
-use Rattle.mesa_model.specs.declared.entries.Outcome.TheVariants as outcome
-use Rattle.mesa_history.specs.Run.{Stage, Run}
-use Rattle.mesa_history.specs.Replay.{closes}
-use Rattle.mesa_history.specs.Legal.{is_due_at, is_unrenewed, same_kind, is_stands, is_answered, outcome_fits, wrote, is_same_moment, builds_files}
-use Rattle.mesa_history.specs.Turns.{would_print}
-use Rattle.mesa_history.proofs.Turns.{MayCome, renewal_at}
+use Rattle.mesa_skeleton.specs.mesa_model.declared.commands.Command.{Command}
+use Rattle.mesa_skeleton.specs.mesa_model.declared.entries.Kind.{Kind}
+use Rattle.mesa_skeleton.specs.mesa_model.declared.entries.Kind.TheVariants as kind
+use Rattle.mesa_skeleton.specs.mesa_model.declared.entries.Outcome.{Outcome}
+use Rattle.mesa_skeleton.specs.mesa_model.declared.entries.Outcome.TheVariants as outcome
+use Rattle.mesa_skeleton.specs.mesa_history.Run.{Stage, Run}
+use Rattle.mesa_skeleton.specs.mesa_history.Replay.{closes}
+use Rattle.mesa_skeleton.specs.mesa_history.Legal.{is_due_at, is_unrenewed, same_kind, is_stands, is_answered, outcome_fits, wrote, is_same_moment, builds_files}
+use Rattle.mesa_skeleton.specs.mesa_history.Turns.{would_print}
+use Rattle.mesa_skeleton.proofs.mesa_history.Turns.{MayCome, renewal_at}
 use Rattle.mesa_walk.specs.Turns.{entry}
 
 -- ---- tests

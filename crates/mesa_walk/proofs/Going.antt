@@ -1,21 +1,21 @@
 -- Where a turn takes its session.
 use Rattle.std.proofs.Common.{◌≡◌, ℕ, [], ◌∷◌, ◌++◌, true, false, not, IsTrue, refl, ◌∙◌, ap, Result, Ok, Err}
-use Rattle.mesa_model.specs.declared.commands.Command.{Command}
-use Rattle.mesa_model.specs.declared.commands.Command.TheVariants as command
-use Rattle.mesa_model.specs.declared.commands.Script.{Script}
-use Rattle.mesa_model.specs.declared.entries.Kind.{Kind}
-use Rattle.mesa_model.specs.declared.entries.Kind.TheVariants as kind
-use Rattle.mesa_model.specs.declared.entries.Outcome.{Outcome}
-use Rattle.mesa_model.specs.declared.entries.Outcome.TheVariants as outcome
-use Rattle.mesa_model.specs.declared.replies.Refusal.{Refusal}
-use Rattle.mesa_model.specs.declared.replies.Reply.{Reply}
-use Rattle.mesa_model.specs.Query.{Answer}
-use Rattle.mesa_history.specs.Machine.{Claim, claim_checked, explained}
-use Rattle.mesa_history.specs.Run.{State, Stage, First, Looked, Answered, Granted, Renewed, Finished, Run, begins}
-use Rattle.mesa_history.specs.Replay.{turn_of, decided_explain, completes, is_skip}
-use Rattle.mesa_history.specs.Run.{place_of}
-use Rattle.mesa_history.specs.Turns.{IsDue, place_then}
-use Rattle.mesa_history.proofs.Turns.{turn_goes}
+use Rattle.mesa_skeleton.specs.mesa_model.declared.commands.Command.{Command}
+use Rattle.mesa_skeleton.specs.mesa_model.declared.commands.Command.TheVariants as command
+use Rattle.mesa_skeleton.specs.mesa_model.declared.commands.Script.{Script}
+use Rattle.mesa_skeleton.specs.mesa_model.declared.entries.Kind.{Kind}
+use Rattle.mesa_skeleton.specs.mesa_model.declared.entries.Kind.TheVariants as kind
+use Rattle.mesa_skeleton.specs.mesa_model.declared.entries.Outcome.{Outcome}
+use Rattle.mesa_skeleton.specs.mesa_model.declared.entries.Outcome.TheVariants as outcome
+use Rattle.mesa_skeleton.specs.mesa_model.declared.replies.Refusal.{Refusal}
+use Rattle.mesa_skeleton.specs.mesa_model.declared.replies.Reply.{Reply}
+use Rattle.mesa_skeleton.specs.mesa_model.Query.{Answer}
+use Rattle.mesa_skeleton.specs.mesa_history.Machine.{Claim, claim_checked, explained}
+use Rattle.mesa_skeleton.specs.mesa_history.Run.{State, Stage, First, Looked, Answered, Granted, Renewed, Finished, Run, begins}
+use Rattle.mesa_skeleton.specs.mesa_history.Replay.{turn_of, decided_explain, completes, is_skip}
+use Rattle.mesa_skeleton.specs.mesa_history.Run.{place_of}
+use Rattle.mesa_skeleton.specs.mesa_history.Turns.{IsDue, place_then}
+use Rattle.mesa_skeleton.proofs.mesa_history.Turns.{turn_goes}
 use Rattle.mesa_walk.specs.Turns.{Shown, entry, IsTurn, IsSeen, Takes, is_load, is_simple, Asks}
 use Rattle.mesa_walk.specs.Walk.{run_at}
 

@@ -1,3 +1,4 @@
+pub use Rattle.mesa_skeleton.proofs as mesa_skeleton
 pub mod Printed
 pub mod Clock
 pub mod Steps

@@ -3,23 +3,23 @@ use Rattle.std.proofs.Common.{◌≡◌, ℕ, ◌<◌, ◌^◌, List, [], ◌∷
 use Rattle.std.specs.Prelude.{is_none}
 use Rattle.mesa_list.specs.Checks.{◌>>=◌, ◌>>◌, refuse_if}
 use Rattle.mesa_disk.specs.Story.{Story}
-use Rattle.mesa_filter.specs.declared.words.VersionWord.{VersionWord}
-use Rattle.mesa_model.specs.declared.commands.Command.TheVariants as command
-use Rattle.mesa_model.specs.declared.entries.Entry.{Entry}
-use Rattle.mesa_model.specs.declared.entries.Kind.TheVariants as kind
-use Rattle.mesa_model.specs.declared.entries.Outcome.TheVariants as outcome
-use Rattle.mesa_model.specs.declared.replies.Refusal.{Refusal}
-use Rattle.mesa_model.specs.declared.replies.Refusal.TheVariants as no
-use Rattle.mesa_model.specs.declared.replies.Reply.{Reply}
-use Rattle.mesa_model.specs.declared.replies.Reply.TheVariants as reply
-use Rattle.mesa_model.specs.Warehouse.{Warehouse, max_pins}
-use Rattle.mesa_model.specs.Pins.{make_pin, release_pin, with_pin, next_token, store_at, pin_of}
-use Rattle.mesa_model.specs.Refusals.{refuse_closed}
-use Rattle.mesa_model.specs.Versions.{version_asked}
-use Rattle.mesa_history.specs.Run.{First}
-use Rattle.mesa_history.specs.Replay.{stepped}
-use Rattle.mesa_history.specs.Found.{kept_of}
-use Rattle.mesa_history.specs.Turns.{IsDue}
+use Rattle.mesa_skeleton.specs.mesa_filter.declared.words.VersionWord.{VersionWord}
+use Rattle.mesa_skeleton.specs.mesa_model.declared.commands.Command.TheVariants as command
+use Rattle.mesa_skeleton.specs.mesa_model.declared.entries.Entry.{Entry}
+use Rattle.mesa_skeleton.specs.mesa_model.declared.entries.Kind.TheVariants as kind
+use Rattle.mesa_skeleton.specs.mesa_model.declared.entries.Outcome.TheVariants as outcome
+use Rattle.mesa_skeleton.specs.mesa_model.declared.replies.Refusal.{Refusal}
+use Rattle.mesa_skeleton.specs.mesa_model.declared.replies.Refusal.TheVariants as no
+use Rattle.mesa_skeleton.specs.mesa_model.declared.replies.Reply.{Reply}
+use Rattle.mesa_skeleton.specs.mesa_model.declared.replies.Reply.TheVariants as reply
+use Rattle.mesa_skeleton.specs.mesa_model.Warehouse.{Warehouse, max_pins}
+use Rattle.mesa_skeleton.specs.mesa_model.Pins.{make_pin, release_pin, with_pin, next_token, store_at, pin_of}
+use Rattle.mesa_skeleton.specs.mesa_model.Refusals.{refuse_closed}
+use Rattle.mesa_skeleton.specs.mesa_model.Versions.{version_asked}
+use Rattle.mesa_skeleton.specs.mesa_history.Run.{First}
+use Rattle.mesa_skeleton.specs.mesa_history.Replay.{stepped}
+use Rattle.mesa_skeleton.specs.mesa_history.Found.{kept_of}
+use Rattle.mesa_skeleton.specs.mesa_history.Turns.{IsDue}
 use Rattle.mesa_output.specs.Output.{block}
 use Rattle.mesa_skeleton.specs.Bare.{bare, bare_done, bare_result}
 use Rattle.mesa_skeleton.proofs.Steps.{pin-bare, release-bare}

@@ -3,13 +3,13 @@ use Rattle.std.proofs.Common.{◌≡◌, ◌<◌, ℕ, List, [], ◌∷◌, ◌+
 use Rattle.std.specs.Io.KnownBytes.{Appends}
 use Rattle.std.proofs.KnownBytes.{Appends-trans, Appends-nil}
 use Rattle.mesa_fault.specs.Causes.{last}
-use Rattle.mesa_model.specs.declared.commands.Script.{Script}
-use Rattle.mesa_model.specs.declared.entries.Entry.{Entry}
-use Rattle.mesa_model.specs.declared.entries.Outcome.{Outcome}
-use Rattle.mesa_model.specs.declared.entries.Outcome.TheVariants as outcome
-use Rattle.mesa_history.specs.Run.{Told, Run}
-use Rattle.mesa_history.specs.Replay.{told_by, some_damage, is_skipped, last_of, runs}
-use Rattle.mesa_history.specs.Legal.{fits_sink}
+use Rattle.mesa_skeleton.specs.mesa_model.declared.commands.Script.{Script}
+use Rattle.mesa_skeleton.specs.mesa_model.declared.entries.Entry.{Entry}
+use Rattle.mesa_skeleton.specs.mesa_model.declared.entries.Outcome.{Outcome}
+use Rattle.mesa_skeleton.specs.mesa_model.declared.entries.Outcome.TheVariants as outcome
+use Rattle.mesa_skeleton.specs.mesa_history.Run.{Told, Run}
+use Rattle.mesa_skeleton.specs.mesa_history.Replay.{told_by, some_damage, is_skipped, last_of, runs}
+use Rattle.mesa_skeleton.specs.mesa_history.Legal.{fits_sink}
 use Rattle.mesa_output.specs.Output.{block, IsDamage, IsBlock, IsBlockAs}
 use Rattle.mesa_output.proofs.Printing.{output_more}
 use Rattle.mesa_walk.specs.Causes.{Cause, Replies, Unread, Damaged, Unwritten, NoMemory, outcome_of, reply_of, replayed, CanBeTold, told_at}

@@ -2,20 +2,20 @@
 use Rattle.std.proofs.Common.{◌≡◌, ℕ, ◌<◌, ◌^◌, List, length, Bool, true, false, not, ◌||◌, IsTrue, refl, sym, ◌∙◌, ap, Option, Some, Ok}
 use Rattle.std.specs.Prelude.{is_none}
 use Rattle.mesa_disk.specs.Story.{Story}
-use Rattle.mesa_batch.specs.declared.words.RowWords.{RowWords}
-use Rattle.mesa_model.specs.declared.commands.Command.TheVariants as command
-use Rattle.mesa_model.specs.declared.commands.ExplainWords.{ExplainWords}
-use Rattle.mesa_model.specs.declared.entries.Entry.{Entry}
-use Rattle.mesa_model.specs.declared.entries.Kind.TheVariants as kind
-use Rattle.mesa_model.specs.declared.entries.Outcome.{Outcome}
-use Rattle.mesa_model.specs.declared.entries.Outcome.TheVariants as outcome
-use Rattle.mesa_model.specs.declared.replies.Reply.{Reply}
-use Rattle.mesa_history.specs.Machine.{explained}
-use Rattle.mesa_history.specs.Run.{First, Looked, Run}
-use Rattle.mesa_history.specs.Replay.{decided_explain, prints}
-use Rattle.mesa_history.specs.Legal.{is_written}
-use Rattle.mesa_history.specs.Refused.{is_refusal}
-use Rattle.mesa_history.specs.Turns.{IsDue}
+use Rattle.mesa_skeleton.specs.mesa_batch.declared.words.RowWords.{RowWords}
+use Rattle.mesa_skeleton.specs.mesa_model.declared.commands.Command.TheVariants as command
+use Rattle.mesa_skeleton.specs.mesa_model.declared.commands.ExplainWords.{ExplainWords}
+use Rattle.mesa_skeleton.specs.mesa_model.declared.entries.Entry.{Entry}
+use Rattle.mesa_skeleton.specs.mesa_model.declared.entries.Kind.TheVariants as kind
+use Rattle.mesa_skeleton.specs.mesa_model.declared.entries.Outcome.{Outcome}
+use Rattle.mesa_skeleton.specs.mesa_model.declared.entries.Outcome.TheVariants as outcome
+use Rattle.mesa_skeleton.specs.mesa_model.declared.replies.Reply.{Reply}
+use Rattle.mesa_skeleton.specs.mesa_history.Machine.{explained}
+use Rattle.mesa_skeleton.specs.mesa_history.Run.{First, Looked, Run}
+use Rattle.mesa_skeleton.specs.mesa_history.Replay.{decided_explain, prints}
+use Rattle.mesa_skeleton.specs.mesa_history.Legal.{is_written}
+use Rattle.mesa_skeleton.specs.mesa_history.Refused.{is_refusal}
+use Rattle.mesa_skeleton.specs.mesa_history.Turns.{IsDue}
 use Rattle.mesa_output.specs.Output.{block}
 use Rattle.mesa_skeleton.proofs.Steps.{explain-bare}
 use Rattle.mesa_walk.specs.Books.{Books}

@@ -1,17 +1,17 @@
 -- What books without rows say of a state with them.
 use Rattle.std.proofs.Common.{◌≡◌, List, Bool, true, false, refl, sym, ◌∙◌, ap, Result, Ok, Err}
 use Rattle.std.specs.Prelude.{is_ok}
-use Rattle.mesa_schema.specs.Changes.{columns_of}
-use Rattle.mesa_batch.specs.Batch.{Named, batch_of}
-use Rattle.mesa_model.specs.declared.commands.Command.{Command}
-use Rattle.mesa_model.specs.declared.commands.Command.TheVariants as command
-use Rattle.mesa_model.specs.declared.replies.Refusal.{Refusal}
-use Rattle.mesa_model.specs.declared.replies.Reply.{Reply}
-use Rattle.mesa_model.specs.declared.replies.Reply.TheVariants as reply
-use Rattle.mesa_model.specs.Warehouse.{Table, Store, Warehouse}
-use Rattle.mesa_model.specs.Load.{tables_named}
-use Rattle.mesa_history.specs.Run.{State}
-use Rattle.mesa_history.specs.Legal.{builds_files}
+use Rattle.mesa_skeleton.specs.mesa_schema.Changes.{columns_of}
+use Rattle.mesa_skeleton.specs.mesa_batch.Batch.{Named, batch_of}
+use Rattle.mesa_skeleton.specs.mesa_model.declared.commands.Command.{Command}
+use Rattle.mesa_skeleton.specs.mesa_model.declared.commands.Command.TheVariants as command
+use Rattle.mesa_skeleton.specs.mesa_model.declared.replies.Refusal.{Refusal}
+use Rattle.mesa_skeleton.specs.mesa_model.declared.replies.Reply.{Reply}
+use Rattle.mesa_skeleton.specs.mesa_model.declared.replies.Reply.TheVariants as reply
+use Rattle.mesa_skeleton.specs.mesa_model.Warehouse.{Table, Store, Warehouse}
+use Rattle.mesa_skeleton.specs.mesa_model.Load.{tables_named}
+use Rattle.mesa_skeleton.specs.mesa_history.Run.{State}
+use Rattle.mesa_skeleton.specs.mesa_history.Legal.{builds_files}
 use Rattle.mesa_skeleton.specs.Bare.{bare_table, bare_store, bare_reply, bare_result}
 use Rattle.mesa_skeleton.proofs.Lists.{maps_same}
 use Rattle.mesa_walk.specs.Books.{Books, AreBooksOf}

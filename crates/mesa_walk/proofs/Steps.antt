@@ -4,18 +4,18 @@ use Rattle.std.proofs.lemmas.Bool.Decides.{leb_tells}
 use Rattle.mesa_fault.specs.Causes.{last}
 use Rattle.mesa_disk.specs.Image.{Image}
 use Rattle.mesa_disk.specs.Story.{Story, Elapses, Unmoved, Spans}
-use Rattle.mesa_model.specs.declared.entries.Entry.{Entry}
-use Rattle.mesa_model.specs.Entry.{IsShort}
-use Rattle.mesa_history.specs.Run.{Run, begins}
-use Rattle.mesa_history.specs.Replay.{Turned, turned, told_by, closes, stood, is_skipped, last_of, go}
-use Rattle.mesa_history.specs.Legal.{Fits, fits_sink}
-use Rattle.mesa_history.specs.Found.{Kept, kept_of, kept_in, Found}
-use Rattle.mesa_history.specs.Counting.{one_if, is_disk_fault}
-use Rattle.mesa_history.specs.Refused.{some_refused, tells_refusal}
-use Rattle.mesa_history.proofs.More.{runs_more, fit_more, state_after, moment_after, last_after, kept_after, kept_in_is}
-use Rattle.mesa_history.proofs.Counting.{count_more}
-use Rattle.mesa_history.proofs.Refusing.{refused_more}
-use Rattle.mesa_history.proofs.Finding.{all_more, all_later, still, without, with_it, as_tried, unchanged}
+use Rattle.mesa_skeleton.specs.mesa_model.declared.entries.Entry.{Entry}
+use Rattle.mesa_skeleton.specs.mesa_model.Entry.{IsShort}
+use Rattle.mesa_skeleton.specs.mesa_history.Run.{Run, begins}
+use Rattle.mesa_skeleton.specs.mesa_history.Replay.{Turned, turned, told_by, closes, stood, is_skipped, last_of, go}
+use Rattle.mesa_skeleton.specs.mesa_history.Legal.{Fits, fits_sink}
+use Rattle.mesa_skeleton.specs.mesa_history.Found.{Kept, kept_of, kept_in, Found}
+use Rattle.mesa_skeleton.specs.mesa_history.Counting.{one_if, is_disk_fault}
+use Rattle.mesa_skeleton.specs.mesa_history.Refused.{some_refused, tells_refusal}
+use Rattle.mesa_skeleton.proofs.mesa_history.More.{runs_more, fit_more, state_after, moment_after, last_after, kept_after, kept_in_is}
+use Rattle.mesa_skeleton.proofs.mesa_history.Counting.{count_more}
+use Rattle.mesa_skeleton.proofs.mesa_history.Refusing.{refused_more}
+use Rattle.mesa_skeleton.proofs.mesa_history.Finding.{all_more, all_later, still, without, with_it, as_tried, unchanged}
 use Rattle.mesa_walk.specs.Books.{Books, AreBooksOf}
 use Rattle.mesa_walk.specs.Printing.{Prints}
 use Rattle.mesa_walk.specs.Walk.{Outset, run_of, IsAtClock, AllFound, HasCounted, faults_in, IsWalk, Counts, StandsForEither, AllStand, HasLaws, Passes}

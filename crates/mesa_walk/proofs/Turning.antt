@@ -2,23 +2,23 @@
 use Rattle.std.proofs.Common.{◌≡◌, ℕ, ◌<◌, List, length, Bool, true, false, not, ◌||◌, IsTrue, refl, sym, ◌∙◌, ap, subst, arith, Option, None, Some}
 use Rattle.mesa_fault.specs.Causes.{Rose, last}
 use Rattle.mesa_disk.specs.Story.{Story, Unmoved, Spans}
-use Rattle.mesa_model.specs.declared.commands.Command.{Command}
-use Rattle.mesa_model.specs.declared.entries.Entry.{Entry}
-use Rattle.mesa_model.specs.declared.entries.Kind.{Kind}
-use Rattle.mesa_model.specs.declared.entries.Outcome.TheVariants as outcome
-use Rattle.mesa_model.specs.declared.replies.Reply.{Reply}
-use Rattle.mesa_model.specs.Entry.{IsShort}
-use Rattle.mesa_model.specs.Warehouse.{Warehouse}
-use Rattle.mesa_history.specs.Run.{State, Stage, CutOff, Run, begins}
-use Rattle.mesa_history.specs.Replay.{Turned, turned, turn_of, told_by, leaves, prints, closes, stood, is_skipped, go}
-use Rattle.mesa_history.specs.Legal.{is_due_at, is_written, wrote, fits_sink}
-use Rattle.mesa_history.specs.Found.{Kept, kept_of, kept_in}
-use Rattle.mesa_history.specs.Counting.{is_disk_fault}
-use Rattle.mesa_history.specs.Refused.{is_refusal, tells_refusal}
-use Rattle.mesa_history.specs.Turns.{IsDue}
-use Rattle.mesa_history.proofs.More.{position_is}
-use Rattle.mesa_history.proofs.Refusing.{or-false}
-use Rattle.mesa_history.proofs.Turns.{MayCome, turned_at, fits_at}
+use Rattle.mesa_skeleton.specs.mesa_model.declared.commands.Command.{Command}
+use Rattle.mesa_skeleton.specs.mesa_model.declared.entries.Entry.{Entry}
+use Rattle.mesa_skeleton.specs.mesa_model.declared.entries.Kind.{Kind}
+use Rattle.mesa_skeleton.specs.mesa_model.declared.entries.Outcome.TheVariants as outcome
+use Rattle.mesa_skeleton.specs.mesa_model.declared.replies.Reply.{Reply}
+use Rattle.mesa_skeleton.specs.mesa_model.Entry.{IsShort}
+use Rattle.mesa_skeleton.specs.mesa_model.Warehouse.{Warehouse}
+use Rattle.mesa_skeleton.specs.mesa_history.Run.{State, Stage, CutOff, Run, begins}
+use Rattle.mesa_skeleton.specs.mesa_history.Replay.{Turned, turned, turn_of, told_by, leaves, prints, closes, stood, is_skipped, go}
+use Rattle.mesa_skeleton.specs.mesa_history.Legal.{is_due_at, is_written, wrote, fits_sink}
+use Rattle.mesa_skeleton.specs.mesa_history.Found.{Kept, kept_of, kept_in}
+use Rattle.mesa_skeleton.specs.mesa_history.Counting.{is_disk_fault}
+use Rattle.mesa_skeleton.specs.mesa_history.Refused.{is_refusal, tells_refusal}
+use Rattle.mesa_skeleton.specs.mesa_history.Turns.{IsDue}
+use Rattle.mesa_skeleton.proofs.mesa_history.More.{position_is}
+use Rattle.mesa_skeleton.proofs.mesa_history.Refusing.{or-false}
+use Rattle.mesa_skeleton.proofs.mesa_history.Turns.{MayCome, turned_at, fits_at}
 use Rattle.mesa_output.specs.Output.{block}
 use Rattle.mesa_walk.specs.Books.{Books, AreBooksOf}
 use Rattle.mesa_walk.specs.Causes.{Cause, Replies, Unread, Damaged, Unwritten, NoMemory, outcome_of, reply_of, replayed, CanBeTold, told_at}

@@ -8,31 +8,31 @@ use Rattle.mesa_span.specs.declared.works.Work.{Work}
 use Rattle.mesa_span.specs.declared.works.Work.TheVariants as range
 use Rattle.mesa_lease.specs.Book.{holder}
 use Rattle.mesa_span.specs.Work.{next_work}
-use Rattle.mesa_model.specs.declared.commands.Command.{Command}
-use Rattle.mesa_model.specs.declared.commands.Command.TheVariants as command
-use Rattle.mesa_model.specs.declared.commands.Script.{Script}
-use Rattle.mesa_model.specs.declared.entries.Entry.{Entry}
-use Rattle.mesa_model.specs.declared.entries.Kind.{Kind}
-use Rattle.mesa_model.specs.declared.entries.Kind.TheVariants as kind
-use Rattle.mesa_model.specs.declared.entries.Outcome.{Outcome}
-use Rattle.mesa_model.specs.declared.entries.Outcome.TheVariants as outcome
-use Rattle.mesa_model.specs.declared.replies.Refusal.{Refusal}
-use Rattle.mesa_model.specs.declared.replies.Refusal.TheVariants as no
-use Rattle.mesa_model.specs.declared.replies.Reply.{Reply}
-use Rattle.mesa_model.specs.declared.replies.Reply.TheVariants as reply
-use Rattle.mesa_model.specs.Entry.{IsShort}
-use Rattle.mesa_model.specs.Refusals.{no_such_table, refuse_closed}
-use Rattle.mesa_model.specs.Relations.{table_number}
-use Rattle.mesa_model.specs.Warehouse.{Warehouse, newest_of}
-use Rattle.mesa_history.specs.Machine.{Machine, Claim, ranges_at, refuse_busy, claim_of, claimed, claim_checked, claim_renewed, claim_ended, claim_done, swapped_reply}
-use Rattle.mesa_history.specs.Run.{State, Stage, First, Granted, Renewed, Finished, Run, begins}
-use Rattle.mesa_history.specs.Replay.{Turned, turn_of, leaves, place_after, prints, refuses, grants, renews, completes, closed_off, closed_if, closes, with_machine, stood}
-use Rattle.mesa_history.specs.Legal.{is_written, wrote}
-use Rattle.mesa_history.specs.Found.{Kept, kept_of}
-use Rattle.mesa_history.specs.Refused.{is_refusal}
-use Rattle.mesa_history.specs.Turns.{IsDue, would_print}
-use Rattle.mesa_history.proofs.More.{kept_after, runs_more}
-use Rattle.mesa_history.proofs.Turns.{goes_to, prologue_after, turned_at}
+use Rattle.mesa_skeleton.specs.mesa_model.declared.commands.Command.{Command}
+use Rattle.mesa_skeleton.specs.mesa_model.declared.commands.Command.TheVariants as command
+use Rattle.mesa_skeleton.specs.mesa_model.declared.commands.Script.{Script}
+use Rattle.mesa_skeleton.specs.mesa_model.declared.entries.Entry.{Entry}
+use Rattle.mesa_skeleton.specs.mesa_model.declared.entries.Kind.{Kind}
+use Rattle.mesa_skeleton.specs.mesa_model.declared.entries.Kind.TheVariants as kind
+use Rattle.mesa_skeleton.specs.mesa_model.declared.entries.Outcome.{Outcome}
+use Rattle.mesa_skeleton.specs.mesa_model.declared.entries.Outcome.TheVariants as outcome
+use Rattle.mesa_skeleton.specs.mesa_model.declared.replies.Refusal.{Refusal}
+use Rattle.mesa_skeleton.specs.mesa_model.declared.replies.Refusal.TheVariants as no
+use Rattle.mesa_skeleton.specs.mesa_model.declared.replies.Reply.{Reply}
+use Rattle.mesa_skeleton.specs.mesa_model.declared.replies.Reply.TheVariants as reply
+use Rattle.mesa_skeleton.specs.mesa_model.Entry.{IsShort}
+use Rattle.mesa_skeleton.specs.mesa_model.Refusals.{no_such_table, refuse_closed}
+use Rattle.mesa_skeleton.specs.mesa_model.Relations.{table_number}
+use Rattle.mesa_skeleton.specs.mesa_model.Warehouse.{Warehouse, newest_of}
+use Rattle.mesa_skeleton.specs.mesa_history.Machine.{Machine, Claim, ranges_at, refuse_busy, claim_of, claimed, claim_checked, claim_renewed, claim_ended, claim_done, swapped_reply}
+use Rattle.mesa_skeleton.specs.mesa_history.Run.{State, Stage, First, Granted, Renewed, Finished, Run, begins}
+use Rattle.mesa_skeleton.specs.mesa_history.Replay.{Turned, turn_of, leaves, place_after, prints, refuses, grants, renews, completes, closed_off, closed_if, closes, with_machine, stood}
+use Rattle.mesa_skeleton.specs.mesa_history.Legal.{is_written, wrote}
+use Rattle.mesa_skeleton.specs.mesa_history.Found.{Kept, kept_of}
+use Rattle.mesa_skeleton.specs.mesa_history.Refused.{is_refusal}
+use Rattle.mesa_skeleton.specs.mesa_history.Turns.{IsDue, would_print}
+use Rattle.mesa_skeleton.proofs.mesa_history.More.{kept_after, runs_more}
+use Rattle.mesa_skeleton.proofs.mesa_history.Turns.{goes_to, prologue_after, turned_at}
 use Rattle.mesa_output.specs.Output.{block}
 use Rattle.mesa_skeleton.proofs.Steps.{claim-bare}
 use Rattle.mesa_walk.specs.Books.{Books, AreBooksOf, closed_books, closed_books_if, granted_books, renewed_books, ended_books, swapped_books}

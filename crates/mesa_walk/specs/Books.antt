@@ -1,10 +1,10 @@
 -- What a vault's books stand for.
 use Rattle.std.specs.Prelude.{◌≡◌, ℕ, List, [], ◌∷◌, ◌++◌, filter, Bool, true, false, not, Some, IsTrue}
-use Rattle.mesa_model.specs.Warehouse.{Pin, Warehouse}
-use Rattle.mesa_model.specs.Pins.{with_pin, next_token, store_at, is_pin}
-use Rattle.mesa_history.specs.Machine.{Machine, Claim, claimed, claim_renewed, claim_ended, claim_done}
-use Rattle.mesa_history.specs.Run.{State}
-use Rattle.mesa_history.specs.Found.{Kept, kept_of}
+use Rattle.mesa_skeleton.specs.mesa_model.Warehouse.{Pin, Warehouse}
+use Rattle.mesa_skeleton.specs.mesa_model.Pins.{with_pin, next_token, store_at, is_pin}
+use Rattle.mesa_skeleton.specs.mesa_history.Machine.{Machine, Claim, claimed, claim_renewed, claim_ended, claim_done}
+use Rattle.mesa_skeleton.specs.mesa_history.Run.{State}
+use Rattle.mesa_skeleton.specs.mesa_history.Found.{Kept, kept_of}
 use Rattle.mesa_skeleton.specs.Bare.{bare}
 
 -- What a vault's books (its catalogue, pins, leases and closing position) stand for: a warehouse without rows and a range machine, on every store; and what the store keeps, and the pins, with the rows that the vault takes its files to have.

@@ -1,19 +1,19 @@
 -- Commands that one turn decides, their checks, and what they make of a vault's books.
 use Rattle.std.specs.Prelude.{◌≡◌, ℕ, Bool, true, false, None, IsTrue, Result, Ok, Err}
-use Rattle.mesa_filter.specs.declared.words.VersionWord.{VersionWord}
-use Rattle.mesa_model.specs.declared.commands.Command.{Command}
-use Rattle.mesa_model.specs.declared.commands.ExplainWords.{ExplainWords}
-use Rattle.mesa_model.specs.declared.entries.Kind.TheVariants as kind
-use Rattle.mesa_model.specs.declared.replies.Refusal.{Refusal}
-use Rattle.mesa_model.specs.declared.replies.Reply.{Reply}
-use Rattle.mesa_model.specs.declared.replies.Reply.TheVariants as reply
-use Rattle.mesa_model.specs.Warehouse.{Warehouse}
-use Rattle.mesa_model.specs.Pins.{make_pin, next_token, release_pin, with_pin}
-use Rattle.mesa_model.specs.Step.{done_or_refused}
-use Rattle.mesa_history.specs.Machine.{explained}
-use Rattle.mesa_history.specs.Run.{State, Stage}
-use Rattle.mesa_history.specs.Replay.{decide, decided, stepped}
-use Rattle.mesa_history.specs.Legal.{is_due_at, is_release, is_writing, is_written, builds_files}
+use Rattle.mesa_skeleton.specs.mesa_filter.declared.words.VersionWord.{VersionWord}
+use Rattle.mesa_skeleton.specs.mesa_model.declared.commands.Command.{Command}
+use Rattle.mesa_skeleton.specs.mesa_model.declared.commands.ExplainWords.{ExplainWords}
+use Rattle.mesa_skeleton.specs.mesa_model.declared.entries.Kind.TheVariants as kind
+use Rattle.mesa_skeleton.specs.mesa_model.declared.replies.Refusal.{Refusal}
+use Rattle.mesa_skeleton.specs.mesa_model.declared.replies.Reply.{Reply}
+use Rattle.mesa_skeleton.specs.mesa_model.declared.replies.Reply.TheVariants as reply
+use Rattle.mesa_skeleton.specs.mesa_model.Warehouse.{Warehouse}
+use Rattle.mesa_skeleton.specs.mesa_model.Pins.{make_pin, next_token, release_pin, with_pin}
+use Rattle.mesa_skeleton.specs.mesa_model.Step.{done_or_refused}
+use Rattle.mesa_skeleton.specs.mesa_history.Machine.{explained}
+use Rattle.mesa_skeleton.specs.mesa_history.Run.{State, Stage}
+use Rattle.mesa_skeleton.specs.mesa_history.Replay.{decide, decided, stepped}
+use Rattle.mesa_skeleton.specs.mesa_history.Legal.{is_due_at, is_release, is_writing, is_written, builds_files}
 use Rattle.mesa_skeleton.specs.Bare.{bare, bare_done, bare_result}
 use Rattle.mesa_walk.specs.Books.{Books, AreBooksOf, closed_books_if, without_pin}
 use Rattle.mesa_walk.specs.Causes.{Cause, Replies, Unread, Damaged, Unwritten, NoMemory}

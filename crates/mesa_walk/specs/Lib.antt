@@ -1,3 +1,7 @@
+pub use Rattle.mesa_disk.specs as mesa_disk
+pub use Rattle.mesa_skeleton.specs.mesa_history as mesa_history
+pub use Rattle.mesa_output.specs as mesa_output
+pub use Rattle.mesa_skeleton.specs as mesa_skeleton
 pub mod Books
 pub mod Printing
 pub mod Walk

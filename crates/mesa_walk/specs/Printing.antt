@@ -2,10 +2,10 @@
 use Rattle.std.specs.Prelude.{◌≡◌, ◌<◌, ℕ, List, ◌∷◌, ◌++◌, Bool, true, false, Option, None, Some, IsTrue, take}
 use Rattle.std.specs.Io.KnownBytes.{Appends}
 use Rattle.mesa_fault.specs.Causes.{last}
-use Rattle.mesa_model.specs.declared.commands.Script.{Script}
-use Rattle.mesa_model.specs.declared.entries.Entry.{Entry}
-use Rattle.mesa_history.specs.Run.{Run, Told}
-use Rattle.mesa_history.specs.Replay.{told_by, runs}
+use Rattle.mesa_skeleton.specs.mesa_model.declared.commands.Script.{Script}
+use Rattle.mesa_skeleton.specs.mesa_model.declared.entries.Entry.{Entry}
+use Rattle.mesa_skeleton.specs.mesa_history.Run.{Run, Told}
+use Rattle.mesa_skeleton.specs.mesa_history.Replay.{told_by, runs}
 use Rattle.mesa_output.specs.Output.{IsBlock, IsOutput}
 
 -- The sink was given the blocks of all these entries.

@@ -1,16 +1,16 @@
 -- The turns of a query.
 use Rattle.std.specs.Prelude.{◌≡◌, ℕ, List, Bool, false, Option, None, Some, Ok, Err}
-use Rattle.mesa_filter.specs.declared.words.QueryWords.{QueryWords}
-use Rattle.mesa_model.specs.declared.commands.Command.TheVariants as command
-use Rattle.mesa_model.specs.declared.commands.Script.{Script}
-use Rattle.mesa_model.specs.declared.entries.Entry.{Entry}
-use Rattle.mesa_model.specs.declared.entries.Outcome.{Outcome}
-use Rattle.mesa_model.specs.declared.entries.Outcome.TheVariants as outcome
-use Rattle.mesa_model.specs.declared.replies.Refusal.{Refusal}
-use Rattle.mesa_model.specs.declared.replies.Reply.TheVariants as reply
-use Rattle.mesa_model.specs.Query.{Answer, query_answer}
-use Rattle.mesa_history.specs.Run.{State, Stage, Answered, Finished, Run, Told}
-use Rattle.mesa_history.specs.Turns.{IsDue}
+use Rattle.mesa_skeleton.specs.mesa_filter.declared.words.QueryWords.{QueryWords}
+use Rattle.mesa_skeleton.specs.mesa_model.declared.commands.Command.TheVariants as command
+use Rattle.mesa_skeleton.specs.mesa_model.declared.commands.Script.{Script}
+use Rattle.mesa_skeleton.specs.mesa_model.declared.entries.Entry.{Entry}
+use Rattle.mesa_skeleton.specs.mesa_model.declared.entries.Outcome.{Outcome}
+use Rattle.mesa_skeleton.specs.mesa_model.declared.entries.Outcome.TheVariants as outcome
+use Rattle.mesa_skeleton.specs.mesa_model.declared.replies.Refusal.{Refusal}
+use Rattle.mesa_skeleton.specs.mesa_model.declared.replies.Reply.TheVariants as reply
+use Rattle.mesa_skeleton.specs.mesa_model.Query.{Answer, query_answer}
+use Rattle.mesa_skeleton.specs.mesa_history.Run.{State, Stage, Answered, Finished, Run, Told}
+use Rattle.mesa_skeleton.specs.mesa_history.Turns.{IsDue}
 use Rattle.mesa_skeleton.specs.Rows.{Rows}
 use Rattle.mesa_output.specs.Output.{IsDamage}
 use Rattle.mesa_walk.specs.Books.{Books, AreBooksOf}

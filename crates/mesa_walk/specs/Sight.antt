@@ -1,14 +1,14 @@
 -- What a load sees of the tables, and how many turns changed it.
 use Rattle.std.specs.Prelude.{ℕ, List, Bool, true, false, Option, None, Some}
-use Rattle.mesa_batch.specs.Batch.{Named}
-use Rattle.mesa_model.specs.declared.commands.Script.{Script}
-use Rattle.mesa_model.specs.declared.entries.Entry.{Entry}
-use Rattle.mesa_model.specs.declared.replies.Reply.{Reply}
-use Rattle.mesa_model.specs.declared.replies.Reply.TheVariants as reply
-use Rattle.mesa_model.specs.Load.{tables_named}
-use Rattle.mesa_history.specs.Run.{Told, Run}
-use Rattle.mesa_history.specs.Replay.{told_by}
-use Rattle.mesa_history.specs.Counting.{count_in}
+use Rattle.mesa_skeleton.specs.mesa_batch.Batch.{Named}
+use Rattle.mesa_skeleton.specs.mesa_model.declared.commands.Script.{Script}
+use Rattle.mesa_skeleton.specs.mesa_model.declared.entries.Entry.{Entry}
+use Rattle.mesa_skeleton.specs.mesa_model.declared.replies.Reply.{Reply}
+use Rattle.mesa_skeleton.specs.mesa_model.declared.replies.Reply.TheVariants as reply
+use Rattle.mesa_skeleton.specs.mesa_model.Load.{tables_named}
+use Rattle.mesa_skeleton.specs.mesa_history.Run.{Told, Run}
+use Rattle.mesa_skeleton.specs.mesa_history.Replay.{told_by}
+use Rattle.mesa_skeleton.specs.mesa_history.Counting.{count_in}
 
 -- a reply that says that a table, a view or a table's columns were made or changed
 abbrev pub is_of_schemas : Reply → Bool

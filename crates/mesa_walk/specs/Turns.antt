@@ -2,19 +2,19 @@
 use Rattle.std.specs.Prelude.{◌≡◌, ℕ, ◌<◌, List, [], ◌∷◌, ◌++◌, Bool, true, false, ◌||◌, not, IsTrue}
 use Rattle.std.specs.List.{AllByRecursion}
 use Rattle.mesa_fault.specs.Causes.{last}
-use Rattle.mesa_model.specs.declared.commands.Command.{Command}
-use Rattle.mesa_model.specs.declared.commands.Command.TheVariants as command
-use Rattle.mesa_model.specs.declared.commands.Script.{Script}
-use Rattle.mesa_model.specs.declared.entries.Entry.{Entry}
-use Rattle.mesa_model.specs.declared.entries.Kind.{Kind}
-use Rattle.mesa_model.specs.declared.entries.Outcome.{Outcome}
-use Rattle.mesa_model.specs.declared.entries.Outcome.TheVariants as outcome
-use Rattle.mesa_model.specs.Entry.{IsShort}
-use Rattle.mesa_history.specs.Run.{State, Stage, Run, place_of, begins}
-use Rattle.mesa_history.specs.Counting.{is_bench_fault}
-use Rattle.mesa_history.specs.Replay.{is_skip}
-use Rattle.mesa_history.specs.Legal.{AllFit, fits_sink, is_query, is_work}
-use Rattle.mesa_history.specs.Turns.{IsDue, place_then}
+use Rattle.mesa_skeleton.specs.mesa_model.declared.commands.Command.{Command}
+use Rattle.mesa_skeleton.specs.mesa_model.declared.commands.Command.TheVariants as command
+use Rattle.mesa_skeleton.specs.mesa_model.declared.commands.Script.{Script}
+use Rattle.mesa_skeleton.specs.mesa_model.declared.entries.Entry.{Entry}
+use Rattle.mesa_skeleton.specs.mesa_model.declared.entries.Kind.{Kind}
+use Rattle.mesa_skeleton.specs.mesa_model.declared.entries.Outcome.{Outcome}
+use Rattle.mesa_skeleton.specs.mesa_model.declared.entries.Outcome.TheVariants as outcome
+use Rattle.mesa_skeleton.specs.mesa_model.Entry.{IsShort}
+use Rattle.mesa_skeleton.specs.mesa_history.Run.{State, Stage, Run, place_of, begins}
+use Rattle.mesa_skeleton.specs.mesa_history.Counting.{is_bench_fault}
+use Rattle.mesa_skeleton.specs.mesa_history.Replay.{is_skip}
+use Rattle.mesa_skeleton.specs.mesa_history.Legal.{AllFit, fits_sink, is_query, is_work}
+use Rattle.mesa_skeleton.specs.mesa_history.Turns.{IsDue, place_then}
 use Rattle.mesa_walk.specs.Walk.{run_at}
 
 -- What a caller sees of a vault: the history so far, whether its sink hasn't failed, and the disk's clock.

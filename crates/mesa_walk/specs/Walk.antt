@@ -4,16 +4,16 @@ use Rattle.std.specs.List.{AllByRecursion}
 use Rattle.mesa_fault.specs.Causes.{last, Rose}
 use Rattle.mesa_disk.specs.Image.{Image}
 use Rattle.mesa_disk.specs.Story.{Story, Spans}
-use Rattle.mesa_model.specs.declared.commands.Script.{Script}
-use Rattle.mesa_model.specs.declared.entries.Entry.{Entry}
-use Rattle.mesa_model.specs.declared.replies.Reply.{Reply}
-use Rattle.mesa_model.specs.Entry.{IsShort}
-use Rattle.mesa_history.specs.Run.{State, Run, begins}
-use Rattle.mesa_history.specs.Replay.{told_by, runs}
-use Rattle.mesa_history.specs.Legal.{AllFit, fits_sink, wrote}
-use Rattle.mesa_history.specs.Found.{Kept, Found}
-use Rattle.mesa_history.specs.Counting.{count_in, is_disk_fault}
-use Rattle.mesa_history.specs.Refused.{some_refused}
+use Rattle.mesa_skeleton.specs.mesa_model.declared.commands.Script.{Script}
+use Rattle.mesa_skeleton.specs.mesa_model.declared.entries.Entry.{Entry}
+use Rattle.mesa_skeleton.specs.mesa_model.declared.replies.Reply.{Reply}
+use Rattle.mesa_skeleton.specs.mesa_model.Entry.{IsShort}
+use Rattle.mesa_skeleton.specs.mesa_history.Run.{State, Run, begins}
+use Rattle.mesa_skeleton.specs.mesa_history.Replay.{told_by, runs}
+use Rattle.mesa_skeleton.specs.mesa_history.Legal.{AllFit, fits_sink, wrote}
+use Rattle.mesa_skeleton.specs.mesa_history.Found.{Kept, Found}
+use Rattle.mesa_skeleton.specs.mesa_history.Counting.{count_in, is_disk_fault}
+use Rattle.mesa_skeleton.specs.mesa_history.Refused.{some_refused}
 use Rattle.mesa_walk.specs.Books.{Books, AreBooksOf}
 use Rattle.mesa_walk.specs.Causes.{told_at}
 use Rattle.mesa_walk.specs.Printing.{IsPrinted}

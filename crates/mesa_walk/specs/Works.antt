@@ -1,9 +1,9 @@
 -- The turns of a work.
 use Rattle.std.specs.Prelude.{◌≡◌, ℕ, List, Bool, true, false, None, IsTrue, Result, Ok, Err}
-use Rattle.mesa_history.specs.Machine.{Claim, claim_of, claim_done}
-use Rattle.mesa_history.specs.Run.{State, Stage, Granted, Renewed, Finished}
-use Rattle.mesa_history.specs.Replay.{with_machine}
-use Rattle.mesa_history.specs.Found.{Kept, kept_of}
+use Rattle.mesa_skeleton.specs.mesa_history.Machine.{Claim, claim_of, claim_done}
+use Rattle.mesa_skeleton.specs.mesa_history.Run.{State, Stage, Granted, Renewed, Finished}
+use Rattle.mesa_skeleton.specs.mesa_history.Replay.{with_machine}
+use Rattle.mesa_skeleton.specs.mesa_history.Found.{Kept, kept_of}
 use Rattle.mesa_output.specs.Output.{IsDamage}
 use Rattle.mesa_walk.specs.Books.{Books, AreBooksOf, closed_books_if, ended_books}
 use Rattle.mesa_walk.specs.Causes.{Cause, Replies, Unread, Damaged, Unwritten, NoMemory}

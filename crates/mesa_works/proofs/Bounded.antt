@@ -14,18 +14,18 @@ use Rattle.mesa_schema.specs.Views.{view_columns}
 use Rattle.mesa_schema.specs.declared.rows.Row.{Row}
 use Rattle.mesa_schema.specs.declared.views.View.{View}
 use Rattle.mesa_delta.specs.declared.input.Input.{Input}
-use Rattle.mesa_image.specs.Catalog.{Catalog, Delta, Stock, stock_at}
-use Rattle.mesa_image.specs.Contents.{Rows}
-use Rattle.mesa_image.specs.Fitting.{delta_shelved, deltas_of, shelved}
-use Rattle.mesa_image.specs.Sound.{wants}
-use Rattle.mesa_image_laws.proofs.Lists.{all_unflat, stock_found}
-use Rattle.mesa_image.specs.Sound.{IsStocked}
-use Rattle.mesa_image_laws.specs.Brought.{merged_of}
-use Rattle.mesa_image_laws.specs.Moves.{is_base, last_of}
+use Rattle.mesa_metadata.specs.mesa_image.Catalog.{Catalog, Delta, Stock, stock_at}
+use Rattle.mesa_metadata.specs.mesa_image.Contents.{Rows}
+use Rattle.mesa_metadata.specs.mesa_image.Fitting.{delta_shelved, deltas_of, shelved}
+use Rattle.mesa_metadata.specs.mesa_image.Sound.{wants}
+use Rattle.mesa_ledger.proofs.mesa_image_laws.Lists.{all_unflat, stock_found}
+use Rattle.mesa_metadata.specs.mesa_image.Sound.{IsStocked}
+use Rattle.mesa_ledger.specs.mesa_image_laws.Brought.{merged_of}
+use Rattle.mesa_ledger.specs.mesa_image_laws.Moves.{is_base, last_of}
 use Rattle.mesa_ledger.specs.Ledger.{Ledger}
 use Rattle.mesa_ledger.specs.Vault.{Origin, IsVault}
 use Rattle.mesa_ledger.proofs.Standing.{held_there}
-use Rattle.mesa_merge.specs.Inputs.{knowns_of, lifted_parts}
+use Rattle.mesa_compact.specs.mesa_merge.Inputs.{knowns_of, lifted_parts}
 use Rattle.mesa_model.specs.declared.entries.Entry.{Entry}
 use Rattle.mesa_gather.specs.Gathered.{IsGathered, unread_view}
 use Rattle.mesa_pinning.specs.Read.{own_file}
@@ -34,13 +34,13 @@ use Rattle.mesa_pinning.proofs.Given.{AreGiven, IsGiven, all_given, all_told, pa
 use Rattle.mesa_pinning.proofs.Reading.{owned}
 use Rattle.mesa_pinning.proofs.Sums.{merged_sums}
 use Rattle.mesa_pinning.proofs.Telling.{stock_given}
-use Rattle.mesa_plans.proofs.Among.{all_merged}
-use Rattle.mesa_plans.specs.Files.{Seen, Want, table_wanted, want_of}
+use Rattle.mesa_pinning.proofs.mesa_plans.Among.{all_merged}
+use Rattle.mesa_pinning.specs.mesa_plans.Files.{Seen, Want, table_wanted, want_of}
 use Rattle.mesa_tasks.specs.Opening.{HaveOpened}
 use Rattle.mesa_tasks.specs.declared.merging.Task.{Task}
 use Rattle.mesa_tasks.specs.declared.merging.TaskView.{TaskView}
 use Rattle.mesa_tasks.specs.declared.opening.Wanted.{Wanted}
-use Rattle.mesa_walk.specs.Walk.{Outset}
+use Rattle.mesa_ledger.specs.mesa_walk.Walk.{Outset}
 use Rattle.mesa_works.proofs.Grants.{shaped_at}
 
 -- a view that has no files of its own has none that could be wrong

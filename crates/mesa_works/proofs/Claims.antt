@@ -11,12 +11,12 @@ use Rattle.mesa_span.specs.Ranges.{base_before}
 use Rattle.mesa_span.specs.Work.{missing_end, next_work}
 use Rattle.mesa_span.specs.declared.works.Work.TheVariants as range
 use Rattle.mesa_history.specs.Machine.{Claim, Machine, claim_of, ranges_at, refuse_busy}
-use Rattle.mesa_image.specs.Catalog.{Catalog, Stock, no_stock, ranges_of, start_in, stock_at}
-use Rattle.mesa_image.specs.Fitting.{is_number, may_be_work}
-use Rattle.mesa_image.specs.Shape.{IsCatalog, IsShaped}
-use Rattle.mesa_image_laws.proofs.Lists.{both_true, is_at_most, is_equal}
-use Rattle.mesa_image_laws.proofs.ShapedBatches.{missing_there}
-use Rattle.mesa_image_laws.specs.Moves.{first_of, is_base, last_of}
+use Rattle.mesa_metadata.specs.mesa_image.Catalog.{Catalog, Stock, no_stock, ranges_of, start_in, stock_at}
+use Rattle.mesa_metadata.specs.mesa_image.Fitting.{is_number, may_be_work}
+use Rattle.mesa_metadata.specs.mesa_image.Shape.{IsCatalog, IsShaped}
+use Rattle.mesa_ledger.proofs.mesa_image_laws.Lists.{both_true, is_at_most, is_equal}
+use Rattle.mesa_ledger.proofs.mesa_image_laws.ShapedBatches.{missing_there}
+use Rattle.mesa_ledger.specs.mesa_image_laws.Moves.{first_of, is_base, last_of}
 use Rattle.mesa_lease.specs.Book.{holder}
 use Rattle.mesa_model.specs.Refusals.{no_such_table, refuse_closed}
 use Rattle.mesa_model.specs.Relations.{table_number}

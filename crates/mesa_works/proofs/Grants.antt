@@ -11,30 +11,30 @@ use Rattle.mesa_history.specs.Refused.{is_refusal}
 use Rattle.mesa_history.specs.Replay.{grants, is_skip}
 use Rattle.mesa_history.specs.Run.{First, Granted, Finished}
 use Rattle.mesa_history.specs.Turns.{IsDue}
-use Rattle.mesa_image.specs.Catalog.{Catalog, no_stock, stock_at}
-use Rattle.mesa_image.specs.Shape.{IsCatalog, IsShaped}
-use Rattle.mesa_catalog.proofs.Stocks.{all_at}
+use Rattle.mesa_metadata.specs.mesa_image.Catalog.{Catalog, no_stock, stock_at}
+use Rattle.mesa_metadata.specs.mesa_image.Shape.{IsCatalog, IsShaped}
+use Rattle.mesa_rules.proofs.mesa_catalog.Stocks.{all_at}
 use Rattle.mesa_lease.specs.Book.{granted}
 use Rattle.mesa_model.specs.Warehouse.{Warehouse}
 use Rattle.mesa_model.specs.declared.commands.Command.TheVariants as command
 use Rattle.mesa_model.specs.declared.entries.Entry.{Entry}
 use Rattle.mesa_model.specs.declared.entries.Kind.TheVariants as kind
 use Rattle.mesa_model.specs.declared.entries.Outcome.TheVariants as outcome
-use Rattle.mesa_output.specs.Output.{block}
+use Rattle.mesa_ledger.specs.mesa_output.Output.{block}
 use Rattle.mesa_skeleton.specs.Bare.{bare_table}
 use Rattle.mesa_skeleton.specs.Rows.{Rows, no_rows}
 use Rattle.mesa_tasks.specs.Opening.{Counted}
 use Rattle.mesa_tasks.specs.declared.opening.Unopened.{Unopened}
 use Rattle.mesa_tasks.specs.declared.opening.Unopened.TheVariants as un
-use Rattle.mesa_walk.specs.Causes.{Cause, Replies, Unread, Damaged, Unwritten, NoMemory, is_read_fault, outcome_of, reply_of, told_at}
-use Rattle.mesa_walk.specs.Printing.{IsPut}
-use Rattle.mesa_walk.specs.Turns.{Shown, IsSeen, Takes, entry}
-use Rattle.mesa_walk.specs.Books.{Books}
-use Rattle.mesa_walk.specs.Undamaged.{is_damaged}
-use Rattle.mesa_walk.specs.Walk.{Outset, Counts, run_at, run_of}
-use Rattle.mesa_walk.specs.Works.{HasNoClaim}
-use Rattle.mesa_walk.proofs.Going.{takes_as}
-use Rattle.mesa_walk.proofs.Working.{claim_is, granted_turn, ungranted_ends, ungranted_turn}
+use Rattle.mesa_ledger.specs.mesa_walk.Causes.{Cause, Replies, Unread, Damaged, Unwritten, NoMemory, is_read_fault, outcome_of, reply_of, told_at}
+use Rattle.mesa_ledger.specs.mesa_walk.Printing.{IsPut}
+use Rattle.mesa_ledger.specs.mesa_walk.Turns.{Shown, IsSeen, Takes, entry}
+use Rattle.mesa_ledger.specs.mesa_walk.Books.{Books}
+use Rattle.mesa_ledger.specs.mesa_walk.Undamaged.{is_damaged}
+use Rattle.mesa_ledger.specs.mesa_walk.Walk.{Outset, Counts, run_at, run_of}
+use Rattle.mesa_ledger.specs.mesa_walk.Works.{HasNoClaim}
+use Rattle.mesa_ledger.proofs.mesa_walk.Going.{takes_as}
+use Rattle.mesa_ledger.proofs.mesa_walk.Working.{claim_is, granted_turn, ungranted_ends, ungranted_turn}
 use Rattle.mesa_ledger.specs.Ledger.{Ledger, books_of, skeleton_of}
 use Rattle.mesa_ledger.specs.Turned.{leased_ledger}
 use Rattle.mesa_ledger.specs.Vault.{Origin, Starts, IsVault, outset_of}

@@ -7,14 +7,14 @@ use Rattle.mesa_disk.specs.Story.{Story}
 use Rattle.mesa_schema.specs.Changes.{Lineage, columns_of}
 use Rattle.mesa_schema.specs.Columns.{aggs_of}
 use Rattle.mesa_history.specs.Sources.{Source, range_rows}
-use Rattle.mesa_image.specs.Catalog.{Catalog, Stock, stock_at}
-use Rattle.mesa_image.specs.Contents.{present}
-use Rattle.mesa_image.specs.Fitting.{may_be_work, shelved}
-use Rattle.mesa_image.specs.Sound.{wants}
-use Rattle.mesa_image_laws.proofs.AllSourced.{epochs_written, work_written}
-use Rattle.mesa_image_laws.specs.Brought.{merged_of}
-use Rattle.mesa_image_laws.specs.Moves.{first_of, is_base, last_of}
-use Rattle.mesa_image_laws.specs.Sourced.{Written}
+use Rattle.mesa_metadata.specs.mesa_image.Catalog.{Catalog, Stock, stock_at}
+use Rattle.mesa_metadata.specs.mesa_image.Contents.{present}
+use Rattle.mesa_metadata.specs.mesa_image.Fitting.{may_be_work, shelved}
+use Rattle.mesa_metadata.specs.mesa_image.Sound.{wants}
+use Rattle.mesa_ledger.proofs.mesa_image_laws.AllSourced.{epochs_written, work_written}
+use Rattle.mesa_ledger.specs.mesa_image_laws.Brought.{merged_of}
+use Rattle.mesa_ledger.specs.mesa_image_laws.Moves.{first_of, is_base, last_of}
+use Rattle.mesa_ledger.specs.mesa_image_laws.Sourced.{Written}
 use Rattle.mesa_ledger.specs.Ledger.{Ledger}
 use Rattle.mesa_ledger.specs.Vault.{Origin, IsVault, written_by}
 use Rattle.mesa_ledger.proofs.Standing.{held_there}
@@ -25,7 +25,7 @@ use Rattle.mesa_tasks.specs.Inputs.{present_parts}
 use Rattle.mesa_tasks.specs.Opening.{HaveOpened}
 use Rattle.mesa_tasks.specs.Tasks.{IsTask}
 use Rattle.mesa_tasks.specs.declared.merging.Task.{Task}
-use Rattle.mesa_walk.specs.Walk.{Outset}
+use Rattle.mesa_ledger.specs.mesa_walk.Walk.{Outset}
 use Rattle.mesa_works.proofs.Sound.{IsSoundDelta, all_rows, none_met, none_own, same_folded, sound_deltas, sound_merged}
 use Rattle.mesa_works.proofs.WholeFiles.{OneFile}
 

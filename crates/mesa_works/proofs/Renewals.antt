@@ -18,15 +18,15 @@ use Rattle.mesa_model.specs.declared.entries.Outcome.TheVariants as outcome
 use Rattle.mesa_model.specs.declared.replies.Refusal.{Refusal}
 use Rattle.mesa_model.specs.declared.replies.Refusal.TheVariants as no
 use Rattle.mesa_model.specs.declared.replies.Reply.TheVariants as reply
-use Rattle.mesa_output.specs.Output.{block}
+use Rattle.mesa_ledger.specs.mesa_output.Output.{block}
 use Rattle.mesa_skeleton.specs.Rows.{Rows, no_rows}
-use Rattle.mesa_walk.specs.Causes.{told_at}
-use Rattle.mesa_walk.specs.Printing.{IsPut}
-use Rattle.mesa_walk.specs.Turns.{Shown, IsSeen, Takes, entry}
-use Rattle.mesa_walk.specs.Walk.{Outset, run_at, run_of}
-use Rattle.mesa_walk.proofs.Turning.{stays, counts_same}
-use Rattle.mesa_walk.proofs.Going.{takes_as}
-use Rattle.mesa_walk.proofs.Working.{checked_is, renewed_turn, unrenewed_ends, unrenewed_turn}
+use Rattle.mesa_ledger.specs.mesa_walk.Causes.{told_at}
+use Rattle.mesa_ledger.specs.mesa_walk.Printing.{IsPut}
+use Rattle.mesa_ledger.specs.mesa_walk.Turns.{Shown, IsSeen, Takes, entry}
+use Rattle.mesa_ledger.specs.mesa_walk.Walk.{Outset, run_at, run_of}
+use Rattle.mesa_ledger.proofs.mesa_walk.Turning.{stays, counts_same}
+use Rattle.mesa_ledger.proofs.mesa_walk.Going.{takes_as}
+use Rattle.mesa_ledger.proofs.mesa_walk.Working.{checked_is, renewed_turn, unrenewed_ends, unrenewed_turn}
 use Rattle.mesa_ledger.specs.Ledger.{Ledger, books_of}
 use Rattle.mesa_ledger.specs.Turned.{leased_ledger}
 use Rattle.mesa_ledger.specs.Vault.{Origin, Starts, IsVault, outset_of}

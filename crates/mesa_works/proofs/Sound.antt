@@ -16,14 +16,14 @@ use Rattle.mesa_delta.specs.Reading.{IsWhole, index_of}
 use Rattle.mesa_delta.specs.declared.input.Input.{Input}
 use Rattle.mesa_cursor.specs.Cursors.{lift_by, reader_in}
 use Rattle.mesa_record.specs.declared.record.Files.{Files}
-use Rattle.mesa_image.specs.Catalog.{Catalog, Delta, Stock, start_in, stock_at}
-use Rattle.mesa_image.specs.Contents.{Rows, present, rows_if_any}
-use Rattle.mesa_image.specs.Fitting.{Shelved, base_deltas, delta_in, delta_shelved, deltas_of, files_shelved, shelved, stock_shelved}
-use Rattle.mesa_image.specs.Sound.{AreStocked, IsStocked, IsTold, bytes_of, wanted, wants}
-use Rattle.mesa_image_laws.proofs.Lists.{all_back, all_front, all_take, all_unflat, all_unmap, stock_found}
-use Rattle.mesa_image_laws.specs.Brought.{merged_of}
+use Rattle.mesa_metadata.specs.mesa_image.Catalog.{Catalog, Delta, Stock, start_in, stock_at}
+use Rattle.mesa_metadata.specs.mesa_image.Contents.{Rows, present, rows_if_any}
+use Rattle.mesa_metadata.specs.mesa_image.Fitting.{Shelved, base_deltas, delta_in, delta_shelved, deltas_of, files_shelved, shelved, stock_shelved}
+use Rattle.mesa_metadata.specs.mesa_image.Sound.{AreStocked, IsStocked, IsTold, bytes_of, wanted, wants}
+use Rattle.mesa_ledger.proofs.mesa_image_laws.Lists.{all_back, all_front, all_take, all_unflat, all_unmap, stock_found}
+use Rattle.mesa_ledger.specs.mesa_image_laws.Brought.{merged_of}
 use Rattle.mesa_ledger.proofs.Lists.{all_also, all_joined}
-use Rattle.mesa_plans.specs.Files.{Want, files_wanted, table_wanted, want_of}
+use Rattle.mesa_pinning.specs.mesa_plans.Files.{Want, files_wanted, table_wanted, want_of}
 use Rattle.mesa_gather.specs.Gathered.{unread_view}
 use Rattle.mesa_swapping.specs.Finished.{GroupOnly}
 use Rattle.mesa_tasks.specs.Inputs.{HaveRows, present_parts}

@@ -4,7 +4,7 @@ use Rattle.mesa_history.specs.Machine.{Claim}
 use Rattle.mesa_ledger.specs.Ledger.{Ledger}
 use Rattle.mesa_tasks.specs.declared.opening.Unopened.{Unopened}
 use Rattle.mesa_tasks.specs.declared.opening.Unopened.TheVariants as un
-use Rattle.mesa_walk.specs.Causes.{Cause, Unread, NoMemory}
+use Rattle.mesa_ledger.specs.mesa_walk.Causes.{Cause, Unread, NoMemory}
 use Rattle.mesa_works.specs.declared.claiming.Claimed.{Claimed}
 
 -- the claim of a work that is granted next

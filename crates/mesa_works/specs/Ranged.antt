@@ -2,7 +2,7 @@
 use Rattle.std.specs.Prelude.{ℕ, List}
 use Rattle.mesa_history.specs.Law.{accepted_in}
 use Rattle.mesa_history.specs.Run.{State, begins}
-use Rattle.mesa_image_laws.specs.Sourced.{Written, all_written}
+use Rattle.mesa_ledger.specs.mesa_image_laws.Sourced.{Written, all_written}
 use Rattle.mesa_ledger.specs.Vault.{Origin}
 use Rattle.mesa_model.specs.declared.commands.Script.{Script}
 use Rattle.mesa_model.specs.declared.entries.Entry.{Entry}

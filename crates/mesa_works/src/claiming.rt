@@ -2,14 +2,14 @@
 ghost use Rattle.std.specs.Prelude.{◌≡◌, ◌<◌, ◌≤◌, length, None, Some, Ok, IfErr, IfOk, OnOk, false};
 ghost use Rattle.mesa_engine.specs.Failing.{is_of_device};
 ghost use Rattle.mesa_history.specs.Machine.{claim_of};
-ghost use Rattle.mesa_image.specs.Catalog.{ranges_of, stock_at};
+ghost use Rattle.mesa_metadata.specs.mesa_image.Catalog.{ranges_of, stock_at};
 ghost use Rattle.mesa_lease.specs.Book.{holder};
 ghost use Rattle.mesa_ledger.specs.Ledger.{books_of};
 ghost use Rattle.mesa_log.specs.Failure.{cause_in};
 ghost use Rattle.mesa_skeleton.specs.Rows.{no_rows};
 ghost use Rattle.mesa_span.specs.Ranges.{base_before};
 ghost use Rattle.mesa_span.specs.Work.{next_work as work_due};
-ghost use Rattle.mesa_walk.specs.Works.{HasNoClaim};
+ghost use Rattle.mesa_ledger.specs.mesa_walk.Works.{HasNoClaim};
 ghost use Rattle.mesa_works.specs.Claims.{claim_as};
 
 use mesa_lease::TABLES;

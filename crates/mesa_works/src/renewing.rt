@@ -9,9 +9,9 @@ ghost use Rattle.mesa_metadata.specs.Memory.{with_leases};
 ghost use Rattle.mesa_model.specs.declared.commands.Command.TheVariants as command;
 ghost use Rattle.mesa_model.specs.declared.entries.Kind.TheVariants as kind;
 ghost use Rattle.mesa_skeleton.specs.Rows.{no_rows};
-ghost use Rattle.mesa_walk.specs.Turns.{Takes};
-ghost use Rattle.mesa_walk.specs.Walk.{run_at};
-ghost use Rattle.mesa_walk.specs.Works.{stage_if};
+ghost use Rattle.mesa_ledger.specs.mesa_walk.Turns.{Takes};
+ghost use Rattle.mesa_ledger.specs.mesa_walk.Walk.{run_at};
+ghost use Rattle.mesa_ledger.specs.mesa_walk.Works.{stage_if};
 ghost use Rattle.mesa_tasks.specs.Tasks.{claim_in};
 
 use crate::give_back;

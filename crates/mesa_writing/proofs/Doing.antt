@@ -30,25 +30,25 @@ use Rattle.mesa_record.specs.declared.record.Part.{Part}
 use Rattle.mesa_record.specs.declared.record.Record.{Record}
 use Rattle.mesa_record.specs.declared.record.Record.TheVariants as record_of
 use Rattle.mesa_record.specs.Rules.{IsTyped, IsTypedChange}
-use Rattle.mesa_image.specs.Catalog.{Catalog, applied, stock_at}
-use Rattle.mesa_image.specs.Fitting.{fits, is_new_name, is_there}
-use Rattle.mesa_image.specs.Sound.{AreStocked}
-use Rattle.mesa_image_laws.proofs.Agreeing.{agree_stocked}
-use Rattle.mesa_image_laws.proofs.AllSourced.{alter_sourced, table_sourced, view_sourced}
-use Rattle.mesa_image_laws.proofs.Lists.{both_true, is_at_most, is_less}
-use Rattle.mesa_image_laws.proofs.Moving.{alter_step, expire_step, kind_of, publish_step, table_step, view_step}
-use Rattle.mesa_image_laws.specs.Brought.{AreTold, BringsAll}
-use Rattle.mesa_image_laws.specs.Ids.{dropped_ids}
-use Rattle.mesa_image_laws.specs.Moves.{Moves}
-use Rattle.mesa_image_laws.specs.Sourced.{HasSources, tables_read}
+use Rattle.mesa_catalog.specs.mesa_image.Catalog.{Catalog, applied, stock_at}
+use Rattle.mesa_catalog.specs.mesa_image.Fitting.{fits, is_new_name, is_there}
+use Rattle.mesa_catalog.specs.mesa_image.Sound.{AreStocked}
+use Rattle.mesa_ledger.proofs.mesa_image_laws.Agreeing.{agree_stocked}
+use Rattle.mesa_ledger.proofs.mesa_image_laws.AllSourced.{alter_sourced, table_sourced, view_sourced}
+use Rattle.mesa_ledger.proofs.mesa_image_laws.Lists.{both_true, is_at_most, is_less}
+use Rattle.mesa_ledger.proofs.mesa_image_laws.Moving.{alter_step, expire_step, kind_of, publish_step, table_step, view_step}
+use Rattle.mesa_ledger.specs.mesa_image_laws.Brought.{AreTold, BringsAll}
+use Rattle.mesa_ledger.specs.mesa_image_laws.Ids.{dropped_ids}
+use Rattle.mesa_ledger.specs.mesa_image_laws.Moves.{Moves}
+use Rattle.mesa_ledger.specs.mesa_image_laws.Sourced.{HasSources, tables_read}
 use Rattle.mesa_catalog.specs.Lookups.{generation_of, turns_generation}
 use Rattle.mesa_rules.specs.Seen.{number_of}
 use Rattle.mesa_skeleton.specs.Rows.{Rows}
-use Rattle.mesa_walk.specs.Causes.{told_at}
-use Rattle.mesa_walk.specs.Changes.{Doing, IsChange, IsDecided}
-use Rattle.mesa_walk.specs.Sight.{is_of_schemas}
-use Rattle.mesa_walk.specs.Walk.{Outset, run_of}
-use Rattle.mesa_walk.proofs.Changing.{alter_decided, expire_decided, load_decided, table_decided, view_decided}
+use Rattle.mesa_ledger.specs.mesa_walk.Causes.{told_at}
+use Rattle.mesa_ledger.specs.mesa_walk.Changes.{Doing, IsChange, IsDecided}
+use Rattle.mesa_ledger.specs.mesa_walk.Sight.{is_of_schemas}
+use Rattle.mesa_ledger.specs.mesa_walk.Walk.{Outset, run_of}
+use Rattle.mesa_ledger.proofs.mesa_walk.Changing.{alter_decided, expire_decided, load_decided, table_decided, view_decided}
 use Rattle.mesa_ledger.specs.Ledger.{Ledger, books_of, next_id, skeleton_of}
 use Rattle.mesa_ledger.specs.Recorded.{recorded_ledger}
 use Rattle.mesa_ledger.specs.Vault.{Origin, IsVault, written_by}

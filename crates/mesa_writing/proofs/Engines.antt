@@ -14,14 +14,14 @@ use Rattle.mesa_history.specs.Run.{Run}
 use Rattle.mesa_history.specs.Turns.{IsDue}
 use Rattle.mesa_record.specs.Reading.{record_at}
 use Rattle.mesa_record.specs.Rules.{IsTyped}
-use Rattle.mesa_image.specs.Catalog.{applied}
+use Rattle.mesa_catalog.specs.mesa_image.Catalog.{applied}
 use Rattle.mesa_catalog.specs.Lookups.{generation_of, turns_generation}
 use Rattle.mesa_skeleton.specs.Bare.{bare_state}
 use Rattle.mesa_skeleton.specs.Rows.{Rows, no_rows}
-use Rattle.mesa_walk.specs.Causes.{Unwritten, reply_of, told_at}
-use Rattle.mesa_walk.specs.Turns.{entry}
-use Rattle.mesa_walk.specs.Walk.{Counts, run_at, run_of}
-use Rattle.mesa_walk.proofs.Alike.{due_alike}
+use Rattle.mesa_ledger.specs.mesa_walk.Causes.{Unwritten, reply_of, told_at}
+use Rattle.mesa_ledger.specs.mesa_walk.Turns.{entry}
+use Rattle.mesa_ledger.specs.mesa_walk.Walk.{Counts, run_at, run_of}
+use Rattle.mesa_ledger.proofs.mesa_walk.Alike.{due_alike}
 use Rattle.mesa_ledger.specs.Ledger.{first_id, next_id, past_id}
 use Rattle.mesa_ledger.specs.Recorded.{failed_ledger, recorded_ledger, removed_by}
 use Rattle.mesa_ledger.specs.Vault.{IsReady, IsVault, Starts, outset_of}

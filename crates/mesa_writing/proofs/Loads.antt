@@ -25,21 +25,21 @@ use Rattle.mesa_model.specs.Warehouse.{Warehouse, max_versions}
 use Rattle.mesa_history.specs.Legal.{builds_files}
 use Rattle.mesa_history.specs.Run.{Run, First, Looked}
 use Rattle.mesa_history.specs.Turns.{IsDue}
-use Rattle.mesa_image.specs.Catalog.{Catalog}
-use Rattle.mesa_image_laws.specs.Sourced.{tables_read}
+use Rattle.mesa_catalog.specs.mesa_image.Catalog.{Catalog}
+use Rattle.mesa_ledger.specs.mesa_image_laws.Sourced.{tables_read}
 use Rattle.mesa_catalog.specs.Lookups.{sight_of}
 use Rattle.mesa_output.specs.Output.{block}
 use Rattle.mesa_skeleton.specs.Bare.{bare_state}
 use Rattle.mesa_skeleton.specs.Rows.{Rows, no_rows}
-use Rattle.mesa_walk.specs.Causes.{Unwritten, reply_of, told_at}
-use Rattle.mesa_walk.specs.Changes.{HasFailed}
-use Rattle.mesa_walk.specs.Printing.{IsPut}
-use Rattle.mesa_walk.specs.Turns.{entry}
-use Rattle.mesa_walk.specs.Walk.{Outset, run_at, run_of}
-use Rattle.mesa_walk.proofs.Alike.{due_alike}
-use Rattle.mesa_walk.proofs.Changing.{fails_turn, load_decided}
-use Rattle.mesa_walk.proofs.Clock.{begun_moment, closing, not_closing}
-use Rattle.mesa_walk.proofs.Turning.{stays}
+use Rattle.mesa_ledger.specs.mesa_walk.Causes.{Unwritten, reply_of, told_at}
+use Rattle.mesa_ledger.specs.mesa_walk.Changes.{HasFailed}
+use Rattle.mesa_ledger.specs.mesa_walk.Printing.{IsPut}
+use Rattle.mesa_ledger.specs.mesa_walk.Turns.{entry}
+use Rattle.mesa_ledger.specs.mesa_walk.Walk.{Outset, run_at, run_of}
+use Rattle.mesa_ledger.proofs.mesa_walk.Alike.{due_alike}
+use Rattle.mesa_ledger.proofs.mesa_walk.Changing.{fails_turn, load_decided}
+use Rattle.mesa_ledger.proofs.mesa_walk.Clock.{begun_moment, closing, not_closing}
+use Rattle.mesa_ledger.proofs.mesa_walk.Turning.{stays}
 use Rattle.mesa_ledger.specs.Ledger.{Ledger, books_of, most_files}
 use Rattle.mesa_ledger.specs.Turned.{closed_ledger}
 use Rattle.mesa_ledger.specs.Vault.{Origin, IsVault, Starts, outset_of}

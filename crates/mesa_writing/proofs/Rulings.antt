@@ -23,18 +23,18 @@ use Rattle.mesa_history.specs.Replay.{is_skip, no_rows as no_lines}
 use Rattle.mesa_history.specs.Run.{State, First, Finished}
 use Rattle.mesa_history.specs.Turns.{IsDue}
 use Rattle.mesa_record.specs.declared.record.Record.{Record}
-use Rattle.mesa_image.specs.Fitting.{brought, shelved_id}
-use Rattle.mesa_image.specs.Sound.{IsTold, wants}
+use Rattle.mesa_catalog.specs.mesa_image.Fitting.{brought, shelved_id}
+use Rattle.mesa_catalog.specs.mesa_image.Sound.{IsTold, wants}
 use Rattle.mesa_script.specs.Rows.{body_of}
 use Rattle.mesa_rules.specs.declared.ruled.Ruled.{Ruled}
 use Rattle.mesa_rules.specs.Ruled.{IsRuled, IsRefused as IsUnruled}
 use Rattle.mesa_rules.specs.Seen.{HasCatalog, known_of}
 use Rattle.mesa_skeleton.specs.Rows.{Rows, no_rows}
-use Rattle.mesa_walk.specs.Causes.{NoMemory}
-use Rattle.mesa_walk.specs.Changes.{Doing, HasFailed}
-use Rattle.mesa_walk.specs.Turns.{Shown, IsSeen, Takes, entry}
-use Rattle.mesa_walk.specs.Walk.{run_at}
-use Rattle.mesa_walk.proofs.Going.{publish_takes, simple_takes}
+use Rattle.mesa_ledger.specs.mesa_walk.Causes.{NoMemory}
+use Rattle.mesa_ledger.specs.mesa_walk.Changes.{Doing, HasFailed}
+use Rattle.mesa_ledger.specs.mesa_walk.Turns.{Shown, IsSeen, Takes, entry}
+use Rattle.mesa_ledger.specs.mesa_walk.Walk.{run_at}
+use Rattle.mesa_ledger.proofs.mesa_walk.Going.{publish_takes, simple_takes}
 use Rattle.mesa_ledger.specs.Ledger.{Ledger, books_of, skeleton_of}
 use Rattle.mesa_log.specs.Failure.{cause_in}
 use Rattle.mesa_engine.specs.Failing.{HasNotDone, deciding_kind, deciding_stage}

@@ -18,15 +18,15 @@ use Rattle.mesa_history.specs.Turns.{IsDue}
 use Rattle.mesa_record.specs.declared.record.Record.{Record}
 use Rattle.mesa_record.specs.Reading.{record_at}
 use Rattle.mesa_record.specs.Rules.{IsTyped}
-use Rattle.mesa_image.specs.Catalog.{Catalog, applied}
-use Rattle.mesa_image.specs.Contents.{kept_of}
-use Rattle.mesa_image.specs.Fitting.{Shelved, shelved, shelved_id}
-use Rattle.mesa_image.specs.Held.{IsHeld, IsUnnamed, StandsForEither as EitherOf}
-use Rattle.mesa_image.specs.Sound.{StandsFor}
-use Rattle.mesa_image_laws.proofs.Agreeing.{agree_wants}
-use Rattle.mesa_image_laws.proofs.Ids.{own_ids}
-use Rattle.mesa_image_laws.proofs.Wholes.{fits_shaped}
-use Rattle.mesa_image_laws.specs.Ids.{named}
+use Rattle.mesa_catalog.specs.mesa_image.Catalog.{Catalog, applied}
+use Rattle.mesa_catalog.specs.mesa_image.Contents.{kept_of}
+use Rattle.mesa_catalog.specs.mesa_image.Fitting.{Shelved, shelved, shelved_id}
+use Rattle.mesa_catalog.specs.mesa_image.Held.{IsHeld, IsUnnamed, StandsForEither as EitherOf}
+use Rattle.mesa_catalog.specs.mesa_image.Sound.{StandsFor}
+use Rattle.mesa_ledger.proofs.mesa_image_laws.Agreeing.{agree_wants}
+use Rattle.mesa_ledger.proofs.mesa_image_laws.Ids.{own_ids}
+use Rattle.mesa_ledger.proofs.mesa_image_laws.Wholes.{fits_shaped}
+use Rattle.mesa_ledger.specs.mesa_image_laws.Ids.{named}
 use Rattle.mesa_catalog.specs.Lookups.{generation_of, turns_generation}
 use Rattle.mesa_store.specs.Store.{Writes as IsWritten}
 use Rattle.mesa_output.specs.Output.{block}
@@ -34,10 +34,10 @@ use Rattle.mesa_skeleton.specs.Rows.{Rows}
 use Rattle.mesa_trash.proofs.Filing.{freed_unnamed}
 use Rattle.mesa_trash.specs.Filed.{AreGiven, Renames}
 use Rattle.mesa_trash.specs.Holding.{Among, freed, ids_of}
-use Rattle.mesa_walk.specs.Causes.{Unwritten, reply_of, told_at}
-use Rattle.mesa_walk.specs.Printing.{IsPut}
-use Rattle.mesa_walk.specs.Turns.{entry}
-use Rattle.mesa_walk.specs.Walk.{Counts, Passes, StandsForEither, Writes, run_of}
+use Rattle.mesa_ledger.specs.mesa_walk.Causes.{Unwritten, reply_of, told_at}
+use Rattle.mesa_ledger.specs.mesa_walk.Printing.{IsPut}
+use Rattle.mesa_ledger.specs.mesa_walk.Turns.{entry}
+use Rattle.mesa_ledger.specs.mesa_walk.Walk.{Counts, Passes, StandsForEither, Writes, run_of}
 use Rattle.mesa_ledger.specs.Ledger.{Ledger, first_id, holders, ids_held, next_id}
 use Rattle.mesa_ledger.specs.Recorded.{IsRecorded, failed_ledger, recorded_ledger, removed_by, waiting}
 use Rattle.mesa_ledger.specs.Vault.{IsVault, Starts, outset_of}

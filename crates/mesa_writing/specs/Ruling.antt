@@ -8,7 +8,7 @@ use Rattle.mesa_history.specs.Turns.{IsDue}
 use Rattle.mesa_asked.specs.declared.failure.Failure.{Failure as Unruled}
 use Rattle.mesa_asked.specs.declared.failure.Failure.TheVariants as unruled
 use Rattle.mesa_record.specs.Rules.{keeps_rules}
-use Rattle.mesa_image.specs.Fitting.{fits}
+use Rattle.mesa_catalog.specs.mesa_image.Fitting.{fits}
 use Rattle.mesa_skeleton.specs.Rows.{no_rows}
 use Rattle.mesa_ledger.specs.Ledger.{Ledger, books_of}
 use Rattle.mesa_log.specs.Failure.{cause_in}

@@ -21,14 +21,14 @@ use Rattle.mesa_record.specs.declared.record.Part.{Part}
 use Rattle.mesa_record.specs.declared.record.Record.{Record}
 use Rattle.mesa_record.specs.declared.record.Record.TheVariants as record_of
 use Rattle.mesa_record.specs.Rules.{keeps_rules}
-use Rattle.mesa_image.specs.Catalog.{stock_at}
-use Rattle.mesa_image.specs.Fitting.{brought, fits}
-use Rattle.mesa_image.specs.Sound.{wants}
-use Rattle.mesa_image_laws.specs.Brought.{AreTold, BringsAll}
-use Rattle.mesa_image_laws.specs.Ids.{brought_ids}
-use Rattle.mesa_image_laws.specs.Sourced.{tables_read}
+use Rattle.mesa_catalog.specs.mesa_image.Catalog.{stock_at}
+use Rattle.mesa_catalog.specs.mesa_image.Fitting.{brought, fits}
+use Rattle.mesa_catalog.specs.mesa_image.Sound.{wants}
+use Rattle.mesa_ledger.specs.mesa_image_laws.Brought.{AreTold, BringsAll}
+use Rattle.mesa_ledger.specs.mesa_image_laws.Ids.{brought_ids}
+use Rattle.mesa_ledger.specs.mesa_image_laws.Sourced.{tables_read}
 use Rattle.mesa_skeleton.specs.Rows.{Rows, no_rows}
-use Rattle.mesa_walk.specs.Changes.{Doing}
+use Rattle.mesa_ledger.specs.mesa_walk.Changes.{Doing}
 use Rattle.mesa_ledger.specs.Ledger.{Ledger, books_of, next_id}
 use Rattle.mesa_ledger.specs.Recorded.{Adopts}
 use Rattle.mesa_publishing.specs.Published.{AllTell}

@@ -3,8 +3,8 @@ ghost use Rattle.std.specs.Prelude.{◌≡◌, ◌<◌, true, length};
 ghost use Rattle.mesa_history.specs.Run.{Finished};
 ghost use Rattle.mesa_model.specs.declared.entries.Kind.TheVariants as kind;
 ghost use Rattle.mesa_skeleton.specs.Rows.{no_rows};
-ghost use Rattle.mesa_walk.specs.Turns.{Takes};
-ghost use Rattle.mesa_walk.specs.Walk.{run_at};
+ghost use Rattle.mesa_ledger.specs.mesa_walk.Turns.{Takes};
+ghost use Rattle.mesa_ledger.specs.mesa_walk.Walk.{run_at};
 ghost use Rattle.mesa_writing.specs.Ruling.{IsRuling};
 
 use crate::writing::{Change, write};

@@ -1,7 +1,7 @@
 // A turn that writes.
 ghost use Rattle.std.specs.Prelude.{◌≡◌, ◌<◌, [], true, length, None, Some, Ok, IsTrue, IfOk, OnErr, OnOk};
 ghost use Rattle.mesa_history.specs.Run.{Finished};
-ghost use Rattle.mesa_image.specs.Fitting.{fits};
+ghost use Rattle.mesa_catalog.specs.mesa_image.Fitting.{fits};
 ghost use Rattle.mesa_key.specs.Spelling.{AreBytes};
 ghost use Rattle.mesa_ledger.specs.Recorded.{removed_by};
 ghost use Rattle.mesa_model.specs.declared.entries.Kind.TheVariants as kind;
@@ -9,8 +9,8 @@ ghost use Rattle.mesa_publishing.specs.Published.{AllTell};
 ghost use Rattle.mesa_record.specs.Reading.{record_at};
 ghost use Rattle.mesa_record.specs.Rules.{keeps_rules};
 ghost use Rattle.mesa_skeleton.specs.Rows.{Rows, no_rows};
-ghost use Rattle.mesa_walk.specs.Turns.{AnswersDraft, Takes};
-ghost use Rattle.mesa_walk.specs.Walk.{run_at};
+ghost use Rattle.mesa_ledger.specs.mesa_walk.Turns.{AnswersDraft, Takes};
+ghost use Rattle.mesa_ledger.specs.mesa_walk.Walk.{run_at};
 ghost use Rattle.mesa_writing.specs.Writing.{IsToWrite};
 
 use mesa_disk::{Adoption, Disk, Made};

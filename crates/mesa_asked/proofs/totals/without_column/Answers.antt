@@ -3,7 +3,7 @@ use Rattle.std.specs.Prelude.{min}
 use Rattle.std.proofs.lemmas.List.{drop_min, take-map, take_min, take_rest}
 use Rattle.mesa_value.specs.declared.Agg.{Agg}
 use Rattle.mesa_schema.specs.declared.columns.ValueColumn.{ValueColumn}
-use Rattle.mesa_batch.specs.Totals.{sums_in, totals_without}
+use Rattle.mesa_model.specs.mesa_batch.Totals.{sums_in, totals_without}
 use Rattle.mesa_asked.proofs.totals.without_column.Goals as goal
 
 pub returns : goal.returns

@@ -7,9 +7,9 @@ use Rattle.mesa_skeleton.specs.Rows.{Rows, no_rows}
 use Rattle.mesa_ledger.specs.Vault.{Starts}
 use Rattle.mesa_ledger.proofs.Beginning.{vault_at_seen}
 use Rattle.mesa_tasks.specs.GivingBack.{pinned_inputs}
-use Rattle.mesa_walk.specs.Queries.{closing_fault}
-use Rattle.mesa_walk.specs.Turns.{Shown, Takes}
-use Rattle.mesa_walk.specs.Walk.{run_at}
+use Rattle.mesa_ledger.specs.mesa_walk.Queries.{closing_fault}
+use Rattle.mesa_ledger.specs.mesa_walk.Turns.{Shown, Takes}
+use Rattle.mesa_ledger.specs.mesa_walk.Walk.{run_at}
 use Rattle.mesa_engine.specs.Engine.{Standing, IsEngine, starts_of}
 use Rattle.mesa_asking.specs.Closing.{IsPageOf, IsToClose, cause_if, closing_entry, closing_text}
 use Rattle.mesa_asking.proofs.Closes.{closed_engine, closed_takes, given_counts, tells_answer}

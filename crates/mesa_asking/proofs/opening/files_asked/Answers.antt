@@ -7,21 +7,21 @@ use Rattle.mesa_asking.proofs.There.{name_there, view_within}
 use Rattle.mesa_asking.proofs.opening.files_asked.Goals as goal
 use Rattle.mesa_catalog.proofs.Stocks.{all_at}
 use Rattle.mesa_filter.specs.Query.{IsQueryOf}
-use Rattle.mesa_image.specs.Catalog.{Delta, Stock, no_stock, stock_at}
-use Rattle.mesa_image.specs.Fitting.{deltas_of}
-use Rattle.mesa_image.specs.Shape.{IsShaped}
+use Rattle.mesa_catalog.specs.mesa_image.Catalog.{Delta, Stock, no_stock, stock_at}
+use Rattle.mesa_catalog.specs.mesa_image.Fitting.{deltas_of}
+use Rattle.mesa_catalog.specs.mesa_image.Shape.{IsShaped}
 use Rattle.mesa_ledger.specs.Ledger.{books_of}
-use Rattle.mesa_image_laws.specs.Planned.{planned}
+use Rattle.mesa_ledger.specs.mesa_image_laws.Planned.{planned}
 use Rattle.mesa_pinning.specs.Read.{IsPinnedFor, SomeUnsound, relation_read}
-use Rattle.mesa_plans.specs.Files.{want_in}
+use Rattle.mesa_pinning.specs.mesa_plans.Files.{want_in}
 use Rattle.mesa_pinning.proofs.Telling.{pinned_is}
 use Rattle.mesa_rules.specs.Found.{answer_found}
 use Rattle.mesa_schema.specs.Changes.{epoch_of}
 use Rattle.mesa_schema.specs.Columns.{Columns}
 use Rattle.mesa_skeleton.specs.Rows.{no_rows}
-use Rattle.mesa_walk.specs.Causes.{Cause, outcome_of}
-use Rattle.mesa_walk.specs.Queries.{HasNoAnswer}
-use Rattle.mesa_walk.specs.Undamaged.{is_damaged}
+use Rattle.mesa_ledger.specs.mesa_walk.Causes.{Cause, outcome_of}
+use Rattle.mesa_ledger.specs.mesa_walk.Queries.{HasNoAnswer}
+use Rattle.mesa_ledger.specs.mesa_walk.Undamaged.{is_damaged}
 
 pub returns-in-Err-clause-refused : goal.returns-in-Err-clause-refused
 returns-in-Err-clause-refused g c =

@@ -17,11 +17,11 @@ use Rattle.mesa_model.specs.declared.entries.Kind.TheVariants as kind
 use Rattle.mesa_model.specs.declared.entries.Outcome.TheVariants as outcome
 use Rattle.mesa_pinning.specs.Told.{Tells}
 use Rattle.mesa_skeleton.specs.Rows.{Rows, no_rows}
-use Rattle.mesa_walk.proofs.Alike.{due_alike}
-use Rattle.mesa_walk.specs.Causes.{outcome_of}
-use Rattle.mesa_walk.specs.Queries.{IsOpen}
-use Rattle.mesa_walk.specs.Turns.{Shown, Takes, entry}
-use Rattle.mesa_walk.specs.Walk.{run_at}
+use Rattle.mesa_ledger.proofs.mesa_walk.Alike.{due_alike}
+use Rattle.mesa_ledger.specs.mesa_walk.Causes.{outcome_of}
+use Rattle.mesa_ledger.specs.mesa_walk.Queries.{IsOpen}
+use Rattle.mesa_ledger.specs.mesa_walk.Turns.{Shown, Takes, entry}
+use Rattle.mesa_ledger.specs.mesa_walk.Walk.{run_at}
 
 pub skip-requires-clause-due : goal.skip-requires-clause-due
 skip-requires-clause-due g c κs within w =

@@ -1,5 +1,5 @@
 use Rattle.std.proofs.Common.{map}
-use Rattle.mesa_image.specs.Fitting.{stock_shelved}
+use Rattle.mesa_image_laws.specs.mesa_image.Fitting.{stock_shelved}
 use Rattle.mesa_shelf.specs.declared.table.Table.{Table}
 use Rattle.mesa_shelf.specs.Files.{recorded_of}
 use Rattle.mesa_shelf.specs.Meaning.{stock_of}

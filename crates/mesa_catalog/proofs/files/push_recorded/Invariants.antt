@@ -1,6 +1,6 @@
 use Rattle.std.proofs.Common.{◌≡◌, ℕ, ◌++◌, map, take}
 use Rattle.std.specs.Prelude.{flat_map}
-use Rattle.mesa_image.specs.Fitting.{stock_shelved}
+use Rattle.mesa_image_laws.specs.mesa_image.Fitting.{stock_shelved}
 use Rattle.mesa_shelf.specs.declared.table.Table.{Table}
 use Rattle.mesa_shelf.specs.Files.{recorded_of}
 use Rattle.mesa_shelf.specs.Meaning.{stock_of}

@@ -3,8 +3,8 @@ use Rattle.mesa_history.specs.Run.{Renewed, Finished}
 use Rattle.mesa_model.specs.declared.commands.Command.TheVariants as command
 use Rattle.mesa_model.specs.declared.entries.Kind.TheVariants as kind
 use Rattle.mesa_skeleton.specs.Rows.{no_rows}
-use Rattle.mesa_walk.specs.Turns.{AnswersDraft, Takes}
-use Rattle.mesa_walk.proofs.Alike.{due_alike}
+use Rattle.mesa_ledger.specs.mesa_walk.Turns.{AnswersDraft, Takes}
+use Rattle.mesa_ledger.proofs.mesa_walk.Alike.{due_alike}
 use Rattle.mesa_engine.specs.Engine.{Standing}
 use Rattle.mesa_tasks.specs.Tasks.{claim_in}
 use Rattle.mesa_completing.proofs.completing.complete.Goals as goal

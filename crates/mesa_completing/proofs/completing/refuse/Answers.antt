@@ -11,10 +11,10 @@ use Rattle.mesa_ledger.proofs.Beginning.{vault_at_seen}
 use Rattle.mesa_log.specs.Failure.{cause_in}
 use Rattle.mesa_metadata.specs.Memory.{Memory}
 use Rattle.mesa_skeleton.specs.Rows.{no_rows}
-use Rattle.mesa_walk.specs.Causes.{outcome_of}
-use Rattle.mesa_walk.specs.Turns.{AnswersDraft, Shown, Takes, entry}
-use Rattle.mesa_walk.specs.Walk.{run_at}
-use Rattle.mesa_walk.proofs.Alike.{due_alike}
+use Rattle.mesa_ledger.specs.mesa_walk.Causes.{outcome_of}
+use Rattle.mesa_ledger.specs.mesa_walk.Turns.{AnswersDraft, Shown, Takes, entry}
+use Rattle.mesa_ledger.specs.mesa_walk.Walk.{run_at}
+use Rattle.mesa_ledger.proofs.mesa_walk.Alike.{due_alike}
 use Rattle.mesa_engine.specs.Engine.{Standing, IsEngine, starts_of}
 use Rattle.mesa_engine.proofs.Drafting.{answers_none}
 use Rattle.mesa_tasks.specs.Tasks.{claim_in}

@@ -7,8 +7,8 @@ use Rattle.mesa_history.specs.Refused.{is_refusal}
 use Rattle.mesa_history.specs.Run.{Finished, Renewed}
 use Rattle.mesa_history.specs.Turns.{IsDue}
 use Rattle.mesa_image.specs.Catalog.{applied, stock_at}
-use Rattle.mesa_image_laws.specs.Ids.{dropped_ids}
-use Rattle.mesa_catalog.specs.Lookups.{generation_of, turns_generation}
+use Rattle.mesa_ledger.specs.mesa_image_laws.Ids.{dropped_ids}
+use Rattle.mesa_metadata.specs.mesa_catalog.Lookups.{generation_of, turns_generation}
 use Rattle.mesa_lease.specs.Book.{ended}
 use Rattle.mesa_model.specs.Entry.{IsShort}
 use Rattle.mesa_model.specs.declared.commands.Command.TheVariants as command
@@ -20,11 +20,11 @@ use Rattle.mesa_script.specs.Rows.{body_of}
 use Rattle.mesa_skeleton.specs.Rows.{Rows, no_rows}
 use Rattle.mesa_swapping.specs.Finished.{HasRange, IsFinished}
 use Rattle.mesa_swapping.specs.Swapped.{IsSwapped}
-use Rattle.mesa_walk.specs.Causes.{Replies, Unwritten, told_at}
-use Rattle.mesa_walk.specs.Turns.{AnswersDraft, Shown, Takes, entry}
-use Rattle.mesa_walk.specs.Walk.{Counts, run_at}
-use Rattle.mesa_walk.proofs.Alike.{due_alike}
-use Rattle.mesa_walk.proofs.Clock.{closing}
+use Rattle.mesa_ledger.specs.mesa_walk.Causes.{Replies, Unwritten, told_at}
+use Rattle.mesa_ledger.specs.mesa_walk.Turns.{AnswersDraft, Shown, Takes, entry}
+use Rattle.mesa_ledger.specs.mesa_walk.Walk.{Counts, run_at}
+use Rattle.mesa_ledger.proofs.mesa_walk.Alike.{due_alike}
+use Rattle.mesa_ledger.proofs.mesa_walk.Clock.{closing}
 use Rattle.mesa_ledger.specs.Ledger.{Ledger, books_of}
 use Rattle.mesa_ledger.specs.Recorded.{failed_ledger, recorded_ledger, removed_by}
 use Rattle.mesa_ledger.specs.Turned.{leased_ledger}

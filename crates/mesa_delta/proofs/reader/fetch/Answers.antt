@@ -2,7 +2,7 @@ use Rattle.std.proofs.Common.{◌≡◌, ◌∙◌, List, ℕ, inr, rules, sym, 
 use Rattle.std.specs.Prelude.{IfNone}
 use Rattle.sha2.specs.Sha256.{sha256}
 use Rattle.mesa_schema.specs.Columns.{Columns}
-use Rattle.mesa_file.specs.declared.damage.Seen.TheVariants.{Fits, Misfit}
+use Rattle.mesa_disk.specs.mesa_file.declared.damage.Seen.TheVariants.{Fits, Misfit}
 use Rattle.mesa_delta.specs.declared.place.Entry.{Entry}
 use Rattle.mesa_delta.specs.Damages.{IsPiece, IsMisfit}
 use Rattle.mesa_delta.specs.Places.{entry_of}

@@ -1,7 +1,7 @@
 use Rattle.std.proofs.Common.{◌≡◌, ◌<◌, ◌≤◌, ◌∙◌, get_or, length, refl, sym, rules}
 use Rattle.std.specs.Prelude.{is_ok, true}
 use Rattle.std.specs.declared.cmp.Ordering.TheVariants.{Equal}
-use Rattle.mesa_key.specs.Order.{byte_cmp}
+use Rattle.mesa_schema.specs.mesa_key.Order.{byte_cmp}
 use Rattle.mesa_schema.specs.Folded.{row_combined}
 use Rattle.mesa_fold.proofs.Kept.{rising-IsFold}
 use Rattle.mesa_fold.proofs.Place.{comparisons-rise, put_row-found, put_row-missing}

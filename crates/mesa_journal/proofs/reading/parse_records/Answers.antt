@@ -1,7 +1,7 @@
 use Rattle.std.proofs.Common.{◌≡◌, ℕ, List, [], ◌∷◌, ◌+◌, ◌++◌, length, take, drop, get_or, ◌-◌, subst, sym, ◌∙◌, ap, arith, rules}
 use Rattle.std.proofs.lemmas.List.{drop_more, take_rest, map-append}
 use Rattle.std.specs.List.{AllByRecursion}
-use Rattle.mesa_key.specs.Spelling.{AreBytes}
+use Rattle.mesa_disk.specs.mesa_key.Spelling.{AreBytes}
 use Rattle.mesa_journal.specs.Read.{bodies_of, placed_from}
 use Rattle.mesa_journal.specs.declared.reading.Body.{Body}
 use Rattle.mesa_journal.proofs.Tails.{Parsed, bytes_push, parsed_more, placed_from-push}

@@ -1,6 +1,6 @@
 use Rattle.std.proofs.Common.{◌≡◌, ◌-◌, length}
 use Rattle.std.specs.List.{AllByRecursion}
-use Rattle.mesa_key.specs.Spelling.{AreBytes}
+use Rattle.mesa_disk.specs.mesa_key.Spelling.{AreBytes}
 use Rattle.mesa_journal.specs.Read.{bodies_of, placed_from}
 use Rattle.mesa_journal.proofs.Tails.{Parsed}
 use Rattle.mesa_journal.proofs.reading.parse_records.Given as goal

@@ -1,8 +1,8 @@
 use Rattle.std.proofs.Common.{◌++◌, ◌∷◌, [], ap, subst, sym}
 use Rattle.mesa_disk.specs.Story.{Steps}
 use Rattle.mesa_commit.specs.Turn.{MovesOnly}
-use Rattle.mesa_image.specs.Catalog.{applied}
-use Rattle.mesa_image.specs.Held.{IsHeld}
+use Rattle.mesa_image_laws.specs.mesa_image.Catalog.{applied}
+use Rattle.mesa_image_laws.specs.mesa_image.Held.{IsHeld}
 use Rattle.mesa_disk.specs.Files.{files_of}
 use Rattle.mesa_opening.specs.Opening.{run_record}
 use Rattle.mesa_opening.proofs.Beginnings.{begun_images, writes_run}

@@ -3,10 +3,10 @@ use Rattle.mesa_schema.specs.Columns.{Columns, aggs_of}
 use Rattle.mesa_schema.specs.Changes.{columns_of, epoch_of}
 use Rattle.mesa_schema.specs.Schema.{is_schema}
 use Rattle.mesa_batch.specs.Totals.{sum_places}
-use Rattle.mesa_image.specs.Catalog.{Catalog, stock_at}
-use Rattle.mesa_image.specs.Shape.{IsCatalog, IsShaped}
-use Rattle.mesa_image_laws.proofs.Lifted.{columns_now}
-use Rattle.mesa_image_laws.proofs.Lists.{stock_found}
+use Rattle.mesa_catalog.specs.mesa_image.Catalog.{Catalog, stock_at}
+use Rattle.mesa_catalog.specs.mesa_image.Shape.{IsCatalog, IsShaped}
+use Rattle.mesa_catalog.proofs.mesa_image_laws.Lifted.{columns_now}
+use Rattle.mesa_catalog.proofs.mesa_image_laws.Lists.{stock_found}
 use Rattle.mesa_publishing.proofs.Totals.{few_totals, over_within}
 use Rattle.mesa_publishing.proofs.bounds.check_totals.Goals as goal
 

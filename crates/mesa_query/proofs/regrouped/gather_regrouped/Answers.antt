@@ -10,7 +10,7 @@ use Rattle.mesa_schema.specs.Rows.{AreRowsOf}
 use Rattle.mesa_filter.specs.Filter.{KeyFilter}
 use Rattle.mesa_delta.specs.declared.error.FileError.TheVariants as file_error
 use Rattle.mesa_delta.specs.Indexed.{Indexed}
-use Rattle.mesa_cursor.specs.Cursors.{lift_by, reader_in}
+use Rattle.mesa_scan.specs.mesa_cursor.Cursors.{lift_by, reader_in}
 use Rattle.mesa_scan.specs.Matching.{matching_rows}
 use Rattle.mesa_scan.specs.Scanning.{filter_of}
 use Rattle.mesa_scan.proofs.Onwards.{damaged_before, same_input}

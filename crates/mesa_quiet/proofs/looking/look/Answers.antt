@@ -1,8 +1,8 @@
 use Rattle.std.proofs.Common.{◌≡◌, [], ◌∷◌, ◌++◌, Bool, true, false, not, refl, sym, ◌∙◌, ap, subst, arith}
 use Rattle.std.specs.Prelude.{IfOk}
 use Rattle.mesa_batch.specs.Glance.{Sight, tables_of}
-use Rattle.mesa_catalog.specs.Lookups.{sight_of}
-use Rattle.mesa_walk.specs.Sight.{tables_seen}
+use Rattle.mesa_rules.specs.mesa_catalog.Lookups.{sight_of}
+use Rattle.mesa_ledger.specs.mesa_walk.Sight.{tables_seen}
 use Rattle.mesa_engine.proofs.Seeing.{ok_also, tables_are_seen}
 use Rattle.mesa_history.specs.Run.{First, Looked}
 use Rattle.mesa_history.specs.Turns.{IsDue}
@@ -13,11 +13,11 @@ use Rattle.mesa_model.specs.declared.entries.Kind.TheVariants as kind
 use Rattle.mesa_ledger.specs.Vault.{Starts, outset_of}
 use Rattle.mesa_ledger.proofs.Beginning.{vault_at_seen}
 use Rattle.mesa_skeleton.specs.Rows.{no_rows}
-use Rattle.mesa_walk.specs.Turns.{Asks, Shown, Takes, entry, is_load, looking}
-use Rattle.mesa_walk.specs.Undamaged.{is_damaged}
-use Rattle.mesa_walk.specs.Walk.{run_at}
-use Rattle.mesa_walk.proofs.Alike.{due_alike}
-use Rattle.mesa_walk.proofs.Going.{look_takes}
+use Rattle.mesa_ledger.specs.mesa_walk.Turns.{Asks, Shown, Takes, entry, is_load, looking}
+use Rattle.mesa_ledger.specs.mesa_walk.Undamaged.{is_damaged}
+use Rattle.mesa_ledger.specs.mesa_walk.Walk.{run_at}
+use Rattle.mesa_ledger.proofs.mesa_walk.Alike.{due_alike}
+use Rattle.mesa_ledger.proofs.mesa_walk.Going.{look_takes}
 use Rattle.mesa_engine.specs.Engine.{Standing, IsEngine, starts_of}
 use Rattle.mesa_engine.proofs.Turning.{passed_engine}
 use Rattle.mesa_quiet.proofs.Looks.{load_of, looked_vault, skips}

@@ -1,7 +1,7 @@
 use Rattle.std.proofs.Common.{arith}
 use Rattle.mesa_skeleton.specs.Rows.{no_rows}
-use Rattle.mesa_passes.proofs.Answering.{answers_at, answers_owed}
-use Rattle.mesa_passes.proofs.Turning.{took_both, took_fewer}
+use Rattle.mesa_core.proofs.mesa_passes.Answering.{answers_at, answers_owed}
+use Rattle.mesa_core.proofs.mesa_passes.Turning.{took_both, took_fewer}
 use Rattle.mesa_service.specs.Drafts.{owed_by_load}
 use Rattle.mesa_session.proofs.commands.load.Goals as goal
 

@@ -3,8 +3,8 @@ use Rattle.std.specs.Prelude.{IfOk}
 use Rattle.mesa_core.specs.Handing.{Tells}
 use Rattle.mesa_model.specs.Entry.{history_of}
 use Rattle.mesa_skeleton.specs.Rows.{no_rows}
-use Rattle.mesa_passes.proofs.Answering.{answers_both}
-use Rattle.mesa_passes.proofs.Turning.{took_both, took_fewer}
+use Rattle.mesa_core.proofs.mesa_passes.Answering.{answers_both}
+use Rattle.mesa_core.proofs.mesa_passes.Turning.{took_both, took_fewer}
 use Rattle.mesa_service.specs.Pins.{CanBeAnswered, IsOpenQuery, KnownPin, known_pin}
 use Rattle.mesa_session.proofs.commands.query.Goals as goal
 

@@ -4,11 +4,11 @@ use Rattle.mesa_history.specs.Turns.{place_then}
 use Rattle.mesa_history.proofs.Due.{command_there}
 use Rattle.mesa_model.specs.declared.commands.Command.{Command}
 use Rattle.mesa_skeleton.specs.Rows.{no_rows}
-use Rattle.mesa_passes.specs.Passes.{Mine}
-use Rattle.mesa_passes.proofs.Answering.{answers_both}
-use Rattle.mesa_passes.proofs.Dividing.{gains}
-use Rattle.mesa_passes.proofs.Ending.{ended_cut, ended_whole}
-use Rattle.mesa_passes.proofs.Turning.{took_both, took_fewer}
+use Rattle.mesa_core.specs.mesa_passes.Passes.{Mine}
+use Rattle.mesa_core.proofs.mesa_passes.Answering.{answers_both}
+use Rattle.mesa_core.proofs.mesa_passes.Dividing.{gains}
+use Rattle.mesa_core.proofs.mesa_passes.Ending.{ended_cut, ended_whole}
+use Rattle.mesa_core.proofs.mesa_passes.Turning.{took_both, took_fewer}
 use Rattle.mesa_session.proofs.session.run_session.Goals as goal
 
 pub run_command-next-requires-clause-known : goal.run_command-next-requires-clause-known

@@ -1,8 +1,8 @@
 use Rattle.std.proofs.Common.{◌+◌, ◌*◌}
 use Rattle.mesa_history.specs.Run.{First}
 use Rattle.mesa_skeleton.specs.Rows.{no_rows}
-use Rattle.mesa_passes.specs.Answers.{Answers}
-use Rattle.mesa_passes.specs.Passes.{Mine, Took, at_stage}
+use Rattle.mesa_core.specs.mesa_passes.Answers.{Answers}
+use Rattle.mesa_core.specs.mesa_passes.Passes.{Mine, Took, at_stage}
 use Rattle.mesa_session.proofs.session.run_session.Given as goal
 
 -- the session has taken at most three turns for each command before the one at hand, and answered no more faults of its bench than this counted

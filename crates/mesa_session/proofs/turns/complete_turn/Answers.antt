@@ -8,8 +8,8 @@ use Rattle.mesa_history.specs.Run.{Finished}
 use Rattle.mesa_model.specs.declared.entries.Kind.TheVariants as kind
 use Rattle.mesa_skeleton.specs.Rows.{no_rows}
 use Rattle.mesa_walk.specs.Works.{closing_stage}
-use Rattle.mesa_passes.proofs.Answering.{step_drafts}
-use Rattle.mesa_passes.proofs.Turning.{Step, step_took}
+use Rattle.mesa_core.proofs.mesa_passes.Answering.{step_drafts}
+use Rattle.mesa_core.proofs.mesa_passes.Turning.{Step, step_took}
 use Rattle.mesa_tasks.specs.declared.merging.CompactError.TheVariants as compact
 use Rattle.mesa_service.specs.Drafts.{owed_by_work}
 use Rattle.mesa_tasks.specs.Tasks.{claim_in}

@@ -6,8 +6,8 @@ use Rattle.mesa_history.specs.Legal.{is_work}
 use Rattle.mesa_history.specs.Run.{First, Granted}
 use Rattle.mesa_model.specs.declared.entries.Kind.TheVariants as kind
 use Rattle.mesa_skeleton.specs.Rows.{no_rows}
-use Rattle.mesa_passes.proofs.Answering.{none_granting, step_none}
-use Rattle.mesa_passes.proofs.Turning.{Step, step_took, step_seen}
+use Rattle.mesa_core.proofs.mesa_passes.Answering.{none_granting, step_none}
+use Rattle.mesa_core.proofs.mesa_passes.Turning.{Step, step_took, step_seen}
 use Rattle.mesa_walk.specs.Works.{stage_if}
 use Rattle.mesa_tasks.specs.Tasks.{claim_in}
 use Rattle.mesa_session.proofs.Found.{granted_then}

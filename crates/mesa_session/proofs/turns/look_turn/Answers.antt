@@ -7,8 +7,8 @@ use Rattle.mesa_model.specs.declared.entries.Entry.{Entry}
 use Rattle.mesa_model.specs.declared.entries.Kind.TheVariants as kind
 use Rattle.mesa_skeleton.specs.Rows.{no_rows}
 use Rattle.mesa_walk.specs.Turns.{is_load}
-use Rattle.mesa_passes.proofs.Answering.{none_looking, step_none}
-use Rattle.mesa_passes.proofs.Turning.{Step, step_took, step_seen}
+use Rattle.mesa_core.proofs.mesa_passes.Answering.{none_looking, step_none}
+use Rattle.mesa_core.proofs.mesa_passes.Turning.{Step, step_took, step_seen}
 use Rattle.mesa_service.specs.Sight.{sight_after}
 use Rattle.mesa_session.proofs.Stepping.{Enters, asks, goes_on, one, room_for, step}
 use Rattle.mesa_session.proofs.turns.look_turn.Goals as goal

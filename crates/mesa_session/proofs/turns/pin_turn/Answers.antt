@@ -6,8 +6,8 @@ use Rattle.mesa_history.specs.Legal.{is_query}
 use Rattle.mesa_history.specs.Run.{First, Finished}
 use Rattle.mesa_model.specs.declared.entries.Kind.TheVariants as kind
 use Rattle.mesa_skeleton.specs.Rows.{no_rows}
-use Rattle.mesa_passes.proofs.Answering.{none_asking, step_none}
-use Rattle.mesa_passes.proofs.Turning.{Step, step_took, step_holds, step_seen}
+use Rattle.mesa_core.proofs.mesa_passes.Answering.{none_asking, step_none}
+use Rattle.mesa_core.proofs.mesa_passes.Turning.{Step, step_took, step_holds, step_seen}
 use Rattle.mesa_session.proofs.Found.{query_opened, query_over, query_seen, query_turn}
 use Rattle.mesa_session.proofs.Stepping.{Enters, asks, ends_unless, one, room_for, step}
 use Rattle.mesa_session.proofs.turns.pin_turn.Goals as goal

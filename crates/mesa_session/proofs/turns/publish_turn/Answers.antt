@@ -7,8 +7,8 @@ use Rattle.mesa_model.specs.declared.commands.Command.TheVariants as command
 use Rattle.mesa_model.specs.declared.entries.Kind.TheVariants as kind
 use Rattle.mesa_skeleton.specs.Rows.{no_rows}
 use Rattle.mesa_walk.specs.Turns.{is_load}
-use Rattle.mesa_passes.proofs.Answering.{answers_within, step_drafts}
-use Rattle.mesa_passes.proofs.Turning.{Step, step_took}
+use Rattle.mesa_core.proofs.mesa_passes.Answering.{answers_within, step_drafts}
+use Rattle.mesa_core.proofs.mesa_passes.Turning.{Step, step_took}
 use Rattle.mesa_tasks.specs.declared.prepared.LoadError.TheVariants as load
 use Rattle.mesa_service.specs.Drafts.{owed_by_load}
 use Rattle.mesa_service.specs.Sight.{sight_after}

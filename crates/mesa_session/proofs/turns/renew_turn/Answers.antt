@@ -6,8 +6,8 @@ use Rattle.mesa_history.specs.Legal.{is_work}
 use Rattle.mesa_history.specs.Run.{Granted, Renewed}
 use Rattle.mesa_model.specs.declared.entries.Kind.TheVariants as kind
 use Rattle.mesa_skeleton.specs.Rows.{no_rows}
-use Rattle.mesa_passes.proofs.Answering.{none_renewing, step_none}
-use Rattle.mesa_passes.proofs.Turning.{Step, step_took}
+use Rattle.mesa_core.proofs.mesa_passes.Answering.{none_renewing, step_none}
+use Rattle.mesa_core.proofs.mesa_passes.Turning.{Step, step_took}
 use Rattle.mesa_walk.specs.Works.{stage_if}
 use Rattle.mesa_service.specs.Works.{known_task}
 use Rattle.mesa_tasks.specs.Tasks.{claim_in}

@@ -5,8 +5,8 @@ use Rattle.mesa_history.specs.Run.{First, Finished}
 use Rattle.mesa_model.specs.declared.entries.Kind.TheVariants as kind
 use Rattle.mesa_skeleton.specs.Rows.{no_rows}
 use Rattle.mesa_walk.specs.Turns.{is_simple}
-use Rattle.mesa_passes.proofs.Answering.{none_simple, step_none}
-use Rattle.mesa_passes.proofs.Turning.{Step, step_took}
+use Rattle.mesa_core.proofs.mesa_passes.Answering.{none_simple, step_none}
+use Rattle.mesa_core.proofs.mesa_passes.Turning.{Step, step_took}
 use Rattle.mesa_session.proofs.Stepping.{Enters, asks, goes_on, one, room_for, step}
 use Rattle.mesa_session.proofs.turns.simple_turn.Goals as goal
 

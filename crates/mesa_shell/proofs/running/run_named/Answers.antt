@@ -2,7 +2,7 @@ use Rattle.std.proofs.Common.{◌≡◌, [], length, true, false, not, refl, sym
 use Rattle.mesa_model.specs.declared.commands.Script.{Script}
 use Rattle.mesa_passes.specs.Passes.{turns_of}
 use Rattle.mesa_skeleton.specs.Rows.{no_rows}
-use Rattle.mesa_core.specs.Vault.{Stand}
+use Rattle.mesa_sessions.specs.mesa_core.Vault.{Stand}
 use Rattle.mesa_walk.specs.Walk.{AllFound}
 use Rattle.mesa_catalog.specs.declared.begun.Begun.{Begun}
 use Rattle.mesa_ending.specs.Run.{RanAnyhow, outset_from}

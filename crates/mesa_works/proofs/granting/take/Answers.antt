@@ -7,15 +7,15 @@ use Rattle.mesa_history.specs.Machine.{Claim, claim_of}
 use Rattle.mesa_history.specs.Replay.{is_skip}
 use Rattle.mesa_history.specs.Run.{First, Granted, Finished}
 use Rattle.mesa_history.specs.Turns.{IsDue}
-use Rattle.mesa_image.specs.Catalog.{Catalog, Delta, Stock, ranges_of, stock_at}
-use Rattle.mesa_image.specs.Fitting.{deltas_of, may_be_work}
+use Rattle.mesa_metadata.specs.mesa_image.Catalog.{Catalog, Delta, Stock, ranges_of, stock_at}
+use Rattle.mesa_metadata.specs.mesa_image.Fitting.{deltas_of, may_be_work}
 use Rattle.mesa_model.specs.Entry.{IsShort}
 use Rattle.mesa_model.specs.declared.commands.Command.TheVariants as command
 use Rattle.mesa_model.specs.declared.entries.Kind.TheVariants as kind
 use Rattle.mesa_model.specs.declared.entries.Outcome.TheVariants as outcome
 use Rattle.mesa_ledger.specs.Ledger.{Ledger, books_of}
-use Rattle.mesa_image_laws.proofs.Plans.{due_work_fits}
-use Rattle.mesa_image_laws.specs.Moves.{first_of, is_base, last_of}
+use Rattle.mesa_ledger.proofs.mesa_image_laws.Plans.{due_work_fits}
+use Rattle.mesa_ledger.specs.mesa_image_laws.Moves.{first_of, is_base, last_of}
 use Rattle.mesa_ledger.specs.Vault.{IsVault, Starts, outset_of}
 use Rattle.mesa_ledger.proofs.Beginning.{vault_at_seen}
 use Rattle.mesa_compact.specs.Bounded.{IsBounded}
@@ -23,16 +23,16 @@ use Rattle.mesa_log.specs.Failure.{cause_in}
 use Rattle.mesa_gather.specs.Gathered.{IsGathered, unread_views}
 use Rattle.mesa_lease.specs.Book.{granted}
 use Rattle.mesa_metadata.specs.Memory.{Memory, with_leases}
-use Rattle.mesa_shelf.specs.Meaning.{stock_of}
+use Rattle.mesa_gather.specs.mesa_shelf.Meaning.{stock_of}
 use Rattle.mesa_skeleton.specs.Rows.{Rows, no_rows}
 use Rattle.mesa_swapping.specs.Finished.{HasRange}
 use Rattle.mesa_tasks.specs.Tasks.{IsTask}
 use Rattle.mesa_tasks.specs.declared.merging.Task.{Task}
-use Rattle.mesa_walk.specs.Causes.{is_read_fault, outcome_of}
-use Rattle.mesa_walk.specs.Turns.{Shown, Takes, entry}
-use Rattle.mesa_walk.specs.Walk.{Counts, run_at}
-use Rattle.mesa_walk.specs.Works.{HasNoClaim}
-use Rattle.mesa_walk.proofs.Alike.{due_alike}
+use Rattle.mesa_ledger.specs.mesa_walk.Causes.{is_read_fault, outcome_of}
+use Rattle.mesa_ledger.specs.mesa_walk.Turns.{Shown, Takes, entry}
+use Rattle.mesa_ledger.specs.mesa_walk.Walk.{Counts, run_at}
+use Rattle.mesa_ledger.specs.mesa_walk.Works.{HasNoClaim}
+use Rattle.mesa_ledger.proofs.mesa_walk.Alike.{due_alike}
 use Rattle.mesa_engine.specs.Engine.{Standing, IsEngine, starts_of}
 use Rattle.mesa_works.specs.Claims.{claim_as}
 use Rattle.mesa_works.specs.Ranged.{written_at}

@@ -2,7 +2,7 @@ use Rattle.std.proofs.Common.{refl}
 use Rattle.mesa_history.specs.Run.{First, Finished}
 use Rattle.mesa_model.specs.declared.commands.Command.TheVariants as command
 use Rattle.mesa_skeleton.specs.Rows.{no_rows}
-use Rattle.mesa_walk.proofs.Alike.{due_alike}
+use Rattle.mesa_ledger.proofs.mesa_walk.Alike.{due_alike}
 use Rattle.mesa_writing.proofs.commands.table.Goals as goal
 
 pub skip-requires-clause-due : goal.skip-requires-clause-due

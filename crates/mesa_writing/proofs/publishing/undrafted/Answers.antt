@@ -7,11 +7,11 @@ use Rattle.mesa_model.specs.declared.entries.Kind.TheVariants as kind
 use Rattle.mesa_model.specs.declared.entries.Outcome.TheVariants as outcome
 use Rattle.mesa_model.specs.Load.{load_batch}
 use Rattle.mesa_skeleton.specs.Rows.{no_rows}
-use Rattle.mesa_walk.specs.Causes.{Unwritten, reply_of, told_at}
-use Rattle.mesa_walk.specs.Changes.{HasFailed}
-use Rattle.mesa_walk.specs.Turns.{Shown, Takes, entry}
-use Rattle.mesa_walk.specs.Walk.{run_at}
-use Rattle.mesa_walk.proofs.Going.{publish_takes}
+use Rattle.mesa_ledger.specs.mesa_walk.Causes.{Unwritten, reply_of, told_at}
+use Rattle.mesa_ledger.specs.mesa_walk.Changes.{HasFailed}
+use Rattle.mesa_ledger.specs.mesa_walk.Turns.{Shown, Takes, entry}
+use Rattle.mesa_ledger.specs.mesa_walk.Walk.{run_at}
+use Rattle.mesa_ledger.proofs.mesa_walk.Going.{publish_takes}
 use Rattle.mesa_ledger.specs.Ledger.{books_of}
 use Rattle.mesa_ledger.specs.Turned.{closed_ledger}
 use Rattle.mesa_ledger.specs.Vault.{Starts}

@@ -2,7 +2,7 @@ use Rattle.std.proofs.Common.{◌≡◌, subst, refl, Err}
 use Rattle.mesa_model.specs.Versions.{expire_to}
 use Rattle.mesa_model.specs.Warehouse.{Warehouse}
 use Rattle.mesa_model.specs.declared.commands.Command.TheVariants as command
-use Rattle.mesa_image.specs.Catalog.{Catalog}
+use Rattle.mesa_catalog.specs.mesa_image.Catalog.{Catalog}
 use Rattle.mesa_rules.specs.Ruled.{IsRuled}
 use Rattle.mesa_rules.specs.Seen.{HasCatalog}
 use Rattle.mesa_writing.proofs.Rulings.{rules_do, rules_refuse_now}

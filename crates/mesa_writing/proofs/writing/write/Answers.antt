@@ -4,17 +4,17 @@ use Rattle.mesa_disk.specs.Files.{files_of}
 use Rattle.mesa_disk.specs.declared.area.Area.TheVariants.{Zero}
 use Rattle.mesa_history.specs.Replay.{no_rows as no_lines}
 use Rattle.mesa_history.specs.Run.{Finished}
-use Rattle.mesa_image.specs.Catalog.{applied}
+use Rattle.mesa_catalog.specs.mesa_image.Catalog.{applied}
 use Rattle.mesa_catalog.specs.Lookups.{generation_of, turns_generation}
 use Rattle.mesa_model.specs.Entry.{IsShort}
 use Rattle.mesa_model.specs.declared.entries.Kind.TheVariants as kind
 use Rattle.mesa_model.specs.declared.entries.Outcome.TheVariants as outcome
 use Rattle.mesa_record.proofs.RecordsBoth.{record_found}
 use Rattle.mesa_skeleton.specs.Rows.{no_rows}
-use Rattle.mesa_walk.specs.Causes.{Unwritten, reply_of, told_at}
-use Rattle.mesa_walk.specs.Turns.{AnswersDraft, Shown, Takes, entry}
-use Rattle.mesa_walk.specs.Walk.{Counts, run_at}
-use Rattle.mesa_walk.proofs.Clock.{closing}
+use Rattle.mesa_ledger.specs.mesa_walk.Causes.{Unwritten, reply_of, told_at}
+use Rattle.mesa_ledger.specs.mesa_walk.Turns.{AnswersDraft, Shown, Takes, entry}
+use Rattle.mesa_ledger.specs.mesa_walk.Walk.{Counts, run_at}
+use Rattle.mesa_ledger.proofs.mesa_walk.Clock.{closing}
 use Rattle.mesa_ledger.specs.Ledger.{Ledger}
 use Rattle.mesa_ledger.specs.Recorded.{failed_ledger, recorded_ledger, removed_by}
 use Rattle.mesa_ledger.specs.Vault.{Starts}

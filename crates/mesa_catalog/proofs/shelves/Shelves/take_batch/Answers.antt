@@ -2,7 +2,7 @@ use Rattle.std.proofs.Common.{◌+◌, ◌-◌, ◌∙◌, List, ap, sym, subst,
 use Rattle.std.specs.Prelude.{slice_get, IfSome}
 use Rattle.std.specs.List.{AllByRecursion}
 use Rattle.std.proofs.lemmas.List.{with_items_is}
-use Rattle.mesa_image.specs.Catalog.{stocks_loaded}
+use Rattle.mesa_image_laws.specs.mesa_image.Catalog.{stocks_loaded}
 use Rattle.mesa_shelf.specs.declared.table.Table.{Table}
 use Rattle.mesa_shelf.specs.declared.ready.ReadyPart.{ReadyPart}
 use Rattle.mesa_catalog.specs.declared.ready.Ready.TheVariants as ready_of

@@ -2,7 +2,7 @@ use Rattle.std.proofs.Common.{sym, subst}
 use Rattle.mesa_core.specs.Handing.{Tells}
 use Rattle.mesa_core.specs.Vault.{Stand}
 use Rattle.mesa_core.proofs.Handed.{has_differed, has_failed, none_damaged, to_close}
-use Rattle.mesa_service.specs.Pins.{IsOpenQuery, known_pin}
+use Rattle.mesa_granted.specs.mesa_service.Pins.{IsOpenQuery, known_pin}
 use Rattle.mesa_core.proofs.vault.Vault.close_query.Goals as goal
 
 pub close_query-requires-clause-due : goal.close_query-requires-clause-due

@@ -3,7 +3,7 @@ use Rattle.std.specs.Prelude.{is_ok}
 use Rattle.mesa_history.specs.Legal.{is_work}
 use Rattle.mesa_history.specs.Run.{Granted, Renewed}
 use Rattle.mesa_model.specs.declared.commands.Command.TheVariants as command
-use Rattle.mesa_service.specs.Works.{HasMerged, WasGranted, known_task}
+use Rattle.mesa_granted.specs.mesa_service.Works.{HasMerged, WasGranted, known_task}
 use Rattle.mesa_skeleton.specs.Rows.{no_rows}
 use Rattle.mesa_tasks.specs.Tasks.{claim_in}
 use Rattle.mesa_tasks.specs.declared.merging.CompactError.TheVariants as compact

@@ -2,7 +2,7 @@ use Rattle.std.proofs.Common.{sym, subst}
 use Rattle.mesa_history.specs.Legal.{is_query}
 use Rattle.mesa_history.specs.Run.{First}
 use Rattle.mesa_model.specs.declared.commands.Command.TheVariants as command
-use Rattle.mesa_service.specs.Pins.{TakesQuery}
+use Rattle.mesa_granted.specs.mesa_service.Pins.{TakesQuery}
 use Rattle.mesa_skeleton.specs.Rows.{no_rows}
 use Rattle.mesa_walk.specs.Turns.{Asks}
 use Rattle.mesa_walk.specs.Walk.{run_at}

@@ -3,7 +3,7 @@ use Rattle.mesa_batch.specs.Glance.{Sight}
 use Rattle.mesa_history.specs.Run.{Looked, command_at}
 use Rattle.mesa_model.specs.declared.commands.Command.TheVariants as command
 use Rattle.mesa_model.specs.declared.commands.Script.{Script}
-use Rattle.mesa_service.specs.Sight.{sight_after}
+use Rattle.mesa_granted.specs.mesa_service.Sight.{sight_after}
 use Rattle.mesa_skeleton.specs.Rows.{no_rows}
 use Rattle.mesa_tasks.specs.Batches.{HasPrepared}
 use Rattle.mesa_walk.specs.Turns.{Asks, is_load}

@@ -1,18 +1,18 @@
 use Rattle.std.proofs.Common.{◌≡◌, ◌∷◌, ◌++◌, [], length, true, false, ◌||◌, not, refl, sym, ◌∙◌, subst, arith, Some}
-use Rattle.mesa_history.specs.Refused.{is_refusal}
-use Rattle.mesa_history.specs.Replay.{closes}
-use Rattle.mesa_history.specs.Run.{Finished}
+use Rattle.mesa_catalog.specs.mesa_history.Refused.{is_refusal}
+use Rattle.mesa_catalog.specs.mesa_history.Replay.{closes}
+use Rattle.mesa_catalog.specs.mesa_history.Run.{Finished}
 use Rattle.mesa_ledger.specs.Ledger.{books_of}
 use Rattle.mesa_ledger.specs.Vault.{Starts, IsVault, outset_of}
 use Rattle.mesa_ledger.proofs.Beginning.{vault_at_seen}
 use Rattle.mesa_log.specs.Failure.{cause_in}
-use Rattle.mesa_output.specs.Output.{block}
-use Rattle.mesa_skeleton.specs.Rows.{no_rows}
-use Rattle.mesa_walk.specs.Causes.{outcome_of, reply_of, told_at}
-use Rattle.mesa_walk.specs.Printing.{IsPut}
-use Rattle.mesa_walk.specs.Turns.{AnswersDraft, Shown, Takes, entry}
-use Rattle.mesa_walk.specs.Walk.{run_at}
-use Rattle.mesa_walk.proofs.Alike.{due_alike}
+use Rattle.mesa_ledger.specs.mesa_output.Output.{block}
+use Rattle.mesa_ledger.specs.mesa_skeleton.Rows.{no_rows}
+use Rattle.mesa_ledger.specs.mesa_walk.Causes.{outcome_of, reply_of, told_at}
+use Rattle.mesa_ledger.specs.mesa_walk.Printing.{IsPut}
+use Rattle.mesa_ledger.specs.mesa_walk.Turns.{AnswersDraft, Shown, Takes, entry}
+use Rattle.mesa_ledger.specs.mesa_walk.Walk.{run_at}
+use Rattle.mesa_ledger.proofs.mesa_walk.Alike.{due_alike}
 use Rattle.mesa_engine.specs.Engine.{Standing, IsEngine, starts_of}
 use Rattle.mesa_engine.specs.Failing.{Fails, deciding_stage, deciding_kind}
 use Rattle.mesa_engine.proofs.Drafting.{answers_none, quiet_cause}

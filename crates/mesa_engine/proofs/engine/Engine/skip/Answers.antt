@@ -3,9 +3,9 @@ use Rattle.mesa_model.specs.Entry.{IsShort}
 use Rattle.mesa_model.specs.declared.entries.Outcome.TheVariants as outcome
 use Rattle.mesa_ledger.specs.Vault.{Starts, outset_of}
 use Rattle.mesa_ledger.proofs.Beginning.{vault_at_seen}
-use Rattle.mesa_skeleton.specs.Rows.{Rows, no_rows}
-use Rattle.mesa_walk.specs.Turns.{AnswersDraft, Shown, Takes, entry}
-use Rattle.mesa_walk.specs.Walk.{run_at}
+use Rattle.mesa_ledger.specs.mesa_skeleton.Rows.{Rows, no_rows}
+use Rattle.mesa_ledger.specs.mesa_walk.Turns.{AnswersDraft, Shown, Takes, entry}
+use Rattle.mesa_ledger.specs.mesa_walk.Walk.{run_at}
 use Rattle.mesa_engine.specs.Engine.{Standing, IsEngine, starts_of}
 use Rattle.mesa_engine.specs.Failing.{Comes}
 use Rattle.mesa_engine.proofs.Drafting.{answers_none}

@@ -1,10 +1,10 @@
 use Rattle.std.proofs.Common.{◌≡◌, true, false, not, refl, subst, IsTrue}
 use Rattle.mesa_fault.specs.Causes.{Rose}
-use Rattle.mesa_history.specs.Legal.{fits_sink}
-use Rattle.mesa_history.specs.Run.{begins}
-use Rattle.mesa_walk.specs.Printing.{IsPrinted}
-use Rattle.mesa_walk.specs.Walk.{run_at}
-use Rattle.mesa_skeleton.specs.Rows.{no_rows}
+use Rattle.mesa_catalog.specs.mesa_history.Legal.{fits_sink}
+use Rattle.mesa_catalog.specs.mesa_history.Run.{begins}
+use Rattle.mesa_ledger.specs.mesa_walk.Printing.{IsPrinted}
+use Rattle.mesa_ledger.specs.mesa_walk.Walk.{run_at}
+use Rattle.mesa_ledger.specs.mesa_skeleton.Rows.{no_rows}
 use Rattle.mesa_engine.specs.Engine.{Standing}
 use Rattle.mesa_engine.proofs.engine.Engine.stop.Goals as goal
 

@@ -1,6 +1,6 @@
 use Rattle.std.proofs.Common.{◌≡◌, ◌<◌, ◌^◌, ◌-◌, ◌∷◌, [], ◌++◌, length, ℕ, List, take, drop, sym, subst, ◌∙◌, ap, arith, rules, append_assoc}
 use Rattle.std.proofs.lemmas.List.{take_at, drop_at}
-use Rattle.mesa_key.specs.Spelling.{AreBytes}
+use Rattle.mesa_disk.specs.mesa_key.Spelling.{AreBytes}
 use Rattle.mesa_journal.specs.Journal.{word, record_bytes, body_of_frame}
 use Rattle.mesa_journal.proofs.Bytes.{length-record_bytes, length-word}
 use Rattle.mesa_journal.proofs.framed.Framed.new.Goals as goal

@@ -1,5 +1,5 @@
 use Rattle.std.proofs.Common.{◌≡◌, [], length, sym, ◌∙◌, ap, subst}
-use Rattle.mesa_history.specs.Replay.{no_rows}
+use Rattle.mesa_walk.specs.mesa_history.Replay.{no_rows}
 use Rattle.mesa_log.specs.Failure.{cause_in}
 use Rattle.mesa_log.specs.Printing.{PrintsBlock}
 use Rattle.mesa_log.proofs.Printing.{no_body}

@@ -1,5 +1,5 @@
 use Rattle.std.proofs.Common.{subst}
-use Rattle.mesa_history.specs.Run.{Told}
+use Rattle.mesa_walk.specs.mesa_history.Run.{Told}
 use Rattle.mesa_log.specs.Printing.{PrintsBlock}
 use Rattle.mesa_log.proofs.Printing.{tells}
 use Rattle.mesa_log.proofs.log.Log.tell.Goals as goal

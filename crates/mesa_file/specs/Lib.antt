@@ -1,0 +1,1 @@
+pub use Rattle.mesa_key.specs as mesa_key
