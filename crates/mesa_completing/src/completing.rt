@@ -15,7 +15,7 @@ ghost use Rattle.mesa_swapping.specs.Finished.{HasRange, IsFinished};
 ghost use Rattle.mesa_ledger.specs.mesa_walk.Turns.{AnswersDraft, Takes};
 ghost use Rattle.mesa_ledger.specs.mesa_walk.Walk.{run_at};
 ghost use Rattle.mesa_tasks.specs.Tasks.{claim_in};
-ghost use Rattle.mesa_works.specs.Ranged.{written_at};
+ghost use Rattle.mesa_ledger.specs.Written.{written_at};
 ghost use Rattle.mesa_completing.specs.Merged.{HasNotSwapped, cause_met, unswapped_ledger};
 
 use crate::checking::check;

@@ -17,12 +17,12 @@ use Rattle.mesa_schema.specs.Changes.{Lineage, columns_of}
 use Rattle.mesa_schema.specs.Lineages.{IsLineage}
 use Rattle.mesa_granted.specs.mesa_service.Works.{CanBeMerged, known_task}
 use Rattle.mesa_skeleton.specs.Rows.{Rows, no_rows}
-use Rattle.mesa_completing.specs.mesa_swapping.Finished.{HasRange}
+use Rattle.mesa_granted.specs.mesa_swapping.Finished.{HasRange}
 use Rattle.mesa_tasks.specs.Errors.{Differs}
 use Rattle.mesa_tasks.specs.Tasks.{IsTask}
 use Rattle.mesa_tasks.specs.declared.merging.Task.{Task}
 use Rattle.mesa_walk.specs.Walk.{run_at}
-use Rattle.mesa_granted.specs.mesa_works.Ranged.{written_at}
+use Rattle.mesa_ledger.specs.Written.{written_at}
 use Rattle.mesa_core.specs.Handing.{IsGranted, store_after}
 use Rattle.mesa_core.specs.Standing.{IsCatalogAfter}
 use Rattle.mesa_core.proofs.Sights.{counted_is, lineage_is}

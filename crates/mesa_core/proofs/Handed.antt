@@ -15,8 +15,8 @@ use Rattle.mesa_model.specs.declared.entries.Kind.TheVariants as kind
 use Rattle.mesa_model.specs.declared.replies.Reply.{Reply}
 use Rattle.mesa_model.specs.Query.{Answer}
 use Rattle.mesa_granted.specs.mesa_query.Files.{inputs_in, owns_in}
-use Rattle.mesa_granted.specs.mesa_pinning.Told.{AreOfRelation, parts_known, parts_under}
-use Rattle.mesa_granted.specs.mesa_pinning.Told.{Tells as TellsOf}
+use Rattle.mesa_completing.specs.mesa_pinning.Told.{AreOfRelation, parts_known, parts_under}
+use Rattle.mesa_completing.specs.mesa_pinning.Told.{Tells as TellsOf}
 use Rattle.mesa_granted.specs.mesa_query.Relation.{page_over, parts_pinned, parts_ungrouped, rows_ungrouped}
 use Rattle.mesa_schema.specs.declared.rows.Row.{Row}
 use Rattle.mesa_schema.specs.Columns.{Columns}

@@ -16,8 +16,8 @@ use Rattle.mesa_schema.specs.Changes.{Lineage}
 use Rattle.mesa_schema.specs.Lineages.{IsLineage}
 use Rattle.mesa_granted.specs.mesa_service.Works.{HasMerged, IsUnmerged, WasGranted, known_task}
 use Rattle.mesa_skeleton.specs.Rows.{Rows, no_rows}
-use Rattle.mesa_completing.specs.mesa_swapping.Finished.{HasRange, IsFinished}
-use Rattle.mesa_completing.specs.mesa_swapping.Grown.{HasGrown}
+use Rattle.mesa_granted.specs.mesa_swapping.Finished.{HasRange, IsFinished}
+use Rattle.mesa_granted.specs.mesa_swapping.Grown.{HasGrown}
 use Rattle.mesa_tasks.specs.GivingBack.{SomeFailed, task_inputs}
 use Rattle.mesa_tasks.specs.Tasks.{IsMerged, IsTask}
 use Rattle.mesa_tasks.specs.declared.merging.CompactError.{CompactError}
@@ -28,7 +28,7 @@ use Rattle.mesa_walk.specs.Causes.{is_read_fault, outcome_of}
 use Rattle.mesa_walk.specs.Turns.{AnswersDraft, Shown}
 use Rattle.mesa_walk.specs.Undamaged.{is_damaged}
 use Rattle.mesa_walk.specs.Walk.{run_at}
-use Rattle.mesa_granted.specs.mesa_works.Ranged.{written_at}
+use Rattle.mesa_ledger.specs.Written.{written_at}
 use Rattle.mesa_core.specs.Handing.{IsGranted, store_after}
 use Rattle.mesa_core.specs.Standing.{IsCatalogAfter}
 use Rattle.mesa_core.proofs.Sights.{lineage_is}

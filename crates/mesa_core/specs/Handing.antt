@@ -9,12 +9,12 @@ use Rattle.mesa_model.specs.declared.entries.Entry.{Entry}
 use Rattle.mesa_model.specs.Query.{Answer}
 use Rattle.mesa_model.specs.Warehouse.{Store, max_tables}
 use Rattle.mesa_walk.specs.Walk.{run_at}
-use Rattle.mesa_granted.specs.mesa_works.Ranged.{written_at}
+use Rattle.mesa_ledger.specs.Written.{written_at}
 use Rattle.mesa_granted.specs.Known.{AllHaveRange, IsKnownOf, lineage_in}
 use Rattle.mesa_schema.specs.Changes.{columns_of}
 use Rattle.mesa_schema.specs.Lineages.{IsLineage}
 use Rattle.mesa_skeleton.specs.Rows.{Rows, no_rows}
-use Rattle.mesa_granted.specs.mesa_pinning.Told.{TellAnswer}
+use Rattle.mesa_completing.specs.mesa_pinning.Told.{TellAnswer}
 use Rattle.mesa_granted.specs.mesa_service.Pins.{KnownPin}
 use Rattle.mesa_granted.specs.mesa_service.Works.{KnownTask}
 

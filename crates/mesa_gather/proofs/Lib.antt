@@ -1,1 +1,2 @@
+pub use Rattle.mesa_plans.proofs.mesa_image_laws as mesa_image_laws
 pub mod Joined

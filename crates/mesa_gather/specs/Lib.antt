@@ -1,2 +1,3 @@
+pub use Rattle.mesa_plans.specs.mesa_image_laws as mesa_image_laws
 pub use Rattle.mesa_shelf.specs as mesa_shelf
 pub mod Gathered

@@ -15,12 +15,12 @@ use Rattle.mesa_model.specs.Versions.{store_from}
 use Rattle.mesa_model.specs.Warehouse.{Store, Table, Warehouse, no_table, table_at, with_table, with_tables}
 use Rattle.mesa_history.specs.Replay.{go, runs}
 use Rattle.mesa_history.specs.Run.{Run}
-use Rattle.mesa_works.proofs.mesa_image_laws.ShapedTables.{length_set}
+use Rattle.mesa_gather.proofs.mesa_image_laws.ShapedTables.{length_set}
 use Rattle.mesa_laws.proofs.Lineages.{change_default, lineage_viewed}
 use Rattle.mesa_laws.proofs.Moves.{Moves, viewed}
 use Rattle.mesa_laws.proofs.Turns.{go_moves}
-use Rattle.mesa_works.specs.mesa_swapping.Grown.{HasGrown}
-use Rattle.mesa_works.proofs.mesa_swapping.Growing.{grown_changed, grown_not, grown_viewed}
+use Rattle.mesa_swapping.specs.Grown.{HasGrown}
+use Rattle.mesa_swapping.proofs.Growing.{grown_changed, grown_not, grown_viewed}
 use Rattle.mesa_granted.specs.Known.{lineage_in}
 
 -- ---- lists

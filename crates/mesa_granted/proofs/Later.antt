@@ -13,16 +13,16 @@ use Rattle.mesa_history.specs.Law.{Accepted, accepted_by, accepted_in}
 use Rattle.mesa_history.specs.Replay.{go, runs}
 use Rattle.mesa_history.specs.Run.{Run, State, begins}
 use Rattle.mesa_history.specs.Sources.{Source, range_rows}
-use Rattle.mesa_works.specs.mesa_image_laws.Moves.{last_of, first_of}
-use Rattle.mesa_works.specs.mesa_image_laws.Sourced.{Written, batch_written, source_written, sources_from}
+use Rattle.mesa_gather.specs.mesa_image_laws.Moves.{last_of, first_of}
+use Rattle.mesa_gather.specs.mesa_image_laws.Sourced.{Written, batch_written, source_written, sources_from}
 use Rattle.mesa_laws.proofs.Moves.{Moves}
 use Rattle.mesa_laws.proofs.Turns.{go_moves}
-use Rattle.mesa_works.specs.mesa_ledger.Vault.{Origin}
-use Rattle.mesa_works.proofs.mesa_ledger.Lists.{all_joined}
-use Rattle.mesa_works.specs.mesa_swapping.Finished.{GroupOnly, HasRange, sources_in}
+use Rattle.mesa_swapping.specs.mesa_ledger.Vault.{Origin}
+use Rattle.mesa_swapping.proofs.mesa_ledger.Lists.{all_joined}
+use Rattle.mesa_swapping.specs.Finished.{GroupOnly, HasRange, sources_in}
 use Rattle.mesa_tasks.specs.declared.merging.Task.{Task}
 use Rattle.mesa_service.specs.mesa_walk.Walk.{run_at}
-use Rattle.mesa_works.specs.Ranged.{written_at}
+use Rattle.mesa_swapping.specs.mesa_ledger.Written.{written_at}
 
 -- ---- batches
 

@@ -9,7 +9,7 @@ use Rattle.mesa_schema.specs.Changes.{Lineage, columns_of}
 use Rattle.mesa_schema.specs.Columns.{Columns, aggs_of}
 use Rattle.mesa_schema.specs.Folded.{folded}
 use Rattle.mesa_delta.specs.declared.input.Input.{Input}
-use Rattle.mesa_works.specs.mesa_gather.Gathered.{unread_views}
+use Rattle.mesa_gather.specs.Gathered.{unread_views}
 use Rattle.mesa_service.specs.mesa_merge.Inputs.{Known, knowns_of}
 use Rattle.mesa_service.specs.Works.{known_task}
 use Rattle.mesa_service.specs.mesa_compact.Tasks.{KnownView, known_view}

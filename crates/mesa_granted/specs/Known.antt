@@ -3,12 +3,12 @@ use Rattle.std.specs.Prelude.{◌≡◌, ℕ, ◌+◌, List, [], ◌∷◌, Opti
 use Rattle.std.specs.List.{AllByRecursion}
 use Rattle.mesa_schema.specs.Changes.{Lineage, epoch_of}
 use Rattle.mesa_schema.specs.declared.views.View.{View}
-use Rattle.mesa_works.specs.mesa_image_laws.Sourced.{Written}
+use Rattle.mesa_gather.specs.mesa_image_laws.Sourced.{Written}
 use Rattle.mesa_service.specs.mesa_merge.Inputs.{Known}
 use Rattle.mesa_model.specs.Warehouse.{Store, table_at}
 use Rattle.mesa_service.specs.Works.{KnownTask, known_task}
 use Rattle.mesa_service.specs.mesa_compact.Tasks.{KnownView}
-use Rattle.mesa_works.specs.mesa_swapping.Finished.{HasRange}
+use Rattle.mesa_swapping.specs.Finished.{HasRange}
 use Rattle.mesa_tasks.specs.declared.merging.Task.{Task}
 
 -- the columns and views of the table of a number

@@ -1,22 +1,22 @@
 // What is known of granted tasks.
 ghost use Rattle.std.specs.Prelude.{◌≡◌, ◌<◌, ◌++◌, ℕ, List, length};
-ghost use Rattle.mesa_works.specs.mesa_gather.Gathered.{unread_views};
+ghost use Rattle.mesa_gather.specs.Gathered.{unread_views};
 ghost use Rattle.mesa_history.specs.Replay.{runs};
 ghost use Rattle.mesa_history.specs.Run.{Run as AnyRun, State};
-ghost use Rattle.mesa_works.specs.mesa_image_laws.Moves.{last_of};
-ghost use Rattle.mesa_works.specs.mesa_image_laws.Sourced.{Written};
-ghost use Rattle.mesa_works.specs.mesa_ledger.Vault.{Origin};
+ghost use Rattle.mesa_gather.specs.mesa_image_laws.Moves.{last_of};
+ghost use Rattle.mesa_gather.specs.mesa_image_laws.Sourced.{Written};
+ghost use Rattle.mesa_swapping.specs.mesa_ledger.Vault.{Origin};
 ghost use Rattle.mesa_model.specs.declared.commands.Script.{Script as AnyScript};
 ghost use Rattle.mesa_model.specs.declared.entries.Entry.{Entry as AnyEntry};
 ghost use Rattle.mesa_service.specs.mesa_compact.Bounded.{AreBounded, IsBounded};
 ghost use Rattle.mesa_schema.specs.Changes.{Lineage, columns_of};
 ghost use Rattle.mesa_schema.specs.Lineages.{IsLineage};
 ghost use Rattle.mesa_service.specs.Works.{known_task};
-ghost use Rattle.mesa_works.specs.mesa_swapping.Finished.{HasRange};
-ghost use Rattle.mesa_works.specs.mesa_swapping.Grown.{HasGrown};
+ghost use Rattle.mesa_swapping.specs.Finished.{HasRange};
+ghost use Rattle.mesa_swapping.specs.Grown.{HasGrown};
 ghost use Rattle.mesa_tasks.specs.Tasks.{IsMerged, IsTask};
 ghost use Rattle.mesa_service.specs.mesa_walk.Walk.{run_at};
-ghost use Rattle.mesa_works.specs.Ranged.{written_at};
+ghost use Rattle.mesa_swapping.specs.mesa_ledger.Written.{written_at};
 ghost use Rattle.mesa_granted.specs.Known.{AllHaveRange, IsKnownOf, lineage_in};
 
 use mesa_disk::{FileReader, Made};

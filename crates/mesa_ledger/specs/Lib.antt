@@ -6,5 +6,6 @@ pub use Rattle.mesa_trash.specs as mesa_trash
 pub use Rattle.mesa_walk.specs as mesa_walk
 pub mod Ledger
 pub mod Vault
+pub mod Written
 pub mod Recorded
 pub mod Turned

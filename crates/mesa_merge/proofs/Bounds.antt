@@ -9,7 +9,7 @@ use Rattle.mesa_schema.specs.Columns.{Columns, aggs_of}
 use Rattle.mesa_schema.specs.Folded.{AllCombine, folded, rows_of}
 use Rattle.mesa_schema.specs.Laws.{AreFull}
 use Rattle.mesa_schema.specs.Rows.{AreRowsOf}
-use Rattle.mesa_fold.specs.mesa_batch.Totals.{abs_total}
+use Rattle.mesa_batch.specs.Totals.{abs_total}
 use Rattle.mesa_fold.specs.Bound.{FoldsTotals, KeepsBound}
 use Rattle.mesa_fold.proofs.Sums.{AllCombine-at}
 use Rattle.mesa_merge.proofs.Ending.{AreFronts}

@@ -12,9 +12,9 @@ use Rattle.mesa_schema.specs.declared.views.View.{View}
 use Rattle.mesa_schema.proofs.Lists.{all_both}
 use Rattle.mesa_filter.specs.Query.{BuiltQuery, IsQueryOf, group_kinds}
 use Rattle.mesa_query.specs.mesa_answer.Answering.{KeepsSums}
-use Rattle.mesa_rules.specs.mesa_model.Page.{page_of}
-use Rattle.mesa_rules.specs.mesa_model.declared.replies.Page.{Page}
-use Rattle.mesa_rules.specs.mesa_model.Query.{Answer, answer_rows}
+use Rattle.mesa_model.specs.Page.{page_of}
+use Rattle.mesa_model.specs.declared.replies.Page.{Page}
+use Rattle.mesa_model.specs.Query.{Answer, answer_rows}
 use Rattle.mesa_commit.specs.Images.{Has}
 use Rattle.mesa_disk.specs.Image.{Image, file_of}
 use Rattle.mesa_shelf.specs.mesa_image.Catalog.{Catalog, Delta, Stock, no_stock, stock_at}

@@ -6,7 +6,7 @@ use Rattle.mesa_schema.specs.Folded.{rows_of}
 use Rattle.mesa_query.specs.mesa_answer.Answering.{KeepsSums}
 use Rattle.mesa_filter.specs.Query.{BuiltQuery, group_kinds}
 use Rattle.mesa_query.specs.mesa_merge.Inputs.{AreTold, Known, knowns_of, lifted_in}
-use Rattle.mesa_rules.specs.mesa_model.Query.{Answer}
+use Rattle.mesa_model.specs.Query.{Answer}
 use Rattle.mesa_query.specs.Files.{inputs_in, owns_in}
 use Rattle.mesa_query.specs.Relation.{page_over, rows_under}
 use Rattle.mesa_tasks.specs.Pins.{IsOfRelation, relation_rows}

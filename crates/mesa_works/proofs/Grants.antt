@@ -20,7 +20,7 @@ use Rattle.mesa_model.specs.declared.commands.Command.TheVariants as command
 use Rattle.mesa_model.specs.declared.entries.Entry.{Entry}
 use Rattle.mesa_model.specs.declared.entries.Kind.TheVariants as kind
 use Rattle.mesa_model.specs.declared.entries.Outcome.TheVariants as outcome
-use Rattle.mesa_ledger.specs.mesa_output.Output.{block}
+use Rattle.mesa_output.specs.Output.{block}
 use Rattle.mesa_skeleton.specs.Bare.{bare_table}
 use Rattle.mesa_skeleton.specs.Rows.{Rows, no_rows}
 use Rattle.mesa_tasks.specs.Opening.{Counted}

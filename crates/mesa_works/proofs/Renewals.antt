@@ -18,7 +18,7 @@ use Rattle.mesa_model.specs.declared.entries.Outcome.TheVariants as outcome
 use Rattle.mesa_model.specs.declared.replies.Refusal.{Refusal}
 use Rattle.mesa_model.specs.declared.replies.Refusal.TheVariants as no
 use Rattle.mesa_model.specs.declared.replies.Reply.TheVariants as reply
-use Rattle.mesa_ledger.specs.mesa_output.Output.{block}
+use Rattle.mesa_output.specs.Output.{block}
 use Rattle.mesa_skeleton.specs.Rows.{Rows, no_rows}
 use Rattle.mesa_ledger.specs.mesa_walk.Causes.{told_at}
 use Rattle.mesa_ledger.specs.mesa_walk.Printing.{IsPut}

@@ -22,7 +22,7 @@ ghost use Rattle.mesa_ledger.specs.mesa_walk.Turns.{Takes};
 ghost use Rattle.mesa_ledger.specs.mesa_walk.Walk.{run_at};
 ghost use Rattle.mesa_ledger.specs.mesa_walk.Works.{stage_if};
 ghost use Rattle.mesa_works.specs.Claims.{cause_met, claim_as};
-ghost use Rattle.mesa_works.specs.Ranged.{written_at};
+ghost use Rattle.mesa_ledger.specs.Written.{written_at};
 
 use crate::claiming::{Claimed, claim};
 use mesa_delta::one_file;

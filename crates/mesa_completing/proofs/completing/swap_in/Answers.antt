@@ -37,7 +37,7 @@ use Rattle.mesa_engine.proofs.Drafting.{answers_none}
 use Rattle.mesa_tasks.specs.Tasks.{claim_in}
 use Rattle.mesa_writing.proofs.Loads.{all_tell}
 use Rattle.mesa_writing.proofs.Written.{IsWhole, IsWorked}
-use Rattle.mesa_works.specs.Ranged.{written_at}
+use Rattle.mesa_ledger.specs.Written.{written_at}
 use Rattle.mesa_completing.proofs.Claims.{due_still}
 use Rattle.mesa_completing.proofs.Refusing.{closed_takes}
 use Rattle.mesa_completing.proofs.SwapEngines.{absent_still, ready_still, swap_prints, swapped_engine, unswapped_engine}

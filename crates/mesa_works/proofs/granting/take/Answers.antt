@@ -35,7 +35,7 @@ use Rattle.mesa_ledger.specs.mesa_walk.Works.{HasNoClaim}
 use Rattle.mesa_ledger.proofs.mesa_walk.Alike.{due_alike}
 use Rattle.mesa_engine.specs.Engine.{Standing, IsEngine, starts_of}
 use Rattle.mesa_works.specs.Claims.{claim_as}
-use Rattle.mesa_works.specs.Ranged.{written_at}
+use Rattle.mesa_ledger.specs.Written.{written_at}
 use Rattle.mesa_works.proofs.Bounded.{is_bounded}
 use Rattle.mesa_works.proofs.Claims.{work_ends}
 use Rattle.mesa_works.proofs.Ranges.{has_no_damage, has_range}
