@@ -4,10 +4,15 @@
     bench/crashes.py [PROGRAM [KILLS]]
 
 PROGRAM is the built program, by default crates/mesa/out/mesa, which `rt run` leaves there. It is run over one store
-again and again, and killed by SIGKILL up to a second later, KILLS times, by default 50. Every run loads batches of one
-row that adds 1 to a key, in one session, while another one expires versions and works, and a third one asks. The next
-run has to find every batch whose reply was printed, and all that it finds has to be the fold of as many batches as
-its newest version says."""
+again and again, and killed by SIGKILL up to a second later, KILLS times, by default 200. In each run seven sessions work
+beside each other, behind a first one: five load a table with a view, one of them into a second table by the same batches;
+one of the five lets versions go and merges the table's files, and another one merges those of the other tables; one adds
+a column to a third table, loads, drops it, and loads; one asks and pins.
+
+The next run has to find of each session as many batches, in its order, as it told, or more; each batch whole, in both
+tables and the view; as many batches as the newest version says; and the column where one of the changes that were on
+their way leaves it. No reply is a refusal. (Replies go out in large pieces, so batches can be there that weren't told.)"""
+import collections
 import os
 import pathlib
 import random
@@ -20,85 +25,176 @@ import time
 
 ROOT = pathlib.Path(__file__).resolve().parent.parent
 KEYS = 7
-LOADS = 3_000
+LOADS = 400
+WITH_COLUMN = 10
 LONGEST = 1.0
-LOADED = re.compile(rb"^\d+\.\d+@\d+ loaded version=(\d+) rows=1$", re.M)
+LOADERS, TO_BOTH, EXPIRES, CHANGES, MERGES, ASKS = (1, 2, 3, 4, 6), 3, 4, 5, 6, 7
+TABLES = ["table,t,session int;key int,n sum", "view,sessions,t,session,n", "table,w,key int,n sum", "table,u,key int,n sum"]
+QUERIES = ["query,t", "query,sessions", "query,w", "query,u,,,,n"]
+REPLY = re.compile(r"(\d)\.\d+@\d+ (\w+)")
 
 
-def loads(first):
-    """Batches by rising versions, as commands."""
-    for version in range(first, first + LOADS):
-        yield f"row,t,{version % KEYS},1"
+class Found(collections.namedtuple("Found", "newest loads column")):
+    """What a store has: its newest version, the batches of each session, and what the third table's added column
+    sums to, or None where there is no such column."""
+
+
+def stop(reason):
+    sys.exit(f"crashes: {reason}")
+
+
+def load(table, *fields):
+    return "row," + ",".join(map(str, (table, *fields)))
+
+
+def loading(session, first, behind):
+    """Batches of a session whose first is its `first`, and after each the commands of `behind`."""
+    for number in range(first, first + LOADS):
+        yield load("t", session, number % KEYS, 1)
+        if session == TO_BOTH:
+            yield load("w", number % KEYS, 1)
         yield "commit"
+        yield from behind(number - first)
 
 
-def commands(first):
-    """A run's script over a store whose next version is `first`."""
-    yield "session"
-    yield from loads(first)
-    yield "session"
-    for version in range(max(first, 1), first + LOADS):
-        yield f"expire,{version}"
-        yield "work,t"
-        yield "work,t"
-    yield "session"
-    for _ in range(LOADS):
-        yield "query,t"
+def changing(before):
+    """Some batches with the column, which is added where it isn't there, and many without it."""
+    first = before.loads[CHANGES]
+    if before.column is None:
+        yield "alter,u,add_value,x sum,0"
+    for number in range(first, first + WITH_COLUMN):
+        yield from (load("u", number % KEYS, 1, 1), "commit")
+    yield "alter,u,drop_value,x"
+    for number in range(first + WITH_COLUMN, first + LOADS):
+        yield from (load("u", number % KEYS, 1), "commit")
+
+
+def asking():
+    for token in range(1, LOADS + 1):
+        yield from ("query,t", "query,sessions", "pin,", f"query,t,pin:{token}", f"release,{token}")
+
+
+def commands(before):
+    """A run's script over the store that was found."""
+    behind = {
+        EXPIRES: lambda i: [f"expire,{before.newest + 1 + i}", "work,t", "work,t"],
+        MERGES: lambda i: ["work,u", "work,w"],
+    }
+    for session in range(1, 8):
+        yield "session"
+        if session in LOADERS:
+            yield from loading(session, before.loads[session], behind.get(session, lambda i: []))
+        elif session == CHANGES:
+            yield from changing(before)
+        else:
+            yield from asking()
 
 
 def run(program, folder, lines):
-    """A whole run, and what it printed."""
+    """A whole run, and the lines that it printed."""
     text = "".join(line + "\n" for line in lines)
-    done = subprocess.run([program, "run"], cwd=folder, input=text.encode(), capture_output=True, timeout=600)
+    done = subprocess.run([program, "run"], cwd=folder, input=text, capture_output=True, text=True, timeout=600)
     if done.returncode > 1:
-        sys.exit(f"crashes: a run ended with status {done.returncode}: {done.stdout.decode()}")
-    return done.stdout.decode().splitlines()
+        stop(f"a run ended with status {done.returncode}: {done.stdout}")
+    return done.stdout.splitlines()
 
 
 def killed(program, folder, script):
-    """A run that is killed, and the newest version whose load it told; none where it told none."""
-    with open(script) as source:
-        child = subprocess.Popen([program, "run"], cwd=folder, stdin=source, stdout=subprocess.PIPE)
+    """A run that is killed: how many loads each session was told, and how many changes."""
+    with open(script) as source, open(os.path.join(folder, "printed"), "w+") as printed:
+        child = subprocess.Popen([program, "run"], cwd=folder, stdin=source, stdout=printed)
         time.sleep(random.uniform(0, LONGEST))
         child.send_signal(signal.SIGKILL)
-        printed, _ = child.communicate()
-    told = LOADED.findall(printed)
-    return int(told[-1]) if told else None
+        child.wait()
+        printed.seek(0)
+        text = printed.read()
+    told = collections.Counter()
+    for line in text[: text.rfind("\n") + 1].splitlines():
+        reply = REPLY.match(line)
+        if reply and reply[2] == "refused":
+            stop(f"a command was refused: {line}")
+        if reply:
+            told[int(reply[1]), reply[2]] += 1
+    return told
+
+
+def answers(printed):
+    """The replies of a run, each with its rows."""
+    found = []
+    for line in printed:
+        if "@" in line:
+            found.append((line.split(" ", 1)[1], []))
+        else:
+            found[-1][1].append(tuple(map(int, line.split(","))))
+    return found
+
+
+def spread(count):
+    """What so many batches of a session add to its keys."""
+    return {key: (count - key - 1) // KEYS + 1 for key in range(KEYS) if key < count}
 
 
 def found(program, folder):
-    """The newest version of the store, once what it has is the fold of as many batches."""
-    head, *rows = run(program, folder, ["query,t"])
-    if head.startswith("0.1@0 refused future"):
-        return None
-    newest = int(re.fullmatch(r"0\.1@0 rows \d+ version=(\d+)", head)[1])
-    have = {int(key): int(value) for key, value in (row.split(",") for row in rows)}
-    want = {key: (newest - key) // KEYS + 1 for key in range(KEYS) if key <= newest}
-    if have != want:
-        sys.exit(f"crashes: at version {newest} the store has {have}, and not {want}")
-    return newest
+    """What a store has, once each answer is the fold of whole batches."""
+    told = answers(run(program, folder, [*QUERIES, "query,u,,,-,x"]))
+    if told[0][0].startswith("refused future"):
+        return Found(-1, collections.Counter(), None if told[4][0] == "refused no_column" else 0)
+    newest = int(re.fullmatch(r"rows \d+ version=(\d+)", told[0][0])[1])
+    table, view, second, third, column = (rows for _, rows in told)
+    loads = collections.Counter()
+    for session, _, count in table:
+        loads[session] += count
+    loads[CHANGES] = sum(count for _, count in third)
+    want = {(session, key): count for session in LOADERS for key, count in spread(loads[session]).items()}
+    if {it[:2]: it[2] for it in table} != want:
+        stop(f"at version {newest} the table has {table}")
+    if dict(view) != {session: loads[session] for session in LOADERS if loads[session]}:
+        stop(f"at version {newest} the view has {view}, and the table {table}")
+    if dict(second) != spread(loads[TO_BOTH]) or dict(third) != spread(loads[CHANGES]):
+        stop(f"at version {newest} the other tables have {second} and {third}, and the table {table}")
+    if sum(loads.values()) != newest + 1:
+        stop(f"the newest version is {newest}, and there are {loads}")
+    if told[4][0] == "refused no_column":
+        return Found(newest, loads, None)
+    return Found(newest, loads, column[0][0] if column else 0)
+
+
+def compare(before, told, now, added_at):
+    """Holds what was found to what was there before and what was told since. Gives where the column was added."""
+    for session in range(1, 8):
+        if now.loads[session] < before.loads[session] + told[session, "loaded"]:
+            stop(f"session {session} was told {told[session, 'loaded']} loads after {before}, and there are {now}")
+    changes = told[CHANGES, "altered"]
+    had, has = before.column is not None, now.column is not None
+    if has and changes > (0 if had else 1) or not has and not had and changes == 1 and now.loads[CHANGES] < before.loads[CHANGES] + WITH_COLUMN:
+        stop(f"{changes} changes were told after {before}, and there is {now}")
+    if had and not has and now.loads[CHANGES] < before.loads[CHANGES] + WITH_COLUMN:
+        stop(f"the column was dropped before its batches: after {before} there is {now}")
+    if has and not had:
+        added_at = before.loads[CHANGES]
+    if has and now.column != now.loads[CHANGES] - added_at:
+        stop(f"the column was added behind {added_at} batches, and there is {now}")
+    return added_at
 
 
 def main():
     program = os.path.abspath(sys.argv[1] if len(sys.argv) > 1 else ROOT / "crates/mesa/out/mesa")
-    kills = int(sys.argv[2]) if len(sys.argv) > 2 else 50
+    kills = int(sys.argv[2]) if len(sys.argv) > 2 else 200
     with tempfile.TemporaryDirectory(dir=os.getcwd()) as folder:
         script = os.path.join(folder, "script")
-        run(program, folder, ["table,t,k int,v sum"])
-        newest, told = None, 0
+        run(program, folder, TABLES)
+        before, added_at, replies = found(program, folder), 0, collections.Counter()
         for _ in range(kills):
-            first = 0 if newest is None else newest + 1
-            pathlib.Path(script).write_text("".join(line + "\n" for line in commands(first)))
-            last = killed(program, folder, script)
+            pathlib.Path(script).write_text("".join(line + "\n" for line in commands(before)))
+            told = killed(program, folder, script)
             now = found(program, folder)
-            if last is not None and (now is None or now < last):
-                sys.exit(f"crashes: version {last} was told, and the store has {now}")
-            if newest is not None and (now is None or now < newest):
-                sys.exit(f"crashes: version {newest} was there, and the store has {now}")
-            told += 0 if last is None else last + 1 - first
-            newest = now
-    versions = 0 if newest is None else newest + 1
-    print(f"kills: {kills}; batches told: {told}, none lost; batches found in the end: {versions}, their fold each time")
+            added_at = compare(before, told, now, added_at)
+            for (_, reply), count in told.items():
+                replies[reply] += count
+            before = now
+        files = len(list(pathlib.Path(folder, "mesa-store").glob("*.mesa")))
+    print(f"kills: {kills}; batches found: {before.newest + 1}, whole and of each session in its order; told, and none lost: {replies['loaded']}")
+    print(f"told besides: {replies['swapped']} merges, {replies['expired']} expiries, {replies['altered']} changes, {replies['rows']} answers; files in the end: {files}")
 
 
 if __name__ == "__main__":
