@@ -8,15 +8,16 @@ PROGRAM is the built program, by default crates/mesa/out/mesa, which `rt run` le
 the first runs alone, so seven run beside each other. A query reads one file of 100,000 rows, and another one of 2,000
 rows, whole, and groups them. Times are beyond an empty run, the best of three. The session that loads commits as many
 batches of 10 rows as it can in about the time that the queries take, so that there are loads from the first query to
-nearly the last. A command's time is that of 2,000 in one run, divided: it is more than any of its turns takes, as it has
-one turn or several, and what is done between them."""
+nearly the last. A command's time is that of 50 to 2,000 in one run, divided: it is more than any of its turns takes, as it
+has one turn or several, and what is done between them. A query opens the files of its plan in its first turn, as a work does
+those that it merges."""
 from measure import again, anew, allow_open_files, given_program, machine, new_folder, run
 
 GROUPS = 10
 SIZES = {"wide": 100_000, "small": 2_000}
 ASKED = {"wide": 60, "small": 1_200}
 MANY = 2_000
-FILES = [1, 10, 100]
+FILES = [1, 10, 100, 1_000]
 SIDE_BY_SIDE = 7
 
 
@@ -54,12 +55,12 @@ def side_by_side(*sessions):
 
 
 def at_once(program, folder, name):
-    """Prints the queries a second of one session, of all, and of all but one while that one loads."""
+    """Prints the queries a second of one session, of seven, and of six while the seventh loads."""
     count, empty = ASKED[name], again(program, folder, [])
     alone, _ = again(program, folder, asking(name, count)).beyond(empty)
     together, _ = again(program, folder, side_by_side(*[asking(name, count)] * SIDE_BY_SIDE)).beyond(empty)
     load, _ = anew(program, folder, loading(100), 1).beyond(empty)
-    # (as many loads as take some nine tenths of the queries' time; more only where they take longer beside queries)
+    # (loads take longer beside queries than alone)
     asked, batches = [asking(name, count)] * (SIDE_BY_SIDE - 1), max(1, int(together * 0.8 / load * 100))
     beside, _ = again(program, folder, side_by_side(*asked, loading(batches))).beyond(empty)
     one, seven, six = count / alone, SIDE_BY_SIDE * count / together, (SIDE_BY_SIDE - 1) * count / beside
@@ -96,7 +97,7 @@ def main():
         do_all_work(program, folder, "loaded")
         a_command(program, folder, "work, with nothing to do", ["work,loaded"] * MANY)
         for files in FILES:
-            a_command(program, folder, f"query of no block, {files} files", [f"query,files{files},,k<0"] * MANY)
+            a_command(program, folder, f"query of no block, {files} files", [f"query,files{files},,k<0"] * max(50, MANY // files))
 
 
 if __name__ == "__main__":
