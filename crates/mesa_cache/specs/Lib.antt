@@ -1,0 +1,3 @@
+pub use Rattle.mesa_disk.specs as mesa_disk
+pub mod Pages
+pub mod Reading
