@@ -1,0 +1,10 @@
+pub mod Behind
+pub mod Breaks
+pub mod Checks
+pub mod Names
+pub mod Short
+pub mod Turn
+pub mod Cutting
+pub mod Plain
+pub mod Reading
+pub mod Records
