@@ -1,10 +1,8 @@
 -- How the close of a work whose merge failed keeps a vault.
-use Rattle.std.proofs.Common.{◌≡◌, inl, inr, ℕ, ◌+◌, ◌-◌, ◌<◌, ◌^◌, ◌≤◌, List, [], ◌∷◌, ◌++◌, length, Bool, true, false, ◌||◌, not, refl, sym, ◌∙◌, ap, subst, arith, Option, None, Some, IsTrue}
+use Rattle.std.proofs.Common.{◌≡◌, ℕ, ◌+◌, ◌-◌, ◌<◌, ◌^◌, ◌≤◌, List, [], ◌∷◌, ◌++◌, length, Bool, true, false, ◌||◌, not, refl, sym, ◌∙◌, ap, subst, arith, Option, None, Some, IsTrue}
 use Rattle.std.specs.Prelude.{◌==◌, is_some, min, nat_le, vec_capacity}
-use Rattle.std.specs.List.{AllByRecursion}
 use Rattle.std.proofs.lemmas.Bool.Decides.{nat_tests}
-use Rattle.mesa_fault.specs.Causes.{last, Rose}
-use Rattle.mesa_cursor.specs.Cursors.{reader_in}
+use Rattle.mesa_fault.specs.Causes.{last}
 use Rattle.mesa_delta.specs.declared.error.FileError.TheVariants as file_error
 use Rattle.mesa_delta.specs.declared.input.Input.{Input}
 use Rattle.mesa_disk.specs.Story.{Story, Unmoved}
@@ -152,3 +150,13 @@ only_draft None compact.Draft closing is = refl
 only_draft None (compact.File file_error.Read) closing is = absurd cc
 only_draft None (compact.File (file_error.Damaged damage)) closing is = absurd cc
 only_draft None (compact.File file_error.Memory) closing is = absurd cc
+
+-- ---- its reply
+
+-- It is a refusal.
+pub closing_refuses : (closed : Option ℕ) (error : CompactError) → is_refusal (reply_of (closing_cause closed error)) ≡ true
+closing_refuses (Some position) error = refl
+closing_refuses None compact.Draft = refl
+closing_refuses None (compact.File file_error.Read) = refl
+closing_refuses None (compact.File (file_error.Damaged damage)) = refl
+closing_refuses None (compact.File file_error.Memory) = refl

@@ -3,3 +3,4 @@ pub mod Claims
 pub mod Refusing
 pub mod Swaps
 pub mod SwapEngines
+pub mod Sweeping

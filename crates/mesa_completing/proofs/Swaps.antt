@@ -48,12 +48,12 @@ use Rattle.mesa_tasks.specs.declared.merging.Task.{Task}
 use Rattle.mesa_ledger.specs.mesa_walk.Causes.{Unwritten, reply_of, told_at}
 use Rattle.mesa_ledger.specs.mesa_walk.Printing.{IsPut}
 use Rattle.mesa_ledger.specs.mesa_walk.Turns.{entry}
-use Rattle.mesa_ledger.specs.mesa_walk.Walk.{Outset, Counts, Passes, StandsForEither, Writes, run_of}
+use Rattle.mesa_ledger.specs.mesa_walk.Walk.{Counts, Passes, StandsForEither, Writes, run_of}
 use Rattle.mesa_ledger.specs.mesa_walk.Works.{Swaps}
 use Rattle.mesa_ledger.proofs.mesa_walk.Working.{checked_open}
 use Rattle.mesa_ledger.specs.Ledger.{Ledger, books_of, first_id, holders, ids_held, next_id}
 use Rattle.mesa_ledger.specs.Recorded.{IsRecorded, failed_ledger, recorded_ledger, removed_by, waiting}
-use Rattle.mesa_ledger.specs.Vault.{Origin, IsVault, Starts, outset_of, written_by}
+use Rattle.mesa_ledger.specs.Vault.{IsVault, Starts, outset_of, written_by}
 use Rattle.mesa_ledger.proofs.Agreeing.{named_agree, same_kept}
 use Rattle.mesa_ledger.proofs.Filing.{filed_moved, holds_are}
 use Rattle.mesa_ledger.proofs.Renaming.{record_brings, record_renames}

@@ -2,3 +2,4 @@ pub use Rattle.mesa_asking.specs as mesa_asking
 pub use Rattle.mesa_asking.specs.mesa_pinning as mesa_pinning
 pub mod Unmerged
 pub mod Merged
+pub mod Swept

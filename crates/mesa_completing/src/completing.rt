@@ -9,14 +9,17 @@ ghost use Rattle.mesa_log.specs.Failure.{cause_in};
 ghost use Rattle.mesa_metadata.specs.Memory.{with_ledger};
 ghost use Rattle.mesa_model.specs.declared.commands.Command.TheVariants as command;
 ghost use Rattle.mesa_model.specs.declared.entries.Kind.TheVariants as kind;
+ghost use Rattle.mesa_model.specs.declared.replies.Reply.TheVariants as reply;
 ghost use Rattle.mesa_schema.specs.Changes.{Lineage};
 ghost use Rattle.mesa_skeleton.specs.Rows.{Rows, no_rows};
 ghost use Rattle.mesa_swapping.specs.Finished.{HasRange, IsFinished};
+ghost use Rattle.mesa_ledger.specs.mesa_walk.Causes.{reply_of};
 ghost use Rattle.mesa_ledger.specs.mesa_walk.Turns.{AnswersDraft, Takes};
 ghost use Rattle.mesa_ledger.specs.mesa_walk.Walk.{run_at};
 ghost use Rattle.mesa_tasks.specs.Tasks.{claim_in};
 ghost use Rattle.mesa_ledger.specs.Written.{written_at};
 ghost use Rattle.mesa_completing.specs.Merged.{HasNotSwapped, cause_met, unswapped_ledger};
+ghost use Rattle.mesa_completing.specs.Swept.{IsSwept};
 
 use crate::checking::check;
 use crate::readying::{Ready, prepare};
@@ -82,6 +85,7 @@ fn refuse<N: Naming, M: Made, D: Disk<M>, K: Sink>(
     ensures turn { Takes N.script (N.start no_rows) engine.old.shown engine.new.shown who.session who.command kind.Close Finished }
     ensures draft { AnswersDraft N.script (N.start no_rows) engine.old.shown engine.new.shown who.session ⊥ }
     ensures ledger { engine.new.ledger ≡ unswapped_ledger why task.now.table task.now.lease engine.old.ledger }
+    ensures reply { result ≡ reply_of (cause_met why) }
 {
     let moment = engine.disk.clock();
     let failure = fall(&mut engine.metadata, task.table, task.lease, why);
@@ -106,6 +110,7 @@ fn swap_in<N: Naming, M: Made, D: Disk<M>, K: Sink>(
     requires runs { engine.old.shown.running ≡ true }
     ensures turn { Takes N.script (N.start no_rows) engine.old.shown engine.new.shown who.session who.command kind.Close Finished }
     ensures draft { AnswersDraft N.script (N.start no_rows) engine.old.shown engine.new.shown who.session ⊥ }
+    ensures swept { (from to : ℕ) → result ≡ reply.Swapped from to → IsSwept engine.new.told engine.new.ledger engine.new.shown.history }
 {
     let at = engine.log.position();
     let Ready {
@@ -161,6 +166,7 @@ fn close<N: Naming, M: Made, D: Disk<M>, K: Sink>(
     requires runs { engine.old.shown.running ≡ true }
     ensures turn { Takes N.script (N.start no_rows) engine.old.shown engine.new.shown who.session who.command kind.Close Finished }
     ensures draft { AnswersDraft N.script (N.start no_rows) engine.old.shown engine.new.shown who.session ⊥ }
+    ensures swept { (from to : ℕ) → result ≡ reply.Swapped from to → IsSwept engine.new.told engine.new.ledger engine.new.shown.history }
 {
     let at = engine.log.position();
     match check(&engine.metadata, task, at) {
@@ -189,6 +195,9 @@ pub fn complete<N: Naming, M: Made, D: Disk<M>, K: Sink>(
     requires room { length engine.old.shown.history < N.room }
     ensures turn { Takes N.script (N.start no_rows) engine.old.shown engine.new.shown who.session who.command kind.Close Finished }
     ensures draft { AnswersDraft N.script (N.start no_rows) engine.old.shown engine.new.shown who.session ⊥ }
+
+    // Where the range is swapped in, each file that is there is one that the catalogue, a held pin or an open query names.
+    ensures swept { (from to : ℕ) → result ≡ reply.Swapped from to → IsSwept engine.new.told engine.new.ledger engine.new.shown.history }
 {
     if !engine.running() {
         engine.skip(who, Kind::Close);

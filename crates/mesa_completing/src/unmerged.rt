@@ -1,6 +1,7 @@
 // A work's last turn where its merge failed.
 ghost use Rattle.std.specs.Prelude.{◌≡◌, ◌<◌, ◌==◌, true, false, length};
 ghost use Rattle.mesa_fault.specs.Causes.{last};
+ghost use Rattle.mesa_history.specs.Refused.{is_refusal};
 ghost use Rattle.mesa_history.specs.Run.{Finished, Granted};
 ghost use Rattle.mesa_history.specs.Turns.{IsDue};
 ghost use Rattle.mesa_log.specs.Failure.{cause_in};
@@ -110,6 +111,7 @@ pub fn give_up<N: Naming, M: Made, D: Disk<M>, K: Sink>(
     ensures turn { Takes N.script (N.start no_rows) engine.old.shown engine.new.shown who.session who.command kind.Close Finished }
     ensures draft { AnswersDraft N.script (N.start no_rows) engine.old.shown engine.new.shown who.session (error ≡ compact.Draft) }
     ensures ledger { engine.old.shown.running ≡ true → engine.new.ledger ≡ closing_ledger engine.old.ledger.closed error (engine.old.shown.clock == last) (length engine.old.shown.history) task.table task.lease engine.old.ledger }
+    ensures reply { is_refusal result ≡ true }
 {
     if !engine.running() {
         engine.skip(who, Kind::Close);

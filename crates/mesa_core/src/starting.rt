@@ -3,11 +3,13 @@ ghost use Rattle.std.specs.Prelude.{◌≡◌, ◌<◌, ◌≤◌, ◌^◌, [], 
 ghost use Rattle.std.specs.List.{AllByRecursion};
 ghost use Rattle.mesa_core.specs.Vault.{AllTold};
 ghost use Rattle.mesa_engine.specs.Beginning.{IsBegun};
+ghost use Rattle.mesa_engine.specs.Ending.{ReadsState};
 ghost use Rattle.mesa_engine.specs.Engine.{most_turns, starts_of};
 ghost use Rattle.mesa_fault.specs.Causes.{last, Rose};
 ghost use Rattle.mesa_history.specs.Legal.{AllFit, fits_sink};
 ghost use Rattle.mesa_history.specs.Run.{begins};
 ghost use Rattle.mesa_ledger.specs.Vault.{outset_of};
+ghost use Rattle.mesa_engine.specs.mesa_metadata.Memory.{opened_ledger};
 ghost use Rattle.mesa_passes.specs.Passes.{turns_of as turns_in};
 ghost use Rattle.mesa_skeleton.specs.Rows.{Rows};
 ghost use Rattle.mesa_walk.specs.Printing.{IsPrinted};
@@ -40,7 +42,12 @@ impl<'s, N: Naming, M: Made, D: Disk<M>, K: Sink> Vault<'s, N, M, D, K> {
         requires free { begun.catalog.reserved ≡ None }
         requires room { N.room ≡ turns_in N.script.sessions }
         requires few { N.room ≤ most_turns }
-        ensures started { IfOk result (λ v. v ≡ record { shown = record { history = []; running = true; clock = (D.story begun.disk).moment }; run = begun.catalog.catalogue.run }) }
+        ensures started { IfOk result (λ v. v ≡ record {
+          shown = record { history = []; running = true; clock = (D.story begun.disk).moment };
+          run = begun.catalog.catalogue.run;
+          ledger = opened_ledger begun.catalog.catalogue begun.end script.now.lease;
+          told = (D.story begun.disk).told;
+        }) }
         ensures given_back { IfErr result (λ e. (e.1 ≡ begun) × (e.2 ≡ out)) }
     {
         let turns = turns_of(script);
@@ -88,6 +95,9 @@ impl<'s, N: Naming, M: Made, D: Disk<M>, K: Sink> Vault<'s, N, M, D, K> {
         // On a sound store, while the clock is below its last value, what was printed is its output, and what a crash may have left is found.
         ensures printed { (w : Rows) → N.sound w → (D.story result.0).moment < last → IsPrinted N.script (begins (N.start w)) result.2.items self.entry.shown.running N.at_start (K.held result.1) }
         ensures found { (w : Rows) → N.sound w → AllFound (outset_of (starts_of N.script N.start N.sound N.origin N.since N.counted N.at_start) w) result.2.items (D.story result.0) }
+
+        // On a sound store that nothing closed, a read gives what stands behind the last turn, also where the clock stands at its last value.
+        ensures reads { (w : Rows) → N.sound w → ReadsState N.script (N.start w) result.2.items (D.story result.0) }
     {
         let Vault {
             script: _script,

@@ -25,11 +25,16 @@ pub struct Vault<'s, N: Naming, M: Made, D: Disk<M>, K: Sink> {
 }
 
 impl<'s, N: Naming, M: Made, D: Disk<M>, K: Sink> Model for Vault<'s, N, M, D, K> {
+    ghost use Rattle.std.specs.Coded.{codes, coded_list, coded_ℕ};
+    ghost use Rattle.std.specs.FinMap.{code as coded_map};
+    ghost use Rattle.std.specs.Ordering.{nat_cmp};
     ghost use Rattle.mesa_core.specs.Vault.{IsOfRun, Stand};
 
     ghost Value = { Stand };
 
-    ghost view = { λ v. record { shown = v.engine.shown; run = v.engine.ledger.catalogue.run } };
+    ghost coded = { Prim.hlevel (codes, coded_map {R = nat_cmp} coded_ℕ (coded_list coded_ℕ)) };
+
+    ghost view = { λ v. record { shown = v.engine.shown; run = v.engine.ledger.catalogue.run; ledger = v.engine.ledger; told = v.engine.told } };
 
     ghost invariant = { λ v. IsOfRun M.bytes N.sound N.script v.script.now };
 }

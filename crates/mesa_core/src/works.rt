@@ -1,9 +1,11 @@
 // The turns of a work.
-ghost use Rattle.std.specs.Prelude.{◌≡◌, ◌<◌, true, not, Err, IfOk, OnOk, is_ok, length};
+ghost use Rattle.std.specs.Prelude.{◌≡◌, ◌<◌, ℕ, true, not, Err, IfOk, OnOk, is_ok, length};
+ghost use Rattle.mesa_completing.specs.Swept.{IsSwept};
 ghost use Rattle.mesa_core.specs.Handing.{IsGranted};
 ghost use Rattle.mesa_history.specs.Legal.{is_work};
 ghost use Rattle.mesa_history.specs.Run.{Finished, First, Granted, Renewed};
 ghost use Rattle.mesa_model.specs.declared.entries.Kind.TheVariants as kind;
+ghost use Rattle.mesa_model.specs.declared.replies.Reply.TheVariants as reply;
 ghost use Rattle.mesa_granted.specs.mesa_service.Works.{CanBeMerged, HasMerged, WasGranted, known_task};
 ghost use Rattle.mesa_skeleton.specs.Rows.{no_rows};
 ghost use Rattle.mesa_tasks.specs.Tasks.{claim_in};
@@ -66,6 +68,9 @@ impl<'s, N: Naming, M: Made, D: Disk<M>, K: Sink> Vault<'s, N, M, D, K> {
         requires room { length self.old.shown.history < N.room }
         ensures turn { Takes N.script (N.start no_rows) self.old.shown self.new.shown who.session who.command kind.Close Finished }
         ensures draft { AnswersDraft N.script (N.start no_rows) self.old.shown self.new.shown who.session (merged ≡ Err compact.Draft) }
+
+        // Where the range is swapped in, each file that is there is one that the catalogue, a held pin or an open query names.
+        ensures swept { (from to : ℕ) → result ≡ reply.Swapped from to → IsSwept self.new.told self.new.ledger self.new.shown.history }
     {
         catalogue(&self.engine);
         let alloc = allocator(&self.engine);

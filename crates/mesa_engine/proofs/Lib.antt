@@ -3,3 +3,4 @@ pub mod Undone
 pub mod Beginning
 pub mod Seeing
 pub mod Drafting
+pub mod Ending

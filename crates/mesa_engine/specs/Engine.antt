@@ -2,6 +2,7 @@
 use Rattle.std.specs.Prelude.{◌≡◌, ℕ, ◌≤◌, ◌^◌, List, [], true, false, not, Option, length, vec_capacity}
 use Rattle.std.specs.List.{AllByRecursion}
 use Rattle.mesa_fault.specs.Causes.{Rose}
+use Rattle.mesa_disk.specs.Image.{Image}
 use Rattle.mesa_disk.specs.Story.{Story}
 use Rattle.mesa_model.specs.declared.commands.Script.{Script}
 use Rattle.mesa_catalog.specs.mesa_history.Run.{State}
@@ -17,10 +18,11 @@ use Rattle.mesa_metadata.specs.Memory.{Memory}
 abbrev pub starts_of : Script → (Rows → State) → (Rows → Type 0) → (Rows → Origin) → ℕ → ℕ → Option (List ℕ) → Starts
 starts_of script start sound origin since counted at_start = record { script = script; start = start; sound = sound; since = since; counted = counted; at_start = at_start; origin = origin }
 
--- What is seen of an engine: what a caller sees of a vault, and the ledger.
+-- What is seen of an engine: what a caller sees of a vault, the ledger, and what a read of the disk gives, where that is told.
 pub record Standing : Type 0 where
   pub shown : Shown
   pub ledger : Ledger
+  pub told : Option Image
 
 -- how many turns a run has at most
 abbrev pub most_turns : ℕ

@@ -28,13 +28,19 @@ pub struct Engine<N: Naming, M: Made, D: Disk<M>, K: Sink> {
 
 impl<N: Naming, M: Made, D: Disk<M>, K: Sink> Model for Engine<N, M, D, K> {
     ghost use Rattle.std.specs.Prelude.{not};
+    ghost use Rattle.std.specs.Coded.{codes, coded_list, coded_ℕ};
+    ghost use Rattle.std.specs.FinMap.{code as coded_map};
+    ghost use Rattle.std.specs.Ordering.{nat_cmp};
     ghost use Rattle.mesa_engine.specs.Engine.{IsEngine, Standing, starts_of};
 
     ghost Value = { Standing };
 
+    ghost coded = { Prim.hlevel (codes, coded_map {R = nat_cmp} coded_ℕ (coded_list coded_ℕ)) };
+
     ghost view = { λ e. record {
       shown = record { history = e.log.history.items; running = not e.log.printer.broken; clock = (D.story e.disk).moment };
       ledger = e.metadata.ledger;
+      told = (D.story e.disk).told;
     } };
 
     ghost invariant = { λ e. IsEngine K.held K.faults (starts_of N.script N.start N.sound N.origin N.since N.counted N.at_start) N.room N.sink_faults e.metadata (D.story e.disk) e.log };

@@ -2,6 +2,7 @@
 ghost use Rattle.std.specs.Prelude.{◌≡◌, ◌<◌, ◌≤◌, ◌^◌, [], Bool, true, false, not, None, IsTrue, vec_capacity};
 ghost use Rattle.std.specs.List.{AllByRecursion};
 ghost use Rattle.mesa_engine.specs.Beginning.{IsBegun};
+ghost use Rattle.mesa_engine.specs.Ending.{ReadsState};
 ghost use Rattle.mesa_engine.specs.Engine.{most_turns, starts_of};
 ghost use Rattle.mesa_fault.specs.Causes.{last, Rose};
 ghost use Rattle.mesa_catalog.specs.mesa_history.Legal.{AllFit, fits_sink};
@@ -46,6 +47,7 @@ impl<N: Naming, M: Made, D: Disk<M>, K: Sink> Engine<N, M, D, K> {
         requires few { N.room ≤ most_turns }
         ensures shown { result.shown ≡ record { history = []; running = true; clock = (D.story disk).moment } }
         ensures ledger { result.ledger ≡ opened_ledger catalog.catalogue end lease }
+        ensures told { result.told ≡ (D.story disk).told }
     {
         Engine {
             metadata: Metadata::new(alloc, catalog, end, lease),
@@ -90,6 +92,9 @@ impl<N: Naming, M: Made, D: Disk<M>, K: Sink> Engine<N, M, D, K> {
         // On a sound store, while the clock is below its last value, what was printed is its output, and what a crash may have left is found.
         ensures printed { (w : Rows) → N.sound w → (D.story result.0).moment < last → IsPrinted N.script (begins (N.start w)) result.2.items self.shown.running N.at_start (K.held result.1) }
         ensures found { (w : Rows) → N.sound w → AllFound (outset_of (starts_of N.script N.start N.sound N.origin N.since N.counted N.at_start) w) result.2.items (D.story result.0) }
+
+        // On a sound store that nothing closed, a read gives what stands behind the last turn, also where the clock stands at its last value.
+        ensures reads { (w : Rows) → N.sound w → ReadsState N.script (N.start w) result.2.items (D.story result.0) }
     {
         let Engine {
             metadata,

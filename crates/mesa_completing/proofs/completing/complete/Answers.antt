@@ -1,7 +1,9 @@
-use Rattle.std.proofs.Common.{refl, sym, subst}
+use Rattle.std.proofs.Common.{◌≡◌, refl, sym, subst}
 use Rattle.mesa_history.specs.Run.{Renewed, Finished}
 use Rattle.mesa_model.specs.declared.commands.Command.TheVariants as command
 use Rattle.mesa_model.specs.declared.entries.Kind.TheVariants as kind
+use Rattle.mesa_model.specs.declared.replies.Refusal.TheVariants as no
+use Rattle.mesa_model.specs.declared.replies.Reply.TheVariants as reply
 use Rattle.mesa_skeleton.specs.Rows.{no_rows}
 use Rattle.mesa_ledger.specs.mesa_walk.Turns.{AnswersDraft, Takes}
 use Rattle.mesa_ledger.proofs.mesa_walk.Alike.{due_alike}
@@ -25,4 +27,5 @@ returns-then-not-running g c =
     record {
       turn = subst (λ (x : Standing). Takes N.script (N.start no_rows) c.args.engine.now.shown x.shown c.args.who.session c.args.who.command kind.Close Finished) (sym c.give_back.ensures) (c.skip.ensures.turn Finished);
       draft = subst (λ (x : Standing). AnswersDraft N.script (N.start no_rows) c.args.engine.now.shown x.shown c.args.who.session ⊥) (sym c.give_back.ensures) c.skip.ensures.draft;
+      swept = λ from to is. absurd (let never : reply.Refused no.Memory ≡ reply.Swapped from to = is in cc);
     }

@@ -14,6 +14,8 @@ use Rattle.mesa_model.specs.Entry.{IsShort}
 use Rattle.mesa_model.specs.declared.commands.Command.TheVariants as command
 use Rattle.mesa_model.specs.declared.entries.Kind.TheVariants as kind
 use Rattle.mesa_model.specs.declared.entries.Outcome.TheVariants as outcome
+use Rattle.mesa_model.specs.declared.replies.Refusal.TheVariants as no
+use Rattle.mesa_model.specs.declared.replies.Reply.TheVariants as reply
 use Rattle.mesa_history.specs.Replay.{no_rows as no_lines}
 use Rattle.mesa_record.proofs.RecordsBoth.{record_found}
 use Rattle.mesa_script.specs.Rows.{body_of}
@@ -25,8 +27,9 @@ use Rattle.mesa_ledger.specs.mesa_walk.Turns.{AnswersDraft, Shown, Takes, entry}
 use Rattle.mesa_ledger.specs.mesa_walk.Walk.{Counts, run_at}
 use Rattle.mesa_ledger.proofs.mesa_walk.Alike.{due_alike}
 use Rattle.mesa_ledger.proofs.mesa_walk.Clock.{closing}
+use Rattle.mesa_ledger.proofs.mesa_walk.Working.{checked_open}
 use Rattle.mesa_ledger.specs.Ledger.{Ledger, books_of}
-use Rattle.mesa_ledger.specs.Recorded.{failed_ledger, recorded_ledger, removed_by}
+use Rattle.mesa_ledger.specs.Recorded.{failed_ledger, holds_in, recorded_ledger, removed_by, waiting}
 use Rattle.mesa_ledger.specs.Turned.{leased_ledger}
 use Rattle.mesa_ledger.specs.Vault.{Starts, outset_of, written_by}
 use Rattle.mesa_ledger.proofs.Beginning.{vault_at_seen}
@@ -35,12 +38,15 @@ use Rattle.mesa_metadata.specs.Memory.{Memory}
 use Rattle.mesa_engine.specs.Engine.{IsEngine, Standing, starts_of}
 use Rattle.mesa_engine.proofs.Drafting.{answers_none}
 use Rattle.mesa_tasks.specs.Tasks.{claim_in}
+use Rattle.mesa_trash.specs.Holding.{kept}
 use Rattle.mesa_writing.proofs.Loads.{all_tell}
 use Rattle.mesa_writing.proofs.Written.{IsWhole, IsWorked}
 use Rattle.mesa_ledger.specs.Written.{written_at}
 use Rattle.mesa_completing.proofs.Claims.{due_still}
 use Rattle.mesa_completing.proofs.Refusing.{closed_takes}
 use Rattle.mesa_completing.proofs.SwapEngines.{absent_still, ready_still, swap_prints, swapped_engine, unswapped_engine}
+use Rattle.mesa_completing.specs.Swept.{IsSwept}
+use Rattle.mesa_completing.proofs.Sweeping.{swept}
 use Rattle.mesa_completing.proofs.completing.swap_in.Goals as goal
 
 -- ---- before memory is taken
@@ -192,6 +198,27 @@ fail-requires g c =
 
 -- ---- its device work is done
 
+-- the ledger behind it, its lease not ended yet
+applied_done : (g : _) (c : goal.After-drop-gone g)
+    → c.apply.new.self.ledger ≡ recorded_ledger c.engine.inside.metadata.ledger (length c.engine.inside.log.history.items) (applied c.engine.inside.metadata.ledger.catalogue c.in-Ok.ready.swapped.entry) (generation_of (applied c.engine.inside.metadata.ledger.catalogue c.in-Ok.ready.swapped.entry))
+    (dropped_ids c.engine.inside.metadata.ledger.catalogue c.in-Ok.ready.swapped.entry) c.engine.inside.metadata.ledger.leases c.in-Ok.ready.swapped.adopted c.in-Ok-write_record.end
+applied_done g c =
+    let s = c.in-Ok.ready.swapped in
+    let place = c.position-at.ensures in
+    let reserved = c.in-Ok.ensures.reserved in
+    let end = c.in-Ok-write_record.end in
+    let gone_is : c.deref-in-Ok-write_record.result.now ≡ dropped_ids c.engine.inside.metadata.ledger.catalogue s.entry = c.deref-in-Ok-write_record.ensures.value ∙ c.in-Ok.ensures.gone in
+    ap (λ (m : Memory). m.ledger) c.apply.ensures.applied
+    ∙ (λ j. recorded_ledger (reserved j).ledger (place j) (applied (reserved j).ledger.catalogue s.entry) (generation_of (applied (reserved j).ledger.catalogue s.entry)) (gone_is j) (reserved j).ledger.leases s.adopted end)
+
+-- the ledger behind it
+ledger_done : (g : _) (c : goal.After-drop-gone g)
+    → c.end_lease.new.self.ledger ≡ recorded_ledger c.engine.inside.metadata.ledger (length c.engine.inside.log.history.items) (applied c.engine.inside.metadata.ledger.catalogue c.in-Ok.ready.swapped.entry) (generation_of (applied c.engine.inside.metadata.ledger.catalogue c.in-Ok.ready.swapped.entry))
+    (dropped_ids c.engine.inside.metadata.ledger.catalogue c.in-Ok.ready.swapped.entry) (ended c.args.task.now.table c.args.task.now.lease c.engine.inside.metadata.ledger.leases) c.in-Ok.ready.swapped.adopted c.in-Ok-write_record.end
+ledger_done g c =
+    let t = c.args.task.now in
+    ap (λ (m : Memory). m.ledger) c.end_lease.ensures ∙ ap (λ (k : Ledger). leased_ledger k (ended t.table t.lease k.leases)) (applied_done g c)
+
 kept_done : (g : _) (c : goal.After-drop-gone g)
     → IsEngine g.K.Sink.held g.K.Sink.faults (starts_of g.N.Naming.script g.N.Naming.start g.N.Naming.sound g.N.Naming.origin g.N.Naming.since g.N.Naming.counted g.N.Naming.at_start) g.N.Naming.room g.N.Naming.sink_faults c.end_lease.new.self (g.D.Disk.story c.write_record.new.disk) c.tell.new.self
 kept_done g c =
@@ -256,12 +283,8 @@ kept_done g c =
     subst (λ e. IsWhole story new e body (files_of bytes s.made.items) (removed_by l (length h) gone) end) end_is
     (subst (λ d. IsWhole story new c.end-end.result body (files_of bytes s.made.items) d end) removed_is (record { holds = done.done; gone = done.gone; ends = done.end; long = done.longer })) in
     let counts : Counts story new false = record { faults = does.cause.later; reads = omega (arith, calls); rose = λ low is. absurd cc } in
-    let gone_is : c.deref-in-Ok-write_record.result.now ≡ gone = c.deref-in-Ok-write_record.ensures.value ∙ c.in-Ok.ensures.gone in
-    let applied_is : c.apply.new.self.ledger ≡ recorded_ledger l (length h) (applied l.catalogue s.entry) (generation_of (applied l.catalogue s.entry)) gone l.leases s.adopted end =
-    ap (λ (m : Memory). m.ledger) c.apply.ensures.applied
-    ∙ (λ j. recorded_ledger (reserved j).ledger (place j) (applied (reserved j).ledger.catalogue s.entry) (generation_of (applied (reserved j).ledger.catalogue s.entry)) (gone_is j) (reserved j).ledger.leases s.adopted end) in
-    let ledger_is : c.end_lease.new.self.ledger ≡ recorded_ledger l (length h) (applied l.catalogue s.entry) (generation_of (applied l.catalogue s.entry)) gone (ended t.table t.lease l.leases) s.adopted end =
-    ap (λ (m : Memory). m.ledger) c.end_lease.ensures ∙ ap (λ (k : Ledger). leased_ledger k (ended t.table t.lease k.leases)) applied_is in
+    let applied_is = applied_done g c in
+    let ledger_is = ledger_done g c in
     let rises : generation_of (applied l.catalogue s.entry) ≡ l.generation + turns_generation s.entry =
     sym (ap (λ (k : Ledger). k.generation) applied_is) ∙ c.apply.ensures.generation ∙ ap (λ (m : Memory). m.ledger.generation + turns_generation s.entry) reserved in
     let leased : c.end_lease.new.self.leased ≡ i.metadata.leased = ap (λ (m : Memory). m.leased) c.end_lease.ensures ∙ ap (λ (m : Memory). m.leased) c.apply.ensures.applied ∙ ap (λ (m : Memory). m.leased) reserved in
@@ -275,6 +298,20 @@ kept_done g c =
 
 pub invariant_of-engine-in-Ok-write_record : goal.invariant_of-engine-in-Ok-write_record
 invariant_of-engine-in-Ok-write_record g c = kept_done g c
+
+swept_done : (g : _) (c : goal.After-drop-gone g) → IsSwept (g.D.Disk.story c.write_record.new.disk).told c.end_lease.new.self.ledger c.tell.new.self.history.items
+swept_done g c =
+    let N = g.N.Naming in
+    let n : Starts = starts_of N.script N.start N.sound N.origin N.since N.counted N.at_start in
+    let l = c.engine.inside.metadata.ledger in
+    let h = c.engine.inside.log.history.items in
+    let later = c.tell.new.self in
+    let holds : claim_checked (books_of no_rows l).bare (books_of no_rows l).machine (length h) (claim_in c.args.task.now) ≡ Ok tt =
+    subst (λ (x : Standing). claim_checked (books_of no_rows x.ledger).bare (books_of no_rows x.ledger).machine (length x.shown.history) (claim_in c.args.task.now) ≡ Ok tt) (sym c.engine.view_is) c.requires.holds in
+    swept (outset_of n no_rows) (n.origin no_rows) false c.end_lease.new.self.ledger (g.D.Disk.story c.write_record.new.disk) (g.K.Sink.held later.printer.sink) later.history.items (not later.printer.broken) later.refused ((kept_done g c).vault no_rows false (λ is. absurd cc))
+    (ap (λ (k : Ledger). k.closed) (ledger_done g c) ∙ checked_open (books_of no_rows l).bare (books_of no_rows l).machine (length h) (claim_in c.args.task.now) holds)
+    (waiting l (length h) (dropped_ids l.catalogue c.in-Ok.ready.swapped.entry))
+    (subst (λ (k : Ledger). k.trash ≡ kept (holds_in k) (waiting l (length h) (dropped_ids l.catalogue c.in-Ok.ready.swapped.entry))) (sym (ledger_done g c)) refl)
 
 pub returns-in-Ok-write_record : goal.returns-in-Ok-write_record
 returns-in-Ok-write_record g c =
@@ -300,6 +337,7 @@ returns-in-Ok-write_record g c =
           (vault_at_seen n c.end_lease.new.self.ledger new (g.K.Sink.held later.printer.sink) later.history.items (not later.printer.broken) later.refused new.moment (kept_done g c).vault));
       draft = subst (λ (x : Standing). AnswersDraft N.script (N.start no_rows) x.shown seen session ⊥) c.engine.view_is
           (answers_none N.script (N.start no_rows) (record { history = h; running = not i.log.printer.broken; clock = (g.D.Disk.story i.disk).moment }) seen session (entry session number kind.Close outcome.Stands c.clock.result) grew refl);
+      swept = λ from to is. swept_done g c;
     }
 
 -- ---- it has failed
@@ -452,4 +490,5 @@ returns g c =
           subst (λ (x : Standing). AnswersDraft N.script (N.start no_rows) x.shown seen session ⊥) c.engine.view_is
           (answers_none N.script (N.start no_rows) (record { history = h; running = not i.log.printer.broken; clock = story.moment }) seen session e told.items
           (ap not (closing (run_at N.script (N.start no_rows) h).moment story.moment e (c.engine.invariant.vault no_rows false (λ z. absurd cc)).walk.at rose refl)));
+      swept = λ from to is. absurd (let never : reply.Refused no.WriteFault ≡ reply.Swapped from to = sym c.fail-in-Err-write_record.ensures.reply ∙ is in cc);
     }

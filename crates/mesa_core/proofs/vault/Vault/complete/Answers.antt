@@ -1,6 +1,7 @@
-use Rattle.std.proofs.Common.{◌≡◌, Err, not, sym, ap, ◌∙◌, subst}
+use Rattle.std.proofs.Common.{◌≡◌, Err, true, false, not, sym, ap, ◌∙◌, subst}
 use Rattle.std.specs.Prelude.{is_ok}
 use Rattle.mesa_history.specs.Legal.{is_work}
+use Rattle.mesa_history.specs.Refused.{is_refusal}
 use Rattle.mesa_history.specs.Run.{Granted, Renewed}
 use Rattle.mesa_model.specs.declared.commands.Command.TheVariants as command
 use Rattle.mesa_granted.specs.mesa_service.Works.{HasMerged, WasGranted, known_task}
@@ -86,3 +87,7 @@ returns-in-Err-clause-draft g c =
     let new = c.give_up.new.engine.shown in
     subst (λ (s : Stand). AnswersDraft N.script (N.start no_rows) s.shown new c.args.who.session (c.args.merged ≡ Err compact.Draft)) c.self.view_is
     (answers_more N.script (N.start no_rows) c.self.inside.engine.shown new c.args.who.session (λ same. c.in-Err.is ∙ ap Err same) c.give_up.ensures.draft)
+
+pub returns-in-Err-clause-swept : goal.returns-in-Err-clause-swept
+returns-in-Err-clause-swept g c from to is =
+    absurd (let never : true ≡ false = sym c.give_up.ensures.reply ∙ ap is_refusal is in cc)

@@ -5,7 +5,9 @@ use Rattle.mesa_catalog.specs.mesa_history.Run.{begins}
 use Rattle.mesa_ledger.specs.mesa_walk.Printing.{IsPrinted}
 use Rattle.mesa_ledger.specs.mesa_walk.Walk.{run_at}
 use Rattle.mesa_ledger.specs.mesa_skeleton.Rows.{no_rows}
-use Rattle.mesa_engine.specs.Engine.{Standing}
+use Rattle.mesa_ledger.specs.Vault.{Starts}
+use Rattle.mesa_engine.specs.Engine.{Standing, starts_of}
+use Rattle.mesa_engine.proofs.Ending.{reads_state}
 use Rattle.mesa_engine.proofs.engine.Engine.stop.Goals as goal
 
 pub returns-clause-legal : goal.returns-clause-legal
@@ -52,3 +54,10 @@ returns-clause-printed g c w is low =
 
 pub returns-clause-found : goal.returns-clause-found
 returns-clause-found g c w is = (c.self.invariant.vault w true (λ ok. is)).walk.found refl
+
+pub returns-clause-reads : goal.returns-clause-reads
+returns-clause-reads g c w is =
+    let N = g.N.Naming in
+    let n : Starts = starts_of N.script N.start N.sound N.origin N.since N.counted N.at_start in
+    let i = c.self.inside in
+    reads_state n w i.metadata.ledger (g.D.Disk.story i.disk) (g.K.Sink.held i.log.printer.sink) i.log.history.items (not i.log.printer.broken) i.log.refused (c.self.invariant.vault w true (λ ok. is))

@@ -1,0 +1,41 @@
+-- The files behind a swap.
+use Rattle.std.proofs.Common.{◌≡◌, ⊎_elim, inl, inr, ℕ, List, ◌∷◌, [], length, map, Bool, true, sym, subst, Option, None}
+use Rattle.std.specs.Prelude.{filter}
+use Rattle.std.specs.List.{AllByRecursion}
+use Rattle.mesa_disk.specs.Story.{Story}
+use Rattle.mesa_ledger.specs.mesa_image_laws.Ids.{named}
+use Rattle.mesa_ledger.specs.Ledger.{Ledger, holders, ids_held, next_id}
+use Rattle.mesa_ledger.specs.Recorded.{holds_in}
+use Rattle.mesa_ledger.specs.Vault.{Origin, IsVault}
+use Rattle.mesa_ledger.specs.mesa_walk.Walk.{Outset}
+use Rattle.mesa_ledger.proofs.Filing.{holds_are}
+use Rattle.mesa_model.specs.declared.entries.Entry.{Entry}
+use Rattle.mesa_trash.specs.declared.trash.Dropped.{Dropped}
+use Rattle.mesa_trash.specs.Holding.{Among, IsHad, ids_of, kept}
+use Rattle.mesa_trash.proofs.Filing.{kept_had}
+use Rattle.mesa_trash.proofs.Waiting.{kept_among, unpicked}
+use Rattle.mesa_completing.specs.Swept.{IsSwept}
+
+passes : (test : Dropped → Bool) (id : ℕ) (ds : List Dropped) → AllByRecursion (λ (d : Dropped). d.id ≡ id → test d ≡ true) (filter test ds)
+passes test id [] = tt
+passes test id (d ∷ ds) =
+    unpicked (test d) d (filter test ds) (AllByRecursion (λ (e : Dropped). e.id ≡ id → test e ≡ true)) (λ so. (λ same. so, passes test id ds)) (passes test id ds)
+
+-- Once all that no hold is on has been removed, what is there is named, or was had by a pin or an open query.
+pub swept : (o : Outset) (g : Origin) (sound : Bool) (l : Ledger) (story : Story) (held : Option (List ℕ)) (h : List Entry) (running refused : Bool) → IsVault o g sound l story held h running refused
+    → l.closed ≡ None → (ds : List Dropped) → l.trash ≡ kept (holds_in l) ds → IsSwept story.told l h
+swept o g sound l story held h running refused v none ds trash = record {
+  seen = v.seen;
+  filed = v.filed;
+  wanted = λ i told id there. ⊎_elim (λ (is : Among id (named l.catalogue)). inl is) (λ waits. inr (had id waits)) ((v.ready none).strays i told id there);
+}
+  where
+    again : (id : ℕ) → Among id (ids_of l.trash) → Among id (ids_of (kept (holds_in l) l.trash))
+    again id waits =
+        subst (λ xs. Among id (ids_of (kept (holds_in l) xs))) (sym trash)
+        (kept_among _ id (kept (holds_in l) ds) (passes _ id ds) (subst (λ xs. Among id (ids_of xs)) trash waits))
+
+    had : (id : ℕ) → Among id (ids_of l.trash) → IsHad id (map ids_held (holders v.seen l))
+    had id waits =
+        kept_had (length h) (next_id l) (named l.catalogue) l.trash (map ids_held (holders v.seen l)) v.filed id
+        (subst (λ hs. Among id (ids_of (kept hs l.trash))) (sym (holds_are v.seen l)) (again id waits))
