@@ -1,6 +1,8 @@
-//! Tests of disks in memory, and of journals on them.
+//! Tests of disks in memory, of journals on them, and of files that are read through a cache.
 #![tactic(auto)]
 
+#[cfg(test)]
+mod cached;
 #[cfg(test)]
 mod disk;
 #[cfg(test)]
