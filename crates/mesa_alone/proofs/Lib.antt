@@ -1,0 +1,5 @@
+mod Undated
+mod Standing
+mod Walking
+mod Sessions
+pub mod Printing

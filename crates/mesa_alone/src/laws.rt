@@ -1,0 +1,14 @@
+// Laws of one session alone.
+ghost use Rattle.mesa_alone.specs.Alone.{PrintsAlone, RunsAlone};
+
+/// Let at most one session of a script have commands, and let a run begin on a store that isn't closed. Where
+/// every turn stands, its history has the entries, but for their moments, that the script's sessions make one
+/// after another without a fault. So each work was renewed before its close.
+pub fn one_session_runs_alone()
+    ensures { RunsAlone }
+{}
+
+/// What such a run prints is one text: that of the history without faults.
+pub fn one_session_prints_one_text()
+    ensures { PrintsAlone }
+{}
