@@ -1,0 +1,261 @@
+// A run that is stopped at any moment leaves a front of what it did, with every command that it had acknowledged.
+use crate::trial::{empty_disk, run_over};
+use mesa_disk::{Disk, MemDisk};
+use mesa_model::{Entry, Kind};
+use std::alloc::Global;
+use std::process::Abort;
+use std::str;
+use std::sync::Wait;
+use std::test::Fail;
+use std::thread::Threads;
+
+// Two tables and a view, two loads of both tables, an expiry, a work of each table between two loads, and a
+// change of columns.
+static SCRIPT: &str = "table,t,a int;b int,v sum\n\
+     table,u,k int,m max\n\
+     view,w,t,a,v\n\
+     row,t,1,1,5\n\
+     row,t,1,2,7\n\
+     row,u,9,3\n\
+     commit\n\
+     row,t,1,1,-2\n\
+     row,t,2,1,4\n\
+     commit\n\
+     expire,1\n\
+     work,t\n\
+     alter,u,add_value,n min,7\n\
+     row,t,1,1,1\n\
+     row,u,9,5,2\n\
+     row,u,8,1,1\n\
+     commit\n\
+     work,u\n";
+
+// What each image is asked: its tables, its view, which deltas a query reads, and one load more.
+static QUESTIONS: &str = "query,t\n\
+     query,u\n\
+     query,w\n\
+     explain,t\n\
+     explain,u\n\
+     explain,t,0\n\
+     commit\n";
+
+// The answers behind so many of the script's commands.
+static FRONTS: [&str; 11] = [
+    "0.1@0 refused no_table\n\
+     0.2@1 refused no_table\n\
+     0.3@2 refused no_table\n\
+     0.4@3 refused no_table\n\
+     0.5@4 refused no_table\n\
+     0.6@5 refused no_table\n\
+     0.7@7 loaded version=0 rows=0\n",
+    "0.1@0 refused future asked=latest newest=none\n\
+     0.2@1 refused no_table\n\
+     0.3@2 refused no_table\n\
+     0.4@3 refused future asked=latest newest=none\n\
+     0.5@4 refused no_table\n\
+     0.6@5 refused future asked=0 newest=none\n\
+     0.7@7 loaded version=0 rows=0\n",
+    "0.1@0 refused future asked=latest newest=none\n\
+     0.2@1 refused future asked=latest newest=none\n\
+     0.3@2 refused no_table\n\
+     0.4@3 refused future asked=latest newest=none\n\
+     0.5@4 refused future asked=latest newest=none\n\
+     0.6@5 refused future asked=0 newest=none\n\
+     0.7@7 loaded version=0 rows=0\n",
+    "0.1@0 refused future asked=latest newest=none\n\
+     0.2@1 refused future asked=latest newest=none\n\
+     0.3@2 refused future asked=latest newest=none\n\
+     0.4@3 refused future asked=latest newest=none\n\
+     0.5@4 refused future asked=latest newest=none\n\
+     0.6@5 refused future asked=0 newest=none\n\
+     0.7@7 loaded version=0 rows=0\n",
+    "0.1@0 rows 2 version=0\n\
+     1,1,5\n\
+     1,2,7\n\
+     0.2@2 rows 1 version=0\n\
+     9,3\n\
+     0.3@4 rows 1 version=0\n\
+     1,12\n\
+     0.4@6 spans 1\n\
+     [0,0]\n\
+     0.5@7 spans 1\n\
+     [0,0]\n\
+     0.6@8 spans 1\n\
+     [0,0]\n\
+     0.7@10 loaded version=1 rows=0\n",
+    "0.1@0 rows 3 version=1\n\
+     1,1,3\n\
+     1,2,7\n\
+     2,1,4\n\
+     0.2@2 rows 1 version=1\n\
+     9,3\n\
+     0.3@4 rows 2 version=1\n\
+     1,10\n\
+     2,4\n\
+     0.4@6 spans 2\n\
+     [0,0]\n\
+     [1,1]\n\
+     0.5@7 spans 2\n\
+     [0,0]\n\
+     [1,1]\n\
+     0.6@8 spans 1\n\
+     [0,0]\n\
+     0.7@10 loaded version=2 rows=0\n",
+    "0.1@0 rows 3 version=1\n\
+     1,1,3\n\
+     1,2,7\n\
+     2,1,4\n\
+     0.2@2 rows 1 version=1\n\
+     9,3\n\
+     0.3@4 rows 2 version=1\n\
+     1,10\n\
+     2,4\n\
+     0.4@6 spans 2\n\
+     [0,0]\n\
+     [1,1]\n\
+     0.5@7 spans 2\n\
+     [0,0]\n\
+     [1,1]\n\
+     0.6@8 refused stale asked=0 oldest=1\n\
+     0.7@10 loaded version=2 rows=0\n",
+    "0.1@0 rows 3 version=1\n\
+     1,1,3\n\
+     1,2,7\n\
+     2,1,4\n\
+     0.2@2 rows 1 version=1\n\
+     9,3\n\
+     0.3@4 rows 2 version=1\n\
+     1,10\n\
+     2,4\n\
+     0.4@6 spans 1\n\
+     [0,1]\n\
+     0.5@7 spans 2\n\
+     [0,0]\n\
+     [1,1]\n\
+     0.6@8 refused stale asked=0 oldest=1\n\
+     0.7@10 loaded version=2 rows=0\n",
+    "0.1@0 rows 3 version=1\n\
+     1,1,3\n\
+     1,2,7\n\
+     2,1,4\n\
+     0.2@2 rows 1 version=1\n\
+     9,3,7\n\
+     0.3@4 rows 2 version=1\n\
+     1,10\n\
+     2,4\n\
+     0.4@6 spans 1\n\
+     [0,1]\n\
+     0.5@7 spans 2\n\
+     [0,0]\n\
+     [1,1]\n\
+     0.6@8 refused stale asked=0 oldest=1\n\
+     0.7@10 loaded version=2 rows=0\n",
+    "0.1@0 rows 3 version=2\n\
+     1,1,4\n\
+     1,2,7\n\
+     2,1,4\n\
+     0.2@2 rows 2 version=2\n\
+     8,1,1\n\
+     9,5,2\n\
+     0.3@4 rows 2 version=2\n\
+     1,11\n\
+     2,4\n\
+     0.4@6 spans 2\n\
+     [0,1]\n\
+     [2,2]\n\
+     0.5@7 spans 3\n\
+     [0,0]\n\
+     [1,1]\n\
+     [2,2]\n\
+     0.6@8 refused stale asked=0 oldest=1\n\
+     0.7@10 loaded version=3 rows=0\n",
+    "0.1@0 rows 3 version=2\n\
+     1,1,4\n\
+     1,2,7\n\
+     2,1,4\n\
+     0.2@2 rows 2 version=2\n\
+     8,1,1\n\
+     9,5,2\n\
+     0.3@4 rows 2 version=2\n\
+     1,11\n\
+     2,4\n\
+     0.4@6 spans 2\n\
+     [0,1]\n\
+     [2,2]\n\
+     0.5@7 spans 2\n\
+     [0,1]\n\
+     [2,2]\n\
+     0.6@8 refused stale asked=0 oldest=1\n\
+     0.7@10 loaded version=3 rows=0\n",
+];
+
+// How many commands a history has acknowledged by a moment: up to the last whose last turn was over by then.
+fn acknowledged(history: &[Entry], moment: u64) -> usize {
+    let mut count = 0;
+    for entry in history {
+        let is_last = matches!(entry.kind, Kind::Decide | Kind::Close);
+        if is_last && entry.moment <= moment {
+            count = entry.command as usize;
+        }
+    }
+    count
+}
+
+// Whether these are the answers behind so many commands.
+fn is_front(commands: usize, answers: &str) -> bool {
+    FRONTS.get(commands).is_some_and(|front| *front == answers)
+}
+
+// Stops the test where an image answers neither as before the command that was on its way nor as behind it.
+fn expect_image<R: Abort + Threads + Wait + Sync>(
+    rt: &R,
+    alloc: Global,
+    image: MemDisk,
+    moment: u64,
+    commands: usize,
+) -> Result<(), Fail> {
+    let left = run_over(rt, alloc, image, &[], QUESTIONS)?;
+    let answers = str::from_utf8(left.text.as_slice()).ok().ok_or("no text")?;
+    let next = commands.wrapping_add(1);
+    assert!(rt;
+        is_front(commands, answers) || is_front(next, answers),
+        "moment {moment}, behind {commands} commands: {answers}"
+    );
+    Ok(())
+}
+
+// The same of each image of a moment.
+fn expect_moment<R: Abort + Threads + Wait + Sync>(
+    rt: &R,
+    alloc: Global,
+    disk: &MemDisk,
+    moment: u64,
+    commands: usize,
+) -> Result<(), Fail> {
+    for pick in 0..3u8 {
+        let image = disk.image(moment, pick)?;
+        expect_image(rt, alloc, image, moment, commands)?;
+    }
+    Ok(())
+}
+
+// The same of each moment of a run.
+fn expect_moments<R: Abort + Threads + Wait + Sync>(
+    rt: &R,
+    alloc: Global,
+    disk: &MemDisk,
+    history: &[Entry],
+) -> Result<(), Fail> {
+    for moment in 0..=disk.clock() {
+        let commands = acknowledged(history, moment);
+        expect_moment(rt, alloc, disk, moment, commands)?;
+    }
+    Ok(())
+}
+
+#[test]
+fn a_run_stopped_at_each_moment(rt: HostRuntime) -> Result<(), Fail> {
+    let left = run_over(&rt, rt.alloc(), empty_disk(rt.alloc()), &[], SCRIPT)?;
+    assert_eq!(rt; left.status, 0, "the run that is stopped");
+    expect_moments(&rt, rt.alloc(), &left.disk, &left.history)
+}
