@@ -1,0 +1,4 @@
+pub mod SumColumns
+pub mod Tallying
+pub mod Streams
+pub mod Judged

@@ -1,0 +1,42 @@
+// A file's rows one by one.
+ghost use Rattle.std.specs.Prelude.{◌≡◌, [], ◌∷◌, ◌++◌, ℕ, List, IfOk, IfErr, IfSome, IfNone, Some};
+ghost use Rattle.mesa_tasks.specs.mesa_cursor.Cursors.{HasGiven, IsAllOf, IsInput, IsSameInput, reader_in};
+ghost use Rattle.mesa_disk.specs.mesa_fault.Causes.{HasFaultCause};
+ghost use Rattle.mesa_disk.specs.mesa_file.declared.damage.Damage.{Damage as AnyDamage};
+ghost use Rattle.mesa_schema.specs.declared.rows.Row.{Row as AnyRow};
+ghost use Rattle.mesa_schema.specs.Changes.{columns_of};
+ghost use Rattle.mesa_schema.specs.Rows.{IsRowOf};
+ghost use Rattle.mesa_delta.specs.Reading.{IsIndexed, index_of};
+ghost use Rattle.mesa_delta.specs.declared.error.FileError.TheVariants as file_error;
+
+use mesa_cursor::Cursor;
+use mesa_delta::{FileError, Input};
+use mesa_disk::FileReader;
+use mesa_schema::Row;
+
+/// The next row of an input, lifted to the present; None at its end. Beside it at most a block of the file is held.
+pub fn next_row<R: FileReader>(
+    cursor: &mut Cursor,
+    input: &mut Input<R>,
+) -> Result<Option<Row>, FileError>
+    // What was given grows by the row, or it is all of the input.
+    ensures some { IfOk result (λ o. IfSome o (λ row. (given : List AnyRow) → HasGiven R.bytes input.old cursor.old given → HasGiven R.bytes input.new cursor.new (given ++ row ∷ []) × IsRowOf (columns_of input.old.evolving.value) row)) }
+    ensures none { IfOk result (λ o. IfNone o ((given : List AnyRow) → HasGiven R.bytes input.old cursor.old given → HasGiven R.bytes input.new cursor.new given × IsAllOf R.bytes input.new given)) }
+
+    // The input stays one, of the same file.
+    ensures input { IsInput R.bytes input.old → IsInput R.bytes input.new }
+    ensures same { IsSameInput R.bytes input.old input.new }
+
+    // Read comes where the count of faults rose, and Damaged where the file isn't the recorded one.
+    ensures cause { HasFaultCause (λ e. e ≡ file_error.Read) (R.faults (reader_in input.old)) (R.faults (reader_in input.new)) result }
+    ensures accepts { IfErr result (λ e. (d : AnyDamage) → e ≡ file_error.Damaged d → IsInput R.bytes input.old
+        → (b : List ℕ) (all : List AnyRow) → R.bytes (reader_in input.old) ≡ Some b → IsIndexed (index_of input.old.reader) all b → ⊥) }
+{
+    match cursor.fill(input) {
+        Ok(()) => {}
+        Err(error) => return Err(error),
+    }
+    cursor.rises(input);
+    cursor.ends(input);
+    Ok(cursor.take())
+}
