@@ -1,11 +1,12 @@
 // Inputs over files that are spelled.
-ghost use Rattle.std.specs.Prelude.{◌≡◌, [], ◌∷◌, ◌++◌, ℕ, Option, Some};
+ghost use Rattle.std.specs.Prelude.{◌≡◌, ◌≤◌, [], ◌∷◌, ◌++◌, ℕ, Option, Some};
 ghost use Rattle.mesa_schema.specs.Changes.{columns_of};
 ghost use Rattle.mesa_schema.specs.Columns.{Columns};
 ghost use Rattle.mesa_cursor.specs.Cursors.{IsInput};
 ghost use Rattle.mesa_tasks.specs.Pins.{HasViewOf, IsPinnedInput, view_at};
 
 use crate::vectors::{Vector, bytes_of, spelled};
+use mesa_cache::Cached;
 use mesa_delta::{DeltaReader, Input};
 use mesa_disk::{ByteList, Disk, FileId, FileReader, FileRef, MemDisk, MemReader};
 use mesa_list::Items;
@@ -73,6 +74,22 @@ pub fn source_of(
         reader: reader_of(rt, alloc, file.id, bytes),
         file,
     }
+}
+
+/// The same file, read through a cache of so many pages.
+pub fn cached<R: FileReader + Drop>(
+    rt: &impl Abort,
+    alloc: Global,
+    source: Source<R>,
+    pages: usize,
+) -> Source<Cached<R>>
+    requires { 1 ≤ pages }
+{
+    let Source { reader, file } = source;
+    let Ok(reader) = Cached::new(alloc, reader, pages) else {
+        panic!(rt; "no memory");
+    };
+    Source { reader, file }
 }
 
 /// An input over a file of a table that was never changed.

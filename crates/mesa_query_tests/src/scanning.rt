@@ -1,7 +1,7 @@
 // Files of which only some blocks are read.
 ghost use Rattle.mesa_cursor.specs.Cursors.{IsInput};
 
-use crate::inputs::{input_of, source_of};
+use crate::inputs::{Source, cached, input_of, source_of};
 use crate::tables::table;
 use crate::vectors::{PAIRS, TEXTS, VECTORS, Vector};
 use mesa_delta::Input;
@@ -40,6 +40,20 @@ fn expect_scan<R: FileReader + Drop>(
 }
 
 // The same over a file of a table of these key columns.
+fn expect_scan_in<R: FileReader + Drop>(
+    rt: &impl Abort,
+    alloc: Global,
+    source: Source<R>,
+    names: &[&str],
+    kind: KeyType,
+    case: &Scanned,
+) {
+    let table = table(rt, alloc, names, kind);
+    let mut input = input_of(rt, alloc, source, &table);
+    expect_scan(rt, alloc, &mut input, case);
+}
+
+// The same of a file as it is, and through a cache of two of its pages.
 fn expect_scan_of(
     rt: &impl Abort,
     alloc: Global,
@@ -48,10 +62,11 @@ fn expect_scan_of(
     kind: KeyType,
     case: &Scanned,
 ) {
-    let table = table(rt, alloc, names, kind);
+    let plain = source_of(rt, alloc, vector, None);
+    expect_scan_in(rt, alloc, plain, names, kind, case);
     let source = source_of(rt, alloc, vector, None);
-    let mut input = input_of(rt, alloc, source, &table);
-    expect_scan(rt, alloc, &mut input, case);
+    let cached = cached(rt, alloc, source, 2);
+    expect_scan_in(rt, alloc, cached, names, kind, case);
 }
 
 // Of two blocks with equal short keys both may have the row.
