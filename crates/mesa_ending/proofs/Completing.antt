@@ -1,23 +1,27 @@
 -- Completeness follows from how calls end.
-use Rattle.std.proofs.Common.{◌≡◌, ⊎_elim, inl, inr, ◌≤◌, ◌<◌, ◌+◌, ℕ, List, length, Bool, true, false, sym, ◌∙◌, ap, subst, arith, Option, Some}
+use Rattle.std.proofs.Common.{◌≡◌, ⊎_elim, inl, inr, ◌≤◌, ◌<◌, ◌+◌, ℕ, List, [], length, Bool, true, false, sym, ◌∙◌, ap, subst, arith, Option, Some, None}
 use Rattle.std.specs.Prelude.{IfSome, Result, Ok, Err, if◌then◌else◌}
+use Rattle.mesa_fault.specs.Causes.{Rose}
 use Rattle.mesa_model.specs.declared.commands.Script.{Script}
 use Rattle.mesa_history.specs.Counting.{count_in, is_disk_fault, is_bench_fault}
 use Rattle.mesa_history.specs.Refused.{some_refused}
 use Rattle.mesa_history.specs.Run.{Run, begins}
 use Rattle.mesa_script.specs.declared.script.ScriptError.{ScriptError}
+use Rattle.mesa_script.specs.Generated.{generated}
 use Rattle.mesa_script.specs.Script.{script_of}
+use Rattle.mesa_words.specs.declared.forms.Form.{Form}
+use Rattle.mesa_words.specs.declared.forms.Form.TheVariants as form
 use Rattle.mesa_skeleton.specs.Rows.{Rows}
 use Rattle.mesa_image.specs.Catalog.{Catalog}
 use Rattle.mesa_opening.specs.declared.error.OpenError.{OpenError}
 use Rattle.mesa_opening.specs.declared.error.OpenError.TheVariants as open_error
 use Rattle.mesa_opening.specs.Opening.{ReadsAs}
-use Rattle.mesa_ending.specs.Ports.{Ports}
+use Rattle.mesa_ending.specs.Ports.{Ports, in_memory}
 use Rattle.mesa_ending.specs.Exits.{max_input}
 use Rattle.mesa_ending.specs.Scripts.{IsSmall}
 use Rattle.mesa_ending.specs.Start.{IsSoundStore, start_of}
 use Rattle.mesa_ending.specs.Run.{Ran}
-use Rattle.mesa_ending.specs.Ending.{Ended, EndedOpening, Ends, EndsInput, EndsScript, EndsText, HasRun}
+use Rattle.mesa_ending.specs.Ending.{Ended, EndedOpening, Ends, EndsForm, EndsGenerated, EndsInput, EndsScript, EndsText, HasRun, HasShown, Prints}
 use Rattle.mesa_ending.specs.Completing.{AllQuiet, AsksFor, Completes, HasRoomToRun, NothingFailed}
 use Rattle.mesa_ending.specs.declared.done.Devices.{Devices}
 use Rattle.mesa_ending.specs.declared.done.Done.{Done}
@@ -41,6 +45,10 @@ counts_none n faults reads f r le a b = omega (arith, le, a, b)
 
 bench_none : (before n after : ℕ) → before + n ≤ after → after ≤ before → n ≡ 0
 bench_none before n after le a = omega (arith, le, a)
+
+-- a count that isn't one doesn't rise
+never : Rose 0 0 → ⊥
+never rose = omega (arith, rose)
 
 module _ {K D M B : Type 0} (ports : Ports K D M B) (g : Devices K D B) (done : Done K D B) (source_before source_now : ℕ) (nothing : NothingFailed ports g done source_before source_now) where
   printed : (line : List ℕ) → Ended ports g done 8 line → Completes done
@@ -114,12 +122,51 @@ module _ {K D M B : Type 0} (ports : Ports K D M B) (g : Devices K D B) (done : 
       ]
     ]
 
-    -- Where the words are `run`, the input is a script within its limit, the store is sound and may have a run more, and nothing failed, every reply is the reference warehouse's, or memory.
-    pub completes : (words : List (List ℕ)) (input : Option (List ℕ)) (script : Script) → AsksFor words input script → Ends ports g done words input source_before source_now → Completes done
-    completes words input script asks ends = elim ends [
-      | inl p ↦ absurd (p.0 asks.run)
-      | inr p ↦ elim p.1 [
-        | inl q ↦ absurd (nothing.source q.0)
-        | inr q ↦ read input asks.bytes script asks.known asks.short asks.read q.1
+module _ {K D M B : Type 0} (ports : Ports K D M B) (g : Devices K D B) (done : Done K D B) (source_before source_now : ℕ) (nothing : NothingFailed ports g done source_before source_now) where
+  ends_printed : (line : List ℕ) → Prints ports g done 8 line → Completes done
+  ends_printed line prints = elim prints [ inl q ↦ inl q.0 | inr q ↦ absurd (nothing.sink q.1) ]
+
+  module _ (c : Catalog) (rows : Rows) (room : HasRoomToRun ports g c rows) where
+    -- the script of a seed
+    generated_run : (script : Script) → IsSmall script → (d : Catalog) (out : List ℕ) (seed versions : ℕ) → HasShown ports g done seed versions script d out → Completes done
+    generated_run script small d out seed versions has = elim has [
+      | inl p ↦ elim p.1.prints [
+        | inl q ↦ inr (
+          (let le = one_or_none (some_refused script (begins (start_of script d rows)) done.history.items) in omega (arith, le, q.0, p.1.tells rows)),
+          quiet (in_memory ports) (record { out = []; disk = g.disk; benches = g.benches })
+              (record { status = done.status; out = out; disk = done.disk; benches = done.benches; history = done.history }) source_before source_now
+              (record { source = nothing.source; sink = λ rose. never rose; disk = nothing.disk; reads = nothing.reads; benches = nothing.benches; clock = nothing.clock })
+              c rows (record { sound = room.sound; number = room.number }) script small d p.0,
+        )
+        | inr q ↦ absurd (nothing.sink q.1)
       ]
+      | inr p ↦ ends_printed _ p.1
+    ]
+
+    generated_ends : (script : Script) (seed versions : ℕ) → script_of (generated seed versions) ≡ Ok script → EndsGenerated ports g done seed versions → Completes done
+    generated_ends script seed versions is ends = elim ends [
+      | inl p ↦ elim p.2 [
+        | inl q ↦ opening ports g done source_before source_now nothing c rows room q.0 q.1
+        | inr rest ↦ elim rest [
+          | inl q ↦ generated_run p.0 (scripts_small (generated seed versions) p.0 p.1) q.0 q.1 seed versions q.2
+          | inr q ↦ ends_printed _ q.1.2
+        ]
+      ]
+      | inr p ↦ ends_printed _ p.1.2
+    ]
+
+    form_ends : (asked : Option Form) (input : Option (List ℕ)) (script : Script) → AsksFor asked input script → EndsForm ports g done asked input source_before source_now → Completes done
+    form_ends None input script asks p = absurd asks
+    form_ends (Some form.Run) input script asks p = elim p [
+      | inl q ↦ absurd (nothing.source q.0)
+      | inr q ↦ read ports g done source_before source_now nothing c rows room input asks.bytes script asks.known asks.short asks.read q.1
+    ]
+    form_ends (Some form.Check) input script asks p = absurd asks
+    form_ends (Some (form.Gen seed versions)) input script asks p = generated_ends script seed versions asks p.1
+
+    -- Where a script is asked for, the store is sound and may have a run more, and nothing failed, every reply is the reference warehouse's, or memory.
+    pub completes : (asked : Option Form) (input : Option (List ℕ)) (script : Script) → AsksFor asked input script → Ends ports g done asked input source_before source_now → Completes done
+    completes asked input script asks ends = elim ends [
+      | inl p ↦ form_ends asked input script asks p
+      | inr p ↦ ends_printed _ p.1.1.2
     ]

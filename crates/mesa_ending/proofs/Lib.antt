@@ -10,3 +10,4 @@ pub mod Readable
 pub mod Quiet
 pub mod Completing
 pub mod Telling
+pub mod Named

@@ -1,20 +1,23 @@
 -- What a status tells follows from how calls end.
-use Rattle.std.proofs.Common.{◌≡◌, ◌⊎◌, inl, inr, ◌≤◌, ◌<◌, ℕ, List, [], ◌∷◌, length, Bool, true, false, refl, sym, ◌∙◌, subst, arith, Option, Some, None}
-use Rattle.std.specs.Prelude.{◌≢◌, IfSome, Ok, codes, if◌then◌else◌}
+use Rattle.std.proofs.Common.{◌≡◌, ◌⊎◌, inl, inr, ◌≤◌, ◌<◌, ℕ, List, length, Bool, true, false, refl, sym, ◌∙◌, subst, arith, Option, Some, None}
+use Rattle.std.specs.Prelude.{◌≢◌, IfSome, Ok, if◌then◌else◌}
 use Rattle.mesa_fault.specs.Causes.{Rose}
 use Rattle.mesa_model.specs.declared.commands.Script.{Script}
 use Rattle.mesa_history.specs.Refused.{some_refused}
 use Rattle.mesa_history.specs.Run.{begins}
+use Rattle.mesa_script.specs.Generated.{generated}
 use Rattle.mesa_script.specs.Script.{script_of}
+use Rattle.mesa_words.specs.declared.forms.Form.{Form}
+use Rattle.mesa_words.specs.declared.forms.Form.TheVariants as form
 use Rattle.mesa_skeleton.specs.Rows.{no_rows}
 use Rattle.mesa_image.specs.Catalog.{Catalog}
 use Rattle.mesa_opening.specs.declared.error.OpenError.{OpenError}
 use Rattle.mesa_opening.specs.declared.error.OpenError.TheVariants as open_error
 use Rattle.mesa_ending.specs.Ports.{Ports}
-use Rattle.mesa_ending.specs.Exits.{max_input, open_status}
+use Rattle.mesa_ending.specs.Exits.{max_input, memory_line, memory_status, open_status, usage_line, usage_status}
 use Rattle.mesa_ending.specs.Start.{start_of}
-use Rattle.mesa_ending.specs.Ending.{EndedOpening, Ends, EndsInput, EndsRun, EndsScript, EndsText, HasRun, Prints}
-use Rattle.mesa_ending.specs.Statuses.{IsNoScript, IsUnopened, Tells, WasRun}
+use Rattle.mesa_ending.specs.Ending.{EndedBefore, EndedOpening, Ends, EndsForm, EndsGenerated, EndsInput, EndsRun, EndsScript, EndsText, HasRun, HasShown, IsWhole, Prints}
+use Rattle.mesa_ending.specs.Statuses.{IsNoScript, IsUnopened, IsUnserved, Tells, WasAsked, WasGenerated, WasRun}
 use Rattle.mesa_ending.specs.declared.done.Devices.{Devices}
 use Rattle.mesa_ending.specs.declared.done.Done.{Done}
 
@@ -41,9 +44,9 @@ low_early n le (inl is) = omega (arith, le, is)
 low_early n le (inr (inl is)) = omega (arith, le, is)
 low_early n le (inr (inr is)) = omega (arith, le, is)
 
-module _ {K D M B : Type 0} (ports : Ports K D M B) (given : Devices K D B) (done : Done K D B) (words : List (List ℕ)) (input : Option (List ℕ)) (before now : ℕ) where
+module _ {K D M B : Type 0} (ports : Ports K D M B) (given : Devices K D B) (done : Done K D B) (asked : Option Form) (input : Option (List ℕ)) (before now : ℕ) where
   abbrev Told : Type 0
-  Told = Tells ports given done words input before now
+  Told = Tells ports given done asked input before now
 
   abbrev Unopened : OpenError → Type 0
   Unopened e = IsUnopened ports given done e
@@ -52,7 +55,7 @@ module _ {K D M B : Type 0} (ports : Ports K D M B) (given : Devices K D B) (don
   record Would (n : ℕ) : Type 0 where
     two : 2 ≤ n
     five : n ≢ 5
-    usage : n ≡ 2 → words ≢ codes "run" ∷ []
+    usage : n ≡ 2 → IsUnserved asked
     refused : n ≡ 3 → IfSome input IsNoScript
     source : n ≡ 4 → Rose before now
     quiet : n ≢ 4 → now ≡ before
@@ -120,98 +123,142 @@ module _ {K D M B : Type 0} (ports : Ports K D M B) (given : Devices K D B) (don
   unopened quiet open_error.RunsFull why = late 9 (omega arith) quiet (λ e. absurd (omega (arith, e))) (λ e. absurd (omega (arith, e))) (λ e. inr why)
   unopened quiet open_error.Memory why = memory quiet
 
-  run_tells : (bytes : List ℕ) → IfSome input (λ all. all ≡ bytes) → (script : Script) → script_of bytes ≡ Ok script → now ≡ before → (c : Catalog) → HasRun ports given done script c → Told
-  run_tells bytes known script is quiet c has = elim has [
-    | inl p ↦
-        let le = one_or_none (some_refused script (begins (start_of script c no_rows)) done.history.items) in
-        let low : done.status ≤ 1 = omega (arith, le, p.1 no_rows) in
-        record {
-          ran = λ at_most. known_as (WasRun ports given done) input bytes known (record { script = script; catalogue = c; read = is; ran = p.0; status = p.1 });
-          usage = λ e. absurd (omega (arith, e, low));
-          refused = λ e. absurd (omega (arith, e, low));
-          source = λ e. absurd (omega (arith, e, low));
-          source_quiet = λ four other. quiet;
-          sink = λ e. absurd (omega (arith, e, low));
-          sink_quiet = λ other. p.2;
-          disk = λ e. absurd (omega (arith, e, low));
-          damaged = λ e. absurd (omega (arith, e, low));
-          full = λ e. absurd (omega (arith, e, low));
-          uncalled = λ e. absurd (low_early done.status low e);
-        }
-    | inr p ↦ failed_tells (λ four other. quiet) p.1 p.2
-  ]
+  opening_tells : now ≡ before → (e : OpenError) → EndedOpening ports given done e → Told
+  opening_tells quiet e p = line_tells (open_status e) _ (unopened quiet e p.0) p.2.2
 
-  script_tells : (bytes : List ℕ) → IfSome input (λ all. all ≡ bytes) → (script : Script) → script_of bytes ≡ Ok script → now ≡ before → EndsScript ports given done script → Told
-  script_tells bytes known script is quiet ends = elim ends [
-    | inl p ↦ opening p.0 p.1
-    | inr rest ↦ elim rest [
-      | inl p ↦ run_tells bytes known script is quiet p.0 p.1
-      | inr p ↦ line_tells 8 _ (memory quiet) p.1.2
+  memory_tells : now ≡ before → EndedBefore ports given done memory_status memory_line → Told
+  memory_tells quiet p = line_tells 8 _ (memory quiet) p.1.2
+
+  -- a run to its end
+  ended_tells : now ≡ before → done.status ≤ 1 → WasAsked ports given done asked input → IsWhole ports given done → Told
+  ended_tells quiet low was whole = record {
+    ran = λ le. was;
+    usage = λ e. absurd (omega (arith, e, low));
+    refused = λ e. absurd (omega (arith, e, low));
+    source = λ e. absurd (omega (arith, e, low));
+    source_quiet = λ four other. quiet;
+    sink = λ e. absurd (omega (arith, e, low));
+    sink_quiet = λ other. whole;
+    disk = λ e. absurd (omega (arith, e, low));
+    damaged = λ e. absurd (omega (arith, e, low));
+    full = λ e. absurd (omega (arith, e, low));
+    uncalled = λ e. absurd (low_early done.status low e);
+  }
+
+  -- words that aren't served
+  usage_tells : now ≡ before → IsUnserved asked → EndedBefore ports given done usage_status usage_line → Told
+  usage_tells quiet unserved p = line_tells 2 _ (record {
+    two = omega arith;
+    five = λ e. omega (arith, e);
+    usage = λ e. unserved;
+    refused = λ e. absurd (omega (arith, e));
+    source = λ e. absurd (omega (arith, e));
+    quiet = λ other. quiet;
+    disk = λ e. absurd (omega (arith, e));
+    damaged = λ e. absurd (omega (arith, e));
+    full = λ e. absurd (omega (arith, e));
+    uncalled = λ e. p.0;
+  }) p.1.2
+
+  -- the script of a seed
+  module _ (seed versions : ℕ) (meant : WasGenerated ports given done seed versions → WasAsked ports given done asked input) where
+    shown_tells : (script : Script) → script_of (generated seed versions) ≡ Ok script → now ≡ before → (c : Catalog) (text : List ℕ) → HasShown ports given done seed versions script c text → Told
+    shown_tells script is quiet c text has = elim has [
+      | inl p ↦ elim p.1.prints [
+        | inl q ↦
+            let le = one_or_none (some_refused script (begins (start_of script c no_rows)) done.history.items) in
+            ended_tells quiet (omega (arith, le, q.0, p.1.tells no_rows)) (meant (record { script = script; catalogue = c; text = text; read = is; ran = p.0; status = λ rows. q.0 ∙ p.1.tells rows })) q.1
+        | inr q ↦ failed_tells (λ four other. quiet) q.0 q.1
+      ]
+      | inr p ↦ line_tells 8 _ (memory quiet) p.1
     ]
-  ]
-    where
-      opening : (e : OpenError) → EndedOpening ports given done e → Told
-      opening e p = line_tells (open_status e) _ (unopened quiet e p.0) p.2.2
 
-  text_tells : (bytes : List ℕ) → IfSome input (λ all. all ≡ bytes) → now ≡ before → EndsText ports given done bytes → Told
-  text_tells bytes known quiet ends = elim ends [
-    | inl p ↦ line_tells 3 _ (record {
-      two = omega arith;
-      five = λ e. omega (arith, e);
-      usage = λ e. absurd (omega (arith, e));
-      refused = λ e. known_as IsNoScript input bytes known (p.0, p.1);
-      source = λ e. absurd (omega (arith, e));
-      quiet = λ other. quiet;
-      disk = λ e. absurd (omega (arith, e));
-      damaged = λ e. absurd (omega (arith, e));
-      full = λ e. absurd (omega (arith, e));
-      uncalled = λ e. p.2.0;
-    }) p.2.1.2
-    | inr rest ↦ elim rest [
-      | inl p ↦ script_tells bytes known p.0 p.1 quiet p.2
-      | inr p ↦ line_tells 8 _ (memory quiet) p.1.2
+    generated_tells : now ≡ before → EndsGenerated ports given done seed versions → Told
+    generated_tells quiet ends = elim ends [
+      | inl p ↦ elim p.2 [
+        | inl q ↦ opening_tells quiet q.0 q.1
+        | inr rest ↦ elim rest [
+          | inl q ↦ shown_tells p.0 p.1 quiet q.0 q.1 q.2
+          | inr q ↦ line_tells 8 _ (memory quiet) q.1.2
+        ]
+      ]
+      | inr p ↦ memory_tells quiet p
     ]
-  ]
 
-  input_tells : now ≡ before → EndsInput ports given done input → Told
-  input_tells quiet ends = elim ends [
-    | inl p ↦ line_tells 9 _ (late 9 (omega arith) quiet (λ e. absurd (omega (arith, e))) (λ e. absurd (omega (arith, e))) (λ e. inl p.0)) p.1.1.2
-    | inr rest ↦ elim rest [
-      | inl p ↦ text_tells p.0 p.1 quiet p.3
-      | inr p ↦ line_tells 8 _ (memory quiet) p.1.2
+  -- the input's script
+  module _ (meant : IfSome input (WasRun ports given done) → WasAsked ports given done asked input) where
+    run_tells : (bytes : List ℕ) → IfSome input (λ all. all ≡ bytes) → (script : Script) → script_of bytes ≡ Ok script → now ≡ before → (c : Catalog) → HasRun ports given done script c → Told
+    run_tells bytes known script is quiet c has = elim has [
+      | inl p ↦
+          let le = one_or_none (some_refused script (begins (start_of script c no_rows)) done.history.items) in
+          ended_tells quiet (omega (arith, le, p.1 no_rows)) (meant (known_as (WasRun ports given done) input bytes known (record { script = script; catalogue = c; read = is; ran = p.0; status = p.1 }))) p.2
+      | inr p ↦ failed_tells (λ four other. quiet) p.1 p.2
     ]
-  ]
 
-  source_tells : EndsRun ports given done input before now → Told
-  source_tells ends = elim ends [
-    | inl p ↦ line_tells 4 _ (record {
-      two = omega arith;
-      five = λ e. omega (arith, e);
-      usage = λ e. absurd (omega (arith, e));
-      refused = λ e. absurd (omega (arith, e));
-      source = λ e. p.0;
-      quiet = λ other. absurd (other refl);
-      disk = λ e. absurd (omega (arith, e));
-      damaged = λ e. absurd (omega (arith, e));
-      full = λ e. absurd (omega (arith, e));
-      uncalled = λ e. p.1.0;
-    }) p.1.1.2
-    | inr p ↦ input_tells p.0 p.1
-  ]
+    script_tells : (bytes : List ℕ) → IfSome input (λ all. all ≡ bytes) → (script : Script) → script_of bytes ≡ Ok script → now ≡ before → EndsScript ports given done script → Told
+    script_tells bytes known script is quiet ends = elim ends [
+      | inl p ↦ opening_tells quiet p.0 p.1
+      | inr rest ↦ elim rest [
+        | inl p ↦ run_tells bytes known script is quiet p.0 p.1
+        | inr p ↦ line_tells 8 _ (memory quiet) p.1.2
+      ]
+    ]
 
-  pub all_tells : Ends ports given done words input before now → Told
-  all_tells ends = elim ends [
-    | inl p ↦ line_tells 2 _ (record {
-      two = omega arith;
-      five = λ e. omega (arith, e);
-      usage = λ e. p.0;
-      refused = λ e. absurd (omega (arith, e));
-      source = λ e. absurd (omega (arith, e));
-      quiet = λ other. p.1;
-      disk = λ e. absurd (omega (arith, e));
-      damaged = λ e. absurd (omega (arith, e));
-      full = λ e. absurd (omega (arith, e));
-      uncalled = λ e. p.2.0;
-    }) p.2.1.2
-    | inr p ↦ source_tells p.1
+    text_tells : (bytes : List ℕ) → IfSome input (λ all. all ≡ bytes) → now ≡ before → EndsText ports given done bytes → Told
+    text_tells bytes known quiet ends = elim ends [
+      | inl p ↦ line_tells 3 _ (record {
+        two = omega arith;
+        five = λ e. omega (arith, e);
+        usage = λ e. absurd (omega (arith, e));
+        refused = λ e. known_as IsNoScript input bytes known (p.0, p.1);
+        source = λ e. absurd (omega (arith, e));
+        quiet = λ other. quiet;
+        disk = λ e. absurd (omega (arith, e));
+        damaged = λ e. absurd (omega (arith, e));
+        full = λ e. absurd (omega (arith, e));
+        uncalled = λ e. p.2.0;
+      }) p.2.1.2
+      | inr rest ↦ elim rest [
+        | inl p ↦ script_tells bytes known p.0 p.1 quiet p.2
+        | inr p ↦ line_tells 8 _ (memory quiet) p.1.2
+      ]
+    ]
+
+    input_tells : now ≡ before → EndsInput ports given done input → Told
+    input_tells quiet ends = elim ends [
+      | inl p ↦ line_tells 9 _ (late 9 (omega arith) quiet (λ e. absurd (omega (arith, e))) (λ e. absurd (omega (arith, e))) (λ e. inl p.0)) p.1.1.2
+      | inr rest ↦ elim rest [
+        | inl p ↦ text_tells p.0 p.1 quiet p.3
+        | inr p ↦ line_tells 8 _ (memory quiet) p.1.2
+      ]
+    ]
+
+    source_tells : EndsRun ports given done input before now → Told
+    source_tells ends = elim ends [
+      | inl p ↦ line_tells 4 _ (record {
+        two = omega arith;
+        five = λ e. omega (arith, e);
+        usage = λ e. absurd (omega (arith, e));
+        refused = λ e. absurd (omega (arith, e));
+        source = λ e. p.0;
+        quiet = λ other. absurd (other refl);
+        disk = λ e. absurd (omega (arith, e));
+        damaged = λ e. absurd (omega (arith, e));
+        full = λ e. absurd (omega (arith, e));
+        uncalled = λ e. p.1.0;
+      }) p.1.1.2
+      | inr p ↦ input_tells p.0 p.1
+    ]
+
+module _ {K D M B : Type 0} (ports : Ports K D M B) (given : Devices K D B) (done : Done K D B) (input : Option (List ℕ)) (before now : ℕ) where
+  form_tells : (asked : Option Form) → EndsForm ports given done asked input before now → Tells ports given done asked input before now
+  form_tells None p = usage_tells ports given done None input before now p.0 tt p.1
+  form_tells (Some form.Run) p = source_tells ports given done (Some form.Run) input before now (λ was. was) p
+  form_tells (Some form.Check) p = usage_tells ports given done (Some form.Check) input before now p.0 tt p.1
+  form_tells (Some (form.Gen seed versions)) p = generated_tells ports given done (Some (form.Gen seed versions)) input before now seed versions (λ was. was) p.0 p.1
+
+  pub all_tells : (asked : Option Form) → Ends ports given done asked input before now → Tells ports given done asked input before now
+  all_tells asked ends = elim ends [
+    | inl p ↦ form_tells asked p
+    | inr p ↦ memory_tells ports given done asked input before now p.0 p.1
   ]

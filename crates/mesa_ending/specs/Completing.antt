@@ -1,12 +1,15 @@
 -- Completeness: what a call comes to where nothing fails.
-use Rattle.std.specs.Prelude.{◌≡◌, ◌⊎◌, ℕ, ◌≤◌, ◌<◌, List, ◌∷◌, [], length, Some, Ok, Option, Bool, true, false, slice_get, codes}
+use Rattle.std.specs.Prelude.{◌≡◌, ◌⊎◌, ℕ, ◌≤◌, ◌<◌, List, length, None, Some, Ok, Option, Bool, true, false, slice_get}
 use Rattle.std.specs.List.{AllByRecursion}
 use Rattle.mesa_fault.specs.Causes.{Rose, last}
 use Rattle.mesa_model.specs.declared.commands.Script.{Script}
 use Rattle.mesa_model.specs.declared.entries.Entry.{Entry}
 use Rattle.mesa_model.specs.declared.entries.Outcome.{Outcome}
 use Rattle.mesa_model.specs.declared.entries.Outcome.TheVariants as outcome
+use Rattle.mesa_script.specs.Generated.{generated}
 use Rattle.mesa_script.specs.Script.{script_of}
+use Rattle.mesa_words.specs.declared.forms.Form.{Form}
+use Rattle.mesa_words.specs.declared.forms.Form.TheVariants as form
 use Rattle.mesa_skeleton.specs.Rows.{Rows}
 use Rattle.mesa_image.specs.Catalog.{Catalog}
 use Rattle.mesa_opening.specs.Opening.{most_runs}
@@ -34,13 +37,19 @@ pub record IsUnfailed {B : Type 0} (faults : B → ℕ) (old new : List B) (sess
   pub is : slice_get new session ≡ Some after
   pub still : Rose (faults before) (faults after) → ⊥
 
--- The words are `run` alone, and the input is a script within its limit.
-pub record AsksFor (words : List (List ℕ)) (input : Option (List ℕ)) (script : Script) : Type 0 where
+-- The input is a script within its limit.
+pub record IsInput (input : Option (List ℕ)) (script : Script) : Type 0 where
   pub bytes : List ℕ
-  pub run : words ≡ codes "run" ∷ []
   pub known : input ≡ Some bytes
   pub short : length bytes ≤ max_input
   pub read : script_of bytes ≡ Ok script
+
+-- words of this form ask for a run of the script: `run` of the input's, and `gen` of a seed's
+abbrev pub AsksFor : Option Form → Option (List ℕ) → Script → Type 0
+AsksFor None input script = ⊥
+AsksFor (Some form.Run) input script = IsInput input script
+AsksFor (Some form.Check) input script = ⊥
+AsksFor (Some (form.Gen seed versions)) input script = script_of (generated seed versions) ≡ Ok script
 
 -- The store is sound, and may have a run more.
 pub record HasRoomToRun {K D M B : Type 0} (ports : Ports K D M B) (given : Devices K D B) (c : Catalog) (rows : Rows) : Type 0 where

@@ -1,17 +1,22 @@
 -- How a call of the program may end over a store.
-use Rattle.std.specs.Prelude.{◌≡◌, ◌≢◌, ◌⊎◌, ◌<◌, ◌≤◌, ℕ, true, false, List, [], ◌∷◌, length, take, Option, IfSome, Ok, Err, codes}
+use Rattle.std.specs.Prelude.{◌≡◌, ◌⊎◌, ◌<◌, ◌≤◌, ℕ, Bool, true, false, List, [], ◌++◌, length, take, Option, None, Some, IfSome, Ok, Err}
 use Rattle.std.specs.Io.KnownBytes.{Appends}
-use Rattle.mesa_fault.specs.Causes.{Rose}
+use Rattle.mesa_fault.specs.Causes.{Rose, last}
 use Rattle.mesa_model.specs.declared.commands.Script.{Script}
 use Rattle.mesa_script.specs.declared.script.ScriptError.{ScriptError}
+use Rattle.mesa_history.specs.Run.{begins}
+use Rattle.mesa_script.specs.Generated.{generated}
 use Rattle.mesa_script.specs.Script.{script_of}
+use Rattle.mesa_words.specs.declared.forms.Form.{Form}
+use Rattle.mesa_words.specs.declared.forms.Form.TheVariants as form
+use Rattle.mesa_excerpt.specs.Excerpt.{IsExcerpt, before_last_three}
 use Rattle.mesa_skeleton.specs.Rows.{Rows}
 use Rattle.mesa_image.specs.Catalog.{Catalog}
 use Rattle.mesa_opening.specs.declared.error.OpenError.{OpenError}
 use Rattle.mesa_opening.specs.Opening.{HasReason, Keeps}
-use Rattle.mesa_ending.specs.Ports.{Ports}
-use Rattle.mesa_ending.specs.Exits.{max_input, status_of, sink_status, usage_status, usage_line, source_status, source_line, length_status, length_line, script_status, script_line, open_status, open_line, memory_status, memory_line}
-use Rattle.mesa_ending.specs.Start.{AreTold, start_of}
+use Rattle.mesa_ending.specs.Ports.{Ports, in_memory}
+use Rattle.mesa_ending.specs.Exits.{gen_line, max_input, status_of, sink_status, usage_status, usage_line, source_status, source_line, length_status, length_line, script_status, script_line, open_status, open_line, memory_status, memory_line}
+use Rattle.mesa_ending.specs.Start.{AreTold, IsSoundStore, start_of}
 use Rattle.mesa_ending.specs.Run.{Ran}
 use Rattle.mesa_ending.specs.declared.done.Devices.{Devices}
 use Rattle.mesa_ending.specs.declared.done.Done.{Done}
@@ -79,8 +84,46 @@ module _ {K D M B : Type 0} (ports : Ports K D M B) (given : Devices K D B) (don
   abbrev pub EndsRun : Option (List ℕ) → ℕ → ℕ → Type 0
   EndsRun input before now = (Rose before now × EndedBefore source_status source_line) ⊎ ((now ≡ before) × EndsInput input)
 
-  -- How a call ends: by its words, and where they are `run` alone by its source's count of faults and by its bytes, where the source tells them.
-  abbrev pub Ends : List (List ℕ) → Option (List ℕ) → ℕ → ℕ → Type 0
-  Ends words input before now =
-      ((words ≢ codes "run" ∷ []) × (now ≡ before) × EndedBefore usage_status usage_line)
-      ⊎ ((words ≡ codes "run" ∷ []) × EndsRun input before now)
+  -- ---- the script of a seed
+
+  -- The script was run on a sink in memory, which was empty and holds this text.
+  abbrev pub RanInMemory : Script → Catalog → Bool → List ℕ → Type 0
+  RanInMemory script c failed text =
+      Ran (in_memory ports) (record { out = []; disk = given.disk; benches = given.benches })
+      (record { status = done.status; out = text; disk = done.disk; benches = done.benches; history = done.history }) script c failed
+
+  -- The sink has the line of the seed, and what the run printed for the script's last three commands where the store was sound; the status tells whether some reply is a refusal.
+  pub record Shows (seed versions : ℕ) (script : Script) (c : Catalog) : Type 0 where
+    pub excerpt : List ℕ
+    pub last_three : (rows : Rows) → IsSoundStore ports.bytes (ports.story given.disk) c rows → (ports.story done.disk).moment < last
+        → IsExcerpt script (begins (start_of script c rows)) done.history.items (before_last_three script) excerpt
+    pub status : ℕ
+    pub tells : (rows : Rows) → status ≡ status_of script (start_of script c rows) done.history.items
+    pub prints : Prints status (gen_line seed versions ++ excerpt)
+
+  -- The script of a seed was run to its end in memory, and the sink has what it printed last; or the sink in memory failed, which is want of memory.
+  abbrev pub HasShown : ℕ → ℕ → Script → Catalog → List ℕ → Type 0
+  HasShown seed versions script c text =
+      (RanInMemory script c false text × Shows seed versions script c)
+      ⊎ (RanInMemory script c true text × Prints memory_status memory_line)
+
+  -- How a call ends that has the script of a seed: its store isn't opened, or the script was run; or memory was short.
+  abbrev pub EndsShown : ℕ → ℕ → Script → Type 0
+  EndsShown seed versions script = ((e : OpenError) × EndedOpening e) ⊎ ((c : Catalog) × (text : List ℕ) × HasShown seed versions script c text) ⊎ LacksMemory
+
+  -- How a call ends whose words are `gen` with a seed and a number of versions: it has their script; or memory was short.
+  abbrev pub EndsGenerated : ℕ → ℕ → Type 0
+  EndsGenerated seed versions = ((script : Script) × (script_of (generated seed versions) ≡ Ok script) × EndsShown seed versions script) ⊎ EndedBefore memory_status memory_line
+
+  -- ---- the three forms
+
+  -- How a call ends whose words have this form: only `run` calls the source. `check` isn't served yet, and ends as words that have no form.
+  abbrev pub EndsForm : Option Form → Option (List ℕ) → ℕ → ℕ → Type 0
+  EndsForm None input before now = (now ≡ before) × EndedBefore usage_status usage_line
+  EndsForm (Some form.Run) input before now = EndsRun input before now
+  EndsForm (Some form.Check) input before now = (now ≡ before) × EndedBefore usage_status usage_line
+  EndsForm (Some (form.Gen seed versions)) input before now = (now ≡ before) × EndsGenerated seed versions
+
+  -- How a call ends: by the form of its words; for `run` by its source's count of faults and by its bytes, where the source tells them. Or memory was too short to read the words.
+  abbrev pub Ends : Option Form → Option (List ℕ) → ℕ → ℕ → Type 0
+  Ends asked input before now = EndsForm asked input before now ⊎ ((now ≡ before) × EndedBefore memory_status memory_line)

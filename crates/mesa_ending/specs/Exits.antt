@@ -1,5 +1,5 @@
 -- The statuses that a call ends with, and the line that it prints where it runs nothing.
-use Rattle.std.specs.Prelude.{ℕ, List, ◌++◌, codes, decimal, if◌then◌else◌}
+use Rattle.std.specs.Prelude.{ℕ, List, [], ◌∷◌, ◌++◌, codes, decimal, if◌then◌else◌}
 use Rattle.mesa_model.specs.declared.commands.Script.{Script}
 use Rattle.mesa_model.specs.declared.entries.Entry.{Entry}
 use Rattle.mesa_history.specs.Refused.{some_refused}
@@ -31,6 +31,10 @@ sink_status = 5
 -- the status of a script that was run from a state to its end
 abbrev pub status_of : Script → State → List Entry → ℕ
 status_of script start h = if some_refused script (begins start) h then refused_status else answered_status
+
+-- the line before what the script of a seed printed last
+abbrev pub gen_line : ℕ → ℕ → List ℕ
+gen_line seed versions = codes "gen " ++ decimal seed ++ 32 ∷ decimal versions ++ 10 ∷ []
 
 -- ---- the disk wasn't called
 

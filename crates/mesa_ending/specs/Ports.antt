@@ -1,5 +1,5 @@
 -- What is known of what a call is given.
-use Rattle.std.specs.Prelude.{ℕ, List, Option}
+use Rattle.std.specs.Prelude.{ℕ, List, Option, Some}
 use Rattle.mesa_disk.specs.Story.{Story}
 
 -- What is known of a sink, a disk, a finished file and a bench: what a sink was given, where that is told, and how often it failed; a disk's story; a file's bytes, where they are told; and how often a bench failed.
@@ -12,3 +12,7 @@ pub record Ports (K D M B : Type 0) : Type 1 where
 
 abbrev pub ports : {K D M B : Type 0} → (K → Option (List ℕ)) → (K → ℕ) → (D → Story) → (M → Option (List ℕ)) → (B → ℕ) → Ports K D M B
 ports held sink_faults story bytes bench_faults = record { held = held; sink_faults = sink_faults; story = story; bytes = bytes; bench_faults = bench_faults }
+
+-- the same over a sink in memory, which is what it holds
+abbrev pub in_memory : {K D M B : Type 0} → Ports K D M B → Ports (List ℕ) D M B
+in_memory p = record { held = λ text. Some text; sink_faults = λ text. 0; story = p.story; bytes = p.bytes; bench_faults = p.bench_faults }

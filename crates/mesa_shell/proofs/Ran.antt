@@ -119,11 +119,15 @@ module _ {K D M B : Type 0} (ports : Ports K D M B) (given : Devices K D B) (scr
       refl_pins : (start_of script c rows).warehouse.pins ≡ []
       refl_pins = refl
 
+  -- whether some reply is a refusal
+  pub refused_told : (rows : Rows) → l.refused ≡ some_refused script (begins (start_of script c rows)) l.history.items
+  refused_told rows = subst (λ s. l.refused ≡ some_refused script (begins s) l.history.items) (same_start rows) (ran.told rows)
+
   module _ (status : ℕ) (is : status ≡ (if l.failed then 5 else (if l.refused then 1 else 0))) where
     abbrev done : Done K D B
     done = record { status = status; out = l.out; disk = l.disk; benches = l.benches; history = l.history }
 
-    whole_run : Ran ports given done script c l.failed
+    pub whole_run : Ran ports given done script c l.failed
     whole_run = record {
       reads = has.reads;
       number = has.number;
@@ -134,5 +138,4 @@ module _ {K D M B : Type 0} (ports : Ports K D M B) (given : Devices K D B) (scr
     }
 
     pub script_ran : EndsScript ports given done script
-    script_ran = run_ended ports given done script c l.failed l.refused whole_run
-        (λ rows. subst (λ s. l.refused ≡ some_refused script (begins s) l.history.items) (same_start rows) (ran.told rows)) ran.broken ran.whole is
+    script_ran = run_ended ports given done script c l.failed l.refused whole_run refused_told ran.broken ran.whole is

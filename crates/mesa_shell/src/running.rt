@@ -1,5 +1,5 @@
 // The run of a script over a store on which it has begun.
-ghost use Rattle.std.specs.Prelude.{◌≡◌, ◌+◌, ◌<◌, ◌≤◌, ◌^◌, [], Bool, true, false, None, IfErr, IfOk, IsTrue, length};
+ghost use Rattle.std.specs.Prelude.{◌≡◌, ◌+◌, ◌<◌, ◌≤◌, ◌^◌, [], Bool, true, false, None, IfErr, IfOk, IsTrue, length, if◌then◌else◌};
 ghost use Rattle.mesa_fault.specs.Causes.{last, Rose};
 ghost use Rattle.mesa_sessions.specs.mesa_engine.Beginning.{IsBegun};
 ghost use Rattle.mesa_sessions.specs.mesa_engine.Engine.{most_turns, starts_of};
@@ -23,6 +23,7 @@ use mesa_ledger::Naming;
 use mesa_model::{Entry, Script};
 use mesa_recover::Begun;
 use mesa_sessions::{Gate, Vault, serve, turns_of};
+use mesa_telling::statuses;
 use std::alloc::{AllocError, Global};
 use std::marker::Brand;
 use std::sync::Wait;
@@ -149,4 +150,17 @@ pub(crate) fn run_begun<
     ensures ran { IfOk result (RanFrom (ports K.held K.faults D.story M.bytes B.faults) script.now begun out benches.items) }
 {
     run_named::<Brand, M, D, K, B, R, G>(rt, alloc, script, begun, out, benches, gate)
+}
+
+/// The status of a script that was run.
+pub(crate) fn run_status(failed: bool, refused: bool) -> u8
+    ensures { result ≡ (if failed then 5 else (if refused then 1 else 0)) }
+{
+    if failed {
+        statuses::SINK_FAULT
+    } else if refused {
+        statuses::REFUSED
+    } else {
+        statuses::ANSWERED
+    }
 }

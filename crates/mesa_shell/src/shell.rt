@@ -1,5 +1,5 @@
 // The top call.
-ghost use Rattle.std.specs.Prelude.{◌≡◌, ◌≢◌, ◌≤◌, [], ◌∷◌, length, map, codes, true, false, if◌then◌else◌};
+ghost use Rattle.std.specs.Prelude.{◌≡◌, ◌≢◌, ◌≤◌, Some, length, map};
 ghost use Rattle.mesa_image.specs.Catalog.{Catalog as AnyCatalog};
 ghost use Rattle.mesa_model.specs.declared.commands.Script.{Script as AnyScript};
 ghost use Rattle.mesa_skeleton.specs.Rows.{Rows};
@@ -8,9 +8,11 @@ ghost use Rattle.mesa_ending.specs.Ending as spec;
 ghost use Rattle.mesa_ending.specs.Ports.{ports};
 ghost use Rattle.mesa_ending.specs.Scripts.{IsSmall};
 ghost use Rattle.mesa_ending.specs.Statuses.{Tells};
+ghost use Rattle.mesa_words.specs.Forms.{form_of};
 
+use crate::generating::run_generated;
 use crate::opening::open;
-use crate::running::{Left, run_begun};
+use crate::running::{Left, run_begun, run_status};
 use mesa_disk::{Bench, Disk, Made};
 use mesa_ending::{Devices, Done, scripts_are_small};
 use mesa_io::{ReadError, Sink, Source, read_all};
@@ -19,25 +21,13 @@ use mesa_parse::parse;
 use mesa_script::ScriptError;
 use mesa_sessions::Gate;
 use mesa_telling::{ended, ended_opening, ended_refused, lacks_memory, statuses};
-use std::alloc::Global;
+use mesa_words::{Form, read_form};
+use std::alloc::{AllocError, Global};
 use std::sync::Wait;
 use std::thread::Threads;
 
 /// The longest input, in bytes.
 pub const MAX_INPUT: u64 = 67_108_864;
-
-// The status of a script that was run.
-fn run_status(failed: bool, refused: bool) -> u8
-    ensures { result ≡ (if failed then 5 else (if refused then 1 else 0)) }
-{
-    if failed {
-        statuses::SINK_FAULT
-    } else if refused {
-        statuses::REFUSED
-    } else {
-        statuses::ANSWERED
-    }
-}
 
 // Opens the store, and runs a script over it.
 fn run_script<M: Made, D: Disk<M>, K: Sink + Send, B: Bench<M>, R: Threads + Wait + Sync, G: Gate>(
@@ -128,20 +118,14 @@ fn run_source<
     }
 }
 
-// Whether the words are `run` alone.
-fn is_run(words: &[&str]) -> bool
-    ensures yes { result ≡ true → map (λ w. w.now) words.now ≡ codes "run" ∷ [] }
-    ensures no { result ≡ false → map (λ w. w.now) words.now ≢ codes "run" ∷ [] }
-{
-    if words.len() != 1 {
-        return false;
-    }
-    words[0] == "run"
-}
+// The line of words that aren't served.
+const USAGE: &[u8] = b"mesa: usage: mesa run | mesa check | mesa gen SEED VERSIONS\n";
 
-/// The program: with the word `run` alone it reads a script from the source, opens the store on the
+/// The program. With the word `run` alone it reads a script from the source, opens the store on the
 /// disk, runs the script over it, each session but the first in a thread of its own, and prints every
-/// reply onto the sink. Session s builds its files on bench s.
+/// reply onto the sink. With `gen`, a seed and a number of versions it runs the script that these give
+/// in the same way, and prints the replies to the last three of its commands. Session s builds its
+/// files on bench s.
 pub fn mesa<
     S: Source,
     M: Made,
@@ -161,19 +145,22 @@ pub fn mesa<
     gate: &G,
 ) -> Done<K, D, B>
     requires benches { 8 ≤ length benches.items }
-    ensures ends { spec.Ends (ports K.held K.faults D.story M.bytes B.faults) (record { out = out; disk = disk; benches = benches }) result (map (λ w. w.now) words.now) (S.left src.old) (S.faults src.old) (S.faults src.new) }
-    ensures tells { Tells (ports K.held K.faults D.story M.bytes B.faults) (record { out = out; disk = disk; benches = benches }) result (map (λ w. w.now) words.now) (S.left src.old) (S.faults src.old) (S.faults src.new) }
-    ensures untouched { map (λ w. w.now) words.now ≢ codes "run" ∷ [] → src.new ≡ src.old }
+    ensures ends { spec.Ends (ports K.held K.faults D.story M.bytes B.faults) (record { out = out; disk = disk; benches = benches }) result (form_of (map (λ w. w.now) words.now)) (S.left src.old) (S.faults src.old) (S.faults src.new) }
+    ensures tells { Tells (ports K.held K.faults D.story M.bytes B.faults) (record { out = out; disk = disk; benches = benches }) result (form_of (map (λ w. w.now) words.now)) (S.left src.old) (S.faults src.old) (S.faults src.new) }
+    ensures untouched { form_of (map (λ w. w.now) words.now) ≢ Some Form.Run → src.new ≡ src.old }
 
     // Where a script is to be run over a sound store and nothing fails, every reply is the reference warehouse's, or memory.
-    ensures completes { (script : AnyScript) (c : AnyCatalog) (rows : Rows) → AsksFor (map (λ w. w.now) words.now) (S.left src.old) script → HasRoomToRun (ports K.held K.faults D.story M.bytes B.faults) (record { out = out; disk = disk; benches = benches }) c rows
+    ensures completes { (script : AnyScript) (c : AnyCatalog) (rows : Rows) → AsksFor (form_of (map (λ w. w.now) words.now)) (S.left src.old) script → HasRoomToRun (ports K.held K.faults D.story M.bytes B.faults) (record { out = out; disk = disk; benches = benches }) c rows
         → NothingFailed (ports K.held K.faults D.story M.bytes B.faults) (record { out = out; disk = disk; benches = benches }) result (S.faults src.old) (S.faults src.new) → Completes result }
 {
     let given = Devices { out, disk, benches };
-    if is_run(words) {
-        run_source(rt, alloc, src, given, gate)
-    } else {
-        let line = b"mesa: usage: mesa run | mesa check | mesa gen SEED VERSIONS\n";
-        ended(alloc, given, statuses::USAGE, line)
+    match read_form(alloc, words) {
+        Ok(Some(Form::Run)) => run_source(rt, alloc, src, given, gate),
+        Ok(Some(Form::Gen { seed, versions })) => {
+            run_generated(rt, alloc, seed, versions, given, gate)
+        }
+        Ok(Some(Form::Check)) => ended(alloc, given, statuses::USAGE, USAGE),
+        Ok(None) => ended(alloc, given, statuses::USAGE, USAGE),
+        Err(AllocError) => lacks_memory(alloc, given),
     }
 }

@@ -11,9 +11,10 @@ use Rattle.mesa_ending.specs.declared.done.Devices.{Devices}
 use Rattle.mesa_ending.specs.declared.done.Done.{Done}
 
 module _ {K D M B : Type 0} (ports : Ports K D M B) (given : Devices K D B) (done : Done K D B) where
-  pub printed_ends : (p : Printer K) (status : ℕ) (text : List ℕ) → Printed ports.held ports.sink_faults (record { sink = given.out; broken = false }) p text
-      → done.status ≡ (if p.broken then 5 else status) → done.out ≡ p.sink → done.benches.items ≡ given.benches.items → done.history.items ≡ [] → Ended ports given done status text
-  printed_ends p status text printed is out benches none = (none, benches, by p.broken refl)
+  -- a text was printed on the sink that was given
+  pub printed_prints : (p : Printer K) (status : ℕ) (text : List ℕ) → Printed ports.held ports.sink_faults (record { sink = given.out; broken = false }) p text
+      → done.status ≡ (if p.broken then 5 else status) → done.out ≡ p.sink → Prints ports given done status text
+  printed_prints p status text printed is out = by p.broken refl
     where
       by : (b : Bool) → p.broken ≡ b → Prints ports given done status text
       by true broken = inr (
@@ -27,3 +28,7 @@ module _ {K D M B : Type 0} (ports : Ports K D M B) (given : Devices K D B) (don
         subst (λ o. ports.sink_faults o ≡ ports.sink_faults given.out) (sym out) (printed.quiet whole),
         subst (λ o. Appends (ports.held given.out) (ports.held o) text) (sym out) (printed.whole whole).1,
       )
+
+  pub printed_ends : (p : Printer K) (status : ℕ) (text : List ℕ) → Printed ports.held ports.sink_faults (record { sink = given.out; broken = false }) p text
+      → done.status ≡ (if p.broken then 5 else status) → done.out ≡ p.sink → done.benches.items ≡ given.benches.items → done.history.items ≡ [] → Ended ports given done status text
+  printed_ends p status text printed is out benches none = (none, benches, printed_prints p status text printed is out)

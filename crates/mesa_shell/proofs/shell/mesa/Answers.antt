@@ -1,21 +1,31 @@
-use Rattle.std.proofs.Common.{inl, inr, refl}
+use Rattle.std.proofs.Common.{inr, refl, sym, ◌∙◌, ap, Some, None}
+use Rattle.mesa_words.specs.declared.forms.Form.{Form}
+use Rattle.mesa_words.specs.declared.forms.Form.TheVariants as form
 use Rattle.mesa_ending.specs.Ports.{ports}
-use Rattle.mesa_ending.proofs.Completing.{completes}
-use Rattle.mesa_ending.proofs.Telling.{all_tells}
+use Rattle.mesa_shell.proofs.Forms.{answered, answered_as}
 use Rattle.mesa_shell.proofs.shell.mesa.Goals as goal
 
-pub returns-then-is_run-clause-completes : goal.returns-then-is_run-clause-completes
-returns-then-is_run-clause-completes g c script k rows asks room nothing =
-    completes (ports g.K.Sink.held g.K.Sink.faults g.D.Disk.story g.M.Made.bytes g.B.Bench.faults) _ c.run_source.result _ _ nothing k rows room _ _ script asks
-    (inr (c.is_run.ensures.yes c.if-is_run.true, c.run_source.ensures))
+pub returns-in-Ok-Some-Run : goal.returns-in-Ok-Some-Run
+returns-in-Ok-Some-Run g c =
+    let a = answered_as (ports g.K.Sink.held g.K.Sink.faults g.D.Disk.story g.M.Made.bytes g.B.Bench.faults) (record { out = c.args.out; disk = c.args.disk; benches = c.args.benches }) c.run_source.result _ _ _ _ (Some form.Run) (ap (λ (f : Form). Some f) (sym c.in-Ok-Some-Run.field-0-0-is) ∙ sym c.in-Ok-Some-Run.field-0-is ∙ c.in-Ok-Some-Run.ensures) c.run_source.ensures in
+    record { ends = a.ends; tells = a.tells; untouched = λ other. absurd (other (sym (ap (λ (f : Form). Some f) (sym c.in-Ok-Some-Run.field-0-0-is) ∙ sym c.in-Ok-Some-Run.field-0-is ∙ c.in-Ok-Some-Run.ensures))); completes = a.completes }
 
-pub returns-else-is_run-clause-completes : goal.returns-else-is_run-clause-completes
-returns-else-is_run-clause-completes g c script k rows asks room nothing = absurd (c.is_run.ensures.no c.if-is_run.false asks.run)
+pub returns-in-Ok-Some-Gen : goal.returns-in-Ok-Some-Gen
+returns-in-Ok-Some-Gen g c =
+    let a = answered_as (ports g.K.Sink.held g.K.Sink.faults g.D.Disk.story g.M.Made.bytes g.B.Bench.faults) (record { out = c.args.out; disk = c.args.disk; benches = c.args.benches }) c.run_generated.result _ _ _ _ (Some (form.Gen c.in-Ok-Some-Gen.seed c.in-Ok-Some-Gen.versions)) (ap (λ (f : Form). Some f) (sym c.in-Ok-Some-Gen.field-0-0-is) ∙ sym c.in-Ok-Some-Gen.field-0-is ∙ c.in-Ok-Some-Gen.ensures) (refl, c.run_generated.ensures) in
+    record { ends = a.ends; tells = a.tells; untouched = λ other. refl; completes = a.completes }
 
-pub returns-then-is_run-clause-tells : goal.returns-then-is_run-clause-tells
-returns-then-is_run-clause-tells g c =
-    all_tells (ports g.K.Sink.held g.K.Sink.faults g.D.Disk.story g.M.Made.bytes g.B.Bench.faults) _ c.run_source.result _ _ _ _ (inr (c.is_run.ensures.yes c.if-is_run.true, c.run_source.ensures))
+pub returns-in-Ok-Some-Check : goal.returns-in-Ok-Some-Check
+returns-in-Ok-Some-Check g c =
+    let a = answered_as (ports g.K.Sink.held g.K.Sink.faults g.D.Disk.story g.M.Made.bytes g.B.Bench.faults) (record { out = c.args.out; disk = c.args.disk; benches = c.args.benches }) c.ended.result _ _ _ _ (Some form.Check) (ap (λ (f : Form). Some f) (sym c.in-Ok-Some-Check.field-0-0-is) ∙ sym c.in-Ok-Some-Check.field-0-is ∙ c.in-Ok-Some-Check.ensures) (refl, (c.ended.ensures.disk, c.ended.ensures.ended)) in
+    record { ends = a.ends; tells = a.tells; untouched = λ other. refl; completes = a.completes }
 
-pub returns-else-is_run-clause-tells : goal.returns-else-is_run-clause-tells
-returns-else-is_run-clause-tells g c =
-    all_tells (ports g.K.Sink.held g.K.Sink.faults g.D.Disk.story g.M.Made.bytes g.B.Bench.faults) _ c.ended.result _ _ _ _ (inl (c.is_run.ensures.no c.if-is_run.false, refl, (c.ended.ensures.disk, c.ended.ensures.ended)))
+pub returns-in-Ok-None : goal.returns-in-Ok-None
+returns-in-Ok-None g c =
+    let a = answered_as (ports g.K.Sink.held g.K.Sink.faults g.D.Disk.story g.M.Made.bytes g.B.Bench.faults) (record { out = c.args.out; disk = c.args.disk; benches = c.args.benches }) c.ended-in-Ok-None.result _ _ _ _ None (sym c.in-Ok-None.field-0-is ∙ c.in-Ok-None.ensures) (refl, (c.ended-in-Ok-None.ensures.disk, c.ended-in-Ok-None.ensures.ended)) in
+    record { ends = a.ends; tells = a.tells; untouched = λ other. refl; completes = a.completes }
+
+pub returns-in-Err : goal.returns-in-Err
+returns-in-Err g c =
+    let a = answered (ports g.K.Sink.held g.K.Sink.faults g.D.Disk.story g.M.Made.bytes g.B.Bench.faults) (record { out = c.args.out; disk = c.args.disk; benches = c.args.benches }) c.lacks_memory.result _ _ _ _ (inr (refl, (c.lacks_memory.ensures.disk, c.lacks_memory.ensures.ended))) in
+    record { ends = a.ends; tells = a.tells; untouched = λ other. refl; completes = a.completes }

@@ -1,0 +1,103 @@
+-- In every catalogue that bodies spell, no name of a table or of a value column has a line break.
+use Rattle.std.proofs.Common.{◌≡◌, ℕ, zero, suc, ◌+◌, List, [], ◌∷◌, take, drop, length, Option, Some, None, Result, Ok, Err, Bool, true, false, refl, sym, subst}
+use Rattle.std.specs.Prelude.{unwrap_or}
+use Rattle.std.specs.List.{AllByRecursion}
+use Rattle.mesa_key.specs.Spelling.{AreBytes}
+use Rattle.mesa_schema.specs.declared.changes.Change.{Change}
+use Rattle.mesa_schema.specs.declared.changes.Change.TheVariants.{AddKey, AddValue, DropValue}
+use Rattle.mesa_schema.specs.declared.columns.ValueColumn.{ValueColumn}
+use Rattle.mesa_schema.specs.Columns.{Columns, place_of, value_names}
+use Rattle.mesa_schema.specs.Changes.{changed, columns_of}
+use Rattle.mesa_schema.proofs.Lists.{all_append, all_at, all_drop, all_map, all_set, all_so}
+use Rattle.mesa_schema.proofs.PresentRows.{columns_more}
+use Rattle.mesa_model.specs.declared.commands.Script.{Script}
+use Rattle.mesa_skeleton.specs.Rows.{Rows}
+use Rattle.mesa_record.specs.declared.record.Record.{Record}
+use Rattle.mesa_record.specs.declared.record.Record.TheVariants as record_of
+use Rattle.mesa_record.specs.declared.record.Part.{Part}
+use Rattle.mesa_record.specs.declared.error.RecordError.{RecordError}
+use Rattle.mesa_record.specs.Reading.{record_at}
+use Rattle.mesa_record.specs.Rules.{IsNamed, IsTyped, IsTypedChange}
+use Rattle.mesa_record.proofs.RecordsBoth.{record_found}
+use Rattle.mesa_image.specs.Catalog.{Catalog, Delta, Stock, applied, empty_catalog, new_stock, no_stock, part_of, stock_at, stock_changed, stock_loaded, stock_swapped, stocks_loaded, merged_delta}
+use Rattle.mesa_image.specs.Contents.{kept_of, table_of}
+use Rattle.mesa_image.specs.Fitting.{applied_if, catalog, catalog_from, fits, read_record, then_bodies, with_body}
+use Rattle.mesa_excerpt.specs.Excerpt.{ArePlainColumns, HasPlainNames, IsPlainColumn, IsPlainTable}
+use Rattle.mesa_excerpt.specs.Lines.{IsUnbroken}
+use Rattle.mesa_excerpt.proofs.Breaks.{name_unbroken}
+use Rattle.mesa_ending.specs.Start.{start_of}
+
+-- a table's name has no line break, nor has a name of its value columns
+abbrev IsPlainStock : Stock → Type 0
+IsPlainStock t = IsUnbroken t.name × ArePlainColumns (columns_of t.lineage)
+
+abbrev IsPlain : Catalog → Type 0
+IsPlain c = AllByRecursion IsPlainStock c.tables
+
+all_take : {A : Type 0} (P : A → Type 0) (n : ℕ) (xs : List A) → AllByRecursion P xs → AllByRecursion P (take n xs)
+all_take P zero xs all = tt
+all_take P (suc n) [] all = tt
+all_take P (suc n) (x ∷ xs) all = (all.0, all_take P n xs all.1)
+
+changed_plain : (s : Columns) (change : Change) → IsTypedChange change → ArePlainColumns s → ArePlainColumns (changed s change)
+changed_plain s (AddValue column default) typed all = all_append IsPlainColumn s.values (column ∷ []) all (name_unbroken column.name typed.0, tt)
+changed_plain s (DropValue name) typed all =
+    let place = unwrap_or (place_of name (value_names s)) (length s.values) in
+    all_append IsPlainColumn (take place s.values) (drop (place + 1) s.values) (all_take IsPlainColumn place s.values all) (all_drop IsPlainColumn (place + 1) s.values all)
+changed_plain s (AddKey column default) typed all = all
+
+stock_plain : (c : Catalog) (table : ℕ) → IsPlain c → IsPlainStock (stock_at c table)
+stock_plain c table all = all_at IsPlainStock c.tables table no_stock (refl, tt) all
+
+loaded_one : (t : Stock) (part : Option Part) → IsPlainStock t → IsPlainStock (stock_loaded t part)
+loaded_one t None is = is
+loaded_one t (Some part) is = is
+
+loaded_plain : (parts : List Part) (number : ℕ) (tables : List Stock) → AllByRecursion IsPlainStock tables → AllByRecursion IsPlainStock (stocks_loaded parts number tables)
+loaded_plain parts number [] all = tt
+loaded_plain parts number (t ∷ tables) all = (loaded_one t (part_of number parts) all.0, loaded_plain parts (number + 1) tables all.1)
+
+swapped_plain : (t : Stock) (base : Bool) (to : ℕ) (d : Delta) → IsPlainStock t → IsPlainStock (stock_swapped t base to d)
+swapped_plain t true to d is = is
+swapped_plain t false to d is = is
+
+-- a record keeps that
+applied_plain : (c : Catalog) (r : Record) → IsPlain c → IsTyped r → IsPlain (applied c r)
+applied_plain c (record_of.Run number) is typed = is
+applied_plain c (record_of.Table name keys values) is typed =
+    all_append IsPlainStock c.tables (new_stock c name (record { keys = keys; values = values }) ∷ []) is
+    ((name_unbroken name typed.0, all_so (λ (v : ValueColumn). IsNamed v.name) IsPlainColumn values (λ v named. name_unbroken v.name named) typed.2), tt)
+applied_plain c (record_of.View table name keys values) is typed = all_set IsPlainStock c.tables table _ (stock_plain c table is) is
+applied_plain c (record_of.Alter table change) is typed =
+    let old = stock_plain c table is in
+    let t : Stock = stock_at c table in
+    all_set IsPlainStock c.tables table (stock_changed t change) (old.0, subst ArePlainColumns (sym (columns_more t.lineage change)) (changed_plain (columns_of t.lineage) change typed.1 old.1)) is
+applied_plain c (record_of.Publish version parts) is typed = loaded_plain parts 0 c.tables is
+applied_plain c (record_of.Swap table base from to epoch files) is typed =
+    all_set IsPlainStock c.tables table (stock_swapped (stock_at c table) base to (merged_delta epoch files)) (swapped_plain (stock_at c table) base to (merged_delta epoch files) (stock_plain c table is)) is
+applied_plain c (record_of.Expire version) is typed = is
+
+applied_same : (c d : Catalog) (r : Record) (fit : Bool) → applied_if c r fit ≡ Some d → applied c r ≡ d
+applied_same c d r true e = cc
+applied_same c d r false e = absurd cc
+
+body_plain : (c d : Catalog) (body : List ℕ) → AreBytes body → IsPlain c → with_body c body ≡ Some d → IsPlain d
+body_plain c d body bytes is e = by (record_at body) refl e
+  where
+    by : (o : Result Record RecordError) → record_at body ≡ o → read_record c o ≡ Some d → IsPlain d
+    by (Ok r) reads e = subst IsPlain (applied_same c d r (fits c r) e) (applied_plain c r is (record_found body r bytes reads).0.typed)
+    by (Err x) reads e = absurd cc
+
+bodies_plain : (bodies : List (List ℕ)) (c d : Catalog) → AllByRecursion AreBytes bodies → IsPlain c → catalog_from c bodies ≡ Some d → IsPlain d
+unfolding catalog_from
+bodies_plain [] c d bytes is e = (let same : c ≡ d = cc in subst IsPlain same is)
+bodies_plain (body ∷ bodies) c d bytes is e = behind (with_body c body) refl e (λ b made rest. bodies_plain bodies b d bytes.1 (body_plain c b body bytes.0 is made) rest)
+  where
+    behind : (o : Option Catalog) → with_body c body ≡ o → then_bodies o (λ b. catalog_from b bodies) ≡ Some d → ((b : Catalog) → with_body c body ≡ Some b → catalog_from b bodies ≡ Some d → IsPlain d) → IsPlain d
+    behind None made e more = absurd cc
+    behind (Some b) made e more = more b made e
+
+-- a run over such a catalogue starts with such names
+pub start_plain : (script : Script) (c : Catalog) (rows : Rows) (bodies : List (List ℕ)) → AllByRecursion AreBytes bodies → catalog bodies ≡ Some c → HasPlainNames (start_of script c rows).warehouse.store
+unfolding kept_of
+start_plain script c rows bodies bytes e = all_map IsPlainTable (table_of rows c.oldest c.next) c.tables (bodies_plain bodies empty_catalog c bytes tt e)

@@ -1,0 +1,32 @@
+-- What the top call ends with, by the form of its words.
+use Rattle.std.proofs.Common.{◌≡◌, ℕ, List, inl, subst, Option}
+use Rattle.mesa_words.specs.declared.forms.Form.{Form}
+use Rattle.mesa_model.specs.declared.commands.Script.{Script}
+use Rattle.mesa_skeleton.specs.Rows.{Rows}
+use Rattle.mesa_image.specs.Catalog.{Catalog}
+use Rattle.mesa_ending.specs.Ports.{Ports}
+use Rattle.mesa_ending.specs.Completing.{AsksFor, Completes, HasRoomToRun, NothingFailed}
+use Rattle.mesa_ending.specs.Ending.{Ends, EndsForm}
+use Rattle.mesa_ending.specs.Statuses.{Tells}
+use Rattle.mesa_ending.specs.declared.done.Devices.{Devices}
+use Rattle.mesa_ending.specs.declared.done.Done.{Done}
+use Rattle.mesa_ending.proofs.Completing.{completes}
+use Rattle.mesa_ending.proofs.Telling.{all_tells}
+
+module _ {K D M B : Type 0} (ports : Ports K D M B) (given : Devices K D B) (done : Done K D B) (asked : Option Form) (input : Option (List ℕ)) (before now : ℕ) where
+  -- how it ends, what its status tells, and what it comes to where nothing failed
+  pub record IsAnswered : Type 0 where
+    pub ends : Ends ports given done asked input before now
+    pub tells : Tells ports given done asked input before now
+    pub completes : (script : Script) (c : Catalog) (rows : Rows) → AsksFor asked input script → HasRoomToRun ports given c rows → NothingFailed ports given done before now → Completes done
+
+  pub answered : Ends ports given done asked input before now → IsAnswered
+  answered ends = record {
+    ends = ends;
+    tells = all_tells ports given done input before now asked ends;
+    completes = λ script c rows asks room nothing. completes ports given done before now nothing c rows room asked input script asks ends;
+  }
+
+  -- of words of this form
+  pub answered_as : (f : Option Form) → f ≡ asked → EndsForm ports given done f input before now → IsAnswered
+  answered_as f is ends = answered (inl (subst (λ a. EndsForm ports given done a input before now) is ends))
