@@ -11,3 +11,4 @@ pub mod Quiet
 pub mod Completing
 pub mod Telling
 pub mod Named
+pub mod Alone

@@ -1,3 +1,4 @@
+pub use Rattle.mesa_alone.specs as mesa_alone
 pub use Rattle.mesa_opening.specs as mesa_opening
 pub mod Ports
 pub mod Exits

@@ -1,18 +1,22 @@
 -- What a run over a store leaves.
-use Rattle.std.specs.Prelude.{ℕ, ◌+◌, ◌<◌, ◌≤◌, List, Option, Bool, not}
+use Rattle.std.specs.Prelude.{◌≡◌, ℕ, ◌+◌, ◌<◌, ◌≤◌, List, Option, None, Some, Bool, false, not}
+use Rattle.std.specs.Io.KnownBytes.{Appends}
 use Rattle.std.specs.List.{AllByRecursion}
 use Rattle.mesa_fault.specs.Causes.{last}
+use Rattle.mesa_alone.specs.Alone.{AllTurnsStand, IsAlone, output_alone}
+use Rattle.mesa_disk.specs.Image.{Image}
 use Rattle.mesa_disk.specs.Story.{Story}
 use Rattle.mesa_model.specs.declared.commands.Script.{Script}
 use Rattle.mesa_model.specs.declared.entries.Entry.{Entry}
 use Rattle.mesa_history.specs.Counting.{count_in, is_disk_fault}
+use Rattle.mesa_history.specs.Found.{kept_of}
 use Rattle.mesa_history.specs.Legal.{IsLegal}
 use Rattle.mesa_history.specs.Run.{State, begins}
 use Rattle.mesa_laws.specs.Printed.{AnswersFromTheFold}
 use Rattle.mesa_skeleton.specs.Rows.{Rows}
 use Rattle.mesa_walk.specs.Printing.{IsPrinted}
 use Rattle.mesa_walk.specs.Undamaged.{NoneDamaged}
-use Rattle.mesa_walk.specs.Walk.{AllFound, HasCounted, Outset}
+use Rattle.mesa_walk.specs.Walk.{AllFound, HasCounted, Outset, run_at}
 use Rattle.mesa_image.specs.Catalog.{Catalog}
 use Rattle.mesa_image.specs.Sound.{StandsFor}
 use Rattle.mesa_opening.specs.Opening.{ReadsAs, most_runs}
@@ -32,14 +36,15 @@ pub record RanAnyhow (script : Script) (start : State) (h : List Entry) (failed 
   pub moments : AllByRecursion (λ (e : Entry). (since ≤ e.moment) × (e.moment ≤ new.moment)) h
   pub counts : HasCounted counted new (count_in is_disk_fault script (begins start) h)
 
--- What holds of a run on a sound store, while the clock is below its last value: OUTPUT, of which a sink that failed got a front; CRASH; and no entry met damage.
+-- What holds of a run on a sound store, while the clock is below its last value: OUTPUT, of which a sink that failed got a front; CRASH; where nothing closed the warehouse, a read gives an image that is sound and stands for the state behind the last turn; and no entry met damage.
 pub record RanSoundly (script : Script) (start : State) (h : List Entry) (failed : Bool) (since counted : ℕ) (new : Story) (before now : Option (List ℕ)) : Type 0 where
   pub output : IsPrinted script (begins start) h (not failed) before now
   pub crash : AllFound (outset_from script start since counted before) h new
+  pub reads : (run_at script start h).state.warehouse.closed ≡ None → (i : Image) × (new.told ≡ Some i) × StandsFor i (kept_of (run_at script start h).state)
   pub undamaged : NoneDamaged h
 
 module _ {K D M B : Type 0} (ports : Ports K D M B) (given : Devices K D B) (done : Done K D B) (script : Script) where
-  -- A run over the catalogue that the disk reads, which isn't the last that may be. Whatever rows its files have: what holds on any store, and no fault of a bench is answered twice. Where the store is sound with these rows: ANSWERS, and what holds on a sound store.
+  -- A run over the catalogue that the disk reads, which isn't the last that may be. Whatever rows its files have: what holds on any store, and no fault of a bench is answered twice. Where the store is sound with these rows: ANSWERS, and what holds on a sound store; and ALONE: where one session alone has commands and every turn stands, the sink was given the one text that a run without a fault prints.
   pub record Ran (c : Catalog) (failed : Bool) : Type 0 where
     pub reads : ReadsAs (ports.story given.disk) c
     pub number : c.run < most_runs
@@ -48,3 +53,5 @@ module _ {K D M B : Type 0} (ports : Ports K D M B) (given : Devices K D B) (don
     pub answers : (rows : Rows) → IsSoundStore ports.bytes (ports.story given.disk) c rows → AnswersFromTheFold script (start_of script c rows) done.history.items
     pub soundly : (rows : Rows) → IsSoundStore ports.bytes (ports.story given.disk) c rows → (ports.story done.disk).moment < last
         → RanSoundly script (start_of script c rows) done.history.items failed (ports.story given.disk).moment ((ports.story given.disk).faults + (ports.story given.disk).read_faults) (ports.story done.disk) (ports.held given.out) (ports.held done.out)
+    pub alone : (rows : Rows) → IsSoundStore ports.bytes (ports.story given.disk) c rows → (ports.story done.disk).moment < last → failed ≡ false → IsAlone script → AllTurnsStand done.history.items
+        → Appends (ports.held given.out) (ports.held done.out) (output_alone (start_of script c rows) script)

@@ -27,6 +27,7 @@ use Rattle.mesa_ending.specs.Ending.{EndsScript}
 use Rattle.mesa_ending.specs.declared.done.Devices.{Devices}
 use Rattle.mesa_ending.specs.declared.done.Done.{Done}
 use Rattle.mesa_ending.proofs.Alike.{kept_begun, start_begun}
+use Rattle.mesa_ending.proofs.Alone.{alone_appends}
 use Rattle.mesa_ending.proofs.Ends.{run_ended}
 use Rattle.mesa_ending.proofs.Readable.{reads_same}
 use Rattle.mesa_ending.proofs.WellFormed.{well_formed_start}
@@ -135,6 +136,8 @@ module _ {K D M B : Type 0} (ports : Ports K D M B) (given : Devices K D B) (scr
       benches = λ rows. subst (λ s. HasBenchCounts ports.bench_faults (ports.story l.disk) script (begins s) l.history.items given.benches.items l.benches.items) (same_start rows) (ran.counted rows);
       answers = answers;
       soundly = soundly;
+      alone = λ rows s below fine one stand.
+          alone_appends (start_of script c rows) script l.history.items l.failed (ports.held given.out) (ports.held l.out) refl (anyhow rows).legal (soundly rows s below).output fine one stand;
     }
 
     pub script_ran : EndsScript ports given done script

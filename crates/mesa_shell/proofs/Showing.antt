@@ -1,6 +1,8 @@
 -- A run of the script of a seed on a sink in memory, and what is shown of it.
 use Rattle.std.proofs.Common.{◌≡◌, ℕ, ◌+◌, ◌++◌, List, [], Bool, true, false, refl, sym, ap, subst, inl, inr, Option, Some, Ok}
 use Rattle.std.specs.Prelude.{if◌then◌else◌}
+use Rattle.std.specs.Io.KnownBytes.{Appends}
+use Rattle.mesa_ending.specs.mesa_alone.Alone.{output_alone}
 use Rattle.mesa_disk.specs.Story.{Story}
 use Rattle.mesa_model.specs.declared.commands.Script.{Script}
 use Rattle.mesa_history.specs.Refused.{some_refused}
@@ -41,6 +43,9 @@ module _ {K S D M B : Type 0} (held : K → Option (List ℕ)) (faults : K → �
     soundly = λ rows sound below.
         subst (λ o. RanSoundly script (start_of script c rows) l.history.items failed (story g.disk).moment ((story g.disk).faults + (story g.disk).read_faults) (story l.disk) (Some []) o) is
         (subst (λ o. RanSoundly script (start_of script c rows) l.history.items failed (story g.disk).moment ((story g.disk).faults + (story g.disk).read_faults) (story l.disk) o (kept l.out)) was (ran.soundly rows sound below));
+    alone = λ rows sound below fine one stand.
+        subst (λ o. Appends (Some []) o (output_alone (start_of script c rows) script)) is
+        (subst (λ o. Appends o (kept l.out) (output_alone (start_of script c rows) script)) was (ran.alone rows sound below fine one stand));
   }
 
   -- what is shown of a run to its end
