@@ -3,9 +3,11 @@ use Rattle.mesa_model.specs.declared.commands.Script.{Script}
 use Rattle.mesa_passes.specs.Passes.{turns_of}
 use Rattle.mesa_skeleton.specs.Rows.{no_rows}
 use Rattle.mesa_sessions.specs.mesa_core.Vault.{Stand}
+use Rattle.mesa_history.specs.Run.{begins}
+use Rattle.mesa_walk.specs.Printing.{IsPrinted}
 use Rattle.mesa_walk.specs.Walk.{AllFound}
 use Rattle.mesa_catalog.specs.declared.begun.Begun.{Begun}
-use Rattle.mesa_ending.specs.Run.{RanAnyhow, outset_from}
+use Rattle.mesa_ending.specs.Run.{RanAnyhow, RanSoundly, outset_from}
 use Rattle.mesa_ending.specs.declared.done.Devices.{Devices}
 use Rattle.mesa_ending.proofs.Small.{session_small}
 use Rattle.mesa_shell.proofs.Parts.{benches_counted, fits_room, ran_anyhow, refilled}
@@ -62,3 +64,23 @@ returns-in-Ok-serve-clause-benches g c w =
     let s = c.stop-disk.ensures in
     benches_counted g.B.Bench.faults (g.D.Disk.story c.stop-disk.result.0) N.script (N.start no_rows) (N.start w) (N.alike w) c.in-Ok-serve.vault.shown.history c.stop-disk.result.2.items s.history s.until
     c.args.benches.len c.args.benches.items c.deref_mut.result.now c.serve.new.benches c.args.benches.ok.0 c.deref_mut.ensures.value c.serve.auto.benches c.in-Ok-serve.ensures.counted
+
+-- not of not is the same
+not_not : (b : Bool) → not (not b) ≡ b
+not_not true = refl
+not_not false = refl
+
+pub returns-in-Ok-serve-clause-soundly : goal.returns-in-Ok-serve-clause-soundly
+returns-in-Ok-serve-clause-soundly g c w sound below =
+    let N = g.N.Naming in
+    let s = c.stop-disk.ensures in
+    let running = c.in-Ok-serve.vault.shown.running in
+    let h = c.stop-disk.result.2.items in
+    let story = g.D.Disk.story c.stop-disk.result.0 in
+    let held = g.K.Sink.held c.stop-disk.result.1 in
+    subst (λ (b : Bool). RanSoundly N.script (N.start w) h (not b) N.since N.counted story N.at_start held) (sym c.running-failed.ensures.running) (record {
+      output = subst (λ (b : Bool). IsPrinted N.script (begins (N.start w)) h b N.at_start held) (sym (not_not running)) (s.printed w sound below);
+      crash = s.found w sound;
+      reads = s.reads w sound;
+      undamaged = s.undamaged w sound;
+    })
