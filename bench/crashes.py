@@ -7,7 +7,8 @@ PROGRAM is the built program, by default crates/mesa/out/mesa, which `rt run` le
 again and again, and killed by SIGKILL up to a second later, KILLS times, by default 200. In each run seven sessions work
 beside each other, behind a first one: five load a table with a view, one of them into a second table by the same batches;
 one of the five lets versions go and merges the table's files, and another one merges those of the other tables; one adds
-a column to a third table, loads, drops it, and loads; one asks and pins.
+a column to a third table, loads, drops it, and loads; one asks and pins,
+once there is a version.
 
 The next run has to find of each session as many batches, in its order, as it told, or more; each batch whole, in both
 tables and the view; as many batches as the newest version says; and the column where one of the changes that were on
@@ -86,7 +87,7 @@ def commands(before):
             yield from loading(session, before.loads[session], behind.get(session, lambda i: []))
         elif session == CHANGES:
             yield from changing(before)
-        else:
+        elif before.newest >= 0:
             yield from asking()
 
 
