@@ -1,4 +1,5 @@
 pub mod Found
 pub mod Ranges
 pub mod Faults
+pub mod Verdict
 pub mod Laws

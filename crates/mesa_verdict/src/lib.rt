@@ -2,5 +2,7 @@
 #![tactic(auto)]
 
 mod laws;
+mod verdict;
 
 pub use laws::{ranges_are_ordered, sound_where_no_fault};
+pub use verdict::Verdict;
