@@ -1,0 +1,5 @@
+mod Files
+mod Taking
+mod Cooling
+mod Answering
+mod Pins

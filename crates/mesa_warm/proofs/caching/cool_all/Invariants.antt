@@ -1,0 +1,13 @@
+use Rattle.std.proofs.Common.{◌+◌, ◌≤◌, ◌++◌, map, vec_len}
+use Rattle.std.specs.Prelude.{reverse, vec_capacity}
+use Rattle.mesa_warm.specs.Cooled.{cooled_file}
+use Rattle.mesa_warm.proofs.Files.{AreStill}
+use Rattle.mesa_warm.proofs.caching.cool_all.Given as goal
+
+abbrev pub invariant-each_file : goal.invariant-each_file
+invariant-each_file g l =
+    (vec_len l.warm + vec_len l.files ≤ vec_capacity l.files)
+    × AreStill g.R.FileReader.bytes (map cooled_file l.initial.warm.items ++ reverse l.initial.files.items) (map cooled_file l.warm.items ++ reverse l.files.items)
+
+abbrev pub decreases-each_file : goal.decreases-each_file
+decreases-each_file g l = vec_len l.warm

@@ -1,0 +1,3 @@
+pub mod Cooled
+pub mod Same
+pub mod Kept
