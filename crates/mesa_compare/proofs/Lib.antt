@@ -1,0 +1,5 @@
+pub mod Stepping
+pub mod Counting
+pub mod Differing
+pub mod Openings
+pub mod GivenBack

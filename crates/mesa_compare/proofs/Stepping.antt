@@ -1,0 +1,60 @@
+-- A row more of a stream, or its end.
+use Rattle.std.proofs.Common.{◌≡◌, ℕ, List, [], ◌∷◌, ◌++◌, refl, sym, subst, true, false}
+use Rattle.std.proofs.lemmas.List.{append-nil}
+use Rattle.std.specs.Prelude.{Option, Some, None, IfSome, IfNone, IsTrue, Bool, not, is_some, option_to_list}
+use Rattle.mesa_schema.specs.declared.rows.Row.{Row}
+use Rattle.mesa_schema.specs.Columns.{Columns, aggs_of}
+use Rattle.mesa_schema.specs.Folded.{folded}
+use Rattle.mesa_schema.specs.Rows.{IsRowOf}
+use Rattle.mesa_delta.specs.declared.input.Input.{Input}
+use Rattle.mesa_cursor.specs.Cursors.{HasGiven, IsAllOf}
+use Rattle.mesa_cursor.specs.declared.cursor.Cursor.{Cursor}
+use Rattle.mesa_merge.specs.Inputs.{AreAll, knowns_of}
+use Rattle.mesa_merge.specs.Merged.{HasMerged, inputs_of}
+use Rattle.mesa_merge.specs.declared.merge.Merge.{Merge}
+
+pub if_none_from : {X : Type 0} (o : Option X) (P : Type 0) → P → IfNone o P
+if_none_from None P p = p
+if_none_from (Some x) P p = tt
+
+pub no_row : {X : Type 0} (o : Option X) (ended : Bool) → is_some o ≡ not ended → IsTrue ended → o ≡ None
+no_row None ended is end = refl
+no_row (Some x) true is end = cc
+no_row (Some x) false is end = cc
+
+pub ended : {X : Type 0} (o : Option X) (end : Bool) → is_some o ≡ not end → o ≡ None → IsTrue end
+ended None true is none = refl
+ended None false is none = cc
+ended (Some x) end is none = cc
+
+-- What a merge gives next: a row by which its fold grows, or its end.
+pub record GoesOn {R : Type 0} (bytes : R → Option (List ℕ)) (s : Columns) (new : Merge R) (before : List Row) (row : Option Row) : Type 0 where
+  pub after : List (List Row)
+  pub merged : HasMerged bytes s new after
+  pub grows : folded (aggs_of s) after ≡ before ++ option_to_list row
+  pub ends : row ≡ None → AreAll (knowns_of bytes (inputs_of new)) after
+
+pub goes_on : {R : Type 0} (bytes : R → Option (List ℕ)) (s : Columns) (old new : Merge R) (givens : List (List Row)) (row : Option Row) → HasMerged bytes s old givens
+    → IfSome row (λ r. (s : Columns) (givens : List (List Row)) → HasMerged bytes s old givens → (after : List (List Row)) × HasMerged bytes s new after × (folded (aggs_of s) after ≡ folded (aggs_of s) givens ++ r ∷ []) × IsRowOf s r)
+    → IfNone row ((s : Columns) (givens : List (List Row)) → HasMerged bytes s old givens → HasMerged bytes s new givens × AreAll (knowns_of bytes (inputs_of new)) givens)
+    → GoesOn bytes s new (folded (aggs_of s) givens) row
+goes_on bytes s old new givens None h some none =
+    let n = none s givens h in
+    record { after = givens; merged = n.0; grows = sym (append-nil (folded (aggs_of s) givens)); ends = λ _. n.1 }
+goes_on bytes s old new givens (Some r) h some none =
+    let n = some s givens h in
+    record { after = n.0; merged = n.1; grows = n.2; ends = λ e. cc }
+
+-- and what an input gives next
+pub record GivesOn {R : Type 0} (bytes : R → Option (List ℕ)) (new : Input R) (c : Cursor) (before : List Row) (row : Option Row) : Type 0 where
+  pub given : HasGiven bytes new c (before ++ option_to_list row)
+  pub ends : row ≡ None → IsAllOf bytes new (before ++ option_to_list row)
+
+pub gives_on : {R : Type 0} (bytes : R → Option (List ℕ)) (old new : Input R) (was now : Cursor) (s : Columns) (before : List Row) (row : Option Row) → HasGiven bytes old was before
+    → IfSome row (λ r. (given : List Row) → HasGiven bytes old was given → HasGiven bytes new now (given ++ r ∷ []) × IsRowOf s r)
+    → IfNone row ((given : List Row) → HasGiven bytes old was given → HasGiven bytes new now given × IsAllOf bytes new given)
+    → GivesOn bytes new now before row
+gives_on bytes old new was now s before None h some none =
+    let n = none before h in
+    record { given = subst (HasGiven bytes new now) (sym (append-nil before)) n.0; ends = λ _. subst (IsAllOf bytes new) (sym (append-nil before)) n.1 }
+gives_on bytes old new was now s before (Some r) h some none = record { given = (some before h).0; ends = λ e. cc }

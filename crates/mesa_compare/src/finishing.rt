@@ -1,0 +1,76 @@
+// Streams read to their ends.
+ghost use Rattle.std.specs.Prelude.{◌≡◌, [], ◌++◌, ℕ, List, IsTrue, IfErr, OnOk, Some};
+ghost use Rattle.mesa_disk.specs.mesa_fault.Causes.{HasFaultCause};
+ghost use Rattle.mesa_disk.specs.mesa_file.declared.damage.Damage.{Damage as AnyDamage};
+ghost use Rattle.mesa_schema.specs.declared.rows.Row.{Row as AnyRow};
+ghost use Rattle.mesa_schema.specs.Columns.{Columns, aggs_of};
+ghost use Rattle.mesa_schema.specs.Folded.{folded, rows_of};
+ghost use Rattle.mesa_fold.specs.Bound.{KeepsBound};
+ghost use Rattle.mesa_delta.specs.declared.error.FileError.TheVariants as file_error;
+ghost use Rattle.mesa_delta.specs.Reading.{IsIndexed, index_of};
+ghost use Rattle.mesa_cursor.specs.Cursors.{HasGiven, IsAllOf, IsInput, IsSameInput, reader_in};
+ghost use Rattle.mesa_merge.specs.Faults.{HaveFaultCause, faults_of};
+ghost use Rattle.mesa_merge.specs.Inputs.{AreAll, AreTold, knowns_of, lifted_parts};
+ghost use Rattle.mesa_merge.specs.Merged.{HasMerged, inputs_of};
+
+use mesa_cursor::Cursor;
+use mesa_delta::{FileError, Input};
+use mesa_disk::FileReader;
+use mesa_examine::next_row;
+use mesa_merge::Merge;
+
+/// Reads a merge to its end, if it hasn't ended.
+pub(crate) fn finish_merge<R: FileReader>(
+    merge: &mut Merge<R>,
+    ended: bool,
+) -> Result<(), FileError>
+    requires { (s : Columns) × (givens : List (List AnyRow)) × HasMerged R.bytes s merge.old givens }
+    ensures rest { OnOk result ((s : Columns) (givens : List (List AnyRow)) → HasMerged R.bytes s merge.old givens → (IsTrue ended → AreAll (knowns_of R.bytes (inputs_of merge.old)) givens)
+        → (after : List (List AnyRow)) × (more : List AnyRow) × AreAll (knowns_of R.bytes (inputs_of merge.old)) after × (folded (aggs_of s) after ≡ folded (aggs_of s) givens ++ more) × (IsTrue ended → more ≡ [])) }
+    ensures known { knowns_of R.bytes (inputs_of merge.new) ≡ knowns_of R.bytes (inputs_of merge.old) }
+    ensures cause { HaveFaultCause (λ e. e ≡ file_error.Read) (faults_of R.faults (inputs_of merge.old)) (faults_of R.faults (inputs_of merge.new)) result }
+    ensures never { IfErr result (λ e. (d : AnyDamage) → e ≡ file_error.Damaged d → (s : Columns) (givens : List (List AnyRow)) → HasMerged R.bytes s merge.old givens
+        → (contents : List (List AnyRow)) → AreTold (knowns_of R.bytes (inputs_of merge.old)) contents → KeepsBound (aggs_of s) [] (rows_of (lifted_parts (knowns_of R.bytes (inputs_of merge.old)) contents)) → ⊥) }
+{
+    if ended {
+        return Ok(());
+    }
+    'rows: for _ in 0..u64::MAX {
+        let next = match merge.next() {
+            Ok(next) => next,
+            Err(error) => return Err(error),
+        };
+        let Some(_row) = next else {
+            return Ok(());
+        };
+    }
+    Err(FileError::Memory)
+}
+
+/// Reads an input to its end, if it hasn't ended.
+pub(crate) fn finish_input<R: FileReader>(
+    cursor: &mut Cursor,
+    input: &mut Input<R>,
+    ended: bool,
+) -> Result<(), FileError>
+    requires { IsInput R.bytes input.old }
+    ensures rest { OnOk result ((given : List AnyRow) → HasGiven R.bytes input.old cursor.old given → (IsTrue ended → IsAllOf R.bytes input.old given)
+        → (more : List AnyRow) × HasGiven R.bytes input.new cursor.new (given ++ more) × IsAllOf R.bytes input.new (given ++ more) × (IsTrue ended → more ≡ [])) }
+    ensures same { IsSameInput R.bytes input.old input.new }
+    ensures cause { HasFaultCause (λ e. e ≡ file_error.Read) (R.faults (reader_in input.old)) (R.faults (reader_in input.new)) result }
+    ensures never { IfErr result (λ e. (d : AnyDamage) → e ≡ file_error.Damaged d → (b : List ℕ) (all : List AnyRow) → R.bytes (reader_in input.old) ≡ Some b → IsIndexed (index_of input.old.reader) all b → ⊥) }
+{
+    if ended {
+        return Ok(());
+    }
+    'rows: for _ in 0..u64::MAX {
+        let next = match next_row(cursor, input) {
+            Ok(next) => next,
+            Err(error) => return Err(error),
+        };
+        let Some(_row) = next else {
+            return Ok(());
+        };
+    }
+    Err(FileError::Memory)
+}
