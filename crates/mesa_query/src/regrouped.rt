@@ -1,5 +1,5 @@
 // A table's file put into the groups of one of its views.
-ghost use Rattle.std.specs.Prelude.{◌≡◌, ◌⊎◌, ◌++◌, [], ◌∷◌, List, map, slice_get, OnOk, IfErr, IsTrue, Some};
+ghost use Rattle.std.specs.Prelude.{◌≡◌, ◌⊎◌, ◌<◌, ◌+◌, ◌++◌, [], ◌∷◌, List, length, map, slice_get, OnOk, IfErr, IsTrue, Some};
 ghost use Rattle.std.specs.List.{AllByRecursion};
 ghost use Rattle.mesa_fault.specs.Causes.{HasFaultCause};
 ghost use Rattle.mesa_file.specs.declared.damage.Damage.{Damage as AnyDamage};
@@ -16,9 +16,10 @@ ghost use Rattle.mesa_scan.specs.mesa_cursor.Cursors.{IsInput, IsSameInput, lift
 ghost use Rattle.mesa_merge.specs.Inputs.{IsTold, known_of};
 ghost use Rattle.mesa_scan.specs.Damaged.{IsDamaged};
 ghost use Rattle.mesa_scan.specs.Matching.{matching_rows};
+ghost use Rattle.mesa_scan.specs.Scanning.{HasScanned, IsFilterOf, filter_of, next_of};
 ghost use Rattle.mesa_answer.specs.Answering.{KeepsSums};
 ghost use Rattle.mesa_answer.specs.Gathered.{HasPut, wanted_of};
-ghost use Rattle.mesa_answer.specs.Regrouping.{row_under};
+ghost use Rattle.mesa_answer.specs.Regrouping.{places_seen, row_under};
 ghost use Rattle.mesa_view.specs.SumDamage.{IsSumDamage};
 ghost use Rattle.mesa_query.specs.Relation.{under_view};
 
@@ -55,18 +56,73 @@ pub(crate) fn gather_regrouped<R: FileReader>(
         → (given : List AnyRow) → HasPut groups.old given → (rows : List AnyRow) → IsTold (known_of R.bytes input.old) rows
         → KeepsSums (wanted_of groups.old).schema (given ++ filtered (wanted_of groups.old).schema filter.now.terms (under_view (columns_of input.old.evolving.value) v (map (lift_by input.old) rows))) → ⊥) }
 {
-    let file = input.reader.index().file();
     let every = every_row(alloc, input.evolving.present())?;
     let mut regrouping = Regrouping::of(alloc, &input.evolving, view)?;
-    let mut scan = Scan::of(input, &every)?;
+    gather_each_block(alloc, groups, input, &every, &mut regrouping, filter)
+}
+
+// Puts the rows of each block that match, regrouped, into groups. The first filter leaves nothing out.
+fn gather_each_block<R: FileReader>(
+    alloc: Global,
+    groups: &mut Groups,
+    input: &mut Input<R>,
+    every: &Filter,
+    regrouping: &mut Regrouping,
+    filter: &Filter,
+) -> Result<(), FileError>
+    requires gathering { (given : List AnyRow) × HasPut groups.old given }
+    requires input { IsInput R.bytes input.old }
+    requires every { IsFilterOf input.old every.now }
+    requires terms { every.now.terms ≡ [] }
+    requires seen { (v : Chosen) × (regrouping.old ≡ places_seen (columns_of input.old.evolving.value) v) × (view_columns (columns_of input.old.evolving.value) v ≡ (wanted_of groups.old).schema) }
+    requires filter { filter.now.kinds ≡ kinds_of (wanted_of groups.old).schema }
+    ensures put { OnOk result ((given : List AnyRow) → HasPut groups.old given → (more : List AnyRow) × HasPut groups.new (given ++ more)
+        × ((rows : List AnyRow) → IsTold (known_of R.bytes input.old) rows → more ≡ matching_rows filter.now (map (row_under regrouping.old) (map (lift_by input.old) rows)))) }
+    ensures wanted { wanted_of groups.new ≡ wanted_of groups.old }
+    ensures input { IsInput R.bytes input.new }
+    ensures same { IsSameInput R.bytes input.old input.new }
+    ensures cause { HasFaultCause (λ e. e ≡ file_error.Read) (R.faults (reader_in input.old)) (R.faults (reader_in input.new)) result }
+    ensures damaged { IfErr result (λ e. (d : AnyDamage) → e ≡ file_error.Damaged d → IsDamaged R.bytes R.size input.old d ⊎ IsSumDamage (index_of input.old.reader).file d) }
+    ensures never { IfErr result (λ e. (d : AnyDamage) → e ≡ file_error.Damaged d → (given : List AnyRow) → HasPut groups.old given → (rows : List AnyRow) → IsTold (known_of R.bytes input.old) rows
+        → KeepsSums (wanted_of groups.old).schema (given ++ matching_rows filter.now (map (row_under regrouping.old) (map (lift_by input.old) rows))) → ⊥) }
+{
+    let file = input.reader.index().file();
+    let mut scan = Scan::of(input, every)?;
     let mut rows = Vec::new(alloc);
     'each_block: while !scan.is_over(input) {
-        let mut block = Vec::new(alloc);
-        scan.block(input, &mut block)?;
-        rows.clear();
-        add_regrouped(&mut regrouping, filter, block, &mut rows)?;
+        read_regrouped(alloc, input, &mut scan, regrouping, filter, &mut rows)?;
         put_rows(groups, file, &rows)?;
     }
+    Ok(())
+}
+
+// Reads the next block, and puts its rows that match, regrouped, in place of those that `rows` has.
+fn read_regrouped<R: FileReader>(
+    alloc: Global,
+    input: &mut Input<R>,
+    scan: &mut Scan<'_>,
+    regrouping: &mut Regrouping,
+    filter: &Filter,
+    rows: &mut Vec<Row>,
+) -> Result<(), FileError>
+    requires scanning { (given : List AnyRow) × HasScanned R.bytes input.old scan.old given }
+    requires left { next_of scan.old < length (index_of input.old.reader).entries }
+    requires seen { (v : Chosen) × (regrouping.old ≡ places_seen (columns_of input.old.evolving.value) v) × (filter.now.kinds ≡ kinds_of (view_columns (columns_of input.old.evolving.value) v)) }
+    ensures more { OnOk result ((given : List AnyRow) → HasScanned R.bytes input.old scan.old given
+        → (block : List AnyRow) × HasScanned R.bytes input.new scan.new (given ++ block) × (rows.new.items ≡ matching_rows filter.now (map (row_under regrouping.old) block))) }
+    ensures next { OnOk result (next_of scan.new ≡ next_of scan.old + 1) }
+    ensures scans { filter_of scan.new ≡ filter_of scan.old }
+    ensures regrouping { OnOk result (regrouping.new ≡ regrouping.old) }
+    ensures input { IsInput R.bytes input.new }
+    ensures same { IsSameInput R.bytes input.old input.new }
+    ensures size { R.size (reader_in input.new) ≡ R.size (reader_in input.old) }
+    ensures cause { HasFaultCause (λ e. e ≡ file_error.Read) (R.faults (reader_in input.old)) (R.faults (reader_in input.new)) result }
+    ensures damaged { IfErr result (λ e. (d : AnyDamage) → e ≡ file_error.Damaged d → IsDamaged R.bytes R.size input.old d) }
+{
+    let mut block = Vec::new(alloc);
+    scan.block(input, &mut block)?;
+    rows.clear();
+    add_regrouped(regrouping, filter, block, rows)?;
     Ok(())
 }
 
