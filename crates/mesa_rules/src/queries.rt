@@ -1,6 +1,8 @@
 // Queries, and what is told of how they would be answered.
-ghost use Rattle.std.specs.Prelude.{◌≡◌, ◌<◌, ℕ, map, Ok, Some, IfOk, IfErr, IfSome, length};
+ghost use Rattle.std.specs.Prelude.{◌≡◌, ◌<◌, ℕ, map, Result as AnyResult, Ok, Some, IfOk, IfErr, IfSome, IsOk, length};
+ghost use Rattle.mesa_filter.specs.Asked.{asked_of};
 ghost use Rattle.mesa_filter.specs.Query.{IsQueryOf};
+ghost use Rattle.mesa_model.specs.declared.replies.Refusal.{Refusal as AnyRefusal};
 ghost use Rattle.mesa_model.specs.Query.{query_answer};
 ghost use Rattle.mesa_model.specs.Warehouse.{Warehouse};
 ghost use Rattle.mesa_catalog.specs.mesa_history.Machine.{Machine, explained};
@@ -37,15 +39,31 @@ pub fn query(
     ensures answered { IfOk result (IsAnswered catalog.now.catalogue version words.now) }
     ensures refused { IfErr result (λ failure. (w : Warehouse) (session : ℕ) → Sees catalog.now.catalogue version words.now session w → IsDue (query_answer w session words.now) failure) }
 {
+    let (relation, schema) = checked_relation(alloc, catalog, words)?;
+    let version = version?;
+    let epoch = catalog.evolving(relation.table).epoch();
+    let query = build_query(alloc, &schema, version, epoch, words)?;
+    Ok(Found { relation, query })
+}
+
+// The relation that is asked, and its columns, which have what the query asks of them.
+fn checked_relation(
+    alloc: Global,
+    catalog: &Catalog,
+    words: &QueryWords,
+) -> Result<(Relation, Schema), Failure>
+    ensures found { IfOk result (λ x. relation_of catalog.now.catalogue words.now.relation ≡ Some x.0) }
+    ensures there { IfOk result (λ x. x.0.table < length catalog.now.catalogue.tables) }
+    ensures columns { IfOk result (λ x. x.1 ≡ columns_at catalog.now.catalogue x.0) }
+    ensures asked { IfOk result (λ x. IsOk (asked_of (columns_at catalog.now.catalogue x.0) words.now)) }
+    ensures refused { IfErr result (λ failure. (version : AnyResult ℕ AnyRefusal) (w : Warehouse) (session : ℕ) → Sees catalog.now.catalogue version words.now session w → IsDue (query_answer w session words.now) failure) }
+{
     let Some(relation) = relation_asked(catalog, words.relation.as_slice()) else {
         return Err(Failure::Refused(Refusal::NoTable { row: None }));
     };
     let schema = schema_of(catalog, relation)?;
     check_query(alloc, &schema, words)?;
-    let version = version?;
-    let epoch = catalog.evolving(relation.table).epoch();
-    let query = build_query(alloc, &schema, version, epoch, words)?;
-    Ok(Found { relation, query })
+    Ok((relation, schema))
 }
 
 // The columns of a relation.

@@ -1,7 +1,8 @@
 // Tables, views and changes of schemas.
-ghost use Rattle.std.specs.Prelude.{◌≡◌, ◌+◌, ℕ, IfOk, IfErr, OnOk, Ok, Some};
+ghost use Rattle.std.specs.Prelude.{◌≡◌, ◌≢◌, ◌+◌, ℕ, IfOk, IfErr, IsTrue, OnOk, Ok, Err, Some, is_ok};
 ghost use Rattle.mesa_list.specs.Checks.{refused_as};
 ghost use Rattle.mesa_schema.specs.declared.changes.Change.{Change as AnyChange};
+ghost use Rattle.mesa_schema.specs.declared.changes.ChangeError.TheVariants as change_error;
 ghost use Rattle.mesa_schema.specs.Changes.{change_checked, columns_of, epoch_of};
 ghost use Rattle.mesa_record.specs.declared.record.Record.TheVariants as record_of;
 ghost use Rattle.mesa_model.specs.declared.replies.Reply.TheVariants as reply;
@@ -21,8 +22,8 @@ use mesa_catalog::Catalog;
 use mesa_list::{Items, TryCopy};
 use mesa_model::{AlterWords, Refusal, Reply, TableWords, ViewWords};
 use mesa_record::Record;
-use mesa_schema::{Change, Evolving, KeyColumn, ValueColumn, View};
-use std::alloc::Global;
+use mesa_schema::{Change, ChangeError, Evolving, KeyColumn, Name, Schema, ValueColumn, View};
+use std::alloc::{AllocError, Global};
 
 /// How many tables there may be.
 const MAX_TABLES: u16 = 32;
@@ -43,6 +44,14 @@ pub fn table(alloc: Global, catalog: &Catalog, words: &TableWords) -> Result<Rul
         let limit = MAX_TABLES as u32;
         return Err(Failure::Refused(Refusal::TablesFull { limit }));
     }
+    Ok(table_made(alloc, name, &schema)?)
+}
+
+// The record of a table of this name and these columns, and its reply.
+fn table_made(alloc: Global, name: Name, schema: &Schema) -> Result<Ruled, AllocError>
+    ensures written { IfOk result (λ r. r.writes ≡ record_of.Table name schema.now.keys schema.now.values) }
+    ensures told { IfOk result (λ r. r.tells ≡ reply.Table name) }
+{
     let made = name.copy()?;
     let keys = Items::from_vec(KeyColumn::copy_all(alloc, schema.keys())?);
     let values = Items::from_vec(ValueColumn::copy_all(alloc, schema.values())?);
@@ -93,10 +102,10 @@ pub fn alter(alloc: Global, catalog: &Catalog, words: &AlterWords) -> Result<Rul
     let Some(table) = table_number(catalog, words.table.as_slice()) else {
         return Err(Failure::Refused(Refusal::NoTable { row: None }));
     };
+    let name = catalog.name(table).copy()?;
     let evolving = catalog.evolving(table);
     let change = change_asked(alloc, evolving, &words.change)?;
     check_change(evolving, &change)?;
-    let name = catalog.name(table).copy()?;
     let epoch = evolving.epoch() + 1;
     Ok(Ruled {
         writes: Record::Alter { table, change },
@@ -113,9 +122,18 @@ fn check_change(evolving: &Evolving, change: &Change) -> Result<(), Failure>
         return Ok(());
     }
     let column = changed_name(change).copy()?;
-    let mut after = evolving.copy()?;
-    match after.change(change.copy()?) {
+    match change_copy(evolving, change) {
         Ok(()) => Ok(()),
         Err(error) => Err(change_failure(error, column)),
     }
+}
+
+// What a copy answers that is changed so.
+fn change_copy(evolving: &Evolving, change: &Change) -> Result<(), ChangeError>
+    ensures allowed { OnOk result (IsTrue (is_ok (change_checked evolving.now change.now))) }
+    ensures refused { IfErr result (λ e. e ≢ change_error.Memory → change_checked evolving.now change.now ≡ Err e) }
+{
+    let change = change.copy()?;
+    let mut after = evolving.copy()?;
+    after.change(change)
 }

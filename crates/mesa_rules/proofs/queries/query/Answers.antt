@@ -1,76 +1,56 @@
-use Rattle.std.proofs.Common.{◌≡◌, ◌∙◌, ap, sym, subst, None, Some, Result, Ok}
-use Rattle.std.specs.Prelude.{IsOk}
+use Rattle.std.proofs.Common.{◌∙◌, ap, sym, subst, Result, Ok}
 use Rattle.std.proofs.lemmas.Result.{err_from_is_err_and}
 use Rattle.mesa_list.specs.Checks.{refused_as}
 use Rattle.mesa_schema.specs.Columns.{Columns}
 use Rattle.mesa_schema.specs.Changes.{epoch_of}
-use Rattle.mesa_filter.specs.Asked.{asked_of}
 use Rattle.mesa_filter.specs.Query.{BuiltQuery, IsQueryOf, query_of}
 use Rattle.mesa_model.specs.declared.replies.Refusal.{Refusal}
 use Rattle.mesa_model.specs.Refusals.{query_refusal}
-use Rattle.mesa_catalog.specs.Lookups.{relation_of}
 use Rattle.mesa_asked.specs.Told.{IsDue}
-use Rattle.mesa_rules.proofs.Answering.{built_answer, built_at, nothing_found, unasked, unbuilt, unversioned}
+use Rattle.mesa_rules.proofs.Answering.{built_answer, built_at, unbuilt, unversioned}
 use Rattle.mesa_rules.proofs.queries.query.Goals as goal
 
-pub returns-in_default-clause-refused : goal.returns-in_default-clause-refused
-returns-in_default-clause-refused c =
-    let words = c.args.words.now in
-    let cat = c.args.catalog.now.catalogue in
-    let none : relation_of cat words.relation ≡ None = ap (relation_of cat) (sym c.as_slice.ensures) ∙ sym c.relation_asked.ensures.found ∙ c.in_default.is in
-    λ w session s. nothing_found cat c.args.version words w session s none
-
-pub returns-in_err-check_query-clause-refused : goal.returns-in_err-check_query-clause-refused
-returns-in_err-check_query-clause-refused c =
-    let p = err_from_is_err_and c.from_residual-in_err-check_query.result c.from_residual-in_err-check_query.ensures.1 in
-    let words = c.args.words.now in
-    let cat = c.args.catalog.now.catalogue in
-    let failure = c.in_err-check_query.field-0.0 in
-    let found : relation_of cat words.relation ≡ Some c.in-Some.relation = ap (relation_of cat) (sym c.as_slice.ensures) ∙ sym c.relation_asked.ensures.found ∙ c.in-Some.is in
-    let due = subst (λ (k : Columns). IsDue (refused_as query_refusal (asked_of k words)) failure) c.in_ok-schema.ensures c.in_err-check_query.ensures.refused in
-    rw (p.1, p.2) (λ w session s. unasked cat c.args.version words w session s c.in-Some.relation found failure due)
+pub returns-in_err-relation-clause-refused : goal.returns-in_err-relation-clause-refused
+returns-in_err-relation-clause-refused c =
+    let p = err_from_is_err_and c.from_residual.result c.from_residual.ensures.1 in
+    rw (p.1, p.2) (λ w session s. c.in_err-relation.ensures.refused c.args.version w session s)
 
 pub returns-in_err-version-clause-refused : goal.returns-in_err-version-clause-refused
 returns-in_err-version-clause-refused c =
     let p = err_from_is_err_and c.from_residual-in_err-version.result c.from_residual-in_err-version.ensures.1 in
     let words = c.args.words.now in
     let cat = c.args.catalog.now.catalogue in
-    let found : relation_of cat words.relation ≡ Some c.in-Some.relation = ap (relation_of cat) (sym c.as_slice.ensures) ∙ sym c.relation_asked.ensures.found ∙ c.in-Some.is in
-    let asked = subst (λ (k : Columns). IsOk (asked_of k words)) c.in_ok-schema.ensures c.in_ok-check_query.ensures.passes in
-    rw (p.1, p.2) (λ w session s. unversioned cat c.args.version words w session s c.in-Some.relation found c.in_err-version.field-0.0 asked c.in_err-version.was)
+    rw (p.1, p.2) (λ w session s. unversioned cat c.args.version words w session s c.in_ok-relation.relation c.in_ok-relation.ensures.found c.in_err-version.field-0.0 c.in_ok-relation.ensures.asked c.in_err-version.was)
 
 pub returns-in_err-query-clause-refused : goal.returns-in_err-query-clause-refused
 returns-in_err-query-clause-refused c =
     let p = err_from_is_err_and c.from_residual-in_err-query.result c.from_residual-in_err-query.ensures.1 in
     let words = c.args.words.now in
     let cat = c.args.catalog.now.catalogue in
-    let relation = c.in-Some.relation in
+    let relation = c.in_ok-relation.relation in
     let version = c.in_ok-version.version in
     let failure = c.in_err-query.field-0.0 in
-    let found : relation_of cat words.relation ≡ Some relation = ap (relation_of cat) (sym c.as_slice.ensures) ∙ sym c.relation_asked.ensures.found ∙ c.in-Some.is in
-    let asked = subst (λ (k : Columns). IsOk (asked_of k words)) c.in_ok-schema.ensures c.in_ok-check_query.ensures.passes in
     let epoch = c.epoch-epoch.ensures.count ∙ ap epoch_of (c.deref.ensures ∙ c.evolving.ensures) in
-    let due = subst (λ (r : Result BuiltQuery Refusal). IsDue r failure) (λ i. refused_as query_refusal (query_of (c.in_ok-schema.ensures i) words.relation version (epoch i) words)) c.in_err-query.ensures.refused in
-    rw (p.1, p.2) (λ w session s. unbuilt cat c.args.version words w session s relation found version failure asked c.in_ok-version.was due)
+    let due = subst (λ (r : Result BuiltQuery Refusal). IsDue r failure) (λ i. refused_as query_refusal (query_of (c.in_ok-relation.ensures.columns i) words.relation version (epoch i) words)) c.in_err-query.ensures.refused in
+    rw (p.1, p.2) (λ w session s. unbuilt cat c.args.version words w session s relation c.in_ok-relation.ensures.found version failure c.in_ok-relation.ensures.asked c.in_ok-version.was due)
 
 pub returns-clause-asked : goal.returns-clause-asked
 returns-clause-asked c =
     let words = c.args.words.now in
     let query = c.in_ok-query.query in
     let epoch = c.epoch-epoch.ensures.count ∙ ap epoch_of (c.deref.ensures ∙ c.evolving.ensures) in
-    built_at _ _ _ _ _ words query c.in_ok-schema.ensures epoch c.in_ok-query.ensures.built
+    built_at _ _ _ _ _ words query c.in_ok-relation.ensures.columns epoch c.in_ok-query.ensures.built
 
 pub returns-clause-sound : goal.returns-clause-sound
-returns-clause-sound c = subst (λ (k : Columns). IsQueryOf k c.in_ok-query.query) c.in_ok-schema.ensures c.in_ok-query.ensures.sound
+returns-clause-sound c = subst (λ (k : Columns). IsQueryOf k c.in_ok-query.query) c.in_ok-relation.ensures.columns c.in_ok-query.ensures.sound
 
 pub returns-clause-answered : goal.returns-clause-answered
 returns-clause-answered c =
     let words = c.args.words.now in
     let cat = c.args.catalog.now.catalogue in
-    let relation = c.in-Some.relation in
+    let relation = c.in_ok-relation.relation in
     let query = c.in_ok-query.query in
-    let found : relation_of cat words.relation ≡ Some relation = ap (relation_of cat) (sym c.as_slice.ensures) ∙ sym c.relation_asked.ensures.found ∙ c.in-Some.is in
     let epoch = c.epoch-epoch.ensures.count ∙ ap epoch_of (c.deref.ensures ∙ c.evolving.ensures) in
     let version = ap (λ (q : BuiltQuery). q.version) c.in_ok-query.ensures.built.parts in
-    let made = built_at _ _ _ _ _ words query c.in_ok-schema.ensures epoch c.in_ok-query.ensures.built in
-    λ w session s. built_answer cat c.args.version words w session s relation found query (c.in_ok-version.was ∙ ap (λ n. Ok n) (sym version)) made
+    let made = built_at _ _ _ _ _ words query c.in_ok-relation.ensures.columns epoch c.in_ok-query.ensures.built in
+    λ w session s. built_answer cat c.args.version words w session s relation c.in_ok-relation.ensures.found query (c.in_ok-version.was ∙ ap (λ n. Ok n) (sym version)) made

@@ -20,7 +20,7 @@ returns-in_default-clause-refused c =
 
 pub returns-in_err-change-clause-refused : goal.returns-in_err-change-clause-refused
 returns-in_err-change-clause-refused c =
-    let p = err_from_is_err_and c.from_residual.result c.from_residual.ensures.1 in
+    let p = err_from_is_err_and c.from_residual-in_err-change.result c.from_residual-in_err-change.ensures.1 in
     let words = c.args.words.now in
     let cat = c.args.catalog.now.catalogue in
     let table = c.in-Some.table in

@@ -1,7 +1,6 @@
 use Rattle.std.proofs.Common.{◌≡◌, ◌≤◌, ◌<◌, ◌∙◌, ap, sym, true, false, length, arith, rules}
 use Rattle.std.specs.Prelude.{is_some}
 use Rattle.std.proofs.lemmas.Result.{err_from_is_err_and}
-use Rattle.mesa_schema.specs.Columns.{Columns}
 use Rattle.mesa_schema.specs.Names.{is_name}
 use Rattle.mesa_record.specs.declared.record.Record.TheVariants as record_of
 use Rattle.mesa_model.specs.declared.replies.Reply.TheVariants as reply
@@ -52,6 +51,5 @@ returns-clause-ruled c =
     let free : is_some (relation_of cat words.table) ≡ false = ap (λ n. is_some (relation_of cat n)) (sym name) ∙ sym (c.is_some.ensures ∙ ap is_some c.find.ensures) ∙ there in
     let room : length cat.tables < max_tables = omega (arith, c.tables.ensures, c.if-tables-ge-MAX_TABLES.false) in
     let schema = c.in_ok-schema.ensures.asked in
-    let keys = c.from_vec-keys.ensures ∙ c.in_ok-copy_all.ensures ∙ c.keys.ensures.same ∙ ap (λ (s : Columns). s.keys) schema in
-    let values = c.from_vec-values.ensures ∙ c.in_ok-copy_all-2.ensures ∙ c.values.ensures.same ∙ ap (λ (s : Columns). s.values) schema in
-    ruled_table cat words named free c.in_ok-schema.ensures.checked _ room (λ j. record_of.Table (name j) (keys j) (values j)) (ap reply.Table (c.in_ok-made.ensures ∙ name))
+    let written = c.in_ok-table_made.ensures.written ∙ (λ j. record_of.Table (name j) (schema j).keys (schema j).values) in
+    ruled_table cat words named free c.in_ok-schema.ensures.checked _ room written (c.in_ok-table_made.ensures.told ∙ ap reply.Table name)
