@@ -4,6 +4,7 @@ use crate::area_file::{AreaFile, open_area};
 use crate::names::{adopted_number, is_draft};
 use crate::streams::{OpenedFolder, open_behind_streams};
 use mesa_disk::{Area, FileId};
+use std::alloc::Global;
 use std::fs::{self, DirEntry, File};
 use std::io::{self, ErrorKind};
 use std::rt::Files;
@@ -56,6 +57,18 @@ fn remove_drafts<F: Files<File = File> + AllocGlobal + Copy>(
     Ok(())
 }
 
+// Opens the files of both areas, and locks that of area 0.
+fn open_areas<F: Files<File = File> + AllocGlobal + Copy>(
+    files: &F,
+    path: &str,
+) -> io::Result<(File, File)> {
+    let alloc = files.alloc();
+    let zero = open_area(files, format!(in alloc; "{path}/journal0")?.as_str())?;
+    zero.try_lock()?;
+    let one = open_area(files, format!(in alloc; "{path}/journal1")?.as_str())?;
+    Ok((zero, one))
+}
+
 impl Folder {
     /// Opens the folder of this path within the current one, and makes what is missing.
     pub(crate) fn open<F: Files<File = File> + AllocGlobal + Copy>(
@@ -65,10 +78,13 @@ impl Folder {
         let alloc = files.alloc();
         make_folder(files, path)?;
         let opened = open_behind_streams(alloc, files, path)?;
-        let zero = open_area(files, format!(in alloc; "{path}/journal0")?.as_str())?;
-        zero.try_lock()?;
-        let one = open_area(files, format!(in alloc; "{path}/journal1")?.as_str())?;
+        let (zero, one) = open_areas(files, path)?;
         remove_drafts(files, path)?;
+        Self::settle(alloc, opened, zero, one)
+    }
+
+    // Settles both areas, and syncs the names.
+    fn settle(alloc: Global, opened: OpenedFolder, zero: File, one: File) -> io::Result<Found> {
         let (zero, zero_len) = AreaFile::settle(alloc, zero)?;
         let (one, one_len) = AreaFile::settle(alloc, one)?;
         opened.folder.sync_all()?;
@@ -168,17 +184,26 @@ fn entry_number<F: Files<File = File> + Drop>(
     }
 }
 
-/// The ids of all adopted files of a folder, rising.
-pub(crate) fn adopted_ids<F: Files<File = File> + AllocGlobal + Copy>(
+// The numbers of the ids of all adopted files of a folder.
+fn adopted_numbers<F: Files<File = File> + AllocGlobal + Copy>(
     files: &F,
     path: &str,
-) -> io::Result<Vec<FileId>> {
+) -> io::Result<Vec<u64>> {
     let mut numbers = Vec::new(files.alloc());
     for entry in fs::read_dir(files, path)? {
         if let Some(number) = entry_number(entry)? {
             numbers.push(number)?;
         }
     }
+    Ok(numbers)
+}
+
+/// The ids of all adopted files of a folder, rising.
+pub(crate) fn adopted_ids<F: Files<File = File> + AllocGlobal + Copy>(
+    files: &F,
+    path: &str,
+) -> io::Result<Vec<FileId>> {
+    let mut numbers = adopted_numbers(files, path)?;
     numbers.sort_unstable();
     let mut ids = Vec::with_capacity(files.alloc(), numbers.len())?;
     for number in numbers {
