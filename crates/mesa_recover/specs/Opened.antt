@@ -1,5 +1,4 @@
 -- A store that was read.
-use Rattle.std.specs.Prelude.{ℕ}
 use Rattle.mesa_disk.specs.Story.{Story}
 use Rattle.mesa_opening.specs.Opening.{IsOpenedAs}
 use Rattle.mesa_recover.specs.declared.opened.Opened.{Opened}

@@ -64,27 +64,39 @@ pub fn begin<M: Made, D: Disk<M>>(
     ensures clock_err { IfErr result (λ e. (D.story opened.disk).moment ≤ (D.story e.1).moment) }
 {
     catalogs_own_ids();
-    let Opened {
-        mut disk,
-        mut catalog,
-        last_run,
-        area,
-        end,
-        since,
-    } = opened;
-    if last_run >= MOST_RUNS {
-        return Err((OpenError::RunsFull, disk));
+    let mut opened = opened;
+    if opened.last_run >= MOST_RUNS {
+        return Err((OpenError::RunsFull, opened.into_disk()));
     }
-    match begin_run(alloc, &mut disk, &mut catalog, last_run, end) {
-        Ok(end) => Ok(Begun {
-            disk,
-            catalog,
-            run: last_run + 1,
-            area,
+    let last_run = opened.last_run;
+    let end = opened.end;
+    match begin_run(alloc, &mut opened.disk, &mut opened.catalog, last_run, end) {
+        Ok(end) => Ok(opened.into_begun(end)),
+        Err(error) => Err((error, opened.into_disk())),
+    }
+}
+
+impl<D> Opened<D> {
+    // The disk alone.
+    fn into_disk(self) -> D
+        ensures { result ≡ self.disk }
+    {
+        self.disk
+    }
+
+    // The store once its next run has begun, whose journal ends there.
+    fn into_begun(self, end: u64) -> Begun<D>
+        requires { self.last_run < most_runs }
+        ensures { result ≡ record { disk = self.disk; catalog = self.catalog; run = self.last_run + 1; area = self.area; end = end; since = self.since } }
+    {
+        Begun {
+            disk: self.disk,
+            catalog: self.catalog,
+            run: self.last_run + 1,
+            area: self.area,
             end,
-            since,
-        }),
-        Err(error) => Err((error, disk)),
+            since: self.since,
+        }
     }
 }
 
@@ -115,9 +127,37 @@ fn begin_run<M: Made, D: Disk<M>>(
     let record = Record::Run {
         number: last_run + 1,
     };
-    let (framed, strays) = ready_run(alloc, disk, catalog, &record)?;
-    let end = write_run(alloc, disk, end, &framed, &strays)?;
+    let end = append_run(alloc, disk, catalog, &record, end)?;
     catalog.apply(record);
+    Ok(end)
+}
+
+// Takes the memory that a run's record needs, writes it, and removes strays. Gives the journal's new end.
+fn append_run<M: Made, D: Disk<M>>(
+    alloc: Global,
+    disk: &mut D,
+    catalog: &mut Catalog,
+    record: &Record,
+    end: u64,
+) -> Result<u64, OpenError>
+    requires run { (number : ℕ) × («record».now ≡ run_record number) }
+    requires rules { IsTrue (keeps_rules «record».now) }
+    requires fits { IsTrue (fits catalog.old.catalogue «record».now) }
+    requires gate { 1 < (D.story disk.old).len Zero → end < (D.story disk.old).len Zero }
+    requires none { (D.story disk.old).len Zero ≤ 1 → end ≡ 0 }
+    ensures same { catalog.new.catalogue ≡ catalog.old.catalogue }
+    ensures reserved { OnOk result (catalog.new.reserved ≡ Some «record».now) }
+    ensures told { (i : AnyImage) → (D.story disk.old).told ≡ Some i → (j : AnyImage) × ((D.story disk.new).told ≡ Some j) }
+    ensures room { IfOk result (λ new_end. new_end < (D.story disk.new).len Zero) }
+    ensures images { (bodies : List (List ℕ)) (rows : Rows) → IsFound (D.story disk.old) bodies end catalog.old.catalogue rows → Spans (λ x. StandsFor x (kept_of rows catalog.old.catalogue)) (D.story disk.old) (D.story disk.new) }
+    ensures held { IfOk result (λ new_end. (bodies : List (List ℕ)) (rows : Rows) → IsFound (D.story disk.old) bodies end catalog.old.catalogue rows → IsHeldAs (D.story disk.new) new_end (applied catalog.old.catalogue «record».now) rows) }
+    ensures named { OnOk result (AreNamedOrWait (named catalog.old.catalogue) [] (D.story disk.new).told) }
+    ensures kind { IfErr result IsFaultOrMemory }
+    ensures clock { (D.story disk.old).moment ≤ (D.story disk.new).moment }
+    ensures counts { Counts (D.story disk.old) (D.story disk.new) result }
+{
+    let (framed, strays) = ready_run(alloc, disk, catalog, record)?;
+    let end = write_run(alloc, disk, end, &framed, &strays)?;
     Ok(end)
 }
 

@@ -1,8 +1,15 @@
 // Reading a store.
-ghost use Rattle.std.specs.Prelude.{◌≡◌, ℕ, List, IfOk, IfErr};
+ghost use Rattle.std.specs.Prelude.{◌≡◌, ℕ, List, map, OnOk, IfOk, IfErr, Some};
+ghost use Rattle.std.specs.List.{AllByRecursion};
+ghost use Rattle.mesa_disk.specs.mesa_file.declared.damage.Damage.{Damage as AnyDamage};
+ghost use Rattle.mesa_disk.specs.Image.{Image};
 ghost use Rattle.mesa_disk.specs.Story.{Unmoved};
+ghost use Rattle.mesa_image.specs.Fitting.{shelved};
+ghost use Rattle.mesa_shelf.specs.Files.{AreRecorded, recorded_of};
+ghost use Rattle.mesa_shelf.specs.declared.recorded.Recorded.{Recorded as AnyRecorded};
 ghost use Rattle.mesa_opening.specs.declared.error.OpenError.TheVariants as open_error;
-ghost use Rattle.mesa_opening.specs.Checking.{Counts};
+ghost use Rattle.mesa_opening.specs.Checking.{Counts, IsOfFiles};
+ghost use Rattle.mesa_opening.specs.Damages.{IsAsRecorded, IsFirstDamage};
 ghost use Rattle.mesa_opening.specs.Misfits.{journal_refusal};
 ghost use Rattle.mesa_opening.specs.Opening.{HasReason, IsRead};
 ghost use Rattle.mesa_recover.specs.Opened.{IsOpened};
@@ -59,9 +66,24 @@ fn read_store<M: Made, D: Disk<M>>(alloc: Global, disk: &mut D) -> Result<(Catal
         Err(error) => return Err(cut_off(error)),
     };
     let catalog = read_records(alloc, journal.bodies.as_slice())?;
-    let files = catalog.recorded_files(alloc)?;
-    check_files(alloc, disk, files.as_slice())?;
+    check_catalog(alloc, disk, &catalog)?;
     Ok((catalog, journal.end))
+}
+
+// Tests each file that the catalogue names, by rising ids.
+fn check_catalog<M: Made, D: Disk<M>>(
+    alloc: Global,
+    disk: &mut D,
+    catalog: &Catalog,
+) -> Result<(), OpenError>
+    ensures good { OnOk result ((i : Image) → (D.story disk.old).told ≡ Some i → AllByRecursion (IsAsRecorded i) (map recorded_of (shelved catalog.now.catalogue))) }
+    ensures damaged { IfErr result (λ e. (d : AnyDamage) → e ≡ open_error.File d → (files : List AnyRecorded) × AreRecorded catalog.now.catalogue files × ((i : Image) → (D.story disk.old).told ≡ Some i → IsFirstDamage i files d)) }
+    ensures kind { IfErr result IsOfFiles }
+    ensures unmoved { Unmoved (D.story disk.old) (D.story disk.new) }
+    ensures counts { Counts (D.story disk.old) (D.story disk.new) result }
+{
+    let files = catalog.recorded_files(alloc)?;
+    check_files(alloc, disk, files.as_slice())
 }
 
 // Why a journal isn't read.

@@ -1,6 +1,8 @@
 // The catalogue that the bodies of a journal make.
-ghost use Rattle.std.specs.Prelude.{◌≡◌, ℕ, List, Some, OnOk, IfOk, IfErr};
+ghost use Rattle.std.specs.Prelude.{◌≡◌, ℕ, List, Some, Ok, OnOk, IfOk, IfErr};
 ghost use Rattle.mesa_journal.specs.Read.{bodies_of, placed_from};
+ghost use Rattle.mesa_record.specs.Reading.{record_at};
+ghost use Rattle.mesa_image.specs.Catalog.{applied};
 ghost use Rattle.mesa_image.specs.Fitting.{catalog as catalog_of, with_body};
 ghost use Rattle.mesa_opening.specs.Misfits.{IsMisfitAt, IsMisfitIn, IsOfRecords, misfit_at, refusal_of};
 
@@ -8,7 +10,7 @@ use mesa_catalog::Catalog;
 use mesa_disk::Seen;
 use mesa_journal::Body;
 use mesa_opening::OpenError;
-use mesa_record::{RecordError, decode};
+use mesa_record::{Record, RecordError, decode};
 use std::alloc::Global;
 
 /// The catalogue that the records make. Refuses the first body that isn't a record that fits.
@@ -34,11 +36,24 @@ fn read_record(alloc: Global, catalog: &mut Catalog, body: &Body) -> Result<(), 
         Ok(record) => record,
         Err(error) => return Err(refused(body.at, error)),
     };
-    if !catalog.fits(&record) {
+    make_ready(catalog, body, &record)?;
+    catalog.apply(record);
+    Ok(())
+}
+
+// Takes the memory that the record of a body needs, if it fits.
+fn make_ready(catalog: &mut Catalog, body: &Body, record: &Record) -> Result<(), OpenError>
+    requires { record_at body.now.bytes ≡ Ok «record».now }
+    ensures made { OnOk result (with_body catalog.old.catalogue body.now.bytes ≡ Some (applied catalog.old.catalogue «record».now)) }
+    ensures same { catalog.new.catalogue ≡ catalog.old.catalogue }
+    ensures reserved { OnOk result (catalog.new.reserved ≡ Some «record».now) }
+    ensures misfit { IfErr result (IsMisfitAt catalog.old.catalogue body.now.at body.now.bytes) }
+    ensures kind { IfErr result IsOfRecords }
+{
+    if !catalog.fits(record) {
         return Err(misfit(body.at, 0));
     }
-    catalog.reserve(&record)?;
-    catalog.apply(record);
+    catalog.reserve(record)?;
     Ok(())
 }
 

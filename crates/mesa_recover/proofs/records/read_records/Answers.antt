@@ -1,4 +1,4 @@
-use Rattle.std.proofs.Common.{◌≡◌, ◌∙◌, Some, sym, ap}
+use Rattle.std.proofs.Common.{◌∙◌, Some, sym, ap}
 use Rattle.std.proofs.lemmas.Result.{err_from_is_err_and}
 use Rattle.mesa_catalog.specs.Kept.{Reserved}
 use Rattle.mesa_opening.proofs.Firsts.{no_bodies, bodies_more, first_misfit}

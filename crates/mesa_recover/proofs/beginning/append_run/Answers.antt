@@ -1,8 +1,11 @@
-use Rattle.std.proofs.Common.{◌+◌, sym, ◌∙◌, subst}
+use Rattle.std.proofs.Common.{◌≡◌, ◌∙◌, Ok, true, ap, subst, sym}
 use Rattle.std.proofs.lemmas.Result.{err_from_is_err_and}
+use Rattle.mesa_image.specs.Catalog.{applied}
+use Rattle.mesa_image.specs.Fitting.{fits}
+use Rattle.mesa_opening.specs.Opening.{IsHeldAs}
 use Rattle.mesa_opening.specs.Strays.{AreStrays}
 use Rattle.mesa_opening.proofs.Beginnings.{begins_run, counts_err, found_unmoved, images_after}
-use Rattle.mesa_recover.proofs.beginning.begin_run.Goals as goal
+use Rattle.mesa_recover.proofs.beginning.append_run.Goals as goal
 
 pub returns-in_err-framed-clause-counts : goal.returns-in_err-framed-clause-counts
 returns-in_err-framed-clause-counts g c =
@@ -14,26 +17,33 @@ returns-in_err-end-clause-images g c bodies rows found =
     let s0 = g.D.Disk.story c.args.disk.now in
     let s1 = g.D.Disk.story c.ready_run.new.disk in
     let k = c.args.catalog.now.catalogue in
-    let begins = begins_run s0 k (c.args.last_run + 1) c.in_ok-framed.framed c.deref.result.now c.in_ok-framed.ensures.body.1 c.in_ok-framed.ensures.body.0 c.next_run_fits.ensures (subst (AreStrays s0 k) (sym c.deref.ensures.value) c.in_ok-framed.ensures.strays) in
+    let number = c.requires.run.0 in
+    let reads = c.in_ok-framed.ensures.body.0 ∙ ap (λ r. Ok r) c.requires.run.1 in
+    let begins = begins_run s0 k number c.in_ok-framed.framed c.deref.result.now c.in_ok-framed.ensures.body.1 reads (subst (λ r. fits k r ≡ true) c.requires.run.1 c.requires.fits) (subst (AreStrays s0 k) (sym c.deref.ensures.value) c.in_ok-framed.ensures.strays) in
     images_after rows k s0 s1 (g.D.Disk.story c.write_run.new.disk) c.ready_run.ensures.unmoved found.left
-    (c.write_run.ensures.images bodies k rows (c.args.last_run + 1) (found_unmoved s0 s1 bodies c.args.end k rows c.ready_run.ensures.unmoved found) begins)
+    (c.write_run.ensures.images bodies k rows number (found_unmoved s0 s1 bodies c.args.end k rows c.ready_run.ensures.unmoved found) begins)
 
 pub returns-clause-images : goal.returns-clause-images
 returns-clause-images g c bodies rows found =
     let s0 = g.D.Disk.story c.args.disk.now in
     let s1 = g.D.Disk.story c.ready_run.new.disk in
     let k = c.args.catalog.now.catalogue in
-    let begins = begins_run s0 k (c.args.last_run + 1) c.in_ok-framed.framed c.deref.result.now c.in_ok-framed.ensures.body.1 c.in_ok-framed.ensures.body.0 c.next_run_fits.ensures (subst (AreStrays s0 k) (sym c.deref.ensures.value) c.in_ok-framed.ensures.strays) in
+    let number = c.requires.run.0 in
+    let reads = c.in_ok-framed.ensures.body.0 ∙ ap (λ r. Ok r) c.requires.run.1 in
+    let begins = begins_run s0 k number c.in_ok-framed.framed c.deref.result.now c.in_ok-framed.ensures.body.1 reads (subst (λ r. fits k r ≡ true) c.requires.run.1 c.requires.fits) (subst (AreStrays s0 k) (sym c.deref.ensures.value) c.in_ok-framed.ensures.strays) in
     images_after rows k s0 s1 (g.D.Disk.story c.write_run.new.disk) c.ready_run.ensures.unmoved found.left
-    (c.write_run.ensures.images bodies k rows (c.args.last_run + 1) (found_unmoved s0 s1 bodies c.args.end k rows c.ready_run.ensures.unmoved found) begins)
+    (c.write_run.ensures.images bodies k rows number (found_unmoved s0 s1 bodies c.args.end k rows c.ready_run.ensures.unmoved found) begins)
 
 pub returns-clause-held : goal.returns-clause-held
 returns-clause-held g c bodies rows found =
     let s0 = g.D.Disk.story c.args.disk.now in
     let s1 = g.D.Disk.story c.ready_run.new.disk in
     let k = c.args.catalog.now.catalogue in
-    let begins = begins_run s0 k (c.args.last_run + 1) c.in_ok-framed.framed c.deref.result.now c.in_ok-framed.ensures.body.1 c.in_ok-framed.ensures.body.0 c.next_run_fits.ensures (subst (AreStrays s0 k) (sym c.deref.ensures.value) c.in_ok-framed.ensures.strays) in
-    c.in_ok-end.ensures.held bodies k rows (c.args.last_run + 1) (found_unmoved s0 s1 bodies c.args.end k rows c.ready_run.ensures.unmoved found) begins
+    let number = c.requires.run.0 in
+    let reads = c.in_ok-framed.ensures.body.0 ∙ ap (λ r. Ok r) c.requires.run.1 in
+    let begins = begins_run s0 k number c.in_ok-framed.framed c.deref.result.now c.in_ok-framed.ensures.body.1 reads (subst (λ r. fits k r ≡ true) c.requires.run.1 c.requires.fits) (subst (AreStrays s0 k) (sym c.deref.ensures.value) c.in_ok-framed.ensures.strays) in
+    subst (λ r. IsHeldAs (g.D.Disk.story c.write_run.new.disk) c.in_ok-end.end (applied k r) rows) (sym c.requires.run.1)
+    (c.in_ok-end.ensures.held bodies k rows number (found_unmoved s0 s1 bodies c.args.end k rows c.ready_run.ensures.unmoved found) begins)
 
 pub returns-clause-named : goal.returns-clause-named
 returns-clause-named g c =
