@@ -1,12 +1,14 @@
 // What a swap takes of memory.
-ghost use Rattle.std.specs.Prelude.{◌≡◌, ◌+◌, ◌<◌, ◌≤◌, ◌^◌, ℕ, Some, Ok, IfOk, OnErr, length};
+ghost use Rattle.std.specs.Prelude.{◌≡◌, ◌+◌, ◌<◌, ◌≤◌, ◌^◌, ℕ, Some, Ok, IfOk, IsTrue, OnErr, length};
 ghost use Rattle.mesa_image.specs.Catalog.{ranges_of};
+ghost use Rattle.mesa_image.specs.Fitting.{fits};
 ghost use Rattle.mesa_image.specs.Shape.{IsCatalog};
 ghost use Rattle.mesa_ledger.specs.mesa_image_laws.Ids.{dropped_ids, named};
 ghost use Rattle.mesa_key.specs.Spelling.{AreBytes};
 ghost use Rattle.mesa_ledger.specs.Ledger.{most_files, next_id};
 ghost use Rattle.mesa_ledger.specs.Recorded.{removed_by};
 ghost use Rattle.mesa_record.specs.Reading.{record_at};
+ghost use Rattle.mesa_record.specs.Rules.{keeps_rules};
 ghost use Rattle.mesa_schema.specs.Changes.{Lineage};
 ghost use Rattle.mesa_span.specs.Ranges.{base_before};
 ghost use Rattle.mesa_span.specs.Work.{next_work};
@@ -19,6 +21,7 @@ use mesa_file::FileId;
 use mesa_journal::Framed;
 use mesa_metadata::Metadata;
 use mesa_opening::frame;
+use mesa_record::Record;
 use mesa_swapping::{Swapped, swap};
 use mesa_tasks::{NewDelta, Task};
 use std::alloc::{AllocError, Global};
@@ -55,14 +58,34 @@ pub(crate) fn prepare<M: Made, R: FileReader>(
     ensures err { OnErr result (metadata.new ≡ metadata.old) }
 {
     let swapped = swap(alloc, metadata, task, delta)?;
-    let gone = metadata.catalog().dropped(&swapped.entry, alloc)?;
-    let framed = frame(alloc, &swapped.entry)?;
-    let removed = metadata.removable(at, &gone)?;
-    metadata.reserve(&swapped.entry, gone.len())?;
+    let (gone, framed, removed) = make_room(alloc, metadata, at, &swapped.entry)?;
     Ok(Ready {
         swapped,
         gone,
         framed,
         removed,
     })
+}
+
+// Takes all memory that a record takes in the turn at a position: what it lets go, its frame, and what the turn removes.
+fn make_room(
+    alloc: Global,
+    metadata: &mut Metadata,
+    at: u64,
+    entry: &Record,
+) -> Result<(Vec<FileId>, Framed, Vec<FileId>), AllocError>
+    requires rules { IsTrue (keeps_rules entry.now) }
+    requires fits { IsTrue (fits metadata.old.ledger.catalogue entry.now) }
+    ensures gone { IfOk result (λ x. x.0.items ≡ dropped_ids metadata.old.ledger.catalogue entry.now) }
+    ensures reads { IfOk result (λ x. record_at x.1 ≡ Ok entry.now) }
+    ensures bytes { IfOk result (λ x. AreBytes x.1) }
+    ensures removes { IfOk result (λ x. x.2.items ≡ removed_by metadata.old.ledger at (dropped_ids metadata.old.ledger.catalogue entry.now)) }
+    ensures reserved { IfOk result (λ x. metadata.new ≡ record metadata.old { reserved = Some (record { entry = entry.now; dropped = length x.0.items }) }) }
+    ensures err { OnErr result (metadata.new ≡ metadata.old) }
+{
+    let gone = metadata.catalog().dropped(entry, alloc)?;
+    let framed = frame(alloc, entry)?;
+    let removed = metadata.removable(at, &gone)?;
+    metadata.reserve(entry, gone.len())?;
+    Ok((gone, framed, removed))
 }
