@@ -1,14 +1,18 @@
 // Answering queries.
 ghost use Rattle.std.specs.Prelude.{◌≡◌, None, Ok, Err, IfOk, IfErr, IsTrue, MatchResult};
 ghost use Rattle.std.specs.List.{AllByRecursion};
+ghost use Rattle.mesa_list.specs.Checks.{refused_as};
 ghost use Rattle.mesa_key.specs.Spelling.{is_spelling};
 ghost use Rattle.mesa_schema.specs.declared.rows.Row.{Row as AnyRow};
+ghost use Rattle.mesa_schema.specs.Changes.{epoch_of};
 ghost use Rattle.mesa_schema.specs.Rows.{AreRowsOf};
 ghost use Rattle.mesa_answer.specs.Answering.{grouped_columns};
-ghost use Rattle.mesa_filter.specs.Query.{IsQueryOf, group_kinds};
+ghost use Rattle.mesa_filter.specs.Query.{IsQueryOf, group_kinds, query_of};
 ghost use Rattle.mesa_model.specs.Page.{page_of};
 ghost use Rattle.mesa_model.specs.Query.{answer_rows, query_answer, store_asked as tables_asked, version_seen as version_of};
+ghost use Rattle.mesa_model.specs.Refusals.{query_refusal};
 ghost use Rattle.mesa_model.specs.Relations.{relation_columns, relation_content};
+ghost use Rattle.mesa_asked.specs.Built.{IsBuiltOf};
 ghost use Rattle.mesa_plain.specs.Found.{IsThere, relation_seen};
 ghost use Rattle.mesa_plain.specs.Plain.{answer_as, answer_of};
 ghost use Rattle.mesa_asked.specs.Told.{IsDue};
@@ -55,10 +59,7 @@ impl PlainWarehouse {
         let schema = schema_at(self.alloc, store, place)?;
         check_query(self.alloc, &schema, words)?;
         let version = self.version_seen(store, words.version)?;
-        let epoch = store.evolving(place.table).epoch();
-        let query = build_query(self.alloc, &schema, version, epoch, words)?;
-        let page = page(self.alloc, store, place, &schema, &query)?;
-        Ok((page, query))
+        answer_at(self.alloc, store, place, &schema, version, words)
     }
 
     // The tables that a query sees: those of the pin that it names, or the present ones.
@@ -96,6 +97,28 @@ fn schema_at(alloc: Global, store: &PlainStore, place: Place) -> Result<Schema, 
         Some(view) => evolving.view_schema(view),
         None => evolving.present().copy(),
     }
+}
+
+// The page that is asked of a relation of these columns at a version, and its query.
+fn answer_at(
+    alloc: Global,
+    store: &PlainStore,
+    place: Place,
+    schema: &Schema,
+    version: u32,
+    words: &QueryWords,
+) -> Result<(Page, Query), Failure>
+    requires there { IsThere store.now.store place }
+    requires columns { schema.now ≡ relation_columns (relation_seen store.now.store place) }
+    ensures built { IfOk result (λ found. IsBuiltOf schema.now version (epoch_of (relation_seen store.now.store place).table.lineage) words.now found.1) }
+    ensures page { IfOk result (λ found. found.0 ≡ page_of found.1.version found.1.limit found.1.resume (answer_rows schema.now found.1.asked (relation_content store.now.store (relation_seen store.now.store place) found.1.version))) }
+    ensures spelled { IfOk result (λ found. AllByRecursion (λ (row : AnyRow). IsTrue (is_spelling (group_kinds found.1) row.key)) found.0.rows) }
+    ensures refused { IfErr result (IsDue (refused_as query_refusal (query_of schema.now words.now.relation version (epoch_of (relation_seen store.now.store place).table.lineage) words.now))) }
+{
+    let epoch = store.evolving(place.table).epoch();
+    let query = build_query(alloc, schema, version, epoch, words)?;
+    let page = page(alloc, store, place, schema, &query)?;
+    Ok((page, query))
 }
 
 // The page that a query asks for.
