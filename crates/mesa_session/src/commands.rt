@@ -12,7 +12,7 @@ use crate::gate::{Gate, Point};
 use crate::outside::{answered, merged};
 use crate::preparing::{ids_of, prepared_first};
 use crate::turns::{
-    close_turn, complete_turn, grant_turn, look_turn, pin_turn, publish_turn, renew_turn,
+    close_turn, complete_turn, grant_turn, let_go, look_turn, pin_turn, publish_turn, renew_turn,
     simple_turn,
 };
 use mesa_batch::LoadRows;
@@ -111,7 +111,10 @@ fn query<'s, N: Naming + Send, M: Made, D: Disk<M>, K: Sink + Send, R: Wait>(
             let answer = answered(alloc, &mut pinned);
             close_turn(rt, lock, pass, who, pinned, answer)
         }
-        Err(_) => (pass, ran),
+        Err(reply) => {
+            let_go(reply);
+            (pass, ran)
+        }
     }
 }
 
@@ -139,7 +142,10 @@ fn work<'s, N: Naming + Send, M: Made, D: Disk<M>, K: Sink + Send, R: Wait, B: B
     let (pass, ran, run, task) = grant_turn(rt, lock, pass, who);
     let mut task = match task {
         Ok(task) => task,
-        Err(_) => return (pass, ran),
+        Err(reply) => {
+            let_go(reply);
+            return (pass, ran);
+        }
     };
     let mut serials = ids_of(ids.take(), run, who.session);
     let delta = merged(alloc, bench, &mut serials, &mut task);
@@ -151,7 +157,10 @@ fn work<'s, N: Naming + Send, M: Made, D: Disk<M>, K: Sink + Send, R: Wait, B: B
     let (pass, ran, renewed) = renew_turn(rt, lock, pass, who, task);
     match renewed {
         Ok(task) => complete_turn(rt, lock, pass, who, task, delta),
-        Err(_) => (pass, ran),
+        Err(reply) => {
+            let_go(reply);
+            (pass, ran)
+        }
     }
 }
 

@@ -62,6 +62,9 @@ pub fn look_turn<'s, N: Naming + Send, M: Made, D: Disk<M>, K: Sink + Send, R: W
     (lock.leave(held), ran, run, glance)
 }
 
+// Lets a reply go: it was printed in its turn.
+pub(crate) fn let_go(_reply: Reply) {}
+
 /// The one turn of a command that is no load, no query and no work.
 pub fn simple_turn<'s, N: Naming + Send, M: Made, D: Disk<M>, K: Sink + Send, R: Wait>(
     rt: &R,
@@ -81,7 +84,8 @@ pub fn simple_turn<'s, N: Naming + Send, M: Made, D: Disk<M>, K: Sink + Send, R:
     let mut held = lock.enter(rt, pass);
     let vault = held.value();
     let ran = vault.running();
-    let _reply = vault.simple(who);
+    let reply = vault.simple(who);
+    let_go(reply);
     (lock.leave(held), ran)
 }
 
@@ -120,7 +124,8 @@ pub fn publish_turn<
     let vault = held.value();
     let ran = vault.running();
     let made = prepared_now(rt, alloc, vault, bench, ids, generation, made, rows);
-    let _reply = vault.publish(who, made);
+    let reply = vault.publish(who, made);
+    let_go(reply);
     (lock.leave(held), ran)
 }
 
@@ -254,6 +259,7 @@ pub fn complete_turn<'s, N: Naming + Send, M: Made, D: Disk<M>, K: Sink + Send, 
     let mut held = lock.enter(rt, pass);
     let vault = held.value();
     let ran = vault.running();
-    let _reply = vault.complete(who, task, merged);
+    let reply = vault.complete(who, task, merged);
+    let_go(reply);
     (lock.leave(held), ran)
 }

@@ -63,7 +63,7 @@ leave-requires-clause-one g c κs within =
     } in
     one e c.args.who.command kind.Close c.complete-reply.new.self.shown _ refl c.complete-reply.ensures.turn.turn c.complete-reply.ensures.turn.seen
 
-whole : (g : _) (c : goal.Joined-reply g) → Step g.N.Naming.script (g.N.Naming.start no_rows) c.args.pass c.leave.result c.value-vault.result.now.shown c.complete-reply.new.self.shown c.args.who.session c.args.who.command kind.Close
+whole : (g : _) (c : goal.After-leave g) → Step g.N.Naming.script (g.N.Naming.start no_rows) c.args.pass c.leave.result c.value-vault.result.now.shown c.complete-reply.new.self.shown c.args.who.session c.args.who.command kind.Close
 whole g c =
     let e : Enters g.N.Naming.script (g.N.Naming.start no_rows) c.args.pass c.args.who.session _ _ c.value-vault.result.now.shown = record {
       few = c.requires.few;
