@@ -1,0 +1,9 @@
+pub mod Lists
+pub mod Walked
+pub mod Held
+pub mod Sums
+pub mod Rows
+pub mod Recorded
+pub mod Told
+pub mod Merged
+pub mod Founded

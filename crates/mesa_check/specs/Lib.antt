@@ -1,0 +1,4 @@
+pub mod Held
+pub mod Counted
+pub mod Tested
+pub mod Shown

@@ -1,0 +1,77 @@
+// A store checked.
+ghost use Rattle.std.specs.Prelude.{◌≡◌, ℕ, IfOk, None, Some};
+ghost use Rattle.std.specs.List.{AllByRecursion};
+ghost use Rattle.mesa_disk.specs.Image.{Image};
+ghost use Rattle.mesa_disk.specs.Story.{Unmoved};
+ghost use Rattle.mesa_image_laws.specs.mesa_image.Fitting.{shelved};
+ghost use Rattle.mesa_image_laws.specs.mesa_image.Shape.{IsCatalog};
+ghost use Rattle.mesa_recover.specs.Opened.{IsOpened};
+ghost use Rattle.mesa_tasks.specs.Opening.{Counted};
+ghost use Rattle.mesa_examine.specs.Examined.{is_read_failure};
+ghost use Rattle.mesa_verdict.specs.Found.{AreFound, Found};
+ghost use Rattle.mesa_verdict.specs.Faults.{first_fault};
+ghost use Rattle.mesa_verdict.specs.Verdict.{IsFirstFault, fault_told};
+ghost use Rattle.mesa_shelf.specs.Meaning.{stock_of};
+ghost use Rattle.mesa_check.specs.Shown.{shown_fault};
+ghost use Rattle.mesa_check.specs.Tested.{HasRows};
+
+use crate::faults::{Shown, table_fault};
+use mesa_catalog::Catalog;
+use mesa_disk::{Disk, Made};
+use mesa_examine::CheckError;
+use mesa_image_laws::{catalogs_are_shaped, catalogs_own_ids};
+use mesa_list::TryCopy;
+use mesa_recover::Opened;
+use mesa_shelf::Table;
+use mesa_verdict::{Verdict, sound_where_no_fault};
+use std::alloc::{AllocError, Global};
+
+/// Whether a store that was read is sound, and else its first fault. Each file that the catalogue names is read once, and those that are compared once more; a block of each file that is open is held, and of a view's file the groups of its table's rows. Nothing is written.
+pub fn check<M: Made, D: Disk<M>>(
+    alloc: Global,
+    opened: &mut Opened<D>,
+) -> Result<Verdict, CheckError>
+    requires { IsOpened (D.story opened.old.disk) opened.old }
+    ensures verdict { IfOk result (λ v. IsFirstFault (D.story opened.old.disk) opened.old.catalog.catalogue (fault_told v)) }
+    ensures unmoved { Unmoved (D.story opened.old.disk) (D.story opened.new.disk) }
+    ensures counted { Counted (D.story opened.old.disk) (D.story opened.new.disk) (is_read_failure result) }
+{
+    catalogs_are_shaped();
+    catalogs_own_ids();
+    sound_where_no_fault();
+    check_tables(alloc, &mut opened.disk, &opened.catalog)
+}
+
+// Table by table, up to the first that has a fault.
+fn check_tables<M: Made, D: Disk<M>>(
+    alloc: Global,
+    disk: &mut D,
+    catalog: &Catalog,
+) -> Result<Verdict, CheckError>
+    requires { IsCatalog catalog.now.catalogue }
+    ensures first { IfOk result (λ v. (i : Image) (found : Found) → (D.story disk.old).told ≡ Some i → AreFound i found (shelved catalog.now.catalogue) → first_fault found catalog.now.catalogue ≡ fault_told v) }
+    ensures there { IfOk result (λ v. fault_told v ≡ None → (i : Image) → (D.story disk.old).told ≡ Some i → AllByRecursion (HasRows i) (shelved catalog.now.catalogue)) }
+    ensures unmoved { Unmoved (D.story disk.old) (D.story disk.new) }
+    ensures counted { Counted (D.story disk.old) (D.story disk.new) (is_read_failure result) }
+{
+    'stocks: for number in 0..catalog.tables() {
+        let table = catalog.table(number);
+        if let Some(shown) = table_fault(alloc, disk, table)? {
+            return Ok(unsound(table, shown)?);
+        }
+    }
+    Ok(Verdict::Sound)
+}
+
+// What is told of a table's fault.
+fn unsound(table: &Table, shown: Shown) -> Result<Verdict, AllocError>
+    ensures { IfOk result (λ v. (next : ℕ) → fault_told v ≡ Some (shown_fault (stock_of next table.now) shown)) }
+{
+    let name = table.name.copy()?;
+    Ok(Verdict::Unsound {
+        table: name,
+        from: shown.from,
+        to: shown.to,
+        key: shown.key,
+    })
+}
