@@ -1,14 +1,19 @@
 // Tables that are made.
-ghost use Rattle.std.specs.Prelude.{◌≡◌, Ok, IfOk, IfErr, OnErr};
+ghost use Rattle.std.specs.Prelude.{◌≡◌, ◌<◌, Ok, IfOk, IfErr, OnOk, OnErr, length};
+ghost use Rattle.mesa_model.specs.declared.replies.Reply.TheVariants as reply_of;
 ghost use Rattle.mesa_model.specs.Step.{done_or_refused};
 ghost use Rattle.mesa_model.specs.Tables.{make_table as table_made};
+ghost use Rattle.mesa_model.specs.Warehouse.{max_tables};
 ghost use Rattle.mesa_asked.specs.Told.{IsDue};
+ghost use Rattle.mesa_plain.specs.Kept.{with_table_more};
 
+use crate::store::PlainStore;
 use crate::warehouse::PlainWarehouse;
 use mesa_asked::{Failure, read_name, schema_asked};
 use mesa_list::TryCopy;
 use mesa_model::{Refusal, Reply, TableWords};
-use std::alloc::AllocError;
+use mesa_schema::{Name, Schema};
+use std::alloc::{AllocError, Global};
 
 /// How many tables there may be.
 pub const MAX_TABLES: usize = 32;
@@ -42,8 +47,23 @@ impl PlainWarehouse {
             let limit = MAX_TABLES as u32;
             return Err(Failure::Refused(Refusal::TablesFull { limit }));
         }
-        let made = name.copy()?;
-        self.store.add_table(self.alloc, name, schema)?;
-        Ok(Reply::Table { name: made })
+        Ok(add_table(self.alloc, &mut self.store, name, schema)?)
     }
+}
+
+// Adds a table without rows, and tells its name.
+fn add_table(
+    alloc: Global,
+    store: &mut PlainStore,
+    name: Name,
+    schema: Schema,
+) -> Result<Reply, AllocError>
+    requires few { length store.old.store.tables < max_tables }
+    ensures added { OnOk result (store.new ≡ with_table_more store.old name schema) }
+    ensures told { IfOk result (λ reply. reply ≡ reply_of.Table name) }
+    ensures kept { OnErr result (store.new ≡ store.old) }
+{
+    let made = name.copy()?;
+    store.add_table(alloc, name, schema)?;
+    Ok(Reply::Table { name: made })
 }

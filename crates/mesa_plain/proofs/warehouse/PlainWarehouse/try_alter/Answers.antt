@@ -8,7 +8,7 @@ use Rattle.mesa_model.specs.Warehouse.{Warehouse, table_at}
 use Rattle.mesa_asked.specs.declared.failure.Failure.{Failure}
 use Rattle.mesa_asked.specs.Asked.{change_allowed}
 use Rattle.mesa_plain.specs.Pinned.{pin_seen, warehouse_of}
-use Rattle.mesa_asked.specs.Told.{IsDue, change_failure}
+use Rattle.mesa_asked.specs.Told.{IsDue}
 use Rattle.mesa_asked.proofs.Alterings.{alter_done, alter_refused, change_due}
 use Rattle.mesa_plain.proofs.Namings.{table_named}
 use Rattle.mesa_plain.proofs.warehouse.PlainWarehouse.try_alter.Goals as goal
@@ -24,20 +24,20 @@ returns-in_err-change-clause-refused c =
     let due = subst (λ (l : Lineage). IsDue (change_allowed l words.change) failure) c.evolving-evolving.ensures c.in_err-change.ensures.refused in
     rw (p.1, p.2) (subst (λ (v : Warehouse). IsDue (alter_table v words) failure) c.self.view_is (alter_refused (warehouse_of w.store w.given (map pin_seen w.pins.items)) refl words number failure found due))
 
-pub returns-in-Err-clause-refused : goal.returns-in-Err-clause-refused
-returns-in-Err-clause-refused c =
+pub returns-in_err-change_table-clause-refused : goal.returns-in_err-change_table-clause-refused
+returns-in_err-change_table-clause-refused c =
+    let p = err_from_is_err_and c.from_residual-in_err-change_table.result c.from_residual-in_err-change_table.ensures.1 in
     let w = c.self.inside in
     let words = c.args.words.now in
     let number = c.in-Some.number in
     let change = c.in_ok-change.change in
-    let error = c.in-Err.error in
+    let failure = c.in_err-change_table.field-0.0 in
     let l = (table_at w.store.store number).lineage in
     let found : table_number w.store.store words.table ≡ Some number = ap (table_number w.store.store) (sym c.as_slice.ensures) ∙ sym c.number.ensures.number ∙ c.in-Some.is in
     let asked : change_asked (columns_of l) words.change ≡ Ok change = ap (λ (e : Lineage). change_asked (columns_of e) words.change) (sym c.evolving-evolving.ensures) ∙ c.in_ok-change.ensures.asked in
-    let column = c.in_ok-column.ensures ∙ c.changed_name.ensures in
-    let failure = c.change_failure.ensures ∙ ap (λ n. change_failure n error) column in
-    let due = subst (λ (f : Failure). IsDue (change_allowed l words.change) f) (sym failure) (change_due l words.change change error asked c.in-Err.ensures.refused) in
-    subst (λ (v : Warehouse). IsDue (alter_table v words) c.change_failure.result) c.self.view_is (alter_refused (warehouse_of w.store w.given (map pin_seen w.pins.items)) refl words number c.change_failure.result found due)
+    let why = c.in_err-change_table.ensures.refused in
+    let due = subst (λ (f : Failure). IsDue (change_allowed l words.change) f) (sym why.1) (change_due l words.change change why.0 asked why.2) in
+    rw (p.1, p.2) (subst (λ (v : Warehouse). IsDue (alter_table v words) failure) c.self.view_is (alter_refused (warehouse_of w.store w.given (map pin_seen w.pins.items)) refl words number failure found due))
 
 pub returns-clause-done : goal.returns-clause-done
 returns-clause-done c =
@@ -51,6 +51,6 @@ returns-clause-done c =
     let asked : change_asked (columns_of l) words.change ≡ Ok change = ap (λ (e : Lineage). change_asked (columns_of e) words.change) (sym c.evolving-evolving.ensures) ∙ c.in_ok-change.ensures.asked in
     let table = c.in_ok-table.ensures ∙ c.name.ensures ∙ table_named w.store.store words.table number found in
     let epoch : c.epoch-epoch.result + 1 ≡ epoch_of l + 1 = ap (λ e. e + 1) (c.epoch-epoch.ensures.count ∙ ap epoch_of c.evolving-evolving.ensures) in
-    let made = c.in_default-change.ensures.changed in
-    sym (ap (λ (v : Warehouse). alter_table v words) c.self.view_is) ∙ alter_done (warehouse_of w.store w.given pins) refl words number change found asked c.in_default-change.ensures.allowed
+    let made = c.in_ok-change_table.ensures.changed in
+    sym (ap (λ (v : Warehouse). alter_table v words) c.self.view_is) ∙ alter_done (warehouse_of w.store w.given pins) refl words number change found asked c.in_ok-change_table.ensures.allowed
     ∙ (λ j. Ok (warehouse_of (sym made j) w.given pins, reply.Altered (sym table j) (sym epoch j)))

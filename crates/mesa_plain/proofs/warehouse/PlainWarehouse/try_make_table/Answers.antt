@@ -70,4 +70,4 @@ returns-clause-done c =
     let name = c.in_ok-name.ensures.read ∙ c.as_slice-asked.ensures in
     let made = c.in_ok-add_table.ensures.added ∙ (λ j. with_table_more w.store (name j) (c.in_ok-schema.ensures.asked j)) in
     sym (ap (λ (v : Warehouse). make_table v words) c.self.view_is) ∙ table_done (warehouse_of w.store w.given pins) refl words named taken c.in_ok-schema.ensures.checked room
-    ∙ (λ j. Ok (warehouse_of (sym made j) w.given pins, reply.Table (sym (c.in_ok-made.ensures ∙ name) j)))
+    ∙ (λ j. Ok (warehouse_of (sym made j) w.given pins, sym (c.in_ok-add_table.ensures.told ∙ ap reply.Table name) j))
