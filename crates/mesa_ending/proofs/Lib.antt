@@ -9,6 +9,7 @@ pub mod Undamaged
 pub mod Readable
 pub mod Quiet
 pub mod Completing
+pub mod Checked
 pub mod Telling
 pub mod Named
 pub mod Alone

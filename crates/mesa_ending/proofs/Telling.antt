@@ -13,13 +13,15 @@ use Rattle.mesa_skeleton.specs.Rows.{no_rows}
 use Rattle.mesa_image.specs.Catalog.{Catalog}
 use Rattle.mesa_opening.specs.declared.error.OpenError.{OpenError}
 use Rattle.mesa_opening.specs.declared.error.OpenError.TheVariants as open_error
+use Rattle.mesa_verdict.specs.Faults.{Fault}
 use Rattle.mesa_ending.specs.Ports.{Ports}
 use Rattle.mesa_ending.specs.Exits.{max_input, memory_line, memory_status, open_status, usage_line, usage_status}
 use Rattle.mesa_ending.specs.Start.{start_of}
-use Rattle.mesa_ending.specs.Ending.{EndedBefore, EndedOpening, Ends, EndsForm, EndsGenerated, EndsInput, EndsRun, EndsScript, EndsText, HasRun, HasShown, IsWhole, Prints}
-use Rattle.mesa_ending.specs.Statuses.{IsNoScript, IsUnopened, IsUnserved, Tells, WasAsked, WasGenerated, WasRun}
+use Rattle.mesa_ending.specs.Ending.{EndedBefore, EndedOpening, Ends, EndsCheck, EndsForm, EndsGenerated, EndsInput, EndsRun, EndsScript, EndsText, HasRun, HasShown, HasVerdict, IsWhole, Prints}
+use Rattle.mesa_ending.specs.Statuses.{IsNoScript, IsUnopened, Tells, WasAsked, WasChecked, WasGenerated, WasRun}
 use Rattle.mesa_ending.specs.declared.done.Devices.{Devices}
 use Rattle.mesa_ending.specs.declared.done.Done.{Done}
+use Rattle.mesa_ending.proofs.Checked.{low_verdict, sound_exactly}
 
 -- what holds of the bytes that are known holds of the input
 known_as : (P : List ℕ → Type 0) (input : Option (List ℕ)) (bytes : List ℕ) → IfSome input (λ all. all ≡ bytes) → P bytes → IfSome input P
@@ -55,7 +57,7 @@ module _ {K D M B : Type 0} (ports : Ports K D M B) (given : Devices K D B) (don
   record Would (n : ℕ) : Type 0 where
     two : 2 ≤ n
     five : n ≢ 5
-    usage : n ≡ 2 → IsUnserved asked
+    usage : n ≡ 2 → asked ≡ None
     refused : n ≡ 3 → IfSome input IsNoScript
     source : n ≡ 4 → Rose before now
     quiet : n ≢ 4 → now ≡ before
@@ -145,12 +147,12 @@ module _ {K D M B : Type 0} (ports : Ports K D M B) (given : Devices K D B) (don
     uncalled = λ e. absurd (low_early done.status low e);
   }
 
-  -- words that aren't served
-  usage_tells : now ≡ before → IsUnserved asked → EndedBefore ports given done usage_status usage_line → Told
-  usage_tells quiet unserved p = line_tells 2 _ (record {
+  -- words that have no form
+  usage_tells : now ≡ before → asked ≡ None → EndedBefore ports given done usage_status usage_line → Told
+  usage_tells quiet formless p = line_tells 2 _ (record {
     two = omega arith;
     five = λ e. omega (arith, e);
-    usage = λ e. unserved;
+    usage = λ e. formless;
     refused = λ e. absurd (omega (arith, e));
     source = λ e. absurd (omega (arith, e));
     quiet = λ other. quiet;
@@ -159,6 +161,29 @@ module _ {K D M B : Type 0} (ports : Ports K D M B) (given : Devices K D B) (don
     full = λ e. absurd (omega (arith, e));
     uncalled = λ e. p.0;
   }) p.1.2
+
+  -- the verdict on a store
+  module _ (meant : WasChecked ports given done → WasAsked ports given done asked input) where
+    verdict_tells : now ≡ before → (c : Catalog) (fault : Option Fault) → HasVerdict ports given done c fault → Told
+    verdict_tells quiet c fault v = elim v.ended.2 [
+      | inl q ↦
+          let low = low_verdict fault in
+          ended_tells quiet (omega (arith, low, q.0)) (meant (record {
+            catalogue = c;
+            fault = fault;
+            reads = v.reads;
+            first = v.first;
+            status = q.0;
+            sound = sound_exactly (ports.story given.disk) c fault done.status q.0 v.reads v.first;
+          })) q.1
+      | inr q ↦ failed_tells (λ four other. quiet) q.0 q.1
+    ]
+
+    check_tells : now ≡ before → EndsCheck ports given done → Told
+    check_tells quiet ends = elim ends [
+      | inl p ↦ line_tells (open_status p.0) _ (unopened quiet p.0 p.2.0) p.2.2.2
+      | inr p ↦ verdict_tells quiet p.0 p.1 p.2
+    ]
 
   -- the script of a seed
   module _ (seed versions : ℕ) (meant : WasGenerated ports given done seed versions → WasAsked ports given done asked input) where
@@ -252,9 +277,9 @@ module _ {K D M B : Type 0} (ports : Ports K D M B) (given : Devices K D B) (don
 
 module _ {K D M B : Type 0} (ports : Ports K D M B) (given : Devices K D B) (done : Done K D B) (input : Option (List ℕ)) (before now : ℕ) where
   form_tells : (asked : Option Form) → EndsForm ports given done asked input before now → Tells ports given done asked input before now
-  form_tells None p = usage_tells ports given done None input before now p.0 tt p.1
+  form_tells None p = usage_tells ports given done None input before now p.0 refl p.1
   form_tells (Some form.Run) p = source_tells ports given done (Some form.Run) input before now (λ was. was) p
-  form_tells (Some form.Check) p = usage_tells ports given done (Some form.Check) input before now p.0 tt p.1
+  form_tells (Some form.Check) p = check_tells ports given done (Some form.Check) input before now (λ was. was) p.0 p.1
   form_tells (Some (form.Gen seed versions)) p = generated_tells ports given done (Some (form.Gen seed versions)) input before now seed versions (λ was. was) p.0 p.1
 
   pub all_tells : (asked : Option Form) → Ends ports given done asked input before now → Tells ports given done asked input before now

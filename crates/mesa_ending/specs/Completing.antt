@@ -2,6 +2,10 @@
 use Rattle.std.specs.Prelude.{◌≡◌, ◌⊎◌, ℕ, ◌≤◌, ◌<◌, List, length, None, Some, Ok, Option, Bool, true, false, slice_get}
 use Rattle.std.specs.List.{AllByRecursion}
 use Rattle.mesa_fault.specs.Causes.{Rose, last}
+use Rattle.mesa_disk.specs.Image.{Image}
+use Rattle.mesa_disk.specs.Story.{Story}
+use Rattle.mesa_disk.specs.mesa_file.declared.damage.Damage.{Damage}
+use Rattle.mesa_disk.specs.mesa_file.declared.damage.Seen.{Seen}
 use Rattle.mesa_model.specs.declared.commands.Script.{Script}
 use Rattle.mesa_model.specs.declared.entries.Entry.{Entry}
 use Rattle.mesa_model.specs.declared.entries.Outcome.{Outcome}
@@ -12,6 +16,7 @@ use Rattle.mesa_words.specs.declared.forms.Form.{Form}
 use Rattle.mesa_words.specs.declared.forms.Form.TheVariants as form
 use Rattle.mesa_skeleton.specs.Rows.{Rows}
 use Rattle.mesa_image.specs.Catalog.{Catalog}
+use Rattle.mesa_opening.specs.Damages.{HasDamagedFile, HasMisfit, IsCutOff}
 use Rattle.mesa_opening.specs.Opening.{most_runs}
 use Rattle.mesa_ending.specs.Ports.{Ports}
 use Rattle.mesa_ending.specs.Exits.{max_input, memory_status, refused_status}
@@ -68,3 +73,21 @@ pub record NothingFailed {K D M B : Type 0} (ports : Ports K D M B) (given : Dev
 -- The status is that of want of memory; or the script was run, and every entry stands or lacked memory.
 abbrev pub Completes : {K D B : Type 0} → Done K D B → Type 0
 Completes done = (done.status ≡ memory_status) ⊎ ((done.status ≤ refused_status) × AllQuiet done.history.items)
+
+-- What a read of the store gives is told, and it isn't damaged: its journal isn't cut off, every record in it fits, and no file is damaged.
+pub record IsUndamaged (story : Story) : Type 0 where
+  pub image : Image
+  pub told : story.told ≡ Some image
+  pub whole : (at : ℕ) (want found : Seen) → IsCutOff image.zero at want found → ⊥
+  pub fitting : (at : ℕ) (want found : Seen) → HasMisfit image.zero at want found → ⊥
+  pub files : (d : Damage) → HasDamagedFile image d → ⊥
+
+-- No count of the sink or the disk rose.
+pub record NoneRose {K D M B : Type 0} (ports : Ports K D M B) (given : Devices K D B) (done : Done K D B) : Type 0 where
+  pub sink : Rose (ports.sink_faults given.out) (ports.sink_faults done.out) → ⊥
+  pub disk : Rose (ports.story given.disk).faults (ports.story done.disk).faults → ⊥
+  pub reads : Rose (ports.story given.disk).read_faults (ports.story done.disk).read_faults → ⊥
+
+-- The status is that of a verdict, or of want of memory.
+abbrev pub Decides : {K D B : Type 0} → Done K D B → Type 0
+Decides done = (done.status ≤ refused_status) ⊎ (done.status ≡ memory_status)

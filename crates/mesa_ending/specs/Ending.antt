@@ -1,7 +1,8 @@
 -- How a call of the program may end over a store.
-use Rattle.std.specs.Prelude.{◌≡◌, ◌⊎◌, ◌<◌, ◌≤◌, ℕ, Bool, true, false, List, [], ◌++◌, length, take, Option, None, Some, IfSome, Ok, Err}
+use Rattle.std.specs.Prelude.{◌≡◌, ◌≢◌, ◌⊎◌, ◌<◌, ◌≤◌, ℕ, Bool, true, false, List, [], ◌++◌, length, take, Option, None, Some, IfSome, Ok, Err}
 use Rattle.std.specs.Io.KnownBytes.{Appends}
 use Rattle.mesa_fault.specs.Causes.{Rose, last}
+use Rattle.mesa_disk.specs.Story.{Unmoved}
 use Rattle.mesa_model.specs.declared.commands.Script.{Script}
 use Rattle.mesa_script.specs.declared.script.ScriptError.{ScriptError}
 use Rattle.mesa_history.specs.Run.{begins}
@@ -13,9 +14,12 @@ use Rattle.mesa_excerpt.specs.Excerpt.{IsExcerpt, before_last_three}
 use Rattle.mesa_skeleton.specs.Rows.{Rows}
 use Rattle.mesa_image.specs.Catalog.{Catalog}
 use Rattle.mesa_opening.specs.declared.error.OpenError.{OpenError}
-use Rattle.mesa_opening.specs.Opening.{HasReason, Keeps}
+use Rattle.mesa_opening.specs.declared.error.OpenError.TheVariants as open_error
+use Rattle.mesa_opening.specs.Opening.{HasReason, Keeps, ReadsAs}
+use Rattle.mesa_verdict.specs.Faults.{Fault}
+use Rattle.mesa_verdict.specs.Verdict.{IsFirstFault}
 use Rattle.mesa_ending.specs.Ports.{Ports, in_memory}
-use Rattle.mesa_ending.specs.Exits.{gen_line, max_input, status_of, sink_status, usage_status, usage_line, source_status, source_line, length_status, length_line, script_status, script_line, open_status, open_line, memory_status, memory_line}
+use Rattle.mesa_ending.specs.Exits.{gen_line, max_input, status_of, sink_status, usage_status, usage_line, source_status, source_line, length_status, length_line, script_status, script_line, open_status, open_line, verdict_status, verdict_line, memory_status, memory_line}
 use Rattle.mesa_ending.specs.Start.{AreTold, IsSoundStore, start_of}
 use Rattle.mesa_ending.specs.Run.{Ran}
 use Rattle.mesa_ending.specs.declared.done.Devices.{Devices}
@@ -115,13 +119,34 @@ module _ {K D M B : Type 0} (ports : Ports K D M B) (given : Devices K D B) (don
   abbrev pub EndsGenerated : ℕ → ℕ → Type 0
   EndsGenerated seed versions = ((script : Script) × (script_of (generated seed versions) ≡ Ok script) × EndsShown seed versions script) ⊎ EndedBefore memory_status memory_line
 
+  -- ---- the verdict on a store
+
+  -- No image moved: neither an area nor a file changed, nor what a crash may leave.
+  abbrev pub LeavesStore : Type 0
+  LeavesStore = Unmoved (ports.story given.disk) (ports.story done.disk)
+
+  -- The store isn't read, for a reason, and nothing moved.
+  abbrev pub EndedReading : OpenError → Type 0
+  EndedReading e = HasReason (ports.story given.disk) (ports.story done.disk) e × LeavesStore × Ended (open_status e) (open_line e)
+
+  -- The store reads as a catalogue, of which this is the first fault, if there is one; nothing moved, and the line of this verdict was due.
+  pub record HasVerdict (c : Catalog) (fault : Option Fault) : Type 0 where
+    pub reads : ReadsAs (ports.story given.disk) c
+    pub first : IsFirstFault (ports.story given.disk) c fault
+    pub unmoved : LeavesStore
+    pub ended : Ended (verdict_status fault) (verdict_line fault)
+
+  -- How a call ends whose word is `check`: the disk failed, the journal or a file is damaged, or memory was short, in opening the store or behind it; or the store has a verdict. How many runs it has had is nothing to a check.
+  abbrev pub EndsCheck : Type 0
+  EndsCheck = ((e : OpenError) × (e ≢ open_error.RunsFull) × EndedReading e) ⊎ ((c : Catalog) × (fault : Option Fault) × HasVerdict c fault)
+
   -- ---- the three forms
 
-  -- How a call ends whose words have this form: only `run` calls the source. `check` isn't served yet, and ends as words that have no form.
+  -- How a call ends whose words have this form: only `run` calls the source.
   abbrev pub EndsForm : Option Form → Option (List ℕ) → ℕ → ℕ → Type 0
   EndsForm None input before now = (now ≡ before) × EndedBefore usage_status usage_line
   EndsForm (Some form.Run) input before now = EndsRun input before now
-  EndsForm (Some form.Check) input before now = (now ≡ before) × EndedBefore usage_status usage_line
+  EndsForm (Some form.Check) input before now = (now ≡ before) × EndsCheck
   EndsForm (Some (form.Gen seed versions)) input before now = (now ≡ before) × EndsGenerated seed versions
 
   -- How a call ends: by the form of its words; for `run` by its source's count of faults and by its bytes, where the source tells them. Or memory was too short to read the words.

@@ -1,5 +1,6 @@
 -- The statuses that a call ends with, and the line that it prints where it runs nothing.
-use Rattle.std.specs.Prelude.{ℕ, List, [], ◌∷◌, ◌++◌, codes, decimal, if◌then◌else◌}
+use Rattle.std.specs.Prelude.{ℕ, List, [], ◌∷◌, ◌++◌, codes, decimal, if◌then◌else◌, Option, None, Some}
+use Rattle.mesa_model.specs.mesa_filter.Hex.{hex_of}
 use Rattle.mesa_model.specs.declared.commands.Script.{Script}
 use Rattle.mesa_model.specs.declared.entries.Entry.{Entry}
 use Rattle.mesa_history.specs.Refused.{some_refused}
@@ -9,6 +10,7 @@ use Rattle.mesa_script.specs.Errors.{error_text}
 use Rattle.mesa_script.specs.Replies.{damage_text, seen_text}
 use Rattle.mesa_opening.specs.declared.error.OpenError.{OpenError}
 use Rattle.mesa_opening.specs.declared.error.OpenError.TheVariants as open_error
+use Rattle.mesa_verdict.specs.Faults.{Fault}
 
 -- the longest input, in bytes
 abbrev pub max_input : ℕ
@@ -35,6 +37,26 @@ status_of script start h = if some_refused script (begins start) h then refused_
 -- the line before what the script of a seed printed last
 abbrev pub gen_line : ℕ → ℕ → List ℕ
 gen_line seed versions = codes "gen " ++ decimal seed ++ 32 ∷ decimal versions ++ 10 ∷ []
+
+-- ---- a store was checked
+
+-- no fault was found, or one was
+abbrev pub verdict_status : Option Fault → ℕ
+verdict_status None = 0
+verdict_status (Some fault) = 1
+
+-- the key that shows a fault, in hexadecimal; a hyphen where no single key does
+abbrev pub shown_key : Option (List ℕ) → List ℕ
+shown_key None = codes "-"
+shown_key (Some key) = hex_of key
+
+-- what a verdict tells of a store: that it is sound; or the table, the range of versions and the key of its first fault
+abbrev pub verdict_text : Option Fault → List ℕ
+verdict_text None = codes "sound"
+verdict_text (Some f) = codes "unsound table=" ++ f.table ++ codes " range=[" ++ decimal f.from ++ codes "," ++ decimal f.to ++ codes "] key=" ++ shown_key f.key
+
+abbrev pub verdict_line : Option Fault → List ℕ
+verdict_line fault = verdict_text fault ++ codes "\n"
 
 -- ---- the disk wasn't called
 

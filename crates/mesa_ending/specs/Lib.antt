@@ -1,5 +1,6 @@
 pub use Rattle.mesa_alone.specs as mesa_alone
 pub use Rattle.mesa_opening.specs as mesa_opening
+pub use Rattle.mesa_verdict.specs as mesa_verdict
 pub mod Ports
 pub mod Exits
 pub mod Scripts

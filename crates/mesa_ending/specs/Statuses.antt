@@ -1,6 +1,7 @@
 -- What the status of a call tells.
-use Rattle.std.specs.Prelude.{◌≡◌, ◌≢◌, ◌⊎◌, ◌<◌, ◌≤◌, ℕ, List, length, Option, None, Some, IfSome, Ok, Err, false, ⊤}
+use Rattle.std.specs.Prelude.{◌≡◌, ◌≢◌, ◌⊎◌, ◌↔◌, ◌<◌, ◌≤◌, ℕ, List, length, Option, None, Some, IfSome, Ok, Err, false}
 use Rattle.mesa_fault.specs.Causes.{Rose}
+use Rattle.mesa_disk.specs.Image.{Image}
 use Rattle.mesa_model.specs.declared.commands.Script.{Script}
 use Rattle.mesa_script.specs.declared.script.ScriptError.{ScriptError}
 use Rattle.mesa_script.specs.Generated.{generated}
@@ -9,11 +10,14 @@ use Rattle.mesa_words.specs.declared.forms.Form.{Form}
 use Rattle.mesa_words.specs.declared.forms.Form.TheVariants as form
 use Rattle.mesa_skeleton.specs.Rows.{Rows}
 use Rattle.mesa_image.specs.Catalog.{Catalog}
+use Rattle.mesa_image.specs.Sound.{IsSound}
 use Rattle.mesa_opening.specs.declared.error.OpenError.{OpenError}
 use Rattle.mesa_opening.specs.declared.error.OpenError.TheVariants as open_error
-use Rattle.mesa_opening.specs.Opening.{HasReason}
+use Rattle.mesa_opening.specs.Opening.{HasReason, ReadsAs}
+use Rattle.mesa_verdict.specs.Faults.{Fault}
+use Rattle.mesa_verdict.specs.Verdict.{IsFirstFault}
 use Rattle.mesa_ending.specs.Ports.{Ports}
-use Rattle.mesa_ending.specs.Exits.{max_input, refused_status, usage_status, script_status, source_status, sink_status, length_status, open_status, status_of}
+use Rattle.mesa_ending.specs.Exits.{max_input, refused_status, usage_status, script_status, source_status, sink_status, length_status, open_status, status_of, verdict_status}
 use Rattle.mesa_ending.specs.Start.{start_of}
 use Rattle.mesa_ending.specs.Run.{Ran}
 use Rattle.mesa_ending.specs.Ending.{HasFailed, IsWhole, RanInMemory}
@@ -23,13 +27,6 @@ use Rattle.mesa_ending.specs.declared.done.Done.{Done}
 -- these bytes are no script that the program runs
 abbrev pub IsNoScript : List ℕ → Type 0
 IsNoScript bytes = (error : ScriptError) × (script_of bytes ≡ Err error)
-
--- words of this form aren't served: they have no form, or are `check`
-abbrev pub IsUnserved : Option Form → Type 0
-IsUnserved None = ⊤
-IsUnserved (Some form.Run) = ⊥
-IsUnserved (Some form.Check) = ⊤
-IsUnserved (Some (form.Gen seed versions)) = ⊥
 
 module _ {K D M B : Type 0} (ports : Ports K D M B) (given : Devices K D B) (done : Done K D B) where
   -- These bytes are a script, which was run to its end, and the status tells whether some reply is a refusal.
@@ -49,21 +46,30 @@ module _ {K D M B : Type 0} (ports : Ports K D M B) (given : Devices K D B) (don
     pub ran : RanInMemory ports given done script catalogue false text
     pub status : (rows : Rows) → done.status ≡ status_of script (start_of script catalogue rows) done.history.items
 
-  -- the script was run to its end that words of this form ask for
+  -- The store was checked: it reads as a catalogue, of which this is the first fault, if there is one, and the status tells whether there is; it is 0 exactly where what the disk reads is a sound image.
+  pub record WasChecked : Type 0 where
+    pub catalogue : Catalog
+    pub fault : Option Fault
+    pub reads : ReadsAs (ports.story given.disk) catalogue
+    pub first : IsFirstFault (ports.story given.disk) catalogue fault
+    pub status : done.status ≡ verdict_status fault
+    pub sound : (i : Image) → (ports.story given.disk).told ≡ Some i → (done.status ≡ 0) ↔ IsSound i
+
+  -- what words of this form ask for was done: a script was run to its end, or the store was checked
   abbrev pub WasAsked : Option Form → Option (List ℕ) → Type 0
   WasAsked None input = ⊥
   WasAsked (Some form.Run) input = IfSome input WasRun
-  WasAsked (Some form.Check) input = ⊥
+  WasAsked (Some form.Check) input = WasChecked
   WasAsked (Some (form.Gen seed versions)) input = WasGenerated seed versions
 
   -- why the store wasn't opened
   abbrev pub IsUnopened : OpenError → Type 0
   IsUnopened e = HasReason (ports.story given.disk) (ports.story done.disk) e
 
-  -- What a status tells, by the form of the words: at 0 and 1 the script that they ask for was run to its end, at 2 they aren't served, at 3 the input is no script, at 4 the source's count of faults rose, at 5 the sink's did, at 6 one of the disk's; at 7 the store is damaged; at 9 the input is too long, or the store has had the last run that may be. The sink's count stays at any status but 5, and the source's at any but 4 and 5; and at 2, 3 and 4 the disk wasn't called.
+  -- What a status tells, by the form of the words: at 0 and 1 the script that they ask for was run to its end, or the store was checked; at 2 they have no form, at 3 the input is no script, at 4 the source's count of faults rose, at 5 the sink's did, at 6 one of the disk's; at 7 the store is damaged; at 9 the input is too long, or the store has had the last run that may be. The sink's count stays at any status but 5, and the source's at any but 4 and 5; and at 2, 3 and 4 the disk wasn't called.
   pub record Tells (asked : Option Form) (input : Option (List ℕ)) (before now : ℕ) : Type 0 where
     pub ran : done.status ≤ refused_status → WasAsked asked input
-    pub usage : done.status ≡ usage_status → IsUnserved asked
+    pub usage : done.status ≡ usage_status → asked ≡ None
     pub refused : done.status ≡ script_status → IfSome input IsNoScript
     pub source : done.status ≡ source_status → Rose before now
     pub source_quiet : done.status ≢ source_status → done.status ≢ sink_status → now ≡ before

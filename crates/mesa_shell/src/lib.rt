@@ -1,6 +1,7 @@
 //! The top call over a store: a script in, answers out, and how a call ends.
 #![tactic(auto)]
 
+mod checking;
 mod generating;
 mod opening;
 mod running;

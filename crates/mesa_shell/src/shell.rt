@@ -3,13 +3,14 @@ ghost use Rattle.std.specs.Prelude.{◌≡◌, ◌≢◌, ◌≤◌, Some, lengt
 ghost use Rattle.mesa_image.specs.Catalog.{Catalog as AnyCatalog};
 ghost use Rattle.mesa_model.specs.declared.commands.Script.{Script as AnyScript};
 ghost use Rattle.mesa_skeleton.specs.Rows.{Rows};
-ghost use Rattle.mesa_ending.specs.Completing.{AsksFor, Completes, HasRoomToRun, NothingFailed};
+ghost use Rattle.mesa_ending.specs.Completing.{AsksFor, Completes, Decides, HasRoomToRun, IsUndamaged, NoneRose, NothingFailed};
 ghost use Rattle.mesa_ending.specs.Ending as spec;
 ghost use Rattle.mesa_ending.specs.Ports.{ports};
 ghost use Rattle.mesa_ending.specs.Scripts.{IsSmall};
 ghost use Rattle.mesa_ending.specs.Statuses.{Tells};
 ghost use Rattle.mesa_words.specs.Forms.{form_of};
 
+use crate::checking::check_store;
 use crate::generating::run_generated;
 use crate::opening::open;
 use crate::running::{Left, run_begun, run_status};
@@ -118,14 +119,15 @@ fn run_source<
     }
 }
 
-// The line of words that aren't served.
+// The line of words that have no form.
 const USAGE: &[u8] = b"mesa: usage: mesa run | mesa check | mesa gen SEED VERSIONS\n";
 
 /// The program. With the word `run` alone it reads a script from the source, opens the store on the
 /// disk, runs the script over it, each session but the first in a thread of its own, and prints every
 /// reply onto the sink. With `gen`, a seed and a number of versions it runs the script that these give
 /// in the same way, and prints the replies to the last three of its commands. Session s builds its
-/// files on bench s.
+/// files on bench s. With `check` it reads the store, changes nothing, and prints that it is sound, or
+/// its first fault.
 pub fn mesa<
     S: Source,
     M: Made,
@@ -152,6 +154,9 @@ pub fn mesa<
     // Where a script is to be run over a sound store and nothing fails, every reply is the reference warehouse's, or memory.
     ensures completes { (script : AnyScript) (c : AnyCatalog) (rows : Rows) → AsksFor (form_of (map (λ w. w.now) words.now)) (S.left src.old) script → HasRoomToRun (ports K.held K.faults D.story M.bytes B.faults) (record { out = out; disk = disk; benches = benches }) c rows
         → NothingFailed (ports K.held K.faults D.story M.bytes B.faults) (record { out = out; disk = disk; benches = benches }) result (S.faults src.old) (S.faults src.new) → Completes result }
+
+    // Where a store that isn't damaged is to be checked and nothing fails, there is a verdict, or memory was short.
+    ensures decides { form_of (map (λ w. w.now) words.now) ≡ Some Form.Check → IsUndamaged (D.story disk) → NoneRose (ports K.held K.faults D.story M.bytes B.faults) (record { out = out; disk = disk; benches = benches }) result → Decides result }
 {
     let given = Devices { out, disk, benches };
     match read_form(alloc, words) {
@@ -159,7 +164,7 @@ pub fn mesa<
         Ok(Some(Form::Gen { seed, versions })) => {
             run_generated(rt, alloc, seed, versions, given, gate)
         }
-        Ok(Some(Form::Check)) => ended(alloc, given, statuses::USAGE, USAGE),
+        Ok(Some(Form::Check)) => check_store(alloc, given),
         Ok(None) => ended(alloc, given, statuses::USAGE, USAGE),
         Err(AllocError) => lacks_memory(alloc, given),
     }

@@ -20,6 +20,9 @@ use std::thread::Threads;
 // The folder of the store, within the current one.
 const FOLDER: &str = "mesa-store";
 
+// How many benches a call is given: one for each session that a script may have.
+const BENCHES: usize = 8;
+
 /// The status to exit with after a call that ended with this one. What the sink still holds back
 /// goes out; where that fails, so has the sink.
 pub fn flushed<W: Write>(status: u8, out: &mut StdSink<W>) -> u8
@@ -63,9 +66,12 @@ fn benches(
 ) -> Result<Vec<DirBench<HostRuntime>>, AllocError>
     ensures { IfOk result (λ all. length all.items ≡ 8) }
 {
-    let (a, b, c, d) = (disk.bench()?, disk.bench()?, disk.bench()?, disk.bench()?);
-    let (e, f, g, h) = (disk.bench()?, disk.bench()?, disk.bench()?, disk.bench()?);
-    Ok(vec![in alloc; a, b, c, d, e, f, g, h]?)
+    let mut all = Vec::new(alloc);
+    'sessions: for _ in 0..BENCHES {
+        let bench = disk.bench()?;
+        all.push(bench)?;
+    }
+    Ok(all)
 }
 
 // Runs the words over the standard streams and the folder; what is printed goes out in large pieces.
@@ -99,8 +105,9 @@ fn run_words<R: Threads + Wait + Sync>(rt: &R, host: HostRuntime) -> Result<u8, 
     Ok(flushed(status, &mut out))
 }
 
-/// The program: reads a script from standard input, runs it over the store in the folder `mesa-store` of
-/// the current one, which is made where it is missing, and prints to standard output.
+/// The program: takes the words behind its name, reads standard input where they ask for that, and runs or
+/// checks over the store in the folder `mesa-store` of the current one, which is made where it is missing;
+/// it prints to standard output.
 pub fn program<R: Threads + Wait + Sync>(rt: &R, host: HostRuntime) -> ExitCode {
     match run_words(rt, host) {
         Ok(status) => ExitCode::from(status),

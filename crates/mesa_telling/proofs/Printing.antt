@@ -1,14 +1,31 @@
--- A call that ran nothing ends with what it printed.
-use Rattle.std.proofs.Common.{◌≡◌, inl, inr, ℕ, List, [], take, Bool, true, false, refl, sym, ◌∙◌, ap, subst}
+-- What is printed in pieces; and a call that ran nothing ends with what it printed.
+use Rattle.std.proofs.Common.{◌≡◌, inl, inr, ℕ, ◌/◌, ◌%◌, List, [], ◌∷◌, ◌++◌, take, Bool, true, false, refl, sym, ◌∙◌, ap, subst, arith, Option}
 use Rattle.std.specs.Prelude.{if◌then◌else◌}
 use Rattle.std.specs.Io.KnownBytes.{Appends}
+use Rattle.std.proofs.KnownBytes.{Appends-nil}
 use Rattle.mesa_fault.specs.Causes.{Rose}
+use Rattle.mesa_filter.specs.Hex.{hex_digit, hex_of}
 use Rattle.mesa_printer.specs.declared.printer.Printer.{Printer}
 use Rattle.mesa_printer.specs.Printed.{Printed}
 use Rattle.mesa_ending.specs.Ports.{Ports}
 use Rattle.mesa_ending.specs.Ending.{Ended, Prints}
 use Rattle.mesa_ending.specs.declared.done.Devices.{Devices}
 use Rattle.mesa_ending.specs.declared.done.Done.{Done}
+
+-- bytes in hexadecimal stand one piece behind the other
+pub hex_append : (a b : List ℕ) → hex_of (a ++ b) ≡ hex_of a ++ hex_of b
+hex_append [] b = refl
+hex_append (x ∷ a) b = ap (λ (t : List ℕ). hex_digit (x / 16) ∷ hex_digit (x % 16) ∷ t) (hex_append a b)
+
+pub printed_nothing : {K : Type 0} (held : K → Option (List ℕ)) (faults : K → ℕ) (p : Printer K) → Printed held faults p p []
+printed_nothing held faults p = record {
+  whole = λ whole. (whole, Appends-nil (held p.sink));
+  front = (0, Appends-nil (held p.sink));
+  still = λ broken. (broken, Appends-nil (held p.sink));
+  later = omega arith;
+  cause = λ whole broken. absurd (let no : false ≡ true = sym whole ∙ broken in cc no);
+  quiet = λ same. refl;
+}
 
 module _ {K D M B : Type 0} (ports : Ports K D M B) (given : Devices K D B) (done : Done K D B) where
   -- a text was printed on the sink that was given

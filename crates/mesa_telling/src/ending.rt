@@ -1,17 +1,20 @@
-// How a call ends that runs nothing: with a line, and the status of its cause.
+// How a call ends that runs nothing: with a line, and the status of its cause or of its verdict.
 ghost use Rattle.std.specs.Prelude.{◌≡◌, [], codes, if◌then◌else◌};
 ghost use Rattle.mesa_ending.specs.Ending as spec;
-ghost use Rattle.mesa_ending.specs.Exits.{open_line, open_status, script_line, script_status};
+ghost use Rattle.mesa_ending.specs.Exits.{open_line, open_status, script_line, script_status, verdict_line, verdict_status};
 ghost use Rattle.mesa_ending.specs.Ports.{ports};
+ghost use Rattle.mesa_verdict.specs.Verdict.{fault_told};
 
 use crate::lines::{put_open_error, put_script_error};
 use crate::statuses;
+use crate::verdict::put_verdict;
 use mesa_disk::{Bench, Disk, Made};
 use mesa_ending::{Devices, Done};
 use mesa_io::Sink;
 use mesa_opening::OpenError;
 use mesa_printer::Printer;
 use mesa_script::ScriptError;
+use mesa_verdict::Verdict;
 use std::alloc::Global;
 
 // What such a call leaves, once its line was printed.
@@ -120,4 +123,33 @@ pub fn ended_opening<M: Made, D: Disk<M>, K: Sink, B: Bench<M>>(
     put_open_error(&mut printer, error);
     printer.put(b"\n");
     without_run(alloc, printer, disk, benches, status_of(error))
+}
+
+// The status of a verdict.
+fn status_of_verdict(verdict: &Verdict) -> u8
+    ensures { result ≡ verdict_status (fault_told verdict.now) }
+{
+    match verdict {
+        Verdict::Sound => statuses::SOUND,
+        Verdict::Unsound { .. } => statuses::UNSOUND,
+    }
+}
+
+/// Ends a call that has checked the store.
+pub fn ended_checked<M: Made, D: Disk<M>, K: Sink, B: Bench<M>>(
+    alloc: Global,
+    given: Devices<K, D, B>,
+    verdict: &Verdict,
+) -> Done<K, D, B>
+    ensures disk { result.disk ≡ given.disk }
+    ensures ended { spec.Ended (ports K.held K.faults D.story M.bytes B.faults) given result (verdict_status (fault_told verdict.now)) (verdict_line (fault_told verdict.now)) }
+{
+    let Devices { out, disk, benches } = given;
+    let mut printer = Printer {
+        sink: out,
+        broken: false,
+    };
+    put_verdict(&mut printer, verdict);
+    printer.put(b"\n");
+    without_run(alloc, printer, disk, benches, status_of_verdict(verdict))
 }

@@ -4,5 +4,6 @@
 mod ending;
 mod lines;
 pub mod statuses;
+mod verdict;
 
-pub use ending::{ended, ended_opening, ended_refused, lacks_memory};
+pub use ending::{ended, ended_checked, ended_opening, ended_refused, lacks_memory};

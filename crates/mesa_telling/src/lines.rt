@@ -54,12 +54,15 @@ pub(crate) fn put_script_error<K: Sink>(printer: &mut Printer<K>, error: &Script
 
 // ---- a store isn't opened
 
-// Prints bytes in hexadecimal: at most as many as a digest has.
-fn put_hex<K: Sink>(printer: &mut Printer<K>, bytes: &[u8])
+/// How many bytes a digest has.
+pub(crate) const DIGEST: usize = 32;
+
+/// Prints bytes in hexadecimal: at most as many as a digest has.
+pub(crate) fn put_hex<K: Sink>(printer: &mut Printer<K>, bytes: &[u8])
     requires { length bytes.now ≤ 32 }
     ensures { Printed K.held K.faults printer.old printer.new (hex_of bytes.now) }
 {
-    let mut room = [0; 64];
+    let mut room = [0; 2 * DIGEST];
     let digits = &mut room[..2 * bytes.len()];
     match hex::encode_to_slice(bytes, digits) {
         Ok(()) => printer.put(digits),

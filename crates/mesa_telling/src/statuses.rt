@@ -6,6 +6,12 @@ pub const ANSWERED: u8 = 0;
 /// The script was run, and some reply is a refusal.
 pub const REFUSED: u8 = 1;
 
+/// The store was checked, and is sound.
+pub const SOUND: u8 = 0;
+
+/// The store was checked, and has a fault.
+pub const UNSOUND: u8 = 1;
+
 /// The words have none of the forms.
 pub const USAGE: u8 = 2;
 
@@ -18,7 +24,7 @@ pub const SOURCE_FAULT: u8 = 4;
 /// The sink failed; it has a front of what was to be printed.
 pub const SINK_FAULT: u8 = 5;
 
-/// The disk failed while the store was opened.
+/// The disk failed while the store was opened or checked.
 pub const DISK_FAULT: u8 = 6;
 
 /// The store is damaged.

@@ -1,0 +1,80 @@
+-- What a verdict says of the store that was checked.
+use Rattle.std.proofs.Common.{◌≡◌, inl, inr, ⊎_elim, ◌≤◌, ℕ, List, sym, ◌∙◌, ap, subst, arith, refl, Option, Some, None}
+use Rattle.std.specs.Prelude.{◌↔◌}
+use Rattle.mesa_disk.specs.Image.{Image}
+use Rattle.mesa_disk.specs.Story.{Story}
+use Rattle.mesa_journal.proofs.Unique.{same_journal}
+use Rattle.mesa_words.specs.declared.forms.Form.TheVariants as form
+use Rattle.mesa_commit.specs.Images.{Has}
+use Rattle.mesa_image.specs.Catalog.{Catalog}
+use Rattle.mesa_image.specs.Fitting.{catalog, shelved}
+use Rattle.mesa_image.specs.Sound.{AreStocked, IsSound, wants}
+use Rattle.mesa_opening.specs.declared.error.OpenError.{OpenError}
+use Rattle.mesa_opening.specs.declared.error.OpenError.TheVariants as open_error
+use Rattle.mesa_opening.specs.Opening.{ReadsAs}
+use Rattle.mesa_verdict.specs.Faults.{Fault}
+use Rattle.mesa_verdict.specs.Verdict.{IsFirstFault}
+use Rattle.mesa_ending.specs.Ports.{Ports}
+use Rattle.mesa_ending.specs.Exits.{verdict_status}
+use Rattle.mesa_ending.specs.Ending.{EndedReading, Ends, EndsCheck, Prints}
+use Rattle.mesa_ending.specs.Completing.{Decides, IsUndamaged, NoneRose}
+use Rattle.mesa_ending.specs.declared.done.Devices.{Devices}
+use Rattle.mesa_ending.specs.declared.done.Done.{Done}
+
+pub low_verdict : (fault : Option Fault) → verdict_status fault ≤ 1
+low_verdict None = omega arith
+low_verdict (Some f) = omega arith
+
+-- ---- there is no fault exactly where what is read is sound
+
+some_same : (o : Option Catalog) (c d : Catalog) → o ≡ Some c → o ≡ Some d → c ≡ d
+some_same o c d a b = cc
+
+none_low : (fault : Option Fault) → verdict_status fault ≡ 0 → fault ≡ None
+none_low None is = refl
+none_low (Some f) is = absurd (omega (arith, is))
+
+module _ (story : Story) (c : Catalog) (fault : Option Fault) (reads : ReadsAs story c) (first : IsFirstFault story c fault) (i : Image) (told : story.told ≡ Some i) where
+  faultless_sound : fault ≡ None → IsSound i
+  faultless_sound none =
+      let s = first.sound i told none in
+      record { bodies = reads.0; catalogue = c; rows = s.0; is = record { journal = (reads.1, reads.2.journal i told); records = reads.2.records; files = s.1; rows_are = s.2 } }
+
+  sound_faultless : IsSound i → fault ≡ None
+  sound_faultless s =
+      let bodies : s.bodies ≡ reads.0 = same_journal i.zero s.bodies reads.0 s.is.journal.0 reads.1 s.is.journal.1 (reads.2.journal i told) in
+      let same : s.catalogue ≡ c = some_same (catalog s.bodies) s.catalogue c s.is.records (subst (λ (bs : List (List ℕ)). catalog bs ≡ Some c) (sym bodies) reads.2.records) in
+      first.unsound i told (s.rows, subst (λ (k : Catalog). Has (wants s.rows (shelved k)) i) same s.is.files, subst (λ (k : Catalog). AreStocked s.rows k) same s.is.rows_are)
+
+-- The status of a verdict is 0 exactly there.
+pub sound_exactly : (story : Story) (c : Catalog) (fault : Option Fault) (status : ℕ) → status ≡ verdict_status fault → ReadsAs story c → IsFirstFault story c fault → (i : Image) → story.told ≡ Some i → (status ≡ 0) ↔ IsSound i
+sound_exactly story c fault status is reads first i told = (
+  λ zero. faultless_sound story c fault reads first i told (none_low fault (sym is ∙ zero)),
+  λ sound. is ∙ ap verdict_status (sound_faultless story c fault reads first i told sound),
+)
+
+-- ---- where nothing fails
+
+module _ {K D M B : Type 0} (ports : Ports K D M B) (g : Devices K D B) (done : Done K D B) (still : NoneRose ports g done) where
+  printed : (status : ℕ) (line : List ℕ) → Prints ports g done status line → done.status ≡ status
+  printed status line prints = ⊎_elim (λ p. p.0) (λ p. absurd (still.sink p.1)) prints
+
+  unread : IsUndamaged (ports.story g.disk) → (e : OpenError) → (e ≡ open_error.RunsFull → ⊥) → EndedReading ports g done e → Decides done
+  unread is open_error.Fault other p = absurd (⊎_elim still.disk still.reads p.0)
+  unread is (open_error.Journal area at want found) other p = absurd (⊎_elim (is.whole at want found) (is.fitting at want found) (p.0.1 is.image is.told))
+  unread is (open_error.File d) other p = absurd (is.files d (p.0 is.image is.told))
+  unread is open_error.RunsFull other p = absurd (other refl)
+  unread is open_error.Memory other p = inr (printed _ _ p.2.2)
+
+  check_decides : IsUndamaged (ports.story g.disk) → EndsCheck ports g done → Decides done
+  check_decides is ends = elim ends [
+    | inl p ↦ unread is p.0 p.1 p.2
+    | inr p ↦ inl (let status = printed _ _ p.2.ended.2 in let low = low_verdict p.1 in omega (arith, status, low))
+  ]
+
+  -- A check of a store that isn't damaged comes to a verdict, or memory was short.
+  pub decides : (input : Option (List ℕ)) (before now : ℕ) → IsUndamaged (ports.story g.disk) → Ends ports g done (Some form.Check) input before now → Decides done
+  decides input before now is ends = elim ends [
+    | inl p ↦ check_decides is p.1
+    | inr p ↦ inr (printed _ _ p.1.1.2)
+  ]

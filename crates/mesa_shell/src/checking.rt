@@ -1,0 +1,66 @@
+// Checks of a store.
+ghost use Rattle.std.specs.Prelude.{◌≡◌, ◌≢◌, IfErr, IfOk};
+ghost use Rattle.mesa_disk.specs.Story.{Unmoved};
+ghost use Rattle.mesa_ending.specs.Ending as spec;
+ghost use Rattle.mesa_ending.specs.mesa_opening.Opening.{HasReason, ReadsAs};
+ghost use Rattle.mesa_ending.specs.mesa_opening.declared.error.OpenError.TheVariants as open_error;
+ghost use Rattle.mesa_ending.specs.mesa_verdict.Verdict.{IsFirstFault, fault_told};
+ghost use Rattle.mesa_ending.specs.Ports.{ports};
+ghost use Rattle.mesa_image.specs.Catalog.{Catalog};
+
+use mesa_check::{CheckError, Verdict, check};
+use mesa_disk::{Bench, Disk, Made};
+use mesa_ending::{Devices, Done};
+use mesa_io::Sink;
+use mesa_recover::{OpenError, Opened, read};
+use mesa_telling::{ended_checked, ended_opening};
+use std::alloc::Global;
+
+// The disk of a store that was read.
+fn disk_of<D>(opened: Opened<D>) -> D
+    ensures { result ≡ opened.disk }
+{
+    let Opened {
+        disk,
+        catalog: _,
+        last_run: _,
+        area: _,
+        end: _,
+        since: _,
+    } = opened;
+    disk
+}
+
+// The verdict on a store, or why it can't be read; and its disk, on which nothing moved.
+fn verdict<M: Made, D: Disk<M>>(alloc: Global, disk: D) -> (Result<Verdict, OpenError>, D)
+    ensures verdict { IfOk result.0 (λ v. (c : Catalog) × ReadsAs (D.story disk) c × IsFirstFault (D.story disk) c (fault_told v)) }
+    ensures reason { IfErr result.0 (HasReason (D.story disk) (D.story result.1)) }
+    ensures other { IfErr result.0 (λ e. e ≢ open_error.RunsFull) }
+    ensures unmoved { Unmoved (D.story disk) (D.story result.1) }
+{
+    let mut opened = match read(alloc, disk) {
+        Ok(opened) => opened,
+        Err((error, disk)) => return (Err(error), disk),
+    };
+    match check(alloc, &mut opened) {
+        Ok(verdict) => (Ok(verdict), disk_of(opened)),
+        Err(CheckError::Read) => (Err(OpenError::Fault), disk_of(opened)),
+        Err(CheckError::Memory) => (Err(OpenError::Memory), disk_of(opened)),
+    }
+}
+
+/// Reads the store, and tells that it is sound, or its first fault.
+pub(crate) fn check_store<M: Made, D: Disk<M>, K: Sink, B: Bench<M>>(
+    alloc: Global,
+    given: Devices<K, D, B>,
+) -> Done<K, D, B>
+    ensures { spec.EndsCheck (ports K.held K.faults D.story M.bytes B.faults) given result }
+{
+    let Devices { out, disk, benches } = given;
+    let (verdict, disk) = verdict(alloc, disk);
+    let given = Devices { out, disk, benches };
+    match verdict {
+        Ok(verdict) => ended_checked(alloc, given, &verdict),
+        Err(error) => ended_opening(alloc, given, &error),
+    }
+}
