@@ -26,16 +26,33 @@ fn words(rt: &impl Abort, alloc: Global, text: &str) -> Words {
     Items::from_bytes(alloc, text.as_bytes()).expect(rt, "room")
 }
 
-// A relation's rows grouped by `a`, two of them, behind a resume key.
-fn words_of(rt: &impl Abort, alloc: Global, relation: &str, resume: &str) -> QueryWords {
+/// A filter, the group columns, and a resume key.
+#[derive(Clone, Copy)]
+pub struct Asked<'a> {
+    pub filter: &'a str,
+    pub group: &'a str,
+    pub resume: &'a str,
+}
+
+/// All rows, grouped by `a`, behind a resume key.
+pub fn by_a(resume: &str) -> Asked<'_> {
+    Asked {
+        filter: "",
+        group: "a",
+        resume,
+    }
+}
+
+// A relation's rows that meet a filter, grouped, two of them, behind a resume key.
+fn words_of(rt: &impl Abort, alloc: Global, relation: &str, asked: Asked) -> QueryWords {
     QueryWords {
         relation: words(rt, alloc, relation),
         version: VersionWord::Latest,
-        filter: Items::new(alloc),
-        group: words(rt, alloc, "a"),
+        filter: words(rt, alloc, asked.filter),
+        group: words(rt, alloc, asked.group),
         values: Items::new(alloc),
         limit: 2,
-        resume: words(rt, alloc, resume),
+        resume: words(rt, alloc, asked.resume),
     }
 }
 
@@ -45,12 +62,12 @@ pub fn query_of(
     alloc: Global,
     relation: &Arc<Evolving>,
     text: &str,
-    resume: &str,
+    asked: Asked,
 ) -> Query
     ensures { IsQueryOf (columns_of relation.now.value) result }
 {
     let name = name(rt, alloc, text);
-    let words = words_of(rt, alloc, text, resume);
+    let words = words_of(rt, alloc, text, asked);
     let Ok(query) = Query::build(alloc, relation.present(), &name, 3, 0, &words) else {
         panic!(rt; "no query");
     };
@@ -85,7 +102,7 @@ fn answered<R: FileReader + Drop>(
     resume: &str,
 ) -> Result<Page, FileError> {
     let table = table(rt, alloc, &["a", "b"], KeyType::Int);
-    let query = query_of(rt, alloc, &table, "t", resume);
+    let query = query_of(rt, alloc, &table, "t", by_a(resume));
     let first = own(rt, alloc, older, &table);
     let second = own(rt, alloc, newer, &table);
     let inputs = two(rt, alloc, first, second);

@@ -158,6 +158,19 @@ fn put<R: FileReader + Drop>(
     }
 }
 
+/// One file.
+pub fn one<R: FileReader + Drop>(
+    rt: &impl Abort,
+    alloc: Global,
+    input: PinnedInput<R>,
+) -> Vec<PinnedInput<R>>
+    ensures { result.items ≡ input ∷ [] }
+{
+    let mut inputs = Vec::new(alloc);
+    put(rt, &mut inputs, input);
+    inputs
+}
+
 /// Two files, the older one first.
 pub fn two<R: FileReader + Drop>(
     rt: &impl Abort,

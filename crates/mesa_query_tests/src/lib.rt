@@ -13,3 +13,5 @@ mod tables;
 mod vectors;
 #[cfg(test)]
 mod views;
+#[cfg(test)]
+mod warmed;

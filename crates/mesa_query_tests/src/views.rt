@@ -1,5 +1,5 @@
 // A view, of which the first version has no file: a table with the rows 1,1,5 and 1,2,7 gets the view of `a` and `v`, and then the row 1,3,1.
-use crate::answering::{page_of, query_of, shown};
+use crate::answering::{by_a, page_of, query_of, shown};
 use crate::inputs::{Source, derived, input_of, own, source_of, two};
 use crate::tables::{view_of, viewed};
 use crate::vectors::{BEFORE, OWN, VECTORS};
@@ -45,7 +45,7 @@ fn answered<R: FileReader + Drop>(
 ) -> Result<Page, FileError> {
     let table = viewed(rt, alloc);
     let view = view_of(rt, alloc, &table);
-    let query = query_of(rt, alloc, &view, "w", "");
+    let query = query_of(rt, alloc, &view, "w", by_a(""));
     let first = derived(rt, alloc, older, &table);
     let second = own(rt, alloc, newer, &view);
     let inputs = two(rt, alloc, first, second);
