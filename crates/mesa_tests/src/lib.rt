@@ -1,21 +1,17 @@
-//! Worked rows of one session, byte for byte, over a source, a sink and a disk in memory.
+//! Worked rows of the program, byte for byte, over devices in memory: scripts, stores and sessions.
 #![tactic(auto)]
 
 #[cfg(test)]
-mod changes;
+mod call;
 #[cfg(test)]
-mod limits;
+mod cases;
 #[cfg(test)]
-mod queries;
-#[cfg(test)]
-mod records;
+mod devices;
 #[cfg(test)]
 mod rows;
 #[cfg(test)]
-mod scripts;
+mod sessions;
 #[cfg(test)]
-mod statuses;
+mod stores;
 #[cfg(test)]
-mod trial;
-#[cfg(test)]
-mod works;
+mod texts;

@@ -1,8 +1,8 @@
 // A run that is stopped at any moment leaves a front of what it did, with every command that it had acknowledged.
-use crate::trial::{empty_disk, run_over};
+use crate::call::{Case, Left, PLAIN, call_over, run};
 use mesa_disk::{Disk, MemDisk};
 use mesa_model::{Entry, Kind};
-use std::alloc::Global;
+use std::alloc::{AllocError, Global};
 use std::process::Abort;
 use std::str;
 use std::sync::Wait;
@@ -31,13 +31,18 @@ static SCRIPT: &str = "table,t,a int;b int,v sum\n\
      work,u\n";
 
 // What each image is asked: its tables, its view, which deltas a query reads, and one load more.
-static QUESTIONS: &str = "query,t\n\
+const QUESTIONS: &[u8] = b"query,t\n\
      query,u\n\
      query,w\n\
      explain,t\n\
      explain,u\n\
      explain,t,0\n\
      commit\n";
+
+static ASKED: Case<'static> = Case {
+    script: QUESTIONS,
+    ..PLAIN
+};
 
 // The answers behind so many of the script's commands.
 static FRONTS: [&str; 11] = [
@@ -203,24 +208,32 @@ fn acknowledged(history: &[Entry], moment: u64) -> usize {
 
 // Whether these are the answers behind so many commands.
 fn is_front(commands: usize, answers: &str) -> bool {
-    FRONTS.get(commands).is_some_and(|front| *front == answers)
+    match FRONTS.get(commands) {
+        Some(front) => *front == answers,
+        None => false,
+    }
 }
 
-// Stops the test where an image answers neither as before the command that was on its way nor as behind it.
+// Stops the test where an image answered neither as before the command that was on its way nor as behind it.
+fn expect_answers(rt: &impl Abort, left: &Left, moment: u64, commands: usize) {
+    let answers = str::from_utf8(&left.text).unwrap_or("no text");
+    let next = commands.wrapping_add(1);
+    assert!(rt;
+        is_front(commands, answers) || is_front(next, answers),
+        "moment {moment}, behind {commands} commands: {answers}"
+    );
+}
+
+// The same of an image that is asked.
 fn expect_image<R: Abort + Threads + Wait + Sync>(
     rt: &R,
     alloc: Global,
     image: MemDisk,
     moment: u64,
     commands: usize,
-) -> Result<(), Fail> {
-    let left = run_over(rt, alloc, image, &[], QUESTIONS)?;
-    let answers = str::from_utf8(left.text.as_slice()).ok().ok_or("no text")?;
-    let next = commands.wrapping_add(1);
-    assert!(rt;
-        is_front(commands, answers) || is_front(next, answers),
-        "moment {moment}, behind {commands} commands: {answers}"
-    );
+) -> Result<(), AllocError> {
+    let left = call_over(rt, alloc, image, &ASKED)?;
+    expect_answers(rt, &left, moment, commands);
     Ok(())
 }
 
@@ -231,7 +244,7 @@ fn expect_moment<R: Abort + Threads + Wait + Sync>(
     disk: &MemDisk,
     moment: u64,
     commands: usize,
-) -> Result<(), Fail> {
+) -> Result<(), AllocError> {
     for pick in 0..3u8 {
         let image = disk.image(moment, pick)?;
         expect_image(rt, alloc, image, moment, commands)?;
@@ -245,7 +258,7 @@ fn expect_moments<R: Abort + Threads + Wait + Sync>(
     alloc: Global,
     disk: &MemDisk,
     history: &[Entry],
-) -> Result<(), Fail> {
+) -> Result<(), AllocError> {
     for moment in 0..=disk.clock() {
         let commands = acknowledged(history, moment);
         expect_moment(rt, alloc, disk, moment, commands)?;
@@ -255,7 +268,7 @@ fn expect_moments<R: Abort + Threads + Wait + Sync>(
 
 #[test]
 fn a_run_stopped_at_each_moment(rt: HostRuntime) -> Result<(), Fail> {
-    let left = run_over(&rt, rt.alloc(), empty_disk(rt.alloc()), &[], SCRIPT)?;
-    assert_eq!(rt; left.status, 0, "the run that is stopped");
-    expect_moments(&rt, rt.alloc(), &left.disk, &left.history)
+    let left = run(&rt, rt.alloc(), SCRIPT)?;
+    assert!(rt; left.status == 0, "the run that is stopped");
+    Ok(expect_moments(&rt, rt.alloc(), &left.disk, &left.history)?)
 }

@@ -1,11 +1,12 @@
 // Changes of schemas.
-use crate::trial::{Case, run_all};
+use crate::call::{Case, PLAIN};
+use crate::cases::expect_cases;
 use std::test::Fail;
 
-static CASES: [Case; 4] = [
+static CASES: [Case<'static>; 4] = [
     Case {
         name: "pin outlives change",
-        script: "table,t,k int,v sum;w max\n\
+        script: b"table,t,k int,v sum;w max\n\
          row,t,1,5,8\n\
          commit\n\
          row,t,1,6,3\n\
@@ -37,10 +38,11 @@ static CASES: [Case; 4] = [
          2,1\n\
          0.11@17 released token=1\n\
          0.12@18 refused no_pin token=1\n",
+        ..PLAIN
     },
     Case {
         name: "added values",
-        script: "table,t,k int,v sum\n\
+        script: b"table,t,k int,v sum\n\
          row,t,1,5\n\
          commit\n\
          row,t,1,6\n\
@@ -74,11 +76,12 @@ static CASES: [Case; 4] = [
          0.11@17 loaded version=4 rows=1\n\
          0.12@18 rows 1 version=4\n\
          1,7,3,2\n",
+        ..PLAIN
     },
     // The last query's row lies in a file that has no column c.
     Case {
         name: "added key",
-        script: "table,t,k int,v sum\n\
+        script: b"table,t,k int,v sum\n\
          row,t,1,5\n\
          commit\n\
          alter,t,add_key,c text,US\n\
@@ -103,10 +106,11 @@ static CASES: [Case; 4] = [
          US,5\n\
          0.8@11 rows 1 version=1\n\
          1,US,5\n",
+        ..PLAIN
     },
     Case {
         name: "views guard columns",
-        script: "table,t,k int;c text,v sum;r replace\n\
+        script: b"table,t,k int;c text,v sum;r replace\n\
          view,w,t,c,v\n\
          view,x,t,c,r\n\
          view,t,t,c,v\n\
@@ -122,10 +126,11 @@ static CASES: [Case; 4] = [
          0.5@4 refused in_view view=w\n\
          0.6@5 refused no_column\n\
          0.7@6 refused replace_group column=r\n",
+        ..PLAIN
     },
 ];
 
 #[test]
 fn changes_of_schemas(rt: HostRuntime) -> Result<(), Fail> {
-    run_all(&rt, rt.alloc(), &CASES)
+    expect_cases(&rt, rt.alloc(), &CASES)
 }

@@ -1,12 +1,13 @@
 // Pages, pins, views whose files are made later, and files of several blocks.
-use crate::trial::{Case, expect, push_line, run_all};
-use std::alloc::{AllocError, Global};
+use crate::call::{Case, PLAIN};
+use crate::cases::{LongCase, expect_cases, expect_long_cases};
+use crate::texts::Part;
 use std::test::Fail;
 
-static CASES: [Case; 4] = [
+static CASES: [Case<'static>; 4] = [
     Case {
         name: "pages and pin",
-        script: "table,t,k int,v sum\n\
+        script: b"table,t,k int,v sum\n\
          row,t,1,10\n\
          row,t,2,20\n\
          row,t,3,30\n\
@@ -31,10 +32,11 @@ static CASES: [Case; 4] = [
          0.7@10 rows 1 version=0 more\n\
          1,10\n\
          resume t/0/0/k/8000000000000001\n",
+        ..PLAIN
     },
     Case {
         name: "derived view",
-        script: "table,t,a int;b int,v sum\n\
+        script: b"table,t,a int;b int,v sum\n\
          row,t,1,1,5\n\
          row,t,1,2,7\n\
          commit\n\
@@ -53,12 +55,13 @@ static CASES: [Case; 4] = [
          1,12\n\
          0.6@8 rows 1 version=1\n\
          1,13\n",
+        ..PLAIN
     },
     // A resume key of another relation, version, epoch or group, one that is no key, and a page behind
     // the last row.
     Case {
         name: "resume keys",
-        script: "table,t,k int;c text,v sum\n\
+        script: b"table,t,k int;c text,v sum\n\
          view,w,t,c;k,v\n\
          row,t,1,a,10\n\
          commit\n\
@@ -73,7 +76,6 @@ static CASES: [Case; 4] = [
          query,t,1,,,,,t/1/0/k;c/8000000000000000ff00\n\
          query,t,1,,c;k,,,t/1/0/c;k/61008000000000000000\n",
         status: 1,
-        turns: None,
         text: "0.1@0 table t\n\
          0.2@1 view w\n\
          0.3@3 loaded version=0 rows=1\n\
@@ -88,12 +90,13 @@ static CASES: [Case; 4] = [
          0.12@14 refused bad_resume\n\
          0.13@15 rows 1 version=1\n\
          a,1,10\n",
+        ..PLAIN
     },
     // What another session's pin, a released one and one that was never given are told; a token is
     // given once.
     Case {
         name: "tokens",
-        script: "table,t,k int,v sum\n\
+        script: b"table,t,k int,v sum\n\
          pin\n\
          row,t,1,10\n\
          commit\n\
@@ -111,7 +114,6 @@ static CASES: [Case; 4] = [
          pin\n\
          query,t,pin:1\n",
         status: 1,
-        turns: None,
         text: "0.1@0 table t\n\
          0.2@1 refused future asked=latest newest=none\n\
          0.3@3 loaded version=0 rows=1\n\
@@ -129,77 +131,82 @@ static CASES: [Case; 4] = [
          1.3@15 pinned token=1 version=0\n\
          1.4@16 rows 1 version=0\n\
          1,10\n",
+        ..PLAIN
     },
 ];
 
 #[test]
 fn pages_pins_and_views(rt: HostRuntime) -> Result<(), Fail> {
-    run_all(&rt, rt.alloc(), &CASES)
+    expect_cases(&rt, rt.alloc(), &CASES)
 }
 
-// 1,025 rows whose keys agree in their first sixteen letters, and a query of each of the last two.
-fn alike(alloc: Global) -> Result<String, AllocError> {
-    let mut script = String::from_str(alloc, "table,t,k text,v sum\n")?;
-    for key in 0..1025u32 {
-        push_line(
-            &mut script,
-            format!(in alloc; "row,t,aaaaaaaaaaaaaaaa{key:04},{key}\n"),
-        )?;
-    }
-    script.push_str("commit\nquery,t,,k=aaaaaaaaaaaaaaaa1024\nquery,t,,k=aaaaaaaaaaaaaaaa1023\n")?;
-    Ok(script)
-}
+// Files of several blocks, and a page with more behind it.
+static LONG: [LongCase; 3] = [
+    // 1,025 rows whose keys agree in their first sixteen letters: the file has two blocks whose short keys are equal.
+    LongCase {
+        name: "equal short keys",
+        script: &[
+            Part::Spelled("table,t,k text,v sum\n"),
+            Part::Lines(1000, 2025, "row,t,aaaaaaaaaaaaaaaa{0},{0}\n", [(1, 0); 3]),
+            Part::Spelled(
+                "commit\n\
+                 query,t,,k=aaaaaaaaaaaaaaaa2024\n\
+                 query,t,,k=aaaaaaaaaaaaaaaa2023\n",
+            ),
+        ],
+        status: 0,
+        text: &[Part::Spelled(
+            "0.1@0 table t\n\
+             0.2@2 loaded version=0 rows=1025\n\
+             0.3@3 rows 1 version=0\n\
+             aaaaaaaaaaaaaaaa2024,2024\n\
+             0.4@5 rows 1 version=0\n\
+             aaaaaaaaaaaaaaaa2023,2023\n",
+        )],
+    },
+    // 4,096 rows in four blocks, and a query of a later key column.
+    LongCase {
+        name: "later column prunes",
+        script: &[
+            Part::Spelled("table,t,a int;b int,v sum\n"),
+            Part::Lines(0, 2048, "row,t,0,{0},{0}\n", [(1, 0); 3]),
+            Part::Lines(0, 2048, "row,t,1,{0},{1}\n", [(1, 0), (1, 2048), (0, 0)]),
+            Part::Spelled("commit\nquery,t,,b=2000\nquery,t,,a=1&b<2\n"),
+        ],
+        status: 0,
+        text: &[Part::Spelled(
+            "0.1@0 table t\n\
+             0.2@2 loaded version=0 rows=4096\n\
+             0.3@3 rows 2 version=0\n\
+             0,2000,2000\n\
+             1,2000,4048\n\
+             0.4@5 rows 2 version=0\n\
+             1,0,2048\n\
+             1,1,2049\n",
+        )],
+    },
+    // A page has at most 1,000 rows where nothing is said, and tells where it goes on.
+    LongCase {
+        name: "more than a page",
+        script: &[
+            Part::Spelled("table,t,k int,v sum\n"),
+            Part::Lines(0, 1001, "row,t,{0},1\n", [(1, 0); 3]),
+            Part::Spelled("commit\nquery,t\n"),
+        ],
+        status: 0,
+        text: &[
+            Part::Spelled(
+                "0.1@0 table t\n\
+                 0.2@2 loaded version=0 rows=1001\n\
+                 0.3@3 rows 1000 version=0 more\n",
+            ),
+            Part::Lines(0, 1000, "{0},1\n", [(1, 0); 3]),
+            Part::Spelled("resume t/0/0/k/80000000000003e7\n"),
+        ],
+    },
+];
 
-static ALIKE: &str = "0.1@0 table t\n\
-     0.2@2 loaded version=0 rows=1025\n\
-     0.3@3 rows 1 version=0\n\
-     aaaaaaaaaaaaaaaa1024,1024\n\
-     0.4@5 rows 1 version=0\n\
-     aaaaaaaaaaaaaaaa1023,1023\n";
-
-// The file has two blocks whose short keys are equal.
 #[test]
-fn equal_short_keys(rt: HostRuntime) -> Result<(), Fail> {
-    let script = alike(rt.alloc())?;
-    expect(
-        &rt,
-        rt.alloc(),
-        "equal short keys",
-        script.as_str(),
-        0,
-        ALIKE,
-    )
-}
-
-// 4,096 rows in four blocks, and a query of a later key column.
-fn columns(alloc: Global) -> Result<String, AllocError> {
-    let mut script = String::from_str(alloc, "table,t,a int;b int,v sum\n")?;
-    for row in 0..4096u32 {
-        let (a, b) = (row / 2048, row % 2048);
-        push_line(&mut script, format!(in alloc; "row,t,{a},{b},{row}\n"))?;
-    }
-    script.push_str("commit\nquery,t,,b=2000\nquery,t,,a=1&b<2\n")?;
-    Ok(script)
-}
-
-static COLUMNS: &str = "0.1@0 table t\n\
-     0.2@2 loaded version=0 rows=4096\n\
-     0.3@3 rows 2 version=0\n\
-     0,2000,2000\n\
-     1,2000,4048\n\
-     0.4@5 rows 2 version=0\n\
-     1,0,2048\n\
-     1,1,2049\n";
-
-#[test]
-fn later_column_prunes(rt: HostRuntime) -> Result<(), Fail> {
-    let script = columns(rt.alloc())?;
-    expect(
-        &rt,
-        rt.alloc(),
-        "later column prunes",
-        script.as_str(),
-        0,
-        COLUMNS,
-    )
+fn long_files_and_pages(rt: HostRuntime) -> Result<(), Fail> {
+    expect_long_cases(&rt, rt.alloc(), &LONG)
 }

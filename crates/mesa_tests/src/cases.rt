@@ -1,0 +1,129 @@
+// Tables of calls, and of what they leave.
+use crate::call::{Case, Left, call_over, empty_disk, run};
+use crate::stores::shown::{are_files, shown, spelled};
+use crate::texts::{Part, whole};
+use mesa_disk::{FileId, MemDisk};
+use std::alloc::Global;
+use std::process::Abort;
+use std::str;
+use std::sync::Wait;
+use std::test::Fail;
+use std::thread::Threads;
+
+fn expect_turns(rt: &impl Abort, case: &Case<'_>, left: &Left) {
+    let turns = left.history.len();
+    let are_same = turns == case.turns.unwrap_or(turns);
+    assert!(rt; are_same, "the turns of {}: {turns}", case.name);
+}
+
+fn expect_files(rt: &impl Abort, case: &Case<'_>, disk: &mut MemDisk) -> Result<(), Fail> {
+    if let Some(files) = case.files {
+        assert!(rt; are_files(disk, files)?, "the files of {}", case.name);
+    }
+    Ok(())
+}
+
+fn expect_store(
+    rt: &impl Abort,
+    alloc: Global,
+    case: &Case<'_>,
+    disk: &mut MemDisk,
+) -> Result<(), Fail> {
+    if let Some(left) = case.left {
+        let store = shown(alloc, disk)?;
+        assert_eq!(rt; store.as_str(), left, "the store behind {}", case.name);
+    }
+    Ok(())
+}
+
+/// Stops the test of a call that printed another text or ended with another status.
+pub fn expect_text(rt: &impl Abort, name: &str, left: &Left, status: u8, text: &str) {
+    let printed = str::from_utf8(&left.text).unwrap_or("no text");
+    assert_eq!(rt; (left.status, printed), (status, text), "{name}");
+}
+
+/// Stops the test of a case over a disk whose call leaves something else; gives back the disk.
+pub fn expect_over<R: Abort + Threads + Wait + Sync>(
+    rt: &R,
+    alloc: Global,
+    disk: MemDisk,
+    case: &Case<'_>,
+) -> Result<MemDisk, Fail> {
+    let left = call_over(rt, alloc, disk, case)?;
+    expect_text(rt, case.name, &left, case.status, case.text);
+    expect_turns(rt, case, &left);
+    let Left { mut disk, .. } = left;
+    expect_files(rt, case, &mut disk)?;
+    expect_store(rt, alloc, case, &mut disk)?;
+    Ok(disk)
+}
+
+/// The same over the case's own store.
+pub fn expect_case<R: Abort + Threads + Wait + Sync>(
+    rt: &R,
+    alloc: Global,
+    case: &Case<'_>,
+) -> Result<MemDisk, Fail> {
+    let mut disk = spelled(rt, alloc, case.store, &[])?;
+    if let Some((file, nth)) = case.read_fails {
+        disk.spoil_read(FileId::of(file), nth);
+    }
+    expect_over(rt, alloc, disk, case)
+}
+
+/// The same of each case.
+pub fn expect_cases<R: Abort + Threads + Wait + Sync>(
+    rt: &R,
+    alloc: Global,
+    cases: &[Case<'_>],
+) -> Result<(), Fail> {
+    for case in cases {
+        let _disk = expect_case(rt, alloc, case)?;
+    }
+    Ok(())
+}
+
+/// The same of one case after the other over one disk, which is empty at first.
+pub fn expect_in_turn<R: Abort + Threads + Wait + Sync>(
+    rt: &R,
+    alloc: Global,
+    cases: &[Case<'_>],
+) -> Result<(), Fail> {
+    let mut disk = empty_disk(alloc);
+    for case in cases {
+        disk = expect_over(rt, alloc, disk, case)?;
+    }
+    Ok(())
+}
+
+/// A script by templates, and what its run over an empty store prints.
+pub struct LongCase {
+    pub name: &'static str,
+    pub script: &'static [Part],
+    pub status: u8,
+    pub text: &'static [Part],
+}
+
+fn expect_long_case<R: Abort + Threads + Wait + Sync>(
+    rt: &R,
+    alloc: Global,
+    case: &LongCase,
+) -> Result<(), Fail> {
+    let script = whole(alloc, case.script)?;
+    let text = whole(alloc, case.text)?;
+    let left = run(rt, alloc, script.as_str())?;
+    expect_text(rt, case.name, &left, case.status, text.as_str());
+    Ok(())
+}
+
+/// Stops the test of a long case whose run prints something else.
+pub fn expect_long_cases<R: Abort + Threads + Wait + Sync>(
+    rt: &R,
+    alloc: Global,
+    cases: &[LongCase],
+) -> Result<(), Fail> {
+    for case in cases {
+        expect_long_case(rt, alloc, case)?;
+    }
+    Ok(())
+}

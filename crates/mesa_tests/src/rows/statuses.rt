@@ -1,0 +1,164 @@
+// How calls end that run nothing, or whose streams fail.
+use crate::call::{Case, PLAIN, call_over, empty_disk, script_run};
+use crate::cases::{expect_cases, expect_text};
+use std::alloc::{AllocError, Global};
+use std::process::Abort;
+use std::sync::Wait;
+use std::test::Fail;
+use std::thread::Threads;
+
+const ONE_ROW: &[u8] = b"table,t,k int,v sum\nrow,t,1,5\ncommit\ncommit\nquery,t\n";
+
+static ONE_ROW_TEXT: &str = "0.1@0 table t\n\
+     0.2@2 loaded version=0 rows=1\n\
+     0.3@4 loaded version=1 rows=0\n\
+     0.4@5 rows 1 version=1\n\
+     1,5\n";
+
+const USAGE: &str = "mesa: usage: mesa run | mesa check | mesa gen SEED VERSIONS\n";
+
+const UNSERVED: Case<'static> = Case {
+    name: "words that aren't served",
+    source_fails: &[0],
+    status: 2,
+    text: USAGE,
+    turns: Some(0),
+    left: Some(""),
+    ..PLAIN
+};
+
+static ENDINGS: [Case<'static>; 7] = [
+    Case {
+        words: &[],
+        ..UNSERVED
+    },
+    Case {
+        words: &["run", "x"],
+        ..UNSERVED
+    },
+    Case {
+        words: &["check", "x"],
+        ..UNSERVED
+    },
+    Case {
+        words: &["--help"],
+        ..UNSERVED
+    },
+    Case {
+        name: "a source that fails",
+        script: ONE_ROW,
+        source_fails: &[0],
+        status: 4,
+        text: "mesa: source fault\n",
+        turns: Some(0),
+        left: Some(""),
+        ..PLAIN
+    },
+    // The command whose block failed has its turn, and the next one is skipped.
+    Case {
+        name: "a sink that fails",
+        script: ONE_ROW,
+        sink_fails: &[0],
+        status: 5,
+        turns: Some(2),
+        ..PLAIN
+    },
+    Case {
+        name: "a sink that fails before the usage",
+        words: &[],
+        sink_fails: &[0],
+        status: 5,
+        turns: Some(0),
+        left: Some(""),
+        ..PLAIN
+    },
+];
+
+#[test]
+fn calls_that_end_early(rt: HostRuntime) -> Result<(), Fail> {
+    expect_cases(&rt, rt.alloc(), &ENDINGS)
+}
+
+const SHUT: Case<'static> = Case {
+    name: "a sink of which a later call fails",
+    script: ONE_ROW,
+    status: 5,
+    ..PLAIN
+};
+
+// Each of the four blocks takes one call or more, and none takes forty.
+static SINKS: [Case<'static>; 5] = [
+    Case {
+        sink_fails: &[0],
+        ..SHUT
+    },
+    Case {
+        sink_fails: &[1],
+        ..SHUT
+    },
+    Case {
+        sink_fails: &[2],
+        ..SHUT
+    },
+    Case {
+        sink_fails: &[3],
+        ..SHUT
+    },
+    Case {
+        sink_fails: &[160],
+        status: 0,
+        ..SHUT
+    },
+];
+
+// Stops the test where a call prints no front of the blocks, or not all of them though it doesn't fail.
+fn expect_front<R: Abort + Threads + Wait + Sync>(
+    rt: &R,
+    alloc: Global,
+    case: &Case<'_>,
+) -> Result<(), AllocError> {
+    let left = call_over(rt, alloc, empty_disk(alloc), case)?;
+    let is_front = ONE_ROW_TEXT.as_bytes().starts_with(&left.text);
+    let is_whole = left.text.len() == ONE_ROW_TEXT.len();
+    assert!(rt; is_front && left.status == case.status && is_whole == (case.status == 0));
+    Ok(())
+}
+
+fn expect_fronts<R: Abort + Threads + Wait + Sync>(
+    rt: &R,
+    alloc: Global,
+) -> Result<(), AllocError> {
+    for case in &SINKS {
+        expect_front(rt, alloc, case)?;
+    }
+    Ok(())
+}
+
+#[test]
+fn calls_of_the_sink_failing(rt: HostRuntime) -> Result<(), Fail> {
+    Ok(expect_fronts(&rt, rt.alloc())?)
+}
+
+fn lines(alloc: Global, count: usize) -> Result<Vec<u8>, AllocError> {
+    let mut bytes = Vec::new(alloc);
+    bytes.resize(count, b'\n')?;
+    Ok(bytes)
+}
+
+fn expect_too_long<R: Abort + Threads + Wait + Sync>(
+    rt: &R,
+    alloc: Global,
+    script: &[u8],
+) -> Result<(), AllocError> {
+    let case = script_run(script);
+    let left = call_over(rt, alloc, empty_disk(alloc), &case)?;
+    let text = "mesa: input over 67108864 bytes\n";
+    expect_text(rt, "an input that is too long", &left, 9, text);
+    Ok(())
+}
+
+#[test]
+fn input_too_long(rt: HostRuntime) -> Result<(), Fail> {
+    let bytes = lines(rt.alloc(), 67_108_865)?;
+    Ok(expect_too_long(&rt, rt.alloc(), &bytes)?)
+}

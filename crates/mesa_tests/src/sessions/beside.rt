@@ -1,0 +1,95 @@
+// Eight sessions of 200 commands each beside each other, in whatever order their turns come.
+use crate::call::{Left, run};
+use crate::sessions::replay::expect_replayed;
+use crate::texts::push_filled;
+use std::alloc::Global;
+use std::process::Abort;
+use std::sync::Wait;
+use std::test::Fail;
+use std::thread::Threads;
+
+/// The tables and the view of all sessions, and a short lease, so that works are lost too.
+static TABLES: &str = "lease,12\n\
+     table,t,k int;c text,v sum;h max\n\
+     table,u,k int,r replace;m min\n\
+     view,w,t,c,h;v\n";
+
+// Records, and how many commands they are: loads of one table and of both, queries, works, expiries, pins, queries
+// by them, and their releases. In them stand a key, a letter, a value, the number of the session's step and a token;
+// the numbers of versions and tokens rise with the session's steps, so most are there.
+static RECORDS: [(&str, u32); 16] = [
+    ("row,t,{0},c{1},{2},{3}\ncommit\n", 1),
+    ("row,t,{0},c{1},{2},{3}\nrow,t,{0},d,1,{3}\ncommit\n", 1),
+    ("row,t,{0},c{1},-{2},{3}\ncommit\n", 1),
+    ("row,t,{0},c{1},{2},{3}\nrow,u,{1},{2},{3}\ncommit\n", 1),
+    ("row,u,{0},{2},{3}\nrow,u,{1},1,1\ncommit\n", 1),
+    ("query,t,latest,k<{0}\n", 1),
+    ("query,t,,c=c{1}|d\n", 1),
+    ("query,t,{3},,c,v\n", 1),
+    ("query,w\n", 1),
+    ("query,u,,k>={1},,,5\n", 1),
+    ("work,t\n", 1),
+    ("explain,t\nwork,t\n", 2),
+    ("work,u\n", 1),
+    ("expire,{3}\n", 1),
+    ("pin\nquery,t,pin:{4}\n", 2),
+    ("release,{4}\n", 1),
+];
+
+// The next number of a sequence.
+fn next(number: u32) -> u32 {
+    (number.wrapping_mul(75).wrapping_add(74)) % 65537
+}
+
+// Adds the records of a session's step by a number; how many commands they are.
+fn push_step(script: &mut String, step: u32, number: u32) -> Result<u32, Fail> {
+    let place = (number % 16) as usize;
+    let (records, commands) = RECORDS[place];
+    let numbers = [number % 23, number % 3, number % 101, step, 1 + step / 16];
+    push_filled(script, records, &numbers)?;
+    Ok(commands)
+}
+
+// A session's commands: 200, or one more where the last are two.
+fn push_session(script: &mut String, session: u32) -> Result<(), Fail> {
+    let mut number = session;
+    let mut count = 0u32;
+    for step in 0..200u32 {
+        if count < 200 {
+            number = next(number);
+            count = count.saturating_add(push_step(script, step, number)?);
+        }
+    }
+    Ok(())
+}
+
+// The prologue's commands come behind the tables; each further session has its own.
+fn eight_sessions(alloc: Global) -> Result<String, Fail> {
+    let mut script = String::from_str(alloc, TABLES)?;
+    push_session(&mut script, 0)?;
+    for session in 1..8u32 {
+        script.push_str("session\n")?;
+        push_session(&mut script, session)?;
+    }
+    Ok(script)
+}
+
+fn expect_left(rt: &impl Abort, alloc: Global, script: &str, left: &Left) -> Result<(), Fail> {
+    assert!(rt; left.status == 1, "some replies are refusals");
+    expect_replayed(rt, alloc, script, &left.text)
+}
+
+fn expect_eight<R: Abort + Threads + Wait + Sync>(
+    rt: &R,
+    alloc: Global,
+    script: &str,
+) -> Result<(), Fail> {
+    let left = run(rt, alloc, script)?;
+    expect_left(rt, alloc, script, &left)
+}
+
+#[test]
+fn eight_sessions_of_200_commands(rt: HostRuntime) -> Result<(), Fail> {
+    let script = eight_sessions(rt.alloc())?;
+    expect_eight(&rt, rt.alloc(), script.as_str())
+}

@@ -1,0 +1,249 @@
+// What a run printed, done again by the plain warehouse in the order of the printed positions.
+ghost use Rattle.std.specs.Prelude.{◌≡◌, ◌<◌, ◌+◌, ◌^◌, IsTrue};
+ghost use Rattle.mesa_plain.specs.Plain.{GaveAtMost, is_plain};
+
+use mesa_model::{Command, Reply};
+use mesa_parse::parse;
+use mesa_plain::PlainWarehouse;
+use mesa_print::{HEAD_ROOM, head, render};
+use mesa_script::Script;
+use std::alloc::{AllocError, Global};
+use std::process::Abort;
+use std::str;
+use std::test::Fail;
+
+/// A printed block: whose it is, its position, and where it stands in the text.
+#[derive(Clone, Copy)]
+struct Block {
+    session: u32,
+    command: u32,
+    position: u32,
+    from: usize,
+    to: usize,
+}
+
+fn number(word: &str) -> Option<u32> {
+    word.parse().ok()
+}
+
+// The block that a line begins at this place of the text, where it is a head line. No line of a body is one.
+fn head_at(line: &str, from: usize) -> Option<Block> {
+    let (name, rest) = line.split_once('@')?;
+    let (session, command) = name.split_once('.')?;
+    let (position, _reply) = rest.split_once(' ')?;
+    Some(Block {
+        session: number(session)?,
+        command: number(command)?,
+        position: number(position)?,
+        from,
+        to: from,
+    })
+}
+
+// Ends the last block here.
+fn end_last(blocks: &mut [Block], to: usize) {
+    if let Some(last) = blocks.last_mut() {
+        last.to = to;
+    }
+}
+
+fn blocks(alloc: Global, text: &str) -> Result<Vec<Block>, AllocError> {
+    let mut blocks = Vec::new(alloc);
+    let mut at = 0usize;
+    for line in text.lines() {
+        if let Some(block) = head_at(line, at) {
+            blocks.push(block)?;
+        }
+        at = at.saturating_add(line.len()).saturating_add(1);
+        end_last(&mut blocks, at);
+    }
+    Ok(blocks)
+}
+
+// How many commands of a session were printed. Stops the test where they don't stand in their order.
+fn commands_of(rt: &impl Abort, blocks: &[Block], session: usize) -> usize {
+    let mut number = 0u32;
+    for block in blocks {
+        if block.session as usize == session {
+            number = number.wrapping_add(1);
+            assert_eq!(rt; block.command, number, "a command of session {session}");
+        }
+    }
+    number as usize
+}
+
+// The same, or where a command of a session is missing.
+fn expect_order(rt: &impl Abort, script: &Script, blocks: &[Block]) {
+    for (session, commands) in script.sessions.as_slice().iter().enumerate() {
+        let printed = commands_of(rt, blocks, session);
+        assert_eq!(rt; printed, commands.as_slice().len(), "session {session}");
+    }
+}
+
+fn command_of<'a>(script: &'a Script, block: &Block) -> Option<&'a Command> {
+    let commands = script.sessions.as_slice().get(block.session as usize)?;
+    commands
+        .as_slice()
+        .get((block.command as usize).wrapping_sub(1))
+}
+
+// Whether the warehouse does a command itself.
+fn is_done(command: &Command) -> bool
+    ensures { result ≡ is_plain command.now }
+{
+    !matches!(command, Command::Explain(_) | Command::Work(_))
+}
+
+// Adds the lines below the head of a query's page; other commands have none.
+fn push_body(
+    alloc: Global,
+    warehouse: &PlainWarehouse,
+    session: u16,
+    command: &Command,
+    text: &mut Vec<u8>,
+) -> Result<(), AllocError> {
+    let Command::Query(words) = command else {
+        return Ok(());
+    };
+    match warehouse.query(session, words) {
+        Ok(Ok((page, query))) => match render(alloc, &page, query.group_kinds(), query.prefix()) {
+            Ok(rendered) => text.extend_from_slice(rendered.body.as_slice()),
+            Err(error) => Err(error),
+        },
+        Ok(Err(_)) => Ok(()),
+        Err(error) => Err(error),
+    }
+}
+
+fn session_of(block: &Block) -> u16 {
+    (block.session & 0xffff) as u16
+}
+
+fn push_head(block: &Block, reply: &Reply, text: &mut Vec<u8>) -> Result<(), AllocError> {
+    let mut line = [0; HEAD_ROOM];
+    let session = session_of(block);
+    let length = head(
+        session,
+        block.command,
+        block.position as u64,
+        reply,
+        &mut line,
+    );
+    text.extend_from_slice(&line[..length])
+}
+
+// Does a command after so many others, and adds the head of its block.
+fn apply(
+    warehouse: &mut PlainWarehouse,
+    done: u32,
+    block: &Block,
+    command: &Command,
+    text: &mut Vec<u8>,
+) -> Result<(), AllocError>
+    requires few { GaveAtMost done warehouse.old }
+    requires room { done + 1 < 2 ^ 32 }
+    requires plain { IsTrue (is_plain command.now) }
+    ensures { GaveAtMost (done + 1) warehouse.new }
+{
+    let reply = warehouse.apply(session_of(block), command)?;
+    push_head(block, &reply, text)
+}
+
+// Stops the test where a block isn't what the warehouse prints. A query changes nothing, so its page is the same
+// once it is done.
+fn expect_block(
+    rt: &impl Abort,
+    alloc: Global,
+    warehouse: &mut PlainWarehouse,
+    done: u32,
+    block: &Block,
+    command: &Command,
+    printed: &[u8],
+    text: &mut Vec<u8>,
+) -> Result<(), AllocError>
+    requires few { GaveAtMost done warehouse.old }
+    requires room { done + 1 < 2 ^ 32 }
+    requires plain { IsTrue (is_plain command.now) }
+    ensures { GaveAtMost (done + 1) warehouse.new }
+{
+    text.clear();
+    apply(warehouse, done, block, command, text)?;
+    push_body(alloc, warehouse, session_of(block), command, text)?;
+    assert_eq!(rt; str::from_utf8(printed), str::from_utf8(text));
+    Ok(())
+}
+
+// Stops the test where a block is none of a work and no plan.
+fn expect_work(rt: &impl Abort, printed: &[u8]) {
+    let reply = str::from_utf8(printed).unwrap_or("");
+    let (_head, reply) = reply.split_once(' ').unwrap_or(("", ""));
+    let is_one = reply.starts_with("swapped ")
+        || reply.starts_with("idle\n")
+        || reply.starts_with("busy lease=")
+        || reply.starts_with("refused lost lease=")
+        || reply.starts_with("spans ");
+    assert!(rt; is_one, "a work or an explain prints {reply}");
+}
+
+// Does the commands of blocks one after the other.
+fn expect_blocks(
+    rt: &impl Abort,
+    alloc: Global,
+    warehouse: &mut PlainWarehouse,
+    script: &Script,
+    blocks: &[Block],
+    all: &[u8],
+    text: &mut Vec<u8>,
+) -> Result<(), Fail>
+    requires { GaveAtMost 0 warehouse.old }
+{
+    let mut done = 0u32;
+    'commands: for block in blocks {
+        let command = command_of(script, block).ok_or("no command")?;
+        let printed = all.get(block.from..block.to).ok_or("no text")?;
+        if is_done(command) {
+            if done == u32::MAX {
+                return Err("too many commands")?;
+            }
+            expect_block(rt, alloc, warehouse, done, block, command, printed, text)?;
+            done += 1;
+        } else {
+            expect_work(rt, printed);
+        }
+    }
+    Ok(())
+}
+
+fn expect_script(
+    rt: &impl Abort,
+    alloc: Global,
+    script: &Script,
+    blocks: &[Block],
+    all: &[u8],
+) -> Result<(), Fail> {
+    expect_order(rt, script, blocks);
+    let mut warehouse = PlainWarehouse::new(alloc);
+    let mut text = Vec::new(alloc);
+    expect_blocks(rt, alloc, &mut warehouse, script, blocks, all, &mut text)
+}
+
+fn sorted(alloc: Global, text: &str) -> Result<Vec<Block>, Fail> {
+    let mut blocks = blocks(alloc, text)?;
+    blocks.sort_by_key(|block| block.position)?;
+    Ok(blocks)
+}
+
+/// Stops the test where the plain warehouse, given a script's commands in the order of the printed positions,
+/// prints another block than the run did. Of a work and of an explain it is tested that it is one of their replies.
+pub fn expect_replayed(
+    rt: &impl Abort,
+    alloc: Global,
+    script: &str,
+    printed: &[u8],
+) -> Result<(), Fail> {
+    let text = str::from_utf8(printed).ok().ok_or("no text")?;
+    let blocks = sorted(alloc, text)?;
+    let bytes = script.as_bytes().to_vec(alloc)?;
+    let script = parse(alloc, bytes).ok().ok_or("no script")?;
+    expect_script(rt, alloc, &script, &blocks, printed)
+}

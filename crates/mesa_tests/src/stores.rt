@@ -1,0 +1,6 @@
+// Stores that were left by earlier runs, that are damaged, or of whose devices calls fail.
+mod crashes;
+mod damage;
+mod faults;
+mod reopening;
+pub mod shown;
