@@ -1,6 +1,7 @@
-// Stores that were left by earlier runs, that are damaged, or of whose devices calls fail.
+// Stores that were left by earlier runs, that are damaged or unsound, or of whose devices calls fail.
 mod crashes;
 mod damage;
 mod faults;
 mod reopening;
 pub mod shown;
+mod unsound;
