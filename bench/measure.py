@@ -49,13 +49,14 @@ def new_folder():
     return tempfile.TemporaryDirectory(dir=os.getcwd())
 
 
-def run(program, folder, lines, before=()):
-    """One run of a script over the store in a folder, in which every reply has to be Ok. `before` starts the program."""
+def run(program, folder, lines, before=(), words=("run",)):
+    """One call of the program over the store in a folder, by default a run of a script, in which every reply has to be Ok.
+    `before` starts the program."""
     with tempfile.TemporaryFile("w+") as script, tempfile.TemporaryFile("w+") as printed:
         script.writelines(line + "\n" for line in lines)
         script.seek(0)
         start = time.monotonic()
-        child = subprocess.Popen([*before, program, "run"], cwd=folder, stdin=script, stdout=printed)
+        child = subprocess.Popen([*before, program, *words], cwd=folder, stdin=script, stdout=printed)
         _, status, used = os.wait4(child.pid, 0)
         seconds = time.monotonic() - start
         child.returncode = os.waitstatus_to_exitcode(status)
@@ -89,15 +90,15 @@ def anew(program, folder, lines, runs=3):
     return least([*found, run(program, folder, lines)])
 
 
-def digest_part(program, folder, lines):
-    """The part of a run's processor time that SHA-256 takes, by perf's samples, in words. The store is left as it is."""
+def digest_part(program, folder, lines, words=("run",)):
+    """The part of a call's processor time that SHA-256 takes, by perf's samples, in words. The store is left as it is."""
     if shutil.which("perf") is None:
         return "perf is missing"
     with new_folder() as copy:
         if os.path.exists(f"{folder}/mesa-store"):
             shutil.copytree(f"{folder}/mesa-store", f"{copy}/mesa-store")
         samples = f"{copy}/samples"
-        run(program, copy, lines, ["perf", "record", "-q", "-e", "cpu-clock", "-F", "997", "-o", samples])
+        run(program, copy, lines, ["perf", "record", "-q", "-e", "cpu-clock", "-F", "997", "-o", samples], words)
         asked = ["perf", "report", "-i", samples, "--stdio", "--sort", "symbol", "-g", "none"]
         told = subprocess.run(asked, capture_output=True, text=True).stdout
     parts = re.findall(r"^ *([0-9.]+)% .*\bsha2::", told, re.M)
