@@ -62,7 +62,53 @@ const TEN_VERSIONS: &str = "table,t,k int,v sum\n\
      commit\n\
      work,t\n";
 
-static CASES: [Changed; 12] = [
+// Versions 0, 1 and 10 have rows, the others to 19 none; one cumulative of versions 0 to 9 is the rows 1,5 and 2,8, and
+// one of versions 0 to 19 these and 3,4.
+const TWENTY_VERSIONS: &str = "table,t,k int,v sum\n\
+     row,t,1,5\n\
+     row,t,2,7\n\
+     commit\n\
+     row,t,2,1\n\
+     commit\n\
+     commit\n\
+     commit\n\
+     commit\n\
+     commit\n\
+     commit\n\
+     commit\n\
+     commit\n\
+     commit\n\
+     row,t,3,4\n\
+     commit\n\
+     commit\n\
+     commit\n\
+     commit\n\
+     commit\n\
+     commit\n\
+     commit\n\
+     commit\n\
+     commit\n\
+     commit\n\
+     work,t\n\
+     work,t\n";
+
+// The row 2,8 of the first cumulative is 2,9, in the block, its digest, and the reference's sum and digest.
+const FIRST_CUMULATIVE: [(&str, &str); 3] = [
+    (
+        "0000028000000000000001800000000000000200000000000000050000000000000008",
+        "0000028000000000000001800000000000000200000000000000050000000000000009",
+    ),
+    (
+        "459b214cf7c9d6d07b8177fb2168043c1269e54f9af8e89b9196eebd021d88a5",
+        "af3d356968eec3702f5009f807c7d769c5c72ff3e12eddd27ba54e44a7cd720c",
+    ),
+    (
+        "000000000000000d4f49fe958218b6081ffba0bede694fc119b4c070b3781fb6fb49680d7c550446",
+        "000000000000000e0e19a8b5fb4578c0c5b57ece0bdaaf96737a13a4be4571d4e55751508e079559",
+    ),
+];
+
+static CASES: [Changed; 15] = [
     Changed {
         name: "an empty store",
         script: "",
@@ -129,26 +175,62 @@ static CASES: [Changed; 12] = [
         status: 0,
         text: "sound\n",
     },
-    // The row 2,8 is 2,9, in the block, its digest, and the reference's sum and digest.
     Changed {
         name: "a cumulative with one value changed",
         script: TEN_VERSIONS,
+        changes: &FIRST_CUMULATIVE,
+        status: 1,
+        text: "unsound table=t range=[0,9] key=8000000000000002\n",
+    },
+    // The second cumulative has what the versions brought, and the first hasn't.
+    Changed {
+        name: "the first of two cumulatives with one value changed",
+        script: TWENTY_VERSIONS,
+        changes: &FIRST_CUMULATIVE,
+        status: 1,
+        text: "unsound table=t range=[0,9] key=8000000000000002\n",
+    },
+    // Of the second the row 2,8 is 2,9, which version 10 and those behind it don't have.
+    Changed {
+        name: "the second of two cumulatives with a value changed that is of the first",
+        script: TWENTY_VERSIONS,
         changes: &[
             (
-                "0000028000000000000001800000000000000200000000000000050000000000000008",
-                "0000028000000000000001800000000000000200000000000000050000000000000009",
+                "000003800000000000000180000000000000028000000000000003000000000000000500000000000000080000000000000004",
+                "000003800000000000000180000000000000028000000000000003000000000000000500000000000000090000000000000004",
             ),
             (
-                "459b214cf7c9d6d07b8177fb2168043c1269e54f9af8e89b9196eebd021d88a5",
-                "af3d356968eec3702f5009f807c7d769c5c72ff3e12eddd27ba54e44a7cd720c",
+                "50db543a1878e9b84dfdf3c01ade463535ceb0913e74b8428c19dca780eeacd0",
+                "81844130b6d9237414bc0f58e03b68f3121f60f2728482fbd4f56068c224e87a",
             ),
             (
-                "000000000000000d4f49fe958218b6081ffba0bede694fc119b4c070b3781fb6fb49680d7c550446",
-                "000000000000000e0e19a8b5fb4578c0c5b57ece0bdaaf96737a13a4be4571d4e55751508e079559",
+                "0000000000000011ff29d7d765c7a9041c3f276786aca17e37ad1aa12831c19f2a47ae7c34f448de",
+                "00000000000000124f9c602fa55d8a3dfee8b8cb5cb535336fcc9ea197d16123dcac595ea3f5bbf1",
             ),
         ],
         status: 1,
-        text: "unsound table=t range=[0,9] key=8000000000000002\n",
+        text: "unsound table=t range=[0,19] key=8000000000000002\n",
+    },
+    // And of the second the row 3,4 is 3,6, which the first doesn't have.
+    Changed {
+        name: "the second of two cumulatives with a value changed that came since the first",
+        script: TWENTY_VERSIONS,
+        changes: &[
+            (
+                "000003800000000000000180000000000000028000000000000003000000000000000500000000000000080000000000000004",
+                "000003800000000000000180000000000000028000000000000003000000000000000500000000000000080000000000000006",
+            ),
+            (
+                "50db543a1878e9b84dfdf3c01ade463535ceb0913e74b8428c19dca780eeacd0",
+                "94f3004207800142b38f420d96c5928c80125a8333e063176878f133327187d4",
+            ),
+            (
+                "0000000000000011ff29d7d765c7a9041c3f276786aca17e37ad1aa12831c19f2a47ae7c34f448de",
+                "0000000000000013d0c0d7aeecde52acae10783532cec692d64a9e38fe8809c4400e9887f46cd00b",
+            ),
+        ],
+        status: 1,
+        text: "unsound table=t range=[0,19] key=8000000000000003\n",
     },
     // The view's rows are 1,5 and 2,7; the file that takes the place of theirs has the first alone, and so has the
     // reference.
