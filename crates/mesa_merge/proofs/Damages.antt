@@ -1,5 +1,5 @@
 -- Which damage is told.
-use Rattle.std.proofs.Common.{◌≡◌, inl, inr, ℕ, ◌+◌, ◌<◌, ◌≤◌, List, [], ◌∷◌, ◌++◌, refl, sym, ◌∙◌, ap, subst, length, get_or, set, arith, true}
+use Rattle.std.proofs.Common.{◌≡◌, inl, inr, ℕ, ◌+◌, ◌<◌, List, [], ◌∷◌, ◌++◌, refl, sym, ◌∙◌, ap, subst, length, get_or, set, arith, true}
 use Rattle.std.proofs.lemmas.List.{get_or-set_same}
 use Rattle.std.specs.Prelude.{Option, Some, slice_get}
 use Rattle.std.specs.Ordering.{is_ge}

@@ -1,4 +1,5 @@
 pub mod Cases
+pub mod Fronts
 pub mod Orders
 pub mod Trees
 pub mod Hands

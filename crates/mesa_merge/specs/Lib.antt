@@ -1,3 +1,4 @@
+pub mod Fronts
 pub mod Hands
 pub mod Matches
 pub mod Inputs

@@ -1,10 +1,12 @@
 // Which input has the least row at hand: a tree of matches, so that a row taken costs one match for each of its levels.
 ghost use Rattle.std.specs.Prelude.{◌≡◌, ◌⊎◌, ◌+◌, ◌/◌, ◌<◌, ◌≤◌, ℕ, List, [], length, get_or, IfOk, IfSome, IfNone};
+ghost use Rattle.mesa_key.specs.Order.{byte_cmp};
+ghost use Rattle.mesa_merge.specs.Fronts.{IsFront};
 ghost use Rattle.mesa_merge.specs.Hands.{IsBefore, IsLeastAt, hands_of};
 ghost use Rattle.mesa_merge.specs.Matches.{AreWinners, IsTree, above};
 
 use mesa_cursor::Cursor;
-use mesa_key::compare;
+use mesa_key::{compare, short};
 use std::alloc::{AllocError, Global};
 use std::cmp::Ordering;
 
@@ -42,11 +44,32 @@ fn first_of(cursors: &[Cursor], a: usize, b: usize) -> usize
     let Some(first) = cursors[a].head() else {
         return b;
     };
-    match compare(first.key.as_slice(), second.key.as_slice()) {
+    match compare_keys(first.key.as_slice(), second.key.as_slice()) {
         Ordering::Less => a,
         Ordering::Greater => b,
         Ordering::Equal => a.min(b),
     }
+}
+
+// The order of two keys. Mostly their fronts decide, which are compared at once and not byte by byte.
+fn compare_keys(a: &[u8], b: &[u8]) -> Ordering
+    ensures { result ≡ byte_cmp a.now b.now }
+{
+    let (front_a, front_b) = (front(a), front(b));
+    if front_a < front_b {
+        return Ordering::Less;
+    }
+    if front_b < front_a {
+        return Ordering::Greater;
+    }
+    compare(a, b)
+}
+
+// A key's short key as one number.
+fn front(key: &[u8]) -> u128
+    ensures { IsFront result key.now }
+{
+    u128::from_be_bytes(short(key))
 }
 
 // Plays an input's matches again after its row at hand has changed.
