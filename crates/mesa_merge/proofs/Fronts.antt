@@ -1,17 +1,20 @@
 -- Fronts tell keys apart.
-use Rattle.std.proofs.Common.{◌≡◌, ℕ, zero, suc, ◌+◌, ◌*◌, ◌^◌, ◌<◌, ◌≤◌, List, [], ◌∷◌, ◌++◌, length, take, refl, sym, ◌∙◌, ap, subst, arith, true, lit<, length-append}
+use Rattle.std.proofs.Common.{◌≡◌, ℕ, zero, suc, ◌+◌, ◌*◌, ◌^◌, ◌<◌, ◌-◌, ◌≤◌, ◌≢◌, inl, inr, List, [], ◌∷◌, ◌++◌, length, take, get_or, set, get_or-set_other, get_or-set_same, refl, sym, ◌∙◌, ap, subst, arith, true, lit<, length-append}
 use Rattle.std.specs.Prelude.{replicate}
 use Rattle.std.specs.Int.{w128, from_be_bytes}
 use Rattle.std.specs.Ordering.{is_le, nat_cmp, ordering_then}
 use Rattle.std.specs.declared.cmp.Ordering.TheVariants.{Less, Equal, Greater}
 use Rattle.std.specs.Cmp.{nat_cmp_is, ranked}
 use Rattle.std.proofs.Math.Nat.{mul-le-mul_right, pow-succ'}
-use Rattle.std.proofs.lemmas.List.{length-take-le, length-replicate}
+use Rattle.std.proofs.lemmas.List.{get_or-replicate, length-replicate, length-set, length-take-le}
 use Rattle.mesa_key.specs.Order.{byte_cmp, short_key}
 use Rattle.mesa_key.specs.Spelling.{AreBytes}
 use Rattle.mesa_delta.proofs.Shorts.{short_le}
 use Rattle.mesa_fold.proofs.Place.{flipped}
-use Rattle.mesa_merge.specs.Fronts.{IsFront}
+use Rattle.mesa_schema.specs.declared.rows.Row.{Row}
+use Rattle.mesa_merge.specs.Fronts.{AreFronts, HasFront, IsFront}
+use Rattle.mesa_merge.specs.Hands.{ComesBefore}
+use Rattle.mesa_merge.proofs.Trees.{same_or_not}
 
 -- what bytes spell, the first the highest
 spelled : List ℕ → ℕ
@@ -111,5 +114,28 @@ less_by_fronts f g a b p q lt =
       | Greater ↦ λ e. absurd (never (ap is_le (flipped b a Greater e)))
     ] refl
 
-pub greater_by_fronts : (f g : ℕ) (a b : List ℕ) → IsFront f a → IsFront g b → g < f → byte_cmp a b ≡ Greater
-greater_by_fronts f g a b p q lt = flipped a b Less (less_by_fronts g f b a q p lt)
+-- ---- fronts of inputs
+
+-- a lesser front is that of an input that comes before the other
+pub front_before : (f g a b : ℕ) (xs ys : List Row) → HasFront f xs → HasFront g ys → g < 2 ^ 128 → f < g → ComesBefore a xs b ys
+front_before f g a b xs [] p q fits lt = tt
+front_before f g a b [] (y ∷ ys) p q fits lt = absurd (omega (arith, p, fits, lt))
+front_before f g a b (x ∷ xs) (y ∷ ys) p q fits lt = inl (less_by_fronts f g x.key y.key p q lt)
+
+-- where none has a row at hand
+pub no_fronts : (hands : List (List Row)) (fronts : List ℕ) → fronts ≡ replicate (length hands) (2 ^ 128 - 1) → ((j : ℕ) → get_or hands j [] ≡ []) → AreFronts hands fronts
+no_fronts hands fronts is none = record {
+  count = ap length is ∙ length-replicate (length hands) (2 ^ 128 - 1);
+  each = λ j lt. subst (HasFront (get_or fronts j 0)) (sym (none j)) (ap (λ fs. get_or fs j 0) is ∙ get_or-replicate (length hands) j (2 ^ 128 - 1) 0 lt);
+}
+
+-- one of them has changed
+pub front_set : (i f : ℕ) (hands : List (List Row)) (fronts : List ℕ) → length fronts ≡ length hands → i < length hands → ((j : ℕ) → j < length hands → j ≢ i → HasFront (get_or fronts j 0) (get_or hands j []))
+    → HasFront f (get_or hands i []) → AreFronts hands (set fronts i f)
+front_set i f hands fronts count within others here = record {
+  count = length-set fronts i f ∙ count;
+  each = λ j lt. elim (same_or_not j i) [
+    | inl same ↦ subst (λ k. HasFront (get_or (set fronts i f) k 0) (get_or hands k [])) (sym same) (subst (λ n. HasFront n (get_or hands i [])) (sym (get_or-set_same fronts i f 0 (omega (arith, count, within)))) here)
+    | inr ne ↦ subst (λ n. HasFront n (get_or hands j [])) (sym (get_or-set_other fronts i j f 0 ne)) (others j lt ne)
+  ];
+}

@@ -10,6 +10,7 @@ use Rattle.mesa_merge.specs.Hands.{hands_of}
 use Rattle.mesa_merge.specs.Matches.{IsTree}
 use Rattle.mesa_merge.specs.Merged.{HasMerged}
 use Rattle.mesa_merge.specs.Merging.{IsMerging}
+use Rattle.mesa_merge.specs.declared.matches.Tree.{Tree}
 use Rattle.mesa_merge.specs.declared.merge.Merge.{Merge}
 
 -- what was lent whole and came back as long is what came back
@@ -20,15 +21,15 @@ refill len old new e f =
     ap (λ rest. take len (new ++ rest)) (drop_all (length new) old all) ∙ ap (take len) (append-nil new) ∙ take_all len new whole
 
 -- of a merge with these lists just these rows were given
-pub merged_with : {R : Type 0} (bytes : R → Option (List ℕ)) (s : Columns) (m : Merge R) (inputs : List (Input R)) (cursors : List Cursor) (winners : List ℕ) (givens : List (List Row))
-    → m.inputs.items ≡ inputs → m.cursors.items ≡ cursors → m.winners.items ≡ winners → m.begun ≡ true → m.failed ≡ None → (0 < length inputs → m.aggs.items ≡ aggs_of s)
-    → IsTree (hands_of cursors) winners → IsMerging bytes s inputs cursors givens → HasMerged bytes s m givens
-merged_with bytes s m inputs cursors winners givens ei ec ew begun going columns tree merging =
+pub merged_with : {R : Type 0} (bytes : R → Option (List ℕ)) (s : Columns) (m : Merge R) (inputs : List (Input R)) (cursors : List Cursor) (tree : Tree) (givens : List (List Row))
+    → m.inputs.items ≡ inputs → m.cursors.items ≡ cursors → m.tree ≡ tree → m.begun ≡ true → m.failed ≡ None → (0 < length inputs → m.aggs.items ≡ aggs_of s)
+    → IsTree (hands_of cursors) tree → IsMerging bytes s inputs cursors givens → HasMerged bytes s m givens
+merged_with bytes s m inputs cursors tree givens ei ec ew begun going columns played merging =
     let all : IsMerging bytes s m.inputs.items m.cursors.items givens = subst (λ is. IsMerging bytes s is m.cursors.items givens) (sym ei) (subst (λ cs. IsMerging bytes s inputs cs givens) (sym ec) merging) in
     record {
       going = going;
       columns = λ some. columns (subst (λ is. 0 < length is) ei some);
-      tree = subst (λ cs. IsTree (hands_of cs) m.winners.items) (sym ec) (subst (IsTree (hands_of cursors)) (sym ew) tree);
+      tree = subst (λ cs. IsTree (hands_of cs) m.tree) (sym ec) (subst (IsTree (hands_of cursors)) (sym ew) played);
       alike = all.alike;
       given = all.given;
       none = λ no. let both : true ≡ false = sym begun ∙ no in cc;

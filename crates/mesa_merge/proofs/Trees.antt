@@ -3,7 +3,7 @@ use Rattle.std.proofs.Common.{◌≡◌, ◌≢◌, ◌⊎◌, inl, inr, ℕ, ze
 use Rattle.std.proofs.lemmas.List.{length-set}
 use Rattle.mesa_schema.specs.declared.rows.Row.{Row}
 use Rattle.mesa_merge.specs.Hands.{ComesBefore, IsBefore, IsLeastAt}
-use Rattle.mesa_merge.specs.Matches.{AreWinners, IsTree, above}
+use Rattle.mesa_merge.specs.Matches.{AreWinners, AreWon, above}
 use Rattle.mesa_merge.proofs.Orders.{before_ahead, before_along, before_from, before_none, before_nothing, itself_before}
 
 -- one step more above a place
@@ -173,7 +173,7 @@ above_nothing : (steps : ℕ) → above steps 0 ≡ 0
 above_nothing zero = refl
 above_nothing (suc steps) = above_nothing steps
 
-pub won_all : (hands : List (List Row)) (place : ℕ) (winners : List ℕ) → IsWonBelow hands place winners → place ≤ 1 → IsTree hands winners
+pub won_all : (hands : List (List Row)) (place : ℕ) (winners : List ℕ) → IsWonBelow hands place winners → place ≤ 1 → AreWon hands winners
 won_all hands place winners p le = record {
   inputs = p.inputs;
   won = λ below two high. p.won below two high (λ steps e.
@@ -184,7 +184,7 @@ won_all hands place winners p le = record {
 
 -- ---- the winner of all
 
-top_before : (hands : List (List Row)) (winners : List ℕ) → IsTree hands winners → (fuel place : ℕ) → place ≤ fuel → 1 ≤ place → place < length hands + length hands → IsBefore hands (get_or winners 1 0) (get_or winners place 0)
+top_before : (hands : List (List Row)) (winners : List ℕ) → AreWon hands winners → (fuel place : ℕ) → place ≤ fuel → 1 ≤ place → place < length hands + length hands → IsBefore hands (get_or winners 1 0) (get_or winners place 0)
 top_before hands winners t zero place le some lt = absurd (omega (arith, le, some))
 top_before hands winners t (suc fuel) place le some lt = elim (same_or_not place 1) [
   | inl same ↦ subst (λ k. IsBefore hands (get_or winners 1 0) (get_or winners k 0)) (sym same) (itself_before (get_or winners 1 0) (get_or hands (get_or winners 1 0) []))
@@ -195,7 +195,7 @@ top_before hands winners t (suc fuel) place le some lt = elim (same_or_not place
       (t.won place two lt)
 ]
 
-first_before : (hands : List (List Row)) (winners : List ℕ) → IsTree hands winners → (j : ℕ) → j < length hands → IsBefore hands (get_or winners 1 0) j
+first_before : (hands : List (List Row)) (winners : List ℕ) → AreWon hands winners → (j : ℕ) → j < length hands → IsBefore hands (get_or winners 1 0) j
 first_before hands winners t j lt =
     let low : 1 ≤ length hands + j = omega (arith, lt) in
     let high : length hands + j < length hands + length hands = omega (arith, lt) in
@@ -212,13 +212,13 @@ beyond zero (suc n) = inl (omega arith)
 beyond (suc j) (suc n) = elim (beyond j n) [ inl lt ↦ inl (omega (arith, lt)) | inr le ↦ inr (omega (arith, le)) ]
 
 -- the winner comes before every input, also past the last
-pub winner_before : (hands : List (List Row)) (winners : List ℕ) → IsTree hands winners → (j : ℕ) → IsBefore hands (get_or winners 1 0) j
+pub winner_before : (hands : List (List Row)) (winners : List ℕ) → AreWon hands winners → (j : ℕ) → IsBefore hands (get_or winners 1 0) j
 winner_before hands winners t j = elim (beyond j (length hands)) [
   | inl lt ↦ first_before hands winners t j lt
   | inr le ↦ before_none (get_or winners 1 0) j _ _ (past hands j le)
 ]
 
-pub winner_least : (hands : List (List Row)) (winners : List ℕ) (row : Row) (rows : List Row) → IsTree hands winners → get_or hands (get_or winners 1 0) [] ≡ row ∷ rows → IsLeastAt (get_or winners 1 0) hands
+pub winner_least : (hands : List (List Row)) (winners : List ℕ) (row : Row) (rows : List Row) → AreWon hands winners → get_or hands (get_or winners 1 0) [] ≡ row ∷ rows → IsLeastAt (get_or winners 1 0) hands
 winner_least hands winners row rows t there =
     let first : ℕ = get_or winners 1 0 in
     let each : (j : ℕ) → ComesBefore first (row ∷ rows) j (get_or hands j []) = λ j. subst (λ hand. ComesBefore first hand j (get_or hands j [])) there (winner_before hands winners t j) in
@@ -230,11 +230,11 @@ winner_least hands winners row rows t there =
       each = λ j. before_from first j row rows _ (each j);
     }
 
-pub winner_none : (hands : List (List Row)) (winners : List ℕ) → IsTree hands winners → get_or hands (get_or winners 1 0) [] ≡ [] → (j : ℕ) → get_or hands j [] ≡ []
+pub winner_none : (hands : List (List Row)) (winners : List ℕ) → AreWon hands winners → get_or hands (get_or winners 1 0) [] ≡ [] → (j : ℕ) → get_or hands j [] ≡ []
 winner_none hands winners t none j = before_nothing (get_or winners 1 0) j _ _ none (winner_before hands winners t j)
 
 -- where an input's row at hand has changed, its matches are to be played again
-pub changed_won : (olds news : List (List Row)) (i : ℕ) (winners : List ℕ) → length news ≡ length olds → i < length olds → IsTree olds winners → ((j : ℕ) → j ≢ i → get_or news j [] ≡ get_or olds j [])
+pub changed_won : (olds news : List (List Row)) (i : ℕ) (winners : List ℕ) → length news ≡ length olds → i < length olds → AreWon olds winners → ((j : ℕ) → j ≢ i → get_or news j [] ≡ get_or olds j [])
     → (place : ℕ) → 2 ≤ place → place < length news + length news → ((steps : ℕ) → above steps ((length news + i) / 2) ≡ place / 2 → ⊥) → IsBefore news (get_or winners (place / 2) 0) (get_or winners place 0)
 changed_won olds news i winners count lt t others place two high apart =
     let n : ℕ = length olds in
@@ -258,5 +258,5 @@ changed_won olds news i winners count lt t others place two high apart =
       strictly n i match (suc steps) lt e apart = apart steps e
 
 -- so it is with all matches, where none has a row at hand
-pub nothing_won : (hands : List (List Row)) (winners : List ℕ) → AreWinners (length hands) winners → ((j : ℕ) → get_or hands j [] ≡ []) → IsTree hands winners
+pub nothing_won : (hands : List (List Row)) (winners : List ℕ) → AreWinners (length hands) winners → ((j : ℕ) → get_or hands j [] ≡ []) → AreWon hands winners
 nothing_won hands winners p none = record { inputs = p; won = λ place two high. before_none _ _ _ _ (none _) }

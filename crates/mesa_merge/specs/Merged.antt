@@ -32,7 +32,7 @@ nothing_given inputs = map (λ i. []) inputs
 pub record HasMerged {R : Type 0} (bytes : R → Option (List ℕ)) (s : Columns) (m : Merge R) (givens : List (List Row)) : Type 0 where
   pub going : m.failed ≡ None
   pub columns : 0 < length m.inputs.items → m.aggs.items ≡ aggs_of s
-  pub tree : IsTree (hands_of m.cursors.items) m.winners.items
+  pub tree : IsTree (hands_of m.cursors.items) m.tree
   pub alike : AreAlike s (knowns_of bytes m.inputs.items)
   pub given : HasGivens bytes m.inputs.items m.cursors.items givens
   pub none : m.begun ≡ false → (j : ℕ) → get_or (hands_of m.cursors.items) j [] ≡ []

@@ -16,7 +16,7 @@ ghost use Rattle.mesa_merge.specs.Inputs.{AreTold, knowns_of, lifted_parts};
 ghost use Rattle.mesa_merge.specs.Matches.{IsTree};
 ghost use Rattle.mesa_merge.specs.Merging.{IsGathering, IsMerging};
 
-use crate::matches::least;
+use crate::matches::{Tree, least};
 use crate::streams::advance;
 use crate::sums::{file_at, is_same, newest_with, sum_fault};
 use mesa_cursor::Cursor;
@@ -27,13 +27,13 @@ use mesa_schema::{Row, folds_go_on};
 use mesa_value::Agg;
 
 // The first of the inputs whose row at hand has this key, where none has a lesser one.
-fn same_key(winners: &[usize], cursors: &[Cursor], key: &[u8]) -> Option<usize>
-    requires { IsTree (hands_of cursors.now) winners.now }
+fn same_key(tree: &Tree, cursors: &[Cursor], key: &[u8]) -> Option<usize>
+    requires { IsTree (hands_of cursors.now) tree.now }
     ensures within { IfSome result (λ i. i < length cursors.now) }
     ensures least { IfSome result (λ i. IsLeastOf key.now i (hands_of cursors.now)) }
     ensures none { IfNone result (((j : ℕ) → IsFrom key.now (get_or (hands_of cursors.now) j [])) → (j : ℕ) → IsAhead key.now (get_or (hands_of cursors.now) j [])) }
 {
-    let Some(i) = least(winners, cursors) else {
+    let Some(i) = least(tree, cursors) else {
         return None;
     };
     let Some(row) = cursors[i].head() else {
@@ -50,16 +50,16 @@ fn same_key(winners: &[usize], cursors: &[Cursor], key: &[u8]) -> Option<usize>
 pub(crate) fn gather<R: FileReader>(
     inputs: &mut [Input<R>],
     cursors: &mut [Cursor],
-    winners: &mut [usize],
+    tree: &mut Tree,
     aggs: &[Agg],
     first: Row,
     mut from: usize,
 ) -> Result<Row, FileError>
     requires within { from < length inputs.old }
     requires count { length cursors.old ≡ length inputs.old }
-    requires tree { IsTree (hands_of cursors.old) winners.old }
+    requires tree { IsTree (hands_of cursors.old) tree.old }
     requires gathering { (s : Columns) × (front : List AnyRow) × (givens : List (List AnyRow)) × (aggs.now ≡ aggs_of s) × IsGathering R.bytes s inputs.old cursors.old (from + 1) first front givens }
-    ensures tree { OnOk result (IsTree (hands_of cursors.new) winners.new) }
+    ensures tree { OnOk result (IsTree (hands_of cursors.new) tree.new) }
     ensures merging { IfOk result (λ row. (s : Columns) (front : List AnyRow) (givens : List (List AnyRow)) → aggs.now ≡ aggs_of s → IsGathering R.bytes s inputs.old cursors.old (from + 1) first front givens
         → (after : List (List AnyRow)) × IsMerging R.bytes s inputs.new cursors.new after × (folded (aggs_of s) after ≡ front ++ row ∷ []) × IsRowOf s row) }
     ensures known { knowns_of R.bytes inputs.new ≡ knowns_of R.bytes inputs.old }
@@ -72,8 +72,8 @@ pub(crate) fn gather<R: FileReader>(
     folds_go_on();
     folds_totals();
     let mut row = first;
-    'same: while let Some(i) = same_key(winners, cursors, row.key.as_slice()) {
-        let taken = match advance(inputs, cursors, winners, i) {
+    'same: while let Some(i) = same_key(tree, cursors, row.key.as_slice()) {
+        let taken = match advance(inputs, cursors, tree, i) {
             Ok(taken) => taken,
             Err(error) => return Err(error),
         };

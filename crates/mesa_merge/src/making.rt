@@ -10,7 +10,7 @@ ghost use Rattle.mesa_merge.specs.Matches.{IsTree};
 ghost use Rattle.mesa_merge.specs.Merged.{nothing_given};
 ghost use Rattle.mesa_merge.specs.Merging.{HasGivens};
 
-use crate::matches::first_winners;
+use crate::matches::{Tree, first_tree};
 use mesa_cursor::Cursor;
 use mesa_delta::Input;
 use mesa_disk::FileReader;
@@ -21,7 +21,7 @@ use std::alloc::{AllocError, Global};
 /// What is kept beside the inputs of a merge.
 pub(crate) struct Parts {
     pub cursors: Vec<Cursor>,
-    pub winners: Vec<usize>,
+    pub tree: Tree,
     pub aggs: Vec<Agg>,
 }
 
@@ -33,15 +33,15 @@ pub(crate) fn parts_of<R: FileReader>(
     requires { AllByRecursion (IsInput R.bytes) inputs.now }
     ensures given { IfOk result (λ p. HasGivens R.bytes inputs.now p.cursors.items (nothing_given inputs.now)) }
     ensures none { IfOk result (λ p. (j : ℕ) → get_or (hands_of p.cursors.items) j [] ≡ []) }
-    ensures tree { IfOk result (λ p. IsTree (hands_of p.cursors.items) p.winners.items) }
+    ensures tree { IfOk result (λ p. IsTree (hands_of p.cursors.items) p.tree) }
     ensures columns { IfOk result (λ p. (s : Columns) → AreAlike s (knowns_of R.bytes inputs.now) → 0 < length inputs.now → p.aggs.items ≡ aggs_of s) }
 {
     let cursors = cursors_of(alloc, inputs)?;
-    let winners = first_winners(alloc, cursors.len())?;
+    let tree = first_tree(alloc, cursors.len())?;
     let aggs = aggs_in(alloc, inputs)?;
     Ok(Parts {
         cursors,
-        winners,
+        tree,
         aggs,
     })
 }

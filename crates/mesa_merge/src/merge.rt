@@ -10,6 +10,7 @@ ghost use Rattle.mesa_cursor.specs.Cursors.{IsInput};
 ghost use Rattle.mesa_merge.specs.Inputs.{AreInputs};
 
 use crate::making::{Parts, parts_of};
+use crate::matches::Tree;
 use crate::next::{begin, next_row};
 use crate::streams::held_by;
 use mesa_cursor::Cursor;
@@ -24,7 +25,7 @@ use std::alloc::{AllocError, Global};
 pub struct Merge<R> {
     inputs: Vec<Input<R>>,
     cursors: Vec<Cursor>,
-    winners: Vec<usize>,
+    tree: Tree,
     // The aggregations of the columns that the rows are lifted to.
     aggs: Vec<Agg>,
     // Whether the first blocks were read.
@@ -49,13 +50,13 @@ impl<R: FileReader> Merge<R> {
         };
         let Parts {
             cursors,
-            winners,
+            tree,
             aggs,
         } = parts;
         Ok(Merge {
             inputs,
             cursors,
-            winners,
+            tree,
             aggs,
             begun: false,
             failed: None,
@@ -98,7 +99,7 @@ impl<R: FileReader> Merge<R> {
         if self.begun {
             return self.further();
         }
-        match begin(&mut self.inputs, &mut self.cursors, &mut self.winners) {
+        match begin(&mut self.inputs, &mut self.cursors, &mut self.tree) {
             Ok(()) => {
                 self.begun = true;
                 self.further()
@@ -115,7 +116,7 @@ impl<R: FileReader> Merge<R> {
         next_row(
             &mut self.inputs,
             &mut self.cursors,
-            &mut self.winners,
+            &mut self.tree,
             &self.aggs,
         )
     }
@@ -135,7 +136,7 @@ impl<R: FileReader> Merge<R> {
         let Merge {
             inputs,
             cursors: _cursors,
-            winners: _winners,
+            tree: _tree,
             aggs: _aggs,
             begun: _begun,
             failed: _failed,

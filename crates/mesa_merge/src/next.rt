@@ -17,7 +17,7 @@ ghost use Rattle.mesa_merge.specs.Matches.{IsTree};
 ghost use Rattle.mesa_merge.specs.Merging.{HasGivens, IsMerging};
 
 use crate::gathering::gather;
-use crate::matches::least;
+use crate::matches::{Tree, least};
 use crate::streams::advance;
 use mesa_cursor::Cursor;
 use mesa_delta::{FileError, Input};
@@ -29,12 +29,12 @@ use mesa_value::Agg;
 pub(crate) fn begin<R: FileReader>(
     inputs: &mut [Input<R>],
     cursors: &mut [Cursor],
-    winners: &mut [usize],
+    tree: &mut Tree,
 ) -> Result<(), FileError>
     requires count { length cursors.old ≡ length inputs.old }
-    requires tree { IsTree (hands_of cursors.old) winners.old }
+    requires tree { IsTree (hands_of cursors.old) tree.old }
     requires none { (j : ℕ) → get_or (hands_of cursors.old) j [] ≡ [] }
-    ensures tree { OnOk result (IsTree (hands_of cursors.new) winners.new) }
+    ensures tree { OnOk result (IsTree (hands_of cursors.new) tree.new) }
     ensures merging { OnOk result ((s : Columns) (givens : List (List AnyRow)) → AreAlike s (knowns_of R.bytes inputs.old) → HasGivens R.bytes inputs.old cursors.old givens → ((j : ℕ) → get_or givens j [] ≡ [])
         → IsMerging R.bytes s inputs.new cursors.new givens) }
     ensures known { knowns_of R.bytes inputs.new ≡ knowns_of R.bytes inputs.old }
@@ -44,7 +44,7 @@ pub(crate) fn begin<R: FileReader>(
     ensures accepts { IfErr result (λ e. (d : AnyDamage) → e ≡ file_error.Damaged d → AllByRecursion (IsInput R.bytes) inputs.old → (contents : List (List AnyRow)) → AreTold (knowns_of R.bytes inputs.old) contents → ⊥) }
 {
     'inputs: for i in 0..inputs.len() {
-        match advance(inputs, cursors, winners, i) {
+        match advance(inputs, cursors, tree, i) {
             Ok(_) => {}
             Err(error) => return Err(error),
         }
@@ -56,12 +56,12 @@ pub(crate) fn begin<R: FileReader>(
 pub(crate) fn next_row<R: FileReader>(
     inputs: &mut [Input<R>],
     cursors: &mut [Cursor],
-    winners: &mut [usize],
+    tree: &mut Tree,
     aggs: &[Agg],
 ) -> Result<Option<Row>, FileError>
-    requires tree { IsTree (hands_of cursors.old) winners.old }
+    requires tree { IsTree (hands_of cursors.old) tree.old }
     requires merging { (s : Columns) × (givens : List (List AnyRow)) × (0 < length inputs.old → aggs.now ≡ aggs_of s) × IsMerging R.bytes s inputs.old cursors.old givens }
-    ensures tree { OnOk result (IsTree (hands_of cursors.new) winners.new) }
+    ensures tree { OnOk result (IsTree (hands_of cursors.new) tree.new) }
     ensures some { IfOk result (λ o. IfSome o (λ row. (s : Columns) (givens : List (List AnyRow)) → (0 < length inputs.old → aggs.now ≡ aggs_of s) → IsMerging R.bytes s inputs.old cursors.old givens
         → (after : List (List AnyRow)) × IsMerging R.bytes s inputs.new cursors.new after × (folded (aggs_of s) after ≡ folded (aggs_of s) givens ++ row ∷ []) × IsRowOf s row)) }
     ensures none { IfOk result (λ o. IfNone o ((s : Columns) (givens : List (List AnyRow)) → IsMerging R.bytes s inputs.old cursors.old givens → AreAll (knowns_of R.bytes inputs.new) givens × IsMerging R.bytes s inputs.new cursors.new givens)) }
@@ -73,15 +73,15 @@ pub(crate) fn next_row<R: FileReader>(
         → (contents : List (List AnyRow)) → AreTold (knowns_of R.bytes inputs.old) contents → KeepsBound (aggs_of s) [] (rows_of (lifted_parts (knowns_of R.bytes inputs.old) contents)) → ⊥) }
 {
     folds_go_on();
-    let Some(i) = least(winners, cursors) else {
+    let Some(i) = least(tree, cursors) else {
         return Ok(None);
     };
-    let taken = match advance(inputs, cursors, winners, i) {
+    let taken = match advance(inputs, cursors, tree, i) {
         Ok(taken) => taken,
         Err(error) => return Err(error),
     };
     let Some(first) = taken else { unreachable!() };
-    match gather(inputs, cursors, winners, aggs, first, i) {
+    match gather(inputs, cursors, tree, aggs, first, i) {
         Ok(row) => Ok(Some(row)),
         Err(error) => Err(error),
     }

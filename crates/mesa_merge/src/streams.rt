@@ -14,7 +14,7 @@ ghost use Rattle.mesa_merge.specs.Inputs.{AreAlike, AreTold, knowns_of};
 ghost use Rattle.mesa_merge.specs.Matches.{IsTree};
 ghost use Rattle.mesa_merge.specs.Merging.{AreReady, HasGivens};
 
-use crate::matches::play;
+use crate::matches::{Tree, play};
 use mesa_cursor::Cursor;
 use mesa_delta::{FileError, Input};
 use mesa_disk::FileReader;
@@ -24,13 +24,13 @@ use mesa_schema::Row;
 pub(crate) fn advance<R: FileReader>(
     inputs: &mut [Input<R>],
     cursors: &mut [Cursor],
-    winners: &mut [usize],
+    tree: &mut Tree,
     i: usize,
 ) -> Result<Option<Row>, FileError>
     requires within { i < length inputs.old }
     requires count { length cursors.old ≡ length inputs.old }
-    requires tree { IsTree (hands_of cursors.old) winners.old }
-    ensures tree { IsTree (hands_of cursors.new) winners.new }
+    requires tree { IsTree (hands_of cursors.old) tree.old }
+    ensures tree { IsTree (hands_of cursors.new) tree.new }
     ensures others { (j : ℕ) → j ≢ i → get_or (hands_of cursors.new) j [] ≡ get_or (hands_of cursors.old) j [] }
 
     // A row was at hand: it is given, and the row at hand then is above it.
@@ -61,7 +61,7 @@ pub(crate) fn advance<R: FileReader>(
     let row = cursor.take();
     let filled = cursor.fill(input);
     cursor.rises(input);
-    play(winners, cursors, i);
+    play(tree, cursors, i);
     match filled {
         Ok(()) => Ok(row),
         Err(error) => Err(error),

@@ -15,7 +15,7 @@ abbrev pub invariant-same : goal.invariant-same
 invariant-same g l = record {
   within : l.from < length l.inputs;
   count : length l.cursors ≡ length l.inputs;
-  tree : IsTree (hands_of l.cursors) l.winners;
+  tree : IsTree (hands_of l.cursors) l.tree;
   known : knowns_of g.R.FileReader.bytes l.inputs ≡ knowns_of g.R.FileReader.bytes l.fn.inputs;
   inputs : AllByRecursion (IsInput g.R.FileReader.bytes) l.fn.inputs → AllByRecursion (IsInput g.R.FileReader.bytes) l.inputs;
   faults : faults_of g.R.FileReader.faults l.inputs ≡ faults_of g.R.FileReader.faults l.fn.inputs;

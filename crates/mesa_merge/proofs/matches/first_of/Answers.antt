@@ -1,35 +1,19 @@
-use Rattle.std.proofs.Common.{◌≡◌, [], ◌∷◌, get_or, ◌∙◌, arith}
-use Rattle.std.specs.declared.cmp.Ordering.TheVariants.{Equal, Greater}
-use Rattle.std.proofs.lemmas.Grind.{common_steps}
-use Rattle.mesa_key.specs.Order.{byte_cmp}
+use Rattle.std.proofs.Common.{◌<◌, get_or, length, sym, subst, arith}
 use Rattle.mesa_merge.specs.Hands.{hands_of}
-use Rattle.mesa_merge.proofs.Hands.{hand_at}
-use Rattle.mesa_merge.proofs.Orders.{before_by, greater_before, same_before}
+use Rattle.mesa_merge.proofs.Fronts.{front_before}
+use Rattle.mesa_merge.proofs.Hands.{hands_length}
 use Rattle.mesa_merge.proofs.matches.first_of.Goals as goal
 
-pub returns-in-Greater-clause-before_a : goal.returns-in-Greater-clause-before_a
-returns-in-Greater-clause-before_a c =
-    let first = c.in-Some-head.first.now in
-    let second = c.in-Some.second.now in
-    let a : get_or (hands_of c.args.cursors.now) c.args.a [] ≡ first ∷ c.in-Some-head.ensures.some.0 = hand_at c.args.cursors.now c.args.a c.index-cursors-a.result c.requires.a_within c.index-cursors-a.is ∙ c.in-Some-head.ensures.some.1 in
-    let b : get_or (hands_of c.args.cursors.now) c.args.b [] ≡ second ∷ c.in-Some.ensures.some.0 = hand_at c.args.cursors.now c.args.b c.index-cursors-b.result c.requires.b_within c.index-cursors-b.is ∙ c.in-Some.ensures.some.1 in
-    let is : byte_cmp first.key second.key ≡ Greater = grind (arith, common_steps) in
-    before_by c.args.b c.args.a _ _ second first _ _ b a (greater_before c.args.a c.args.b first second is)
+pub returns-then-fronts-a-clause-before_b : goal.returns-then-fronts-a-clause-before_b
+returns-then-fronts-a-clause-before_b c =
+    let cs = c.args.cursors.now in
+    let a : c.args.a < length (hands_of cs) = subst (λ n. c.args.a < n) (sym (hands_length cs)) c.requires.a_within in
+    let b : c.args.b < length (hands_of cs) = subst (λ n. c.args.b < n) (sym (hands_length cs)) c.requires.b_within in
+    front_before (get_or c.args.fronts.now c.args.a 0) (get_or c.args.fronts.now c.args.b 0) c.args.a c.args.b _ _ (c.requires.fronts.each c.args.a a) (c.requires.fronts.each c.args.b b) (omega (arith, c.type_inv.fronts c.args.b)) c.if-fronts-a.true
 
-pub returns-in-Equal-clause-before_a : goal.returns-in-Equal-clause-before_a
-returns-in-Equal-clause-before_a c =
-    let first = c.in-Some-head.first.now in
-    let second = c.in-Some.second.now in
-    let a : get_or (hands_of c.args.cursors.now) c.args.a [] ≡ first ∷ c.in-Some-head.ensures.some.0 = hand_at c.args.cursors.now c.args.a c.index-cursors-a.result c.requires.a_within c.index-cursors-a.is ∙ c.in-Some-head.ensures.some.1 in
-    let b : get_or (hands_of c.args.cursors.now) c.args.b [] ≡ second ∷ c.in-Some.ensures.some.0 = hand_at c.args.cursors.now c.args.b c.index-cursors-b.result c.requires.b_within c.index-cursors-b.is ∙ c.in-Some.ensures.some.1 in
-    let is : byte_cmp first.key second.key ≡ Equal = grind (arith, common_steps) in
-    (same_before c.args.a c.args.b c.min.result (hands_of c.args.cursors.now) first second _ _ a b is c.min.ensures).0
-
-pub returns-in-Equal-clause-before_b : goal.returns-in-Equal-clause-before_b
-returns-in-Equal-clause-before_b c =
-    let first = c.in-Some-head.first.now in
-    let second = c.in-Some.second.now in
-    let a : get_or (hands_of c.args.cursors.now) c.args.a [] ≡ first ∷ c.in-Some-head.ensures.some.0 = hand_at c.args.cursors.now c.args.a c.index-cursors-a.result c.requires.a_within c.index-cursors-a.is ∙ c.in-Some-head.ensures.some.1 in
-    let b : get_or (hands_of c.args.cursors.now) c.args.b [] ≡ second ∷ c.in-Some.ensures.some.0 = hand_at c.args.cursors.now c.args.b c.index-cursors-b.result c.requires.b_within c.index-cursors-b.is ∙ c.in-Some.ensures.some.1 in
-    let is : byte_cmp first.key second.key ≡ Equal = grind (arith, common_steps) in
-    (same_before c.args.a c.args.b c.min.result (hands_of c.args.cursors.now) first second _ _ a b is c.min.ensures).1
+pub returns-then-fronts-b-clause-before_a : goal.returns-then-fronts-b-clause-before_a
+returns-then-fronts-b-clause-before_a c =
+    let cs = c.args.cursors.now in
+    let a : c.args.a < length (hands_of cs) = subst (λ n. c.args.a < n) (sym (hands_length cs)) c.requires.a_within in
+    let b : c.args.b < length (hands_of cs) = subst (λ n. c.args.b < n) (sym (hands_length cs)) c.requires.b_within in
+    front_before (get_or c.args.fronts.now c.args.b 0) (get_or c.args.fronts.now c.args.a 0) c.args.b c.args.a _ _ (c.requires.fronts.each c.args.b b) (c.requires.fronts.each c.args.a a) (omega (arith, c.type_inv.fronts c.args.a)) c.if-fronts-b.true

@@ -12,7 +12,7 @@ use Rattle.mesa_merge.proofs.next.begin.Given as goal
 abbrev pub invariant-inputs : goal.invariant-inputs
 invariant-inputs g l = record {
   count : length l.cursors ≡ length l.inputs;
-  tree : IsTree (hands_of l.cursors) l.winners;
+  tree : IsTree (hands_of l.cursors) l.tree;
   none : (j : ℕ) → l.i ≤ j → get_or (hands_of l.cursors) j [] ≡ [];
   given : (givens : List (List Row)) → HasGivens g.R.FileReader.bytes l.fn.inputs l.fn.cursors givens → HasGivens g.R.FileReader.bytes l.inputs l.cursors givens;
   ready : AreReady l.i l.inputs l.cursors;

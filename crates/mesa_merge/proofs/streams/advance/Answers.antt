@@ -1,9 +1,10 @@
-use Rattle.std.proofs.Common.{◌≡◌, ◌<◌, ◌≤◌, ◌+◌, ◌/◌, ℕ, [], ◌∷◌, ◌++◌, get_or, length, set, refl, sym, ◌∙◌, subst, arith, add-one}
+use Rattle.std.proofs.Common.{◌≡◌, ◌≢◌, ◌<◌, ℕ, [], ◌∷◌, ◌++◌, get_or, length, set, refl, sym, ◌∙◌, subst, arith, add-one}
 use Rattle.std.proofs.lemmas.List.{length-set}
 use Rattle.mesa_schema.specs.Rows.{AreRowsOf}
 use Rattle.mesa_cursor.specs.Cursors.{at_hand, next_of}
-use Rattle.mesa_merge.specs.Hands.{IsAhead, IsBefore, hands_of}
-use Rattle.mesa_merge.specs.Matches.{above}
+use Rattle.mesa_merge.specs.Fronts.{HasFront}
+use Rattle.mesa_merge.specs.Hands.{IsAhead, hands_of}
+use Rattle.mesa_merge.specs.Matches.{AreWinners}
 use Rattle.mesa_merge.specs.Merging.{AreReady, HasGivens}
 use Rattle.mesa_merge.proofs.Cases.{if_none, if_some}
 use Rattle.mesa_merge.proofs.Hands.{hand_of_get, hand_other, hand_same, hands_length}
@@ -13,16 +14,21 @@ use Rattle.mesa_merge.proofs.Taking.{hand_form, not_taken, taken}
 use Rattle.mesa_merge.proofs.Trees.{changed_won}
 use Rattle.mesa_merge.proofs.streams.advance.Goals as goal
 
-pub play-requires-clause-won : goal.play-requires-clause-won
-play-requires-clause-won g c =
+pub play-requires-clause-changed : goal.play-requires-clause-changed
+play-requires-clause-changed g c =
     let cs = c.args.cursors.now in
     let i = c.args.i in
+    let t = c.args.tree.now in
     let news = set cs i c.fill-filled.new.self in
     let count : length (hands_of news) ≡ length (hands_of cs) = hands_length news ∙ length-set cs i _ ∙ sym (hands_length cs) in
     let lt : i < length (hands_of cs) = omega (arith, hands_length cs, c.requires.count, c.requires.within) in
-    subst (λ n. (place : ℕ) → 2 ≤ place → place < n + n → ((steps : ℕ) → above steps ((n + i) / 2) ≡ place / 2 → ⊥) → IsBefore (hands_of news) (get_or c.args.winners.now (place / 2) 0) (get_or c.args.winners.now place 0))
-    (hands_length news)
-    (changed_won (hands_of cs) (hands_of news) i c.args.winners.now count lt c.requires.tree (λ j ne. hand_other cs i j c.fill-filled.new.self ne))
+    let others : (j : ℕ) → j ≢ i → get_or (hands_of news) j [] ≡ get_or (hands_of cs) j [] = λ j ne. hand_other cs i j c.fill-filled.new.self ne in
+    record {
+      inputs = subst (λ n. AreWinners n t.winners.items) (sym count) c.requires.tree.won.inputs;
+      won = changed_won (hands_of cs) (hands_of news) i t.winners.items count lt c.requires.tree.won others;
+      count = c.requires.tree.fronts.count ∙ sym count;
+      fronts = λ j low ne. subst (HasFront (get_or t.fronts.items j 0)) (sym (others j ne)) (c.requires.tree.fronts.each j (omega (arith, low, count)));
+    }
 
 pub returns-in-Ok-clause-others : goal.returns-in-Ok-clause-others
 returns-in-Ok-clause-others g c = λ j ne. hand_other c.args.cursors.now c.args.i j c.fill-filled.new.self ne

@@ -1,4 +1,4 @@
-use Rattle.std.proofs.Common.{◌≡◌, ◌<◌, [], List, length, sym, ◌∙◌, ap, subst, arith}
+use Rattle.std.proofs.Common.{◌≡◌, ◌<◌, [], List, length, refl, sym, ◌∙◌, ap, subst, arith}
 use Rattle.std.specs.List.{AllByRecursion}
 use Rattle.mesa_schema.specs.Columns.{aggs_of}
 use Rattle.mesa_schema.specs.Folded.{rows_of}
@@ -19,7 +19,7 @@ use Rattle.mesa_merge.proofs.merge.Merge.further.Goals as goal
 pub next_row-requires-clause-tree : goal.next_row-requires-clause-tree
 next_row-requires-clause-tree g c = λ _ _.
     let m = c.args.self.now in
-    subst (IsTree (hands_of c.deref_mut-2.result.now)) (sym c.deref_mut-3.ensures.value) (subst (λ (cs : List Cursor). IsTree (hands_of cs) m.winners.items) (sym c.deref_mut-2.ensures.value) c.requires.2.tree)
+    subst (λ (cs : List Cursor). IsTree (hands_of cs) m.tree) (sym c.deref_mut-2.ensures.value) c.requires.2.tree
 
 pub next_row-requires-clause-merging : goal.next_row-requires-clause-merging
 next_row-requires-clause-merging g c = λ _ _.
@@ -39,20 +39,19 @@ returns g c =
     let m = c.args.self.now in
     let ei = refill m.inputs.len m.inputs.items c.next_row.new.inputs (sym m.inputs.ok.0) (c.next_row.auto.inputs ∙ ap length c.deref_mut.ensures.value) in
     let ec = refill m.cursors.len m.cursors.items c.next_row.new.cursors (sym m.cursors.ok.0) (c.next_row.auto.cursors ∙ ap length c.deref_mut-2.ensures.value) in
-    let ew = refill m.winners.len m.winners.items c.next_row.new.winners (sym m.winners.ok.0) (c.next_row.auto.winners ∙ ap length c.deref_mut-3.ensures.value) in
     record {
       some =
           if_ok2 c.next_row.result _ _ _ (λ o tree some. if_some o _ _ (λ row more s givens h.
           let merging = subst (λ is. IsMerging bytes s is c.deref_mut-2.result.now givens) (sym c.deref_mut.ensures.value) (subst (λ cs. IsMerging bytes s m.inputs.items cs givens) (sym c.deref_mut-2.ensures.value) (h.merging c.requires.3)) in
           let next = more s givens (λ any. c.deref.ensures.value ∙ h.columns (subst (λ is. 0 < length is) c.deref_mut.ensures.value any)) merging in
           let columns : 0 < length c.next_row.new.inputs → m.aggs.items ≡ aggs_of s = λ any. h.columns (omega (arith, any, c.next_row.auto.inputs, ap length c.deref_mut.ensures.value)) in
-          (next.0, merged_with bytes s _ c.next_row.new.inputs c.next_row.new.cursors c.next_row.new.winners next.0 ei ec ew c.requires.3 h.going columns tree next.1, next.2, next.3)) some) c.next_row.ensures.tree c.next_row.ensures.some;
+          (next.0, merged_with bytes s _ c.next_row.new.inputs c.next_row.new.cursors c.next_row.new.tree next.0 ei ec refl c.requires.3 h.going columns tree next.1, next.2, next.3)) some) c.next_row.ensures.tree c.next_row.ensures.some;
       none =
           if_ok2 c.next_row.result _ _ _ (λ o tree none. if_none o _ _ (λ more s givens h.
           let merging = subst (λ is. IsMerging bytes s is c.deref_mut-2.result.now givens) (sym c.deref_mut.ensures.value) (subst (λ cs. IsMerging bytes s m.inputs.items cs givens) (sym c.deref_mut-2.ensures.value) (h.merging c.requires.3)) in
           let all = more s givens merging in
           let columns : 0 < length c.next_row.new.inputs → m.aggs.items ≡ aggs_of s = λ any. h.columns (omega (arith, any, c.next_row.auto.inputs, ap length c.deref_mut.ensures.value)) in
-          (merged_with bytes s _ c.next_row.new.inputs c.next_row.new.cursors c.next_row.new.winners givens ei ec ew c.requires.3 h.going columns tree all.1, subst (λ is. AreAll (knowns_of bytes is) givens) (sym ei) all.0)) none) c.next_row.ensures.tree c.next_row.ensures.none;
+          (merged_with bytes s _ c.next_row.new.inputs c.next_row.new.cursors c.next_row.new.tree givens ei ec refl c.requires.3 h.going columns tree all.1, subst (λ is. AreAll (knowns_of bytes is) givens) (sym ei) all.0)) none) c.next_row.ensures.tree c.next_row.ensures.none;
       known =
           ap (knowns_of g.R.FileReader.bytes) ei ∙ c.next_row.ensures.known ∙ ap (knowns_of g.R.FileReader.bytes) c.deref_mut.ensures.value;
       inputs =

@@ -28,7 +28,7 @@ begin-requires-clause-none g c = λ _ _. subst (λ (cs : List Cursor). (j : ℕ)
 pub begin-requires-clause-tree : goal.begin-requires-clause-tree
 begin-requires-clause-tree g c = λ _ _.
     let m = c.args.self.now in
-    subst (IsTree (hands_of c.deref_mut-2.result.now)) (sym c.deref_mut-3.ensures.value) (subst (λ (cs : List Cursor). IsTree (hands_of cs) m.winners.items) (sym c.deref_mut-2.ensures.value) c.requires.2.tree)
+    subst (λ (cs : List Cursor). IsTree (hands_of cs) m.tree) (sym c.deref_mut-2.ensures.value) c.requires.2.tree
 
 pub further-requires : goal.further-requires
 further-requires g c = (c.type_bounds.send-R, (c.requires.0, c.requires.1, c.requires.2, c.if-self.true))
@@ -39,13 +39,12 @@ further-requires-in-Ok-after_bounds g c = λ _ _.
     let m = c.args.self.now in
     let ei = refill m.inputs.len m.inputs.items c.begin.new.inputs (sym m.inputs.ok.0) (c.begin.auto.inputs ∙ ap length c.deref_mut.ensures.value) in
     let ec = refill m.cursors.len m.cursors.items c.begin.new.cursors (sym m.cursors.ok.0) (c.begin.auto.cursors ∙ ap length c.deref_mut-2.ensures.value) in
-    let ew = refill m.winners.len m.winners.items c.begin.new.winners (sym m.winners.ok.0) (c.begin.auto.winners ∙ ap length c.deref_mut-3.ensures.value) in
     let s = c.requires.0 in
     let given = c.requires.1 in
     let h = c.requires.2 in (
       s,
       given,
-      merged_with bytes s _ c.begin.new.inputs c.begin.new.cursors c.begin.new.winners given ei ec ew refl h.going (λ any. h.columns (omega (arith, any, c.begin.auto.inputs, ap length c.deref_mut.ensures.value))) c.in-Ok.ensures.tree
+      merged_with bytes s _ c.begin.new.inputs c.begin.new.cursors c.begin.new.tree given ei ec refl refl h.going (λ any. h.columns (omega (arith, any, c.begin.auto.inputs, ap length c.deref_mut.ensures.value))) c.in-Ok.ensures.tree
           (c.in-Ok.ensures.merging s given (subst (λ xs. AreAlike s (knowns_of bytes xs)) (sym c.deref_mut.ensures.value) h.alike)
           (subst (λ xs. HasGivens bytes xs c.deref_mut-2.result.now given) (sym c.deref_mut.ensures.value) (subst (λ cs. HasGivens bytes m.inputs.items cs given) (sym c.deref_mut-2.ensures.value) h.given)) (h.fresh c.if-self.false)),
       refl,
@@ -58,14 +57,13 @@ returns-in-Ok g c =
     let m = c.args.self.now in
     let ei = refill m.inputs.len m.inputs.items c.begin.new.inputs (sym m.inputs.ok.0) (c.begin.auto.inputs ∙ ap length c.deref_mut.ensures.value) in
     let ec = refill m.cursors.len m.cursors.items c.begin.new.cursors (sym m.cursors.ok.0) (c.begin.auto.cursors ∙ ap length c.deref_mut-2.ensures.value) in
-    let ew = refill m.winners.len m.winners.items c.begin.new.winners (sym m.winners.ok.0) (c.begin.auto.winners ∙ ap length c.deref_mut-3.ensures.value) in
     record {
       some =
-          if_ok c.further-in-Ok.result _ _ (λ o some. if_some o _ _ (λ row more s givens h. more s givens (merged_with bytes s _ c.begin.new.inputs c.begin.new.cursors c.begin.new.winners givens ei ec ew refl h.going (λ any. h.columns (omega (arith, any, c.begin.auto.inputs, ap length c.deref_mut.ensures.value))) c.in-Ok.ensures.tree
+          if_ok c.further-in-Ok.result _ _ (λ o some. if_some o _ _ (λ row more s givens h. more s givens (merged_with bytes s _ c.begin.new.inputs c.begin.new.cursors c.begin.new.tree givens ei ec refl refl h.going (λ any. h.columns (omega (arith, any, c.begin.auto.inputs, ap length c.deref_mut.ensures.value))) c.in-Ok.ensures.tree
           (c.in-Ok.ensures.merging s givens (subst (λ xs. AreAlike s (knowns_of bytes xs)) (sym c.deref_mut.ensures.value) h.alike)
           (subst (λ xs. HasGivens bytes xs c.deref_mut-2.result.now givens) (sym c.deref_mut.ensures.value) (subst (λ cs. HasGivens bytes m.inputs.items cs givens) (sym c.deref_mut-2.ensures.value) h.given)) (h.fresh c.if-self.false)))) some) c.further-in-Ok.ensures.some;
       none =
-          if_ok c.further-in-Ok.result _ _ (λ o none. if_none o _ _ (λ more s givens h. more s givens (merged_with bytes s _ c.begin.new.inputs c.begin.new.cursors c.begin.new.winners givens ei ec ew refl h.going (λ any. h.columns (omega (arith, any, c.begin.auto.inputs, ap length c.deref_mut.ensures.value))) c.in-Ok.ensures.tree
+          if_ok c.further-in-Ok.result _ _ (λ o none. if_none o _ _ (λ more s givens h. more s givens (merged_with bytes s _ c.begin.new.inputs c.begin.new.cursors c.begin.new.tree givens ei ec refl refl h.going (λ any. h.columns (omega (arith, any, c.begin.auto.inputs, ap length c.deref_mut.ensures.value))) c.in-Ok.ensures.tree
           (c.in-Ok.ensures.merging s givens (subst (λ xs. AreAlike s (knowns_of bytes xs)) (sym c.deref_mut.ensures.value) h.alike)
           (subst (λ xs. HasGivens bytes xs c.deref_mut-2.result.now givens) (sym c.deref_mut.ensures.value) (subst (λ cs. HasGivens bytes m.inputs.items cs givens) (sym c.deref_mut-2.ensures.value) h.given)) (h.fresh c.if-self.false)))) none) c.further-in-Ok.ensures.none;
       known =
@@ -78,7 +76,7 @@ returns-in-Ok g c =
       damaged = c.further-in-Ok.ensures.damaged;
       accepts =
           let known = ap (knowns_of bytes) ei ∙ c.in-Ok.ensures.known ∙ ap (knowns_of bytes) c.deref_mut.ensures.value in
-          if_err c.further-in-Ok.result _ _ (λ e accepts d is s givens h contents told bound. accepts d is s givens (merged_with bytes s _ c.begin.new.inputs c.begin.new.cursors c.begin.new.winners givens ei ec ew refl h.going (λ any. h.columns (omega (arith, any, c.begin.auto.inputs, ap length c.deref_mut.ensures.value))) c.in-Ok.ensures.tree
+          if_err c.further-in-Ok.result _ _ (λ e accepts d is s givens h contents told bound. accepts d is s givens (merged_with bytes s _ c.begin.new.inputs c.begin.new.cursors c.begin.new.tree givens ei ec refl refl h.going (λ any. h.columns (omega (arith, any, c.begin.auto.inputs, ap length c.deref_mut.ensures.value))) c.in-Ok.ensures.tree
           (c.in-Ok.ensures.merging s givens (subst (λ xs. AreAlike s (knowns_of bytes xs)) (sym c.deref_mut.ensures.value) h.alike)
           (subst (λ xs. HasGivens bytes xs c.deref_mut-2.result.now givens) (sym c.deref_mut.ensures.value) (subst (λ cs. HasGivens bytes m.inputs.items cs givens) (sym c.deref_mut-2.ensures.value) h.given)) (h.fresh c.if-self.false))) contents
           (subst (λ ks. AreTold ks contents) (sym known) told) (subst (λ ks. KeepsBound (aggs_of s) [] (rows_of (lifted_parts ks contents))) (sym known) bound)) c.further-in-Ok.ensures.accepts;
