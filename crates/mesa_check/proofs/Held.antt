@@ -24,7 +24,7 @@ use Rattle.mesa_verdict.specs.Found.{Found, rows_found}
 use Rattle.mesa_verdict.specs.Faults.{is_found, is_true, merged_singles}
 use Rattle.mesa_verdict.specs.Ranges.{Range, base_range, cumulative_range, single_ranges, totals_range}
 use Rattle.mesa_verdict.specs.Ranges.{Base, Single, Cumulative}
-use Rattle.mesa_check.specs.Counted.{is_counted, rows_counted, tells_of}
+use Rattle.mesa_check.specs.Counted.{is_counted, is_single, rows_where, tells_of}
 use Rattle.mesa_check.specs.Held.{firsts, held_ranges, loaded_range}
 use Rattle.mesa_check.proofs.Walked.{held_give, ranges_give}
 
@@ -165,6 +165,10 @@ pub nil_both : {A : Type 0} (xs ys : List A) → is_nil (xs ++ ys) ≡ (is_nil x
 nil_both [] ys = refl
 nil_both (x ∷ xs) ys = refl
 
+-- a singleton up to a version
+abbrev pub is_up_to : ℕ → Range → Bool
+is_up_to to r = is_single r && nat_le r.to to
+
 -- ---- the base and all singletons
 
 module _ (found : Found) (l : Lineage) where
@@ -186,16 +190,16 @@ module _ (found : Found) (l : Lineage) where
   abbrev pub at_present : Delta → List Row
   at_present d = present (rows_found found) l d
 
-  base_rows : (o : Option Ending) → flat_map (rows_counted found l None) (base_range o) ≡ flat_map at_present (base_deltas o)
+  base_rows : (o : Option Ending) → flat_map (rows_where found l is_counted) (base_range o) ≡ flat_map at_present (base_deltas o)
   base_rows None = refl
   base_rows (Some e) = refl
 
   -- the rows of both
-  pub rows_held : (next : ℕ) (t : Table) → flat_map (rows_counted found l None) (held_ranges t) ≡ rows_of (map at_present (base_deltas (option_map ending_of t.base) ++ singles_from (start_of_base t.base) next t.loaded.items))
+  pub rows_held : (next : ℕ) (t : Table) → flat_map (rows_where found l is_counted) (held_ranges t) ≡ rows_of (map at_present (base_deltas (option_map ending_of t.base) ++ singles_from (start_of_base t.base) next t.loaded.items))
   rows_held next t =
       let base = option_map ending_of t.base in
       let singles = singles_from (start_of_base t.base) next t.loaded.items in
-      held_give (rows_counted found l None) (λ s e. refl) t
+      held_give (rows_where found l is_counted) (λ s e. refl) t
       ∙ (λ i. base_rows base i ++ sym (singles_give at_present (start_of_base t.base) next t.loaded.items refl) i)
       ∙ sym (flat_map-append at_present (base_deltas base) singles)
       ∙ sym (flat_map-map (λ part. part) at_present (base_deltas base ++ singles))
@@ -203,13 +207,13 @@ module _ (found : Found) (l : Lineage) where
   -- ---- singletons up to a version
 
   abbrev pub found_to : ℕ → Range → Bool
-  found_to to r = not (is_counted (Some to) r) || is_found found l r.delta
+  found_to to r = not (is_up_to to r) || is_found found l r.delta
 
   base_out : (to : ℕ) (o : Option Ending) → flat_map (misses (found_to to)) (base_range o) ≡ []
   base_out to None = refl
   base_out to (Some e) = refl
 
-  base_none : (to : ℕ) (o : Option Ending) → flat_map (rows_counted found l (Some to)) (base_range o) ≡ []
+  base_none : (to : ℕ) (o : Option Ending) → flat_map (rows_where found l (is_up_to to)) (base_range o) ≡ []
   base_none to None = refl
   base_none to (Some e) = refl
 
@@ -235,9 +239,9 @@ module _ (found : Found) (l : Lineage) where
       all_flat_nil (found_to to) (held_ranges t) ∙ ap is_nil (held_give (misses (found_to to)) (λ s e. refl) t ∙ (λ i. base_out to base i ++ flat_map-same (λ (x : Loaded). misses (found_to to) (loaded_range x)) (λ (x : Loaded). cond (nat_le x.version to) (misses (is_found found l) x.delta.value) []) t.loaded.items (one_out to) i)
       ∙ merged_flat (misses (is_found found l)) next to t is refl) ∙ sym (all_flat_nil (is_found found l) (merged_singles (stock_of next t) to))
 
-  pub rows_merged : (next to : ℕ) (t : Table) → IsTable next t → flat_map (rows_counted found l (Some to)) (held_ranges t) ≡ rows_of (map at_present (merged_singles (stock_of next t) to))
+  pub rows_merged : (next to : ℕ) (t : Table) → IsTable next t → flat_map (rows_where found l (is_up_to to)) (held_ranges t) ≡ rows_of (map at_present (merged_singles (stock_of next t) to))
   rows_merged next to t is =
       let base = option_map ending_of t.base in
-      held_give (rows_counted found l (Some to)) (λ s e. refl) t
+      held_give (rows_where found l (is_up_to to)) (λ s e. refl) t
       ∙ (λ i. base_none to base i ++ flat_map (λ (x : Loaded). cond (nat_le x.version to) (at_present x.delta.value) []) t.loaded.items)
       ∙ merged_flat at_present next to t is refl ∙ sym (flat_map-map (λ part. part) at_present (merged_singles (stock_of next t) to))

@@ -5,5 +5,10 @@ pub mod Sums
 pub mod Rows
 pub mod Recorded
 pub mod Told
+pub mod Behind
+pub mod Standing
 pub mod Merged
+pub mod Ordered
+pub mod Unasked
+pub mod Earlier
 pub mod Founded

@@ -65,7 +65,7 @@ pub if_both : {X E : Type 0} (r : Result X E) (P Q R : X → Type 0) → ((x : X
 if_both (Ok x) P Q R f p q = f x p q
 if_both (Err e) P Q R f p q = tt
 
-both_nil : {A : Type 0} (xs ys : List A) → xs ++ ys ≡ [] → (xs ≡ []) × (ys ≡ [])
+pub both_nil : {A : Type 0} (xs ys : List A) → xs ++ ys ≡ [] → (xs ≡ []) × (ys ≡ [])
 both_nil [] ys e = (refl, e)
 both_nil (x ∷ xs) ys e = absurd cc
 

@@ -5,14 +5,15 @@ use Rattle.std.specs.List.{AllByRecursion, list_all}
 use Rattle.std.proofs.lemmas.Bool.Decides.{nat_tests}
 use Rattle.mesa_disk.specs.Image.{Image}
 use Rattle.mesa_schema.specs.Changes.{Lineage, columns_of, epoch_of}
+use Rattle.mesa_schema.specs.declared.rows.Row.{Row}
 use Rattle.mesa_schema.specs.Folded.{rows_of}
 use Rattle.mesa_schema.proofs.Lists.{all_both, all_map, all_so}
 use Rattle.mesa_image_laws.specs.mesa_history.mesa_batch.Totals.{abs_totals}
 use Rattle.mesa_image_laws.specs.mesa_image.Catalog.{Delta, Stock, empty_delta, start_in}
 use Rattle.mesa_image_laws.specs.mesa_image.Contents.{present}
 use Rattle.mesa_image_laws.specs.mesa_image.Sound.{all_parts}
-use Rattle.mesa_image_laws.specs.mesa_image.Fitting.{Shelved, base_deltas, delta_in, delta_shelved, stock_shelved}
-use Rattle.mesa_image_laws.proofs.Lists.{all_back, all_take, all_unmap}
+use Rattle.mesa_image_laws.specs.mesa_image.Fitting.{Shelved, base_deltas, delta_in, delta_shelved, deltas_of, stock_shelved}
+use Rattle.mesa_image_laws.proofs.Lists.{all_back, all_take, all_unflat, all_unmap}
 use Rattle.mesa_shelf.specs.declared.table.Base.{Base as HeldBase}
 use Rattle.mesa_shelf.specs.declared.table.Loaded.{Loaded}
 use Rattle.mesa_shelf.specs.declared.table.Table.{Table}
@@ -23,13 +24,13 @@ use Rattle.mesa_verdict.specs.Found.{AreFound, Found, IsFoundAs, rows_found}
 use Rattle.mesa_verdict.specs.Faults.{exceeds_totals, fails, fault_of, has_false_totals, is_found, is_totalled, is_true, keys_shown, merged_key, merged_keys, merged_singles, range_faults, table_faults}
 use Rattle.mesa_verdict.specs.Ranges.{Kind, Range, base_range, is_range, totals_range}
 use Rattle.mesa_verdict.specs.Ranges.{Base, Single, Cumulative}
-use Rattle.mesa_check.specs.Counted.{is_counted, rows_counted, tells_of}
+use Rattle.mesa_check.specs.Counted.{is_counted, rows_where, tells_of}
 use Rattle.mesa_check.specs.Held.{IsHeld, delta_of, held_ranges, kind_in, loaded_range, range_in}
 use Rattle.mesa_check.specs.Shown.{has_false_of, is_found_in, is_merged, is_sure, stands_of, tells_excess, tells_totals, tested_range}
 use Rattle.mesa_check.specs.Tested.{HasRows, IsRead, IsTestOf, IsTested, range_of}
 use Rattle.mesa_check.specs.declared.range.Held.{Held}
 use Rattle.mesa_check.specs.declared.testing.Test.{Test}
-use Rattle.mesa_check.proofs.Held.{all_held, files_held, found_held, found_to, held_all, held_files, find-map, if_passes, rows_held, rows_merged, sure_held, sure_of, totals_first, totals_held}
+use Rattle.mesa_check.proofs.Held.{is_up_to, files_held, found_held, found_to, held_all, held_files, find-map, if_passes, rows_held, rows_merged, sure_held, sure_of, totals_first, totals_held}
 use Rattle.mesa_check.proofs.Walked.{IsAbsent, checked_held, single}
 
 -- ---- a version that brought nothing has no fault
@@ -66,7 +67,7 @@ pub faults_tested : (found : Found) (u : Stock) (t : Table) (tests : List Test) 
 faults_tested found u t tests are =
     sym (flat_map-map (λ (r : Held). range_faults found u (range_in r)) range_of tests) ∙ sym (flat_map-map (range_faults found u) range_in (map range_of tests)) ∙ ap (flat_map (range_faults found u)) are
 
-mapped_twice : (tests : List Test) → map tested_range tests ≡ map range_in (map range_of tests)
+pub mapped_twice : (tests : List Test) → map tested_range tests ≡ map range_in (map range_of tests)
 mapped_twice [] = refl
 mapped_twice (x ∷ tests) = ap (λ rs. tested_range x ∷ rs) (mapped_twice tests)
 
@@ -194,21 +195,12 @@ pub passed_all : {A : Type 0} (p : A → Bool) (xs : List A) → list_all p xs �
 passed_all p [] e = tt
 passed_all p (x ∷ xs) e = let parts = and_parts (p x) (list_all p xs) e in (parts.0, passed_all p xs parts.1)
 
-module _ (found : Found) (l : Lineage) (to : Option ℕ) where
-  rows_sum : (x : Test) → IsTested found l (delta_of x.range) x → x.found ≡ true → is_counted to (tested_range x) ≡ true → x.present ≡ counted (abs_totals (columns_of l) (rows_counted found l to (tested_range x)))
-  rows_sum x tested holds counts = tested.present holds ∙ ap (λ b. counted (abs_totals (columns_of l) (cond b (present (rows_found found) l (delta_of x.range)) []))) (sym counts)
+rows_sum : (found : Found) (l : Lineage) (x : Test) → IsTested found l (delta_of x.range) x → x.found ≡ true → is_counted (tested_range x) ≡ true → x.present ≡ counted (abs_totals (columns_of l) (rows_where found l is_counted (tested_range x)))
+rows_sum found l x tested holds counts = tested.present holds ∙ ap (λ b. counted (abs_totals (columns_of l) (cond b (present (rows_found found) l (delta_of x.range)) []))) (sym counts)
 
-  -- the totals of those that are counted are of their rows
-  pub sums_counted : (i : Image) (tests : List Test) → list_all (λ (x : Test). not (is_counted to (tested_range x)) || x.found) tests ≡ true → AllByRecursion (IsRead i found l) tests
-      → AllByRecursion (λ (x : Test). is_counted to (tested_range x) ≡ true → x.present ≡ counted (abs_totals (columns_of l) (rows_counted found l to (tested_range x)))) tests
-  sums_counted i tests holds all =
-      all_both (λ (x : Test). (not (is_counted to (tested_range x)) || x.found) ≡ true) (IsRead i found l) (λ (x : Test). is_counted to (tested_range x) ≡ true → x.present ≡ counted (abs_totals (columns_of l) (rows_counted found l to (tested_range x)))) tests
-      (λ x so read counts. rows_sum x read.tested (or_parts (is_counted to (tested_range x)) x.found so counts) counts) (passed_all (λ (x : Test). not (is_counted to (tested_range x)) || x.found) tests holds) all
-
-  -- of the tests and of the ranges
-  pub rows_tested : (t : Table) (tests : List Test) → map range_in (map range_of tests) ≡ held_ranges t → flat_map (λ (x : Test). rows_counted found l to (tested_range x)) tests ≡ flat_map (rows_counted found l to) (held_ranges t)
-  rows_tested t tests are =
-      sym (flat_map-map (λ (r : Held). rows_counted found l to (range_in r)) range_of tests) ∙ sym (flat_map-map (rows_counted found l to) range_in (map range_of tests)) ∙ ap (flat_map (rows_counted found l to)) are
+-- of the tests and of the ranges
+pub rows_tested : (f : Range → List Row) (t : Table) (tests : List Test) → map range_in (map range_of tests) ≡ held_ranges t → flat_map (λ (x : Test). f (tested_range x)) tests ≡ flat_map f (held_ranges t)
+rows_tested f t tests are = sym (flat_map-map (λ (r : Held). f (range_in r)) range_of tests) ∙ sym (flat_map-map f range_in (map range_of tests)) ∙ ap (flat_map f) are
 
 -- a range that is sure has files that are the recorded ones, where it is counted
 sure_at : (x : Test) (k : Kind) → sure_by x.found x.totalled k ≡ true → counted_by k ≡ true → x.found ≡ true
@@ -216,7 +208,7 @@ sure_at x Base sure counts = sure
 sure_at x Single sure counts = (and_parts x.found x.totalled sure).0
 sure_at x Cumulative sure counts = absurd cc
 
-sure_found : (x : Test) → is_sure x ≡ true → is_counted None (tested_range x) ≡ true → x.found ≡ true
+sure_found : (x : Test) → is_sure x ≡ true → is_counted (tested_range x) ≡ true → x.found ≡ true
 sure_found x sure counts = sure_at x (kind_in x.range.kind) sure counts
 
 sure_as : (found : Found) (l : Lineage) (x : Test) → IsTested found l (delta_of x.range) x → is_sure x ≡ sure_of found l (tested_range x)
@@ -242,25 +234,33 @@ module _ (i : Image) (found : Found) (next : ℕ) (t : Table) (tests : List Test
       all_same (IsRead i found l) is_sure (λ (x : Test). sure_of found l (tested_range x)) tests (λ x read. sure_as found l x read.tested) all
       ∙ all_mapped (λ (r : Held). sure_of found l (range_in r)) range_of tests ∙ all_mapped (sure_of found l) range_in (map range_of tests) ∙ ap (list_all (sure_of found l)) are ∙ sure_held found l next t
 
-  pub sure_sums : list_all is_sure tests ≡ true → AllByRecursion (λ (x : Test). is_counted None (tested_range x) ≡ true → x.present ≡ counted (abs_totals (columns_of t.evolving.value) (rows_counted found t.evolving.value None (tested_range x)))) tests
+  pub sure_sums : list_all is_sure tests ≡ true → AllByRecursion (λ (x : Test). is_counted (tested_range x) ≡ true → x.present ≡ counted (abs_totals (columns_of t.evolving.value) (rows_where found t.evolving.value is_counted (tested_range x)))) tests
   sure_sums holds =
-      all_both (λ x. is_sure x ≡ true) (IsRead i found l) (λ (x : Test). is_counted None (tested_range x) ≡ true → x.present ≡ counted (abs_totals (columns_of l) (rows_counted found l None (tested_range x)))) tests
-      (λ x sure read counts. rows_sum found l None x read.tested (sure_found x sure counts) counts) (passed_all is_sure tests holds) all
+      all_both (λ x. is_sure x ≡ true) (IsRead i found l) (λ (x : Test). is_counted (tested_range x) ≡ true → x.present ≡ counted (abs_totals (columns_of l) (rows_where found l is_counted (tested_range x)))) tests
+      (λ x sure read counts. rows_sum found l x read.tested (sure_found x sure counts) counts) (passed_all is_sure tests holds) all
 
-  pub rows_sure : flat_map (λ (x : Test). rows_counted found t.evolving.value None (tested_range x)) tests ≡ rows_of (all_parts (rows_found found) (stock_of next t))
-  rows_sure = rows_tested found l None t tests are ∙ rows_held found l next t
+  pub rows_sure : flat_map (λ (x : Test). rows_where found t.evolving.value is_counted (tested_range x)) tests ≡ rows_of (all_parts (rows_found found) (stock_of next t))
+  rows_sure = rows_tested (rows_where found l is_counted) t tests are ∙ rows_held found l next t
 
   module _ (is : IsTable next t) (to : ℕ) where
-    pub found_tested : list_all (λ (x : Test). not (is_counted (Some to) (tested_range x)) || is_found found t.evolving.value (delta_of x.range)) tests ≡ list_all (is_found found t.evolving.value) (merged_singles (stock_of next t) to)
+    pub found_tested : list_all (λ (x : Test). not (is_up_to to (tested_range x)) || is_found found t.evolving.value (delta_of x.range)) tests ≡ list_all (is_found found t.evolving.value) (merged_singles (stock_of next t) to)
     found_tested = all_mapped (λ (r : Held). found_to found l to (range_in r)) range_of tests ∙ all_mapped (found_to found l to) range_in (map range_of tests) ∙ ap (list_all (found_to found l to)) are ∙ found_held found l next to t is
 
-    pub rows_single : flat_map (λ (x : Test). rows_counted found t.evolving.value (Some to) (tested_range x)) tests ≡ rows_of (map (present (rows_found found) t.evolving.value) (merged_singles (stock_of next t) to))
-    rows_single = rows_tested found l (Some to) t tests are ∙ rows_merged found l next to t is
+    pub rows_single : flat_map (λ (x : Test). rows_where found t.evolving.value (is_up_to to) (tested_range x)) tests ≡ rows_of (map (present (rows_found found) t.evolving.value) (merged_singles (stock_of next t) to))
+    rows_single = rows_tested (rows_where found l (is_up_to to)) t tests are ∙ rows_merged found l next to t is
 
-    -- the files of the singletons were found
-    pub singles_found : AllByRecursion (λ d. AreFound i found (delta_shelved t.evolving.value d)) (merged_singles (stock_of next t) to)
-    singles_found =
-        let P = λ (d : Delta). AreFound i found (delta_shelved l d) in
-        let held = all_tests (λ (r : Range). P r.delta) t tests are (all_so (IsRead i found l) (λ (x : Test). P (delta_of x.range)) tests (λ x read. read.files) all) in
-        let deltas = all_held P tt next t held in
-        all_take P (to + 1 - start_in u) u.singles (all_back P (map delta_in u.cumulatives) u.singles (all_back P (base_deltas u.base) (map delta_in u.cumulatives ++ u.singles) deltas))
+-- ---- files of a table
+
+-- what was found of the ranges' files was found of the table's
+pub stock_read : (i : Image) (found : Found) (next : ℕ) (t : Table) (tests : List Test) → map range_in (map range_of tests) ≡ held_ranges t → AllByRecursion (IsRead i found t.evolving.value) tests → AreFound i found (stock_shelved (stock_of next t))
+stock_read i found next t tests are all =
+    let Q = λ (x : Shelved). IsFoundAs i x (found x.file.id) in
+    files_held Q next t (all_tests (λ (r : Range). AllByRecursion Q (delta_shelved t.evolving.value r.delta)) t tests are
+    (all_so (IsRead i found t.evolving.value) (λ (x : Test). AreFound i found (delta_shelved t.evolving.value (delta_of x.range))) tests (λ x read. read.files) all))
+
+-- and so of its singletons'
+pub singles_found : (i : Image) (found : Found) (u : Stock) (to : ℕ) → AreFound i found (stock_shelved u) → AllByRecursion (λ d. AreFound i found (delta_shelved u.lineage d)) (merged_singles u to)
+singles_found i found u to files =
+    let P = λ (d : Delta). AreFound i found (delta_shelved u.lineage d) in
+    let deltas = all_unflat (λ (x : Shelved). IsFoundAs i x (found x.file.id)) (delta_shelved u.lineage) (deltas_of u) files in
+    all_take P (to + 1 - start_in u) u.singles (all_back P (map delta_in u.cumulatives) u.singles (all_back P (base_deltas u.base) (map delta_in u.cumulatives ++ u.singles) deltas))

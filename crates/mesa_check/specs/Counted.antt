@@ -1,5 +1,5 @@
 -- Which ranges tell of a table's totals, and which ranges' rows are added up.
-use Rattle.std.specs.Prelude.{ℕ, List, [], nat_le, Bool, true, false, if◌then◌else◌, is_some, Option, Some, None}
+use Rattle.std.specs.Prelude.{List, [], Bool, true, false, if◌then◌else◌, is_some}
 use Rattle.mesa_schema.specs.Changes.{Lineage}
 use Rattle.mesa_schema.specs.declared.rows.Row.{Row}
 use Rattle.mesa_image_laws.specs.mesa_image.Contents.{present}
@@ -11,11 +11,14 @@ use Rattle.mesa_verdict.specs.Ranges.{Base, Single, Cumulative}
 abbrev pub tells_of : Range → Bool
 tells_of r = elim (r.kind) [ Base ↦ true | Single ↦ is_some r.delta.files | Cumulative ↦ false ]
 
--- a singleton up to a version, or, where none is told, each range but a cumulative
-abbrev pub is_counted : Option ℕ → Range → Bool
-is_counted None r = elim (r.kind) [ Base ↦ true | Single ↦ true | Cumulative ↦ false ]
-is_counted (Some to) r = elim (r.kind) [ Base ↦ false | Single ↦ nat_le r.to to | Cumulative ↦ false ]
+-- each range but a cumulative
+abbrev pub is_counted : Range → Bool
+is_counted r = elim (r.kind) [ Base ↦ true | Single ↦ true | Cumulative ↦ false ]
 
--- the rows at present of a range that is counted
-abbrev pub rows_counted : Found → Lineage → Option ℕ → Range → List Row
-rows_counted found l to r = if is_counted to r then present (rows_found found) l r.delta else []
+-- a range of one version behind the base
+abbrev pub is_single : Range → Bool
+is_single r = elim (r.kind) [ Base ↦ false | Single ↦ true | Cumulative ↦ false ]
+
+-- the rows at present of a range that passes
+abbrev pub rows_where : Found → Lineage → (Range → Bool) → Range → List Row
+rows_where found l passes r = if passes r then present (rows_found found) l r.delta else []

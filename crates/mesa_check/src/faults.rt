@@ -1,5 +1,5 @@
 // The first fault of a table.
-ghost use Rattle.std.specs.Prelude.{◌≡◌, ◌≤◌, ◌&&◌, ℕ, map, find, flat_map, option_map, slice_get, true, IfOk, None};
+ghost use Rattle.std.specs.Prelude.{◌≡◌, ◌≤◌, ◌&&◌, ℕ, map, find, flat_map, option_map, slice_get, true, IfOk, IfSome, None, Some, if◌then◌else◌};
 ghost use Rattle.std.specs.List.{AllByRecursion, list_all};
 ghost use Rattle.mesa_disk.specs.Image.{Image};
 ghost use Rattle.mesa_disk.specs.Story.{Unmoved};
@@ -14,9 +14,11 @@ ghost use Rattle.mesa_verdict.specs.Faults.{exceeds_totals as exceeds_them, faul
 ghost use Rattle.mesa_verdict.specs.Ranges.{is_range as is_range_of};
 ghost use Rattle.mesa_check.specs.Counted.{tells_of};
 ghost use Rattle.mesa_check.specs.Held.{IsHeld, delta_of, held_ranges as ranges_held, range_in};
+ghost use Rattle.mesa_check.specs.Parts.{Agrees, IsAskedBelow};
 ghost use Rattle.mesa_check.specs.Shown.{has_false_of, is_found_in, is_merged, is_sure, shown_fault, stands_of, tells_excess, tells_totals, tested_range};
 ghost use Rattle.mesa_check.specs.Tested.{HasRows, IsRead, range_of};
 
+use crate::asked::asked_below;
 use crate::keys::{merged_key, view_key};
 use crate::range::{Held, Kind};
 use crate::ranges::held_ranges;
@@ -63,7 +65,7 @@ fn exceeds_totals(alloc: Global, table: &Table, tests: &[Test]) -> Result<bool, 
     if !are_true(tests) {
         return Ok(false);
     }
-    let sums = add_up(alloc, table.evolving.present(), tests, None)?;
+    let sums = add_up(alloc, table.evolving.present(), tests)?;
     Ok(!are_at_most(&sums, table.totals.as_slice()))
 }
 
@@ -102,17 +104,31 @@ fn first_fault<M: Made, D: Disk<M>>(
     ensures counted { Counted (D.story disk.old) (D.story disk.new) (is_read_failure result) }
 {
     let told = totals_range(tests);
+    let asked = asked_below(alloc, table, tests)?;
+    let mut before = None;
     'faults: for one in tests {
         let over = is_over(told, &one.range, exceeds);
-        if let Some(key) = range_fault(alloc, disk, table, tests, one, over)? {
+        if let Some(key) = range_fault(alloc, disk, table, asked, before, one, over)? {
             return Ok(Some(Shown {
                 from: one.range.from,
                 to: one.range.to,
                 key,
             }));
         }
+        before = last_cumulative(before, one);
     }
     Ok(None)
+}
+
+// The last cumulative of some ranges and one more.
+fn last_cumulative<'a, 'b>(before: Option<&'a Test<'b>>, one: &'a Test<'b>) -> Option<&'a Test<'b>>
+    ensures { now_if_any result ≡ (if is_merged (range_in one.now.range) then Some one.now else now_if_any before.entry) }
+{
+    if is_cumulative(&one.range) {
+        Some(one)
+    } else {
+        before
+    }
 }
 
 // The range that tells of the table's totals: the base, or where there is none the first singleton with rows.
@@ -153,14 +169,17 @@ fn range_fault<M: Made, D: Disk<M>>(
     alloc: Global,
     disk: &mut D,
     table: &Table,
-    tests: &[Test],
+    asked: Option<u32>,
+    before: Option<&Test>,
     one: &Test,
     over: bool,
 ) -> Result<Option<Option<KeyBytes>>, CheckError>
     requires held { (next : ℕ) × IsHeld next table.now }
-    requires ranges { map range_in (map range_of tests.now) ≡ ranges_held table.now }
     requires epoch { (delta_of one.now.range).epoch ≤ epoch_of table.now.evolving.value }
-    ensures first { IfOk result (λ o. (next : ℕ) (i : Image) (found : Found) → IsHeld next table.now → (D.story disk.old).told ≡ Some i → AllByRecursion (IsRead i found table.now.evolving.value) tests.now
+    requires order { IfSome (now_if_any before) (λ b. is_merged (range_in one.now.range) ≡ true → b.range.to ≤ one.now.range.to) }
+    requires epoch_before { IfSome (now_if_any before) (λ b. (delta_of b.range).epoch ≤ epoch_of table.now.evolving.value) }
+    ensures first { IfOk result (λ o. (next : ℕ) (i : Image) (found : Found) → IsHeld next table.now → (D.story disk.old).told ≡ Some i → AreFound i found (stock_shelved (stock_of next table.now))
+        → IsAskedBelow found (stock_of next table.now) asked → IfSome (now_if_any before.entry) (Agrees i found (stock_of next table.now))
         → IsRead i found table.now.evolving.value one.now → over ≡ tells_excess found (stock_of next table.now) (range_in one.now.range)
         → slice_get (range_faults found (stock_of next table.now) (range_in one.now.range)) 0 ≡ option_map (fault_of (stock_of next table.now) (range_in one.now.range)) o) }
     ensures there { IfOk result (λ o. o ≡ None → one.now.found ≡ true) }
@@ -170,7 +189,7 @@ fn range_fault<M: Made, D: Disk<M>>(
     if stands(one, over) {
         return Ok(Some(None));
     }
-    match key_shown(alloc, disk, table, tests, one)? {
+    match key_shown(alloc, disk, table, asked, before, one)? {
         Some(key) => Ok(Some(Some(key))),
         None => Ok(None),
     }
@@ -198,13 +217,16 @@ fn key_shown<M: Made, D: Disk<M>>(
     alloc: Global,
     disk: &mut D,
     table: &Table,
-    tests: &[Test],
+    asked: Option<u32>,
+    before: Option<&Test>,
     one: &Test,
 ) -> Result<Option<KeyBytes>, CheckError>
     requires held { (next : ℕ) × IsHeld next table.now }
-    requires ranges { map range_in (map range_of tests.now) ≡ ranges_held table.now }
     requires epoch { (delta_of one.now.range).epoch ≤ epoch_of table.now.evolving.value }
-    ensures key { IfOk result (λ o. (next : ℕ) (i : Image) (found : Found) → IsHeld next table.now → (D.story disk.old).told ≡ Some i → AllByRecursion (IsRead i found table.now.evolving.value) tests.now
+    requires order { IfSome (now_if_any before) (λ b. is_merged (range_in one.now.range) ≡ true → b.range.to ≤ one.now.range.to) }
+    requires epoch_before { IfSome (now_if_any before) (λ b. (delta_of b.range).epoch ≤ epoch_of table.now.evolving.value) }
+    ensures key { IfOk result (λ o. (next : ℕ) (i : Image) (found : Found) → IsHeld next table.now → (D.story disk.old).told ≡ Some i → AreFound i found (stock_shelved (stock_of next table.now))
+        → IsAskedBelow found (stock_of next table.now) asked → IfSome (now_if_any before.entry) (Agrees i found (stock_of next table.now))
         → IsRead i found table.now.evolving.value one.now → one.now.found ≡ true → slice_get (keys_shown found (stock_of next table.now) (range_in one.now.range)) 0 ≡ o) }
     ensures unmoved { Unmoved (D.story disk.old) (D.story disk.new) }
     ensures counted { Counted (D.story disk.old) (D.story disk.new) (is_read_failure result) }
@@ -212,7 +234,7 @@ fn key_shown<M: Made, D: Disk<M>>(
     if !is_cumulative(&one.range) {
         return view_key(alloc, disk, &table.evolving, one);
     }
-    match merged_key(alloc, disk, table, tests, one)? {
+    match merged_key(alloc, disk, table, asked, before, one)? {
         Some(key) => Ok(Some(key)),
         None => view_key(alloc, disk, &table.evolving, one),
     }

@@ -1,60 +1,64 @@
 // Keys that show a fault of a range whose files are the recorded ones.
-ghost use Rattle.std.specs.Prelude.{◌≡◌, ◌≤◌, ◌&&◌, ◌||◌, not, ℕ, map, flat_map, slice_get, true, IfOk, Some};
-ghost use Rattle.std.specs.List.{AllByRecursion, list_all};
+ghost use Rattle.std.specs.Prelude.{◌≡◌, ◌≤◌, ℕ, slice_get, true, IfOk, IfSome, Some};
 ghost use Rattle.mesa_disk.specs.Image.{Image};
 ghost use Rattle.mesa_disk.specs.Story.{Unmoved};
 ghost use Rattle.mesa_schema.specs.Changes.{columns_of, epoch_of};
 ghost use Rattle.mesa_image_laws.specs.mesa_image.Catalog.{Delta as AnyDelta};
 ghost use Rattle.mesa_image_laws.specs.mesa_image.Contents.{present as present_of};
-ghost use Rattle.mesa_image_laws.specs.mesa_image.Fitting.{view_shelved};
+ghost use Rattle.mesa_image_laws.specs.mesa_image.Fitting.{stock_shelved, view_shelved};
 ghost use Rattle.mesa_shelf.specs.Meaning.{stock_of};
+ghost use Rattle.mesa_plans.specs.Lent.{now_if_any};
 ghost use Rattle.mesa_tasks.specs.Opening.{Counted, HasEpoch};
 ghost use Rattle.mesa_examine.specs.Examined.{is_read_failure};
 ghost use Rattle.mesa_compare.specs.Compared.{present_rows};
-ghost use Rattle.mesa_verdict.specs.Found.{Found, rows_found};
-ghost use Rattle.mesa_verdict.specs.Faults.{is_found, keep_bound as keeps_bound, merged_key as key_merged, view_key as key_seen, view_keys};
-ghost use Rattle.mesa_check.specs.Counted.{is_counted, rows_counted};
-ghost use Rattle.mesa_check.specs.Held.{IsHeld, delta_of, held_ranges, range_in};
+ghost use Rattle.mesa_verdict.specs.Found.{AreFound, Found, rows_found};
+ghost use Rattle.mesa_verdict.specs.Faults.{keep_bound as keeps_bound, merged_key as key_merged, view_key as key_seen, view_keys};
+ghost use Rattle.mesa_check.specs.Held.{IsHeld, delta_of};
+ghost use Rattle.mesa_check.specs.Parts.{Agrees, IsAskedBelow};
 ghost use Rattle.mesa_check.specs.Shown.{key_list};
-ghost use Rattle.mesa_check.specs.Tested.{AreThere, IsRead, IsThere, range_of, shelf_of};
-ghost use Rattle.mesa_check.specs.declared.testing.Test.{Test as Tested};
+ghost use Rattle.mesa_check.specs.Tested.{AreThere, IsRead, IsThere, shelf_of};
 
+use crate::asked::is_below;
+use crate::parts::parts;
 use crate::range::Held;
 use crate::testing::Test;
-use crate::totals::{add_up, counts, keep_bound};
+use crate::totals::keep_bound;
 use mesa_compare::{cumulative_difference, view_difference};
 use mesa_disk::{Disk, Made};
 use mesa_examine::CheckError;
 use mesa_key::KeyBytes;
-use mesa_plans::{merged, own_columns, table_files};
+use mesa_plans::{own_columns, table_files};
 use mesa_record::{Files, ViewRef};
 use mesa_schema::Evolving;
 use mesa_shelf::Table;
 use mesa_tasks::Wanted;
-use std::alloc::{AllocError, Global};
+use std::alloc::Global;
 use std::sync::Arc;
 
-/// The least key at which a cumulative differs from the fold of its range's singletons.
+/// The least key at which a cumulative differs from the fold of its range's singletons. A cumulative before it that agrees with its own stands for them, so that only what was loaded since then is read beside it.
 pub(crate) fn merged_key<M: Made, D: Disk<M>>(
     alloc: Global,
     disk: &mut D,
     table: &Table,
-    tests: &[Test],
+    asked: Option<u32>,
+    before: Option<&Test>,
     one: &Test,
 ) -> Result<Option<KeyBytes>, CheckError>
     requires held { (next : ℕ) × IsHeld next table.now }
     requires epoch { (delta_of one.now.range).epoch ≤ epoch_of table.now.evolving.value }
-    requires ranges { map range_in (map range_of tests.now) ≡ held_ranges table.now }
-    ensures key { IfOk result (λ o. (next : ℕ) (i : Image) (found : Found) → IsHeld next table.now → (D.story disk.old).told ≡ Some i → AllByRecursion (IsRead i found table.now.evolving.value) tests.now
+    requires order { IfSome (now_if_any before) (λ b. b.range.to ≤ one.now.range.to) }
+    requires epoch_before { IfSome (now_if_any before) (λ b. (delta_of b.range).epoch ≤ epoch_of table.now.evolving.value) }
+    ensures key { IfOk result (λ o. (next : ℕ) (i : Image) (found : Found) → IsHeld next table.now → (D.story disk.old).told ≡ Some i → AreFound i found (stock_shelved (stock_of next table.now))
+        → IsAskedBelow found (stock_of next table.now) asked → IfSome (now_if_any before.entry) (Agrees i found (stock_of next table.now))
         → IsRead i found table.now.evolving.value one.now → one.now.found ≡ true → key_list o ≡ key_merged found (stock_of next table.now) one.now.range.to (delta_of one.now.range)) }
     ensures unmoved { Unmoved (D.story disk.old) (D.story disk.new) }
     ensures counted { Counted (D.story disk.old) (D.story disk.new) (is_read_failure result) }
 {
     let to = one.range.to;
-    if !singles_keep_bound(alloc, &table.evolving, tests, to)? {
+    if !is_below(asked, to) {
         return Ok(None);
     }
-    let singles = table_files(alloc, &table.evolving, &merged(table, false, to))?;
+    let inputs = table_files(alloc, &table.evolving, &parts(table, before, to))?;
     match one.range.files() {
         Some(files) => {
             let own = Wanted {
@@ -62,36 +66,10 @@ pub(crate) fn merged_key<M: Made, D: Disk<M>>(
                 evolving: &table.evolving,
                 epoch: one.range.epoch(),
             };
-            cumulative_difference(alloc, disk, &singles, Some(&own))
+            cumulative_difference(alloc, disk, &inputs, Some(&own))
         }
-        None => cumulative_difference(alloc, disk, &singles, None),
+        None => cumulative_difference(alloc, disk, &inputs, None),
     }
-}
-
-// Whether the files of the singletons up to a version are the recorded ones, and their rows at present keep the bound.
-fn singles_keep_bound(
-    alloc: Global,
-    evolving: &Evolving,
-    tests: &[Test],
-    to: u32,
-) -> Result<bool, AllocError>
-    ensures { IfOk result (λ b. (i : Image) (found : Found) → AllByRecursion (IsRead i found evolving.now) tests.now
-        → b ≡ (list_all (λ (t : Tested). not (is_counted (Some to) (range_in t.range)) || is_found found evolving.now (delta_of t.range)) tests.now && keeps_bound (columns_of evolving.now) (flat_map (λ (t : Tested). rows_counted found evolving.now (Some to) (range_in t.range)) tests.now))) }
-{
-    if !are_found(tests, to) {
-        return Ok(false);
-    }
-    let sums = add_up(alloc, evolving.present(), tests, Some(to))?;
-    Ok(keep_bound(&sums))
-}
-
-// Whether the files of the singletons up to a version are the recorded ones.
-fn are_found(tests: &[Test], to: u32) -> bool
-    ensures { result ≡ list_all (λ (t : Tested). not (is_counted (Some to) (range_in t.range)) || t.found) tests.now }
-{
-    tests
-        .iter()
-        .all(|one| !counts(&one.range, Some(to)) || one.found)
 }
 
 /// The least key at which the first of a range's view files that differs from its table's rows, grouped, does.

@@ -1,9 +1,11 @@
 //! A store checked: whether it is sound, and else its first fault.
 #![tactic(auto)]
 
+mod asked;
 mod faults;
 mod files;
 mod keys;
+mod parts;
 mod range;
 mod ranges;
 mod store;

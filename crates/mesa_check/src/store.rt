@@ -26,7 +26,7 @@ use mesa_shelf::Table;
 use mesa_verdict::{Verdict, sound_where_no_fault};
 use std::alloc::{AllocError, Global};
 
-/// Whether a store that was read is sound, and else its first fault. Each file that the catalogue names is read once, and those that are compared once more; a block of each file that is open is held, and of a view's file the groups of its table's rows. Nothing is written.
+/// Whether a store that was read is sound, and else its first fault. Each file that the catalogue names is read once, and once more for each comparison that it is in: a singleton's with one cumulative, a cumulative's with its singletons and with the next cumulative, and a table's file with each of its views'. A block of each file that is open is held, and of a view's file the groups of its table's rows. Nothing is written.
 pub fn check<M: Made, D: Disk<M>>(
     alloc: Global,
     opened: &mut Opened<D>,

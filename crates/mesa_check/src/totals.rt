@@ -8,7 +8,7 @@ ghost use Rattle.mesa_schema.specs.declared.rows.Row.{Row as AnyRow};
 ghost use Rattle.mesa_examine.specs.Sums.{counted as counted_of, most};
 ghost use Rattle.mesa_verdict.specs.Found.{Found};
 ghost use Rattle.mesa_verdict.specs.Faults.{agrees_if_any, are_at_most as at_most};
-ghost use Rattle.mesa_check.specs.Counted.{is_counted, rows_counted};
+ghost use Rattle.mesa_check.specs.Counted.{is_counted, rows_where};
 ghost use Rattle.mesa_check.specs.Held.{range_in};
 ghost use Rattle.mesa_check.specs.declared.testing.Test.{Test as Tested};
 ghost use Rattle.mesa_plans.specs.Lent.{now_if_any};
@@ -34,56 +34,47 @@ fn widened(alloc: Global, totals: &[u64]) -> Result<Vec<u128>, AllocError>
     totals.iter().map(|total| *total as u128).collect(alloc)
 }
 
-/// Those of the rows at present of singletons up to a version; or, where none is told, of all ranges but cumulatives.
+/// Those of the rows at present of all ranges but cumulatives.
 pub(crate) fn add_up(
     alloc: Global,
     schema: &Schema,
     tests: &[Test],
-    to: Option<u32>,
 ) -> Result<Vec<u128>, AllocError>
     ensures { IfOk result (λ sums. (found : Found) (l : Lineage) → schema.now ≡ columns_of l
-        → AllByRecursion (λ (t : Tested). is_counted to (range_in t.range) ≡ true → t.present ≡ counted_of (abs_totals schema.now (rows_counted found l to (range_in t.range)))) tests.now
-        → sums.items ≡ counted_of (abs_totals schema.now (flat_map (λ (t : Tested). rows_counted found l to (range_in t.range)) tests.now))) }
+        → AllByRecursion (λ (t : Tested). is_counted (range_in t.range) ≡ true → t.present ≡ counted_of (abs_totals schema.now (rows_where found l is_counted (range_in t.range)))) tests.now
+        → sums.items ≡ counted_of (abs_totals schema.now (flat_map (λ (t : Tested). rows_where found l is_counted (range_in t.range)) tests.now))) }
 {
     let mut sums = no_sums(alloc, schema)?;
     for one in tests {
-        sums = with_one(alloc, sums, one, to)?;
+        sums = with_one(alloc, sums, one)?;
     }
     Ok(sums)
 }
 
 // With those of a range, where it is counted.
-fn with_one(
-    alloc: Global,
-    sums: Vec<u128>,
-    one: &Test,
-    to: Option<u32>,
-) -> Result<Vec<u128>, AllocError>
+fn with_one(alloc: Global, sums: Vec<u128>, one: &Test) -> Result<Vec<u128>, AllocError>
     ensures { IfOk result (λ all. (found : Found) (l : Lineage) (s : Columns) (before : List AnyRow) → sums.items ≡ counted_of (abs_totals s before)
-        → (is_counted to (range_in one.now.range) ≡ true → one.now.present ≡ counted_of (abs_totals s (rows_counted found l to (range_in one.now.range))))
-        → all.items ≡ counted_of (abs_totals s (before ++ rows_counted found l to (range_in one.now.range)))) }
+        → (is_counted (range_in one.now.range) ≡ true → one.now.present ≡ counted_of (abs_totals s (rows_where found l is_counted (range_in one.now.range))))
+        → all.items ≡ counted_of (abs_totals s (before ++ rows_where found l is_counted (range_in one.now.range)))) }
 {
-    if !counts(&one.range, to) {
+    if !counts(&one.range) {
         return Ok(sums);
     }
     added(alloc, &sums, one.present.as_slice())
 }
 
-/// Whether a range is a singleton up to a version; or, where none is told, whether it is no cumulative.
-pub(crate) fn counts(range: &Held, to: Option<u32>) -> bool
-    ensures { result ≡ is_counted to (range_in range.now) }
+// Whether a range is no cumulative.
+fn counts(range: &Held) -> bool
+    ensures { result ≡ is_counted (range_in range.now) }
 {
     match range.kind {
-        Kind::Base => to.is_none(),
-        Kind::Single => match to {
-            Some(to) => range.to <= to,
-            None => true,
-        },
+        Kind::Base | Kind::Single => true,
         Kind::Cumulative => false,
     }
 }
 
-fn added(alloc: Global, sums: &[u128], more: &[u128]) -> Result<Vec<u128>, AllocError>
+/// Sums and more, place by place.
+pub(crate) fn added(alloc: Global, sums: &[u128], more: &[u128]) -> Result<Vec<u128>, AllocError>
     ensures { IfOk result (λ all. all.items ≡ map (λ (p : ℕ × ℕ). min most (p.0 + p.1)) (zip sums.now more.now)) }
 {
     sums.iter()

@@ -1,4 +1,4 @@
-use Rattle.std.proofs.Common.{◌≡◌, ◌∙◌, ap, sym, subst, true, not, ◌&&◌, None}
+use Rattle.std.proofs.Common.{◌≡◌, ◌∙◌, ap, sym, subst, true, not, ◌&&◌}
 use Rattle.std.specs.Prelude.{flat_map}
 use Rattle.std.specs.List.{AllByRecursion}
 use Rattle.mesa_image_laws.specs.mesa_history.mesa_batch.Totals.{abs_totals}
@@ -10,7 +10,7 @@ use Rattle.mesa_shelf.specs.Meaning.{stock_of}
 use Rattle.mesa_examine.specs.Sums.{counted}
 use Rattle.mesa_verdict.specs.Found.{rows_found}
 use Rattle.mesa_verdict.specs.Faults.{are_at_most}
-use Rattle.mesa_check.specs.Counted.{is_counted, rows_counted}
+use Rattle.mesa_check.specs.Counted.{is_counted, rows_where}
 use Rattle.mesa_check.specs.Shown.{tested_range}
 use Rattle.mesa_check.specs.declared.testing.Test.{Test}
 use Rattle.mesa_check.proofs.Told.{rows_sure, sure_sums, sure_tested}
@@ -30,10 +30,10 @@ returns c = λ next i found held read.
     let tests = c.args.tests.now in
     let so = sym c.are_true.ensures ∙ c.if-not-are_true.false in
     let e = sym so ∙ sure_tested i found next t tests c.requires read in
-    let rows = flat_map (λ (x : Test). rows_counted found l None (tested_range x)) tests in
+    let rows = flat_map (λ (x : Test). rows_where found l is_counted (tested_range x)) tests in
     let columns = c.present.ensures.columns ∙ ap columns_of c.deref.ensures in
     let sums = c.in_ok-sums.ensures found l columns
-    (subst (λ (s : Columns). AllByRecursion (λ (x : Test). is_counted None (tested_range x) ≡ true → x.present ≡ counted (abs_totals s (rows_counted found l None (tested_range x)))) tests) (sym columns) (sure_sums i found next t tests c.requires read so)) in
+    (subst (λ (s : Columns). AllByRecursion (λ (x : Test). is_counted (tested_range x) ≡ true → x.present ≡ counted (abs_totals s (rows_where found l is_counted (tested_range x)))) tests) (sym columns) (sure_sums i found next t tests c.requires read so)) in
     let most = c.are_at_most.ensures (abs_totals (columns_of l) rows) (c.deref-2.ensures.value ∙ sums ∙ ap (λ (s : Columns). counted (abs_totals s rows)) columns)
     ∙ (λ j. are_at_most (abs_totals (columns_of l) (rows_sure i found next t tests c.requires read j)) (c.as_slice.ensures j)) in
     λ k. e k && not (most k)

@@ -1,8 +1,9 @@
 use Rattle.std.proofs.Common.{◌≡◌, ℕ, [], take, true, false, Some}
-use Rattle.std.specs.Prelude.{flat_map}
+use Rattle.std.specs.Prelude.{flat_map, IfSome}
 use Rattle.std.specs.List.{AllByRecursion}
 use Rattle.mesa_disk.specs.Image.{Image}
 use Rattle.mesa_disk.specs.Story.{Unmoved}
+use Rattle.mesa_plans.specs.Lent.{now_if_any}
 use Rattle.mesa_shelf.specs.Meaning.{stock_of}
 use Rattle.mesa_tasks.specs.Opening.{Counted}
 use Rattle.mesa_verdict.specs.Found.{Found}
@@ -10,6 +11,7 @@ use Rattle.mesa_verdict.specs.Faults.{exceeds_totals, range_faults}
 use Rattle.mesa_check.specs.Held.{IsHeld}
 use Rattle.mesa_check.specs.Shown.{is_found_in, tested_range}
 use Rattle.mesa_check.specs.Tested.{IsRead}
+use Rattle.mesa_check.proofs.Earlier.{IsEarlier}
 use Rattle.mesa_check.proofs.faults.first_fault.Given as goal
 
 -- none of those so far has a fault
@@ -19,5 +21,6 @@ invariant-faults g l = record {
   counted : Counted (g.D.Disk.story l.fn.disk) (g.D.Disk.story l.disk) false;
   none : (next : ℕ) (i : Image) (found : Found) → IsHeld next l.table → (g.D.Disk.story l.fn.disk).told ≡ Some i → AllByRecursion (IsRead i found l.table.evolving.value) l.tests → l.exceeds ≡ exceeds_totals found (stock_of next l.table)
       → flat_map (λ t. range_faults found (stock_of next l.table) (tested_range t)) (take l.one-index l.tests) ≡ [];
+  before : IfSome (now_if_any l.before) (IsEarlier l.tests l.one-index);
   there : AllByRecursion (λ t. is_found_in t ≡ true) (take l.one-index l.tests);
 }

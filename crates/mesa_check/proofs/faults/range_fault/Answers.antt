@@ -7,24 +7,24 @@ use Rattle.mesa_check.proofs.Told.{fault_shown, fault_stands, found_where, stand
 use Rattle.mesa_check.proofs.faults.range_fault.Goals as goal
 
 pub returns-then-stands-clause-first : goal.returns-then-stands-clause-first
-returns-then-stands-clause-first g c = λ next i found held told all read over.
+returns-then-stands-clause-first g c = λ next i found held told files below agrees read over.
     let u = stock_of next c.args.table.now in
     fault_stands found u (tested_range c.args.one.now) (sym (stands_as found u c.args.one.now c.args.over read.tested over) ∙ sym c.stands.ensures ∙ c.if-stands.true)
 
 pub returns-in-Some-clause-first : goal.returns-in-Some-clause-first
-returns-in-Some-clause-first g c = λ next i found held told all read over.
+returns-in-Some-clause-first g c = λ next i found held told files below agrees read over.
     let u = stock_of next c.args.table.now in
     let r = tested_range c.args.one.now in
     let stands = sym c.stands.ensures ∙ c.if-stands.false in
     let so = found_where c.args.one.now c.args.over stands in
     fault_shown found u r (sym (stands_as found u c.args.one.now c.args.over read.tested over) ∙ stands)
-    ∙ ap (λ o. option_map (fault_of u r) (option_map Some o)) (c.in_ok-key.ensures.key next i found held told all read so ∙ c.in-Some.is)
+    ∙ ap (λ o. option_map (fault_of u r) (option_map Some o)) (c.in_ok-key.ensures.key next i found held told files below agrees read so ∙ c.in-Some.is)
 
 pub returns-in-None-clause-first : goal.returns-in-None-clause-first
-returns-in-None-clause-first g c = λ next i found held told all read over.
+returns-in-None-clause-first g c = λ next i found held told files below agrees read over.
     let u = stock_of next c.args.table.now in
     let r = tested_range c.args.one.now in
     let stands = sym c.stands.ensures ∙ c.if-stands.false in
     let so = found_where c.args.one.now c.args.over stands in
     fault_shown found u r (sym (stands_as found u c.args.one.now c.args.over read.tested over) ∙ stands)
-    ∙ ap (λ o. option_map (fault_of u r) (option_map Some o)) (c.in_ok-key.ensures.key next i found held told all read so ∙ c.in-None.is)
+    ∙ ap (λ o. option_map (fault_of u r) (option_map Some o)) (c.in_ok-key.ensures.key next i found held told files below agrees read so ∙ c.in-None.is)

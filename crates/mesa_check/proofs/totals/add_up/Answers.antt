@@ -3,7 +3,7 @@ use Rattle.std.specs.Prelude.{flat_map}
 use Rattle.std.proofs.lemmas.List.{take_all}
 use Rattle.mesa_image_laws.specs.mesa_history.mesa_batch.Totals.{abs_totals}
 use Rattle.mesa_examine.specs.Sums.{counted}
-use Rattle.mesa_check.specs.Counted.{rows_counted}
+use Rattle.mesa_check.specs.Counted.{is_counted, rows_where}
 use Rattle.mesa_check.specs.Held.{range_in}
 use Rattle.mesa_check.specs.declared.testing.Test.{Test}
 use Rattle.mesa_check.proofs.Lists.{all_item, flat_more}
@@ -14,11 +14,11 @@ loop-one-preserved c = λ found n s all.
     let i = c.loop-one.one-index in
     let x = c.one-item.result in
     let tests = c.args.tests.now in
-    let f = λ (t : Test). rows_counted found n c.args.to (range_in t.range) in
+    let f = λ (t : Test). rows_where found n is_counted (range_in t.range) in
     c.in_ok-sums-2.ensures found n c.args.schema.now (flat_map f (take i tests)) (c.loop-one.invariant found n s all) (all_item _ tests i x c.loop-one-test.true c.one-item.is all)
     ∙ ap (λ rows. counted (abs_totals c.args.schema.now rows)) (flat_more f tests i x c.loop-one-test.true c.one-item.is)
 
 pub returns : goal.returns
 returns c = λ found n s all.
     c.loop-one.invariant found n s all
-    ∙ ap (λ (ts : List Test). counted (abs_totals c.args.schema.now (flat_map (λ (t : Test). rows_counted found n c.args.to (range_in t.range)) ts))) (take_all c.loop-one.one-index c.args.tests.now c.loop-one-test.false)
+    ∙ ap (λ (ts : List Test). counted (abs_totals c.args.schema.now (flat_map (λ (t : Test). rows_where found n is_counted (range_in t.range)) ts))) (take_all c.loop-one.one-index c.args.tests.now c.loop-one-test.false)

@@ -5,7 +5,7 @@ use Rattle.mesa_image_laws.specs.mesa_history.mesa_batch.Totals.{abs_totals}
 use Rattle.mesa_schema.specs.Changes.{Lineage, columns_of}
 use Rattle.mesa_examine.specs.Sums.{counted}
 use Rattle.mesa_verdict.specs.Found.{Found}
-use Rattle.mesa_check.specs.Counted.{is_counted, rows_counted}
+use Rattle.mesa_check.specs.Counted.{is_counted, rows_where}
 use Rattle.mesa_check.specs.Held.{range_in}
 use Rattle.mesa_check.specs.declared.testing.Test.{Test}
 use Rattle.mesa_check.proofs.totals.add_up.Given as goal
@@ -13,5 +13,5 @@ use Rattle.mesa_check.proofs.totals.add_up.Given as goal
 -- the totals of those so far
 abbrev pub invariant-loop-one : goal.invariant-loop-one
 invariant-loop-one l = (found : Found) (n : Lineage) → l.schema ≡ columns_of n
-    → AllByRecursion (λ (t : Test). is_counted l.to (range_in t.range) ≡ true → t.present ≡ counted (abs_totals l.schema (rows_counted found n l.to (range_in t.range)))) l.tests
-    → l.sums.items ≡ counted (abs_totals l.schema (flat_map (λ (t : Test). rows_counted found n l.to (range_in t.range)) (take l.one-index l.tests)))
+    → AllByRecursion (λ (t : Test). is_counted (range_in t.range) ≡ true → t.present ≡ counted (abs_totals l.schema (rows_where found n is_counted (range_in t.range)))) l.tests
+    → l.sums.items ≡ counted (abs_totals l.schema (flat_map (λ (t : Test). rows_where found n is_counted (range_in t.range)) (take l.one-index l.tests)))
