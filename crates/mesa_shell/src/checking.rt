@@ -20,14 +20,8 @@ use std::alloc::Global;
 fn disk_of<D>(opened: Opened<D>) -> D
     ensures { result ≡ opened.disk }
 {
-    let Opened {
-        disk,
-        catalog: _,
-        last_run: _,
-        area: _,
-        end: _,
-        since: _,
-    } = opened;
+    let Opened { disk, catalog, .. } = opened;
+    drop(catalog);
     disk
 }
 

@@ -41,19 +41,13 @@ pub(crate) struct Left<K, D, B> {
     pub(crate) refused: bool,
 }
 
-// What there was for a run that takes no turn.
-fn unbegun<D, K, B>(begun: Begun<D>, out: K, benches: Vec<B>) -> Devices<K, D, B>
-    ensures { result ≡ record { out = out; disk = begun.disk; benches = benches } }
+// The disk of a store on which a run has begun that takes no turn.
+fn disk_of<D>(begun: Begun<D>) -> D
+    ensures { result ≡ begun.disk }
 {
-    let Begun {
-        disk,
-        catalog: _,
-        run: _,
-        area: _,
-        end: _,
-        since: _,
-    } = begun;
-    Devices { out, disk, benches }
+    let Begun { disk, catalog, .. } = begun;
+    drop(catalog);
+    disk
 }
 
 // A run under its name: its vault is put into a lock, every session is run, and it is stopped. No type of
@@ -103,7 +97,10 @@ fn run_named<
     let mut benches = benches;
     let vault = match Vault::<N, M, D, K>::start(alloc, begun, out, script) {
         Ok(vault) => vault,
-        Err((AllocError, begun, out)) => return Err(unbegun(begun, out, benches)),
+        Err((AllocError, begun, out)) => {
+            let disk = disk_of(begun);
+            return Err(Devices { out, disk, benches });
+        }
     };
     match serve(rt, alloc, vault, script, room, &mut benches, gate) {
         Ok(vault) => {
