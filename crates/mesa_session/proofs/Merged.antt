@@ -1,22 +1,20 @@
 -- A task whose files were merged: what is known of it is what was known before, and its delta is that of the files as they are now.
-use Rattle.std.proofs.Common.{◌≡◌, ℕ, zero, suc, ◌+◌, ◌≤◌, List, Vec, [], ◌∷◌, map, length, refl, sym, ap, ◌∙◌, subst, arith, get_or}
+use Rattle.std.proofs.Common.{◌≡◌, ℕ, zero, suc, ◌+◌, ◌≤◌, List, Vec, [], ◌∷◌, refl, sym, ap, ◌∙◌, subst, arith}
 use Rattle.std.specs.Prelude.{Option, None, Some, option_map, Result, Ok, Err, IfOk, IfErr, IfSome, min, slice_get}
 use Rattle.std.specs.declared.alloc.Global.{Global}
 use Rattle.mesa_schema.specs.declared.rows.Row.{Row}
 use Rattle.mesa_schema.specs.declared.views.View.{View}
-use Rattle.mesa_schema.specs.Columns.{Columns, aggs_of}
-use Rattle.mesa_schema.specs.Changes.{Lineage, columns_of, epoch_of, lifted}
-use Rattle.mesa_schema.specs.Folded.{folded}
+use Rattle.mesa_schema.specs.Columns.{Columns}
+use Rattle.mesa_schema.specs.Changes.{Lineage, columns_of}
 use Rattle.mesa_schema.specs.Views.{view_columns, view_rows}
-use Rattle.mesa_delta.specs.Reading.{IsWhole}
 use Rattle.mesa_delta.specs.declared.error.FileError.TheVariants as file
 use Rattle.mesa_delta.specs.declared.input.Input.{Input}
 use Rattle.mesa_fault.specs.Causes.{HasFaultCause, last}
 use Rattle.mesa_file.specs.declared.damage.Damage.{Damage}
 use Rattle.mesa_compact.specs.mesa_merge.Faults.{faults_of}
-use Rattle.mesa_compact.specs.mesa_merge.Inputs.{Known, known_of, knowns_of}
+use Rattle.mesa_compact.specs.mesa_merge.Inputs.{knowns_of}
 use Rattle.mesa_tasks.specs.GivingBack.{task_inputs}
-use Rattle.mesa_tasks.specs.Tasks.{AreMergedViews, HaveMerged, IsMerged, IsTask, MergeOnlyTo}
+use Rattle.mesa_tasks.specs.Tasks.{AreMergedViews, HaveMerged, IsMerged, IsTask}
 use Rattle.mesa_tasks.specs.declared.made.MadeFiles.{MadeFiles}
 use Rattle.mesa_tasks.specs.declared.made.MadeView.{MadeView}
 use Rattle.mesa_tasks.specs.declared.merging.CompactError.{CompactError}

@@ -12,7 +12,7 @@ use crate::gate::{Gate, Point};
 use crate::outside::{answered, merged};
 use crate::preparing::{ids_of, prepared_first};
 use crate::turns::{
-    close_turn, complete_turn, grant_turn, let_go, look_turn, pin_turn, publish_turn, renew_turn,
+    close_turn, complete_turn, grant_turn, look_turn, pin_turn, publish_turn, renew_turn,
     simple_turn,
 };
 use mesa_batch::LoadRows;
@@ -61,6 +61,7 @@ fn load<
 {
     let (pass, ran, run, looked) = look_turn(rt, lock, pass, who);
     if !ran {
+        drop(looked);
         return (pass, false);
     }
     let mut serials = ids_of(ids.take(), run, who.session);
@@ -112,7 +113,7 @@ fn query<'s, N: Naming + Send, M: Made, D: Disk<M>, K: Sink + Send, R: Wait>(
             close_turn(rt, lock, pass, who, pinned, answer)
         }
         Err(reply) => {
-            let_go(reply);
+            drop(reply);
             (pass, ran)
         }
     }
@@ -143,7 +144,7 @@ fn work<'s, N: Naming + Send, M: Made, D: Disk<M>, K: Sink + Send, R: Wait, B: B
     let mut task = match task {
         Ok(task) => task,
         Err(reply) => {
-            let_go(reply);
+            drop(reply);
             return (pass, ran);
         }
     };
@@ -158,7 +159,8 @@ fn work<'s, N: Naming + Send, M: Made, D: Disk<M>, K: Sink + Send, R: Wait, B: B
     match renewed {
         Ok(task) => complete_turn(rt, lock, pass, who, task, delta),
         Err(reply) => {
-            let_go(reply);
+            drop(reply);
+            drop(delta);
             (pass, ran)
         }
     }

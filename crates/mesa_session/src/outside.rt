@@ -45,7 +45,11 @@ pub(crate) fn answered<R: FileReader>(
 {
     reads_back();
     match answer(alloc, pinned) {
-        Ok(page) => printed(alloc, &page, &pinned.query),
+        Ok(page) => {
+            let text = printed(alloc, &page, &pinned.query);
+            drop(page);
+            text
+        }
         Err(error) => Err(error),
     }
 }

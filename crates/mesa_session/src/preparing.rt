@@ -46,7 +46,11 @@ fn prepared_by<R: Threads + Sync, M: Made, B: Bench<M>>(
     ensures owes { Owes (B.faults bench.old) (B.faults bench.new) (owed_by_load result) }
 {
     match seen {
-        Ok(glance) => prepare(rt, alloc, bench, ids, &glance, rows),
+        Ok(glance) => {
+            let made = prepare(rt, alloc, bench, ids, &glance, rows);
+            drop(glance);
+            made
+        }
         Err(_) => Err(LoadError::Memory),
     }
 }
@@ -107,5 +111,6 @@ pub(crate) fn prepared_now<
     if vault.generation() == generation {
         return made;
     }
+    drop(made);
     prepared_by(rt, alloc, bench, ids, vault.glance(), rows)
 }

@@ -62,9 +62,6 @@ pub fn look_turn<'s, N: Naming + Send, M: Made, D: Disk<M>, K: Sink + Send, R: W
     (lock.leave(held), ran, run, glance)
 }
 
-// Lets a reply go: it was printed in its turn.
-pub(crate) fn let_go(_reply: Reply) {}
-
 /// The one turn of a command that is no load, no query and no work.
 pub fn simple_turn<'s, N: Naming + Send, M: Made, D: Disk<M>, K: Sink + Send, R: Wait>(
     rt: &R,
@@ -85,7 +82,7 @@ pub fn simple_turn<'s, N: Naming + Send, M: Made, D: Disk<M>, K: Sink + Send, R:
     let vault = held.value();
     let ran = vault.running();
     let reply = vault.simple(who);
-    let_go(reply);
+    drop(reply); // it was printed
     (lock.leave(held), ran)
 }
 
@@ -125,7 +122,7 @@ pub fn publish_turn<
     let ran = vault.running();
     let made = prepared_now(rt, alloc, vault, bench, ids, generation, made, rows);
     let reply = vault.publish(who, made);
-    let_go(reply);
+    drop(reply); // it was printed
     (lock.leave(held), ran)
 }
 
@@ -260,6 +257,6 @@ pub fn complete_turn<'s, N: Naming + Send, M: Made, D: Disk<M>, K: Sink + Send, 
     let vault = held.value();
     let ran = vault.running();
     let reply = vault.complete(who, task, merged);
-    let_go(reply);
+    drop(reply); // it was printed
     (lock.leave(held), ran)
 }

@@ -1,4 +1,4 @@
-use Rattle.std.proofs.Common.{refl, ◌≡◌, not, ap, ◌∙◌, sym}
+use Rattle.std.proofs.Common.{refl, ◌≡◌, not, ap, sym}
 use Rattle.std.specs.Prelude.{Err, is_ok}
 use Rattle.mesa_core.specs.Vault.{Stand}
 use Rattle.mesa_model.specs.Entry.{numbers_of}
