@@ -16,8 +16,7 @@ use Rattle.mesa_plans.specs.Lent.{with_rows}
 use Rattle.mesa_difference.specs.Difference.{first_difference}
 use Rattle.mesa_compare.specs.Compared.{HaveFiles, IsLiftedTo, present_parts}
 use Rattle.mesa_verdict.specs.Found.{Found, rows_found}
-use Rattle.mesa_verdict.specs.Faults.{merged_key, merged_singles}
-use Rattle.mesa_check.specs.Parts.{is_asked}
+use Rattle.mesa_verdict.specs.Faults.{is_asked, merged_key, merged_singles}
 use Rattle.mesa_check.specs.Shown.{key_list}
 use Rattle.mesa_check.proofs.Rows.{all_lifted, key_shown, no_key, same_fold, same_wanted, singles_rows, singles_there}
 use Rattle.mesa_check.proofs.Standing.{MayReplace}

@@ -34,9 +34,9 @@ use Rattle.mesa_image_laws.proofs.Formed.{all_formed, rows_formed}
 use Rattle.mesa_image_laws.proofs.Lists.{all_front, both_true}
 use Rattle.mesa_image_laws.proofs.Rising.{rising}
 use Rattle.mesa_verdict.specs.Found.{AreFound, Found, rows_found}
-use Rattle.mesa_verdict.specs.Faults.{is_found, keep_bound, key_if, merged_key, merged_singles}
+use Rattle.mesa_verdict.specs.Faults.{is_asked, is_found, keep_bound, key_if, merged_key, merged_singles}
 use Rattle.mesa_check.specs.Held.{delta_of}
-use Rattle.mesa_check.specs.Parts.{Agrees, is_asked, parts_of}
+use Rattle.mesa_check.specs.Parts.{Agrees, parts_of}
 use Rattle.mesa_check.specs.Tested.{AreThere, IsThere}
 use Rattle.mesa_check.specs.declared.testing.Test.{Test}
 use Rattle.mesa_check.proofs.Behind.{singles_split}

@@ -17,10 +17,10 @@ use Rattle.mesa_shelf.specs.declared.table.Table.{Table}
 use Rattle.mesa_shelf.specs.Meaning.{IsTable, stock_of}
 use Rattle.mesa_shelf.proofs.Singles.{flat_map-append}
 use Rattle.mesa_verdict.specs.Found.{Found, rows_found}
-use Rattle.mesa_verdict.specs.Faults.{is_found, keep_bound}
+use Rattle.mesa_verdict.specs.Faults.{is_asked, is_found, keep_bound}
 use Rattle.mesa_check.specs.Counted.{is_single, rows_where}
 use Rattle.mesa_check.specs.Held.{delta_of, held_ranges, range_in}
-use Rattle.mesa_check.specs.Parts.{IsAskedBelow, is_asked}
+use Rattle.mesa_check.specs.Parts.{IsAskedBelow}
 use Rattle.mesa_check.specs.Shown.{tested_range}
 use Rattle.mesa_check.specs.Tested.{IsRead, range_of}
 use Rattle.mesa_check.specs.declared.testing.Test.{Test}

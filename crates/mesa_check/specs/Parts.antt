@@ -1,20 +1,12 @@
 -- What a cumulative is compared with.
-use Rattle.std.specs.Prelude.{◌≡◌, ℕ, ◌+◌, ◌-◌, List, ◌∷◌, [], map, drop, Bool, true, ◌&&◌, nat_lt, Option, Some, None}
-use Rattle.std.specs.List.{list_all}
-use Rattle.mesa_schema.specs.Changes.{columns_of}
-use Rattle.mesa_schema.specs.Folded.{rows_of}
+use Rattle.std.specs.Prelude.{◌≡◌, ℕ, ◌+◌, ◌-◌, List, ◌∷◌, [], drop, Bool, true, nat_lt, Option, Some, None}
 use Rattle.mesa_disk.specs.Image.{Image}
 use Rattle.mesa_image_laws.specs.mesa_image.Catalog.{Delta, Stock, start_in}
-use Rattle.mesa_image_laws.specs.mesa_image.Contents.{present}
-use Rattle.mesa_verdict.specs.Found.{Found, rows_found}
-use Rattle.mesa_verdict.specs.Faults.{is_found, keep_bound, merged_key, merged_singles}
+use Rattle.mesa_verdict.specs.Found.{Found}
+use Rattle.mesa_verdict.specs.Faults.{is_asked, merged_key, merged_singles}
 use Rattle.mesa_check.specs.Held.{delta_of}
 use Rattle.mesa_check.specs.Tested.{IsRead}
 use Rattle.mesa_check.specs.declared.testing.Test.{Test}
-
--- It is asked whether the cumulative that ends at a version differs: where the files of its range's singletons are the recorded ones, and their rows keep the bound.
-abbrev pub is_asked : Found → Stock → ℕ → Bool
-is_asked found t to = list_all (is_found found t.lineage) (merged_singles t to) && keep_bound (columns_of t.lineage) (rows_of (map (present (rows_found found) t.lineage) (merged_singles t to)))
 
 -- a version before another, where one is told
 abbrev pub is_below : Option ℕ → ℕ → Bool

@@ -45,11 +45,7 @@ pub(crate) fn answered<R: FileReader>(
 {
     reads_back();
     match answer(alloc, pinned) {
-        Ok(page) => {
-            let text = printed(alloc, &page, &pinned.query);
-            drop(page);
-            text
-        }
+        Ok(page) => printed(alloc, &page, &pinned.query),
         Err(error) => Err(error),
     }
 }

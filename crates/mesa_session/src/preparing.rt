@@ -46,11 +46,7 @@ fn prepared_by<R: Threads + Sync, M: Made, B: Bench<M>>(
     ensures owes { Owes (B.faults bench.old) (B.faults bench.new) (owed_by_load result) }
 {
     match seen {
-        Ok(glance) => {
-            let made = prepare(rt, alloc, bench, ids, &glance, rows);
-            drop(glance);
-            made
-        }
+        Ok(glance) => prepare(rt, alloc, bench, ids, &glance, rows),
         Err(_) => Err(LoadError::Memory),
     }
 }

@@ -90,10 +90,14 @@ key_if false key = []
 abbrev pub merged_singles : Stock → ℕ → List Delta
 merged_singles t to = take (to + 1 - start_in t) t.singles
 
--- The least key at which a cumulative differs from the fold of its range's singletons, both at present. It is asked where their files are the recorded ones and their rows keep the bound.
+-- It is asked whether the cumulative that ends at a version differs: where the files of its range's singletons are the recorded ones, and their rows keep the bound.
+abbrev pub is_asked : Found → Stock → ℕ → Bool
+is_asked found t to = list_all (is_found found t.lineage) (merged_singles t to) && keep_bound (columns_of t.lineage) (rows_of (map (present (rows_found found) t.lineage) (merged_singles t to)))
+
+-- where that is asked, the least key at which a cumulative differs from the fold of its range's singletons, both at present
 abbrev pub merged_key : Found → Stock → ℕ → Delta → List (List ℕ)
 merged_key found t to d =
-    key_if (list_all (is_found found t.lineage) (merged_singles t to) && keep_bound (columns_of t.lineage) (rows_of (map (present (rows_found found) t.lineage) (merged_singles t to))))
+    key_if (is_asked found t to)
     (first_difference (folded (aggs_of (columns_of t.lineage)) (map (present (rows_found found) t.lineage) (merged_singles t to))) (present (rows_found found) t.lineage d))
 
 abbrev pub merged_keys : Found → Stock → Range → List (List ℕ)

@@ -9,8 +9,8 @@ use Rattle.mesa_session.proofs.Pinned.{fault_closes, page_closes}
 use Rattle.mesa_session.proofs.Spelling.{page_spells}
 use Rattle.mesa_session.proofs.outside.answered.Goals as goal
 
-pub printed-text-requires : goal.printed-text-requires
-printed-text-requires g c =
+pub printed-requires : goal.printed-requires
+printed-requires g c =
     let s = c.requires.0 in
     let was = c.requires.1 in
     let same : c.answer.new.pinned.query ≡ c.args.pinned.now.query = ap (λ (p : Pinned _). p.query) c.answer.ensures.rest in
@@ -21,7 +21,7 @@ pub returns-in-Ok-clause-answer : goal.returns-in-Ok-clause-answer
 returns-in-Ok-clause-answer g c =
     let s = c.requires.0 in
     let was = c.requires.1 in
-    (s, c.answer.ensures.pinned s was, page_closes g.R.FileReader.bytes c.args.pinned.now c.answer.new.pinned c.answer.ensures.rest c.answer.ensures.known c.answer.ensures.own g.R.FileReader.faults s c.in-Ok.page c.printed-text.result (c.in-Ok.ensures.page s was) c.printed-text.ensures.text c.printed-text.ensures.memory)
+    (s, c.answer.ensures.pinned s was, page_closes g.R.FileReader.bytes c.args.pinned.now c.answer.new.pinned c.answer.ensures.rest c.answer.ensures.known c.answer.ensures.own g.R.FileReader.faults s c.in-Ok.page c.printed.result (c.in-Ok.ensures.page s was) c.printed.ensures.text c.printed.ensures.memory)
 
 pub returns-in-Err-clause-answer : goal.returns-in-Err-clause-answer
 returns-in-Err-clause-answer g c =

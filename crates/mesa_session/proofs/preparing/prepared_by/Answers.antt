@@ -7,8 +7,8 @@ use Rattle.mesa_session.proofs.preparing.prepared_by.Goals as goal
 
 pub returns-in-Ok-clause-seen : goal.returns-in-Ok-clause-seen
 returns-in-Ok-clause-seen g c =
-    subst (λ o. IfOk o (λ (sight : Sight). HasPrepared g.M.Made.bytes g.M.Made.id_of sight c.args.rows.now c.prepare-made.result)) (sym c.in-Ok.is)
-    (prepared_is g.M.Made.bytes g.M.Made.id_of c.in-Ok.glance c.args.rows.now c.prepare-made.result _ _ c.prepare-made.ensures.batch c.prepare-made.ensures.prepared c.prepare-made.ensures.refused)
+    subst (λ o. IfOk o (λ (sight : Sight). HasPrepared g.M.Made.bytes g.M.Made.id_of sight c.args.rows.now c.prepare.result)) (sym c.in-Ok.is)
+    (prepared_is g.M.Made.bytes g.M.Made.id_of c.in-Ok.glance c.args.rows.now c.prepare.result _ _ c.prepare.ensures.batch c.prepare.ensures.prepared c.prepare.ensures.refused)
 
 pub returns-in-Ok-clause-owes : goal.returns-in-Ok-clause-owes
-returns-in-Ok-clause-owes g c = prepared_owes _ _ _ c.prepare-made.result c.prepare-made.ensures.refused c.prepare-made.ensures.quiet
+returns-in-Ok-clause-owes g c = prepared_owes _ _ _ c.prepare.result c.prepare.ensures.refused c.prepare.ensures.quiet
