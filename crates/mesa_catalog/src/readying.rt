@@ -1,6 +1,8 @@
 // Making a record ready: all memory that it takes is taken here.
-ghost use Rattle.std.specs.Prelude.{◌≡◌, ◌&&◌, IsTrue, IfOk, OnOk, map, option_map};
+ghost use Rattle.std.specs.Prelude.{◌≡◌, ◌<◌, ◌&&◌, [], ◌∷◌, ◌++◌, IsTrue, IfOk, OnOk, length, map, option_map};
 ghost use Rattle.std.specs.List.{AllByRecursion, list_all};
+ghost use Rattle.mesa_schema.specs.Changes.{with_change};
+ghost use Rattle.mesa_schema.specs.Views.{with_view};
 ghost use Rattle.mesa_record.specs.declared.record.Part.{Part as PartOf};
 ghost use Rattle.mesa_span.specs.Ranges.{base_before};
 ghost use Rattle.mesa_record.specs.declared.record.Record.TheVariants as record_of;
@@ -42,6 +44,68 @@ fn make_spares(tables: &mut [Table]) -> Result<(), AllocError>
         make_spare(table)?;
     }
     Ok(())
+}
+
+// A table's lineage with these columns alone.
+fn new_lineage(
+    alloc: Global,
+    keys: &Items<KeyColumn>,
+    values: &Items<ValueColumn>,
+) -> Result<Arc<Evolving>, AllocError>
+    ensures { IfOk result (λ e. e.value ≡ record { first = record { keys = keys.now; values = values.now }; changes = []; views = [] }) }
+{
+    let keys = keys.copy()?.into_vec();
+    let values = values.copy()?.into_vec();
+    match Schema::build(keys, values) {
+        Ok(first) => Ok(Arc::new(alloc, Evolving::new(alloc, first))?),
+        Err(_) => Err(AllocError),
+    }
+}
+
+// A table's lineage with a view more.
+fn lineage_with_view(
+    alloc: Global,
+    evolving: &Evolving,
+    name: &Name,
+    keys: &Items<Name>,
+    values: &Items<Name>,
+) -> Result<Arc<Evolving>, AllocError>
+    requires { length evolving.now.views < 8 }
+    ensures { IfOk result (λ e. e.value ≡ with_view evolving.now (record { name = name.now; keys = keys.now; values = values.now })) }
+{
+    let name = name.copy()?;
+    let keys = keys.copy()?.into_vec();
+    let values = values.copy()?.into_vec();
+    let mut evolving = evolving.copy()?;
+    match evolving.add_view(name, keys, values) {
+        Ok(()) => Ok(Arc::new(alloc, evolving)?),
+        Err(_) => Err(AllocError),
+    }
+}
+
+// A table's lineage behind a change.
+fn lineage_with_change(
+    alloc: Global,
+    evolving: &Evolving,
+    change: &Change,
+) -> Result<Arc<Evolving>, AllocError>
+    ensures { IfOk result (λ e. e.value ≡ with_change evolving.now change.now) }
+{
+    let change = change.copy()?;
+    let mut evolving = evolving.copy()?;
+    match evolving.change(change) {
+        Ok(()) => Ok(Arc::new(alloc, evolving)?),
+        Err(_) => Err(AllocError),
+    }
+}
+
+// How many value columns there were in each epoch, with those of the present one.
+fn widths_with(widths: Items<u8>, present: &Schema) -> Result<Items<u8>, AllocError>
+    ensures { IfOk result (λ w. w ≡ widths ++ length present.now.values ∷ []) }
+{
+    let mut widths = widths;
+    widths.push(width_of(present))?;
+    Ok(widths)
 }
 
 impl Shelves {
@@ -106,17 +170,13 @@ impl Shelves {
         ensures made { IfOk result (IsMade (catalogue_of self.now)) }
     {
         let alloc = self.alloc();
-        let keys = keys.copy()?.into_vec();
-        let values = values.copy()?.into_vec();
-        let Ok(first) = Schema::build(keys, values) else {
-            return Err(AllocError);
-        };
-        let mut widths = Items::new(alloc);
-        widths.push(width_of(&first))?;
-        let totals = no_totals(alloc, first.values())?;
+        let evolving = new_lineage(alloc, keys, values)?;
+        let present = evolving.present();
+        let totals = no_totals(alloc, present.values())?;
+        let widths = widths_with(Items::new(alloc), present)?;
         let made = Table {
             name: name.copy()?,
-            evolving: Arc::new(alloc, Evolving::new(alloc, first))?,
+            evolving,
             widths,
             totals,
             base: self.base_before_oldest(),
@@ -146,16 +206,9 @@ impl Shelves {
         ensures record { IfOk result (λ y. record_in y ≡ record_of.View table name.now keys.now values.now) }
         ensures made { IfOk result (IsMade (catalogue_of self.now)) }
     {
-        let mut evolving = self.table(table).evolving.copy()?;
-        let keys = keys.copy()?.into_vec();
-        let values = values.copy()?.into_vec();
-        match evolving.add_view(name.copy()?, keys, values) {
-            Ok(()) => {
-                let evolving = Arc::new(self.alloc(), evolving)?;
-                Ok(Ready::View { table, evolving })
-            }
-            Err(_) => Err(AllocError),
-        }
+        let old = self.table(table);
+        let evolving = lineage_with_view(self.alloc(), &old.evolving, name, keys, values)?;
+        Ok(Ready::View { table, evolving })
     }
 
     fn make_change(&self, table: u16, change: &Change) -> Result<Ready, AllocError>
@@ -166,21 +219,14 @@ impl Shelves {
     {
         let old = self.table(table);
         let totals = totals_changed(&old.evolving, change, &old.totals)?;
-        let mut evolving = old.evolving.copy()?;
-        match evolving.change(change.copy()?) {
-            Ok(()) => {
-                let mut widths = old.widths.copy()?;
-                widths.push(width_of(evolving.present()))?;
-                let evolving = Arc::new(self.alloc(), evolving)?;
-                Ok(Ready::Alter {
-                    table,
-                    evolving,
-                    widths,
-                    totals,
-                })
-            }
-            Err(_) => Err(AllocError),
-        }
+        let evolving = lineage_with_change(self.alloc(), &old.evolving, change)?;
+        let widths = widths_with(old.widths.copy()?, evolving.present())?;
+        Ok(Ready::Alter {
+            table,
+            evolving,
+            widths,
+            totals,
+        })
     }
 
     fn make_parts(&self, parts: &[Part]) -> Result<Vec<ReadyPart>, AllocError>

@@ -19,8 +19,8 @@ impl Metadata {
         ensures err { OnErr result (self.new ≡ self.old) }
     {
         let hold = self.hold_now(position);
-        let copy = self.catalog.copy(self.alloc)?;
         self.holders.pins.reserve(1)?;
+        let copy = self.catalog.copy(self.alloc)?;
         let token = count(&mut self.given, session)?;
         self.holders.pins.push_reserved(Pin {
             session,
