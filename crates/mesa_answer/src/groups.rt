@@ -27,7 +27,6 @@ use std::alloc::{AllocError, Global};
 use std::collections::BTreeMap;
 
 /// A gatherer of groups. Rows are put in one by one, in the order of their versions, and each is folded into its group. Of all groups only the first are held, as many as are wanted, so that its memory doesn't grow with the rows.
-#[derive(Drop)]
 pub struct Groups<'a> {
     schema: &'a Schema,
     columns: &'a [u16],
@@ -40,6 +39,24 @@ pub struct Groups<'a> {
     aggs: Vec<Agg>,
     held: BTreeMap<Vec<u8>, Values>,
     hand: Hand,
+}
+
+// Each exit calls this, in place of letting go of each part itself.
+impl Drop for Groups<'_> {
+    fn drop(self) {
+        let Groups {
+            schema: _,
+            columns: _,
+            values: _,
+            resume: _,
+            most: _,
+            kinds: _,
+            depth: _,
+            aggs: _,
+            held: _,
+            hand: _,
+        } = self;
+    }
 }
 
 impl<'a> Groups<'a> {
@@ -130,7 +147,18 @@ impl<'a> Groups<'a> {
         // So where as many as usize holds are wanted, these are all.
         ensures few { IfOk result (λ rows. length rows < 2 ^ 63) }
     {
-        let Groups { aggs, held, .. } = self;
+        let Groups {
+            schema: _,
+            columns: _,
+            values: _,
+            resume: _,
+            most: _,
+            kinds: _,
+            depth: _,
+            aggs,
+            held,
+            hand: _,
+        } = self;
         Ok(Items::from_vec(listed(*aggs.allocator(), held)?))
     }
 

@@ -19,7 +19,6 @@ use std::alloc::{AllocError, Global};
 use std::marker::Model;
 
 /// How rows of a table become rows of one of its views: each by itself goes under the view's key, with the view's values. It is made once for many rows.
-#[derive(Drop)]
 pub struct Regrouping {
     kinds: Vec<KeyType>,
     columns: Vec<u16>,
@@ -38,6 +37,19 @@ impl Model for Regrouping {
     ghost view = { λ r. record { kinds = r.kinds.items; columns = r.columns.items; values = r.values.items } };
 
     ghost invariant = { λ r. EachIndex r.columns.items (λ k. slice_index r.columns.items k < r.depth) };
+}
+
+// Each exit calls this, in place of letting go of each part itself.
+impl Drop for Regrouping {
+    fn drop(self) {
+        let Regrouping {
+            kinds: _,
+            columns: _,
+            values: _,
+            depth: _,
+            hand: _,
+        } = self;
+    }
 }
 
 impl Regrouping {

@@ -19,7 +19,6 @@ const HEAD: usize = 3;
 /// A block that is being filled. It holds the rows, and spells them when the block is taken.
 ///
 /// The keys stand one behind the other in one buffer, and so do the values, row by row. The buffers stay for the next block.
-#[derive(Drop)]
 pub struct BlockBuilder {
     alloc: Global,
     schema: Schema,
@@ -39,6 +38,21 @@ impl Model for BlockBuilder {
     ghost view = { λ b. record { columns = b.schema; rows = rows_over (length b.schema.values) b.keys b.values.items } };
 
     ghost invariant = { λ b. IsHeld b.schema b.kinds.items b.keys b.values.items b.len };
+}
+
+// Each exit calls this, in place of letting go of each part itself.
+impl Drop for BlockBuilder {
+    fn drop(self) {
+        let BlockBuilder {
+            alloc: _,
+            schema: _,
+            kinds: _,
+            keys: _,
+            values: _,
+            len: _,
+            cells: _,
+        } = self;
+    }
 }
 
 impl BlockBuilder {

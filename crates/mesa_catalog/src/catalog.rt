@@ -16,7 +16,6 @@ use std::alloc::{AllocError, Global};
 use std::marker::Model;
 
 /// The catalogue: the tables with their deltas, the oldest version, how many versions there are, and the last run. A version that brought a table nothing costs nothing.
-#[derive(Drop)]
 pub struct Catalog {
     pub(crate) shelves: Shelves,
     pub(crate) ready: Option<Ready>,
@@ -34,6 +33,18 @@ impl Model for Catalog {
     ghost view = { λ c. reserved_of c.shelves c.ready };
 
     ghost invariant = { λ c. IsKept c.shelves c.ready c.greatest };
+}
+
+// Each exit calls this, in place of letting go of each part itself.
+impl Drop for Catalog {
+    fn drop(self) {
+        let Catalog {
+            shelves: _,
+            ready: _,
+            greatest: _,
+            no_rows: _,
+        } = self;
+    }
 }
 
 impl Catalog {

@@ -30,13 +30,24 @@ use mesa_schema::{Row, Schema};
 use std::alloc::{AllocError, Global};
 
 /// A file that is read block by block. The tail was read once, and a block is read by one read.
-#[derive(Drop)]
 pub struct DeltaReader<R> {
     pub(crate) reader: R,
     pub(crate) index: Index,
     pub(crate) run: Run,
     /// The bytes of the piece that was read last. The buffer stays for the next one.
     pub(crate) bytes: Vec<u8>,
+}
+
+// Each exit calls this, in place of letting go of each part itself.
+impl<R: Drop> Drop for DeltaReader<R> {
+    fn drop(self) {
+        let DeltaReader {
+            reader: _,
+            index: _,
+            run: _,
+            bytes: _,
+        } = self;
+    }
 }
 
 // How long a file's tail is.

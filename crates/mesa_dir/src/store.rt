@@ -14,11 +14,21 @@ use std::rt::Files;
 const UNOPENED_LEN: u64 = 2;
 
 /// A folder, or the path of one that isn't open: there each call fails.
-#[derive(Drop)]
 pub(crate) struct Store<F: Files<File = File> + Copy> {
     files: F,
     path: String,
     folder: Option<Folder>,
+}
+
+// Each exit calls this, in place of letting go of each part itself.
+impl<F: Files<File = File> + Copy> Drop for Store<F> {
+    fn drop(self) {
+        let Store {
+            files: _,
+            path: _,
+            folder: _,
+        } = self;
+    }
 }
 
 /// A store, and the lengths of its areas.

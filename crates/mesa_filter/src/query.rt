@@ -15,7 +15,6 @@ use std::alloc::{AllocError, Global};
 use std::marker::Model;
 
 /// A query of a table or a view that passed its checks: its filter, its group and value columns by their places in the relation's schema, and where its page begins and ends. It also knows what printing needs: the types of its group columns, and what stands before a group key in its resume keys.
-#[derive(Drop)]
 pub struct Query {
     asking: Asking,
     group_kinds: Items<KeyType>,
@@ -35,6 +34,20 @@ impl Model for Query {
     ghost view = { λ q. record { kinds = q.asking.filter.kinds; asked = record { columns = q.asking.columns; values = q.asking.values; terms = q.asking.filter.terms }; version = q.version; limit = q.limit; resume = q.resume; prefix = q.prefix } };
 
     ghost invariant = { λ q. q.group_kinds ≡ chosen q.asking.columns q.asking.filter.kinds };
+}
+
+// Each exit calls this, in place of letting go of each part itself.
+impl Drop for Query {
+    fn drop(self) {
+        let Query {
+            asking: _,
+            group_kinds: _,
+            version: _,
+            limit: _,
+            resume: _,
+            prefix: _,
+        } = self;
+    }
 }
 
 impl Query {

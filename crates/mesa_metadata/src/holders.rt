@@ -12,7 +12,6 @@ use mesa_catalog::Catalog;
 use mesa_trash::{Dropped, Hold, is_held};
 
 /// A version that a session keeps, with a copy of the catalogue of its own.
-#[derive(Drop)]
 pub struct Pin {
     pub session: u16,
     pub token: u32,
@@ -20,6 +19,19 @@ pub struct Pin {
     /// The hold on the files that the copy names.
     pub hold: Hold,
     pub copy: Catalog,
+}
+
+// Each exit calls this, in place of letting go of each part itself.
+impl Drop for Pin {
+    fn drop(self) {
+        let Pin {
+            session: _,
+            token: _,
+            version: _,
+            hold: _,
+            copy: _,
+        } = self;
+    }
 }
 
 // A query that isn't closed yet and names no pin.

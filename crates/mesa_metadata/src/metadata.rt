@@ -16,7 +16,6 @@ use std::alloc::Global;
 use std::marker::Model;
 
 /// What a vault has in its memory between turns.
-#[derive(Drop)]
 pub struct Metadata {
     pub(crate) alloc: Global,
     pub(crate) catalog: Catalog,
@@ -62,6 +61,24 @@ impl Model for Metadata {
     } };
 
     ghost invariant = { λ m. IsKept m.catalog m.trash m.room m.adopted };
+}
+
+// Each exit calls this, in place of letting go of each part itself.
+impl Drop for Metadata {
+    fn drop(self) {
+        let Metadata {
+            alloc: _,
+            catalog: _,
+            holders: _,
+            trash: _,
+            room: _,
+            leases: _,
+            given: _,
+            closed: _,
+            adopted: _,
+            end: _,
+        } = self;
+    }
 }
 
 impl Metadata {

@@ -61,7 +61,6 @@ pub struct ExplainWords {
 }
 
 /// A command of a script.
-#[derive(Drop)]
 pub enum Command {
     Table(TableWords),
     View(ViewWords),
@@ -78,6 +77,24 @@ pub enum Command {
     Expire(u32),
     /// The table of which deltas are to be merged.
     Work(Words),
+}
+
+// Each exit calls this, in place of letting go of each part itself.
+impl Drop for Command {
+    fn drop(self) {
+        match self {
+            Command::Table(_) => {}
+            Command::View(_) => {}
+            Command::Alter(_) => {}
+            Command::Load(_) => {}
+            Command::Query(_) => {}
+            Command::Explain(_) => {}
+            Command::Pin(_) => {}
+            Command::Release(_) => {}
+            Command::Expire(_) => {}
+            Command::Work(_) => {}
+        }
+    }
 }
 
 /// A session's commands, which are numbered from 1.

@@ -28,7 +28,6 @@ pub enum SchemaFault {
 }
 
 /// Why a command is refused.
-#[derive(Drop)]
 pub enum Refusal {
     /// No such table or view. A load says at which of its rows, counted from 1.
     NoTable {
@@ -112,8 +111,55 @@ pub enum Refusal {
     },
 }
 
+// Each exit calls this, in place of letting go of each part itself.
+impl Drop for Refusal {
+    fn drop(self) {
+        match self {
+            Refusal::NoTable { row: _ } => {}
+            Refusal::TableExists => {}
+            Refusal::BadSchema { reason: _ } => {}
+            Refusal::BadRow { row: _, column: _ } => {}
+            Refusal::DuplicateKey {
+                first: _,
+                second: _,
+            } => {}
+            Refusal::SumBound {
+                table: _,
+                column: _,
+            } => {}
+            Refusal::Stale {
+                asked: _,
+                oldest: _,
+            } => {}
+            Refusal::Future {
+                asked: _,
+                newest: _,
+            } => {}
+            Refusal::NoColumn => {}
+            Refusal::ReplaceGroup { column: _ } => {}
+            Refusal::BadDefault { column: _ } => {}
+            Refusal::InView { view: _ } => {}
+            Refusal::BadFilter { term: _ } => {}
+            Refusal::BadResume => {}
+            Refusal::NoPin { token: _ } => {}
+            Refusal::PinsFull { limit: _ } => {}
+            Refusal::TablesFull { limit: _ } => {}
+            Refusal::VersionsFull { limit: _ } => {}
+            Refusal::ReadFault => {}
+            Refusal::WriteFault => {}
+            Refusal::Closed { position: _ } => {}
+            Refusal::Damaged(_) => {}
+            Refusal::Lost {
+                lease: _,
+                holder: _,
+            } => {}
+            Refusal::Memory => {}
+            Refusal::EpochsFull { limit: _ } => {}
+        }
+    }
+}
+
 /// The reply to a command.
-#[derive(Drop)]
 pub enum Reply {
     Table { name: Name },
     View { name: Name },
@@ -136,4 +182,36 @@ pub enum Reply {
     /// The table has a lease that holds.
     Busy { lease: u64 },
     Refused(Refusal),
+}
+
+// Each exit calls this, in place of letting go of each part itself.
+impl Drop for Reply {
+    fn drop(self) {
+        match self {
+            Reply::Table { name: _ } => {}
+            Reply::View { name: _ } => {}
+            Reply::Altered { table: _, epoch: _ } => {}
+            Reply::Loaded {
+                version: _,
+                rows: _,
+            } => {}
+            Reply::Page(_) => {}
+            Reply::Rows {
+                rows: _,
+                version: _,
+                more: _,
+            } => {}
+            Reply::Spans(_) => {}
+            Reply::Pinned {
+                token: _,
+                version: _,
+            } => {}
+            Reply::Released { token: _ } => {}
+            Reply::Expired { oldest: _ } => {}
+            Reply::Swapped { from: _, to: _ } => {}
+            Reply::Idle => {}
+            Reply::Busy { lease: _ } => {}
+            Reply::Refused(_) => {}
+        }
+    }
 }

@@ -4,7 +4,6 @@ use mesa_key::KeyValue;
 use std::alloc::AllocError;
 
 /// A linked change of a table's schema; each raises the table's epoch by 1.
-#[derive(Drop)]
 pub enum Change {
     /// A value column more, which rows from before have with the default.
     AddValue {
@@ -19,6 +18,23 @@ pub enum Change {
         column: KeyColumn,
         default: KeyValue,
     },
+}
+
+// One function lets a change go, which an exit calls; a derived one is written out at each exit of each function that owns a change.
+impl Drop for Change {
+    fn drop(self) {
+        match self {
+            Change::AddValue {
+                column: _,
+                default: _,
+            } => {}
+            Change::DropValue { name: _ } => {}
+            Change::AddKey {
+                column: _,
+                default: _,
+            } => {}
+        }
+    }
 }
 
 /// Why a change is refused, the first reason that applies.

@@ -4,7 +4,6 @@ use mesa_schema::Totals;
 use std::marker::Model;
 
 /// The rows of a range of versions of a table.
-#[derive(Drop)]
 pub struct Delta {
     /// The epoch of the table's schema that the rows have; 0 for a version that brought the table no rows.
     pub epoch: u32,
@@ -20,4 +19,15 @@ impl Model for Delta {
     ghost Value = { Known };
 
     ghost view = { λ d. record { epoch = d.epoch; files = d.files; totals = d.totals } };
+}
+
+// Each exit calls this, in place of letting go of each part itself.
+impl Drop for Delta {
+    fn drop(self) {
+        let Delta {
+            epoch: _,
+            files: _,
+            totals: _,
+        } = self;
+    }
 }

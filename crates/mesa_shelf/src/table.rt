@@ -24,7 +24,6 @@ pub struct Loaded {
 }
 
 /// A table: its deltas are shared with the copies that pins have.
-#[derive(Drop)]
 pub struct Table {
     pub name: Name,
     pub evolving: Arc<Evolving>,
@@ -36,6 +35,21 @@ pub struct Table {
     pub cumulatives: Vec<Arc<Delta>>,
     /// By rising versions. A version that brought the table nothing isn't among them, so that it costs nothing.
     pub loaded: Vec<Loaded>,
+}
+
+// Each exit calls this, in place of letting go of each part itself.
+impl Drop for Table {
+    fn drop(self) {
+        let Table {
+            name: _,
+            evolving: _,
+            widths: _,
+            totals: _,
+            base: _,
+            cumulatives: _,
+            loaded: _,
+        } = self;
+    }
 }
 
 impl Table {

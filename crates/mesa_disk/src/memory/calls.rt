@@ -35,13 +35,23 @@ pub struct Done {
 
 /// What was held at first, each call since, and what is held now. Until a call changes it, that is what
 /// was held at first.
-#[derive(Drop)]
 pub struct CallLog {
     pub start: Start,
     pub held: Option<Held>,
     pub calls: Vec<Done>,
     ghost tied: { now_image start held ≡ seen_after (start_image start) calls.items } by { Coded-set image_code (now_image start held) (seen_after (start_image start) calls.items) },
     ghost placed: { ArePlaced (start_image start) calls.items } by { ArePlaced-prop (start_image start) calls.items },
+}
+
+// Each exit calls this, in place of letting go of each part itself.
+impl Drop for CallLog {
+    fn drop(self) {
+        let CallLog {
+            start: _,
+            held: _,
+            calls: _,
+        } = self;
+    }
 }
 
 impl CallLog {
