@@ -2,13 +2,14 @@
 use Rattle.std.proofs.Common.{◌≡◌, ℕ, ◌+◌, ◌<◌, ◌^◌, List, ◌++◌, length, refl, sym, ap, subst, ◌∙◌, append_assoc, Bool, true, false, Ok, Option, Some, None}
 use Rattle.std.specs.Prelude.{IsTrue, ◌&&◌, flat_map, nat_le}
 use Rattle.std.proofs.lemmas.Bool.{ltb-true, lt-ltb}
+use Rattle.mesa_list.specs.Checks.{◌>>=◌}
 use Rattle.mesa_list.proofs.Whole.{both}
 use Rattle.mesa_value.specs.Agg.{IsAmount}
 use Rattle.mesa_file.specs.declared.file_ref.FileRef.{FileRef}
 use Rattle.mesa_record.specs.declared.record.ViewRef.{ViewRef}
 use Rattle.mesa_record.specs.declared.record.Files.{Files}
 use Rattle.mesa_record.specs.declared.record.Part.{Part}
-use Rattle.mesa_record.specs.Reading.{Left, aggregates_at, amount_at, byte_at, count_at, file_ref_at, files_at, files_if, files_if_any_at, flag_of, half_at, key_at, long_at, meaning, not_zero, part_at, piece_at, ruled, totals_at, view_number, view_ref_at, view_refs_at, word_at}
+use Rattle.mesa_record.specs.Reading.{Left, Read, aggregates_at, amount_at, byte_at, count_at, file_ref_at, files_at, files_if, files_if_any_at, flag_of, half_at, key_at, long_at, meaning, not_zero, part_at, piece_at, ruled, totals_at, view_number, view_ref_at, view_refs_at, word_at}
 use Rattle.mesa_record.specs.Rules.{IsHalf, IsLong, IsTypedRef, IsWord, is_count_of_columns, is_file_ref, is_key_length}
 use Rattle.mesa_record.specs.Spelling.{amount, counted, file_keys, file_ref, file_sizes, files, files_if_any, flag, half, key, long, part, view_ref, word}
 use Rattle.mesa_record.proofs.Both.{Again, Begins, Found, InOrder, begins_two, here, list_again, list_found, of_ok, ok_is, step_of}
@@ -72,8 +73,45 @@ ref_bool f r =
     (lt-ltb _ _ r.last))
     r.aggregates
 
+-- the sizes of a reference, within their types and their rules
+record AreSizes (id len rows blocks : ℕ) : Type 0 where
+  pub id_fits : IsLong id
+  pub len_fits : IsLong len
+  pub rows_fit : IsLong rows × IsTrue (not_zero rows)
+  pub blocks_fit : IsWord blocks × IsTrue (not_zero blocks)
+
+-- what is read of a reference behind its sizes
+abbrev behind_sizes : (id len rows blocks : ℕ) → Left → Read FileRef
+behind_sizes id len rows blocks l = do
+  first ← key_at l
+  last ← key_at first.1
+  aggregates ← aggregates_at last.1
+  digest ← piece_at 32 aggregates.1
+  Ok (record { id = id; len = len; rows = rows; blocks = blocks; first = first.0; last = last.0; aggregates = aggregates.0; digest = digest.0 }, digest.1)
+
+-- By itself, so that no step of these stands in the types of those before it.
+behind_sizes_found : (id len rows blocks : ℕ) → AreSizes id len rows blocks → (l mid after : Left) (f : FileRef) → Begins l (long id ++ (long len ++ (long rows ++ word blocks))) mid → behind_sizes id len rows blocks mid ≡ Ok (f, after)
+    → IsRef f × Begins l (file_ref f) after
+unfolding file_ref file_sizes file_keys
+behind_sizes_found id len rows blocks are l mid after f sizes h =
+    let s1 = step_of (key_at mid) _ _ h in
+    let f1 = key_found mid s1.0.1 s1.0.0 sizes.rest s1.1 in
+    let s2 = step_of (key_at s1.0.1) _ _ s1.2 in
+    let f2 = key_found s1.0.1 s2.0.1 s2.0.0 f1.1.rest s2.1 in
+    let s3 = step_of (aggregates_at s2.0.1) _ _ s2.2 in
+    let f3 = counted_found is_count_of_columns amount_at amount IsAmount amount_found s2.0.1 s3.0.1 s3.0.0 f2.1.rest s3.1 in
+    let s4 = step_of (piece_at 32 s3.0.1) _ _ s3.2 in
+    let f4 = piece_found 32 s3.0.1 s4.0.1 s4.0.0 f3.1.rest s4.1 in
+    let file : FileRef = record { id = id; len = len; rows = rows; blocks = blocks; first = s1.0.0; last = s2.0.0; aggregates = s3.0.0; digest = s4.0.0 } in
+    let keys : Begins mid (file_keys file) s2.0.1 = begins_two mid s1.0.1 s2.0.1 _ _ f1.1 f2.1 in
+    let rest : Begins s2.0.1 (counted amount file.aggregates ++ file.digest) s4.0.1 = begins_two s2.0.1 s3.0.1 s4.0.1 _ _ f3.1 f4.begins in
+    let rules : RefRules file = record { rows = are.rows_fit.1; blocks = are.blocks_fit.1; first = f1.0; last = f2.0; aggregates = f3.0.count } in
+    let typed : IsTypedRef file = record { id = are.id_fits; len = are.len_fits; rows = are.rows_fit.0; blocks = are.blocks_fit.0; aggregates = f3.0.all; digest = f4.len } in
+    subst (λ (z : FileRef × Left). IsRef z.0 × Begins l (file_ref z.0) z.1) (ok_is (file, s4.0.1) (f, after) s4.2)
+    (record { typed = typed; rules = ref_bool file rules }, begins_two l mid s4.0.1 _ _ sizes (begins_two mid s2.0.1 s4.0.1 _ _ keys rest))
+
 pub file_ref_found : Found file_ref_at file_ref IsRef
-unfolding file_ref_at file_ref file_sizes file_keys
+unfolding file_ref_at
 file_ref_found l after f bytes h =
     let s1 = step_of (long_at l) _ _ h in
     let f1 = long_found l s1.0.1 s1.0.0 bytes s1.1 in
@@ -83,22 +121,9 @@ file_ref_found l after f bytes h =
     let f3 = ruled_found not_zero long_at long IsLong long_found s2.0.1 s3.0.1 s3.0.0 f2.1.rest s3.1 in
     let s4 = step_of (ruled not_zero word_at s3.0.1) _ _ s3.2 in
     let f4 = ruled_found not_zero word_at word IsWord word_found s3.0.1 s4.0.1 s4.0.0 f3.1.rest s4.1 in
-    let s5 = step_of (key_at s4.0.1) _ _ s4.2 in
-    let f5 = key_found s4.0.1 s5.0.1 s5.0.0 f4.1.rest s5.1 in
-    let s6 = step_of (key_at s5.0.1) _ _ s5.2 in
-    let f6 = key_found s5.0.1 s6.0.1 s6.0.0 f5.1.rest s6.1 in
-    let s7 = step_of (aggregates_at s6.0.1) _ _ s6.2 in
-    let f7 = counted_found is_count_of_columns amount_at amount IsAmount amount_found s6.0.1 s7.0.1 s7.0.0 f6.1.rest s7.1 in
-    let s8 = step_of (piece_at 32 s7.0.1) _ _ s7.2 in
-    let f8 = piece_found 32 s7.0.1 s8.0.1 s8.0.0 f7.1.rest s8.1 in
-    let file : FileRef = record { id = s1.0.0; len = s2.0.0; rows = s3.0.0; blocks = s4.0.0; first = s5.0.0; last = s6.0.0; aggregates = s7.0.0; digest = s8.0.0 } in
-    let sizes : Begins l (file_sizes file) s4.0.1 = begins_two l s1.0.1 s4.0.1 _ _ f1.1 (begins_two s1.0.1 s2.0.1 s4.0.1 _ _ f2.1 (begins_two s2.0.1 s3.0.1 s4.0.1 _ _ f3.1 f4.1)) in
-    let keys : Begins s4.0.1 (file_keys file) s6.0.1 = begins_two s4.0.1 s5.0.1 s6.0.1 _ _ f5.1 f6.1 in
-    let rest : Begins s6.0.1 (counted amount file.aggregates ++ file.digest) s8.0.1 = begins_two s6.0.1 s7.0.1 s8.0.1 _ _ f7.1 f8.begins in
-    let rules : RefRules file = record { rows = f3.0.1; blocks = f4.0.1; first = f5.0; last = f6.0; aggregates = f7.0.count } in
-    let typed : IsTypedRef file = record { id = f1.0; len = f2.0; rows = f3.0.0; blocks = f4.0.0; aggregates = f7.0.all; digest = f8.len } in
-    subst (λ (z : FileRef × Left). IsRef z.0 × Begins l (file_ref z.0) z.1) (ok_is (file, s8.0.1) (f, after) s8.2)
-    (record { typed = typed; rules = ref_bool file rules }, begins_two l s4.0.1 s8.0.1 _ _ sizes (begins_two s4.0.1 s6.0.1 s8.0.1 _ _ keys rest))
+    let are : AreSizes s1.0.0 s2.0.0 s3.0.0 s4.0.0 = record { id_fits = f1.0; len_fits = f2.0; rows_fit = f3.0; blocks_fit = f4.0 } in
+    let sizes = begins_two l s1.0.1 s4.0.1 _ _ f1.1 (begins_two s1.0.1 s2.0.1 s4.0.1 _ _ f2.1 (begins_two s2.0.1 s3.0.1 s4.0.1 _ _ f3.1 f4.1)) in
+    behind_sizes_found s1.0.0 s2.0.0 s3.0.0 s4.0.0 are l s4.0.1 after f sizes s4.2
 
 -- ---- views' files
 

@@ -1,4 +1,5 @@
 pub mod Series
+pub mod InTurn
 pub mod Both
 pub mod Numbers
 pub mod Texts

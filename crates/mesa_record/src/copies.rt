@@ -1,8 +1,10 @@
 // Copies of records.
 ghost use Rattle.std.specs.Prelude.{◌≡◌, IfOk};
+ghost use Rattle.mesa_record.specs.declared.record.Record.TheVariants as record_of;
 
 use crate::{Files, Part, Record, ViewRef};
-use mesa_list::TryCopy;
+use mesa_list::{Items, TryCopy};
+use mesa_schema::{KeyColumn, Name, ValueColumn};
 use std::alloc::AllocError;
 
 impl TryCopy for ViewRef {
@@ -16,52 +18,45 @@ impl TryCopy for ViewRef {
 
 impl TryCopy for Files {
     fn copy(&self) -> Result<Self, AllocError> {
+        let views = self.views.copy()?;
         Ok(Files {
             file: self.file.copy()?,
-            views: self.views.copy()?,
+            views,
         })
     }
 }
 
 impl TryCopy for Part {
     fn copy(&self) -> Result<Self, AllocError> {
+        let totals = self.totals.copy()?;
         Ok(Part {
             table: self.table,
             epoch: self.epoch,
             files: self.files.copy()?,
-            totals: self.totals.copy()?,
+            totals,
         })
     }
 }
 
 impl TryCopy for Record {
     fn copy(&self) -> Result<Self, AllocError> {
-        Ok(match self {
-            Record::Run { number } => Record::Run { number: *number },
-            Record::Table { name, keys, values } => Record::Table {
-                name: name.copy()?,
-                keys: keys.copy()?,
-                values: values.copy()?,
-            },
+        match self {
+            Record::Run { number } => Ok(Record::Run { number: *number }),
+            Record::Table { name, keys, values } => copy_table(name, keys, values),
             Record::View {
                 table,
                 name,
                 keys,
                 values,
-            } => Record::View {
-                table: *table,
-                name: name.copy()?,
-                keys: keys.copy()?,
-                values: values.copy()?,
-            },
-            Record::Alter { table, change } => Record::Alter {
+            } => copy_view(*table, name, keys, values),
+            Record::Alter { table, change } => Ok(Record::Alter {
                 table: *table,
                 change: change.copy()?,
-            },
-            Record::Publish { version, parts } => Record::Publish {
+            }),
+            Record::Publish { version, parts } => Ok(Record::Publish {
                 version: *version,
                 parts: parts.copy()?,
-            },
+            }),
             Record::Swap {
                 table,
                 base,
@@ -69,17 +64,47 @@ impl TryCopy for Record {
                 to,
                 epoch,
                 files,
-            } => Record::Swap {
+            } => Ok(Record::Swap {
                 table: *table,
                 base: *base,
                 from: *from,
                 to: *to,
                 epoch: *epoch,
                 files: copy_files(files)?,
-            },
-            Record::Expire { version } => Record::Expire { version: *version },
-        })
+            }),
+            Record::Expire { version } => Ok(Record::Expire { version: *version }),
+        }
     }
+}
+
+fn copy_table(
+    name: &Name,
+    keys: &Items<KeyColumn>,
+    values: &Items<ValueColumn>,
+) -> Result<Record, AllocError>
+    ensures { IfOk result (λ other. other ≡ record_of.Table name.now keys.now values.now) }
+{
+    Ok(Record::Table {
+        name: name.copy()?,
+        keys: keys.copy()?,
+        values: values.copy()?,
+    })
+}
+
+fn copy_view(
+    table: u16,
+    name: &Name,
+    keys: &Items<Name>,
+    values: &Items<Name>,
+) -> Result<Record, AllocError>
+    ensures { IfOk result (λ other. other ≡ record_of.View table name.now keys.now values.now) }
+{
+    Ok(Record::View {
+        table,
+        name: name.copy()?,
+        keys: keys.copy()?,
+        values: values.copy()?,
+    })
 }
 
 fn copy_files(files: &Option<Files>) -> Result<Option<Files>, AllocError>

@@ -1,7 +1,7 @@
 // Fields that stand in lists: how each is read and written.
-ghost use Rattle.std.specs.Prelude.{◌≡◌, ◌++◌, List, ℕ, flat_map, OnOk};
+ghost use Rattle.std.specs.Prelude.{◌≡◌, ◌++◌, ◌≤◌, List, ℕ, flat_map, length, OnOk};
 ghost use Rattle.mesa_record.specs.Reading.{Gives, amount_at, key_column_at, long_at, many, name_at, value_column_at};
-ghost use Rattle.mesa_record.specs.Spelling.{amount, key_column, half, long, text, value_column, word};
+ghost use Rattle.mesa_record.specs.Spelling.{amount, counted, key_column, half, long, text, value_column, word};
 ghost use Rattle.std.specs.List.{AllByRecursion};
 ghost use Rattle.mesa_value.specs.Agg.{IsAmount};
 ghost use Rattle.mesa_schema.specs.declared.columns.KeyColumn.{KeyColumn as Column};
@@ -50,7 +50,7 @@ pub(crate) fn read_fields<T: Field>(
 }
 
 // Appends fields, one after the other.
-pub(crate) fn write_fields<T: Field>(fields: &[T], out: &mut Vec<u8>) -> Result<(), AllocError>
+fn write_fields<T: Field>(fields: &[T], out: &mut Vec<u8>) -> Result<(), AllocError>
     ensures bytes { OnOk result (out.new.items ≡ out.old.items ++ flat_map T.spelling fields.now) }
     ensures typed { OnOk result (AllByRecursion T.Is fields.now) }
 {
@@ -58,6 +58,16 @@ pub(crate) fn write_fields<T: Field>(fields: &[T], out: &mut Vec<u8>) -> Result<
         field.write(out)?;
     }
     Ok(())
+}
+
+// Appends how many fields there are, and then each.
+pub(crate) fn write_counted<T: Field>(fields: &[T], out: &mut Vec<u8>) -> Result<(), AllocError>
+    requires { length fields.now ≤ 16 }
+    ensures bytes { OnOk result (out.new.items ≡ out.old.items ++ counted T.spelling fields.now) }
+    ensures typed { OnOk result (AllByRecursion T.Is fields.now) }
+{
+    out.push(fields.len() as u8)?;
+    write_fields(fields, out)
 }
 
 impl Field for Name {

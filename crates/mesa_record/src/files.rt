@@ -5,7 +5,7 @@ ghost use Rattle.mesa_record.specs.Rules.{AreTypedFiles, IsLong, IsTypedFiles, I
 ghost use Rattle.mesa_record.specs.Spelling.{file_keys, file_ref, file_sizes, files, files_if_any, key, part, view_ref};
 
 use crate::cursor::Cursor;
-use crate::field::{put_half, put_long, put_word, read_fields, write_fields};
+use crate::field::{put_half, put_long, put_word, read_fields, write_counted};
 use crate::numbered::{Numbered, read_rising, write_rising};
 use crate::{Files, Part, RecordError, ViewRef};
 use mesa_file::{FileId, FileRef};
@@ -169,8 +169,7 @@ impl Numbered for Part {
         put_half(self.table, out)?;
         put_word(self.epoch, out)?;
         write_files(&self.files, out)?;
-        out.push(self.totals.len() as u8)?;
-        write_fields(self.totals.as_slice(), out)
+        write_counted(self.totals.as_slice(), out)
     }
 }
 
@@ -184,8 +183,7 @@ pub(crate) fn write_file(file: &FileRef, out: &mut Vec<u8>) -> Result<(), AllocE
 {
     write_sizes(file, out)?;
     write_keys(file, out)?;
-    out.push(file.aggregates.len() as u8)?;
-    write_fields(file.aggregates.as_slice(), out)?;
+    write_counted(file.aggregates.as_slice(), out)?;
     write_digest(&file.digest, out)
 }
 

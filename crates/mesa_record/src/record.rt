@@ -11,10 +11,16 @@ pub struct ViewRef {
 }
 
 /// The files of a delta of a table: its own, and those of its views, by rising numbers.
-#[derive(Drop)]
 pub struct Files {
     pub file: FileRef,
     pub views: Items<ViewRef>,
+}
+
+// Each exit calls this, in place of letting go of each part itself.
+impl Drop for Files {
+    fn drop(self) {
+        let Files { file: _, views: _ } = self;
+    }
 }
 
 /// What a batch brings to a table. Tables are numbered from 0 in the order in which they were made.
@@ -29,7 +35,6 @@ pub struct Part {
 }
 
 /// A record of the journal.
-#[derive(Drop)]
 pub enum Record {
     /// A run of the program begins.
     Run {
@@ -71,4 +76,41 @@ pub enum Record {
     Expire {
         version: u32,
     },
+}
+
+// Each exit calls this, in place of letting go of each part itself.
+impl Drop for Record {
+    fn drop(self) {
+        match self {
+            Record::Run { number: _ } => {}
+            Record::Table {
+                name: _,
+                keys: _,
+                values: _,
+            } => {}
+            Record::View {
+                table: _,
+                name: _,
+                keys: _,
+                values: _,
+            } => {}
+            Record::Alter {
+                table: _,
+                change: _,
+            } => {}
+            Record::Publish {
+                version: _,
+                parts: _,
+            } => {}
+            Record::Swap {
+                table: _,
+                base: _,
+                from: _,
+                to: _,
+                epoch: _,
+                files: _,
+            } => {}
+            Record::Expire { version: _ } => {}
+        }
+    }
 }

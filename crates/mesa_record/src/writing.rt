@@ -6,7 +6,7 @@ ghost use Rattle.mesa_record.specs.declared.record.Record.TheVariants as record_
 ghost use Rattle.mesa_record.specs.Rules.{IsHalf, IsKeyValue, IsTyped, IsTypedChange, IsTypedPart, IsWord, are_parts, keeps_rules};
 ghost use Rattle.mesa_record.specs.Spelling.{change as change_bytes, flag, half, key_default, parts_fields, spelled, table_fields, view_fields, word};
 
-use crate::field::{Field, put_half, put_word, write_fields};
+use crate::field::{Field, put_half, put_word, write_counted};
 use crate::files::write_files_if_any;
 use crate::numbered::write_rising;
 use crate::{Part, Record, reads_records};
@@ -115,10 +115,8 @@ fn write_table(
 {
     out.push(2)?;
     name.write(out)?;
-    out.push(keys.len() as u8)?;
-    write_fields(keys, out)?;
-    out.push(values.len() as u8)?;
-    write_fields(values, out)
+    write_counted(keys, out)?;
+    write_counted(values, out)
 }
 
 fn write_view(
@@ -135,10 +133,8 @@ fn write_view(
     out.push(3)?;
     put_half(table, out)?;
     name.write(out)?;
-    out.push(keys.len() as u8)?;
-    write_fields(keys, out)?;
-    out.push(values.len() as u8)?;
-    write_fields(values, out)
+    write_counted(keys, out)?;
+    write_counted(values, out)
 }
 
 fn write_parts(parts: &[Part], out: &mut Vec<u8>) -> Result<(), AllocError>
