@@ -1,7 +1,7 @@
 -- Files that are kept one after another.
-use Rattle.std.proofs.Common.{◌≡◌, ℕ, ◌+◌, ◌≤◌, List, [], ◌∷◌, ◌++◌, length, map, vec_capacity, Ok, Err, sym, ap, subst, ◌∙◌, arith, append_assoc, length-append}
-use Rattle.std.specs.Prelude.{Result, Vec, IfErr, IfOk, OnOk}
-use Rattle.std.specs.declared.alloc.Global.{Global}
+use Rattle.std.proofs.Common.{◌≡◌, ℕ, ◌≤◌, List, [], ◌∷◌, ◌++◌, map, Ok, Err, sym, ap, subst, ◌∙◌, arith, append_assoc}
+use Rattle.std.specs.Prelude.{Result, IfErr, OnOk}
+use Rattle.std.specs.Result.{result_and}
 use Rattle.std.proofs.lemmas.List.{map-append}
 use Rattle.mesa_tasks.specs.declared.made.MadeFile.{MadeFile}
 use Rattle.mesa_tasks.specs.declared.prepared.LoadError.{LoadError}
@@ -10,9 +10,6 @@ use Rattle.mesa_load.specs.Collected.{IsKept, IsUnwritten, finished}
 use Rattle.mesa_load.specs.declared.building.Progress.{Progress}
 use Rattle.mesa_load.specs.declared.building.Progress.TheVariants as progress
 
-abbrev Files : Type 0 → Type 0
-Files M = Result (Vec (MadeFile M) Global) LoadError
-
 -- a cause stays one
 unwritten_later : (a b d : ℕ) (e : LoadError) → b ≤ d → IsUnwritten a b e → IsUnwritten a d e
 unwritten_later a b d (load.Batch refusal) later h = h
@@ -20,36 +17,31 @@ unwritten_later a b d load.Draft later h = omega (arith, later, h)
 unwritten_later a b d load.Memory later h = tt
 
 module _ {M T : Type 0} where
-  -- the files with one more are those of one draft more
-  pub kept_more : (written : List (Progress M T)) (all more : Files M) (file : Progress M T) (left : List (Progress M T))
-      → IfOk all (λ files. written ≡ map finished files.items ++ file ∷ left) → IfOk more (λ files. IsKept all file files.items) → IfOk more (λ files. written ≡ map finished files.items ++ left)
-  kept_more written all (Err e) file left so_far kept = tt
-  kept_more written (Err e) (Ok more) file left so_far kept = absurd kept
-  kept_more written (Ok files) (Ok more) (progress.Finished made) left so_far kept =
+  one_more : (written : List (Progress M T)) (files more : List (MadeFile M)) (file : Progress M T) (left : List (Progress M T))
+      → written ≡ map finished files ++ file ∷ left → IsKept files file more → written ≡ map finished more ++ left
+  one_more written files more (progress.Finished made) left so_far kept =
       so_far
-      ∙ sym (append_assoc (map finished files.items) (finished made ∷ []) left)
-      ∙ ap (λ (fs : List (Progress M T)). fs ++ left) (sym (ap (map finished) kept ∙ map-append finished files.items (made ∷ [])))
-  kept_more written (Ok files) (Ok more) (progress.Failed error draft) left so_far kept = absurd kept
-  kept_more written (Ok files) (Ok more) (progress.Begun id draft) left so_far kept = absurd kept
-  kept_more written (Ok files) (Ok more) progress.Lent left so_far kept = absurd kept
+      ∙ sym (append_assoc (map finished files) (finished made ∷ []) left)
+      ∙ ap (λ (fs : List (Progress M T)). fs ++ left) (sym (ap (map finished) kept ∙ map-append finished files (made ∷ [])))
+  one_more written files more (progress.Failed error draft) left so_far kept = absurd kept
+  one_more written files more (progress.Begun id draft) left so_far kept = absurd kept
+  one_more written files more progress.Lent left so_far kept = absurd kept
 
-  pub room_left : (all more : Files M) (file : Progress M T) (left : List (Progress M T))
-      → IfOk all (λ files. length files.items + length (file ∷ left) ≤ vec_capacity files) → IfOk more (λ files. IsKept all file files.items) → IfOk more (λ files. IfOk all (λ before. vec_capacity files ≡ vec_capacity before))
-      → IfOk more (λ files. length files.items + length left ≤ vec_capacity files)
-  room_left all (Err e) file left room kept same = tt
-  room_left (Err e) (Ok more) file left room kept same = absurd kept
-  room_left (Ok files) (Ok more) (progress.Finished made) left room kept same = omega (arith, room, same, ap length kept, length-append files.items (made ∷ []))
-  room_left (Ok files) (Ok more) (progress.Failed error draft) left room kept same = absurd kept
-  room_left (Ok files) (Ok more) (progress.Begun id draft) left room kept same = absurd kept
-  room_left (Ok files) (Ok more) progress.Lent left room kept same = absurd kept
+  -- the files with one more are those of one draft more
+  pub kept_more : {A : Type 0} (written : List (Progress M T)) (so_far next : Result A LoadError) (files more : List (MadeFile M)) (file : Progress M T) (left : List (Progress M T))
+      → OnOk so_far (written ≡ map finished files ++ file ∷ left) → OnOk next (IsKept files file more) → OnOk (result_and so_far next) (written ≡ map finished more ++ left)
+  kept_more written (Err e) next files more file left was kept = tt
+  kept_more written (Ok x) (Err e) files more file left was kept = tt
+  kept_more written (Ok x) (Ok y) files more file left was kept = one_more written files more file left was kept
 
-  pub quiet_more : (all more : Files M) (file : Progress M T) (first before now : ℕ) → OnOk all (before ≡ first) → IfOk more (λ files. IsKept all file files.items) → OnOk more (now ≡ before) → OnOk more (now ≡ first)
-  quiet_more all (Err e) file first before now quiet kept same = tt
-  quiet_more (Err e) (Ok more) file first before now quiet kept same = absurd kept
-  quiet_more (Ok files) (Ok more) file first before now quiet kept same = same ∙ quiet
+-- nothing failed so far, and nothing does now
+pub quiet_more : {A : Type 0} (so_far next : Result A LoadError) (first before now : ℕ) → OnOk so_far (before ≡ first) → OnOk next (now ≡ before) → OnOk (result_and so_far next) (now ≡ first)
+quiet_more (Err e) next first before now was is = tt
+quiet_more (Ok x) (Err e) first before now was is = tt
+quiet_more (Ok x) (Ok y) first before now was is = is ∙ was
 
 -- the first error stays
-pub refused_more : {M : Type 0} (all more : Files M) (first before now : ℕ) → OnOk all (before ≡ first) → IfErr all (IsUnwritten first before) → before ≤ now → IfErr all (λ e. more ≡ Err e) → OnOk all (IfErr more (IsUnwritten before now))
-    → IfErr more (IsUnwritten first now)
-refused_more {M = M} (Ok files) more first before now quiet refused later same one = subst (λ (n : ℕ). IfErr more (IsUnwritten n now)) quiet one
-refused_more {M = M} (Err e) more first before now quiet refused later same one = subst (λ (r : Files M). IfErr r (IsUnwritten first now)) (sym same) (unwritten_later first before now e later refused)
+pub refused_more : {A : Type 0} (so_far next : Result A LoadError) (first before now : ℕ) → OnOk so_far (before ≡ first) → IfErr so_far (IsUnwritten first before) → before ≤ now → IfErr next (IsUnwritten before now)
+    → IfErr (result_and so_far next) (IsUnwritten first now)
+refused_more (Err e) next first before now quiet refused later one = unwritten_later first before now e later refused
+refused_more (Ok x) next first before now quiet refused later one = subst (λ (n : ℕ). IfErr next (IsUnwritten n now)) quiet one

@@ -1,5 +1,5 @@
 -- A batch with its files, from its plan.
-use Rattle.std.proofs.Common.{◌≡◌, ℕ, List, Bool, Option, Ok, map, flat_map, subst}
+use Rattle.std.proofs.Common.{◌≡◌, ℕ, List, Bool, Option, Ok, Err, map, flat_map, subst}
 use Rattle.std.specs.Prelude.{Result}
 use Rattle.std.specs.List.{list_any}
 use Rattle.mesa_batch.specs.declared.words.BatchError.{BatchError}
@@ -14,12 +14,14 @@ use Rattle.mesa_load.specs.Jobs.{content_in}
 use Rattle.mesa_load.specs.Plans.{ArePlanned, HaveFiles, IsBatched, IsPlan, IsRead, contents_of}
 use Rattle.mesa_load.specs.declared.planning.Plan.{Plan}
 
-abbrev Read : Type 0
-Read = Result (List Placed) BatchError
+-- what was read is a batch by tables
+pub batched : (read : Result (List Placed) BatchError) (sight : Sight) (batch : List Placed) (b : Batched) → read ≡ Ok batch → IsRead read sight b → IsBatched sight batch b
+batched read sight batch b is was = subst (λ (r : Result (List Placed) BatchError). IsRead r sight b) is was
 
--- a plan of what was read
-pub planned : (read : Read) (sight : Sight) (batch : List Placed) (b : Batched) (plan : Plan) → read ≡ Ok batch → IsRead read sight b → ((rows : List Placed) → IsBatched sight rows b → IsPlan rows sight.tables plan) → IsPlan batch sight.tables plan
-planned read sight batch b plan is was of = of batch (subst (λ (r : Read). IsRead r sight b) is was)
+-- rows that were read are those of a batch
+pub read_rows : (read : Result (List Placed) BatchError) (sight : Sight) (b : Batched) → IsRead read sight b → (rows : List Placed) × IsBatched sight rows b
+read_rows (Ok batch) sight b is = (batch, is)
+read_rows (Err refusal) sight b is = absurd is
 
 module _ {M : Type 0} (bytes : M → Option (List ℕ)) (id_of : M → ℕ) where
   pub prepared : (sight : Sight) (batch : List Placed) (plan : Plan) (files : List (MadeFile M)) (parts : List (PreparedPart M)) → IsPlan batch sight.tables plan → HaveFiles bytes id_of plan.over (map content_in plan.jobs.items) files

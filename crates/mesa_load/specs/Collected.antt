@@ -1,6 +1,5 @@
 -- What is known of drafts that are opened or given back.
-use Rattle.std.specs.Prelude.{◌≡◌, ◌<◌, ℕ, List, [], ◌∷◌, ◌++◌, Option, Some, Result, Ok, Err, Vec, ⊤}
-use Rattle.std.specs.declared.alloc.Global.{Global}
+use Rattle.std.specs.Prelude.{◌≡◌, ◌<◌, ℕ, List, [], ◌∷◌, ◌++◌, Option, Some, ⊤}
 use Rattle.mesa_fault.specs.Causes.{Rose}
 use Rattle.mesa_delta.specs.declared.error.WriteError.TheVariants.{Draft as DraftFault}
 use Rattle.mesa_tasks.specs.declared.made.MadeFile.{MadeFile}
@@ -34,9 +33,8 @@ IsUnwritten before now load.Draft = Rose before now
 IsUnwritten before now load.Memory = ⊤
 
 -- files, with one more
-abbrev pub IsKept : {M T : Type 0} → Result (Vec (MadeFile M) Global) LoadError → Progress M T → List (MadeFile M) → Type 0
-IsKept (Ok files) (progress.Finished file) more = more ≡ files.items ++ file ∷ []
-IsKept (Ok files) (progress.Failed error draft) more = ⊥
-IsKept (Ok files) (progress.Begun id draft) more = ⊥
-IsKept (Ok files) progress.Lent more = ⊥
-IsKept (Err error) file more = ⊥
+abbrev pub IsKept : {M T : Type 0} → List (MadeFile M) → Progress M T → List (MadeFile M) → Type 0
+IsKept files (progress.Finished file) more = more ≡ files ++ file ∷ []
+IsKept files (progress.Failed error draft) more = ⊥
+IsKept files (progress.Begun id draft) more = ⊥
+IsKept files progress.Lent more = ⊥

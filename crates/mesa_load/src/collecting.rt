@@ -1,6 +1,5 @@
 // What was made of the drafts of a batch.
-ghost use Rattle.std.specs.Prelude.{◌≡◌, ◌≤◌, ◌<◌, [], Err, length, map, vec_capacity, IfOk, IfErr, OnOk};
-ghost use Rattle.std.specs.Result.{ForOk};
+ghost use Rattle.std.specs.Prelude.{◌≡◌, ◌≤◌, ◌<◌, ◌+◌, [], length, map, vec_capacity, IfOk, IfErr, OnOk};
 ghost use Rattle.std.specs.List.{AllByRecursion};
 ghost use Rattle.mesa_load.specs.Collected.{HasCause, IsKept, IsUnwritten, finished};
 
@@ -13,7 +12,7 @@ use std::collections::VecDeque;
 pub(crate) fn collect<M: Made, B: Bench<M>>(
     bench: &mut B,
     written: Vec<Progress<M, B::Draft>>,
-    files: Vec<MadeFile<M>>,
+    mut files: Vec<MadeFile<M>>,
 ) -> Result<Vec<MadeFile<M>>, LoadError>
     requires told { AllByRecursion (HasCause B.Draft.faults) written.items }
     requires none { files.items ≡ [] }
@@ -24,48 +23,46 @@ pub(crate) fn collect<M: Made, B: Bench<M>>(
     ensures refused { IfErr result (IsUnwritten (B.faults bench.old) (B.faults bench.new)) }
 {
     let mut left = VecDeque::from_vec(written);
-    let mut all = Ok(files);
+    let mut kept = Ok(());
     'files: while let Some(file) = left.pop_front() {
-        all = keep(bench, all, file);
+        let next = keep(bench, &mut files, file);
+        kept = kept.and(next);
     }
     left.destroy_empty();
-    all
+    match kept {
+        Ok(()) => Ok(files),
+        Err(error) => Err(error),
+    }
 }
 
-// Keeps a file behind those before it, or gives its draft back. The first error stays.
+// Keeps a file behind those before it, or gives its draft back.
 fn keep<M: Made, B: Bench<M>>(
     bench: &mut B,
-    all: Result<Vec<MadeFile<M>>, LoadError>,
+    files: &mut Vec<MadeFile<M>>,
     file: Progress<M, B::Draft>,
-) -> Result<Vec<MadeFile<M>>, LoadError>
+) -> Result<(), LoadError>
     requires told { HasCause B.Draft.faults file }
-    requires room { ForOk all (λ files. length files.items < vec_capacity files) }
+    requires room { length files.old.items < vec_capacity files.old }
     ensures later { B.faults bench.old ≤ B.faults bench.new }
-    ensures kept { IfOk result (λ more. IsKept all file more.items) }
-    ensures room { IfOk result (λ more. IfOk all (λ files. vec_capacity more ≡ vec_capacity files)) }
+    ensures kept { OnOk result (IsKept files.old.items file files.new.items) }
+    ensures longer { length files.new.items ≤ length files.old.items + 1 }
+    ensures room { vec_capacity files.new ≡ vec_capacity files.old }
     ensures quiet { OnOk result (B.faults bench.new ≡ B.faults bench.old) }
-    ensures before { IfErr all (λ e. result ≡ Err e) }
-    ensures refused { OnOk all (IfErr result (IsUnwritten (B.faults bench.old) (B.faults bench.new))) }
+    ensures refused { IfErr result (IsUnwritten (B.faults bench.old) (B.faults bench.new)) }
 {
     match file {
         Progress::Finished(made) => {
-            let mut files = all?;
             files.push_reserved(made);
-            Ok(files)
+            Ok(())
         }
         Progress::Failed(error, draft) => {
             bench.spoil(draft);
-            let _ = all?;
             Err(LoadError::from(error))
         }
         Progress::Begun(_, draft) => {
             bench.spoil(draft);
-            let _ = all?;
             Err(LoadError::Memory)
         }
-        Progress::Lent => {
-            let _ = all?;
-            Err(LoadError::Memory)
-        }
+        Progress::Lent => Err(LoadError::Memory),
     }
 }

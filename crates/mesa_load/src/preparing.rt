@@ -3,10 +3,10 @@ ghost use Rattle.std.specs.Prelude.{◌≡◌, ◌≢◌, ◌≤◌, List, map, 
 ghost use Rattle.std.specs.List.{AllByRecursion, list_any};
 ghost use Rattle.mesa_batch.specs.Batch.{Placed as PlacedRow, batch_of};
 ghost use Rattle.mesa_batch.specs.Glance.{tables_of};
-ghost use Rattle.mesa_tasks.specs.Batches.{IsPrepared, is_over, shares};
+ghost use Rattle.mesa_tasks.specs.Batches.{AreParts, IsPrepared, is_over, shares};
 ghost use Rattle.mesa_load.specs.Collected.{IsUnwritten};
 ghost use Rattle.mesa_load.specs.Jobs.{IsFit, content_in};
-ghost use Rattle.mesa_load.specs.Plans.{HaveFiles, IsRead};
+ghost use Rattle.mesa_load.specs.Plans.{HaveFiles, IsBatched, IsRead};
 ghost use Rattle.mesa_load.specs.Preparing.{GoOn, IsReason};
 
 use crate::building::write_all;
@@ -16,7 +16,7 @@ use crate::parts::filed_parts;
 use crate::planning::{Plan, plan_batch};
 use mesa_batch::{Batch, BatchBuilder, BatchError, Glance, LoadRows, goes_row_by_row, keeps_forms};
 use mesa_disk::{Bench, Made};
-use mesa_tasks::{LoadError, MadeFile, Prepared, Serials};
+use mesa_tasks::{LoadError, MadeFile, Prepared, PreparedPart, Serials};
 use std::alloc::Global;
 use std::thread::Threads;
 
@@ -44,11 +44,10 @@ pub fn prepare<R: Threads + Sync, M: Made, B: Bench<M>>(
     ensures undrawn { (batch : List PlacedRow) → batch_of (tables_of glance.now) rows.now ≡ Ok batch → IsTrue (list_any is_over (shares glance.now batch)) → ids.new ≡ ids.old }
 {
     let batch = read_batch(alloc, glance, rows)?;
-    let plan = plan_batch(alloc, glance, &batch)?;
-    let files = build(rt, alloc, bench, ids, &plan)?;
+    let parts = build_parts(rt, alloc, bench, ids, glance, &batch)?;
     Ok(Prepared {
         generation: glance.generation(),
-        parts: filed_parts(alloc, plan.parts, files)?,
+        parts,
     })
 }
 
@@ -67,6 +66,28 @@ fn read_batch(alloc: Global, glance: &Glance, rows: &LoadRows) -> Result<Batch, 
         }
     }
     Ok(builder.finish()?)
+}
+
+// The parts of a batch that was read by the tables of a glance, with their files.
+fn build_parts<R: Threads + Sync, M: Made, B: Bench<M>>(
+    rt: &R,
+    alloc: Global,
+    bench: &mut B,
+    ids: &mut Serials,
+    glance: &Glance,
+    batch: &Batch,
+) -> Result<Vec<PreparedPart<M>>, LoadError>
+    requires { (rows : List PlacedRow) × IsBatched glance.now rows batch.now }
+    ensures parts { IfOk result (λ parts. (rows : List PlacedRow) → IsBatched glance.now rows batch.now → AreParts M.bytes M.id_of (list_any is_over (shares glance.now rows)) (shares glance.now rows) parts.items) }
+    ensures ids { GoOn ids.old ids.new }
+    ensures undrawn { (rows : List PlacedRow) → IsBatched glance.now rows batch.now → IsTrue (list_any is_over (shares glance.now rows)) → ids.new ≡ ids.old }
+    ensures later { B.faults bench.old ≤ B.faults bench.new }
+    ensures quiet { OnOk result (B.faults bench.new ≡ B.faults bench.old) }
+    ensures refused { IfErr result (IsUnwritten (B.faults bench.old) (B.faults bench.new)) }
+{
+    let plan = plan_batch(alloc, glance, batch)?;
+    let files = build(rt, alloc, bench, ids, &plan)?;
+    Ok(filed_parts(alloc, plan.parts, files)?)
 }
 
 // The files of a plan, in their order.

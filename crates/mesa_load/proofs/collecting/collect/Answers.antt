@@ -1,8 +1,8 @@
-use Rattle.std.proofs.Common.{◌++◌, ◌≡◌, ◌+◌, ◌≤◌, length, map, vec_capacity, subst, arith}
-use Rattle.std.specs.Prelude.{IfOk}
+use Rattle.std.proofs.Common.{◌++◌, ◌≡◌, length, map, ap, subst, sym, arith}
+use Rattle.std.specs.Prelude.{IfErr, OnOk}
 use Rattle.std.specs.List.{AllByRecursion}
-use Rattle.mesa_load.specs.Collected.{HasCause, finished}
-use Rattle.mesa_load.proofs.Keeping.{kept_more, quiet_more, refused_more, room_left}
+use Rattle.mesa_load.specs.Collected.{HasCause, IsUnwritten, finished}
+use Rattle.mesa_load.proofs.Keeping.{kept_more, quiet_more, refused_more}
 use Rattle.mesa_load.proofs.collecting.collect.Goals as goal
 
 pub files-preserved : goal.files-preserved
@@ -11,15 +11,16 @@ files-preserved g c =
     let items = c.in-Some.ensures.items in
     let first = g.B.Bench.faults c.args.bench.now in
     let before = g.B.Bench.faults c.files.bench in
-    let now = g.B.Bench.faults c.keep-all.new.bench in
-    let kept = c.keep-all.ensures.kept in
+    let now = g.B.Bench.faults c.keep-next.new.bench in
+    let next = c.keep-next.ensures in
+    let both = sym c.and-kept.ensures in
     record {
       told = (subst (AllByRecursion (HasCause g.B.Draft.Draft.faults)) items inv.told).1;
-      kept = kept_more c.args.written.items c.files.all c.keep-all.result c.in-Some.file c.pop_front.new.self.items
-          (subst (λ left. IfOk c.files.all (λ files. c.args.written.items ≡ map finished files.items ++ left)) items inv.kept) kept;
-      room = room_left c.files.all c.keep-all.result c.in-Some.file c.pop_front.new.self.items
-          (subst (λ left. IfOk c.files.all (λ files. length files.items + length left ≤ vec_capacity files)) items inv.room) kept c.keep-all.ensures.room;
-      later = omega (arith, inv.later, c.keep-all.ensures.later);
-      quiet = quiet_more c.files.all c.keep-all.result c.in-Some.file first before now inv.quiet kept c.keep-all.ensures.quiet;
-      refused = refused_more c.files.all c.keep-all.result first before now inv.quiet inv.refused c.keep-all.ensures.later c.keep-all.ensures.before c.keep-all.ensures.refused;
+      kept = subst (λ r. OnOk r (c.args.written.items ≡ map finished c.keep-next.new.files.items ++ c.pop_front.new.self.items)) both
+          (kept_more c.args.written.items c.files.kept c.keep-next.result c.files.files.items c.keep-next.new.files.items c.in-Some.file c.pop_front.new.self.items
+          (subst (λ left. OnOk c.files.kept (c.args.written.items ≡ map finished c.files.files.items ++ left)) items inv.kept) next.kept);
+      room = omega (arith, inv.room, next.room, next.longer, ap length items);
+      later = omega (arith, inv.later, next.later);
+      quiet = subst (λ r. OnOk r (now ≡ first)) both (quiet_more c.files.kept c.keep-next.result first before now inv.quiet next.quiet);
+      refused = subst (λ r. IfErr r (IsUnwritten first now)) both (refused_more c.files.kept c.keep-next.result first before now inv.quiet inv.refused next.later next.refused);
     }
