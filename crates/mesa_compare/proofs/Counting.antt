@@ -1,5 +1,5 @@
 -- Counts of faults of one input and of several.
-use Rattle.std.proofs.Common.{◌≡◌, ℕ, ◌≤◌, List, [], ◌∷◌, sym, ◌∙◌, subst, arith, inl, inr}
+use Rattle.std.proofs.Common.{◌≡◌, ℕ, ◌≤◌, List, [], ◌∷◌, refl, sym, ◌∙◌, subst, arith, inl, inr}
 use Rattle.std.specs.Prelude.{Result, Ok, Err, IfErr}
 use Rattle.mesa_disk.specs.mesa_fault.Causes.{HasFaultCause, Rose}
 use Rattle.mesa_merge.specs.Faults.{HaveFaultCause, NoneFell, SomeRose}
@@ -29,6 +29,11 @@ module _ {T U E : Type 0} (P : E → Type 0) where
     quiet = tt;
     other = λ no. (λ i. (cause.other no ∙ one) i ∷ same i);
   }
+
+-- the one may have failed
+pub first_cause : {U E : Type 0} (P : E → Type 0) (f h : ℕ) (counts now : List ℕ) (result : Result U E) → now ≡ counts → HasFaultCause P f h result → HaveFaultCause P (f ∷ counts) (h ∷ now) result
+first_cause P f h counts now (Ok x) same cause = record { later = (cause.later, same_fell counts now same); failed = tt; quiet = (λ i. cause.quiet i ∷ same i); other = tt }
+first_cause P f h counts now (Err e) same cause = one_failed P f f h counts now e refl same cause
 
 -- none did
 pub none_failed : {U E : Type 0} (P : E → Type 0) (f g : ℕ) (counts now : List ℕ) (result : Result U E) → g ≡ f → now ≡ counts → IfErr result (λ e. P e → ⊥) → HaveFaultCause P (f ∷ counts) (g ∷ now) result

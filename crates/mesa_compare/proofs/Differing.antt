@@ -13,10 +13,7 @@ use Rattle.mesa_delta.specs.declared.input.Input.{Input}
 use Rattle.mesa_cursor.specs.Cursors.{IsAllOf, IsSameInput, lift_by, reader_in}
 use Rattle.mesa_merge.specs.Inputs.{AreAll, AreTold, Known, lifted_parts}
 use Rattle.mesa_difference.specs.Difference.{first_difference, next_of}
-
--- What two rows show that come next in lists: where these first differ.
-abbrev pub Shows : List ℕ → Option Row → Option Row → Type 0
-Shows key row beside = (front rows others : List Row) → next_of rows ≡ row → next_of others ≡ beside → IsTrue (keys_rise (front ++ rows)) → IsTrue (keys_rise (front ++ others)) → first_difference (front ++ rows) (front ++ others) ≡ Some key
+use Rattle.mesa_compare.specs.Compared.{Shows}
 
 -- a row that comes next, and those behind it; behind an end there is none
 pub next_is : (row : Option Row) (more : List Row) → (row ≡ None → more ≡ []) → next_of (option_to_list row ++ more) ≡ row

@@ -1,8 +1,9 @@
 -- Files that are compared, and what they are to have.
-use Rattle.std.specs.Prelude.{◌≡◌, List, [], ◌∷◌, map, Option, None, Some, Result, Ok, Err, ⊤}
+use Rattle.std.specs.Prelude.{◌≡◌, ℕ, List, [], ◌∷◌, ◌++◌, map, Option, None, Some, Result, Ok, Err, IsTrue, ⊤}
 use Rattle.mesa_schema.specs.declared.rows.Row.{Row}
 use Rattle.mesa_schema.specs.Changes.{columns_of, epoch_of, lifted}
 use Rattle.mesa_schema.specs.Columns.{Columns}
+use Rattle.mesa_schema.specs.Rows.{keys_rise}
 use Rattle.mesa_disk.specs.Image.{Image, file_of}
 use Rattle.mesa_delta.specs.File.{IsFile, file_bytes}
 use Rattle.mesa_delta.specs.Summary.{IsReferenceOf}
@@ -10,6 +11,7 @@ use Rattle.mesa_delta.specs.declared.error.FileError.{FileError}
 use Rattle.mesa_delta.specs.declared.error.FileError.TheVariants as file_error
 use Rattle.mesa_tasks.specs.Opening.{wanted_columns}
 use Rattle.mesa_tasks.specs.declared.opening.Wanted.{Wanted}
+use Rattle.mesa_difference.specs.Difference.{first_difference, next_of}
 use Rattle.mesa_examine.specs.declared.error.CheckError.{CheckError}
 use Rattle.mesa_examine.specs.declared.error.CheckError.TheVariants as check_error
 
@@ -54,3 +56,7 @@ answer_of (Ok o) = Ok o
 answer_of (Err file_error.Read) = Err check_error.Read
 answer_of (Err (file_error.Damaged d)) = Ok None
 answer_of (Err file_error.Memory) = Err check_error.Memory
+
+-- What two rows show that come next in lists that were the same so far: where these first differ.
+abbrev pub Shows : List ℕ → Option Row → Option Row → Type 0
+Shows key row beside = (front rows others : List Row) → next_of rows ≡ row → next_of others ≡ beside → IsTrue (keys_rise (front ++ rows)) → IsTrue (keys_rise (front ++ others)) → first_difference (front ++ rows) (front ++ others) ≡ Some key

@@ -1,5 +1,5 @@
 // Streams read to their ends.
-ghost use Rattle.std.specs.Prelude.{◌≡◌, [], ◌++◌, ℕ, List, IsTrue, IfErr, OnOk, Some};
+ghost use Rattle.std.specs.Prelude.{◌≡◌, [], ◌∷◌, ◌++◌, ℕ, List, IsTrue, IfErr, OnOk, Some};
 ghost use Rattle.mesa_disk.specs.mesa_fault.Causes.{HasFaultCause};
 ghost use Rattle.mesa_disk.specs.mesa_file.declared.damage.Damage.{Damage as AnyDamage};
 ghost use Rattle.mesa_schema.specs.declared.rows.Row.{Row as AnyRow};
@@ -18,6 +18,31 @@ use mesa_delta::{FileError, Input};
 use mesa_disk::FileReader;
 use mesa_examine::next_row;
 use mesa_merge::Merge;
+
+/// Reads a merge and an input to their ends, where they haven't ended.
+pub(crate) fn finish_both<R: FileReader>(
+    merge: &mut Merge<R>,
+    merged: bool,
+    cursor: &mut Cursor,
+    input: &mut Input<R>,
+    read: bool,
+) -> Result<(), FileError>
+    requires merge { (s : Columns) × (givens : List (List AnyRow)) × HasMerged R.bytes s merge.old givens }
+    requires input { IsInput R.bytes input.old }
+    ensures rest { OnOk result ((s : Columns) (givens : List (List AnyRow)) → HasMerged R.bytes s merge.old givens → (IsTrue merged → AreAll (knowns_of R.bytes (inputs_of merge.old)) givens)
+        → (after : List (List AnyRow)) × (more : List AnyRow) × AreAll (knowns_of R.bytes (inputs_of merge.old)) after × (folded (aggs_of s) after ≡ folded (aggs_of s) givens ++ more) × (IsTrue merged → more ≡ [])) }
+    ensures rows { OnOk result ((given : List AnyRow) → HasGiven R.bytes input.old cursor.old given → (IsTrue read → IsAllOf R.bytes input.old given)
+        → (more : List AnyRow) × HasGiven R.bytes input.new cursor.new (given ++ more) × IsAllOf R.bytes input.new (given ++ more) × (IsTrue read → more ≡ [])) }
+    ensures known { knowns_of R.bytes (inputs_of merge.new) ≡ knowns_of R.bytes (inputs_of merge.old) }
+    ensures same { IsSameInput R.bytes input.old input.new }
+    ensures cause { HaveFaultCause (λ e. e ≡ file_error.Read) (R.faults (reader_in input.old) ∷ faults_of R.faults (inputs_of merge.old)) (R.faults (reader_in input.new) ∷ faults_of R.faults (inputs_of merge.new)) result }
+    ensures never { IfErr result (λ e. (d : AnyDamage) → e ≡ file_error.Damaged d → (s : Columns) (givens : List (List AnyRow)) → HasMerged R.bytes s merge.old givens
+        → (contents : List (List AnyRow)) (b : List ℕ) (all : List AnyRow) → AreTold (knowns_of R.bytes (inputs_of merge.old)) contents → R.bytes (reader_in input.old) ≡ Some b → IsIndexed (index_of input.old.reader) all b
+        → KeepsBound (aggs_of s) [] (rows_of (lifted_parts (knowns_of R.bytes (inputs_of merge.old)) contents)) → ⊥) }
+{
+    finish_merge(merge, merged)?;
+    finish_input(cursor, input, read)
+}
 
 /// Reads a merge to its end, if it hasn't ended.
 pub(crate) fn finish_merge<R: FileReader>(

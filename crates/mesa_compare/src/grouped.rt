@@ -14,13 +14,13 @@ ghost use Rattle.mesa_merge.specs.Faults.{HaveFaultCause};
 ghost use Rattle.mesa_difference.specs.Difference.{first_difference};
 
 use crate::finishing::finish_input;
+use crate::keys::difference_at;
 use mesa_cursor::Cursor;
 use mesa_delta::{FileError, Input};
-use mesa_difference::{differing_key, same_rows_differ_nowhere};
+use mesa_difference::same_rows_differ_nowhere;
 use mesa_disk::FileReader;
 use mesa_examine::next_row;
 use mesa_key::KeyBytes;
-use mesa_list::TryCopy;
 use mesa_schema::{Row, groups_rise};
 use mesa_view::derive;
 use std::alloc::Global;
@@ -54,36 +54,39 @@ pub(crate) fn grouped_difference<R: FileReader>(
         Ok(rows) => rows,
         Err(error) => return Err(error),
     };
-    listed_difference(alloc, rows.as_slice(), own)
+    let mut cursor = Cursor::of(alloc, own)?;
+    listed_difference(rows.as_slice(), &mut cursor, own)
 }
 
-// The first key at which rows differ from those of a file.
+// The first key at which rows differ from those of a file, of which nothing was read yet.
 fn listed_difference<R: FileReader>(
-    alloc: Global,
     rows: &[Row],
+    cursor: &mut Cursor,
     input: &mut Input<R>,
 ) -> Result<Option<KeyBytes>, FileError>
-    requires { IsInput R.bytes input.old }
+    requires input { IsInput R.bytes input.old }
+    requires given { HasGiven R.bytes input.old cursor.old [] }
     ensures difference { IfOk result (λ o. (b : List ℕ) (all : List AnyRow) → IsTrue (keys_rise rows.now) → R.bytes (reader_in input.old) ≡ Some b → IsIndexed (index_of input.old.reader) all b
         → o ≡ first_difference rows.now (map (lift_by input.old) all)) }
     ensures same { IsSameInput R.bytes input.old input.new }
     ensures cause { HasFaultCause (λ e. e ≡ file_error.Read) (R.faults (reader_in input.old)) (R.faults (reader_in input.new)) result }
     ensures never { IfErr result (λ e. (d : AnyDamage) → e ≡ file_error.Damaged d → (b : List ℕ) (all : List AnyRow) → R.bytes (reader_in input.old) ≡ Some b → IsIndexed (index_of input.old.reader) all b → ⊥) }
 {
-    let mut cursor = Cursor::of(alloc, input)?;
     for row in rows {
-        let beside = match next_row(&mut cursor, input) {
+        let beside = match next_row(cursor, input) {
             Ok(beside) => beside,
             Err(error) => return Err(error),
         };
-        if let Some(key) = differing_key(Some(row), beside.as_ref()) {
-            let key = key.copy()?;
-            finish_input(&mut cursor, input, beside.is_none())?;
+        let difference = difference_at(Some(row), beside.as_ref())?;
+        let read = beside.is_none();
+        drop(beside);
+        if let Some(key) = difference {
+            finish_input(cursor, input, read)?;
             cursor.rises(input);
             return Ok(Some(key));
         }
     }
-    further_key(&mut cursor, input)
+    further_key(cursor, input)
 }
 
 // The key of the next row of a file, and None at its end: where the rows that were given differ from all of them.
@@ -104,10 +107,11 @@ fn further_key<R: FileReader>(
         Ok(beside) => beside,
         Err(error) => return Err(error),
     };
-    let Some(key) = differing_key(None, beside.as_ref()) else {
+    let difference = difference_at(None, beside.as_ref())?;
+    drop(beside);
+    let Some(key) = difference else {
         return Ok(None);
     };
-    let key = key.copy()?;
     finish_input(cursor, input, false)?;
     cursor.rises(input);
     Ok(Some(key))

@@ -5,6 +5,7 @@ mod answers;
 mod cumulatives;
 mod finishing;
 mod grouped;
+mod keys;
 mod merged;
 mod views;
 

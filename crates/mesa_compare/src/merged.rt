@@ -14,14 +14,14 @@ ghost use Rattle.mesa_merge.specs.Inputs.{AreTold, knowns_of, lifted_parts};
 ghost use Rattle.mesa_merge.specs.Merged.{HasMerged, inputs_of};
 ghost use Rattle.mesa_difference.specs.Difference.{first_difference};
 
-use crate::finishing::{finish_input, finish_merge};
+use crate::finishing::{finish_both, finish_merge};
+use crate::keys::difference_at;
 use mesa_cursor::Cursor;
 use mesa_delta::{FileError, Input};
-use mesa_difference::{differing_key, same_rows_differ_nowhere};
+use mesa_difference::same_rows_differ_nowhere;
 use mesa_disk::FileReader;
 use mesa_examine::next_row;
 use mesa_key::KeyBytes;
-use mesa_list::TryCopy;
 use mesa_merge::{Merge, all_are_told};
 use mesa_schema::folds_by_key;
 use std::alloc::Global;
@@ -61,14 +61,17 @@ pub(crate) fn merged_difference<R: FileReader>(
             Ok(beside) => beside,
             Err(error) => return Err(error),
         };
-        if let Some(key) = differing_key(row.as_ref(), beside.as_ref()) {
-            let key = key.copy()?;
-            finish_merge(merge, row.is_none())?;
-            finish_input(&mut cursor, input, beside.is_none())?;
+        let difference = difference_at(row.as_ref(), beside.as_ref())?;
+        let merged = row.is_none();
+        let read = beside.is_none();
+        drop(row);
+        drop(beside);
+        if let Some(key) = difference {
+            finish_both(merge, merged, &mut cursor, input, read)?;
             cursor.rises(input);
             return Ok(Some(key));
         }
-        if row.is_none() {
+        if merged {
             return Ok(None);
         }
     }
@@ -98,10 +101,11 @@ pub(crate) fn first_key<R: FileReader>(merge: &mut Merge<R>) -> Result<Option<Ke
         Ok(row) => row,
         Err(error) => return Err(error),
     };
-    let Some(key) = differing_key(row.as_ref(), None) else {
+    let difference = difference_at(row.as_ref(), None)?;
+    drop(row);
+    let Some(key) = difference else {
         return Ok(None);
     };
-    let key = key.copy()?;
     finish_merge(merge, false)?;
     Ok(Some(key))
 }

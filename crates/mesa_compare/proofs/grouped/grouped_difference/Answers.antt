@@ -1,15 +1,16 @@
 use Rattle.std.proofs.Common.{◌≡◌, List, map, refl, sym, ap, subst, ◌∙◌}
-use Rattle.std.specs.Prelude.{IsTrue, slice_get}
+use Rattle.std.proofs.lemmas.Result.{err_from_is_err_and}
+use Rattle.std.specs.Prelude.{Err, IsTrue, slice_get}
 use Rattle.mesa_schema.specs.declared.rows.Row.{Row}
 use Rattle.mesa_schema.specs.Changes.{columns_of}
 use Rattle.mesa_schema.specs.Rows.{keys_rise}
 use Rattle.mesa_schema.specs.Views.{view_key_places, view_rows, view_value_places}
 use Rattle.mesa_cursor.specs.Cursors.{lift_by}
-use Rattle.mesa_delta.specs.declared.error.FileError.TheVariants.{Read}
+use Rattle.mesa_delta.specs.declared.error.FileError.TheVariants.{Memory, Read}
 use Rattle.mesa_difference.specs.Difference.{first_difference}
 use Rattle.mesa_answer.proofs.Results.{if_err, if_ok}
 use Rattle.mesa_view.proofs.Blocks.{if_some}
-use Rattle.mesa_compare.proofs.Counting.{one_failed, second_cause}
+use Rattle.mesa_compare.proofs.Counting.{none_failed, one_failed, second_cause}
 use Rattle.mesa_compare.proofs.grouped.grouped_difference.Goals as goal
 
 pub returns-in-Err-clause-cause : goal.returns-in-Err-clause-cause
@@ -17,6 +18,11 @@ returns-in-Err-clause-cause g c = one_failed (λ e. e ≡ Read) _ _ _ _ _ c.in-E
 
 pub returns-in-Err-clause-never : goal.returns-in-Err-clause-never
 returns-in-Err-clause-never g c = λ d is b other all mine read indexed beside told keeps. c.in-Err.ensures.never d is b all read indexed keeps
+
+pub returns-in_err-cursor-clause-cause : goal.returns-in_err-cursor-clause-cause
+returns-in_err-cursor-clause-cause g c =
+    let p = err_from_is_err_and c.from_residual.result c.from_residual.ensures.1 in
+    rw (p.1, p.2) (none_failed (λ e. e ≡ Read) _ _ _ _ (Err Memory) c.in-Ok.ensures.cause.quiet refl (λ e. cc))
 
 pub returns-clause-cause : goal.returns-clause-cause
 returns-clause-cause g c = second_cause (λ e. e ≡ Read) _ _ _ _ c.listed_difference.result c.in-Ok.ensures.cause.quiet c.listed_difference.ensures.cause

@@ -1,5 +1,6 @@
 use Rattle.std.proofs.Common.{◌≡◌, [], ◌++◌, List, refl, sym, ap, subst, ◌∙◌}
 use Rattle.std.proofs.lemmas.Result.{err_from_is_err_and}
+use Rattle.std.specs.Option.{option_copied}
 use Rattle.std.specs.Prelude.{Option, Some, None, Err, Ok, option_to_list}
 use Rattle.mesa_schema.specs.declared.rows.Row.{Row}
 use Rattle.mesa_schema.specs.Columns.{Columns, aggs_of}
@@ -9,8 +10,9 @@ use Rattle.mesa_delta.specs.declared.error.FileError.TheVariants.{Memory, Read}
 use Rattle.mesa_merge.specs.Inputs.{AreTold, knowns_of, lifted_parts}
 use Rattle.mesa_merge.specs.Merged.{HasMerged, failed_of, inputs_of}
 use Rattle.mesa_difference.specs.Difference.{first_difference}
+use Rattle.mesa_compare.specs.Compared.{Shows}
 use Rattle.mesa_compare.proofs.Counting.{failed_after, quiet_after}
-use Rattle.mesa_compare.proofs.Differing.{Shows, differs, fold_of}
+use Rattle.mesa_compare.proofs.Differing.{differs, fold_of}
 use Rattle.mesa_compare.proofs.Stepping.{GoesOn, goes_on, if_none_from}
 use Rattle.mesa_compare.proofs.merged.first_key.Goals as goal
 
@@ -55,11 +57,11 @@ returns-in_err-finish_merge-clause-cause g c =
     let p = err_from_is_err_and c.from_residual-in_err-finish_merge.result c.from_residual-in_err-finish_merge.ensures.1 in
     rw (p.1, p.2) (failed_after (λ e. e ≡ Read) _ _ _ _ (c.in-Ok.ensures.next c.requires.2.going).cause.quiet c.in_err-finish_merge.ensures.cause)
 
-pub returns-in_err-key-clause-known : goal.returns-in_err-key-clause-known
-returns-in_err-key-clause-known g c = (c.in-Ok.ensures.next c.requires.2.going).known
+pub returns-in_err-difference-clause-known : goal.returns-in_err-difference-clause-known
+returns-in_err-difference-clause-known g c = (c.in-Ok.ensures.next c.requires.2.going).known
 
-pub returns-in_err-key-clause-cause : goal.returns-in_err-key-clause-cause
-returns-in_err-key-clause-cause g c =
+pub returns-in_err-difference-clause-cause : goal.returns-in_err-difference-clause-cause
+returns-in_err-difference-clause-cause g c =
     let p = err_from_is_err_and c.from_residual.result c.from_residual.ensures.1 in
     rw (p.1, p.2) (quiet_after (λ e. e ≡ Read) _ _ (Err Memory) (c.in-Ok.ensures.next c.requires.2.going).cause.quiet (λ e. cc))
 
@@ -88,10 +90,10 @@ returns-clause-difference g c = λ s givens contents h nothing told.
     let total : folded (aggs_of s) parts ≡ ([] ++ option_to_list row) ++ rest.1 =
     fold_of (aggs_of s) (knowns_of bytes (inputs_of c.args.merge.now)) (knowns_of bytes (inputs_of c.next.new.self)) rest.0 contents c.all_are_told.ensures answer.known rest.2 told
     ∙ rest.3 ∙ ap (λ (l : List Row). l ++ rest.1) (on.grows ∙ ap (λ (l : List Row). l ++ option_to_list row) nothing) in
-    let shows : Shows c.in-Some.key.now row None = λ front rows others one other rises rise. c.in-Some.ensures.first front rows others (one ∙ sym c.as_ref.ensures.value) other rises rise in
-    let none : row ≡ None → rest.1 ≡ [] = λ e. (let no : first_difference [] [] ≡ Some c.in-Some.key.now = shows [] [] [] (sym e) refl refl refl in absurd cc) in
-    ap Some c.in_ok-key.ensures
-    ∙ differs [] row None rest.1 [] (folded (aggs_of s) parts) [] c.in-Some.key.now shows total none refl (λ e. refl) (c.folds_by_key.ensures.rise (aggs_of s) parts) refl
+    let first : Shows c.in-Some.key (option_copied c.as_ref.result) None = rw c.in-Some.is at c.in_ok-difference.ensures.first in
+    let shows : Shows c.in-Some.key row None = λ front rows others one other rises rise. first front rows others (one ∙ sym c.as_ref.ensures.value) other rises rise in
+    let none : row ≡ None → rest.1 ≡ [] = λ e. (let no : first_difference [] [] ≡ Some c.in-Some.key = shows [] [] [] (sym e) refl refl refl in absurd cc) in
+    differs [] row None rest.1 [] (folded (aggs_of s) parts) [] c.in-Some.key shows total none refl (λ e. refl) (c.folds_by_key.ensures.rise (aggs_of s) parts) refl
 
 pub returns-in_default-clause-difference : goal.returns-in_default-clause-difference
 returns-in_default-clause-difference g c = λ s givens contents h nothing told.
@@ -99,7 +101,7 @@ returns-in_default-clause-difference g c = λ s givens contents h nothing told.
     let row : Option Row = c.in-Ok.row in
     let answer = c.in-Ok.ensures.next h.going in
     let on : GoesOn bytes s c.next.new.self (folded (aggs_of s) givens) row = goes_on bytes s c.args.merge.now c.next.new.self givens row h answer.some answer.none in
-    let none : row ≡ None = sym c.as_ref.ensures.value ∙ c.in_default.ensures.same in
+    let none : row ≡ None = sym c.as_ref.ensures.value ∙ (rw c.in_default.is at c.in_ok-difference.ensures.same) in
     let total : folded (aggs_of s) (lifted_parts (knowns_of bytes (inputs_of c.args.merge.now)) contents) ≡ [] =
     fold_of (aggs_of s) (knowns_of bytes (inputs_of c.args.merge.now)) (knowns_of bytes (inputs_of c.next.new.self)) on.after contents c.all_are_told.ensures answer.known (on.ends none) told
     ∙ on.grows ∙ (λ k. nothing k ++ option_to_list (none k)) in

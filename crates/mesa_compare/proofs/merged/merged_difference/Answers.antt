@@ -1,6 +1,7 @@
-use Rattle.std.proofs.Common.{◌≡◌, [], ◌++◌, List, map, refl, sym, ap, subst, ◌∙◌}
+use Rattle.std.proofs.Common.{◌≡◌, [], ◌∷◌, ◌++◌, List, map, refl, sym, ap, subst, ◌∙◌}
 use Rattle.std.proofs.lemmas.Result.{err_from_is_err_and}
-use Rattle.std.specs.Prelude.{Option, Some, None, Err, IsTrue, option_to_list}
+use Rattle.std.specs.Option.{option_copied}
+use Rattle.std.specs.Prelude.{Option, None, Err, IsTrue, option_to_list}
 use Rattle.mesa_schema.specs.declared.rows.Row.{Row}
 use Rattle.mesa_schema.specs.Changes.{columns_of}
 use Rattle.mesa_schema.specs.Columns.{Columns, aggs_of}
@@ -14,8 +15,9 @@ use Rattle.mesa_merge.specs.Inputs.{AreTold, knowns_of, lifted_parts}
 use Rattle.mesa_merge.specs.Merged.{HasMerged, failed_of, inputs_of}
 use Rattle.mesa_difference.specs.Difference.{first_difference}
 use Rattle.mesa_examine.proofs.Streams.{same_input}
-use Rattle.mesa_compare.proofs.Counting.{none_failed}
-use Rattle.mesa_compare.proofs.Differing.{Shows, differs, fold_of, front_rises, whole_of}
+use Rattle.mesa_compare.specs.Compared.{Shows}
+use Rattle.mesa_compare.proofs.Counting.{failed_after, none_failed}
+use Rattle.mesa_compare.proofs.Differing.{differs, fold_of, front_rises, whole_of}
 use Rattle.mesa_compare.proofs.Stepping.{GivesOn, GoesOn, ended, gives_on, goes_on, if_none_from, no_row}
 use Rattle.mesa_compare.proofs.merged.merged_difference.Goals as goal
 
@@ -38,7 +40,7 @@ rows-preserved g c =
     let answer = c.in-Ok.ensures.next inv.merged.going in
     let on = goes_on bytes s c.rows.merge c.next.new.self inv.givens row inv.merged answer.some answer.none in
     let by = gives_on bytes c.rows.input c.next_row.new.input c.rows.cursor c.next_row.new.cursor (columns_of c.rows.input.evolving.value) inv.given beside inv.read c.in-Ok-next_row.ensures.some c.in-Ok-next_row.ensures.none in
-    let alike : row ≡ beside = sym c.as_ref.ensures.value ∙ c.in_default.ensures.same ∙ c.as_ref-in-rows.ensures.value in
+    let alike : row ≡ beside = sym c.as_ref.ensures.value ∙ (rw c.in_default.is at c.in_ok-difference.ensures.same) ∙ c.as_ref-in-rows.ensures.value in
     record {
       known = answer.known ∙ inv.known;
       counts = answer.cause.quiet ∙ inv.counts;
@@ -76,8 +78,8 @@ returns-in-Err-next_row-clause-never g c = λ d is contents b all told read inde
 
 -- ---- a difference, behind which both are read to their ends
 
-pub finish_merge-requires-after_bounds : goal.finish_merge-requires-after_bounds
-finish_merge-requires-after_bounds g c κs within =
+pub finish_both-requires-clause-merge : goal.finish_both-requires-clause-merge
+finish_both-requires-clause-merge g c κs within =
     let bytes = g.R.FileReader.bytes in
     let s : Columns = columns_of c.args.input.now.evolving.value in
     let inv = c.rows.invariant in
@@ -85,26 +87,27 @@ finish_merge-requires-after_bounds g c κs within =
     let on = goes_on bytes s c.rows.merge c.next.new.self inv.givens c.in-Ok.row inv.merged answer.some answer.none in
     (s, on.after, on.merged)
 
-pub returns-in_err-finish_merge-clause-never : goal.returns-in_err-finish_merge-clause-never
-returns-in_err-finish_merge-clause-never g c =
-    let p = err_from_is_err_and c.from_residual-in_err-finish_merge.result c.from_residual-in_err-finish_merge.ensures.1 in
+pub returns-in_err-finish_both-clause-cause : goal.returns-in_err-finish_both-clause-cause
+returns-in_err-finish_both-clause-cause g c =
+    let p = err_from_is_err_and c.from_residual-in_err-finish_both.result c.from_residual-in_err-finish_both.ensures.1 in
+    let inv = c.rows.invariant in
+    let one = c.in-Ok-next_row.ensures.cause.quiet ∙ inv.faults in
+    let others = (c.in-Ok.ensures.next inv.merged.going).cause.quiet ∙ inv.counts in
+    rw (p.1, p.2) (failed_after (λ e. e ≡ Read) _ _ _ _ (λ i. one i ∷ others i) c.in_err-finish_both.ensures.cause)
+
+pub returns-in_err-finish_both-clause-never : goal.returns-in_err-finish_both-clause-never
+returns-in_err-finish_both-clause-never g c =
+    let p = err_from_is_err_and c.from_residual-in_err-finish_both.result c.from_residual-in_err-finish_both.ensures.1 in
     let bytes = g.R.FileReader.bytes in
     let s : Columns = columns_of c.args.input.now.evolving.value in
     let inv = c.rows.invariant in
     let answer = c.in-Ok.ensures.next inv.merged.going in
     let on = goes_on bytes s c.rows.merge c.next.new.self inv.givens c.in-Ok.row inv.merged answer.some answer.none in
     let known = answer.known ∙ inv.known in
+    let same = same_input bytes c.args.input.now c.rows.input c.next_row.new.input inv.same c.in-Ok-next_row.ensures.same in
     rw (p.1, p.2) (λ d is contents b all told read indexed keeps.
-    c.in_err-finish_merge.ensures.never d is s on.after on.merged contents (subst (λ ks. AreTold ks contents) (sym known) told)
+    c.in_err-finish_both.ensures.never d is s on.after on.merged contents b all (subst (λ ks. AreTold ks contents) (sym known) told) (same.told ∙ read) (subst (λ x. IsIndexed x all b) (sym same.index) indexed)
     (subst (λ ks. KeepsBound (aggs_of s) [] (rows_of (lifted_parts ks contents))) (sym known) keeps))
-
-pub returns-in_err-finish_input-clause-never : goal.returns-in_err-finish_input-clause-never
-returns-in_err-finish_input-clause-never g c =
-    let p = err_from_is_err_and c.from_residual-in_err-finish_input.result c.from_residual-in_err-finish_input.ensures.1 in
-    let inv = c.rows.invariant in
-    let same = same_input g.R.FileReader.bytes c.args.input.now c.rows.input c.next_row.new.input inv.same c.in-Ok-next_row.ensures.same in
-    rw (p.1, p.2) (λ d is contents b all told read indexed keeps.
-    c.in_err-finish_input.ensures.never d is b all (same.told ∙ read) (subst (λ x. IsIndexed x all b) (sym same.index) indexed))
 
 pub returns-in-Some-clause-difference : goal.returns-in-Some-clause-difference
 returns-in-Some-clause-difference g c = λ contents b all told read indexed.
@@ -117,26 +120,26 @@ returns-in-Some-clause-difference g c = λ contents b all told read indexed.
     let on : GoesOn bytes s c.next.new.self (folded (aggs_of s) inv.givens) row = goes_on bytes s c.rows.merge c.next.new.self inv.givens row inv.merged answer.some answer.none in
     let by : GivesOn bytes c.next_row.new.input c.next_row.new.cursor inv.given beside =
     gives_on bytes c.rows.input c.next_row.new.input c.rows.cursor c.next_row.new.cursor (columns_of c.rows.input.evolving.value) inv.given beside inv.read c.in-Ok-next_row.ensures.some c.in-Ok-next_row.ensures.none in
-    let rest = c.in_ok-finish_merge.ensures.rest s on.after on.merged (λ t. on.ends (no_row row c.is_none.result c.is_none.ensures t)) in
-    let more = c.in_ok-finish_input.ensures.rest (inv.given ++ option_to_list beside) by.given (λ t. by.ends (no_row beside c.is_none-in-Some.result c.is_none-in-Some.ensures t)) in
+    let rest = c.in_ok-finish_both.ensures.rest s on.after on.merged (λ t. on.ends (no_row row c.is_none-merged.result c.is_none-merged.ensures t)) in
+    let more = c.in_ok-finish_both.ensures.rows (inv.given ++ option_to_list beside) by.given (λ t. by.ends (no_row beside c.is_none-read.result c.is_none-read.ensures t)) in
     let given : List Row = (inv.given ++ option_to_list beside) ++ more.0 in
     let known = answer.known ∙ inv.known in
     let total : folded (aggs_of s) (lifted_parts (knowns_of bytes (inputs_of c.args.merge.now)) contents) ≡ (inv.given ++ option_to_list row) ++ rest.1 =
     fold_of (aggs_of s) (knowns_of bytes (inputs_of c.args.merge.now)) (knowns_of bytes (inputs_of c.next.new.self)) rest.0 contents c.all_are_told.ensures known rest.2 told
     ∙ rest.3 ∙ ap (λ (l : List Row). l ++ rest.1) (on.grows ∙ ap (λ (l : List Row). l ++ option_to_list row) inv.alike) in
-    let same : IsSameInput bytes c.args.input.now c.finish_input.new.input =
-    same_input bytes c.args.input.now c.next_row.new.input c.finish_input.new.input (same_input bytes c.args.input.now c.rows.input c.next_row.new.input inv.same c.in-Ok-next_row.ensures.same) c.in_ok-finish_input.ensures.same in
-    let whole : map (lift_by c.args.input.now) all ≡ given = whole_of bytes c.args.input.now c.finish_input.new.input given all b same more.2 read indexed in
-    let shows : Shows c.in-Some.key.now row beside = λ front rows others one other rises rise. c.in-Some.ensures.first front rows others (one ∙ sym c.as_ref.ensures.value) (other ∙ sym c.as_ref-in-rows.ensures.value) rises rise in
+    let same : IsSameInput bytes c.args.input.now c.finish_both.new.input =
+    same_input bytes c.args.input.now c.next_row.new.input c.finish_both.new.input (same_input bytes c.args.input.now c.rows.input c.next_row.new.input inv.same c.in-Ok-next_row.ensures.same) c.in_ok-finish_both.ensures.same in
+    let whole : map (lift_by c.args.input.now) all ≡ given = whole_of bytes c.args.input.now c.finish_both.new.input given all b same more.2 read indexed in
+    let first : Shows c.in-Some.key (option_copied c.as_ref.result) (option_copied c.as_ref-in-rows.result) = rw c.in-Some.is at c.in_ok-difference.ensures.first in
+    let shows : Shows c.in-Some.key row beside = λ front rows others one other rises rise. first front rows others (one ∙ sym c.as_ref.ensures.value) (other ∙ sym c.as_ref-in-rows.ensures.value) rises rise in
     let rises : IsTrue (keys_rise (folded (aggs_of s) (lifted_parts (knowns_of bytes (inputs_of c.args.merge.now)) contents))) = c.folds_by_key.ensures.rise (aggs_of s) (lifted_parts (knowns_of bytes (inputs_of c.args.merge.now)) contents) in
-    let rise : IsTrue (keys_rise (map (lift_by c.args.input.now) all)) = subst (λ (l : List Row). IsTrue (keys_rise l)) (sym whole) (front_rises given (at_hand c.finish_input.new.cursor) (c.rises.ensures.rise given more.1)) in
-    ap Some c.in_ok-key.ensures
-    ∙ differs inv.given row beside rest.1 more.0 _ _ c.in-Some.key.now shows total (λ e. rest.4 (ended row c.is_none.result c.is_none.ensures e)) whole (λ e. more.3 (ended beside c.is_none-in-Some.result c.is_none-in-Some.ensures e)) rises rise
+    let rise : IsTrue (keys_rise (map (lift_by c.args.input.now) all)) = subst (λ (l : List Row). IsTrue (keys_rise l)) (sym whole) (front_rises given (at_hand c.finish_both.new.cursor) (c.rises.ensures.rise given more.1)) in
+    differs inv.given row beside rest.1 more.0 _ _ c.in-Some.key shows total (λ e. rest.4 (ended row c.is_none-merged.result c.is_none-merged.ensures e)) whole (λ e. more.3 (ended beside c.is_none-read.result c.is_none-read.ensures e)) rises rise
 
 -- ---- both at their ends
 
-pub returns-then-is_none-clause-difference : goal.returns-then-is_none-clause-difference
-returns-then-is_none-clause-difference g c = λ contents b all told read indexed.
+pub returns-then-merged-clause-difference : goal.returns-then-merged-clause-difference
+returns-then-merged-clause-difference g c = λ contents b all told read indexed.
     let bytes = g.R.FileReader.bytes in
     let s : Columns = columns_of c.args.input.now.evolving.value in
     let inv = c.rows.invariant in
@@ -146,8 +149,8 @@ returns-then-is_none-clause-difference g c = λ contents b all told read indexed
     let on : GoesOn bytes s c.next.new.self (folded (aggs_of s) inv.givens) row = goes_on bytes s c.rows.merge c.next.new.self inv.givens row inv.merged answer.some answer.none in
     let by : GivesOn bytes c.next_row.new.input c.next_row.new.cursor inv.given beside =
     gives_on bytes c.rows.input c.next_row.new.input c.rows.cursor c.next_row.new.cursor (columns_of c.rows.input.evolving.value) inv.given beside inv.read c.in-Ok-next_row.ensures.some c.in-Ok-next_row.ensures.none in
-    let alike : row ≡ beside = sym c.as_ref.ensures.value ∙ c.in_default.ensures.same ∙ c.as_ref-in-rows.ensures.value in
-    let none : row ≡ None = no_row row c.is_none-in-rows.result c.is_none-in-rows.ensures c.if-is_none.true in
+    let alike : row ≡ beside = sym c.as_ref.ensures.value ∙ (rw c.in_default.is at c.in_ok-difference.ensures.same) ∙ c.as_ref-in-rows.ensures.value in
+    let none : row ≡ None = no_row row c.is_none-merged.result c.is_none-merged.ensures c.if-merged.true in
     let given : List Row = inv.given ++ option_to_list beside in
     let same : IsSameInput bytes c.args.input.now c.next_row.new.input = same_input bytes c.args.input.now c.rows.input c.next_row.new.input inv.same c.in-Ok-next_row.ensures.same in
     let total : folded (aggs_of s) (lifted_parts (knowns_of bytes (inputs_of c.args.merge.now)) contents) ≡ given =
