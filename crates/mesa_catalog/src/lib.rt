@@ -8,6 +8,7 @@ mod copying;
 mod files;
 mod finding;
 mod fitting;
+mod lineages;
 mod lookups;
 mod newness;
 mod ready;

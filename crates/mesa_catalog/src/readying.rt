@@ -1,8 +1,6 @@
 // Making a record ready: all memory that it takes is taken here.
-ghost use Rattle.std.specs.Prelude.{◌≡◌, ◌<◌, ◌&&◌, [], ◌∷◌, ◌++◌, IsTrue, IfOk, OnOk, length, map, option_map};
+ghost use Rattle.std.specs.Prelude.{◌≡◌, ◌&&◌, IsTrue, IfOk, OnOk, map, option_map};
 ghost use Rattle.std.specs.List.{AllByRecursion, list_all};
-ghost use Rattle.mesa_schema.specs.Changes.{with_change};
-ghost use Rattle.mesa_schema.specs.Views.{with_view};
 ghost use Rattle.mesa_record.specs.declared.record.Part.{Part as PartOf};
 ghost use Rattle.mesa_span.specs.Ranges.{base_before};
 ghost use Rattle.mesa_record.specs.declared.record.Record.TheVariants as record_of;
@@ -13,11 +11,12 @@ ghost use Rattle.mesa_shelf.specs.Meaning.{ending_of};
 ghost use Rattle.mesa_catalog.specs.Readied.{AreRoomier, HasRoom, IsMade, IsMadePart, record_in};
 ghost use Rattle.mesa_shelf.specs.Readied.{HasSpare, part_in};
 
+use crate::lineages::{lineage_with_change, lineage_with_view, new_lineage, widths_with};
 use crate::ready::Ready;
 use crate::shelves::Shelves;
 use mesa_list::{Items, TryCopy};
 use mesa_record::{Files, Part, Record};
-use mesa_schema::{Change, Evolving, KeyColumn, Name, Schema, ValueColumn};
+use mesa_schema::{Change, KeyColumn, Name, ValueColumn};
 use mesa_shelf::{
     Base, Delta, ReadyPart, Table, make_spare, no_totals, totals_changed, totals_with, width_of,
 };
@@ -44,68 +43,6 @@ fn make_spares(tables: &mut [Table]) -> Result<(), AllocError>
         make_spare(table)?;
     }
     Ok(())
-}
-
-// A table's lineage with these columns alone.
-fn new_lineage(
-    alloc: Global,
-    keys: &Items<KeyColumn>,
-    values: &Items<ValueColumn>,
-) -> Result<Arc<Evolving>, AllocError>
-    ensures { IfOk result (λ e. e.value ≡ record { first = record { keys = keys.now; values = values.now }; changes = []; views = [] }) }
-{
-    let keys = keys.copy()?.into_vec();
-    let values = values.copy()?.into_vec();
-    match Schema::build(keys, values) {
-        Ok(first) => Ok(Arc::new(alloc, Evolving::new(alloc, first))?),
-        Err(_) => Err(AllocError),
-    }
-}
-
-// A table's lineage with a view more.
-fn lineage_with_view(
-    alloc: Global,
-    evolving: &Evolving,
-    name: &Name,
-    keys: &Items<Name>,
-    values: &Items<Name>,
-) -> Result<Arc<Evolving>, AllocError>
-    requires { length evolving.now.views < 8 }
-    ensures { IfOk result (λ e. e.value ≡ with_view evolving.now (record { name = name.now; keys = keys.now; values = values.now })) }
-{
-    let name = name.copy()?;
-    let keys = keys.copy()?.into_vec();
-    let values = values.copy()?.into_vec();
-    let mut evolving = evolving.copy()?;
-    match evolving.add_view(name, keys, values) {
-        Ok(()) => Ok(Arc::new(alloc, evolving)?),
-        Err(_) => Err(AllocError),
-    }
-}
-
-// A table's lineage behind a change.
-fn lineage_with_change(
-    alloc: Global,
-    evolving: &Evolving,
-    change: &Change,
-) -> Result<Arc<Evolving>, AllocError>
-    ensures { IfOk result (λ e. e.value ≡ with_change evolving.now change.now) }
-{
-    let change = change.copy()?;
-    let mut evolving = evolving.copy()?;
-    match evolving.change(change) {
-        Ok(()) => Ok(Arc::new(alloc, evolving)?),
-        Err(_) => Err(AllocError),
-    }
-}
-
-// How many value columns there were in each epoch, with those of the present one.
-fn widths_with(widths: Items<u8>, present: &Schema) -> Result<Items<u8>, AllocError>
-    ensures { IfOk result (λ w. w ≡ widths ++ length present.now.values ∷ []) }
-{
-    let mut widths = widths;
-    widths.push(width_of(present))?;
-    Ok(widths)
 }
 
 impl Shelves {
