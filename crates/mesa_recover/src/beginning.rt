@@ -137,26 +137,26 @@ fn append_run<M: Made, D: Disk<M>>(
     alloc: Global,
     disk: &mut D,
     catalog: &mut Catalog,
-    record: &Record,
+    entry: &Record,
     end: u64,
 ) -> Result<u64, OpenError>
-    requires run { (number : ℕ) × («record».now ≡ run_record number) }
-    requires rules { IsTrue (keeps_rules «record».now) }
-    requires fits { IsTrue (fits catalog.old.catalogue «record».now) }
+    requires run { (number : ℕ) × (entry.now ≡ run_record number) }
+    requires rules { IsTrue (keeps_rules entry.now) }
+    requires fits { IsTrue (fits catalog.old.catalogue entry.now) }
     requires gate { 1 < (D.story disk.old).len Zero → end < (D.story disk.old).len Zero }
     requires none { (D.story disk.old).len Zero ≤ 1 → end ≡ 0 }
     ensures same { catalog.new.catalogue ≡ catalog.old.catalogue }
-    ensures reserved { OnOk result (catalog.new.reserved ≡ Some «record».now) }
+    ensures reserved { OnOk result (catalog.new.reserved ≡ Some entry.now) }
     ensures told { (i : AnyImage) → (D.story disk.old).told ≡ Some i → (j : AnyImage) × ((D.story disk.new).told ≡ Some j) }
     ensures room { IfOk result (λ new_end. new_end < (D.story disk.new).len Zero) }
     ensures images { (bodies : List (List ℕ)) (rows : Rows) → IsFound (D.story disk.old) bodies end catalog.old.catalogue rows → Spans (λ x. StandsFor x (kept_of rows catalog.old.catalogue)) (D.story disk.old) (D.story disk.new) }
-    ensures held { IfOk result (λ new_end. (bodies : List (List ℕ)) (rows : Rows) → IsFound (D.story disk.old) bodies end catalog.old.catalogue rows → IsHeldAs (D.story disk.new) new_end (applied catalog.old.catalogue «record».now) rows) }
+    ensures held { IfOk result (λ new_end. (bodies : List (List ℕ)) (rows : Rows) → IsFound (D.story disk.old) bodies end catalog.old.catalogue rows → IsHeldAs (D.story disk.new) new_end (applied catalog.old.catalogue entry.now) rows) }
     ensures named { OnOk result (AreNamedOrWait (named catalog.old.catalogue) [] (D.story disk.new).told) }
     ensures kind { IfErr result IsFaultOrMemory }
     ensures clock { (D.story disk.old).moment ≤ (D.story disk.new).moment }
     ensures counts { Counts (D.story disk.old) (D.story disk.new) result }
 {
-    let (framed, strays) = ready_run(alloc, disk, catalog, record)?;
+    let (framed, strays) = ready_run(alloc, disk, catalog, entry)?;
     let end = write_run(alloc, disk, end, &framed, &strays)?;
     Ok(end)
 }
@@ -174,20 +174,20 @@ fn ready_run<M: Made, D: Disk<M>>(
     alloc: Global,
     disk: &mut D,
     catalog: &mut Catalog,
-    record: &Record,
+    entry: &Record,
 ) -> Result<(Framed, Vec<FileId>), OpenError>
-    requires rules { IsTrue (keeps_rules «record».now) }
-    requires fits { IsTrue (fits catalog.old.catalogue «record».now) }
-    ensures body { IfOk result (λ x. (record_at x.0 ≡ Ok «record».now) × AreBytes x.0) }
+    requires rules { IsTrue (keeps_rules entry.now) }
+    requires fits { IsTrue (fits catalog.old.catalogue entry.now) }
+    ensures body { IfOk result (λ x. (record_at x.0 ≡ Ok entry.now) × AreBytes x.0) }
     ensures strays { IfOk result (λ x. AreStrays (D.story disk.old) catalog.old.catalogue x.1.items) }
     ensures same { catalog.new.catalogue ≡ catalog.old.catalogue }
-    ensures reserved { OnOk result (catalog.new.reserved ≡ Some «record».now) }
+    ensures reserved { OnOk result (catalog.new.reserved ≡ Some entry.now) }
     ensures unmoved { Unmoved (D.story disk.old) (D.story disk.new) }
     ensures kind { IfErr result IsFaultOrMemory }
     ensures counts { Counts (D.story disk.old) (D.story disk.new) result }
 {
-    let framed = frame(alloc, record)?;
-    catalog.reserve(record)?;
+    let framed = frame(alloc, entry)?;
+    catalog.reserve(entry)?;
     let files = catalog.recorded_files(alloc)?;
     let strays = find_strays(alloc, disk, &files)?;
     Ok((framed, strays))
