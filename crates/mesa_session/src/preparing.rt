@@ -1,5 +1,5 @@
 // A load's rows with their files: outside its turns, and once more where what it saw has changed.
-ghost use Rattle.std.specs.Prelude.{◌≡◌, ◌≤◌, ◌<◌, ◌+◌, ◌^◌, List, Err, IfOk, OnErr};
+ghost use Rattle.std.specs.Prelude.{◌≡◌, ◌≤◌, ◌<◌, ◌+◌, ◌^◌, List, Err, IfOk, IfNone, IfSome, OnErr};
 ghost use Rattle.mesa_fault.specs.Causes.{last};
 ghost use Rattle.mesa_model.specs.declared.entries.Entry.{Entry as AnyEntry};
 ghost use Rattle.mesa_skeleton.specs.Rows.{no_rows};
@@ -25,6 +25,8 @@ use std::thread::Threads;
 pub fn ids_of(had: Option<Serials>, run: u32, session: u16) -> Serials
     requires run { run < 2 ^ 24 }
     requires session { session < 8 }
+    ensures had { IfSome had (λ ids. result ≡ ids) }
+    ensures first { IfNone had (result ≡ record { run = run; session = session; next = 0 }) }
 {
     match had {
         Some(ids) => ids,
