@@ -4,8 +4,8 @@ changes: nanoseconds a row, and the memory beside the rows.
 
     bench/answers.py [PROGRAM]
 
-PROGRAM is the built program, by default crates/mesa_answer_bench/out/mesa_answer_bench. The making of the rows, and
-of a list of them, is measured by itself and taken off. Times are of the processor, the best of five runs."""
+PROGRAM is the built program, by default crates/mesa_bench/out/mesa_bench. The making of the rows, and of a list of
+them, is measured by itself and taken off. Times are of the processor, the best of five runs."""
 import os
 import pathlib
 import subprocess
@@ -39,7 +39,7 @@ def line(name, work, without):
 
 
 def main():
-    program = sys.argv[1] if len(sys.argv) > 1 else str(ROOT / "crates/mesa_answer_bench/out/mesa_answer_bench")
+    program = sys.argv[1] if len(sys.argv) > 1 else str(ROOT / "crates/mesa_bench/out/mesa_bench")
     words = ["rows", "put", "hold", "answer", "copy", "lift"]
     runs = {word: best(program, word) for word in words}
     load = os.getloadavg()[0]

@@ -3,9 +3,9 @@
 
     bench/batches.py [PROGRAM]
 
-PROGRAM is the built program, by default crates/mesa_load_bench/out/mesa_load_bench. It is run on one processor and on
-four, the best of three runs each. The making of the load is measured by itself and taken off. `read` is the reading of
-the load as a batch, which one thread does; the files are written side by side."""
+PROGRAM is the built program, by default crates/mesa_bench/out/mesa_bench. It is run on one processor and on four, the
+best of three runs each. The making of the load is measured by itself and taken off. `batch` is the reading of the load
+as a batch, which one thread does; the files are written side by side."""
 import os
 import pathlib
 import subprocess
@@ -37,13 +37,13 @@ def best(program, word, processors):
 
 
 def main():
-    program = sys.argv[1] if len(sys.argv) > 1 else str(ROOT / "crates/mesa_load_bench/out/mesa_load_bench")
+    program = sys.argv[1] if len(sys.argv) > 1 else str(ROOT / "crates/mesa_bench/out/mesa_bench")
     print(f"processors: {os.cpu_count()}; load: {os.getloadavg()[0]:.1f}; {ROWS:,} rows, two views")
     print("| processors | | s | processor s | rows a second | MB beside the load |")
     print("|---|---|---|---|---|---|")
     for processors in (1, 4):
-        made = best(program, "rows", processors)
-        for word in ("read", "prepare"):
+        made = best(program, "load", processors)
+        for word in ("batch", "prepare"):
             run = best(program, word, processors)
             seconds, busy, memory = (a - b for a, b in zip(run, made))
             print(f"| {processors} | {word} | {seconds:.2f} | {busy:.2f} | {ROWS / seconds:,.0f} | {memory:.0f} |")

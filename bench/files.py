@@ -4,8 +4,8 @@ the share that SHA-256 takes.
 
     bench/files.py [PROGRAM]
 
-PROGRAM is the built program, by default crates/mesa_delta_bench/out/mesa_delta_bench. The file is in memory, so its
-bytes count in the peak. Seconds are of the processor, the best of three runs."""
+PROGRAM is the built program, by default crates/mesa_bench/out/mesa_bench. The file is in memory, so its bytes count in
+the peak. Seconds are of the processor, the best of three runs."""
 import os
 import pathlib
 import subprocess
@@ -43,7 +43,7 @@ def line(name, seconds, size, peak, digests):
 
 
 def main():
-    program = sys.argv[1] if len(sys.argv) > 1 else str(ROOT / "crates/mesa_delta_bench/out/mesa_delta_bench")
+    program = sys.argv[1] if len(sys.argv) > 1 else str(ROOT / "crates/mesa_bench/out/mesa_bench")
     _, rows, _ = best(program, "rows", ROWS)
     printed, write, write_peak = best(program, "write", ROWS)
     _, read, read_peak = best(program, "read", ROWS)

@@ -5,70 +5,90 @@
 //! program beside it kills it at any moment, starts it again and compares; another takes the time.
 #![tactic(auto)]
 
+mod failure;
 mod finding;
 mod records;
 
-use anyhow::{Result, anyhow, bail};
+use failure::Failure;
 use finding::{Found, find};
 use mesa_dir::{DirBench, DirDisk};
 use mesa_disk::{Area, Disk};
 use mesa_journal::{Framed, append};
 use records::{file_id, files_of, make_file};
+use std::alloc::Global;
 use std::{env, fs};
 
 // The folder, within the current one.
 const FOLDER: &str = "mesa-bench-store";
 
-// Adopts the files of a batch and appends its record: then it is acknowledged.
-fn add(
-    rt: &HostRuntime,
+// Adopts the files of a batch.
+fn add_files(
+    alloc: Global,
     disk: &mut DirDisk<HostRuntime>,
     bench: &mut DirBench<HostRuntime>,
     number: u64,
-    end: u64,
-) -> Result<u64> {
+) -> Result<(), Failure> {
     for file in files_of(number) {
-        let Some(made) = make_file(rt.alloc(), bench, file) else {
-            bail!("file {file} was not written");
-        };
+        let made = make_file(alloc, bench, file)?;
         if disk.adopt(made, file_id(file)).is_err() {
-            bail!("file {file} was not adopted");
+            return Err(Failure::Disk);
         }
     }
-    let framed = Framed::new(rt.alloc(), &number.to_be_bytes())?;
+    Ok(())
+}
+
+// Appends the record of a batch: then it is acknowledged.
+fn add_record(
+    alloc: Global,
+    disk: &mut DirDisk<HostRuntime>,
+    number: u64,
+    end: u64,
+) -> Result<u64, Failure> {
     if disk.journal_len(Area::Zero) <= end {
-        bail!("the journal is short");
+        return Err(Failure::Journal);
     }
-    match append(disk, Area::Zero, end, &framed) {
-        Ok(end) => Ok(end),
-        Err(_) => Err(anyhow!("a record was not appended")),
-    }
+    let framed = Framed::new(alloc, &number.to_be_bytes())?;
+    append(disk, Area::Zero, end, &framed).or(Err(Failure::Disk))
 }
 
 // Adds batches until there are so many.
-fn add_all(rt: &HostRuntime, mut disk: DirDisk<HostRuntime>, count: u64) -> Result<()> {
-    let mut bench = disk.bench()?;
-    let Found { batches, mut end } = find(rt.alloc(), &mut disk)?;
+fn add_all(
+    rt: &HostRuntime,
+    disk: &mut DirDisk<HostRuntime>,
+    bench: &mut DirBench<HostRuntime>,
+    count: u64,
+) -> Result<(), Failure> {
+    let Found { batches, mut end } = find(rt.alloc(), disk)?;
     println!(rt; "found {batches}")?;
     for number in batches..count {
-        end = add(rt, &mut disk, &mut bench, number, end)?;
+        add_files(rt.alloc(), disk, bench, number)?;
+        end = add_record(rt.alloc(), disk, number, end)?;
         println!(rt; "{number}")?;
     }
     Ok(())
 }
 
-fn main(rt: HostRuntime) -> Result<()> {
-    let words: Vec<String> = env::args(&rt)?.skip(1).collect(rt.alloc())?;
-    let [word, count] = words.as_slice() else {
-        bail!("a word and a number are wanted");
+// Opens the folder, and adds batches.
+fn run(rt: HostRuntime, words: &[String]) -> Result<(), Failure> {
+    let [word, count] = words else {
+        return Err(Failure::Words);
+    };
+    let Ok(count) = count.parse::<u64>() else {
+        return Err(Failure::Words);
     };
     match word.as_str() {
         "anew" => {
             let _ = fs::remove_dir_all(&rt, FOLDER);
         }
         "on" => {}
-        _ => bail!("no such word: {word}"),
+        _ => return Err(Failure::Words),
     }
-    let count = count.parse::<u64>()?;
-    add_all(&rt, DirDisk::open(rt, FOLDER)?, count)
+    let mut disk = DirDisk::open(rt, FOLDER)?;
+    let mut bench = disk.bench()?;
+    add_all(&rt, &mut disk, &mut bench, count)
+}
+
+fn main(rt: HostRuntime) -> Result<(), Failure> {
+    let words: Vec<String> = env::args(&rt)?.skip(1).collect(rt.alloc())?;
+    run(rt, &words)
 }

@@ -1,4 +1,5 @@
 // The files that belong to a batch.
+use crate::failure::Failure;
 use mesa_disk::{Bench, Draft, FileId, Made};
 use std::alloc::{AllocError, Global};
 
@@ -29,20 +30,24 @@ pub fn file_bytes(alloc: Global, number: u64) -> Result<Vec<u8>, AllocError> {
 }
 
 /// Writes a file.
-pub fn make_file<M: Made, B: Bench<M>>(alloc: Global, bench: &mut B, number: u64) -> Option<M> {
-    let bytes = file_bytes(alloc, number).ok()?;
+pub fn make_file<M: Made, B: Bench<M>>(
+    alloc: Global,
+    bench: &mut B,
+    number: u64,
+) -> Result<M, Failure> {
+    let bytes = file_bytes(alloc, number)?;
     let Ok(mut draft) = bench.draft(file_id(number)) else {
-        return None;
+        return Err(Failure::Disk);
     };
     if draft.append(&bytes).is_err() {
         bench.spoil(draft);
-        return None;
+        return Err(Failure::Disk);
     }
     match draft.finish() {
-        Ok(made) => Some(made),
+        Ok(made) => Ok(made),
         Err((_, draft)) => {
             bench.spoil(draft);
-            None
+            Err(Failure::Disk)
         }
     }
 }

@@ -1,5 +1,0 @@
-use Rattle.mesa_answer_bench.proofs.MadeRows.{is_row}
-use Rattle.mesa_answer_bench.proofs.rows.rows_have_form.Goals as goal
-
-pub returns : goal.returns
-returns c = is_row c.reads_back.ensures.read

@@ -1,5 +1,0 @@
-use Rattle.mesa_batch.specs.Gathered.{IsReadBy}
-use Rattle.mesa_load_bench.proofs.read_batch.Given as goal
-
-abbrev pub invariant-loop-i : goal.invariant-loop-i
-invariant-loop-i l = IsReadBy l.glance l.builder
