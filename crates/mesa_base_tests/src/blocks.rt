@@ -1,33 +1,32 @@
 // Blocks that are read, and bytes that are none.
+use crate::expected::expect_same;
 use mesa_block::{BlockError, read_block};
 use mesa_key::KeyType;
-use mesa_schema::{KeyColumn, Name, Row, Schema, ValueColumn};
+use mesa_schema::{KeyColumn, Name, Schema, ValueColumn};
 use mesa_value::Agg;
-use std::alloc::{AllocError, Global};
+use std::alloc::Global;
 use std::process::Abort;
-use std::test::Fail;
 
-// A name that is known to be one.
-fn name(alloc: Global, text: &str) -> Result<Name, AllocError> {
-    Name::read(alloc, text.as_bytes()).map_err(|_| AllocError)
+fn name(rt: &impl Abort, alloc: Global, text: &str) -> Name {
+    Name::read(alloc, text.as_bytes()).expect(rt, "a name")
 }
 
-fn keys(alloc: Global, kind: KeyType) -> Result<Vec<KeyColumn>, AllocError> {
-    let name = name(alloc, "k")?;
-    Ok(vec![in alloc; KeyColumn { name, kind }]?)
+fn keys(rt: &impl Abort, alloc: Global, kind: KeyType) -> Vec<KeyColumn> {
+    let name = name(rt, alloc, "k");
+    vec![in alloc; KeyColumn { name, kind }].expect(rt, "memory")
 }
 
-fn values(alloc: Global) -> Result<Vec<ValueColumn>, AllocError> {
-    let name = name(alloc, "v")?;
+fn values(rt: &impl Abort, alloc: Global) -> Vec<ValueColumn> {
+    let name = name(rt, alloc, "v");
     let agg = Agg::Sum;
-    Ok(vec![in alloc; ValueColumn { name, agg }]?)
+    vec![in alloc; ValueColumn { name, agg }].expect(rt, "memory")
 }
 
 // One key column of this type, and one sum.
-fn schema(alloc: Global, kind: KeyType) -> Result<Schema, AllocError> {
-    let keys = keys(alloc, kind)?;
-    let values = values(alloc)?;
-    Schema::build(keys, values).map_err(|_| AllocError)
+fn schema(rt: &impl Abort, alloc: Global, kind: KeyType) -> Schema {
+    let keys = keys(rt, alloc, kind);
+    let values = values(rt, alloc);
+    Schema::build(keys, values).ok().expect(rt, "a schema")
 }
 
 // The block of the row with key 1 and value 5.
@@ -38,46 +37,36 @@ const LONGER: [u8; 20] = [
     0, 0, 1, 0x80, 0, 0, 0, 0, 0, 0, 1, 0, 0, 0, 0, 0, 0, 0, 5, 0,
 ];
 
+// The same without its last byte.
+const SHORTER: [u8; 18] = [0, 0, 1, 0x80, 0, 0, 0, 0, 0, 0, 1, 0, 0, 0, 0, 0, 0, 0];
+
 // Key 1 with value 5, twice.
 const TWICE: [u8; 35] = [
     0, 0, 2, 0x80, 0, 0, 0, 0, 0, 0, 1, 0x80, 0, 0, 0, 0, 0, 0, 1, 0, 0, 0, 0, 0, 0, 0, 5, 0, 0, 0,
     0, 0, 0, 0, 5,
 ];
 
-// Stops the test of other rows than the one.
-fn expect_one(rt: &impl Abort, rows: &[Row]) {
-    assert_eq!(rt; rows.len(), 1);
-    for row in rows {
-        assert_eq!(rt; row.key.as_slice(), &ONE[3..11]);
-        assert_eq!(rt; row.values.as_slice(), [5i64].as_slice());
-    }
-}
-
-// Stops the test of bytes that are refused.
-fn expect_read(rt: &impl Abort, alloc: Global, schema: &Schema) {
-    match read_block(alloc, schema, &ONE) {
-        Ok(block) => expect_one(rt, block.rows()),
-        Err(error) => assert!(rt; false, "the block of one row: {error:?}"),
-    }
-}
-
 #[test]
-fn reads_one_row(rt: HostRuntime) -> Result<(), Fail> {
-    let ints = schema(rt.alloc(), KeyType::Int)?;
-    expect_read(&rt, rt.alloc(), &ints);
-    Ok(())
+fn reads_one_row(rt: HostRuntime) {
+    let ints = schema(&rt, rt.alloc(), KeyType::Int);
+    let block = read_block(rt.alloc(), &ints, &ONE).expect(&rt, "a block");
+    assert!(rt; block.rows().len() == 1);
+    let row = &block.rows()[0];
+    assert!(rt; row.key.as_slice() == &ONE[3..11]);
+    assert!(rt; row.values.as_slice() == [5i64].as_slice());
 }
 
 // Bytes that are no block, and why.
 type Fault = (&'static [u8], BlockError);
 
-static INTS: [Fault; 6] = [
+static INTS: [Fault; 7] = [
     (&[0, 0], BlockError::Truncated),
     (&[1, 0, 0], BlockError::Compressed),
     (&[0, 0, 0, 0], BlockError::BadCount),
     (&[0, 4, 1, 0], BlockError::BadCount),
     (&TWICE, BlockError::OutOfOrder { row: 1 }),
     (&LONGER, BlockError::Trailing),
+    (&SHORTER, BlockError::Truncated),
 ];
 
 static TEXTS: [Fault; 1] = [(
@@ -85,28 +74,17 @@ static TEXTS: [Fault; 1] = [(
     BlockError::BadText { row: 0 },
 )];
 
-fn expect_fault(rt: &impl Abort, alloc: Global, schema: &Schema, bytes: &[u8], want: BlockError) {
-    let found = read_block(alloc, schema, bytes).err();
-    assert_eq!(rt; found, Some(want), "of {bytes:?}");
-}
-
-fn expect_faults(rt: &impl Abort, alloc: Global, schema: &Schema, faults: &[Fault]) {
+// Stops the test of bytes in which another fault is found by a schema with a key column of this type.
+fn expect_faults(rt: &impl Abort, alloc: Global, kind: KeyType, faults: &[Fault]) {
+    let schema = schema(rt, alloc, kind);
     for (bytes, fault) in faults {
-        expect_fault(rt, alloc, schema, bytes, *fault);
+        let found = read_block(alloc, &schema, bytes).err();
+        expect_same(rt, &found, &Some(*fault), bytes);
     }
 }
 
 #[test]
-fn names_the_first_fault(rt: HostRuntime) -> Result<(), Fail> {
-    let ints = schema(rt.alloc(), KeyType::Int)?;
-    expect_faults(&rt, rt.alloc(), &ints, &INTS);
-    expect_fault(&rt, rt.alloc(), &ints, &ONE[..18], BlockError::Truncated);
-    Ok(())
-}
-
-#[test]
-fn names_a_text_that_is_none(rt: HostRuntime) -> Result<(), Fail> {
-    let texts = schema(rt.alloc(), KeyType::Text)?;
-    expect_faults(&rt, rt.alloc(), &texts, &TEXTS);
-    Ok(())
+fn names_the_first_fault(rt: HostRuntime) {
+    expect_faults(&rt, rt.alloc(), KeyType::Int, &INTS);
+    expect_faults(&rt, rt.alloc(), KeyType::Text, &TEXTS);
 }

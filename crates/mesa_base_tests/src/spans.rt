@@ -1,33 +1,24 @@
 // Ranges of versions: what is merged next, and what a reader opens.
 use mesa_list::{Items, TryCopy};
 use mesa_span::{Ranges, Work, next_work, plan};
-use std::test::Fail;
 
 // The ranges after the works of a table of 93 versions whose oldest is 60, and its next works and
 // plans; the same rows stand as theorems beside the definitions, in `mesa_span`.
 #[test]
-fn plans_and_works_of_ninety_three_versions(rt: HostRuntime) -> Result<(), Fail> {
+fn plans_and_works_of_ninety_three_versions(rt: HostRuntime) {
     let mut ranges = Ranges {
         base_to: Some(60),
         cumulatives: Items::new(rt.alloc()),
     };
-    assert_eq!(rt;
-        next_work(&ranges, 60, Some(92)),
-        Some(Work::Cumulative { from: 61, to: 70 })
-    );
-    ranges.cumulatives = Items::from_vec(vec![in rt.alloc(); 70, 80, 90]?);
-    let ranges = ranges.copy()?;
-    assert_eq!(rt; next_work(&ranges, 60, Some(92)), None);
-    assert_eq!(rt;
-        next_work(&ranges, 60, Some(100)),
-        Some(Work::Cumulative { from: 61, to: 100 })
-    );
-    assert_eq!(rt;
-        next_work(&ranges, 75, Some(92)),
-        Some(Work::Base { to: 75 })
-    );
-    assert_eq!(rt; next_work(&ranges, 60, None), None);
-    let spans = plan(rt.alloc(), &ranges, 91)?;
-    assert_eq!(rt; spans.as_slice(), [(0, 60), (61, 90), (91, 91)].as_slice());
-    Ok(())
+    let next = Work::Cumulative { from: 61, to: 70 };
+    assert!(rt; next_work(&ranges, 60, Some(92)) == Some(next));
+    ranges.cumulatives = Items::from_vec(vec![in rt.alloc(); 70, 80, 90].expect(&rt, "memory"));
+    let ranges = ranges.copy().expect(&rt, "memory");
+    assert!(rt; next_work(&ranges, 60, Some(92)).is_none());
+    let next = Work::Cumulative { from: 61, to: 100 };
+    assert!(rt; next_work(&ranges, 60, Some(100)) == Some(next));
+    assert!(rt; next_work(&ranges, 75, Some(92)) == Some(Work::Base { to: 75 }));
+    assert!(rt; next_work(&ranges, 60, None).is_none());
+    let spans = plan(rt.alloc(), &ranges, 91).expect(&rt, "memory");
+    assert!(rt; spans.as_slice() == [(0, 60), (61, 90), (91, 91)].as_slice());
 }

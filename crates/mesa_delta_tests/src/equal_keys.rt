@@ -1,13 +1,12 @@
 // A file of 1,025 rows whose keys have the same first sixteen bytes.
+use crate::expected::expect_same;
 use crate::files::{attach, count_bytes, open_file, reference, schema};
 use mesa_delta::DeltaReader;
-use mesa_disk::MemReader;
+use mesa_disk::{FileRef, MemReader};
 use mesa_key::KeyType;
-use mesa_schema::Schema;
 use sha2::{Digest, Sha256};
 use std::alloc::{AllocError, Global};
 use std::process::Abort;
-use std::test::Fail;
 
 // The SHA-256 of the file's tail, by another program.
 const TAIL_DIGEST: [u8; 32] = [
@@ -79,21 +78,31 @@ fn put_file(bytes: &mut Vec<u8>, first: &[u8], last: &[u8]) -> Result<(), AllocE
 }
 
 // The first 1,024 rows fill a block of 29,699 bytes, and the last one stands in another.
-fn file(alloc: Global) -> Result<Vec<u8>, AllocError> {
-    let first = block(alloc, 0, 1024)?;
-    let last = block(alloc, 1024, 1)?;
+fn file(rt: &impl Abort, alloc: Global) -> Vec<u8> {
+    let first = block(alloc, 0, 1024).expect(rt, "memory");
+    let last = block(alloc, 1024, 1).expect(rt, "memory");
     let mut bytes = Vec::new(alloc);
-    put_file(&mut bytes, &first, &last)?;
-    Ok(bytes)
+    put_file(&mut bytes, &first, &last).expect(rt, "memory");
+    bytes
+}
+
+fn file_reference(alloc: Global) -> FileRef {
+    reference(alloc, 29_875, 1025, 2, TAIL_DIGEST)
 }
 
 #[test]
-fn reads_two_blocks(rt: HostRuntime) -> Result<(), Fail> {
+fn reads_two_blocks(rt: HostRuntime) {
     let alloc = rt.alloc();
-    let file_of_texts = reference(alloc, 29_875, 1025, 2, TAIL_DIGEST);
-    let counted = count_bytes(alloc, file(alloc)?, None, &file_of_texts, KeyType::Text)?;
-    assert_eq!(rt; counted, Ok(1025));
-    Ok(())
+    let bytes = file(&rt, alloc);
+    let counted = count_bytes(
+        &rt,
+        alloc,
+        bytes,
+        None,
+        &file_reference(alloc),
+        KeyType::Text,
+    );
+    assert!(rt; counted == Ok(1025));
 }
 
 // A key, and the block at which to look for it.
@@ -103,25 +112,18 @@ static PLACES: [(&[u8], u32); 3] = [
     (b"b\0", 1),
 ];
 
-// Stops the test of a file in which a key is looked for elsewhere.
-fn expect_places(rt: &impl Abort, reader: &DeltaReader<MemReader>) {
-    for (key, block) in &PLACES {
-        assert_eq!(rt; reader.seek(key), *block, "of {key:?}");
-    }
-}
-
 // The two blocks of texts, as they are found again.
-fn attached(alloc: Global, schema: &Schema) -> Result<DeltaReader<MemReader>, Fail> {
-    let reader = open_file(alloc, file(alloc)?, None)?;
-    let file = reference(alloc, 29_875, 1025, 2, TAIL_DIGEST);
-    Ok(attach(alloc, reader, &file, schema).map_err(|_| "not attached")?)
+fn attached(rt: &impl Abort, alloc: Global) -> DeltaReader<MemReader> {
+    let schema = schema(rt, alloc, KeyType::Text);
+    let reader = open_file(rt, alloc, file(rt, alloc), None);
+    attach(alloc, reader, &file_reference(alloc), &schema).expect(rt, "a file")
 }
 
 #[test]
-fn begins_before_equal_short_keys(rt: HostRuntime) -> Result<(), Fail> {
-    let schema = schema(rt.alloc(), KeyType::Text)?;
-    let reader = attached(rt.alloc(), &schema)?;
-    expect_places(&rt, &reader);
+fn begins_before_equal_short_keys(rt: HostRuntime) {
+    let reader = attached(&rt, rt.alloc());
+    for (key, block) in &PLACES {
+        expect_same(&rt, &reader.seek(key), block, key);
+    }
     drop(reader.detach());
-    Ok(())
 }

@@ -5,8 +5,8 @@ use mesa_key::KeyType;
 use mesa_list::Items;
 use mesa_schema::{KeyColumn, Name, Schema, ValueColumn};
 use mesa_value::Agg;
-use std::alloc::{AllocError, Global};
-use std::test::Fail;
+use std::alloc::Global;
+use std::process::Abort;
 
 /// The file of the row with key 1 and value 5.
 pub const ONE_FILE: [u8; 103] = [
@@ -25,27 +25,26 @@ pub const ONE_DIGEST: [u8; 32] = [
 /// Its id.
 pub const ONE_ID: u64 = 1 << 40;
 
-// A name that is known to be one.
-fn name(alloc: Global, text: &str) -> Result<Name, AllocError> {
-    Name::read(alloc, text.as_bytes()).map_err(|_| AllocError)
+fn name(rt: &impl Abort, alloc: Global, text: &str) -> Name {
+    Name::read(alloc, text.as_bytes()).expect(rt, "a name")
 }
 
-fn keys(alloc: Global, kind: KeyType) -> Result<Vec<KeyColumn>, AllocError> {
-    let name = name(alloc, "k")?;
-    Ok(vec![in alloc; KeyColumn { name, kind }]?)
+fn keys(rt: &impl Abort, alloc: Global, kind: KeyType) -> Vec<KeyColumn> {
+    let name = name(rt, alloc, "k");
+    vec![in alloc; KeyColumn { name, kind }].expect(rt, "memory")
 }
 
-fn values(alloc: Global) -> Result<Vec<ValueColumn>, AllocError> {
-    let name = name(alloc, "v")?;
+fn values(rt: &impl Abort, alloc: Global) -> Vec<ValueColumn> {
+    let name = name(rt, alloc, "v");
     let agg = Agg::Sum;
-    Ok(vec![in alloc; ValueColumn { name, agg }]?)
+    vec![in alloc; ValueColumn { name, agg }].expect(rt, "memory")
 }
 
 /// One key column of this type, and one sum.
-pub fn schema(alloc: Global, kind: KeyType) -> Result<Schema, AllocError> {
-    let keys = keys(alloc, kind)?;
-    let values = values(alloc)?;
-    Schema::build(keys, values).map_err(|_| AllocError)
+pub fn schema(rt: &impl Abort, alloc: Global, kind: KeyType) -> Schema {
+    let keys = keys(rt, alloc, kind);
+    let values = values(rt, alloc);
+    Schema::build(keys, values).ok().expect(rt, "a schema")
 }
 
 /// A reference with no keys and no aggregates, which no reader looks at.
@@ -63,25 +62,20 @@ pub fn reference(alloc: Global, len: u64, rows: u64, blocks: u32, digest: [u8; 3
 }
 
 // A disk with a file of these bytes.
-fn disk_with(alloc: Global, bytes: Vec<u8>) -> Result<MemDisk, AllocError> {
-    let mut files = Vec::new(alloc);
-    files.push((FileId::of(ONE_ID), ByteList::from_vec(bytes)))?;
-    Ok(MemDisk::new(
-        alloc,
-        Vec::new(alloc),
-        Vec::new(alloc),
-        files,
-        Vec::new(alloc),
-    ))
+fn disk_with(rt: &impl Abort, alloc: Global, bytes: Vec<u8>) -> MemDisk {
+    let file = (FileId::of(ONE_ID), ByteList::from_vec(bytes));
+    let files = vec![in alloc; file].expect(rt, "memory");
+    let (zero, one) = (Vec::new(alloc), Vec::new(alloc));
+    MemDisk::new(alloc, zero, one, files, Vec::new(alloc))
 }
 
 /// A reader of these bytes, of which this read fails, counted from 0.
-pub fn open_file(alloc: Global, bytes: Vec<u8>, fails: Option<u64>) -> Result<MemReader, Fail> {
-    let mut disk = disk_with(alloc, bytes)?;
+pub fn open_file(rt: &impl Abort, alloc: Global, bytes: Vec<u8>, fails: Option<u64>) -> MemReader {
+    let mut disk = disk_with(rt, alloc, bytes);
     if let Some(nth) = fails {
         disk.spoil_read(FileId::of(ONE_ID), nth);
     }
-    Ok(disk.reader(FileId::of(ONE_ID)).map_err(|_| "not opened")?)
+    disk.reader(FileId::of(ONE_ID)).expect(rt, "a reader")
 }
 
 /// The file of this reference, over these bytes.
@@ -132,13 +126,14 @@ fn count_blocks(reader: &mut DeltaReader<MemReader>) -> Result<usize, FileError>
 
 /// How many rows the blocks of these bytes have, of which this read fails.
 pub fn count_bytes(
+    rt: &impl Abort,
     alloc: Global,
     bytes: Vec<u8>,
     fails: Option<u64>,
     file: &FileRef,
     kind: KeyType,
-) -> Result<Result<usize, FileError>, Fail> {
-    let reader = open_file(alloc, bytes, fails)?;
-    let schema = schema(alloc, kind)?;
-    Ok(count_rows(alloc, reader, file, &schema))
+) -> Result<usize, FileError> {
+    let reader = open_file(rt, alloc, bytes, fails);
+    let schema = schema(rt, alloc, kind);
+    count_rows(alloc, reader, file, &schema)
 }

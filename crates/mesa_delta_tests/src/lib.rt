@@ -4,6 +4,8 @@
 #[cfg(test)]
 mod equal_keys;
 #[cfg(test)]
+mod expected;
+#[cfg(test)]
 mod files;
 #[cfg(test)]
 mod reading;

@@ -1,33 +1,38 @@
 // A file that was written by hand is read, and told damaged where it isn't the recorded one.
 ghost use Rattle.std.specs.Prelude.{◌<◌};
 
+use crate::expected::expect_same;
 use crate::files::{ONE_DIGEST, ONE_FILE, ONE_ID, count_bytes, reference};
 use mesa_delta::FileError;
 use mesa_disk::{Damage, FileId, Seen};
 use mesa_key::KeyType;
 use sha2::{Digest, Sha256};
 use std::alloc::Global;
-use std::test::Fail;
+use std::process::Abort;
 
 // Reads bytes by the reference of a file of one row with this digest.
 fn read_by(
+    rt: &impl Abort,
     alloc: Global,
     bytes: &[u8],
     fails: Option<u64>,
     digest: [u8; 32],
-) -> Result<Result<usize, FileError>, Fail> {
-    let bytes = Vec::from_slice(alloc, bytes)?;
+) -> Result<usize, FileError> {
+    let bytes = Vec::from_slice(alloc, bytes).expect(rt, "memory");
     let file = reference(alloc, 103, 1, 1, digest);
-    count_bytes(alloc, bytes, fails, &file, KeyType::Int)
+    count_bytes(rt, alloc, bytes, fails, &file, KeyType::Int)
 }
 
-// Reads bytes by the reference of the file of one row.
-fn read_as_one(
+// Stops the test of bytes that are read otherwise by the reference of the file of one row.
+fn expect_read(
+    rt: &impl Abort,
     alloc: Global,
     bytes: &[u8],
     fails: Option<u64>,
-) -> Result<Result<usize, FileError>, Fail> {
-    read_by(alloc, bytes, fails, ONE_DIGEST)
+    wanted: Result<usize, FileError>,
+) {
+    let found = read_by(rt, alloc, bytes, fails, ONE_DIGEST);
+    expect_same(rt, &found, &wanted, &fails);
 }
 
 fn damage(place: u64, want: Seen, found: Seen) -> Result<usize, FileError> {
@@ -40,25 +45,21 @@ fn damage(place: u64, want: Seen, found: Seen) -> Result<usize, FileError> {
 }
 
 #[test]
-fn reads_the_file_of_one_row(rt: HostRuntime) -> Result<(), Fail> {
-    assert_eq!(rt; read_as_one(rt.alloc(), &ONE_FILE, None)?, Ok(1));
-    Ok(())
+fn reads_the_file_of_one_row(rt: HostRuntime) {
+    expect_read(&rt, rt.alloc(), &ONE_FILE, None, Ok(1));
 }
 
 #[test]
-fn tells_a_failed_read(rt: HostRuntime) -> Result<(), Fail> {
+fn tells_a_failed_read(rt: HostRuntime) {
     for nth in 0..2 {
-        let found = read_as_one(rt.alloc(), &ONE_FILE, Some(nth))?;
-        assert_eq!(rt; found, Err(FileError::Read), "of read {nth}");
+        expect_read(&rt, rt.alloc(), &ONE_FILE, Some(nth), Err(FileError::Read));
     }
-    Ok(())
 }
 
 #[test]
-fn tells_another_length(rt: HostRuntime) -> Result<(), Fail> {
+fn tells_another_length(rt: HostRuntime) {
     let wanted = damage(0, Seen::Length(103), Seen::Length(102));
-    assert_eq!(rt; read_as_one(rt.alloc(), &ONE_FILE[..102], None)?, wanted);
-    Ok(())
+    expect_read(&rt, rt.alloc(), &ONE_FILE[..102], None, wanted);
 }
 
 // The file of one row with another byte at a place.
@@ -71,30 +72,27 @@ fn changed(place: usize, byte: u8) -> [u8; 103]
 }
 
 #[test]
-fn tells_a_changed_row(rt: HostRuntime) -> Result<(), Fail> {
+fn tells_a_changed_row(rt: HostRuntime) {
     let bytes = changed(18, 6);
     let mut digest = [0; 32];
     digest.copy_from_slice(&ONE_FILE[47..79]);
     let found = Seen::Digest(Sha256::digest(&bytes[..19]));
     let wanted = damage(0, Seen::Digest(digest), found);
-    assert_eq!(rt; read_as_one(rt.alloc(), &bytes, None)?, wanted);
-    Ok(())
+    expect_read(&rt, rt.alloc(), &bytes, None, wanted);
 }
 
 #[test]
-fn tells_a_changed_tail(rt: HostRuntime) -> Result<(), Fail> {
+fn tells_a_changed_tail(rt: HostRuntime) {
     let bytes = changed(102, 50);
-    let found = Seen::Digest(Sha256::digest(&bytes[19..]));
-    let wanted = damage(19, Seen::Digest(ONE_DIGEST), found);
-    assert_eq!(rt; read_as_one(rt.alloc(), &bytes, None)?, wanted);
-    Ok(())
+    let digest = Sha256::digest(&bytes[19..]);
+    let wanted = damage(19, Seen::Digest(ONE_DIGEST), Seen::Digest(digest));
+    expect_read(&rt, rt.alloc(), &bytes, None, wanted);
 }
 
 // The recorded digest is that of the bytes, which are no tail.
 #[test]
-fn tells_bytes_that_are_no_tail(rt: HostRuntime) -> Result<(), Fail> {
+fn tells_bytes_that_are_no_tail(rt: HostRuntime) {
     let bytes = changed(102, 50);
-    let counted = read_by(rt.alloc(), &bytes, None, Sha256::digest(&bytes[19..]))?;
-    assert_eq!(rt; counted, damage(19, Seen::Fits, Seen::Misfit(0)));
-    Ok(())
+    let counted = read_by(&rt, rt.alloc(), &bytes, None, Sha256::digest(&bytes[19..]));
+    assert!(rt; counted == damage(19, Seen::Fits, Seen::Misfit(0)));
 }

@@ -4,9 +4,10 @@ ghost use Rattle.mesa_delta.specs.Writing.{HasTaken};
 ghost use Rattle.std.specs.List.{AllByRecursion};
 ghost use Rattle.mesa_block.specs.Rows.{IsRow};
 
+use crate::expected::expect_same;
 use crate::files::{ONE_DIGEST, ONE_FILE, ONE_ID, count_rows, schema};
 use mesa_block::read_block;
-use mesa_delta::{DeltaWriter, FileError, WriteError};
+use mesa_delta::{DeltaWriter, WriteError};
 use mesa_disk::{
     Bench, Disk, Draft, FileId, FileReader, FileRef, Made, MemBench, MemDisk, MemMade, MemReader,
     OpenFault,
@@ -15,7 +16,6 @@ use mesa_key::KeyType;
 use mesa_schema::{Row, Schema};
 use std::alloc::Global;
 use std::process::Abort;
-use std::test::Fail;
 
 type Written = Result<(MemMade, FileRef), WriteError>;
 
@@ -32,46 +32,38 @@ fn finish_row<M: Made, T: Draft<M>>(
 
 // Writes a file of the first row, through a draft of which these calls fail.
 fn write_first(
+    rt: &impl Abort,
     alloc: Global,
     schema: &Schema,
     rows: &[Row],
     calls: Vec<(u64, u64)>,
-) -> Result<Written, Fail>
+) -> Written
     requires some { 0 < length rows.now }
     requires rows { AllByRecursion (IsRow schema.now) rows.now }
 {
     let mut bench = MemBench::new(alloc, calls);
-    let draft = bench.draft(FileId::of(7)).map_err(|_| "no draft")?;
-    let mut writer = match DeltaWriter::new(alloc, draft, FileId::of(ONE_ID), schema) {
-        Ok(writer) => writer,
-        Err((_, _)) => return Err("no writer".into()),
+    let draft = bench.draft(FileId::of(7)).expect(rt, "a draft");
+    let Ok(mut writer) = DeltaWriter::new(alloc, draft, FileId::of(ONE_ID), schema) else {
+        panic!(rt; "no writer");
     };
-    match writer.push(&rows[0]) {
-        Ok(()) => {}
-        Err(error) => {
-            let _ = writer.abandon();
-            return Ok(Err(error));
-        }
+    if let Err(error) = writer.push(&rows[0]) {
+        let _ = writer.abandon();
+        return Err(error);
     }
     match finish_row(writer, &rows[0]) {
-        Ok(written) => Ok(Ok(written)),
-        Err((error, _)) => Ok(Err(error)),
+        Ok(written) => Ok(written),
+        Err((error, _)) => Err(error),
     }
 }
 
-// Writes the row with key 1 and value 5, as it is read from its block.
-fn write_by(alloc: Global, schema: &Schema, calls: Vec<(u64, u64)>) -> Result<Written, Fail> {
-    match read_block(alloc, schema, &ONE_FILE[..19]) {
-        Ok(block) => write_first(alloc, schema, block.rows(), calls),
-        Err(_) => Err("no block".into()),
+// Writes the row with key 1 and value 5, as it is read from its block, through a draft of which these calls fail.
+fn write_one(rt: &impl Abort, alloc: Global, fails: &[(u64, u64)]) -> Written {
+    let calls = fails.to_vec(alloc).expect(rt, "memory");
+    let schema = schema(rt, alloc, KeyType::Int);
+    match read_block(alloc, &schema, &ONE_FILE[..19]) {
+        Ok(block) => write_first(rt, alloc, &schema, block.rows(), calls),
+        Err(_) => panic!(rt; "no block"),
     }
-}
-
-// The same; these calls of drafts fail.
-fn write_one(alloc: Global, fails: &[(u64, u64)]) -> Result<Written, Fail> {
-    let calls = fails.to_vec(alloc)?;
-    let schema = schema(alloc, KeyType::Int)?;
-    write_by(alloc, &schema, calls)
 }
 
 fn no_files(alloc: Global) -> MemDisk {
@@ -85,63 +77,47 @@ fn no_files(alloc: Global) -> MemDisk {
 }
 
 // A reader of the file.
-fn adopted(alloc: Global, made: MemMade) -> Result<MemReader, Fail> {
+fn adopted(rt: &impl Abort, alloc: Global, made: MemMade) -> MemReader {
     let id = FileId::of(ONE_ID);
     let mut disk = no_files(alloc);
     let Err(OpenFault::Absent) = disk.reader(id) else {
-        return Err("there already".into());
+        panic!(rt; "the file is there already");
     };
-    disk.adopt(made, id).map_err(|_| "not adopted")?;
-    Ok(disk.reader(id).map_err(|_| "not opened")?)
-}
-
-// The bytes of the file.
-fn bytes_of(alloc: Global, reader: &mut MemReader) -> Result<Vec<u8>, Fail> {
-    let mut bytes = vec![in alloc; 0u8; reader.len() as usize]?;
-    reader.read_at(0, &mut bytes).map_err(|_| "not read")?;
-    Ok(bytes)
+    disk.adopt(made, id).expect(rt, "an adopted file");
+    disk.reader(id).expect(rt, "a reader")
 }
 
 // Stops the test of a file with other bytes.
-fn expect_bytes(rt: &impl Abort, alloc: Global, reader: &mut MemReader) -> Result<(), Fail> {
-    let bytes = bytes_of(alloc, reader)?;
-    assert_eq!(rt; bytes.as_slice(), ONE_FILE.as_slice());
-    Ok(())
+fn expect_bytes(rt: &impl Abort, alloc: Global, reader: &mut MemReader) {
+    let mut bytes = vec![in alloc; 0u8; reader.len() as usize].expect(rt, "memory");
+    reader.read_at(0, &mut bytes).expect(rt, "a file");
+    assert!(rt; bytes.as_slice() == ONE_FILE.as_slice());
 }
 
-// The file of one row, and its reference.
-fn written(alloc: Global) -> Result<(MemReader, FileRef), Fail> {
-    let (made, file) = write_one(alloc, &[])?.map_err(|_| "not written")?;
-    Ok((adopted(alloc, made)?, file))
-}
-
-fn counted(
-    alloc: Global,
-    reader: MemReader,
-    file: &FileRef,
-) -> Result<Result<usize, FileError>, Fail> {
-    let schema = schema(alloc, KeyType::Int)?;
-    Ok(count_rows(alloc, reader, file, &schema))
+fn expect_file(rt: &impl Abort, file: &FileRef) {
+    let counts = (file.len, file.rows, file.blocks);
+    expect_same(rt, &counts, &(103, 1, 1), &"bytes, rows and blocks");
+    expect_same(rt, &file.digest, &ONE_DIGEST, &"the digest");
 }
 
 #[test]
-fn writes_the_file_of_one_row(rt: HostRuntime) -> Result<(), Fail> {
-    let (mut reader, file) = written(rt.alloc())?;
-    expect_bytes(&rt, rt.alloc(), &mut reader)?;
-    assert_eq!(rt; (file.len, file.rows, file.blocks), (103, 1, 1));
-    assert_eq!(rt; file.digest, ONE_DIGEST);
-    assert_eq!(rt; counted(rt.alloc(), reader, &file)?, Ok(1));
-    Ok(())
+fn writes_the_file_of_one_row(rt: HostRuntime) {
+    let alloc = rt.alloc();
+    let (made, file) = write_one(&rt, alloc, &[]).ok().expect(&rt, "a file");
+    expect_file(&rt, &file);
+    let mut reader = adopted(&rt, alloc, made);
+    expect_bytes(&rt, alloc, &mut reader);
+    let schema = schema(&rt, alloc, KeyType::Int);
+    assert!(rt; count_rows(alloc, reader, &file, &schema) == Ok(1));
 }
 
 // The draft is called for the block, for the tail and for the finished file.
 static CALLS: [(u64, u64); 3] = [(0, 1), (0, 2), (0, 3)];
 
 #[test]
-fn tells_a_failed_draft(rt: HostRuntime) -> Result<(), Fail> {
+fn tells_a_failed_draft(rt: HostRuntime) {
     for call in &CALLS {
-        let failed = write_one(rt.alloc(), &[*call])?.err();
-        assert_eq!(rt; failed, Some(WriteError::Draft), "of {call:?}");
+        let failed = write_one(&rt, rt.alloc(), &[*call]).err();
+        expect_same(&rt, &failed, &Some(WriteError::Draft), call);
     }
-    Ok(())
 }

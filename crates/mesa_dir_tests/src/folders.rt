@@ -2,22 +2,20 @@
 use mesa_dir::DirDisk;
 use std::fs;
 use std::process::Abort;
-use std::test::Fail;
 
 /// A disk in a folder that is new.
-pub fn opened(files: HostRuntime, name: &str) -> Result<DirDisk<HostRuntime>, Fail> {
+pub fn opened(rt: &impl Abort, files: HostRuntime, name: &str) -> DirDisk<HostRuntime> {
     let _ = fs::remove_dir_all(&files, name);
-    Ok(DirDisk::open(files, name)?)
+    DirDisk::open(files, name).expect(rt, "a disk")
 }
 
 /// Stops the test of a path at which there is a file, or none, though there shouldn't be.
-pub fn expect_exists(
-    rt: &impl Abort,
-    files: HostRuntime,
-    path: &str,
-    exists: bool,
-) -> Result<(), Fail> {
-    let found = fs::exists(&files, path)?;
-    assert_eq!(rt; found, exists, "of {path}");
-    Ok(())
+pub fn expect_exists(rt: &impl Abort, files: HostRuntime, path: &str, exists: bool) {
+    let found = fs::exists(&files, path).expect(rt, "a look at a path");
+    assert!(rt; found == exists, "of {path}");
+}
+
+/// Removes the folder of a test.
+pub fn remove(rt: &impl Abort, files: HostRuntime, name: &str) {
+    fs::remove_dir_all(&files, name).expect(rt, "a folder that goes");
 }

@@ -1,68 +1,57 @@
 // Folders that can't be opened.
-use crate::folders::opened;
+use crate::folders::{opened, remove};
 use mesa_dir::DirDisk;
 use mesa_disk::{Area, Bench, Disk, FileId, OpenFault};
 use std::fs;
 use std::process::Abort;
-use std::test::Fail;
 
 // Asserts that each call that can fail does, and that the areas are told as two bytes long.
-fn fails_in_each_call(rt: &impl Abort, disk: &mut DirDisk<HostRuntime>) -> Result<(), Fail> {
+fn fails_in_each_call(rt: &impl Abort, disk: &mut DirDisk<HostRuntime>) {
     let mut two = [0u8; 2];
-    assert_eq!(rt; disk.journal_len(Area::Zero), 2);
+    assert!(rt; disk.journal_len(Area::Zero) == 2);
     assert!(rt; disk.journal_read(Area::Zero, 0, &mut two).is_err());
-    assert_eq!(rt; disk.journal_len(Area::One), 2);
+    assert!(rt; disk.journal_len(Area::One) == 2);
     assert!(rt; disk.journal_read(Area::One, 0, &mut two).is_err());
     assert!(rt; disk.journal_write(Area::Zero, 0, b"a".as_slice()).is_err());
     assert!(rt; disk.journal_sync().is_err());
     assert!(rt; disk.remove(FileId::of(1)).is_err());
     assert!(rt; matches!(disk.reader(FileId::of(1)), Err(OpenFault::Failed)));
     assert!(rt; disk.file_ids().is_err());
-    assert!(rt; disk.bench()?.draft(FileId::of(1)).is_err());
-    assert_eq!(rt; disk.clock(), 3);
-    Ok(())
+    let mut bench = disk.bench().expect(rt, "a bench");
+    assert!(rt; bench.draft(FileId::of(1)).is_err());
+    assert!(rt; disk.clock() == 3);
 }
 
 // Opens a folder that isn't to be had.
-fn open_in_vain(rt: &impl Abort, files: HostRuntime, name: &str) -> Result<(), Fail> {
-    let mut disk = DirDisk::open(files, name)?;
-    fails_in_each_call(rt, &mut disk)
+fn open_in_vain(rt: &impl Abort, files: HostRuntime, name: &str) {
+    let mut disk = DirDisk::open(files, name).expect(rt, "a disk");
+    fails_in_each_call(rt, &mut disk);
 }
 
 #[test]
-fn a_folder_that_is_none_fails(rt: HostRuntime) -> Result<(), Fail> {
+fn a_folder_that_is_none_fails(rt: HostRuntime) {
     let name = "mesa_dir_flat";
-    fs::write(&rt, name, b"no folder".as_slice())?;
-    open_in_vain(&rt, rt, name)?;
-    fs::remove_file(&rt, name)?;
-    Ok(())
+    fs::write(&rt, name, b"no folder".as_slice()).expect(&rt, "a written file");
+    open_in_vain(&rt, rt, name);
+    fs::remove_file(&rt, name).expect(&rt, "a file that goes");
 }
 
 // A disk is opened, and in vain a second time; the first goes on unharmed.
-fn open_twice(rt: &impl Abort, files: HostRuntime, name: &str) -> Result<(), Fail> {
-    let mut first = opened(files, name)?;
-    assert!(rt;
-        first
-            .journal_write(Area::Zero, 0, b"abc".as_slice())
-            .is_ok()
-    );
-    open_in_vain(rt, files, name)?;
+fn open_twice(rt: &impl Abort, files: HostRuntime, name: &str) {
+    let mut first = opened(rt, files, name);
+    let written = first.journal_write(Area::Zero, 0, b"abc".as_slice());
+    assert!(rt; written.is_ok());
+    open_in_vain(rt, files, name);
     assert!(rt; first.journal_sync().is_ok());
-    Ok(())
 }
 
 // Once the first is let go the folder can be opened.
-fn open_again(rt: &impl Abort, files: HostRuntime, name: &str) -> Result<(), Fail> {
-    let third = DirDisk::open(files, name)?;
-    assert_eq!(rt; third.journal_len(Area::Zero), 3);
-    Ok(())
-}
-
 #[test]
-fn a_folder_that_another_has_fails(rt: HostRuntime) -> Result<(), Fail> {
+fn a_folder_that_another_has_fails(rt: HostRuntime) {
     let name = "mesa_dir_locked";
-    open_twice(&rt, rt, name)?;
-    open_again(&rt, rt, name)?;
-    fs::remove_dir_all(&rt, name)?;
-    Ok(())
+    open_twice(&rt, rt, name);
+    let third = DirDisk::open(rt, name).expect(&rt, "a disk");
+    assert!(rt; third.journal_len(Area::Zero) == 3);
+    drop(third);
+    remove(&rt, rt, name);
 }

@@ -1,9 +1,9 @@
 // A file of two pages and a part of a third, read through a cache of its pages.
+use crate::expected::expect_same;
 use mesa_cache::Cached;
 use mesa_disk::{ByteList, Disk, FileId, FileReader, MemDisk, MemReader};
-use std::alloc::{AllocError, Global};
+use std::alloc::Global;
 use std::process::Abort;
-use std::test::Fail;
 
 // The place and the count of the bytes that are read, and whether they are given.
 type Read = (u64, usize, bool);
@@ -72,19 +72,30 @@ static CASES: [Case; 4] = [
 ];
 
 // Bytes that come again after 251, so that no two pages are alike.
-fn content(alloc: Global) -> Result<Vec<u8>, AllocError> {
-    (0..40_000_u32).map(|i| (i % 251) as u8).collect(alloc)
+fn content(rt: &impl Abort, alloc: Global) -> Vec<u8> {
+    let bytes = (0..40_000_u32).map(|i| (i % 251) as u8).collect(alloc);
+    bytes.expect(rt, "memory")
 }
 
-// A reader of a file of these bytes. Its read of this number fails.
-fn reader_of(alloc: Global, bytes: &[u8], fails: u64) -> Result<MemReader, Fail> {
-    let file = ByteList::from_bytes(alloc, bytes)?;
-    let mut files = Vec::new(alloc);
-    files.push((FileId::of(5), file))?;
+// A disk with a file of these bytes. The file's read of this number fails.
+fn disk_of(rt: &impl Abort, alloc: Global, bytes: &[u8], fails: u64) -> MemDisk {
+    let file = ByteList::from_bytes(alloc, bytes).expect(rt, "memory");
+    let files = vec![in alloc; (FileId::of(5), file)].expect(rt, "memory");
     let none = Vec::new(alloc);
     let mut disk = MemDisk::new(alloc, Vec::new(alloc), Vec::new(alloc), files, none);
     disk.spoil_read(FileId::of(5), fails);
-    Ok(disk.reader(FileId::of(5)).map_err(|_| "no reader")?)
+    disk
+}
+
+// That file, read through a cache.
+fn cached(rt: &impl Abort, alloc: Global, bytes: &[u8], case: &Case) -> Cached<MemReader> {
+    assert!(rt; case.pages >= 1);
+    let mut disk = disk_of(rt, alloc, bytes, case.fails);
+    let reader = disk.reader(FileId::of(5)).expect(rt, "a reader");
+    match Cached::new(alloc, reader, case.pages) {
+        Ok(cached) => cached,
+        Err(_) => panic!(rt; "no memory"),
+    }
 }
 
 fn expect_read<R: FileReader>(
@@ -96,16 +107,15 @@ fn expect_read<R: FileReader>(
     name: &str,
 ) {
     let (at, count, given) = *read;
-    let (start, size) = (at as usize, reader.len());
+    let start = at as usize;
     assert!(rt; start <= bytes.len() && count <= bytes.len() - start);
-    assert!(rt; at <= size && count as u64 <= size - at);
+    assert!(rt; at <= reader.len() && count as u64 <= reader.len() - at);
     assert!(rt; count <= buffer.len());
     let into = &mut buffer[..count];
-    let result = reader.read_at(at, into);
-    assert_eq!(rt; result.is_ok(), given, "{name}: {count} bytes from {at} on");
+    let is_read = reader.read_at(at, into).is_ok();
+    expect_same(rt, &is_read, &given, &(name, read));
     if given {
-        let wanted = &bytes[start..start + count];
-        assert!(rt; &*into == wanted, "{name}: {count} bytes from {at} on");
+        expect_same(rt, &&*into, &&bytes[start..start + count], &(name, read));
     }
 }
 
@@ -121,24 +131,18 @@ fn expect_reads<R: FileReader>(
     }
 }
 
-fn expect_case(rt: &impl Abort, alloc: Global, bytes: &[u8], case: &Case) -> Result<(), Fail> {
-    let mut buffer = vec![in alloc; 0u8; bytes.len()]?;
-    let reader = reader_of(alloc, bytes, case.fails)?;
-    assert!(rt; case.pages >= 1);
-    let Ok(mut reader) = Cached::new(alloc, reader, case.pages) else {
-        panic!(rt; "no memory");
-    };
+fn expect_case(rt: &impl Abort, alloc: Global, bytes: &[u8], case: &Case) {
+    let mut buffer = vec![in alloc; 0u8; bytes.len()].expect(rt, "memory");
+    let mut reader = cached(rt, alloc, bytes, case);
     expect_reads(rt, bytes, &mut buffer, &mut reader, case);
     let inner = reader.into_inner();
-    assert_eq!(rt; inner.len(), 40_000);
-    Ok(())
+    assert!(rt; inner.len() == 40_000);
 }
 
 #[test]
-fn pages_are_read_and_kept(rt: HostRuntime) -> Result<(), Fail> {
-    let bytes = content(rt.alloc())?;
+fn pages_are_read_and_kept(rt: HostRuntime) {
+    let bytes = content(&rt, rt.alloc());
     for case in &CASES {
-        expect_case(&rt, rt.alloc(), &bytes, case)?;
+        expect_case(&rt, rt.alloc(), &bytes, case);
     }
-    Ok(())
 }

@@ -6,4 +6,6 @@ mod cached;
 #[cfg(test)]
 mod disk;
 #[cfg(test)]
+mod expected;
+#[cfg(test)]
 mod journal;

@@ -1,10 +1,10 @@
 // Texts that are filters, and those that are none.
+use crate::expected::expect_same;
 use crate::places::schema;
 use mesa_filter::{Filter, FilterError};
 use mesa_schema::Schema;
-use std::alloc::{AllocError, Global};
+use std::alloc::Global;
 use std::process::Abort;
-use std::test::Fail;
 
 // Why a text is no filter.
 fn fault_of(alloc: Global, schema: &Schema, text: &str) -> Option<FilterError> {
@@ -53,36 +53,31 @@ static TEXTS: [(&str, Option<FilterError>); 35] = [
     ("name<a|b", None),
 ];
 
-// Stops the test of a text that is taken or refused otherwise.
-fn expect_texts(rt: &impl Abort, alloc: Global, schema: &Schema) {
-    for (text, fault) in &TEXTS {
-        assert_eq!(rt; fault_of(alloc, schema, text), *fault, "of {text}");
-    }
-}
-
 #[test]
-fn texts_of_filters(rt: HostRuntime) -> Result<(), Fail> {
-    let schema = schema(rt.alloc())?;
-    expect_texts(&rt, rt.alloc(), &schema);
-    Ok(())
+fn texts_of_filters(rt: HostRuntime) {
+    let schema = schema(&rt, rt.alloc());
+    for (text, fault) in &TEXTS {
+        expect_same(&rt, &fault_of(rt.alloc(), &schema, text), fault, text);
+    }
 }
 
 // Parts that are repeated, with a separator between.
 fn repeated(
+    rt: &impl Abort,
     alloc: Global,
     front: &str,
     part: &str,
     separator: char,
     count: usize,
-) -> Result<String, AllocError> {
-    let mut text = String::from_str(alloc, front)?;
+) -> String {
+    let mut text = String::from_str(alloc, front).expect(rt, "memory");
     for i in 0..count {
         if i > 0 {
-            text.push(separator)?;
+            text.push(separator).expect(rt, "memory");
         }
-        text.push_str(part)?;
+        text.push_str(part).expect(rt, "memory");
     }
-    Ok(text)
+    text
 }
 
 // What stands in front of a part, the part, its separator, how often it stands there, and why that is no filter.
@@ -97,27 +92,16 @@ static COUNTS: [Counted; 6] = [
     ("name<", "1", '|', 65, None),
 ];
 
-// Why a text with so many parts is no filter.
-fn fault_at(
-    alloc: Global,
-    schema: &Schema,
-    case: &Counted,
-) -> Result<Option<FilterError>, AllocError> {
-    let text = repeated(alloc, case.0, case.1, case.2, case.3)?;
-    Ok(fault_of(alloc, schema, text.as_str()))
-}
-
-// Stops the test of a count that is taken or refused otherwise.
-fn expect_counts(rt: &impl Abort, alloc: Global, schema: &Schema) -> Result<(), Fail> {
-    for case in &COUNTS {
-        let fault = fault_at(alloc, schema, case)?;
-        assert_eq!(rt; fault, case.4, "of {} times {}", case.3, case.1);
-    }
-    Ok(())
+// Stops the test of a text with so many parts that is taken or refused otherwise.
+fn expect_count(rt: &impl Abort, alloc: Global, schema: &Schema, case: &Counted) {
+    let text = repeated(rt, alloc, case.0, case.1, case.2, case.3);
+    expect_same(rt, &fault_of(alloc, schema, text.as_str()), &case.4, case);
 }
 
 #[test]
-fn counts_of_terms_and_literals(rt: HostRuntime) -> Result<(), Fail> {
-    let schema = schema(rt.alloc())?;
-    expect_counts(&rt, rt.alloc(), &schema)
+fn counts_of_terms_and_literals(rt: HostRuntime) {
+    let schema = schema(&rt, rt.alloc());
+    for case in &COUNTS {
+        expect_count(&rt, rt.alloc(), &schema, case);
+    }
 }

@@ -1,8 +1,9 @@
 // Keys that filters take, and short keys between which there may be such.
-ghost use Rattle.std.specs.Prelude.{◌≡◌, [], ◌∷◌, IfOk};
+ghost use Rattle.std.specs.Prelude.{◌≡◌, [], ◌∷◌};
 ghost use Rattle.mesa_key.specs.declared.KeyType.TheVariants as types;
 ghost use Rattle.mesa_schema.specs.Columns.{kinds_of};
 
+use crate::expected::expect_same;
 use crate::places::{key, schema};
 use mesa_filter::Filter;
 use mesa_key::short;
@@ -10,7 +11,6 @@ use mesa_list::TryCopy;
 use mesa_schema::Schema;
 use std::alloc::Global;
 use std::process::Abort;
-use std::test::Fail;
 
 // A filter, a key's number and name, and whether the filter takes the key.
 type Taken = (&'static str, i64, &'static str, bool);
@@ -41,37 +41,28 @@ static KEYS: [Taken; 22] = [
 ];
 
 // A copy of a filter.
-fn filter(alloc: Global, schema: &Schema, text: &str) -> Result<Filter, Fail>
-    ensures { IfOk result (λ filter. filter.kinds ≡ kinds_of schema.now) }
+fn filter(rt: &impl Abort, alloc: Global, schema: &Schema, text: &str) -> Filter
+    ensures { result.kinds ≡ kinds_of schema.now }
 {
-    let filter = Filter::parse(alloc, schema, text.as_bytes())?;
-    Ok(filter.copy()?)
-}
-
-// Whether a filter takes the key of a number and a name.
-fn takes(alloc: Global, schema: &Schema, case: &Taken) -> Result<bool, Fail>
-    requires { kinds_of schema.now ≡ types.Int ∷ types.Text ∷ [] }
-{
-    let key = key(alloc, case.1, case.2.as_bytes())?;
-    let filter = filter(alloc, schema, case.0)?;
-    Ok(filter.matches(&key))
+    let filter = Filter::parse(alloc, schema, text.as_bytes()).expect(rt, "a filter");
+    filter.copy().expect(rt, "memory")
 }
 
 // Stops the test of a key that is taken or left otherwise.
-fn expect_taken(rt: &impl Abort, alloc: Global, schema: &Schema) -> Result<(), Fail>
+fn expect_taken(rt: &impl Abort, alloc: Global, schema: &Schema, case: &Taken)
     requires { kinds_of schema.now ≡ types.Int ∷ types.Text ∷ [] }
 {
-    for case in &KEYS {
-        let found = takes(alloc, schema, case)?;
-        assert_eq!(rt; found, case.3, "{} at {} {}", case.0, case.1, case.2);
-    }
-    Ok(())
+    let key = key(rt, alloc, case.1, case.2.as_bytes()).expect(rt, "memory");
+    let filter = filter(rt, alloc, schema, case.0);
+    expect_same(rt, &filter.matches(&key), &case.3, case);
 }
 
 #[test]
-fn keys_that_filters_take(rt: HostRuntime) -> Result<(), Fail> {
-    let schema = schema(rt.alloc())?;
-    expect_taken(&rt, rt.alloc(), &schema)
+fn keys_that_filters_take(rt: HostRuntime) {
+    let schema = schema(&rt, rt.alloc());
+    for case in &KEYS {
+        expect_taken(&rt, rt.alloc(), &schema, case);
+    }
 }
 
 // A filter, the lowest and the highest of some keys, and whether it may take a key between their short keys.
@@ -91,32 +82,23 @@ static BETWEEN: [Between; 10] = [
 ];
 
 // The short key of a number and a name.
-fn short_key(alloc: Global, number: i64, name: &str) -> Result<[u8; 16], Fail> {
-    Ok(short(&key(alloc, number, name.as_bytes())?))
+fn short_key(rt: &impl Abort, alloc: Global, number: i64, name: &str) -> [u8; 16] {
+    short(&key(rt, alloc, number, name.as_bytes()).expect(rt, "memory"))
 }
 
-// Whether a filter may take a key between two short keys that hold so many columns.
-fn may_hold(alloc: Global, schema: &Schema, case: &Between, columns: u8) -> Result<bool, Fail> {
-    let low = short_key(alloc, case.1.0, case.1.1)?;
-    let high = short_key(alloc, case.2.0, case.2.1)?;
-    let filter = Filter::parse(alloc, schema, case.0.as_bytes())?;
-    Ok(filter.may_meet(columns, &low, &high))
+// Stops the test of a case that is answered otherwise by short keys of two columns, or of none: those let everything through.
+fn expect_between(rt: &impl Abort, alloc: Global, schema: &Schema, case: &Between) {
+    let low = short_key(rt, alloc, case.1.0, case.1.1);
+    let high = short_key(rt, alloc, case.2.0, case.2.1);
+    let filter = Filter::parse(alloc, schema, case.0.as_bytes()).expect(rt, "a filter");
+    expect_same(rt, &filter.may_meet(2, &low, &high), &case.3, case);
+    expect_same(rt, &filter.may_meet(0, &low, &high), &true, case);
 }
 
-// Stops the test of a case that is answered otherwise by short keys of two columns, or of none.
-fn expect_between(rt: &impl Abort, alloc: Global, schema: &Schema) -> Result<(), Fail> {
-    for case in &BETWEEN {
-        let found = may_hold(alloc, schema, case, 2)?;
-        assert_eq!(rt; found, case.3, "{} from {} {}", case.0, case.1.0, case.1.1);
-        let found = may_hold(alloc, schema, case, 0)?;
-        assert_eq!(rt; found, true, "{} without columns", case.0);
-    }
-    Ok(())
-}
-
-// Short keys that hold no column let everything through.
 #[test]
-fn short_keys_that_may_hold_such(rt: HostRuntime) -> Result<(), Fail> {
-    let schema = schema(rt.alloc())?;
-    expect_between(&rt, rt.alloc(), &schema)
+fn short_keys_that_may_hold_such(rt: HostRuntime) {
+    let schema = schema(&rt, rt.alloc());
+    for case in &BETWEEN {
+        expect_between(&rt, rt.alloc(), &schema, case);
+    }
 }

@@ -6,57 +6,59 @@ ghost use Rattle.mesa_schema.specs.Columns.{kinds_of};
 ghost use Rattle.mesa_schema.specs.declared.columns.KeyColumn.{KeyColumn as Column};
 
 use mesa_key::{KeyText, KeyType, encode_int, encode_text, reads_back};
-use mesa_schema::{KeyColumn, Name, NameError, Schema, ValueColumn};
+use mesa_schema::{KeyColumn, Name, Schema, ValueColumn};
 use mesa_value::Agg;
-use std::alloc::Global;
-use std::test::Fail;
+use std::alloc::{AllocError, Global};
+use std::process::Abort;
 
-fn key_column(alloc: Global, name: &[u8], kind: KeyType) -> Result<KeyColumn, NameError>
-    ensures { IfOk result (λ column. column.kind ≡ kind) }
+fn name(rt: &impl Abort, alloc: Global, text: &[u8]) -> Name {
+    Name::read(alloc, text).expect(rt, "a name")
+}
+
+fn key_columns(rt: &impl Abort, alloc: Global) -> Vec<KeyColumn>
+    ensures { map (λ (c : Column). c.kind) result.items ≡ types.Int ∷ types.Text ∷ [] }
 {
-    let name = Name::read(alloc, name)?;
-    Ok(KeyColumn { name, kind })
+    let number = KeyColumn {
+        name: name(rt, alloc, b"k"),
+        kind: KeyType::Int,
+    };
+    let text = KeyColumn {
+        name: name(rt, alloc, b"name"),
+        kind: KeyType::Text,
+    };
+    vec![in alloc; number, text].expect(rt, "memory")
 }
 
-fn value_column(alloc: Global, name: &[u8], agg: Agg) -> Result<ValueColumn, NameError> {
-    let name = Name::read(alloc, name)?;
-    Ok(ValueColumn { name, agg })
-}
-
-fn key_columns(alloc: Global) -> Result<Vec<KeyColumn>, Fail>
-    ensures { IfOk result (λ columns. map (λ (c : Column). c.kind) columns.items ≡ types.Int ∷ types.Text ∷ []) }
-{
-    let number = key_column(alloc, b"k", KeyType::Int)?;
-    let name = key_column(alloc, b"name", KeyType::Text)?;
-    Ok(vec![in alloc; number, name]?)
-}
-
-fn value_columns(alloc: Global) -> Result<Vec<ValueColumn>, Fail> {
-    let sum = value_column(alloc, b"v", Agg::Sum)?;
-    let replace = value_column(alloc, b"r", Agg::Replace)?;
-    Ok(vec![in alloc; sum, replace]?)
+fn value_columns(rt: &impl Abort, alloc: Global) -> Vec<ValueColumn> {
+    let sum = ValueColumn {
+        name: name(rt, alloc, b"v"),
+        agg: Agg::Sum,
+    };
+    let replace = ValueColumn {
+        name: name(rt, alloc, b"r"),
+        agg: Agg::Replace,
+    };
+    vec![in alloc; sum, replace].expect(rt, "memory")
 }
 
 /// The key columns `k int` and `name text`, the value columns `v sum` and `r replace`.
-pub fn schema(alloc: Global) -> Result<Schema, Fail>
-    ensures { IfOk result (λ s. kinds_of s ≡ types.Int ∷ types.Text ∷ []) }
+pub fn schema(rt: &impl Abort, alloc: Global) -> Schema
+    ensures { kinds_of result ≡ types.Int ∷ types.Text ∷ [] }
 {
-    let keys = key_columns(alloc)?;
-    let values = value_columns(alloc)?;
+    let keys = key_columns(rt, alloc);
+    let values = value_columns(rt, alloc);
     match Schema::build(keys, values) {
-        Ok(schema) => Ok(schema),
-        Err(_) => Err("no schema")?,
+        Ok(schema) => schema,
+        Err(_) => panic!(rt; "no schema"),
     }
 }
 
 /// The bytes of a key.
-pub fn key(alloc: Global, number: i64, text: &[u8]) -> Result<Vec<u8>, Fail>
+pub fn key(rt: &impl Abort, alloc: Global, number: i64, text: &[u8]) -> Result<Vec<u8>, AllocError>
     ensures { IfOk result (λ key. IsTrue (is_spelling (types.Int ∷ types.Text ∷ []) key.items)) }
 {
     reads_back();
-    if !KeyText::allows(text) {
-        return Err("no text")?;
-    }
+    assert!(rt; KeyText::allows(text));
     let mut bytes = Vec::new(alloc);
     encode_int(number, &mut bytes)?;
     encode_text(text, &mut bytes)?;

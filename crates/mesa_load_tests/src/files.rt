@@ -1,11 +1,11 @@
 // Which files a batch gets.
-use crate::loads::{VIEW_OF_A, fault_of, prepared};
+use crate::expected::expect_same;
+use crate::loads::{VIEW_OF_A, expect_fault, prepared};
 use mesa_batch::BatchError;
 use mesa_disk::{Made, MemBench, MemMade};
 use mesa_tasks::{LoadError, MadeFile, MadeFiles, Prepared, PreparedPart};
 use std::alloc::{AllocError, Global};
 use std::process::Abort;
-use std::test::Fail;
 use std::thread::Threads;
 
 // The aggregate of a file's last value column.
@@ -83,26 +83,20 @@ fn push_parts(
 }
 
 // What is told of what was prepared.
-fn told(alloc: Global, prepared: &Prepared<MemMade>) -> Result<String, AllocError> {
+fn told(rt: &impl Abort, alloc: Global, prepared: &Prepared<MemMade>) -> String {
     let mut text = String::new(alloc);
-    push_parts(alloc, prepared, &mut text)?;
-    Ok(text)
+    push_parts(alloc, prepared, &mut text).expect(rt, "memory");
+    text
 }
 
 // The key column of the table's view, the rows of a load, and what is told of what is prepared of them.
 type Case = (Option<&'static [u8]>, &'static [u8], &'static str);
 
 // Stops the test of a load that is refused, or of which something else is told.
-fn expect<R: Abort + Threads + Sync>(
-    rt: &R,
-    alloc: Global,
-    bench: &mut MemBench,
-    case: &Case,
-) -> Result<(), Fail> {
-    let prepared = prepared(rt, alloc, bench, case.0, case.1)?.map_err(|_| "refused")?;
-    let text = told(alloc, &prepared)?;
-    assert_eq!(rt; text.as_str(), case.2);
-    Ok(())
+fn expect<R: Abort + Threads + Sync>(rt: &R, alloc: Global, bench: &mut MemBench, case: &Case) {
+    let prepared = prepared(rt, alloc, bench, case.0, case.1).expect(rt, "what is prepared");
+    let text = told(rt, alloc, &prepared);
+    expect_same(rt, &text.as_str(), &case.2, case);
 }
 
 static WITHOUT_VIEW: Case = (
@@ -118,16 +112,16 @@ static WITH_VIEW: Case = (
 );
 
 #[test]
-fn a_view_gets_files_once_it_is_there(rt: HostRuntime) -> Result<(), Fail> {
+fn a_view_gets_files_once_it_is_there(rt: HostRuntime) {
     let alloc = rt.alloc();
     let mut bench = MemBench::new(alloc, Vec::new(alloc));
-    expect(&rt, alloc, &mut bench, &WITHOUT_VIEW)?;
-    expect(&rt, alloc, &mut bench, &WITH_VIEW)
+    expect(&rt, alloc, &mut bench, &WITHOUT_VIEW);
+    expect(&rt, alloc, &mut bench, &WITH_VIEW);
 }
 
 // A bench of which no draft can be made.
-fn no_bench(alloc: Global) -> Result<MemBench, AllocError> {
-    Ok(MemBench::new(alloc, vec![in alloc; (0, 0)]?))
+fn no_bench(rt: &impl Abort, alloc: Global) -> MemBench {
+    MemBench::new(alloc, vec![in alloc; (0, 0)].expect(rt, "memory"))
 }
 
 static PAST_THE_BOUND: Case = (
@@ -137,17 +131,17 @@ static PAST_THE_BOUND: Case = (
 );
 
 #[test]
-fn a_batch_past_the_bound_opens_no_draft(rt: HostRuntime) -> Result<(), Fail> {
-    let mut bench = no_bench(rt.alloc())?;
-    expect(&rt, rt.alloc(), &mut bench, &PAST_THE_BOUND)
+fn a_batch_past_the_bound_opens_no_draft(rt: HostRuntime) {
+    let mut bench = no_bench(&rt, rt.alloc());
+    expect(&rt, rt.alloc(), &mut bench, &PAST_THE_BOUND);
 }
 
 static NO_ROWS: Case = (VIEW_OF_A, b"", "generation=7");
 
 #[test]
-fn a_load_without_rows_has_no_part(rt: HostRuntime) -> Result<(), Fail> {
-    let mut bench = no_bench(rt.alloc())?;
-    expect(&rt, rt.alloc(), &mut bench, &NO_ROWS)
+fn a_load_without_rows_has_no_part(rt: HostRuntime) {
+    let mut bench = no_bench(&rt, rt.alloc());
+    expect(&rt, rt.alloc(), &mut bench, &NO_ROWS);
 }
 
 // Loads that make no batch, and why.
@@ -162,21 +156,11 @@ static REFUSED: [(&[u8], BatchError); 2] = [
     (b"t;1;1;5 u;1;2;7", BatchError::NoTable { row: 2 }),
 ];
 
-// Stops the test of a load that is prepared, or refused otherwise.
-fn expect_refused<R: Abort + Threads + Sync>(
-    rt: &R,
-    alloc: Global,
-    bench: &mut MemBench,
-) -> Result<(), Fail> {
-    for (load, fault) in &REFUSED {
-        let refused = fault_of(rt, alloc, bench, None, load)?;
-        assert_eq!(rt; refused, Some(LoadError::Batch(*fault)));
-    }
-    Ok(())
-}
-
 #[test]
-fn rows_that_make_no_batch_are_refused(rt: HostRuntime) -> Result<(), Fail> {
-    let mut bench = no_bench(rt.alloc())?;
-    expect_refused(&rt, rt.alloc(), &mut bench)
+fn rows_that_make_no_batch_are_refused(rt: HostRuntime) {
+    let mut bench = no_bench(&rt, rt.alloc());
+    for (load, fault) in &REFUSED {
+        let wanted = Some(LoadError::Batch(*fault));
+        expect_fault(&rt, rt.alloc(), &mut bench, None, load, wanted);
+    }
 }

@@ -11,8 +11,8 @@ use mesa_span::Work;
 use mesa_tasks::{CompactError, NewDelta, Serials, Task, TaskView};
 use mesa_value::Agg;
 use std::alloc::{AllocError, Global};
+use std::process::Abort;
 use std::sync::Arc;
-use std::test::Fail;
 
 type Merged = Result<NewDelta<MemMade>, CompactError>;
 
@@ -40,17 +40,22 @@ fn no_files<R: FileReader + Drop>(
 
 // Merges two files of a table whose values are put together in this way.
 fn merge_two<R: FileReader + Drop>(
+    rt: &impl Abort,
     alloc: Global,
     bench: &mut MemBench,
     agg: Agg,
     older: Source<R>,
     newer: Source<R>,
-) -> Result<Merged, Fail> {
-    let table = Arc::new(alloc, table(alloc, agg)?)?;
+) -> Merged {
+    let table = Arc::new(alloc, table(rt, alloc, agg)).expect(rt, "memory");
+    let views = no_files(alloc, &table).expect(rt, "memory");
     let mut inputs = Vec::new(alloc);
-    inputs.push(input_of(alloc, older, &table)?)?;
-    inputs.push(input_of(alloc, newer, &table)?)?;
-    let views = no_files(alloc, &table)?;
+    inputs
+        .push(input_of(rt, alloc, older, &table))
+        .expect(rt, "memory");
+    inputs
+        .push(input_of(rt, alloc, newer, &table))
+        .expect(rt, "memory");
     let mut task = Task {
         table: 0,
         work: Work::Base { to: 1 },
@@ -61,18 +66,20 @@ fn merge_two<R: FileReader + Drop>(
         damage: None,
     };
     let mut ids = Serials::new(1, 2);
-    Ok(merge_task(alloc, bench, &mut ids, &mut task))
+    merge_task(alloc, bench, &mut ids, &mut task)
 }
 
 /// Merges two files through a bench of which these calls fail. In each this read fails, counted from 0.
 pub fn merged(
+    rt: &impl Abort,
     alloc: Global,
     two: &Two,
     calls: &[(u64, u64)],
     fails: Option<u64>,
-) -> Result<Merged, Fail> {
-    let older = source_of(alloc, FileId::of(1), two.agg, two.older, fails)?;
-    let newer = source_of(alloc, FileId::of(2), two.agg, two.newer, fails)?;
-    let mut bench = MemBench::new(alloc, Vec::from_slice(alloc, calls)?);
-    merge_two(alloc, &mut bench, two.agg, older, newer)
+) -> Merged {
+    let calls = Vec::from_slice(alloc, calls).expect(rt, "memory");
+    let mut bench = MemBench::new(alloc, calls);
+    let older = source_of(rt, alloc, FileId::of(1), two.agg, two.older, fails);
+    let newer = source_of(rt, alloc, FileId::of(2), two.agg, two.newer, fails);
+    merge_two(rt, alloc, &mut bench, two.agg, older, newer)
 }

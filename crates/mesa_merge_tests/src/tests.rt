@@ -1,4 +1,5 @@
 // What comes of merging two files.
+use crate::expected::expect_same;
 use crate::files::file_of;
 use crate::merging::{Two, merged};
 use mesa_delta::FileError;
@@ -7,7 +8,6 @@ use mesa_tasks::CompactError;
 use mesa_value::Agg;
 use std::alloc::Global;
 use std::process::Abort;
-use std::test::Fail;
 
 // Two files, and the rows that they merge to. Of a key the newest value stays or all are added up, and one with the
 // sum 0 stays too. The values 5, 6 and 4 come to the same whichever two are merged first.
@@ -40,28 +40,25 @@ static MERGES: [(Two<'static>, &[(i64, i64)]); 3] = [
 
 // Stops the test where the table's merged file, or that of the view of all its columns, isn't the file of these rows,
 // whose tail has the digests of its blocks.
-fn expect_rows(rt: &impl Abort, alloc: Global, two: &Two, rows: &[(i64, i64)]) -> Result<(), Fail> {
-    let (_, wanted) = file_of(alloc, FileId::of(3), two.agg, rows)?;
-    let Ok(delta) = merged(alloc, two, &[], None)? else {
-        return Err("not merged".into());
+fn expect_rows(rt: &impl Abort, alloc: Global, two: &Two, rows: &[(i64, i64)]) {
+    let (_, wanted) = file_of(rt, alloc, FileId::of(3), two.agg, rows);
+    let Ok(delta) = merged(rt, alloc, two, &[], None) else {
+        panic!(rt; "not merged");
     };
     let Some(files) = &delta.files else {
-        return Err("no file".into());
+        panic!(rt; "no file");
     };
-    assert_eq!(rt; files.file.file.digest, wanted.digest);
+    expect_same(rt, &files.file.file.digest, &wanted.digest, &rows);
     for view in &files.views {
-        assert_eq!(rt; view.file.file.digest, wanted.digest);
+        expect_same(rt, &view.file.file.digest, &wanted.digest, &rows);
     }
-    Ok(())
 }
 
 #[test]
-fn merges_in_version_order(rt: HostRuntime) -> Result<(), Fail> {
-    let alloc = rt.alloc();
+fn merges_in_version_order(rt: HostRuntime) {
     for (two, rows) in &MERGES {
-        expect_rows(&rt, alloc, two, rows)?;
+        expect_rows(&rt, rt.alloc(), two, rows);
     }
-    Ok(())
 }
 
 // Files that aren't merged: the sum of a key leaves its type, or the total of several keys' absolute values.
@@ -88,58 +85,71 @@ fn overflow() -> CompactError {
     }))
 }
 
+// Stops the test of two files that are merged, or not merged for another reason.
+fn expect_fault(
+    rt: &impl Abort,
+    alloc: Global,
+    two: &Two,
+    calls: &[(u64, u64)],
+    fails: Option<u64>,
+    wanted: Option<CompactError>,
+) {
+    let found = merged(rt, alloc, two, calls, fails).err();
+    expect_same(rt, &found, &wanted, &calls);
+}
+
 #[test]
-fn tells_a_sum_of_the_newest_file(rt: HostRuntime) -> Result<(), Fail> {
-    let alloc = rt.alloc();
+fn tells_a_sum_of_the_newest_file(rt: HostRuntime) {
     for two in &OVERFLOWS {
-        let found = merged(alloc, two, &[], None)?.err();
-        assert_eq!(rt; found, Some(overflow()));
+        expect_fault(&rt, rt.alloc(), two, &[], None, Some(overflow()));
     }
-    Ok(())
 }
 
 // Ten blocks of rows.
-fn ten_blocks(alloc: Global) -> Result<Vec<(i64, i64)>, Fail> {
-    let mut rows = Vec::with_capacity(alloc, 10240)?;
+fn ten_blocks(rt: &impl Abort, alloc: Global) -> Vec<(i64, i64)> {
+    let mut rows = Vec::new(alloc);
     for key in 0..10240 {
-        rows.push((key, 1))?;
+        rows.push((key, 1)).expect(rt, "memory");
     }
-    Ok(rows)
+    rows
 }
 
 // The rows aren't kept: where the first append fails, no fourth block was read of either file, whose read would fail.
 #[test]
-fn writes_as_it_reads(rt: HostRuntime) -> Result<(), Fail> {
-    let alloc = rt.alloc();
-    let rows = ten_blocks(alloc)?;
+fn writes_as_it_reads(rt: HostRuntime) {
+    let rows = ten_blocks(&rt, rt.alloc());
     let two = Two {
         agg: Agg::Sum,
         older: &rows,
         newer: &rows,
     };
-    let failed = merged(alloc, &two, &[(0, 1)], Some(4))?.err();
-    assert_eq!(rt; failed, Some(CompactError::Draft));
-    let unread = merged(alloc, &two, &[], Some(4))?.err();
-    assert_eq!(rt; unread, Some(CompactError::File(FileError::Read)));
-    let whole = merged(alloc, &two, &[], None)?.err();
-    assert_eq!(rt; whole, None);
-    Ok(())
+    expect_fault(
+        &rt,
+        rt.alloc(),
+        &two,
+        &[(0, 1)],
+        Some(4),
+        Some(CompactError::Draft),
+    );
+    let unread = CompactError::File(FileError::Read);
+    expect_fault(&rt, rt.alloc(), &two, &[], Some(4), Some(unread));
+    expect_fault(&rt, rt.alloc(), &two, &[], None, None);
 }
+
+static ONE_ROW_EACH: Two<'static> = Two {
+    agg: Agg::Sum,
+    older: &[(1, 2)],
+    newer: &[(1, 3)],
+};
 
 // Of the drafts of a table and its view the making, the appends of the block and of the tail, and the end.
 #[test]
-fn tells_each_failed_call_of_a_draft(rt: HostRuntime) -> Result<(), Fail> {
-    let alloc = rt.alloc();
-    let two = Two {
-        agg: Agg::Sum,
-        older: &[(1, 2)],
-        newer: &[(1, 3)],
-    };
+fn tells_each_failed_call_of_a_draft(rt: HostRuntime) {
     for draft in 0..2 {
         for call in 0..4 {
-            let failed = merged(alloc, &two, &[(draft, call)], None)?.err();
-            assert_eq!(rt; failed, Some(CompactError::Draft));
+            let calls = [(draft, call)];
+            let failed = Some(CompactError::Draft);
+            expect_fault(&rt, rt.alloc(), &ONE_ROW_EACH, &calls, None, failed);
         }
     }
-    Ok(())
 }

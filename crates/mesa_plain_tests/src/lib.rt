@@ -2,11 +2,11 @@
 #![tactic(auto)]
 
 #[cfg(test)]
+mod expected;
+#[cfg(test)]
 mod limits;
 #[cfg(test)]
 mod pins;
-#[cfg(test)]
-mod reading;
 #[cfg(test)]
 mod replies;
 #[cfg(test)]

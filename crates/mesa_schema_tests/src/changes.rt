@@ -1,12 +1,15 @@
 // Changes of a table, and rows of its epochs at present.
+use crate::columns::name;
+use crate::expected::expect_same;
 use crate::views::table;
 use mesa_key::{KeyText, KeyType, KeyValue};
 use mesa_list::Items;
-use mesa_schema::{Change, ChangeError, Evolving, KeyColumn, MAX_CHANGES, Name, Row, ValueColumn};
+use mesa_schema::{
+    Change, ChangeError, Evolving, KeyColumn, Lift, MAX_CHANGES, Name, Row, ValueColumn,
+};
 use mesa_value::Agg;
 use std::alloc::Global;
 use std::process::Abort;
-use std::test::Fail;
 
 // What becomes of a column.
 #[derive(Clone, Copy)]
@@ -51,7 +54,7 @@ fn change_of(alloc: Global, name: Name, made: Made) -> Change {
 }
 
 // The name of a refusal; nothing where there is none.
-fn told(answer: Result<(), ChangeError>) -> &'static str {
+fn told(answer: &Result<(), ChangeError>) -> &'static str {
     match answer {
         Ok(()) => "",
         Err(ChangeError::NameTwice) => "name_twice",
@@ -65,23 +68,18 @@ fn told(answer: Result<(), ChangeError>) -> &'static str {
     }
 }
 
-fn answer(table: &mut Evolving, change: Change) -> &'static str {
-    told(table.change(change))
-}
-
 // Makes a change, and gives why it is refused.
-fn changed(alloc: Global, table: &mut Evolving, step: &Step) -> Result<&'static str, Fail> {
-    let name = Name::read(alloc, step.0.as_bytes())?;
-    Ok(answer(table, change_of(alloc, name, step.1)))
+fn changed(rt: &impl Abort, alloc: Global, table: &mut Evolving, step: &Step) -> &'static str {
+    let name = name(rt, alloc, step.0.as_bytes());
+    told(&table.change(change_of(alloc, name, step.1)))
 }
 
 // Makes one change after the other, and stops the test where one is answered otherwise.
-fn walk(rt: &impl Abort, alloc: Global, table: &mut Evolving, steps: &[Step]) -> Result<(), Fail> {
+fn walk(rt: &impl Abort, alloc: Global, table: &mut Evolving, steps: &[Step]) {
     for step in steps {
-        let found = changed(alloc, table, step)?;
-        assert_eq!(rt; found, step.2, "changing {}", step.0);
+        let found = changed(rt, alloc, table, step);
+        expect_same(rt, &found, &step.2, &step.0);
     }
-    Ok(())
 }
 
 static COMES_AND_GOES: [Step; 2] = [("w", Made::Value(Agg::Max, 3), ""), ("w", Made::Gone, "")];
@@ -93,28 +91,20 @@ static FULL: [Step; 3] = [
     ("w", Made::Gone, "no_column"),
 ];
 
-// Makes 1,000 changes of a table.
-fn change_often(rt: &impl Abort, alloc: Global, table: &mut Evolving) -> Result<(), Fail> {
-    for _ in 0..MAX_CHANGES / 2 {
-        walk(rt, alloc, table, &COMES_AND_GOES)?;
-    }
-    assert_eq!(rt; table.epoch(), 1000);
-    Ok(())
-}
-
 // Makes 1,000 changes of a table, and tries more.
-fn change_too_often(rt: &impl Abort, alloc: Global, table: &mut Evolving) -> Result<(), Fail> {
-    change_often(rt, alloc, table)?;
-    walk(rt, alloc, table, &FULL)?;
-    assert_eq!(rt; table.epoch(), 1000);
-    Ok(())
+fn change_too_often(rt: &impl Abort, alloc: Global, table: &mut Evolving) {
+    for _ in 0..MAX_CHANGES / 2 {
+        walk(rt, alloc, table, &COMES_AND_GOES);
+    }
+    expect_same(rt, &table.epoch(), &1000, &"the epoch");
+    walk(rt, alloc, table, &FULL);
+    expect_same(rt, &table.epoch(), &1000, &"the epoch of a full table");
 }
 
 #[test]
-fn the_1001st_change_is_refused(rt: HostRuntime) -> Result<(), Fail> {
-    let alloc = rt.alloc();
-    let mut table = table(alloc)?;
-    change_too_often(&rt, alloc, &mut table)
+fn the_1001st_change_is_refused(rt: HostRuntime) {
+    let mut table = table(&rt, rt.alloc());
+    change_too_often(&rt, rt.alloc(), &mut table);
 }
 
 static BROKEN: [Step; 5] = [
@@ -125,26 +115,22 @@ static BROKEN: [Step; 5] = [
     ("v", Made::Gone, "last_value"),
 ];
 
-// Tries changes that break a rule, and one that breaks none.
-fn break_rules(rt: &impl Abort, alloc: Global, table: &mut Evolving) -> Result<(), Fail> {
-    walk(rt, alloc, table, &BROKEN)?;
-    assert_eq!(rt; table.epoch(), 1);
-    Ok(())
-}
-
+// Changes that break a rule, and one that breaks none.
 #[test]
-fn changes_that_break_a_rule(rt: HostRuntime) -> Result<(), Fail> {
-    let alloc = rt.alloc();
-    let mut table = table(alloc)?;
-    break_rules(&rt, alloc, &mut table)
+fn changes_that_break_a_rule(rt: HostRuntime) {
+    let mut table = table(&rt, rt.alloc());
+    walk(&rt, rt.alloc(), &mut table, &BROKEN);
+    expect_same(&rt, &table.epoch(), &1, &"the epoch");
 }
 
 // The row `1, "x"` with the values 5 and 7, of the table's first columns.
-fn first_row(alloc: Global) -> Result<Row, Fail> {
-    Ok(Row {
-        key: Items::from_bytes(alloc, b"\x80\0\0\0\0\0\0\x01x\0")?,
-        values: Items::from_vec([5, 7].as_slice().to_vec(alloc)?),
-    })
+fn first_row(rt: &impl Abort, alloc: Global) -> Row {
+    let values = [5, 7].as_slice().to_vec(alloc).expect(rt, "memory");
+    let key = Items::from_bytes(alloc, b"\x80\0\0\0\0\0\0\x01x\0").expect(rt, "memory");
+    Row {
+        key,
+        values: Items::from_vec(values),
+    }
 }
 
 static LINKED: [Step; 4] = [
@@ -158,26 +144,23 @@ static VALUES: [i64; 2] = [7, 9];
 
 static KEY: &[u8] = b"\x80\0\0\0\0\0\0\x01x\0\0\x7f\xff\xff\xff\xff\xff\xff\xff";
 
-// Stops the test of a row that isn't the first row at present.
-fn expect_present(rt: &impl Abort, row: &Row) {
-    assert_eq!(rt; row.values.as_slice(), VALUES.as_slice());
-    assert_eq!(rt; row.key.as_slice(), KEY);
-}
-
-// Makes the first row one of the present, twice.
-fn lift(rt: &impl Abort, alloc: Global, table: &Evolving) -> Result<(), Fail> {
-    let lift = table.lift_from(0)?;
-    for _ in 0..2 {
-        let row = lift.row(first_row(alloc)?)?;
-        expect_present(rt, &row);
-    }
-    Ok(())
+// Makes the first row one of the present, and stops the test where that is another.
+fn lift_once(rt: &impl Abort, alloc: Global, lift: &Lift) {
+    let row = lift.row(first_row(rt, alloc)).expect(rt, "a row");
+    expect_same(
+        rt,
+        &row.values.as_slice(),
+        &VALUES.as_slice(),
+        &"the values",
+    );
+    expect_same(rt, &row.key.as_slice(), &KEY, &"the key");
 }
 
 #[test]
-fn a_row_of_the_first_epoch_at_present(rt: HostRuntime) -> Result<(), Fail> {
-    let alloc = rt.alloc();
-    let mut table = table(alloc)?;
-    walk(&rt, alloc, &mut table, &LINKED)?;
-    lift(&rt, alloc, &table)
+fn a_row_of_the_first_epoch_at_present(rt: HostRuntime) {
+    let mut table = table(&rt, rt.alloc());
+    walk(&rt, rt.alloc(), &mut table, &LINKED);
+    let lift = table.lift_from(0).expect(&rt, "a lift");
+    lift_once(&rt, rt.alloc(), &lift);
+    lift_once(&rt, rt.alloc(), &lift);
 }

@@ -3,40 +3,48 @@ use mesa_key::KeyType;
 use mesa_schema::{KeyColumn, Name, ValueColumn};
 use mesa_value::Agg;
 use std::alloc::Global;
-use std::test::Fail;
+use std::process::Abort;
+
+/// A name from its text.
+pub fn name(rt: &impl Abort, alloc: Global, text: &[u8]) -> Name {
+    Name::read(alloc, text).expect(rt, "a name")
+}
 
 /// The names that stand between semicolons; none in an empty text.
-pub fn names(alloc: Global, text: &str) -> Result<Vec<Name>, Fail> {
+pub fn names(rt: &impl Abort, alloc: Global, text: &str) -> Vec<Name> {
     let mut names = Vec::new(alloc);
-    if text.is_empty() {
-        return Ok(names);
+    if !text.is_empty() {
+        for part in text.as_bytes().split(|b| *b == b';') {
+            names.push(name(rt, alloc, part)).expect(rt, "memory");
+        }
     }
-    for part in text.as_bytes().split(|b| *b == b';') {
-        names.push(Name::read(alloc, part)?)?;
-    }
-    Ok(names)
+    names
+}
+
+fn key(name: Name) -> KeyColumn {
+    let kind = KeyType::Text;
+    KeyColumn { name, kind }
 }
 
 /// Text columns of these names.
-pub fn keys(alloc: Global, text: &str) -> Result<Vec<KeyColumn>, Fail> {
+pub fn keys(rt: &impl Abort, alloc: Global, text: &str) -> Vec<KeyColumn> {
     let mut columns = Vec::new(alloc);
-    for name in names(alloc, text)? {
-        columns.push(KeyColumn {
-            name,
-            kind: KeyType::Text,
-        })?;
+    for name in names(rt, alloc, text) {
+        columns.push(key(name)).expect(rt, "memory");
     }
-    Ok(columns)
+    columns
+}
+
+fn value(name: Name) -> ValueColumn {
+    let agg = Agg::Sum;
+    ValueColumn { name, agg }
 }
 
 /// Sum columns of these names.
-pub fn values(alloc: Global, text: &str) -> Result<Vec<ValueColumn>, Fail> {
+pub fn values(rt: &impl Abort, alloc: Global, text: &str) -> Vec<ValueColumn> {
     let mut columns = Vec::new(alloc);
-    for name in names(alloc, text)? {
-        columns.push(ValueColumn {
-            name,
-            agg: Agg::Sum,
-        })?;
+    for name in names(rt, alloc, text) {
+        columns.push(value(name)).expect(rt, "memory");
     }
-    Ok(columns)
+    columns
 }

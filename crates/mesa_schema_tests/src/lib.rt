@@ -8,6 +8,8 @@ mod changes;
 #[cfg(test)]
 mod columns;
 #[cfg(test)]
+mod expected;
+#[cfg(test)]
 mod schemas;
 #[cfg(test)]
 mod views;

@@ -1,8 +1,9 @@
 // Names, and columns that make a schema.
 use crate::columns::{keys, values};
+use crate::expected::expect_same;
 use mesa_schema::{KeyColumn, Name, Schema, SchemaError, ValueColumn};
 use std::alloc::Global;
-use std::test::Fail;
+use std::process::Abort;
 
 // Bytes, and whether they are a name.
 static NAMES: [(&[u8], bool); 12] = [
@@ -23,7 +24,7 @@ static NAMES: [(&[u8], bool); 12] = [
 #[test]
 fn bytes_that_are_names(rt: HostRuntime) {
     for (bytes, is_name) in &NAMES {
-        assert_eq!(rt; Name::allows(bytes), *is_name, "of {bytes:?}");
+        expect_same(&rt, &Name::allows(bytes), is_name, bytes);
     }
 }
 
@@ -68,17 +69,16 @@ fn fault_of(keys: Vec<KeyColumn>, values: Vec<ValueColumn>) -> &'static str {
     }
 }
 
-fn built(alloc: Global, case: &Columns) -> Result<&'static str, Fail> {
-    let keys = keys(alloc, case.0)?;
-    let values = values(alloc, case.1)?;
-    Ok(fault_of(keys, values))
+// Stops the test of columns that make a schema or none otherwise.
+fn expect_columns(rt: &impl Abort, alloc: Global, case: &Columns) {
+    let keys = keys(rt, alloc, case.0);
+    let values = values(rt, alloc, case.1);
+    expect_same(rt, &fault_of(keys, values), &case.2, case);
 }
 
 #[test]
-fn columns_that_make_schemas(rt: HostRuntime) -> Result<(), Fail> {
+fn columns_that_make_schemas(rt: HostRuntime) {
     for case in &COLUMNS {
-        let found = built(rt.alloc(), case)?;
-        assert_eq!(rt; found, case.2, "{} with {}", case.0, case.1);
+        expect_columns(&rt, rt.alloc(), case);
     }
-    Ok(())
 }

@@ -1,44 +1,51 @@
 // Views of a table, and changes of it.
-ghost use Rattle.std.specs.Prelude.{◌≡◌, [], IfOk};
+ghost use Rattle.std.specs.Prelude.{◌≡◌, []};
 
-use crate::columns::names;
+use crate::columns::{name, names};
+use crate::expected::expect_same;
 use mesa_key::KeyType;
 use mesa_list::TryCopy;
 use mesa_schema::{Change, Evolving, KeyColumn, Name, Schema, ValueColumn, ViewError};
 use mesa_value::Agg;
 use std::alloc::Global;
-use std::test::Fail;
+use std::process::Abort;
+
+fn key_columns(rt: &impl Abort, alloc: Global) -> Vec<KeyColumn> {
+    let number = KeyColumn {
+        name: name(rt, alloc, b"k"),
+        kind: KeyType::Int,
+    };
+    let text = KeyColumn {
+        name: name(rt, alloc, b"c"),
+        kind: KeyType::Text,
+    };
+    vec![in alloc; number, text].expect(rt, "memory")
+}
+
+fn value_columns(rt: &impl Abort, alloc: Global) -> Vec<ValueColumn> {
+    let sum = ValueColumn {
+        name: name(rt, alloc, b"v"),
+        agg: Agg::Sum,
+    };
+    let replace = ValueColumn {
+        name: name(rt, alloc, b"r"),
+        agg: Agg::Replace,
+    };
+    vec![in alloc; sum, replace].expect(rt, "memory")
+}
 
 /// The table `k int;c text,v sum;r replace`.
-pub fn table(alloc: Global) -> Result<Evolving, Fail>
-    ensures { IfOk result (λ table. table.views ≡ []) }
+pub fn table(rt: &impl Abort, alloc: Global) -> Evolving
+    ensures { result.views ≡ [] }
 {
-    let mut keys = Vec::new(alloc);
-    keys.push(KeyColumn {
-        name: Name::read(alloc, b"k")?,
-        kind: KeyType::Int,
-    })?;
-    keys.push(KeyColumn {
-        name: Name::read(alloc, b"c")?,
-        kind: KeyType::Text,
-    })?;
-    let mut values = Vec::new(alloc);
-    values.push(ValueColumn {
-        name: Name::read(alloc, b"v")?,
-        agg: Agg::Sum,
-    })?;
-    values.push(ValueColumn {
-        name: Name::read(alloc, b"r")?,
-        agg: Agg::Replace,
-    })?;
-    match Schema::build(keys, values) {
-        Ok(schema) => Ok(Evolving::new(alloc, schema)),
-        Err(_) => Err("no schema")?,
-    }
+    let keys = key_columns(rt, alloc);
+    let values = value_columns(rt, alloc);
+    let schema = Schema::build(keys, values).ok();
+    Evolving::new(alloc, schema.expect(rt, "a schema"))
 }
 
 // The name of a refusal; nothing where there is none.
-fn told(answer: Result<(), ViewError>) -> &'static str {
+fn told(answer: &Result<(), ViewError>) -> &'static str {
     match answer {
         Ok(()) => "",
         Err(ViewError::NoColumn) => "no_column",
@@ -75,140 +82,106 @@ fn fault_of(case: &Choice) -> &'static str {
 
 // What is wrong with the key columns of a view.
 fn key_fault(table: &Evolving, keys: &[Name]) -> &'static str {
-    told(table.check_view_keys(keys))
+    told(&table.check_view_keys(keys))
 }
 
 // What is wrong with the value columns of a view.
 fn value_fault(table: &Evolving, values: &[Name]) -> &'static str {
-    told(table.check_view_values(values))
+    told(&table.check_view_values(values))
 }
 
 // What is wrong with the key columns and with the value columns of a view, and whether a table allows it.
 type Seen = (&'static str, &'static str, bool);
 
 // What a table says of a view `w` of these columns.
-fn seen_by(alloc: Global, table: &Evolving, case: &Choice) -> Result<Seen, Fail> {
-    let name = Name::read(alloc, b"w")?;
-    let keys = names(alloc, case.0)?;
-    let values = names(alloc, case.1)?;
-    let allowed = table.allows_view(&name, &keys, &values);
-    Ok((
+fn seen(rt: &impl Abort, alloc: Global, table: &Evolving, case: &Choice) -> Seen {
+    let view = name(rt, alloc, b"w");
+    let keys = names(rt, alloc, case.0);
+    let values = names(rt, alloc, case.1);
+    let allowed = table.allows_view(&view, &keys, &values);
+    (
         key_fault(table, &keys),
         value_fault(table, &values),
         allowed,
-    ))
-}
-
-fn seen(alloc: Global, case: &Choice) -> Result<Seen, Fail> {
-    let table = table(alloc)?;
-    seen_by(alloc, &table, case)
-}
-
-// Adds a view, and gives what is wrong with it.
-fn adding(table: &mut Evolving, name: Name, keys: Vec<Name>, values: Vec<Name>) -> &'static str
-    requires { table.old.views ≡ [] }
-{
-    told(table.add_view(name, keys, values))
+    )
 }
 
 // Adds a view `w` of these columns to a table, and gives what is wrong with it.
-fn add(alloc: Global, table: &mut Evolving, keys: &str, values: &str) -> Result<&'static str, Fail>
+fn add(
+    rt: &impl Abort,
+    alloc: Global,
+    table: &mut Evolving,
+    keys: &str,
+    values: &str,
+) -> &'static str
     requires { table.old.views ≡ [] }
 {
-    let name = Name::read(alloc, b"w")?;
-    let keys = names(alloc, keys)?;
-    let values = names(alloc, values)?;
-    Ok(adding(table, name, keys, values))
+    let view = name(rt, alloc, b"w");
+    let keys = names(rt, alloc, keys);
+    let values = names(rt, alloc, values);
+    told(&table.add_view(view, keys, values))
 }
 
-fn added(alloc: Global, case: &Choice) -> Result<&'static str, Fail> {
-    let mut table = table(alloc)?;
-    add(alloc, &mut table, case.0, case.1)
+// Stops the test of a view that is seen or added otherwise.
+fn expect_view(rt: &impl Abort, alloc: Global, case: &Choice) {
+    let mut table = table(rt, alloc);
+    let fault = fault_of(case);
+    let want = (case.2, case.3, fault.is_empty());
+    expect_same(rt, &seen(rt, alloc, &table, case), &want, case);
+    let found = add(rt, alloc, &mut table, case.0, case.1);
+    expect_same(rt, &found, &fault, case);
 }
 
 #[test]
-fn views_of_a_table(rt: HostRuntime) -> Result<(), Fail> {
-    let alloc = rt.alloc();
+fn views_of_a_table(rt: HostRuntime) {
     for case in &CHOICES {
-        let fault = fault_of(case);
-        let want = (case.2, case.3, fault.is_empty());
-        assert_eq!(rt; seen(alloc, case)?, want, "{} with {}", case.0, case.1);
-        assert_eq!(rt; added(alloc, case)?, fault, "{} with {}", case.0, case.1);
+        expect_view(&rt, rt.alloc(), case);
     }
-    Ok(())
 }
 
 // The table with a view `w` of these columns.
-fn viewed(alloc: Global, keys: &str, values: &str) -> Result<Evolving, Fail> {
-    let mut table = table(alloc)?;
-    if add(alloc, &mut table, keys, values)?.is_empty() {
-        Ok(table)
-    } else {
-        Err("no view")?
-    }
+fn viewed(rt: &impl Abort, alloc: Global, keys: &str, values: &str) -> Evolving {
+    let mut table = table(rt, alloc);
+    let fault = add(rt, alloc, &mut table, keys, values);
+    assert!(rt; fault.is_empty());
+    table
 }
 
 // Whether a table's one view is `w`, with two key columns and a value column.
-fn has_view(table: &Evolving) -> Result<bool, Fail> {
-    if table.views() != 1 {
-        return Ok(false);
-    }
-    let schema = table.view_schema(0)?;
+fn has_view(rt: &impl Abort, table: &Evolving) -> bool {
+    assert!(rt; table.views() == 1);
+    let schema = table.view_schema(0).expect(rt, "memory");
     let counts = (schema.keys().len(), schema.values().len());
-    Ok(table.view_name(0).bytes() == b"w".as_slice() && counts == (2, 1))
+    table.view_name(0).bytes() == b"w".as_slice() && counts == (2, 1)
 }
 
 // Whether a table is still as it was made.
-fn is_unchanged(table: &Evolving) -> Result<bool, Fail> {
-    let first = table.schema_at(0)?;
-    Ok(table.epoch() == 0 && first.values().len() == 2)
+fn is_unchanged(rt: &impl Abort, table: &Evolving) -> bool {
+    let first = table.schema_at(0).expect(rt, "memory");
+    table.epoch() == 0 && first.values().len() == 2
 }
 
-// Whether a table has the view, and its own columns as they were.
-fn shows(table: &Evolving) -> Result<bool, Fail> {
-    Ok(has_view(table)? && is_unchanged(table)?)
+// A view of two key columns and a value column, and the table's own columns as they were.
+#[test]
+fn a_view_has_its_columns_in_its_order(rt: HostRuntime) {
+    let table = viewed(&rt, rt.alloc(), "c;k", "v");
+    let copy = table.copy().expect(&rt, "memory");
+    assert!(rt; has_view(&rt, &copy));
+    assert!(rt; is_unchanged(&rt, &copy));
 }
 
-fn copy_shows(table: &Evolving) -> Result<bool, Fail> {
-    let copy = table.copy()?;
-    shows(&copy)
-}
-
-// Whether a view of two key columns and a value column is there once it was added.
-fn view_is_there(alloc: Global) -> Result<bool, Fail> {
-    let table = viewed(alloc, "c;k", "v")?;
-    copy_shows(&table)
+// Stops the test of a table that lets a value column of this name go otherwise.
+fn expect_going(rt: &impl Abort, alloc: Global, table: &Evolving, column: &str, goes: bool) {
+    let name = name(rt, alloc, column.as_bytes());
+    let found = table.allows(&Change::DropValue { name });
+    expect_same(rt, &found, &goes, &column);
 }
 
 #[test]
-fn a_view_has_its_columns_in_its_order(rt: HostRuntime) -> Result<(), Fail> {
-    assert!(rt; view_is_there(rt.alloc())?);
-    Ok(())
-}
-
-// Whether a table lets a value column of this name go.
-fn lets_go(alloc: Global, table: &Evolving, name: &str) -> Result<bool, Fail> {
-    let name = Name::read(alloc, name.as_bytes())?;
-    Ok(table.allows(&Change::DropValue { name }))
-}
-
-// Whether the table without a view lets a value column of this name go.
-fn goes_without_view(alloc: Global, name: &str) -> Result<bool, Fail> {
-    let table = table(alloc)?;
-    lets_go(alloc, &table, name)
-}
-
-// Whether the table with a view of the value column `v` lets a value column of this name go.
-fn goes_with_view(alloc: Global, name: &str) -> Result<bool, Fail> {
-    let table = viewed(alloc, "c", "v")?;
-    lets_go(alloc, &table, name)
-}
-
-#[test]
-fn a_views_column_may_not_go(rt: HostRuntime) -> Result<(), Fail> {
-    let alloc = rt.alloc();
-    assert!(rt; goes_without_view(alloc, "v")?);
-    assert!(rt; !goes_without_view(alloc, "z")?);
-    assert!(rt; !goes_with_view(alloc, "v")?);
-    Ok(())
+fn a_views_column_may_not_go(rt: HostRuntime) {
+    let own = table(&rt, rt.alloc());
+    expect_going(&rt, rt.alloc(), &own, "v", true);
+    expect_going(&rt, rt.alloc(), &own, "z", false);
+    let viewed = viewed(&rt, rt.alloc(), "c", "v");
+    expect_going(&rt, rt.alloc(), &viewed, "v", false);
 }

@@ -1,5 +1,5 @@
 // Head lines.
-use crate::texts::text_of;
+use crate::expected::expect_same;
 use mesa_file::{Damage, FileId, Seen};
 use mesa_filter::VersionWord;
 use mesa_list::Items;
@@ -8,36 +8,27 @@ use mesa_print::{HEAD_ROOM, head};
 use mesa_schema::Name;
 use std::alloc::Global;
 use std::process::Abort;
-use std::test::Fail;
+use std::str;
 
-// The head line of a reply to the fifth command of the prologue, at position 8.
-fn line_of(alloc: Global, reply: &Reply) -> Result<String, Fail> {
+// Stops the test of a reply to the fifth command of the prologue, at position 8, that has another head line.
+fn expect(rt: &impl Abort, reply: &Reply, want: &'static str) {
     let mut line = [0; HEAD_ROOM];
     let end = head(0, 5, 8, reply, &mut line);
-    text_of(alloc, &line[..end])
-}
-
-// Stops the test of a reply that has another head line.
-fn expect(rt: &impl Abort, alloc: Global, reply: &Reply, want: &str) -> Result<(), Fail> {
-    let line = line_of(alloc, reply)?;
-    assert_eq!(rt; line.as_str(), want);
-    Ok(())
+    expect_same(rt, &str::from_utf8(&line[..end]), &Ok(want), &"a head line");
 }
 
 // A reply and its head line.
 type Line = (Reply, &'static str);
 
 // The same of each reply.
-fn expect_all(rt: &impl Abort, alloc: Global, lines: &[Line]) -> Result<(), Fail> {
+fn expect_all(rt: &impl Abort, lines: &[Line]) {
     for (reply, want) in lines {
-        expect(rt, alloc, reply, want)?;
+        expect(rt, reply, want);
     }
-    Ok(())
 }
 
-// The name of these bytes.
-fn name(alloc: Global, text: &str) -> Result<Name, Fail> {
-    Ok(Name::read(alloc, text.as_bytes())?)
+fn name(rt: &impl Abort, alloc: Global, text: &str) -> Name {
+    Name::read(alloc, text.as_bytes()).expect(rt, "a name")
 }
 
 fn replies() -> [Line; 9] {
@@ -81,21 +72,15 @@ fn replies() -> [Line; 9] {
 }
 
 #[test]
-fn prints_replies(rt: HostRuntime) -> Result<(), Fail> {
-    expect_all(&rt, rt.alloc(), &replies())
-}
-
-fn spans(alloc: Global) -> Result<Items<(u32, u32)>, Fail> {
-    let mut spans = Items::new(alloc);
-    spans.push((0, 3))?;
-    spans.push((4, 4))?;
-    Ok(spans)
+fn prints_replies(rt: HostRuntime) {
+    expect_all(&rt, &replies());
 }
 
 #[test]
-fn prints_spans(rt: HostRuntime) -> Result<(), Fail> {
-    let reply = Reply::Spans(spans(rt.alloc())?);
-    expect(&rt, rt.alloc(), &reply, "0.5@8 spans 2\n")
+fn prints_spans(rt: HostRuntime) {
+    let spans = vec![in rt.alloc(); (0, 3), (4, 4)].expect(&rt, "memory");
+    let reply = Reply::Spans(Items::from_vec(spans));
+    expect(&rt, &reply, "0.5@8 spans 2\n");
 }
 
 // Replies that name a table or a view, by their names.
@@ -111,17 +96,16 @@ fn named(table: Name, view: Name, altered: Name) -> [Line; 3] {
     ]
 }
 
-fn named_replies(alloc: Global) -> Result<[Line; 3], Fail> {
-    let table = name(alloc, "a")?;
-    let view = name(alloc, "c")?;
-    let altered = name(alloc, "a")?;
-    Ok(named(table, view, altered))
+fn named_replies(rt: &impl Abort, alloc: Global) -> [Line; 3] {
+    let table = name(rt, alloc, "a");
+    let view = name(rt, alloc, "c");
+    let altered = name(rt, alloc, "a");
+    named(table, view, altered)
 }
 
 #[test]
-fn prints_named_replies(rt: HostRuntime) -> Result<(), Fail> {
-    let replies = named_replies(rt.alloc())?;
-    expect_all(&rt, rt.alloc(), &replies)
+fn prints_named_replies(rt: HostRuntime) {
+    expect_all(&rt, &named_replies(&rt, rt.alloc()));
 }
 
 // Refusals, and their head lines.
@@ -186,19 +170,18 @@ fn refusals() -> [Line; 10] {
 }
 
 #[test]
-fn prints_refusals(rt: HostRuntime) -> Result<(), Fail> {
-    expect_all(&rt, rt.alloc(), &refusals())
+fn prints_refusals(rt: HostRuntime) {
+    expect_all(&rt, &refusals());
 }
 
-fn sum_bound(alloc: Global) -> Result<Reply, Fail> {
-    let table = name(alloc, "t")?;
-    let column = name(alloc, "v")?;
-    Ok(Reply::Refused(Refusal::SumBound { table, column }))
+fn sum_bound(rt: &impl Abort, alloc: Global) -> Reply {
+    let table = name(rt, alloc, "t");
+    let column = name(rt, alloc, "v");
+    Reply::Refused(Refusal::SumBound { table, column })
 }
 
 #[test]
-fn prints_a_refusal_with_names(rt: HostRuntime) -> Result<(), Fail> {
-    let reply = sum_bound(rt.alloc())?;
-    let want = "0.5@8 refused sum_bound table=t column=v\n";
-    expect(&rt, rt.alloc(), &reply, want)
+fn prints_a_refusal_with_names(rt: HostRuntime) {
+    let reply = sum_bound(&rt, rt.alloc());
+    expect(&rt, &reply, "0.5@8 refused sum_bound table=t column=v\n");
 }

@@ -3,12 +3,12 @@
 #![tactic(auto)]
 
 #[cfg(test)]
+mod expected;
+#[cfg(test)]
 mod heads;
 #[cfg(test)]
 mod pages;
 #[cfg(test)]
 mod scripts;
-#[cfg(test)]
-mod texts;
 #[cfg(test)]
 mod words;

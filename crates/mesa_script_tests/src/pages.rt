@@ -5,7 +5,7 @@ ghost use Rattle.mesa_key.specs.Spelling.{IsKey, is_spelling};
 ghost use Rattle.mesa_key.specs.Text.{is_key_text};
 ghost use Rattle.mesa_schema.specs.declared.rows.Row.{Row as AnyRow};
 
-use crate::texts::text_of;
+use crate::expected::expect_same;
 use mesa_key::{Key, KeyBytes, KeyText, KeyType, KeyValue, encode, reads_back};
 use mesa_list::Items;
 use mesa_model::Page;
@@ -13,7 +13,7 @@ use mesa_print::render;
 use mesa_schema::{Row, RowList};
 use std::alloc::{AllocError, Global};
 use std::process::Abort;
-use std::test::Fail;
+use std::str;
 
 // The types of a number and a text.
 const TYPES: [KeyType; 2] = [KeyType::Int, KeyType::Text];
@@ -62,14 +62,13 @@ fn rows(alloc: Global) -> Result<Option<RowList>, AllocError>
 type Printed = (&'static [u8], u32, bool, &'static str);
 
 // Stops the test of a page that is printed otherwise.
-fn expect(rt: &impl Abort, alloc: Global, page: &Page, want: &Printed) -> Result<(), Fail>
+fn expect(rt: &impl Abort, alloc: Global, page: &Page, want: &Printed)
     requires { AllByRecursion (λ (row : AnyRow). IsTrue (is_spelling (KeyType.Int ∷ KeyType.Text ∷ []) row.key)) page.now.rows }
 {
-    let printed = render(alloc, page, &TYPES, want.0)?;
-    assert_eq!(rt; (printed.rows, printed.more), (want.1, want.2));
-    let lines = text_of(alloc, printed.body.as_slice())?;
-    assert_eq!(rt; lines.as_str(), want.3);
-    Ok(())
+    let printed = render(alloc, page, &TYPES, want.0).expect(rt, "memory");
+    assert!(rt; printed.rows == want.1 && printed.more == want.2);
+    let lines = str::from_utf8(printed.body.as_slice());
+    expect_same(rt, &lines, &Ok(want.3), &"the lines of a page");
 }
 
 static TWO_ROWS: Printed = (
@@ -82,27 +81,27 @@ static TWO_ROWS: Printed = (
 static LAST: &[u8] = b"\x7f\xff\xff\xff\xff\xff\xff\xfba,\"b\"\0";
 
 #[test]
-fn prints_pages(rt: HostRuntime) -> Result<(), Fail> {
+fn prints_pages(rt: HostRuntime) {
     let alloc = rt.alloc();
-    let resume = Items::from_bytes(alloc, LAST)?;
-    let rows = rows(alloc)?.ok_or("not a text")?;
+    let resume = Items::from_bytes(alloc, LAST).expect(&rt, "memory");
+    let rows = rows(alloc).expect(&rt, "memory");
     let page = Page {
         version: 1,
-        rows,
+        rows: rows.expect(&rt, "texts"),
         resume: Some(resume),
     };
-    expect(&rt, alloc, &page, &TWO_ROWS)
+    expect(&rt, alloc, &page, &TWO_ROWS);
 }
 
 static NO_ROWS: Printed = (b"a/0/0/day;country/", 0, false, "");
 
 #[test]
-fn prints_empty_pages(rt: HostRuntime) -> Result<(), Fail> {
+fn prints_empty_pages(rt: HostRuntime) {
     let alloc = rt.alloc();
     let page = Page {
         version: 0,
         rows: Items::new(alloc),
         resume: None,
     };
-    expect(&rt, alloc, &page, &NO_ROWS)
+    expect(&rt, alloc, &page, &NO_ROWS);
 }

@@ -1,5 +1,5 @@
 // Scripts that are read, and scripts that are refused.
-use crate::texts::text_of;
+use crate::expected::expect_same;
 use itoa::Buffer;
 use mesa_batch::{LoadRows, RowView};
 use mesa_filter::{QueryWords, VersionWord};
@@ -9,7 +9,7 @@ use mesa_schema::Words;
 use mesa_script::{Reason, ScriptError};
 use std::alloc::{AllocError, Global};
 use std::process::Abort;
-use std::test::Fail;
+use std::str;
 
 // Lists of bytes, each behind a comma.
 fn push_all(out: &mut Vec<u8>, lists: &[Words]) -> Result<(), AllocError> {
@@ -140,13 +140,6 @@ fn push_command(out: &mut Vec<u8>, command: &Command) -> Result<(), AllocError> 
     }
 }
 
-// The words of a command, without its columns' types.
-fn outline(alloc: Global, command: &Command) -> Result<String, Fail> {
-    let mut out = Vec::new(alloc);
-    push_command(&mut out, command)?;
-    text_of(alloc, &out)
-}
-
 static TEXT: &str =
     "lease,007\ntable,a,day int;country text,clicks sum;low min\nrow,a,1,US,10,2\nrow,b,2,\"U,K\",-3\ncommit\ncommit\nview,c,a,country,clicks\nquery,c,007,country=US,-,clicks\nquery,c\nexpire,1\nsession\nalter,a,add_value,high max,-5\nalter,a,drop_value,low\nalter,a,add_key,hour int,x\nquery,c,pin:07,,,,10000,c/0/1/country/555300\nquery,c,latest,,,,01\nexplain,c\nexplain,a,3\npin\npin,4294967295\nrelease,0\nwork,a\n";
 
@@ -171,34 +164,33 @@ static OUTLINES: [&str; 18] = [
     "work a",
 ];
 
-// Stops the test of commands with other words.
-fn expect(
-    rt: &impl Abort,
-    alloc: Global,
-    commands: &[Command],
-    outlines: &[&str],
-) -> Result<(), Fail> {
-    assert_eq!(rt; commands.len(), outlines.len());
+// Stops the test of a command with other words, its columns' types apart.
+fn expect_outline(rt: &impl Abort, alloc: Global, command: &Command, want: &'static str) {
+    let mut out = Vec::new(alloc);
+    push_command(&mut out, command).expect(rt, "memory");
+    expect_same(rt, &str::from_utf8(&out), &Ok(want), &"a command");
+}
+
+// The same of each command.
+fn expect(rt: &impl Abort, alloc: Global, commands: &[Command], outlines: &[&'static str]) {
+    assert!(rt; commands.len() == outlines.len());
     for (command, want) in commands.iter().zip(outlines) {
-        let words = outline(alloc, command)?;
-        assert_eq!(rt; words.as_str(), *want);
+        expect_outline(rt, alloc, command, want);
     }
-    Ok(())
+}
+
+fn bytes_of(rt: &impl Abort, alloc: Global, text: &str) -> Vec<u8> {
+    text.as_bytes().to_vec(alloc).expect(rt, "memory")
 }
 
 #[test]
-fn reads_a_script(rt: HostRuntime) -> Result<(), Fail> {
+fn reads_a_script(rt: HostRuntime) {
     let alloc = rt.alloc();
-    let script = parse(alloc, TEXT.as_bytes().to_vec(alloc)?)?;
+    let script = parse(alloc, bytes_of(&rt, alloc, TEXT)).expect(&rt, "a script");
     let sessions = script.sessions.as_slice();
-    assert_eq!(rt; (script.lease, sessions.len()), (7, 2));
-    expect(&rt, alloc, sessions[0].as_slice(), &OUTLINES[..7])?;
-    expect(&rt, alloc, sessions[1].as_slice(), &OUTLINES[7..])
-}
-
-// Why a text is refused, if it is.
-fn refusal(alloc: Global, text: &str) -> Result<Option<ScriptError>, Fail> {
-    Ok(parse(alloc, text.as_bytes().to_vec(alloc)?).err())
+    assert!(rt; script.lease == 7 && sessions.len() == 2);
+    expect(&rt, alloc, sessions[0].as_slice(), &OUTLINES[..7]);
+    expect(&rt, alloc, sessions[1].as_slice(), &OUTLINES[7..]);
 }
 
 // A script, its first bad record, and what is wrong with it.
@@ -239,56 +231,91 @@ static BAD: [(&str, u64, Reason); 34] = [
     ("expire,4294967295\nexpire,+1\n", 2, Reason::Number),
 ];
 
+// Stops the test of a script that is taken, or refused otherwise.
+fn expect_bad(rt: &impl Abort, alloc: Global, text: &str, place: u64, reason: Reason) {
+    let found = parse(alloc, bytes_of(rt, alloc, text)).err();
+    let wanted = Some(ScriptError::BadRecord { place, reason });
+    expect_same(rt, &found, &wanted, &text);
+}
+
 #[test]
-fn tells_the_first_bad_record(rt: HostRuntime) -> Result<(), Fail> {
+fn tells_the_first_bad_record(rt: HostRuntime) {
     for (text, place, reason) in &BAD {
-        let refused = refusal(rt.alloc(), text)?;
-        let want = ScriptError::BadRecord {
-            place: *place,
-            reason: *reason,
-        };
-        assert_eq!(rt; refused, Some(want), "at {text}");
+        expect_bad(&rt, rt.alloc(), text, *place, *reason);
     }
-    Ok(())
 }
 
-// A record so many times, and some records behind it.
-fn repeated(alloc: Global, record: &[u8], count: u32, end: &[u8]) -> Result<Vec<u8>, AllocError> {
+// A record so many times, some records behind it, and how many sessions the script has that they are.
+struct Counted {
+    record: &'static [u8],
+    count: u32,
+    end: &'static [u8],
+    sessions: Result<usize, ScriptError>,
+}
+
+static COMMANDS: [Counted; 2] = [
+    Counted {
+        record: b"commit\n",
+        count: 200_000,
+        end: b"session\n",
+        sessions: Ok(2),
+    },
+    Counted {
+        record: b"commit\n",
+        count: 200_000,
+        end: b"session\nrow,t,1,5\ncommit\n",
+        sessions: Err(ScriptError::TooManyCommands { place: 200_003 }),
+    },
+];
+
+static SESSIONS: [Counted; 3] = [
+    Counted {
+        record: b"session\n",
+        count: 7,
+        end: b"pin\n",
+        sessions: Ok(8),
+    },
+    Counted {
+        record: b"session\n",
+        count: 7,
+        end: b"pin\nsession\n",
+        sessions: Err(ScriptError::TooManySessions { place: 9 }),
+    },
+    Counted {
+        record: b"session\n",
+        count: 8,
+        end: b"session,1\n",
+        sessions: Err(ScriptError::TooManySessions { place: 8 }),
+    },
+];
+
+// The text of a script.
+fn repeated(rt: &impl Abort, alloc: Global, case: &Counted) -> Vec<u8> {
     let mut text = Vec::new(alloc);
-    for _ in 0..count {
-        text.extend_from_slice(record)?;
+    for _ in 0..case.count {
+        text.extend_from_slice(case.record).expect(rt, "memory");
     }
-    text.extend_from_slice(end)?;
-    Ok(text)
+    text.extend_from_slice(case.end).expect(rt, "memory");
+    text
 }
 
-// How many sessions a script has.
-fn sessions(alloc: Global, text: Vec<u8>) -> Result<usize, ScriptError> {
-    let script = parse(alloc, text)?;
-    Ok(script.sessions.len())
-}
-
-#[test]
-fn counts_commands(rt: HostRuntime) -> Result<(), Fail> {
-    let alloc = rt.alloc();
-    let most = repeated(alloc, b"commit\n", 200_000, b"session\n")?;
-    assert_eq!(rt; sessions(alloc, most), Ok(2));
-    let more = repeated(alloc, b"commit\n", 200_000, b"session\nrow,t,1,5\ncommit\n")?;
-    let want = ScriptError::TooManyCommands { place: 200_003 };
-    assert_eq!(rt; sessions(alloc, more), Err(want));
-    Ok(())
+// Stops the test of a script that has another count of sessions, or is refused otherwise.
+fn expect_sessions(rt: &impl Abort, alloc: Global, case: &Counted) {
+    let text = repeated(rt, alloc, case);
+    let found = parse(alloc, text).map(|script| script.sessions.len());
+    expect_same(rt, &found, &case.sessions, &case.end);
 }
 
 #[test]
-fn counts_sessions(rt: HostRuntime) -> Result<(), Fail> {
-    let alloc = rt.alloc();
-    let most = repeated(alloc, b"session\n", 7, b"pin\n")?;
-    assert_eq!(rt; sessions(alloc, most), Ok(8));
-    let more = repeated(alloc, b"session\n", 7, b"pin\nsession\n")?;
-    let want = ScriptError::TooManySessions { place: 9 };
-    assert_eq!(rt; sessions(alloc, more), Err(want));
-    let behind = repeated(alloc, b"session\n", 8, b"session,1\n")?;
-    let want = ScriptError::TooManySessions { place: 8 };
-    assert_eq!(rt; sessions(alloc, behind), Err(want));
-    Ok(())
+fn counts_commands(rt: HostRuntime) {
+    for case in &COMMANDS {
+        expect_sessions(&rt, rt.alloc(), case);
+    }
+}
+
+#[test]
+fn counts_sessions(rt: HostRuntime) {
+    for case in &SESSIONS {
+        expect_sessions(&rt, rt.alloc(), case);
+    }
 }

@@ -1,8 +1,8 @@
 // The words that the program is called with, and the script that a seed gives.
-use crate::texts::text_of;
+use crate::expected::expect_same;
 use mesa_generate::generate;
 use mesa_words::{Form, read_form};
-use std::test::Fail;
+use std::str;
 
 // Words, and their form if they have one.
 static WORDS: [(&[&str], Option<Form>); 16] = [
@@ -37,20 +37,18 @@ static WORDS: [(&[&str], Option<Form>); 16] = [
 ];
 
 #[test]
-fn reads_words(rt: HostRuntime) -> Result<(), Fail> {
+fn reads_words(rt: HostRuntime) {
     for (words, form) in &WORDS {
-        assert_eq!(rt; read_form(rt.alloc(), words)?, *form, "at {words:?}");
+        let found = read_form(rt.alloc(), words).expect(&rt, "memory");
+        expect_same(&rt, &found, form, words);
     }
-    Ok(())
 }
 
 static SEED_ONE: &str =
     "table,facts,day int;site int,clicks sum;low min;last replace\nview,by_site,facts,site,clicks;low\nrow,facts,0,20,94,305,0\nrow,facts,0,49,8,819,0\nrow,facts,0,62,97,472,0\nrow,facts,0,55,-66,836,0\ncommit\nwork,facts\nquery,facts,latest,,-,clicks;low\nquery,by_site,latest,site<16,,,8\nquery,facts,latest,day=0&site>=48,,,4\n";
 
 #[test]
-fn generates_a_script(rt: HostRuntime) -> Result<(), Fail> {
-    let alloc = rt.alloc();
-    let script = text_of(alloc, &generate(alloc, 1, 1)?)?;
-    assert_eq!(rt; script.as_str(), SEED_ONE);
-    Ok(())
+fn generates_a_script(rt: HostRuntime) {
+    let script = generate(rt.alloc(), 1, 1).expect(&rt, "memory");
+    expect_same(&rt, &str::from_utf8(&script), &Ok(SEED_ONE), &"seed 1");
 }

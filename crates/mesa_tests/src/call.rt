@@ -4,7 +4,7 @@ use mesa_disk::{MemBench, MemDisk};
 use mesa_io::{MemSink, MemSource};
 use mesa_model::Entry;
 use mesa_shell::{Done, mesa};
-use std::alloc::{AllocError, Global};
+use std::alloc::Global;
 use std::process::Abort;
 use std::sync::Wait;
 use std::thread::Threads;
@@ -80,33 +80,38 @@ pub fn empty_disk(alloc: Global) -> MemDisk {
 
 // A bench for each of eight sessions; these calls on the first one's drafts fail.
 fn benches<'a>(
+    rt: &impl Abort,
     alloc: Global,
     meeting: &'a Meeting,
     fails: &[(u64, u64)],
-) -> Result<Vec<MetBench<'a>>, AllocError> {
+) -> Vec<MetBench<'a>> {
     let mut benches = Vec::new(alloc);
     for session in 0..8u16 {
         let fails = if session == 0 { fails } else { &[] };
-        let bench = MemBench::new(alloc, fails.to_vec(alloc)?);
-        benches.push(MetBench::new(bench, meeting, session))?;
+        let fails = fails.to_vec(alloc).expect(rt, "memory");
+        let bench = MetBench::new(MemBench::new(alloc, fails), meeting, session);
+        benches.push(bench).expect(rt, "memory");
     }
-    Ok(benches)
+    benches
 }
 
-fn source_of(alloc: Global, case: &Case<'_>) -> Result<MemSource, AllocError> {
-    let fails = case.source_fails.to_vec(alloc)?;
-    Ok(MemSource::new(case.script.to_vec(alloc)?, fails))
+fn source_of(rt: &impl Abort, alloc: Global, case: &Case<'_>) -> MemSource {
+    let script = case.script.to_vec(alloc).expect(rt, "memory");
+    let fails = case.source_fails.to_vec(alloc).expect(rt, "memory");
+    MemSource::new(script, fails)
 }
 
-fn sink_of(alloc: Global, case: &Case<'_>) -> Result<MemSink, AllocError> {
-    Ok(MemSink::new(alloc, case.sink_fails.to_vec(alloc)?))
+fn sink_of(rt: &impl Abort, alloc: Global, case: &Case<'_>) -> MemSink {
+    let fails = case.sink_fails.to_vec(alloc).expect(rt, "memory");
+    MemSink::new(alloc, fails)
 }
 
 // What is left of an ended call.
 fn left_of(
+    rt: &impl Abort,
     alloc: Global,
     done: Done<MemSink, MetDisk<'_, MemDisk>, MetBench<'_>>,
-) -> Result<Left, AllocError> {
+) -> Left {
     let Done {
         status,
         out,
@@ -114,43 +119,40 @@ fn left_of(
         benches: _benches,
         history,
     } = done;
-    let text = out.bytes().to_vec(alloc)?;
-    Ok(Left {
+    let text = out.bytes().to_vec(alloc).expect(rt, "memory");
+    let disk = disk.into_disk();
+    Left {
         status,
         text,
         history,
-        disk: disk.into_disk(),
-    })
+        disk,
+    }
 }
 
-// Calls the program, whose sessions come by a meeting, with its streams and benches.
-fn call_with<'a, R: Abort + Threads + Wait + Sync>(
-    rt: &R,
-    alloc: Global,
-    words: &[&str],
-    mut source: MemSource,
-    sink: MemSink,
-    disk: MetDisk<'a, MemDisk>,
-    benches: Vec<MetBench<'a>>,
-    meeting: &Meeting,
-) -> Result<Left, AllocError> {
-    assert!(rt; benches.len() >= 8, "too few benches");
-    let done = mesa(rt, alloc, words, &mut source, sink, disk, benches, meeting);
-    left_of(alloc, done)
-}
-
+// Calls the program, whose sessions come by a meeting.
 fn call_meeting<R: Abort + Threads + Wait + Sync>(
     rt: &R,
     alloc: Global,
     disk: MemDisk,
     case: &Case<'_>,
     meeting: &Meeting,
-) -> Result<Left, AllocError> {
-    let source = source_of(alloc, case)?;
-    let sink = sink_of(alloc, case)?;
-    let benches = benches(alloc, meeting, case.draft_fails)?;
+) -> Left {
+    let mut source = source_of(rt, alloc, case);
+    let sink = sink_of(rt, alloc, case);
+    let benches = benches(rt, alloc, meeting, case.draft_fails);
+    assert!(rt; benches.len() >= 8, "too few benches");
     let disk = MetDisk::new(disk, meeting);
-    call_with(rt, alloc, case.words, source, sink, disk, benches, meeting)
+    let done = mesa(
+        rt,
+        alloc,
+        case.words,
+        &mut source,
+        sink,
+        disk,
+        benches,
+        meeting,
+    );
+    left_of(rt, alloc, done)
 }
 
 /// Calls the program over a disk.
@@ -159,17 +161,13 @@ pub fn call_over<R: Abort + Threads + Wait + Sync>(
     alloc: Global,
     disk: MemDisk,
     case: &Case<'_>,
-) -> Result<Left, AllocError> {
+) -> Left {
     let meeting = Meeting::new(case.holds);
     call_meeting(rt, alloc, disk, case, &meeting)
 }
 
 /// Runs a script over an empty disk.
-pub fn run<R: Abort + Threads + Wait + Sync>(
-    rt: &R,
-    alloc: Global,
-    script: &str,
-) -> Result<Left, AllocError> {
+pub fn run<R: Abort + Threads + Wait + Sync>(rt: &R, alloc: Global, script: &str) -> Left {
     let case = script_run(script.as_bytes());
     call_over(rt, alloc, empty_disk(alloc), &case)
 }

@@ -1,5 +1,6 @@
 // Tables of calls, and of what they leave.
 use crate::call::{Case, Left, call_over, empty_disk, run};
+use crate::expected::expect_same;
 use crate::stores::shown::{are_files, shown, spelled};
 use crate::texts::{Part, whole};
 use mesa_disk::{FileId, MemDisk};
@@ -7,7 +8,6 @@ use std::alloc::Global;
 use std::process::Abort;
 use std::str;
 use std::sync::Wait;
-use std::test::Fail;
 use std::thread::Threads;
 
 fn expect_turns(rt: &impl Abort, case: &Case<'_>, left: &Left) {
@@ -16,30 +16,22 @@ fn expect_turns(rt: &impl Abort, case: &Case<'_>, left: &Left) {
     assert!(rt; are_same, "the turns of {}: {turns}", case.name);
 }
 
-fn expect_files(rt: &impl Abort, case: &Case<'_>, disk: &mut MemDisk) -> Result<(), Fail> {
+fn expect_files(rt: &impl Abort, case: &Case<'_>, disk: &mut MemDisk) {
     if let Some(files) = case.files {
-        assert!(rt; are_files(disk, files)?, "the files of {}", case.name);
+        assert!(rt; are_files(rt, disk, files), "the files of {}", case.name);
     }
-    Ok(())
 }
 
-fn expect_store(
-    rt: &impl Abort,
-    alloc: Global,
-    case: &Case<'_>,
-    disk: &mut MemDisk,
-) -> Result<(), Fail> {
-    if let Some(left) = case.left {
-        let store = shown(alloc, disk)?;
-        assert_eq!(rt; store.as_str(), left, "the store behind {}", case.name);
-    }
-    Ok(())
+/// Stops the test where a disk holds another store.
+pub fn expect_store(rt: &impl Abort, alloc: Global, disk: &mut MemDisk, store: &str, name: &str) {
+    let left = shown(rt, alloc, disk);
+    expect_same(rt, &left.as_str(), &store, &name);
 }
 
 /// Stops the test of a call that printed another text or ended with another status.
 pub fn expect_text(rt: &impl Abort, name: &str, left: &Left, status: u8, text: &str) {
     let printed = str::from_utf8(&left.text).unwrap_or("no text");
-    assert_eq!(rt; (left.status, printed), (status, text), "{name}");
+    expect_same(rt, &(left.status, printed), &(status, text), &name);
 }
 
 /// Stops the test of a case over a disk whose call leaves something else; gives back the disk.
@@ -48,14 +40,15 @@ pub fn expect_over<R: Abort + Threads + Wait + Sync>(
     alloc: Global,
     disk: MemDisk,
     case: &Case<'_>,
-) -> Result<MemDisk, Fail> {
-    let left = call_over(rt, alloc, disk, case)?;
+) -> MemDisk {
+    let mut left = call_over(rt, alloc, disk, case);
     expect_text(rt, case.name, &left, case.status, case.text);
     expect_turns(rt, case, &left);
-    let Left { mut disk, .. } = left;
-    expect_files(rt, case, &mut disk)?;
-    expect_store(rt, alloc, case, &mut disk)?;
-    Ok(disk)
+    expect_files(rt, case, &mut left.disk);
+    if let Some(store) = case.left {
+        expect_store(rt, alloc, &mut left.disk, store, case.name);
+    }
+    left.disk
 }
 
 /// The same over the case's own store.
@@ -63,8 +56,8 @@ pub fn expect_case<R: Abort + Threads + Wait + Sync>(
     rt: &R,
     alloc: Global,
     case: &Case<'_>,
-) -> Result<MemDisk, Fail> {
-    let mut disk = spelled(rt, alloc, case.store, &[])?;
+) -> MemDisk {
+    let mut disk = spelled(rt, alloc, case.store, &[]);
     if let Some((file, nth)) = case.read_fails {
         disk.spoil_read(FileId::of(file), nth);
     }
@@ -72,28 +65,18 @@ pub fn expect_case<R: Abort + Threads + Wait + Sync>(
 }
 
 /// The same of each case.
-pub fn expect_cases<R: Abort + Threads + Wait + Sync>(
-    rt: &R,
-    alloc: Global,
-    cases: &[Case<'_>],
-) -> Result<(), Fail> {
+pub fn expect_cases<R: Abort + Threads + Wait + Sync>(rt: &R, alloc: Global, cases: &[Case<'_>]) {
     for case in cases {
-        let _disk = expect_case(rt, alloc, case)?;
+        let _disk = expect_case(rt, alloc, case);
     }
-    Ok(())
 }
 
 /// The same of one case after the other over one disk, which is empty at first.
-pub fn expect_in_turn<R: Abort + Threads + Wait + Sync>(
-    rt: &R,
-    alloc: Global,
-    cases: &[Case<'_>],
-) -> Result<(), Fail> {
+pub fn expect_in_turn<R: Abort + Threads + Wait + Sync>(rt: &R, alloc: Global, cases: &[Case<'_>]) {
     let mut disk = empty_disk(alloc);
     for case in cases {
-        disk = expect_over(rt, alloc, disk, case)?;
+        disk = expect_over(rt, alloc, disk, case);
     }
-    Ok(())
 }
 
 /// A script by templates, and what its run over an empty store prints.
@@ -104,16 +87,11 @@ pub struct LongCase {
     pub text: &'static [Part],
 }
 
-fn expect_long_case<R: Abort + Threads + Wait + Sync>(
-    rt: &R,
-    alloc: Global,
-    case: &LongCase,
-) -> Result<(), Fail> {
-    let script = whole(alloc, case.script)?;
-    let text = whole(alloc, case.text)?;
-    let left = run(rt, alloc, script.as_str())?;
+fn expect_long_case<R: Abort + Threads + Wait + Sync>(rt: &R, alloc: Global, case: &LongCase) {
+    let script = whole(rt, alloc, case.script);
+    let text = whole(rt, alloc, case.text);
+    let left = run(rt, alloc, script.as_str());
     expect_text(rt, case.name, &left, case.status, text.as_str());
-    Ok(())
 }
 
 /// Stops the test of a long case whose run prints something else.
@@ -121,9 +99,8 @@ pub fn expect_long_cases<R: Abort + Threads + Wait + Sync>(
     rt: &R,
     alloc: Global,
     cases: &[LongCase],
-) -> Result<(), Fail> {
+) {
     for case in cases {
-        expect_long_case(rt, alloc, case)?;
+        expect_long_case(rt, alloc, case);
     }
-    Ok(())
 }

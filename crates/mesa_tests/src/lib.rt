@@ -8,6 +8,8 @@ mod cases;
 #[cfg(test)]
 mod devices;
 #[cfg(test)]
+mod expected;
+#[cfg(test)]
 mod rows;
 #[cfg(test)]
 mod sessions;

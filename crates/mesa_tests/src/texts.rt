@@ -1,6 +1,6 @@
 // Long scripts and long texts, by templates.
-use std::alloc::{AllocError, Global};
-use std::test::Fail;
+use std::alloc::Global;
+use std::process::Abort;
 
 /// A part of a long text.
 pub enum Part {
@@ -14,24 +14,23 @@ pub enum Part {
 }
 
 // Adds the number that a template names.
-fn push_number(text: &mut String, name: &str, numbers: &[u32]) -> Result<(), Fail> {
-    let place: usize = name.parse()?;
-    let number = numbers.get(place).ok_or("no such number")?;
-    Ok(write!(text, "{number}")?)
+fn push_number(rt: &impl Abort, text: &mut String, name: &str, numbers: &[u32]) {
+    let place = name.parse::<usize>().expect(rt, "a place");
+    let number = numbers.get(place).expect(rt, "a number");
+    write!(text, "{number}").expect(rt, "memory");
 }
 
 /// Adds a template, in place of whose `{0}`, `{1}`, .. these numbers stand.
-pub fn push_filled(text: &mut String, template: &str, numbers: &[u32]) -> Result<(), Fail> {
+pub fn push_filled(rt: &impl Abort, text: &mut String, template: &str, numbers: &[u32]) {
     let mut is_name = false;
     for piece in template.split(['{', '}']) {
         if is_name {
-            push_number(text, piece, numbers)?;
+            push_number(rt, text, piece, numbers);
         } else {
-            text.push_str(piece)?;
+            text.push_str(piece).expect(rt, "memory");
         }
         is_name = !is_name;
     }
-    Ok(())
 }
 
 // A number so many times, and so much more.
@@ -40,41 +39,43 @@ fn scaled(number: u32, (times, more): (u32, u32)) -> u32 {
 }
 
 fn push_lines(
+    rt: &impl Abort,
     text: &mut String,
     from: u32,
     to: u32,
     line: &str,
     places: &[(u32, u32); 3],
-) -> Result<(), Fail> {
+) {
     for number in from..to {
         let numbers = [
             scaled(number, places[0]),
             scaled(number, places[1]),
             scaled(number, places[2]),
         ];
-        push_filled(text, line, &numbers)?;
+        push_filled(rt, text, line, &numbers);
     }
-    Ok(())
 }
 
-fn push_times(text: &mut String, count: u32, words: &str) -> Result<(), AllocError> {
+// Adds some words so many times.
+fn push_times(rt: &impl Abort, text: &mut String, count: u32, words: &str) {
     for _time in 0..count {
-        text.push_str(words)?;
+        text.push_str(words).expect(rt, "memory");
     }
-    Ok(())
+}
+
+fn push_part(rt: &impl Abort, text: &mut String, part: &Part) {
+    match part {
+        Part::Spelled(words) => push_times(rt, text, 1, words),
+        Part::Times(count, words) => push_times(rt, text, *count, words),
+        Part::Lines(from, to, line, places) => push_lines(rt, text, *from, *to, line, places),
+    }
 }
 
 /// The text of some parts.
-pub fn whole(alloc: Global, parts: &[Part]) -> Result<String, Fail> {
+pub fn whole(rt: &impl Abort, alloc: Global, parts: &[Part]) -> String {
     let mut text = String::new(alloc);
     for part in parts {
-        match part {
-            Part::Spelled(words) => text.push_str(words)?,
-            Part::Times(count, words) => push_times(&mut text, *count, words)?,
-            Part::Lines(from, to, line, places) => {
-                push_lines(&mut text, *from, *to, line, places)?;
-            }
-        }
+        push_part(rt, &mut text, part);
     }
-    Ok(text)
+    text
 }

@@ -3,11 +3,10 @@ use crate::call::{Case, PLAIN, call_over, empty_disk, run};
 use crate::cases::{expect_cases, expect_text};
 use crate::sessions::replay::expect_replayed;
 use mesa_generate::generate;
-use std::alloc::{AllocError, Global};
+use std::alloc::Global;
 use std::process::Abort;
 use std::str;
 use std::sync::Wait;
-use std::test::Fail;
 use std::thread::Threads;
 
 const USAGE: &str = "mesa: usage: mesa run | mesa check | mesa gen SEED VERSIONS\n";
@@ -85,8 +84,8 @@ static CASES: [Case<'static>; 9] = [
 ];
 
 #[test]
-fn words_of_a_seed(rt: HostRuntime) -> Result<(), Fail> {
-    expect_cases(&rt, rt.alloc(), &CASES)
+fn words_of_a_seed(rt: HostRuntime) {
+    expect_cases(&rt, rt.alloc(), &CASES);
 }
 
 static LONG: Case<'static> = Case {
@@ -94,54 +93,28 @@ static LONG: Case<'static> = Case {
     ..GEN
 };
 
-fn expect_printed<R: Abort + Threads + Wait + Sync>(
-    rt: &R,
-    alloc: Global,
-    text: &str,
-) -> Result<(), AllocError> {
-    let left = call_over(rt, alloc, empty_disk(alloc), &LONG)?;
-    expect_text(rt, "400 versions of seed 7", &left, 0, text);
-    Ok(())
-}
-
-// Stops the test where `gen` prints anything but its line and these blocks, in each of two calls.
-fn expect_twice<R: Abort + Threads + Wait + Sync>(
-    rt: &R,
-    alloc: Global,
-    blocks: &str,
-) -> Result<(), Fail> {
-    let text = format!(in alloc; "gen 7 400\n0.819@{blocks}")?;
-    expect_printed(rt, alloc, text.as_str())?;
-    Ok(expect_printed(rt, alloc, text.as_str())?)
+// Stops the test where `gen` prints anything but its line and these blocks.
+fn expect_printed<R: Abort + Threads + Wait + Sync>(rt: &R, alloc: Global, blocks: &str) {
+    let text = format!(in alloc; "gen 7 400\n0.819@{blocks}").expect(rt, "memory");
+    let left = call_over(rt, alloc, empty_disk(alloc), &LONG);
+    expect_text(rt, "400 versions of seed 7", &left, 0, text.as_str());
 }
 
 // Stops the test where the printed text of the script isn't what the plain warehouse prints, of works but their form, or
-// `gen` prints anything but its last three blocks. Two commands make the tables, each version has two, each twenty-fifth
-// one more, and the last three are queries.
-fn expect_blocks<R: Abort + Threads + Wait + Sync>(
-    rt: &R,
-    alloc: Global,
-    script: &str,
-    text: &[u8],
-) -> Result<(), Fail> {
-    expect_replayed(rt, alloc, script, text)?;
-    let all = str::from_utf8(text).ok().ok_or("no text")?;
-    let (_before, blocks) = all.split_once("\n0.819@").ok_or("no block 819")?;
-    expect_twice(rt, alloc, blocks)
-}
-
-fn expect_generated<R: Abort + Threads + Wait + Sync>(
-    rt: &R,
-    alloc: Global,
-    script: &str,
-) -> Result<(), Fail> {
-    let left = run(rt, alloc, script)?;
-    expect_blocks(rt, alloc, script, &left.text)
+// `gen` prints anything but its last three blocks, in each of two calls. Two commands make the tables, each version has
+// two, each twenty-fifth one more, and the last three are queries.
+fn expect_generated<R: Abort + Threads + Wait + Sync>(rt: &R, alloc: Global, script: &str) {
+    let left = run(rt, alloc, script);
+    expect_replayed(rt, alloc, script, &left.text);
+    let all = str::from_utf8(&left.text).expect(rt, "a text");
+    let (_before, blocks) = all.split_once("\n0.819@").expect(rt, "block 819");
+    expect_printed(rt, alloc, blocks);
+    expect_printed(rt, alloc, blocks);
 }
 
 #[test]
-fn four_hundred_versions_twice(rt: HostRuntime) -> Result<(), Fail> {
-    let script = generate(rt.alloc(), 7, 400)?;
-    let script = str::from_utf8(&script).ok().ok_or("no text")?;
-    expect_generated(&rt, rt.alloc(), script)
+fn four_hundred_versions_twice(rt: HostRuntime) {
+    let script = generate(rt.alloc(), 7, 400).expect(&rt, "memory");
+    let script = str::from_utf8(&script).expect(&rt, "a text");
+    expect_generated(&rt, rt.alloc(), script);
 }

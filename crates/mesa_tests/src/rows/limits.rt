@@ -2,7 +2,6 @@
 use crate::call::{Case, PLAIN};
 use crate::cases::{LongCase, expect_cases, expect_long_cases};
 use crate::texts::Part;
-use std::test::Fail;
 
 static COLUMNS: [Case<'static>; 1] = [Case {
     name: "seventeen key columns",
@@ -13,8 +12,8 @@ static COLUMNS: [Case<'static>; 1] = [Case {
 }];
 
 #[test]
-fn seventeen_key_columns(rt: HostRuntime) -> Result<(), Fail> {
-    expect_cases(&rt, rt.alloc(), &COLUMNS)
+fn seventeen_key_columns(rt: HostRuntime) {
+    expect_cases(&rt, rt.alloc(), &COLUMNS);
 }
 
 static FULL: [LongCase; 5] = [
@@ -94,6 +93,6 @@ static FULL: [LongCase; 5] = [
 ];
 
 #[test]
-fn full_stores_and_scripts(rt: HostRuntime) -> Result<(), Fail> {
-    expect_long_cases(&rt, rt.alloc(), &FULL)
+fn full_stores_and_scripts(rt: HostRuntime) {
+    expect_long_cases(&rt, rt.alloc(), &FULL);
 }

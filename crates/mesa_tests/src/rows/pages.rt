@@ -2,7 +2,6 @@
 use crate::call::{Case, PLAIN};
 use crate::cases::{LongCase, expect_cases, expect_long_cases};
 use crate::texts::Part;
-use std::test::Fail;
 
 static CASES: [Case<'static>; 4] = [
     Case {
@@ -136,8 +135,8 @@ static CASES: [Case<'static>; 4] = [
 ];
 
 #[test]
-fn pages_pins_and_views(rt: HostRuntime) -> Result<(), Fail> {
-    expect_cases(&rt, rt.alloc(), &CASES)
+fn pages_pins_and_views(rt: HostRuntime) {
+    expect_cases(&rt, rt.alloc(), &CASES);
 }
 
 // Files of several blocks, and a page with more behind it.
@@ -207,6 +206,6 @@ static LONG: [LongCase; 3] = [
 ];
 
 #[test]
-fn long_files_and_pages(rt: HostRuntime) -> Result<(), Fail> {
-    expect_long_cases(&rt, rt.alloc(), &LONG)
+fn long_files_and_pages(rt: HostRuntime) {
+    expect_long_cases(&rt, rt.alloc(), &LONG);
 }

@@ -1,10 +1,9 @@
 // How calls end that run nothing, or whose streams fail.
 use crate::call::{Case, PLAIN, call_over, empty_disk, script_run};
 use crate::cases::{expect_cases, expect_text};
-use std::alloc::{AllocError, Global};
+use std::alloc::Global;
 use std::process::Abort;
 use std::sync::Wait;
-use std::test::Fail;
 use std::thread::Threads;
 
 const ONE_ROW: &[u8] = b"table,t,k int,v sum\nrow,t,1,5\ncommit\ncommit\nquery,t\n";
@@ -75,8 +74,8 @@ static ENDINGS: [Case<'static>; 7] = [
 ];
 
 #[test]
-fn calls_that_end_early(rt: HostRuntime) -> Result<(), Fail> {
-    expect_cases(&rt, rt.alloc(), &ENDINGS)
+fn calls_that_end_early(rt: HostRuntime) {
+    expect_cases(&rt, rt.alloc(), &ENDINGS);
 }
 
 const SHUT: Case<'static> = Case {
@@ -112,53 +111,25 @@ static SINKS: [Case<'static>; 5] = [
 ];
 
 // Stops the test where a call prints no front of the blocks, or not all of them though it doesn't fail.
-fn expect_front<R: Abort + Threads + Wait + Sync>(
-    rt: &R,
-    alloc: Global,
-    case: &Case<'_>,
-) -> Result<(), AllocError> {
-    let left = call_over(rt, alloc, empty_disk(alloc), case)?;
+fn expect_front<R: Abort + Threads + Wait + Sync>(rt: &R, alloc: Global, case: &Case<'_>) {
+    let left = call_over(rt, alloc, empty_disk(alloc), case);
     let is_front = ONE_ROW_TEXT.as_bytes().starts_with(&left.text);
     let is_whole = left.text.len() == ONE_ROW_TEXT.len();
     assert!(rt; is_front && left.status == case.status && is_whole == (case.status == 0));
-    Ok(())
 }
 
-fn expect_fronts<R: Abort + Threads + Wait + Sync>(
-    rt: &R,
-    alloc: Global,
-) -> Result<(), AllocError> {
+#[test]
+fn calls_of_the_sink_failing(rt: HostRuntime) {
     for case in &SINKS {
-        expect_front(rt, alloc, case)?;
+        expect_front(&rt, rt.alloc(), case);
     }
-    Ok(())
 }
 
 #[test]
-fn calls_of_the_sink_failing(rt: HostRuntime) -> Result<(), Fail> {
-    Ok(expect_fronts(&rt, rt.alloc())?)
-}
-
-fn lines(alloc: Global, count: usize) -> Result<Vec<u8>, AllocError> {
-    let mut bytes = Vec::new(alloc);
-    bytes.resize(count, b'\n')?;
-    Ok(bytes)
-}
-
-fn expect_too_long<R: Abort + Threads + Wait + Sync>(
-    rt: &R,
-    alloc: Global,
-    script: &[u8],
-) -> Result<(), AllocError> {
-    let case = script_run(script);
-    let left = call_over(rt, alloc, empty_disk(alloc), &case)?;
+fn input_too_long(rt: HostRuntime) {
+    let mut bytes = Vec::new(rt.alloc());
+    bytes.resize(67_108_865, b'\n').expect(&rt, "memory");
+    let left = call_over(&rt, rt.alloc(), empty_disk(rt.alloc()), &script_run(&bytes));
     let text = "mesa: input over 67108864 bytes\n";
-    expect_text(rt, "an input that is too long", &left, 9, text);
-    Ok(())
-}
-
-#[test]
-fn input_too_long(rt: HostRuntime) -> Result<(), Fail> {
-    let bytes = lines(rt.alloc(), 67_108_865)?;
-    Ok(expect_too_long(&rt, rt.alloc(), &bytes)?)
+    expect_text(&rt, "an input that is too long", &left, 9, text);
 }

@@ -1,12 +1,9 @@
 // Eight sessions of 200 commands each beside each other, in whatever order their turns come.
-use crate::call::{Left, run};
+use crate::call::run;
 use crate::sessions::replay::expect_replayed;
 use crate::texts::push_filled;
 use std::alloc::Global;
 use std::process::Abort;
-use std::sync::Wait;
-use std::test::Fail;
-use std::thread::Threads;
 
 /// The tables and the view of all sessions, and a short lease, so that works are lost too.
 static TABLES: &str = "lease,12\n\
@@ -42,54 +39,41 @@ fn next(number: u32) -> u32 {
 }
 
 // Adds the records of a session's step by a number; how many commands they are.
-fn push_step(script: &mut String, step: u32, number: u32) -> Result<u32, Fail> {
+fn push_step(rt: &impl Abort, script: &mut String, step: u32, number: u32) -> u32 {
     let place = (number % 16) as usize;
     let (records, commands) = RECORDS[place];
     let numbers = [number % 23, number % 3, number % 101, step, 1 + step / 16];
-    push_filled(script, records, &numbers)?;
-    Ok(commands)
+    push_filled(rt, script, records, &numbers);
+    commands
 }
 
 // A session's commands: 200, or one more where the last are two.
-fn push_session(script: &mut String, session: u32) -> Result<(), Fail> {
+fn push_session(rt: &impl Abort, script: &mut String, session: u32) {
     let mut number = session;
     let mut count = 0u32;
     for step in 0..200u32 {
         if count < 200 {
             number = next(number);
-            count = count.saturating_add(push_step(script, step, number)?);
+            count = count.saturating_add(push_step(rt, script, step, number));
         }
     }
-    Ok(())
 }
 
 // The prologue's commands come behind the tables; each further session has its own.
-fn eight_sessions(alloc: Global) -> Result<String, Fail> {
-    let mut script = String::from_str(alloc, TABLES)?;
-    push_session(&mut script, 0)?;
+fn eight_sessions(rt: &impl Abort, alloc: Global) -> String {
+    let mut script = String::from_str(alloc, TABLES).expect(rt, "memory");
+    push_session(rt, &mut script, 0);
     for session in 1..8u32 {
-        script.push_str("session\n")?;
-        push_session(&mut script, session)?;
+        script.push_str("session\n").expect(rt, "memory");
+        push_session(rt, &mut script, session);
     }
-    Ok(script)
-}
-
-fn expect_left(rt: &impl Abort, alloc: Global, script: &str, left: &Left) -> Result<(), Fail> {
-    assert!(rt; left.status == 1, "some replies are refusals");
-    expect_replayed(rt, alloc, script, &left.text)
-}
-
-fn expect_eight<R: Abort + Threads + Wait + Sync>(
-    rt: &R,
-    alloc: Global,
-    script: &str,
-) -> Result<(), Fail> {
-    let left = run(rt, alloc, script)?;
-    expect_left(rt, alloc, script, &left)
+    script
 }
 
 #[test]
-fn eight_sessions_of_200_commands(rt: HostRuntime) -> Result<(), Fail> {
-    let script = eight_sessions(rt.alloc())?;
-    expect_eight(&rt, rt.alloc(), script.as_str())
+fn eight_sessions_of_200_commands(rt: HostRuntime) {
+    let script = eight_sessions(&rt, rt.alloc());
+    let left = run(&rt, rt.alloc(), script.as_str());
+    assert!(rt; left.status == 1, "some replies are refusals");
+    expect_replayed(&rt, rt.alloc(), script.as_str(), &left.text);
 }

@@ -6,9 +6,6 @@ use crate::texts::push_filled;
 use mesa_disk::Disk;
 use std::alloc::Global;
 use std::process::Abort;
-use std::sync::Wait;
-use std::test::Fail;
-use std::thread::Threads;
 
 /// How many versions there are.
 const VERSIONS: u32 = 2_000;
@@ -22,21 +19,20 @@ static VERSION: &str = "row,t,{0},c{1},{2},{2}\nrow,t,-{0},d,-{2},1\ncommit\n";
 // Behind each tenth: all but the last 25 are let go, and there are three works and two queries.
 static WORKS: &str = "expire,{0}\nwork,t\nwork,t\nwork,t\nquery,w\nquery,t,{0},k>40\n";
 
-fn push_version(script: &mut String, version: u32) -> Result<(), Fail> {
-    push_filled(script, VERSION, &[version % 50, version % 4, version])?;
+fn push_version(rt: &impl Abort, script: &mut String, version: u32) {
+    push_filled(rt, script, VERSION, &[version % 50, version % 4, version]);
     if version % 10 == 9 {
-        push_filled(script, WORKS, &[version.saturating_sub(24)])?;
+        push_filled(rt, script, WORKS, &[version.saturating_sub(24)]);
     }
-    Ok(())
 }
 
-fn long_script(alloc: Global) -> Result<String, Fail> {
-    let mut script = String::from_str(alloc, TABLES)?;
+fn long_script(rt: &impl Abort, alloc: Global) -> String {
+    let mut script = String::from_str(alloc, TABLES).expect(rt, "memory");
     for version in 0..VERSIONS {
-        push_version(&mut script, version)?;
+        push_version(rt, &mut script, version);
     }
-    script.push_str("query,t\nexplain,t\n")?;
-    Ok(script)
+    script.push_str("query,t\nexplain,t\n").expect(rt, "memory");
+    script
 }
 
 // What the last plan reads.
@@ -49,27 +45,17 @@ static PLAN: &str = " spans 6\n\
      [1999,1999]\n";
 
 // A base, two cumulatives and the 24 singletons behind the base: of each a file of the table and one of the view.
-fn expect_few(rt: &impl Abort, left: &mut Left) -> Result<(), Fail> {
+fn expect_few(rt: &impl Abort, left: &mut Left) {
     assert!(rt; left.status == 0, "no reply is a refusal");
-    let ends_with_plan = left.text.ends_with(PLAN.as_bytes());
-    assert!(rt; ends_with_plan, "the last plan");
-    let files = left.disk.file_ids().map_err(|_| "not listed")?;
+    assert!(rt; left.text.ends_with(PLAN.as_bytes()), "the last plan");
+    let files = left.disk.file_ids().expect(rt, "a list of files");
     assert!(rt; files.len() == 54, "the files of 27 deltas");
-    Ok(())
-}
-
-fn expect_long<R: Abort + Threads + Wait + Sync>(
-    rt: &R,
-    alloc: Global,
-    script: &str,
-) -> Result<(), Fail> {
-    let mut left = run(rt, alloc, script)?;
-    expect_few(rt, &mut left)?;
-    expect_replayed(rt, alloc, script, &left.text)
 }
 
 #[test]
-fn two_thousand_versions(rt: HostRuntime) -> Result<(), Fail> {
-    let script = long_script(rt.alloc())?;
-    expect_long(&rt, rt.alloc(), script.as_str())
+fn two_thousand_versions(rt: HostRuntime) {
+    let script = long_script(&rt, rt.alloc());
+    let mut left = run(&rt, rt.alloc(), script.as_str());
+    expect_few(&rt, &mut left);
+    expect_replayed(&rt, rt.alloc(), script.as_str(), &left.text);
 }

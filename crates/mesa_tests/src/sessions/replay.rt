@@ -2,15 +2,15 @@
 ghost use Rattle.std.specs.Prelude.{◌≡◌, ◌<◌, ◌+◌, ◌^◌, IsTrue};
 ghost use Rattle.mesa_plain.specs.Plain.{GaveAtMost, is_plain};
 
+use crate::expected::expect_same;
 use mesa_model::{Command, Reply};
 use mesa_parse::parse;
 use mesa_plain::PlainWarehouse;
 use mesa_print::{HEAD_ROOM, head, render};
 use mesa_script::Script;
-use std::alloc::{AllocError, Global};
+use std::alloc::Global;
 use std::process::Abort;
 use std::str;
-use std::test::Fail;
 
 /// A printed block: whose it is, its position, and where it stands in the text.
 #[derive(Clone, Copy)]
@@ -26,14 +26,20 @@ fn number(word: &str) -> Option<u32> {
     word.parse().ok()
 }
 
+// The numbers on both sides of a point.
+fn numbers(text: &str) -> Option<(u32, u32)> {
+    let (one, other) = text.split_once('.')?;
+    Some((number(one)?, number(other)?))
+}
+
 // The block that a line begins at this place of the text, where it is a head line. No line of a body is one.
 fn head_at(line: &str, from: usize) -> Option<Block> {
-    let (name, rest) = line.split_once('@')?;
-    let (session, command) = name.split_once('.')?;
-    let (position, _reply) = rest.split_once(' ')?;
+    let (front, _reply) = line.split_once(' ')?;
+    let (name, position) = front.split_once('@')?;
+    let (session, command) = numbers(name)?;
     Some(Block {
-        session: number(session)?,
-        command: number(command)?,
+        session,
+        command,
         position: number(position)?,
         from,
         to: from,
@@ -47,17 +53,17 @@ fn end_last(blocks: &mut [Block], to: usize) {
     }
 }
 
-fn blocks(alloc: Global, text: &str) -> Result<Vec<Block>, AllocError> {
+fn blocks(rt: &impl Abort, alloc: Global, text: &str) -> Vec<Block> {
     let mut blocks = Vec::new(alloc);
     let mut at = 0usize;
     for line in text.lines() {
         if let Some(block) = head_at(line, at) {
-            blocks.push(block)?;
+            blocks.push(block).expect(rt, "memory");
         }
         at = at.saturating_add(line.len()).saturating_add(1);
         end_last(&mut blocks, at);
     }
-    Ok(blocks)
+    blocks
 }
 
 // How many commands of a session were printed. Stops the test where they don't stand in their order.
@@ -66,7 +72,7 @@ fn commands_of(rt: &impl Abort, blocks: &[Block], session: usize) -> usize {
     for block in blocks {
         if block.session as usize == session {
             number = number.wrapping_add(1);
-            assert_eq!(rt; block.command, number, "a command of session {session}");
+            expect_same(rt, &block.command, &number, &session);
         }
     }
     number as usize
@@ -76,7 +82,7 @@ fn commands_of(rt: &impl Abort, blocks: &[Block], session: usize) -> usize {
 fn expect_order(rt: &impl Abort, script: &Script, blocks: &[Block]) {
     for (session, commands) in script.sessions.as_slice().iter().enumerate() {
         let printed = commands_of(rt, blocks, session);
-        assert_eq!(rt; printed, commands.as_slice().len(), "session {session}");
+        expect_same(rt, &printed, &commands.as_slice().len(), &session);
     }
 }
 
@@ -96,22 +102,19 @@ fn is_done(command: &Command) -> bool
 
 // Adds the lines below the head of a query's page; other commands have none.
 fn push_body(
+    rt: &impl Abort,
     alloc: Global,
     warehouse: &PlainWarehouse,
     session: u16,
     command: &Command,
     text: &mut Vec<u8>,
-) -> Result<(), AllocError> {
-    let Command::Query(words) = command else {
-        return Ok(());
-    };
-    match warehouse.query(session, words) {
-        Ok(Ok((page, query))) => match render(alloc, &page, query.group_kinds(), query.prefix()) {
-            Ok(rendered) => text.extend_from_slice(rendered.body.as_slice()),
-            Err(error) => Err(error),
-        },
-        Ok(Err(_)) => Ok(()),
-        Err(error) => Err(error),
+) {
+    if let Command::Query(words) = command {
+        if let Ok((page, query)) = warehouse.query(session, words).expect(rt, "memory") {
+            let rendered = render(alloc, &page, query.group_kinds(), query.prefix());
+            let body = rendered.expect(rt, "memory").body;
+            text.extend_from_slice(body.as_slice()).expect(rt, "memory");
+        }
     }
 }
 
@@ -119,34 +122,32 @@ fn session_of(block: &Block) -> u16 {
     (block.session & 0xffff) as u16
 }
 
-fn push_head(block: &Block, reply: &Reply, text: &mut Vec<u8>) -> Result<(), AllocError> {
+fn push_head(rt: &impl Abort, block: &Block, reply: &Reply, text: &mut Vec<u8>) {
     let mut line = [0; HEAD_ROOM];
     let session = session_of(block);
-    let length = head(
-        session,
-        block.command,
-        block.position as u64,
-        reply,
-        &mut line,
-    );
-    text.extend_from_slice(&line[..length])
+    let position = u64::from(block.position);
+    let length = head(session, block.command, position, reply, &mut line);
+    text.extend_from_slice(&line[..length]).expect(rt, "memory");
 }
 
 // Does a command after so many others, and adds the head of its block.
 fn apply(
+    rt: &impl Abort,
     warehouse: &mut PlainWarehouse,
     done: u32,
     block: &Block,
     command: &Command,
     text: &mut Vec<u8>,
-) -> Result<(), AllocError>
+)
     requires few { GaveAtMost done warehouse.old }
     requires room { done + 1 < 2 ^ 32 }
     requires plain { IsTrue (is_plain command.now) }
     ensures { GaveAtMost (done + 1) warehouse.new }
 {
-    let reply = warehouse.apply(session_of(block), command)?;
-    push_head(block, &reply, text)
+    let reply = warehouse
+        .apply(session_of(block), command)
+        .expect(rt, "memory");
+    push_head(rt, block, &reply, text);
 }
 
 // Stops the test where a block isn't what the warehouse prints. A query changes nothing, so its page is the same
@@ -160,17 +161,21 @@ fn expect_block(
     command: &Command,
     printed: &[u8],
     text: &mut Vec<u8>,
-) -> Result<(), AllocError>
+)
     requires few { GaveAtMost done warehouse.old }
     requires room { done + 1 < 2 ^ 32 }
     requires plain { IsTrue (is_plain command.now) }
     ensures { GaveAtMost (done + 1) warehouse.new }
 {
     text.clear();
-    apply(warehouse, done, block, command, text)?;
-    push_body(alloc, warehouse, session_of(block), command, text)?;
-    assert_eq!(rt; str::from_utf8(printed), str::from_utf8(text));
-    Ok(())
+    apply(rt, warehouse, done, block, command, text);
+    push_body(rt, alloc, warehouse, session_of(block), command, text);
+    expect_same(
+        rt,
+        &str::from_utf8(printed),
+        &str::from_utf8(text),
+        &block.position,
+    );
 }
 
 // Stops the test where a block is none of a work and no plan.
@@ -194,56 +199,39 @@ fn expect_blocks(
     blocks: &[Block],
     all: &[u8],
     text: &mut Vec<u8>,
-) -> Result<(), Fail>
+)
     requires { GaveAtMost 0 warehouse.old }
 {
     let mut done = 0u32;
     'commands: for block in blocks {
-        let command = command_of(script, block).ok_or("no command")?;
-        let printed = all.get(block.from..block.to).ok_or("no text")?;
+        let command = command_of(script, block).expect(rt, "a command");
+        let printed = all.get(block.from..block.to).expect(rt, "a text");
         if is_done(command) {
-            if done == u32::MAX {
-                return Err("too many commands")?;
-            }
-            expect_block(rt, alloc, warehouse, done, block, command, printed, text)?;
+            assert!(rt; done < u32::MAX, "too many commands");
+            expect_block(rt, alloc, warehouse, done, block, command, printed, text);
             done += 1;
         } else {
             expect_work(rt, printed);
         }
     }
-    Ok(())
 }
 
-fn expect_script(
-    rt: &impl Abort,
-    alloc: Global,
-    script: &Script,
-    blocks: &[Block],
-    all: &[u8],
-) -> Result<(), Fail> {
+fn expect_script(rt: &impl Abort, alloc: Global, script: &Script, blocks: &[Block], all: &[u8]) {
     expect_order(rt, script, blocks);
     let mut warehouse = PlainWarehouse::new(alloc);
     let mut text = Vec::new(alloc);
-    expect_blocks(rt, alloc, &mut warehouse, script, blocks, all, &mut text)
-}
-
-fn sorted(alloc: Global, text: &str) -> Result<Vec<Block>, Fail> {
-    let mut blocks = blocks(alloc, text)?;
-    blocks.sort_by_key(|block| block.position)?;
-    Ok(blocks)
+    expect_blocks(rt, alloc, &mut warehouse, script, blocks, all, &mut text);
 }
 
 /// Stops the test where the plain warehouse, given a script's commands in the order of the printed positions,
 /// prints another block than the run did. Of a work and of an explain it is tested that it is one of their replies.
-pub fn expect_replayed(
-    rt: &impl Abort,
-    alloc: Global,
-    script: &str,
-    printed: &[u8],
-) -> Result<(), Fail> {
-    let text = str::from_utf8(printed).ok().ok_or("no text")?;
-    let blocks = sorted(alloc, text)?;
-    let bytes = script.as_bytes().to_vec(alloc)?;
-    let script = parse(alloc, bytes).ok().ok_or("no script")?;
-    expect_script(rt, alloc, &script, &blocks, printed)
+pub fn expect_replayed(rt: &impl Abort, alloc: Global, script: &str, printed: &[u8]) {
+    let text = str::from_utf8(printed).expect(rt, "a text");
+    let mut blocks = blocks(rt, alloc, text);
+    blocks
+        .sort_by_key(|block| block.position)
+        .expect(rt, "memory");
+    let bytes = script.as_bytes().to_vec(alloc).expect(rt, "memory");
+    let script = parse(alloc, bytes).ok().expect(rt, "a script");
+    expect_script(rt, alloc, &script, &blocks, printed);
 }

@@ -2,11 +2,10 @@
 use crate::call::{Case, Left, PLAIN, call_over, run};
 use mesa_disk::{Disk, MemDisk};
 use mesa_model::{Entry, Kind};
-use std::alloc::{AllocError, Global};
+use std::alloc::Global;
 use std::process::Abort;
 use std::str;
 use std::sync::Wait;
-use std::test::Fail;
 use std::thread::Threads;
 
 // Two tables and a view, two loads of both tables, an expiry, a work of each table between two loads, and a
@@ -224,19 +223,6 @@ fn expect_answers(rt: &impl Abort, left: &Left, moment: u64, commands: usize) {
     );
 }
 
-// The same of an image that is asked.
-fn expect_image<R: Abort + Threads + Wait + Sync>(
-    rt: &R,
-    alloc: Global,
-    image: MemDisk,
-    moment: u64,
-    commands: usize,
-) -> Result<(), AllocError> {
-    let left = call_over(rt, alloc, image, &ASKED)?;
-    expect_answers(rt, &left, moment, commands);
-    Ok(())
-}
-
 // The same of each image of a moment.
 fn expect_moment<R: Abort + Threads + Wait + Sync>(
     rt: &R,
@@ -244,31 +230,25 @@ fn expect_moment<R: Abort + Threads + Wait + Sync>(
     disk: &MemDisk,
     moment: u64,
     commands: usize,
-) -> Result<(), AllocError> {
+) {
     for pick in 0..3u8 {
-        let image = disk.image(moment, pick)?;
-        expect_image(rt, alloc, image, moment, commands)?;
+        let image = disk.image(moment, pick).expect(rt, "memory");
+        let left = call_over(rt, alloc, image, &ASKED);
+        expect_answers(rt, &left, moment, commands);
     }
-    Ok(())
 }
 
 // The same of each moment of a run.
-fn expect_moments<R: Abort + Threads + Wait + Sync>(
-    rt: &R,
-    alloc: Global,
-    disk: &MemDisk,
-    history: &[Entry],
-) -> Result<(), AllocError> {
-    for moment in 0..=disk.clock() {
-        let commands = acknowledged(history, moment);
-        expect_moment(rt, alloc, disk, moment, commands)?;
+fn expect_moments<R: Abort + Threads + Wait + Sync>(rt: &R, alloc: Global, left: &Left) {
+    for moment in 0..=left.disk.clock() {
+        let commands = acknowledged(&left.history, moment);
+        expect_moment(rt, alloc, &left.disk, moment, commands);
     }
-    Ok(())
 }
 
 #[test]
-fn a_run_stopped_at_each_moment(rt: HostRuntime) -> Result<(), Fail> {
-    let left = run(&rt, rt.alloc(), SCRIPT)?;
+fn a_run_stopped_at_each_moment(rt: HostRuntime) {
+    let left = run(&rt, rt.alloc(), SCRIPT);
     assert!(rt; left.status == 0, "the run that is stopped");
-    Ok(expect_moments(&rt, rt.alloc(), &left.disk, &left.history)?)
+    expect_moments(&rt, rt.alloc(), &left);
 }

@@ -5,7 +5,6 @@ use crate::stores::shown::spelled;
 use std::alloc::Global;
 use std::process::Abort;
 use std::sync::Wait;
-use std::test::Fail;
 use std::thread::Threads;
 
 /// The number of the first file that run 1 adopts.
@@ -102,8 +101,8 @@ const TWO_WORKS_REFUSED: &str = "0.1@0 table t\n\
      1,11\n";
 
 #[test]
-fn drafts_that_fail(rt: HostRuntime) -> Result<(), Fail> {
-    expect_cases(&rt, rt.alloc(), &DRAFTS)
+fn drafts_that_fail(rt: HostRuntime) {
+    expect_cases(&rt, rt.alloc(), &DRAFTS);
 }
 
 const QUERIES: &[u8] = b"table,t,k int,v sum\n\
@@ -177,8 +176,8 @@ static READS: [Case<'static>; 4] = [
 ];
 
 #[test]
-fn reads_that_fail(rt: HostRuntime) -> Result<(), Fail> {
-    expect_cases(&rt, rt.alloc(), &READS)
+fn reads_that_fail(rt: HostRuntime) {
+    expect_cases(&rt, rt.alloc(), &READS);
 }
 
 const LOADS: &[u8] = b"table,t,k int,v sum\n\
@@ -364,29 +363,18 @@ fn expect_call<R: Abort + Threads + Wait + Sync>(
     alloc: Global,
     failing: &Failing,
     call: u64,
-) -> Result<(), Fail> {
-    let disk = spelled(rt, alloc, "", &[call])?;
-    let disk = expect_over(rt, alloc, disk, &failing.first)?;
-    let _disk = expect_over(rt, alloc, disk, &failing.next)?;
-    Ok(())
-}
-
-fn expect_calls<R: Abort + Threads + Wait + Sync>(
-    rt: &R,
-    alloc: Global,
-    failing: &Failing,
-) -> Result<(), Fail> {
-    let (first, last) = failing.calls;
-    for call in first..=last {
-        expect_call(rt, alloc, failing, call)?;
-    }
-    Ok(())
+) {
+    let disk = spelled(rt, alloc, "", &[call]);
+    let disk = expect_over(rt, alloc, disk, &failing.first);
+    let _disk = expect_over(rt, alloc, disk, &failing.next);
 }
 
 #[test]
-fn each_call_of_the_disk_failing(rt: HostRuntime) -> Result<(), Fail> {
+fn each_call_of_the_disk_failing(rt: HostRuntime) {
     for failing in &CALLS {
-        expect_calls(&rt, rt.alloc(), failing)?;
+        let (first, last) = failing.calls;
+        for call in first..=last {
+            expect_call(&rt, rt.alloc(), failing, call);
+        }
     }
-    Ok(())
 }

@@ -1,7 +1,6 @@
 // Stores that earlier runs left.
 use crate::call::{Case, PLAIN};
 use crate::cases::expect_in_turn;
-use std::test::Fail;
 
 /// The number of the first file that a run adopts.
 const RUN_1: u64 = 1 << 40;
@@ -254,9 +253,8 @@ static CASES: [&[Case<'static>]; 6] = [
 ];
 
 #[test]
-fn runs_that_go_on(rt: HostRuntime) -> Result<(), Fail> {
+fn runs_that_go_on(rt: HostRuntime) {
     for cases in &CASES {
-        expect_in_turn(&rt, rt.alloc(), cases)?;
+        expect_in_turn(&rt, rt.alloc(), cases);
     }
-    Ok(())
 }

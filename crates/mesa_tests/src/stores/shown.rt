@@ -1,38 +1,34 @@
 // Stores as text: a line with area 0 of the journal, and one for each file with its id, all in hexadecimal digits.
-use mesa_disk::{Area, ByteList, Disk, FileId, FileReader, MemDisk, MemReader};
+use mesa_disk::{Area, ByteList, Disk, FileId, FileReader, MemDisk};
 use std::alloc::Global;
 use std::process::Abort;
-use std::test::Fail;
 
 // The bytes of area 0.
-fn area_of(alloc: Global, disk: &mut MemDisk) -> Result<String, Fail> {
-    let mut bytes = vec![in alloc; 0u8; disk.journal_len(Area::Zero) as usize]?;
+fn area_of(rt: &impl Abort, alloc: Global, disk: &mut MemDisk) -> String {
+    let len = disk.journal_len(Area::Zero) as usize;
+    let mut bytes = vec![in alloc; 0u8; len].expect(rt, "memory");
     disk.journal_read(Area::Zero, 0, &mut bytes)
-        .map_err(|_| "area not read")?;
-    Ok(hex::encode(alloc, &bytes)?)
+        .expect(rt, "an area");
+    hex::encode(alloc, &bytes).expect(rt, "memory")
 }
 
-// The bytes of an open file.
-fn digits_of(alloc: Global, reader: &mut MemReader) -> Result<String, Fail> {
-    let mut bytes = vec![in alloc; 0u8; reader.len() as usize]?;
-    reader.read_at(0, &mut bytes).map_err(|_| "file not read")?;
-    Ok(hex::encode(alloc, &bytes)?)
-}
-
-// Adds the line of a file.
-fn push_file(alloc: Global, disk: &mut MemDisk, id: FileId, text: &mut String) -> Result<(), Fail> {
-    let mut reader = disk.reader(id).map_err(|_| "not opened")?;
-    let digits = digits_of(alloc, &mut reader)?;
-    Ok(write!(text, "\n{:016x} {digits}", id.number())?)
+// The bytes of a file.
+fn digits_of(rt: &impl Abort, alloc: Global, disk: &mut MemDisk, id: FileId) -> String {
+    let mut reader = disk.reader(id).expect(rt, "a reader");
+    let mut bytes = vec![in alloc; 0u8; reader.len() as usize].expect(rt, "memory");
+    reader.read_at(0, &mut bytes).expect(rt, "a file");
+    hex::encode(alloc, &bytes).expect(rt, "memory")
 }
 
 /// The text of what is on a disk.
-pub fn shown(alloc: Global, disk: &mut MemDisk) -> Result<String, Fail> {
-    let mut text = area_of(alloc, disk)?;
-    for id in &disk.file_ids().map_err(|_| "not listed")? {
-        push_file(alloc, disk, *id, &mut text)?;
+pub fn shown(rt: &impl Abort, alloc: Global, disk: &mut MemDisk) -> String {
+    let mut text = area_of(rt, alloc, disk);
+    let ids = disk.file_ids().expect(rt, "a list of files");
+    for id in &ids {
+        let digits = digits_of(rt, alloc, disk, *id);
+        write!(text, "\n{:016x} {digits}", id.number()).expect(rt, "memory");
     }
-    Ok(text)
+    text
 }
 
 fn bytes_of(rt: &impl Abort, alloc: Global, digits: &str) -> Vec<u8> {
@@ -40,33 +36,33 @@ fn bytes_of(rt: &impl Abort, alloc: Global, digits: &str) -> Vec<u8> {
 }
 
 // The file of a line.
-fn file_of(rt: &impl Abort, alloc: Global, line: &str) -> Result<(FileId, ByteList), Fail> {
-    let (id, digits) = line.split_once(' ').ok_or("no id")?;
-    let id = u64::from_str_radix(id, 16)?;
+fn file_of(rt: &impl Abort, alloc: Global, line: &str) -> (FileId, ByteList) {
+    let (id, digits) = line.split_once(' ').expect(rt, "an id");
+    let id = u64::from_str_radix(id, 16).expect(rt, "a number");
     let bytes = bytes_of(rt, alloc, digits);
-    Ok((FileId::of(id), ByteList::from_vec(bytes)))
+    (FileId::of(id), ByteList::from_vec(bytes))
 }
 
 // The files of some lines.
-fn files_of(rt: &impl Abort, alloc: Global, lines: &str) -> Result<Vec<(FileId, ByteList)>, Fail> {
+fn files_of(rt: &impl Abort, alloc: Global, lines: &str) -> Vec<(FileId, ByteList)> {
     let mut files = Vec::new(alloc);
     for line in lines.lines() {
-        files.push(file_of(rt, alloc, line)?)?;
+        files.push(file_of(rt, alloc, line)).expect(rt, "memory");
     }
-    Ok(files)
+    files
 }
 
 /// A disk with what a text says, of which these calls fail.
-pub fn spelled(rt: &impl Abort, alloc: Global, text: &str, fails: &[u64]) -> Result<MemDisk, Fail> {
+pub fn spelled(rt: &impl Abort, alloc: Global, text: &str, fails: &[u64]) -> MemDisk {
     let (area, lines) = text.split_once('\n').unwrap_or((text, ""));
-    let files = files_of(rt, alloc, lines)?;
-    let fails = fails.to_vec(alloc)?;
+    let fails = fails.to_vec(alloc).expect(rt, "memory");
     let area = bytes_of(rt, alloc, area);
-    Ok(MemDisk::new(alloc, area, Vec::new(alloc), files, fails))
+    let files = files_of(rt, alloc, lines);
+    MemDisk::new(alloc, area, Vec::new(alloc), files, fails)
 }
 
 /// Whether the files on a disk are those of these numbers.
-pub fn are_files(disk: &mut MemDisk, files: &[u64]) -> Result<bool, Fail> {
-    let ids = disk.file_ids().map_err(|_| "not listed")?;
-    Ok(ids.len() == files.len() && ids.iter().zip(files).all(|(id, file)| id.number() == *file))
+pub fn are_files(rt: &impl Abort, disk: &mut MemDisk, files: &[u64]) -> bool {
+    let ids = disk.file_ids().expect(rt, "a list of files");
+    ids.len() == files.len() && ids.iter().zip(files).all(|(id, file)| id.number() == *file)
 }

@@ -1,13 +1,11 @@
 // What `check` answers of stores: as runs leave them, and with bytes changed and their digests, references and totals
 // mended or not.
 use crate::call::{Case, PLAIN, call_over, run};
-use crate::cases::{expect_over, expect_text};
+use crate::cases::{expect_over, expect_store, expect_text};
 use crate::stores::shown::{shown, spelled};
-use mesa_disk::MemDisk;
 use std::alloc::Global;
 use std::process::Abort;
 use std::sync::Wait;
-use std::test::Fail;
 use std::thread::Threads;
 
 // The source fails in every call: a check asks it for nothing.
@@ -346,9 +344,9 @@ static CASES: [Changed; 15] = [
 ];
 
 // A text with some digits of it changed.
-fn with_change(alloc: Global, text: &str, (from, to): (&str, &str)) -> Result<String, Fail> {
-    let (before, behind) = text.split_once(from).ok_or("no such digits")?;
-    Ok(format!(in alloc; "{before}{to}{behind}")?)
+fn with_change(rt: &impl Abort, alloc: Global, text: &str, change: &(&str, &str)) -> String {
+    let (before, behind) = text.split_once(change.0).expect(rt, "these digits");
+    format!(in alloc; "{before}{}{behind}", change.1).expect(rt, "memory")
 }
 
 // What a run leaves, with all changes.
@@ -356,47 +354,30 @@ fn changed_store<R: Abort + Threads + Wait + Sync>(
     rt: &R,
     alloc: Global,
     case: &Changed,
-) -> Result<String, Fail> {
-    let mut left = run(rt, alloc, case.script)?;
-    assert_eq!(rt; left.status, 0, "the run that leaves {}", case.name);
-    let mut text = shown(alloc, &mut left.disk)?;
+) -> String {
+    let mut left = run(rt, alloc, case.script);
+    assert!(rt; left.status == 0, "the run that leaves {}", case.name);
+    let mut text = shown(rt, alloc, &mut left.disk);
     for change in case.changes {
-        text = with_change(alloc, text.as_str(), *change)?;
+        text = with_change(rt, alloc, text.as_str(), change);
     }
-    Ok(text)
-}
-
-// Stops the test where a check has changed a store.
-fn expect_kept(
-    rt: &impl Abort,
-    alloc: Global,
-    disk: &mut MemDisk,
-    store: &str,
-) -> Result<(), Fail> {
-    let after = shown(alloc, disk)?;
-    assert_eq!(rt; after.as_str(), store, "the store behind a check");
-    Ok(())
+    text
 }
 
 // Stops the test where a check prints something else or changes the store.
-fn expect_verdict<R: Abort + Threads + Wait + Sync>(
-    rt: &R,
-    alloc: Global,
-    case: &Changed,
-) -> Result<(), Fail> {
-    let store = changed_store(rt, alloc, case)?;
-    let disk = spelled(rt, alloc, store.as_str(), &[])?;
-    let mut left = call_over(rt, alloc, disk, &CHECK)?;
+fn expect_verdict<R: Abort + Threads + Wait + Sync>(rt: &R, alloc: Global, case: &Changed) {
+    let store = changed_store(rt, alloc, case);
+    let disk = spelled(rt, alloc, store.as_str(), &[]);
+    let mut left = call_over(rt, alloc, disk, &CHECK);
     expect_text(rt, case.name, &left, case.status, case.text);
-    expect_kept(rt, alloc, &mut left.disk, store.as_str())
+    expect_store(rt, alloc, &mut left.disk, store.as_str(), case.name);
 }
 
 #[test]
-fn verdicts(rt: HostRuntime) -> Result<(), Fail> {
+fn verdicts(rt: HostRuntime) {
     for case in &CASES {
-        expect_verdict(&rt, rt.alloc(), case)?;
+        expect_verdict(&rt, rt.alloc(), case);
     }
-    Ok(())
 }
 
 static FAULT: Case<'static> = Case {
@@ -408,29 +389,19 @@ static FAULT: Case<'static> = Case {
     ..PLAIN
 };
 
-// Calls of the disk that fail, so many from the first on.
-fn expect_faults<R: Abort + Threads + Wait + Sync>(
-    rt: &R,
-    alloc: Global,
-    store: &str,
-) -> Result<(), Fail> {
-    for call in 0..7u64 {
-        let disk = spelled(rt, alloc, store, &[call])?;
-        let mut disk = expect_over(rt, alloc, disk, &FAULT)?;
-        let after = shown(alloc, &mut disk)?;
-        assert_eq!(rt;
-            after.as_str(),
-            store,
-            "the store behind a fault of a check"
-        );
-    }
-    Ok(())
+// A call of the disk that fails in a check.
+fn expect_fault<R: Abort + Threads + Wait + Sync>(rt: &R, alloc: Global, store: &str, call: u64) {
+    let disk = spelled(rt, alloc, store, &[call]);
+    let mut disk = expect_over(rt, alloc, disk, &FAULT);
+    expect_store(rt, alloc, &mut disk, store, FAULT.name);
 }
 
 // An opening reads the journal and each of three files; a check opens each of them once more at least.
 #[test]
-fn calls_of_a_check_failing(rt: HostRuntime) -> Result<(), Fail> {
-    let mut left = run(&rt, rt.alloc(), TEN_VERSIONS)?;
-    let store = shown(rt.alloc(), &mut left.disk)?;
-    expect_faults(&rt, rt.alloc(), store.as_str())
+fn calls_of_a_check_failing(rt: HostRuntime) {
+    let mut left = run(&rt, rt.alloc(), TEN_VERSIONS);
+    let store = shown(&rt, rt.alloc(), &mut left.disk);
+    for call in 0..7u64 {
+        expect_fault(&rt, rt.alloc(), store.as_str(), call);
+    }
 }

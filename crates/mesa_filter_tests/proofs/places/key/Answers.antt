@@ -11,11 +11,11 @@ two_values : (a b : KeyValue) → key_spelling (a ∷ b ∷ []) ≡ value_spelli
 two_values a b = flat_map-cons value_spelling a (b ∷ []) ∙ ap (λ rest. value_spelling a ++ rest) (flat_map-cons value_spelling b [] ∙ append-nil (value_spelling b))
 
 pub returns : goal.returns
-returns c =
+returns g c =
     let a = value.Int c.args.number in
     let b = value.Text c.args.text.now in
     let int : c.encode_int.new.out.items ≡ value_spelling a = search rules in
     let bytes : c.encode_text.new.out.items ≡ value_spelling a ++ value_spelling b = c.in_ok-encode_text.ensures.ok ∙ ap (λ front. front ++ value_spelling b) int in
     let fits : IsValue types.Int a = search rules in
     subst (λ bytes. IsTrue (is_spelling (types.Int ∷ types.Text ∷ []) bytes)) (two_values a b ∙ sym bytes)
-    (c.reads_back.ensures.passes (types.Int ∷ types.Text ∷ []) (a ∷ b ∷ []) (fits, (sym c.allows.ensures ∙ c.if-not-allows.false, tt)))
+    (c.reads_back.ensures.passes (types.Int ∷ types.Text ∷ []) (a ∷ b ∷ []) (fits, (sym c.allows.ensures ∙ c.if-assert.false, tt)))

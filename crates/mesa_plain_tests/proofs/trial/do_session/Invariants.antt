@@ -3,4 +3,4 @@ use Rattle.mesa_plain_tests.proofs.trial.do_session.Given as goal
 
 -- no session was given more tokens than there were commands
 abbrev pub invariant-commands : goal.invariant-commands
-invariant-commands l = GaveAtMost l.done l.warehouse
+invariant-commands g l = GaveAtMost l.done l.warehouse

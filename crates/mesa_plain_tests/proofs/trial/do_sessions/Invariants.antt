@@ -3,4 +3,4 @@ use Rattle.mesa_plain_tests.proofs.trial.do_sessions.Given as goal
 
 -- no session was given more tokens than there were commands
 abbrev pub invariant-sessions : goal.invariant-sessions
-invariant-sessions l = GaveAtMost l.done l.warehouse
+invariant-sessions g l = GaveAtMost l.done l.warehouse

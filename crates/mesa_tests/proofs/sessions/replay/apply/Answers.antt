@@ -1,4 +1,4 @@
 use Rattle.mesa_tests.proofs.sessions.replay.apply.Goals as goal
 
 pub returns : goal.returns
-returns c = c.apply.ensures.given c.args.done c.requires.few
+returns g c = c.apply.ensures.given c.args.done c.requires.few
