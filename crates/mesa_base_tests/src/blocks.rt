@@ -50,10 +50,15 @@ const TWICE: [u8; 35] = [
 fn reads_one_row(rt: HostRuntime) {
     let ints = schema(&rt, rt.alloc(), KeyType::Int);
     let block = read_block(rt.alloc(), &ints, &ONE).expect(&rt, "a block");
-    assert!(rt; block.rows().len() == 1);
+    assert_eq!(rt; block.rows().len(), 1);
     let row = &block.rows()[0];
-    assert!(rt; row.key.as_slice() == &ONE[3..11]);
-    assert!(rt; row.values.as_slice() == [5i64].as_slice());
+    expect_same(&rt, &row.key.as_slice(), &&ONE[3..11], &"the row's key");
+    expect_same(
+        &rt,
+        &row.values.as_slice(),
+        &[5i64].as_slice(),
+        &"the row's values",
+    );
 }
 
 // Bytes that are no block, and why.

@@ -62,8 +62,18 @@ fn spells_the_vectors(rt: HostRuntime) {
 
 #[test]
 fn compares_keys_and_cuts_them_short(rt: HostRuntime) {
-    assert!(rt; compare(KEYS[2].1, KEYS[1].1) == Ordering::Less);
-    assert!(rt; short(KEYS[3].1) == [0x61, 0x62, 0, 0, 0, 0, 0, 0, 0, 0, 0, 0, 0, 0, 0, 0]);
+    expect_same(
+        &rt,
+        &compare(KEYS[2].1, KEYS[1].1),
+        &Ordering::Less,
+        &"how two keys compare",
+    );
+    expect_same(
+        &rt,
+        &short(KEYS[3].1),
+        &[0x61, 0x62, 0, 0, 0, 0, 0, 0, 0, 0, 0, 0, 0, 0, 0, 0],
+        &"a short key",
+    );
 }
 
 // The key of a number and a text that bytes begin with, and how long it is.
@@ -79,9 +89,9 @@ static KEY_AND_MORE: [u8; 12] = [0x80, 0, 0, 0, 1, 0x33, 0x50, 0x45, 0x55, 0x4b,
 #[test]
 fn reads_a_key_and_what_follows(rt: HostRuntime) {
     let (key, len) = decoded(rt.alloc(), &KEY_AND_MORE);
-    assert!(rt; len == 11);
+    expect_same(&rt, &len, &11, &"how long the key is");
     let bytes = spelled(&rt, rt.alloc(), &key);
-    assert!(rt; bytes.as_slice() == &KEY_AND_MORE[..11]);
+    expect_same(&rt, &bytes.as_slice(), &&KEY_AND_MORE[..11], &"the bytes");
 }
 
 const LONG: [u8; 256] = [0x61; 256];

@@ -14,7 +14,12 @@ fn read(rt: &impl Abort, alloc: Global, fails: &[u64], most: u64) -> Result<Vec<
 #[test]
 fn reads_to_the_end(rt: HostRuntime) {
     let bytes = read(&rt, rt.alloc(), &[], 3).expect(&rt, "bytes");
-    assert!(rt; bytes.as_slice() == [1u8, 2, 3].as_slice());
+    expect_same(
+        &rt,
+        &bytes.as_slice(),
+        &[1u8, 2, 3].as_slice(),
+        &"the bytes",
+    );
 }
 
 // The call that fails, how many bytes may be read at most, and why they aren't read.
@@ -37,8 +42,13 @@ fn writes_whole(rt: HostRuntime) {
     let fails = [1u64].to_vec(rt.alloc()).expect(&rt, "memory");
     let mut sink = MemSink::new(rt.alloc(), fails);
     assert!(rt; write_all(&mut sink, b"ab").is_ok());
-    assert!(rt; write_all(&mut sink, b"cd") == Err(SinkFault { written: 0 }));
-    assert!(rt; sink.bytes() == b"ab".as_slice());
+    expect_same(
+        &rt,
+        &write_all(&mut sink, b"cd"),
+        &Err(SinkFault { written: 0 }),
+        &"write_all(&mut sink, b\"cd\")",
+    );
+    expect_same(&rt, &sink.bytes(), &b"ab".as_slice(), &"what the sink has");
 }
 
 #[test]

@@ -102,7 +102,7 @@ fn reads_two_blocks(rt: HostRuntime) {
         &file_reference(alloc),
         KeyType::Text,
     );
-    assert!(rt; counted == Ok(1025));
+    expect_same(&rt, &counted, &Ok(1025), &"how many rows are counted");
 }
 
 // A key, and the block at which to look for it.

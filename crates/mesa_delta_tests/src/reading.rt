@@ -94,5 +94,10 @@ fn tells_a_changed_tail(rt: HostRuntime) {
 fn tells_bytes_that_are_no_tail(rt: HostRuntime) {
     let bytes = changed(102, 50);
     let counted = read_by(&rt, rt.alloc(), &bytes, None, Sha256::digest(&bytes[19..]));
-    assert!(rt; counted == damage(19, Seen::Fits, Seen::Misfit(0)));
+    expect_same(
+        &rt,
+        &counted,
+        &damage(19, Seen::Fits, Seen::Misfit(0)),
+        &"how many rows are counted",
+    );
 }

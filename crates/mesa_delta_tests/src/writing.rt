@@ -91,7 +91,7 @@ fn adopted(rt: &impl Abort, alloc: Global, made: MemMade) -> MemReader {
 fn expect_bytes(rt: &impl Abort, alloc: Global, reader: &mut MemReader) {
     let mut bytes = vec![in alloc; 0u8; reader.len() as usize].expect(rt, "memory");
     reader.read_at(0, &mut bytes).expect(rt, "a file");
-    assert!(rt; bytes.as_slice() == ONE_FILE.as_slice());
+    expect_same(rt, &bytes.as_slice(), &ONE_FILE.as_slice(), &"the bytes");
 }
 
 fn expect_file(rt: &impl Abort, file: &FileRef) {
@@ -108,7 +108,12 @@ fn writes_the_file_of_one_row(rt: HostRuntime) {
     let mut reader = adopted(&rt, alloc, made);
     expect_bytes(&rt, alloc, &mut reader);
     let schema = schema(&rt, alloc, KeyType::Int);
-    assert!(rt; count_rows(alloc, reader, &file, &schema) == Ok(1));
+    expect_same(
+        &rt,
+        &count_rows(alloc, reader, &file, &schema),
+        &Ok(1),
+        &"how many rows are counted",
+    );
 }
 
 // The draft is called for the block, for the tail and for the finished file.

@@ -1,4 +1,5 @@
 // The journal areas of a folder.
+use crate::expected::expect_same;
 use crate::folders::{opened, remove};
 use mesa_dir::DirDisk;
 use mesa_disk::{Area, Disk};
@@ -6,8 +7,8 @@ use std::process::Abort;
 
 // Writes into both areas of a new disk.
 fn write_areas(rt: &impl Abort, disk: &mut DirDisk<HostRuntime>) {
-    assert!(rt; disk.journal_len(Area::Zero) == 0);
-    assert!(rt; disk.journal_len(Area::One) == 0);
+    assert_eq!(rt; disk.journal_len(Area::Zero), 0);
+    assert_eq!(rt; disk.journal_len(Area::One), 0);
     assert!(rt;
         disk.journal_write(Area::Zero, 0, b"abcd".as_slice())
             .is_ok()
@@ -15,21 +16,21 @@ fn write_areas(rt: &impl Abort, disk: &mut DirDisk<HostRuntime>) {
     assert!(rt; disk.journal_write(Area::Zero, 1, b"X".as_slice()).is_ok());
     assert!(rt; disk.journal_write(Area::One, 0, b"one".as_slice()).is_ok());
     assert!(rt; disk.journal_sync().is_ok());
-    assert!(rt; disk.journal_len(Area::Zero) == 4);
-    assert!(rt; disk.clock() == 4);
+    assert_eq!(rt; disk.journal_len(Area::Zero), 4);
+    expect_same(rt, &disk.clock(), &4, &"the clock");
 }
 
 // Reads what was written.
 fn read_areas(rt: &impl Abort, disk: &mut DirDisk<HostRuntime>) {
     let mut four = [0u8; 4];
-    assert!(rt; disk.journal_len(Area::Zero) == 4);
+    assert_eq!(rt; disk.journal_len(Area::Zero), 4);
     assert!(rt; disk.journal_read(Area::Zero, 0, &mut four).is_ok());
-    assert!(rt; four == *b"aXcd");
+    expect_same(rt, &four, &*b"aXcd", &"four bytes");
     let mut two = [0u8; 2];
-    assert!(rt; disk.journal_len(Area::One) == 3);
+    assert_eq!(rt; disk.journal_len(Area::One), 3);
     assert!(rt; disk.journal_read(Area::One, 1, &mut two).is_ok());
-    assert!(rt; two == *b"ne");
-    assert!(rt; disk.clock() == 0);
+    expect_same(rt, &two, &*b"ne", &"two bytes");
+    expect_same(rt, &disk.clock(), &0, &"the clock");
 }
 
 #[test]

@@ -1,4 +1,5 @@
 // Drafts, and adopted files as they are read.
+use crate::expected::expect_same;
 use crate::folders::{expect_exists, opened, remove};
 use mesa_dir::{DirBench, DirDisk, DirMade, DirReader};
 use mesa_disk::{Bench, Disk, Draft, FileId, FileReader, Made, OpenFault};
@@ -35,7 +36,7 @@ fn adopt(rt: &impl Abort, files: HostRuntime, disk: &mut DirDisk<HostRuntime>) {
         b"rowsmore".as_slice(),
     );
     expect_exists(rt, files, "mesa_dir_files/0000000100000001.draft", true);
-    assert!(rt; file.len() == 8);
+    assert_eq!(rt; file.len(), 8);
     assert!(rt; disk.adopt(file, adopted()).is_ok());
     expect_exists(rt, files, "mesa_dir_files/0000000100000001.draft", false);
     expect_exists(rt, files, "mesa_dir_files/0000010000000000.mesa", true);
@@ -50,10 +51,10 @@ fn remove_twice(rt: &impl Abort, disk: &mut DirDisk<HostRuntime>) {
 
 // Stops the test of a reader that doesn't read the file.
 fn expect_read(rt: &impl Abort, reader: &mut DirReader) {
-    assert!(rt; reader.len() == 8);
+    assert_eq!(rt; reader.len(), 8);
     let mut five = [0u8; 5];
     assert!(rt; reader.read_at(3, &mut five).is_ok());
-    assert!(rt; five == *b"smore");
+    expect_same(rt, &five, &*b"smore", &"five bytes");
 }
 
 // A reader outlasts the name of its file.
@@ -127,8 +128,9 @@ fn write_names(rt: &impl Abort, files: HostRuntime, name: &str) {
 // The numbers of a disk's files.
 fn expect_ids(rt: &impl Abort, disk: &mut DirDisk<HostRuntime>) {
     let ids = disk.file_ids().expect(rt, "a list of files");
-    assert!(rt; ids.len() == 2);
-    assert!(rt; ids[0].number() == 7 && ids[1].number() == 9);
+    assert_eq!(rt; ids.len(), 2);
+    let numbers = (ids[0].number(), ids[1].number());
+    expect_same(rt, &numbers, &(7, 9), &"the numbers of the files");
 }
 
 #[test]
@@ -149,7 +151,7 @@ static CUT: &str = "mesa_dir_cut/0000000000000005.mesa";
 // Stops the test of a reader that reads a file of four bytes which is shorter meanwhile.
 fn expect_fault(rt: &impl Abort, reader: &mut DirReader) {
     let mut four = [0u8; 4];
-    assert!(rt; reader.len() == 4);
+    assert_eq!(rt; reader.len(), 4);
     assert!(rt; reader.read_at(0, &mut four).is_err());
 }
 

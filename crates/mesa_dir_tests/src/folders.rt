@@ -1,4 +1,5 @@
 // Folders of tests, and what lies in them.
+use crate::expected::expect_same;
 use mesa_dir::DirDisk;
 use std::fs;
 use std::process::Abort;
@@ -12,7 +13,7 @@ pub fn opened(rt: &impl Abort, files: HostRuntime, name: &str) -> DirDisk<HostRu
 /// Stops the test of a path at which there is a file, or none, though there shouldn't be.
 pub fn expect_exists(rt: &impl Abort, files: HostRuntime, path: &str, exists: bool) {
     let found = fs::exists(&files, path).expect(rt, "a look at a path");
-    assert!(rt; found == exists, "of {path}");
+    expect_same(rt, &found, &exists, &path);
 }
 
 /// Removes the folder of a test.

@@ -4,6 +4,8 @@
 #[cfg(test)]
 mod areas;
 #[cfg(test)]
+mod expected;
+#[cfg(test)]
 mod files;
 #[cfg(test)]
 mod folders;

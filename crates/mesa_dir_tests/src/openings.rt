@@ -1,4 +1,5 @@
 // Folders that can't be opened.
+use crate::expected::expect_same;
 use crate::folders::{opened, remove};
 use mesa_dir::DirDisk;
 use mesa_disk::{Area, Bench, Disk, FileId, OpenFault};
@@ -8,9 +9,9 @@ use std::process::Abort;
 // Asserts that each call that can fail does, and that the areas are told as two bytes long.
 fn fails_in_each_call(rt: &impl Abort, disk: &mut DirDisk<HostRuntime>) {
     let mut two = [0u8; 2];
-    assert!(rt; disk.journal_len(Area::Zero) == 2);
+    assert_eq!(rt; disk.journal_len(Area::Zero), 2);
     assert!(rt; disk.journal_read(Area::Zero, 0, &mut two).is_err());
-    assert!(rt; disk.journal_len(Area::One) == 2);
+    assert_eq!(rt; disk.journal_len(Area::One), 2);
     assert!(rt; disk.journal_read(Area::One, 0, &mut two).is_err());
     assert!(rt; disk.journal_write(Area::Zero, 0, b"a".as_slice()).is_err());
     assert!(rt; disk.journal_sync().is_err());
@@ -19,7 +20,7 @@ fn fails_in_each_call(rt: &impl Abort, disk: &mut DirDisk<HostRuntime>) {
     assert!(rt; disk.file_ids().is_err());
     let mut bench = disk.bench().expect(rt, "a bench");
     assert!(rt; bench.draft(FileId::of(1)).is_err());
-    assert!(rt; disk.clock() == 3);
+    expect_same(rt, &disk.clock(), &3, &"the clock");
 }
 
 // Opens a folder that isn't to be had.
@@ -51,7 +52,7 @@ fn a_folder_that_another_has_fails(rt: HostRuntime) {
     let name = "mesa_dir_locked";
     open_twice(&rt, rt, name);
     let third = DirDisk::open(rt, name).expect(&rt, "a disk");
-    assert!(rt; third.journal_len(Area::Zero) == 3);
+    assert_eq!(rt; third.journal_len(Area::Zero), 3);
     drop(third);
     remove(&rt, rt, name);
 }

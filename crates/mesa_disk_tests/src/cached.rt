@@ -136,7 +136,7 @@ fn expect_case(rt: &impl Abort, alloc: Global, bytes: &[u8], case: &Case) {
     let mut reader = cached(rt, alloc, bytes, case);
     expect_reads(rt, bytes, &mut buffer, &mut reader, case);
     let inner = reader.into_inner();
-    assert!(rt; inner.len() == 40_000);
+    assert_eq!(rt; inner.len(), 40_000);
 }
 
 #[test]

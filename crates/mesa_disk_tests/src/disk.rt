@@ -209,8 +209,13 @@ fn a_failed_call_changes_no_area_and_no_file(rt: HostRuntime) {
 // Reads a file's one byte, and stops the test where that ends otherwise.
 fn read_byte(rt: &impl Abort, reader: &mut MemReader, succeeds: bool) {
     let mut byte = [0];
-    assert!(rt; reader.len() == 1);
-    assert!(rt; reader.read_at(0, &mut byte).is_ok() == succeeds);
+    assert_eq!(rt; reader.len(), 1);
+    expect_same(
+        rt,
+        &reader.read_at(0, &mut byte).is_ok(),
+        &succeeds,
+        &"whether a read succeeds",
+    );
 }
 
 // The second read of file 5 fails.

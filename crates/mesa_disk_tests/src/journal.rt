@@ -21,7 +21,7 @@ fn appended(rt: &impl Abort, alloc: Global, disk: &mut MemDisk) -> bool {
     assert!(rt; disk.journal_len(Area::Zero) > 0);
     match append(disk, Area::Zero, 0, &framed) {
         Ok(end) => {
-            assert!(rt; end == 10);
+            expect_same(rt, &end, &10, &"the end");
             true
         }
         Err(_) => false,
@@ -38,10 +38,16 @@ fn a_shut_gate_ends_the_journal(rt: HostRuntime) {
     let area = [1, 0, 0, 0, 5, 1, 0, 0, 0, 1, 2, 0, 0, 0, 5, 1, 0];
     let mut disk = disk_of(&rt, rt.alloc(), &area, &[]);
     let read = read(&rt, rt.alloc(), &mut disk);
-    assert!(rt; read.end == 10 && read.bodies.len() == 1);
+    expect_same(&rt, &read.end, &10, &"the end");
+    assert_eq!(rt; read.bodies.len(), 1);
     let body = &read.bodies.as_slice()[0];
-    assert!(rt; body.at == 0);
-    assert!(rt; body.bytes.as_slice() == [1, 0, 0, 0, 1].as_slice());
+    expect_same(&rt, &body.at, &0, &"where the body stands");
+    expect_same(
+        &rt,
+        &body.bytes.as_slice(),
+        &[1, 0, 0, 0, 1].as_slice(),
+        &"the body's bytes",
+    );
 }
 
 // At which place an area is damaged, and how many bytes were wanted and found.
@@ -63,15 +69,15 @@ fn a_record_cut_short_is_damage(rt: HostRuntime) {
 // Stops the test of an area that isn't the first run's.
 fn expect_first_run(rt: &impl Abort, disk: &mut MemDisk) {
     let mut bytes = [9; 11];
-    assert!(rt; disk.journal_len(Area::Zero) == 11);
+    assert_eq!(rt; disk.journal_len(Area::Zero), 11);
     assert!(rt; disk.journal_read(Area::Zero, 0, &mut bytes).is_ok());
-    assert!(rt; bytes == [1, 0, 0, 0, 5, 1, 0, 0, 0, 1, 0]);
+    expect_same(rt, &bytes, &[1, 0, 0, 0, 5, 1, 0, 0, 0, 1, 0], &"the bytes");
 }
 
 fn begin(rt: &impl Abort, alloc: Global, disk: &mut MemDisk) {
     assert!(rt; closed(rt, disk));
     assert!(rt; appended(rt, alloc, disk));
-    assert!(rt; disk.clock() == 6);
+    expect_same(rt, &disk.clock(), &6, &"the clock");
     expect_first_run(rt, disk);
 }
 

@@ -156,7 +156,12 @@ fn expect_parts(rt: &impl Abort, query: &Query) {
         &(7, 2),
         &"version and limit",
     );
-    assert!(rt; query.resume() == Some(KEY.as_slice()));
+    expect_same(
+        rt,
+        &query.resume(),
+        &Some(KEY.as_slice()),
+        &"the query's resume key",
+    );
     expect_same(rt, &query.prefix(), &PREFIX, &"prefix");
 }
 

@@ -149,7 +149,7 @@ fn viewed(rt: &impl Abort, alloc: Global, keys: &str, values: &str) -> Evolving 
 
 // Whether a table's one view is `w`, with two key columns and a value column.
 fn has_view(rt: &impl Abort, table: &Evolving) -> bool {
-    assert!(rt; table.views() == 1);
+    assert_eq!(rt; table.views(), 1);
     let schema = table.view_schema(0).expect(rt, "memory");
     let counts = (schema.keys().len(), schema.values().len());
     table.view_name(0).bytes() == b"w".as_slice() && counts == (2, 1)

@@ -66,7 +66,8 @@ fn expect(rt: &impl Abort, alloc: Global, page: &Page, want: &Printed)
     requires { AllByRecursion (λ (row : AnyRow). IsTrue (is_spelling (KeyType.Int ∷ KeyType.Text ∷ []) row.key)) page.now.rows }
 {
     let printed = render(alloc, page, &TYPES, want.0).expect(rt, "memory");
-    assert!(rt; printed.rows == want.1 && printed.more == want.2);
+    expect_same(rt, &printed.rows, &want.1, &"the rows of a page");
+    expect_same(rt, &printed.more, &want.2, &"whether more rows follow");
     let lines = str::from_utf8(printed.body.as_slice());
     expect_same(rt, &lines, &Ok(want.3), &"the lines of a page");
 }

@@ -173,7 +173,7 @@ fn expect_outline(rt: &impl Abort, alloc: Global, command: &Command, want: &'sta
 
 // The same of each command.
 fn expect(rt: &impl Abort, alloc: Global, commands: &[Command], outlines: &[&'static str]) {
-    assert!(rt; commands.len() == outlines.len());
+    assert_eq!(rt; commands.len(), outlines.len());
     for (command, want) in commands.iter().zip(outlines) {
         expect_outline(rt, alloc, command, want);
     }
@@ -188,7 +188,8 @@ fn reads_a_script(rt: HostRuntime) {
     let alloc = rt.alloc();
     let script = parse(alloc, bytes_of(&rt, alloc, TEXT)).expect(&rt, "a script");
     let sessions = script.sessions.as_slice();
-    assert!(rt; script.lease == 7 && sessions.len() == 2);
+    expect_same(&rt, &script.lease, &7, &"the lease");
+    assert_eq!(rt; sessions.len(), 2);
     expect(&rt, alloc, sessions[0].as_slice(), &OUTLINES[..7]);
     expect(&rt, alloc, sessions[1].as_slice(), &OUTLINES[7..]);
 }

@@ -2,6 +2,7 @@
 // mended or not.
 use crate::call::{Case, PLAIN, call_over, run};
 use crate::cases::{expect_over, expect_store, expect_text};
+use crate::expected::expect_same;
 use crate::stores::shown::{shown, spelled};
 use std::alloc::Global;
 use std::process::Abort;
@@ -356,7 +357,7 @@ fn changed_store<R: Abort + Threads + Wait + Sync>(
     case: &Changed,
 ) -> String {
     let mut left = run(rt, alloc, case.script);
-    assert!(rt; left.status == 0, "the run that leaves {}", case.name);
+    expect_same(rt, &left.status, &0, &case.name);
     let mut text = shown(rt, alloc, &mut left.disk);
     for change in case.changes {
         text = with_change(rt, alloc, text.as_str(), change);
