@@ -1,12 +1,12 @@
 -- What a catalogue keeps of ids through a record.
-use Rattle.std.proofs.Common.{◌≡◌, ⊎_elim, ℕ, ◌+◌, ◌≤◌, ◌<◌, ap, subst, sym, ◌∙◌, arith, true}
+use Rattle.std.proofs.Common.{◌≡◌, ⊎_elim, ℕ, ◌≤◌, ap, subst, sym, arith, true}
 use Rattle.std.proofs.lemmas.Bool.{cases_lt}
 use Rattle.std.specs.Prelude.{Option, Some, None, IfSome}
 use Rattle.std.specs.List.{AllByRecursion}
 use Rattle.mesa_record.specs.declared.record.Record.{Record}
 use Rattle.mesa_image_laws.specs.mesa_image.Catalog.{Catalog, applied}
 use Rattle.mesa_image_laws.specs.mesa_image.Fitting.{fits, kind_fits}
-use Rattle.mesa_image_laws.specs.Ids.{brought_ids, named, times}
+use Rattle.mesa_image_laws.specs.Ids.{named, times}
 use Rattle.mesa_catalog.specs.declared.shelves.Shelves.{Shelves}
 use Rattle.mesa_catalog.specs.declared.ready.Ready.{Ready}
 use Rattle.mesa_catalog.specs.Kept.{IsKept}

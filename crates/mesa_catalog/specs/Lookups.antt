@@ -1,7 +1,6 @@
 -- What a catalogue is asked for.
 use Rattle.std.specs.Prelude.{ℕ, ◌+◌, List, [], ◌∷◌, map, length, sum_by, Option, None}
 use Rattle.std.specs.Option.{option_or}
-use Rattle.mesa_schema.specs.declared.views.View.{View}
 use Rattle.mesa_schema.specs.Changes.{epoch_of}
 use Rattle.mesa_batch.specs.Glance.{Known, Sight}
 use Rattle.mesa_record.specs.declared.record.Record.{Record}

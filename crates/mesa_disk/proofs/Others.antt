@@ -1,14 +1,13 @@
 -- What adopting and removing files leaves of an image.
-use Rattle.std.proofs.Common.{◌≡◌, ◌≢◌, inl, inr, ⊎_elim, ℕ, List, [], ◌∷◌, Option, Some, None, IfSome, cond, Bool, true, false, refl, sym, ◌∙◌, ap, subst}
+use Rattle.std.proofs.Common.{◌≡◌, ◌≢◌, inl, inr, ⊎_elim, ℕ, List, [], ◌∷◌, Option, Some, None, cond, Bool, true, false, refl, sym, ◌∙◌, ap}
 use Rattle.std.specs.Ordering.{nat_cmp, eq_by_cmp}
 use Rattle.std.specs.FinMap.{get-insert, get-remove}
 use Rattle.std.specs.Cmp.{nat_cmp_total, eq_by_cmp_equiv}
 use Rattle.mesa_disk.specs.Image.{Image, with_file, without_file, file_of, Adopts, Loses, May, InArea}
-use Rattle.mesa_disk.specs.Story.{Steps}
-use Rattle.mesa_disk.specs.Files.{InTurn, AddsAll, AddsSome, AddsFirst, LosesAll, LosesSome, LosesFirst, HasOtherIds, HasDistinctIds, OthersStay, AreThere, IsNoneOf, AreGone}
+use Rattle.mesa_disk.specs.Files.{AddsAll, AddsSome, AddsFirst, LosesAll, LosesSome, LosesFirst, HasOtherIds, HasDistinctIds, OthersStay, AreThere, IsNoneOf, AreGone}
 use Rattle.mesa_disk.specs.declared.area.Area.{Area}
 use Rattle.mesa_disk.specs.declared.area.Area.TheVariants.{Zero, One}
-use Rattle.mesa_disk.proofs.Rounds.{other_file, not_equal, each, first_some, steps_weaker}
+use Rattle.mesa_disk.proofs.Rounds.{other_file, not_equal, each, first_some}
 
 -- ---- one file
 

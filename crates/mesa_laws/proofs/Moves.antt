@@ -1,7 +1,7 @@
 -- What a turn makes of the tables and the number of versions: nothing, or what one of five commands makes of them.
-use Rattle.std.proofs.Common.{◌≡◌, ℕ, ◌+◌, List, [], ◌∷◌, ◌++◌, map, length, true, false, subst, sym, Option, Some, None, Result, Ok, Err, is_none, is_ok, nat_le}
+use Rattle.std.proofs.Common.{◌≡◌, ℕ, ◌+◌, List, [], ◌∷◌, ◌++◌, length, true, false, subst, sym, Some, Result, Ok, Err, is_none, is_ok, nat_le}
 use Rattle.mesa_schema.specs.declared.changes.Change.{Change}
-use Rattle.mesa_schema.specs.Changes.{change_checked, columns_of, epoch_of}
+use Rattle.mesa_schema.specs.Changes.{change_checked, columns_of}
 use Rattle.mesa_schema.specs.Names.{is_name}
 use Rattle.mesa_schema.specs.Schema.{schema_checked}
 use Rattle.mesa_batch.specs.declared.words.RowWords.{RowWords}
@@ -28,7 +28,6 @@ use Rattle.mesa_model.specs.Pins.{make_pin, pin_of, release_pin}
 use Rattle.mesa_model.specs.Query.{Answer, query_answer}
 use Rattle.mesa_model.specs.Refusals.{refuse_closed}
 use Rattle.mesa_history.specs.Law.{Accepted, accepted, accepted_as, batch_or_none}
-use Rattle.mesa_history.specs.Run.{Told}
 use Rattle.mesa_laws.proofs.Checks.{after_value, after_check, after_refuse_if, after_refuse_unless, after_some, after_other, after_other_check}
 
 -- ---- what a command makes

@@ -1,5 +1,5 @@
 -- A vault before its first turn, one whose disk gave readers back, and what a session sees of one.
-use Rattle.std.proofs.Common.{◌≡◌, ℕ, ◌<◌, List, [], Bool, true, false, ◌∙◌, subst, arith, Option, None, IsTrue}
+use Rattle.std.proofs.Common.{◌≡◌, ℕ, ◌<◌, List, [], Bool, true, false, ◌∙◌, arith, Option, None, IsTrue}
 use Rattle.mesa_walk.specs.mesa_disk.Story.{Story, Unmoved}
 use Rattle.mesa_image_laws.specs.mesa_model.declared.entries.Entry.{Entry}
 use Rattle.mesa_image_laws.specs.mesa_history.Claims.{HasRanges, HasClaimAt}

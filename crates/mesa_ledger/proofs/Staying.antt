@@ -1,5 +1,5 @@
 -- How each turn that moves no image keeps a vault.
-use Rattle.std.proofs.Common.{◌≡◌, ℕ, ◌+◌, ◌<◌, ◌≤◌, List, [], ◌∷◌, ◌++◌, length, Bool, true, not, refl, sym, ap, subst, arith, Option, None, Some, IsTrue}
+use Rattle.std.proofs.Common.{◌≡◌, ℕ, ◌+◌, ◌≤◌, List, [], ◌∷◌, ◌++◌, length, Bool, true, not, refl, sym, ap, subst, arith, Option, None, Some, IsTrue}
 use Rattle.std.specs.Prelude.{filter}
 use Rattle.mesa_trash.specs.mesa_commit.Images.{Has}
 use Rattle.mesa_walk.specs.mesa_disk.Image.{Image}

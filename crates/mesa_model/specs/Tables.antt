@@ -1,14 +1,13 @@
 -- Making tables and views, and changing schemas.
-use Rattle.std.specs.Prelude.{ℕ, ◌+◌, ◌-◌, List, [], ◌∷◌, ◌++◌, map, length, take, drop, unwrap_or, replicate, Bool, ◌&&◌, nat_le, if◌then◌else◌, Result, Ok}
+use Rattle.std.specs.Prelude.{ℕ, ◌+◌, ◌-◌, List, [], ◌∷◌, ◌++◌, map, length, replicate, Bool, ◌&&◌, nat_le, Result, Ok}
 use Rattle.std.specs.List.{list_all}
 use Rattle.std.specs.Option.{ok_or}
 use Rattle.mesa_list.specs.Checks.{◌>>=◌, ◌>>◌, refuse_if, refuse_unless, refused_as}
-use Rattle.mesa_value.specs.declared.Agg.{Agg}
 use Rattle.mesa_schema.specs.declared.changes.Change.{Change}
 use Rattle.mesa_schema.specs.declared.changes.Change.TheVariants as change
 use Rattle.mesa_schema.specs.Names.{is_name}
 use Rattle.mesa_schema.specs.Numbers.{signed_of, key_value_of}
-use Rattle.mesa_schema.specs.Columns.{Columns, key_names, value_names, aggs_of, place_of}
+use Rattle.mesa_schema.specs.Columns.{Columns, key_names, value_names, aggs_of}
 use Rattle.mesa_schema.specs.Schema.{schema_checked}
 use Rattle.mesa_schema.specs.Changes.{columns_of, epoch_of, with_change, new_name_checked, change_checked, lifted_once}
 use Rattle.mesa_schema.specs.Views.{max_views, view_checked, with_view}

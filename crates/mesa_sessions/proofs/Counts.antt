@@ -1,5 +1,5 @@
 -- What benches counted, where the passes of two parts of the sessions are joined.
-use Rattle.std.proofs.Common.{◌≡◌, ℕ, ◌+◌, ◌<◌, ◌≤◌, List, [], ◌∷◌, ◌++◌, length, true, get_or, slice_set, sym, ◌∙◌, ap, subst, arith}
+use Rattle.std.proofs.Common.{◌≡◌, ℕ, ◌+◌, ◌≤◌, List, [], ◌∷◌, ◌++◌, length, true, get_or, slice_set, sym, ◌∙◌, ap, subst, arith}
 use Rattle.mesa_model.specs.declared.entries.Entry.{Entry}
 use Rattle.mesa_turn.specs.History.{has}
 use Rattle.mesa_turn.specs.Passes.{Joins, Known}

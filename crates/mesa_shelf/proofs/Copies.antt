@@ -4,7 +4,6 @@ use Rattle.std.specs.Prelude.{Option, Some, None, option_map, replicate, ⊤}
 use Rattle.std.specs.declared.alloc.Global.{Global}
 use Rattle.std.specs.declared.sync.Arc.{Arc}
 use Rattle.std.proofs.lemmas.List.{length-map}
-use Rattle.mesa_schema.specs.Changes.{Lineage}
 use Rattle.mesa_span.specs.Ranges.{start_behind}
 use Rattle.mesa_image.specs.Catalog.{Delta, Ending, empty_delta, end_in}
 use Rattle.mesa_shelf.specs.declared.table.Base.{Base}

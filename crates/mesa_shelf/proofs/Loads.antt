@@ -1,5 +1,5 @@
 -- A table with a version more.
-use Rattle.std.proofs.Common.{◌≡◌, ℕ, ◌+◌, ◌-◌, ◌≤◌, [], ◌∷◌, ◌++◌, refl, sym, ◌∙◌, ap, subst, arith}
+use Rattle.std.proofs.Common.{◌≡◌, ℕ, ◌+◌, ◌≤◌, [], ◌∷◌, ◌++◌, refl, sym, ◌∙◌, ap, subst, arith}
 use Rattle.std.specs.Prelude.{Some, None, Vec}
 use Rattle.std.specs.declared.alloc.Global.{Global}
 use Rattle.mesa_image.specs.Catalog.{stock_loaded}

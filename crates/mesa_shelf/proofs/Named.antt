@@ -1,5 +1,5 @@
 -- What a table names is what is held.
-use Rattle.std.proofs.Common.{◌≡◌, ℕ, zero, suc, ◌+◌, ◌-◌, ◌≤◌, ◌<◌, List, [], ◌∷◌, ◌++◌, length, map, take, refl, sym, ◌∙◌, ap, arith, append_assoc, Bool, true, false, cond}
+use Rattle.std.proofs.Common.{◌≡◌, ℕ, zero, suc, ◌+◌, ◌-◌, ◌≤◌, ◌<◌, List, [], ◌∷◌, ◌++◌, length, map, take, refl, sym, ◌∙◌, ap, arith, Bool, true, false, cond}
 use Rattle.std.specs.Prelude.{◌==◌, ◌||◌, Option, Some, None, option_map, flat_map, replicate, nat_le}
 use Rattle.std.specs.List.{list_any}
 use Rattle.std.specs.declared.alloc.Global.{Global}
@@ -14,9 +14,9 @@ use Rattle.mesa_image.specs.Fitting.{base_deltas, delta_in, delta_shelved, delta
 use Rattle.mesa_shelf.specs.declared.table.Base.{Base}
 use Rattle.mesa_shelf.specs.declared.table.Loaded.{Loaded}
 use Rattle.mesa_shelf.specs.declared.table.Table.{Table}
-use Rattle.mesa_shelf.specs.Meaning.{AreLoaded, ending_of, singles_from, start_of_base, stock_of, tens_from}
+use Rattle.mesa_shelf.specs.Meaning.{AreLoaded, ending_of, singles_from, start_of_base, stock_of}
 use Rattle.mesa_shelf.specs.Files.{recorded_of, recorded_shared, recorded_single}
-use Rattle.mesa_shelf.specs.Named.{base_ids, delta_ids, file_ids, ids_if_any, shared_ids, single_ids, table_ids, through, view_id}
+use Rattle.mesa_shelf.specs.Named.{base_ids, delta_ids, ids_if_any, shared_ids, single_ids, table_ids, through, view_id}
 use Rattle.mesa_shelf.proofs.Singles.{empties_give, flat_map-append, singles_give}
 use Rattle.mesa_shelf.proofs.Tens.{tens_deltas}
 

@@ -1,5 +1,5 @@
 -- The ranges that work may give.
-use Rattle.std.proofs.Common.{◌≡◌, ℕ, ◌-◌, length, map, refl, ◌∙◌, ap, Bool, true, false, cond}
+use Rattle.std.proofs.Common.{◌≡◌, ℕ, length, map, refl, ◌∙◌, ap, Bool, true, false, cond}
 use Rattle.std.specs.Prelude.{◌==◌, ◌&&◌, nat_lt, nat_le, Some, None}
 use Rattle.mesa_span.specs.Ranges.{base_before, end_of, ends_of_tens, start_behind}
 use Rattle.mesa_span.specs.Work.{missing_end}

@@ -1,4 +1,4 @@
-use Rattle.std.proofs.Common.{◌≡◌, ◌<◌, ◌∷◌, ◌++◌, [], true, not, refl, sym, ◌∙◌, ap, subst}
+use Rattle.std.proofs.Common.{◌≡◌, ◌∷◌, ◌++◌, [], true, not, refl, sym, ◌∙◌, ap, subst}
 use Rattle.mesa_history.specs.Run.{Answered, Finished}
 use Rattle.mesa_model.specs.Query.{Answer}
 use Rattle.mesa_model.specs.declared.commands.Command.TheVariants as command

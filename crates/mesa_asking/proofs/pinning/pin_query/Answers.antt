@@ -1,4 +1,4 @@
-use Rattle.std.proofs.Common.{◌≡◌, ◌<◌, List, [], ◌∷◌, ◌++◌, length, true, false, not, refl, sym, ◌∙◌, ap, subst}
+use Rattle.std.proofs.Common.{◌≡◌, List, [], ◌∷◌, ◌++◌, length, true, false, not, refl, sym, ◌∙◌, ap, subst}
 use Rattle.mesa_asking.specs.Opening.{asked_ledger}
 use Rattle.mesa_asking.proofs.Opens.{opened_engine, unopened_engine, unopened_takes}
 use Rattle.mesa_asking.proofs.Telling.{asked_shaped, files_answered, opened_is, opened_undamaged}

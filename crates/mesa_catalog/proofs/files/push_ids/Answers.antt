@@ -1,4 +1,4 @@
-use Rattle.std.proofs.Common.{◌≡◌, ◌++◌, ◌-◌, ◌^◌, ◌≤◌, ◌∙◌, ap, sym, subst, arith}
+use Rattle.std.proofs.Common.{◌++◌, ◌-◌, ◌^◌, ◌∙◌, ap, sym, subst, arith}
 use Rattle.mesa_shelf.specs.Meaning.{IsTable}
 use Rattle.mesa_shelf.specs.Named.{table_ids}
 use Rattle.mesa_shelf.proofs.Pushes.{pushed_more}

@@ -1,4 +1,4 @@
-use Rattle.std.proofs.Common.{◌≡◌, ℕ, ◌∙◌, ap, sym, Bool}
+use Rattle.std.proofs.Common.{ℕ, ◌∙◌, ap, sym, Bool}
 use Rattle.std.specs.List.{list_all}
 use Rattle.mesa_record.specs.declared.record.Part.{Part}
 use Rattle.mesa_shelf.specs.Named.{file_ids, ids_if_any}

@@ -1,4 +1,4 @@
-use Rattle.std.proofs.Common.{◌≡◌, ◌+◌, ◌-◌, ◌^◌, ◌∙◌, ap, arith, take}
+use Rattle.std.proofs.Common.{◌-◌, ◌^◌, ◌∙◌, ap, arith, take}
 use Rattle.std.specs.Prelude.{flat_map, min}
 use Rattle.std.proofs.lemmas.List.{take_all}
 use Rattle.mesa_image_laws.specs.Ids.{times}

@@ -1,5 +1,4 @@
 use Rattle.std.proofs.Common.{◌≡◌, ◌<◌, length, pos, get_or, arith, refl, sym, rules, ◌∙◌, true}
-use Rattle.std.specs.Prelude.{IsTrue}
 use Rattle.std.proofs.lemmas.Bool.{false≢true}
 use Rattle.mesa_value.specs.Agg.{Combines}
 use Rattle.mesa_delta.proofs.Adding.{sums_at, sums_end, sums_onto}

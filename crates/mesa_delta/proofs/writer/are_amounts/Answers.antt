@@ -1,4 +1,4 @@
-use Rattle.std.proofs.Common.{sym, subst, pos, get_or, rules, arith}
+use Rattle.std.proofs.Common.{sym, subst, pos, get_or, rules}
 use Rattle.std.specs.List.{AllByRecursion}
 use Rattle.std.proofs.lemmas.List.{take_more, take_all}
 use Rattle.mesa_value.specs.Agg.{IsAmount}

@@ -1,4 +1,4 @@
-use Rattle.std.proofs.Common.{◌≡◌, inr, ◌+◌, ◌++◌, [], ◌∷◌, List, ℕ, take, drop, refl, sym, ◌∙◌, ap, subst, take-append-drop}
+use Rattle.std.proofs.Common.{◌≡◌, ◌+◌, ◌++◌, [], ◌∷◌, List, ℕ, take, drop, refl, sym, ◌∙◌, ap, subst, take-append-drop}
 use Rattle.std.proofs.lemmas.List.{take_more, drop_more, take_all}
 use Rattle.mesa_disk.specs.Story.{Steps, After, Follows, Elapses}
 use Rattle.mesa_disk.specs.Image.{Loses, May}

@@ -1,4 +1,4 @@
-use Rattle.std.proofs.Common.{rules, ◌≡◌, ℕ, ◌+◌, ◌≤◌, List, [], ◌∷◌, length, get_or, refl, sym, subst, arith}
+use Rattle.std.proofs.Common.{rules, ◌≡◌, ℕ, ◌+◌, ◌≤◌, List, [], ◌∷◌, length, get_or, sym, subst}
 use Rattle.mesa_model.specs.Entry.{history_of}
 use Rattle.mesa_skeleton.specs.Rows.{no_rows}
 use Rattle.mesa_passes.specs.Answers.{HasCounted, HaveCounted}

@@ -1,7 +1,7 @@
-use Rattle.std.proofs.Common.{◌≡◌, ◌∙◌, ap, map}
+use Rattle.std.proofs.Common.{◌∙◌, ap, map}
 use Rattle.mesa_shelf.specs.declared.table.Table.{Table}
 use Rattle.mesa_shelf.specs.Copied.{loaded_as, value_in}
-use Rattle.mesa_shelf.proofs.Copies.{IsShared, shared_stock, shared_table}
+use Rattle.mesa_shelf.proofs.Copies.{shared_stock, shared_table}
 use Rattle.mesa_shelf.proofs.copying.share_table.Goals as goal
 
 pub returns-clause-same : goal.returns-clause-same

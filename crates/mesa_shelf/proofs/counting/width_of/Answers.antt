@@ -1,1 +1,0 @@
-use Rattle.mesa_shelf.proofs.counting.width_of.Goals as goal

@@ -1,4 +1,4 @@
-use Rattle.std.proofs.Common.{◌≡◌, ◌++◌, ◌∷◌, [], ◌∙◌, ap, sym, append_assoc, map}
+use Rattle.std.proofs.Common.{◌++◌, ◌∷◌, [], ◌∙◌, ap, sym, append_assoc, map}
 use Rattle.std.proofs.lemmas.Simd.{map-map}
 use Rattle.mesa_image.specs.Fitting.{Shelved, view_shelved}
 use Rattle.mesa_schema.specs.Changes.{columns_at}

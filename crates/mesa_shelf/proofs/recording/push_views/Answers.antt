@@ -1,4 +1,4 @@
-use Rattle.std.proofs.Common.{◌≡◌, ◌++◌, ◌∷◌, [], ◌∙◌, ap, refl}
+use Rattle.std.proofs.Common.{◌++◌, ◌∷◌, [], ◌∙◌, ap, refl}
 use Rattle.mesa_shelf.specs.Files.{recorded_view}
 use Rattle.mesa_shelf.proofs.Pushes.{pushed_each, pushed_one}
 use Rattle.mesa_shelf.proofs.recording.push_views.Goals as goal

@@ -1,4 +1,4 @@
-use Rattle.std.proofs.Common.{◌+◌, ◌++◌, ◌∷◌, [], ◌∙◌, ap, sym, subst, length, arith, true, false, ℕ}
+use Rattle.std.proofs.Common.{◌++◌, ◌∷◌, [], ◌∙◌, ap, sym, subst, length, arith, ℕ}
 use Rattle.std.proofs.lemmas.List.{length_push}
 use Rattle.mesa_image.specs.Catalog.{stock_swapped}
 use Rattle.mesa_shelf.specs.Meaning.{start_of_base, stock_of, tens_from}

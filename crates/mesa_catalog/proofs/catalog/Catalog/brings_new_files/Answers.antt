@@ -1,4 +1,4 @@
-use Rattle.std.proofs.Common.{◌≡◌, ◌≤◌, ◌∙◌, ap, sym, subst}
+use Rattle.std.proofs.Common.{◌≤◌, ◌∙◌, ap, sym, subst}
 use Rattle.std.specs.List.{AllByRecursion}
 use Rattle.mesa_image_laws.specs.mesa_image.Fitting.{brings_new_files}
 use Rattle.mesa_catalog.specs.Kept.{Reserved}

@@ -1,4 +1,4 @@
-use Rattle.std.proofs.Common.{◌+◌, ◌-◌, ◌∙◌, List, ap, sym, subst, arith, length, map}
+use Rattle.std.proofs.Common.{◌+◌, ◌∙◌, List, ap, sym, subst, arith, length, map}
 use Rattle.std.specs.Prelude.{slice_get, IfSome}
 use Rattle.std.specs.List.{AllByRecursion}
 use Rattle.std.proofs.lemmas.List.{with_items_is}

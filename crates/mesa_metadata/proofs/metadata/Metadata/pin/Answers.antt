@@ -3,7 +3,6 @@ use Rattle.std.proofs.lemmas.List.{map-append}
 use Rattle.mesa_catalog.specs.Kept.{Reserved}
 use Rattle.mesa_ledger.specs.Ledger.{HeldPin, next_id}
 use Rattle.mesa_ledger.specs.Turned.{pin_now, pinned_ledger}
-use Rattle.mesa_trash.specs.declared.trash.Hold.{Hold}
 use Rattle.mesa_metadata.specs.declared.holders.Pin.{Pin}
 use Rattle.mesa_metadata.specs.Meaning.{pin_as, pins_in}
 use Rattle.mesa_metadata.specs.Memory.{Memory, hold_now, with_ledger}

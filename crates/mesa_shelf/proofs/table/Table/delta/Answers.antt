@@ -1,4 +1,4 @@
-use Rattle.std.proofs.Common.{◌≡◌, ◌∙◌, ap, sym}
+use Rattle.std.proofs.Common.{◌∙◌, ap, sym}
 use Rattle.std.specs.Option.{option_copied, option_or}
 use Rattle.mesa_shelf.specs.Meaning.{stock_of}
 use Rattle.mesa_shelf.specs.Ranged.{single_at}

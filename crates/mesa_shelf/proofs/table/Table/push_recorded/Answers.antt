@@ -1,4 +1,4 @@
-use Rattle.std.proofs.Common.{◌≡◌, ◌++◌, ◌∙◌, ap, sym, append_assoc, map}
+use Rattle.std.proofs.Common.{◌++◌, ◌∙◌, ap, sym, append_assoc, map}
 use Rattle.std.specs.Prelude.{flat_map, option_map}
 use Rattle.mesa_schema.specs.Changes.{Lineage}
 use Rattle.mesa_image.specs.Fitting.{base_deltas, delta_shelved}

@@ -1,4 +1,4 @@
-use Rattle.std.proofs.Common.{◌≤◌, ◌<◌, sym, subst, arith}
+use Rattle.std.proofs.Common.{◌≤◌, ◌<◌, sym, subst}
 use Rattle.mesa_shelf.proofs.Ranged.{none_before, none_behind, none_where_they_differ}
 use Rattle.mesa_shelf.proofs.table.Table.single.Goals as goal
 use Rattle.mesa_shelf.proofs.table.Table.single.Goals.{then-from-to-via-then-from-to, then-from-to-via-else-from-to+then-from-start, then-from-to-via-else-from-to+else-from-start+then-next-from}
