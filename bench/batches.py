@@ -7,46 +7,31 @@ PROGRAM is the built program, by default crates/mesa_bench/out/mesa_bench. It is
 best of three runs each. The making of the load is measured by itself and taken off. `batch` is the reading of the load
 as a batch, which one thread does; the files are written side by side."""
 import os
-import pathlib
-import subprocess
-import sys
-import time
 
-ROOT = pathlib.Path(__file__).resolve().parent.parent
+from measure import call, given_program, least, machine
+
 ROWS = 1_000_000
 RUNS = 3
 
 
-def measured(program, word, processors):
-    """The seconds, by the clock and of the processors, and the peak memory in MB of one run of the program."""
-    allowed = sorted(os.sched_getaffinity(0))[:processors]
-    start = time.monotonic()
-    child = subprocess.Popen([program, word, str(ROWS)], stdout=subprocess.DEVNULL,
-                             preexec_fn=lambda: os.sched_setaffinity(0, allowed))
-    _, status, used = os.wait4(child.pid, 0)
-    seconds = time.monotonic() - start
-    child.returncode = os.waitstatus_to_exitcode(status)
-    if child.returncode != 0:
-        sys.exit(f"{word}: the program ended with status {child.returncode}")
-    return seconds, used.ru_utime + used.ru_stime, used.ru_maxrss * 1024 / 1e6
-
-
 def best(program, word, processors):
-    """The least of some runs."""
-    return [min(values) for values in zip(*(measured(program, word, processors) for _ in range(RUNS)))]
+    """The best of some calls on so many processors."""
+    allowed = sorted(os.sched_getaffinity(0))[:processors]
+    command, allow = [program, word, str(ROWS)], lambda: os.sched_setaffinity(0, allowed)
+    return least([call(command, preexec_fn=allow) for _ in range(RUNS)])
 
 
 def main():
-    program = sys.argv[1] if len(sys.argv) > 1 else str(ROOT / "crates/mesa_bench/out/mesa_bench")
-    print(f"processors: {os.cpu_count()}; load: {os.getloadavg()[0]:.1f}; {ROWS:,} rows, two views")
+    program = given_program("mesa_bench")
+    print(f"{machine()}; {ROWS:,} rows, two views")
     print("| processors | | s | processor s | rows a second | MB beside the load |")
     print("|---|---|---|---|---|---|")
     for processors in (1, 4):
         made = best(program, "load", processors)
         for word in ("batch", "prepare"):
-            run = best(program, word, processors)
-            seconds, busy, memory = (a - b for a, b in zip(run, made))
-            print(f"| {processors} | {word} | {seconds:.2f} | {busy:.2f} | {ROWS / seconds:,.0f} | {memory:.0f} |")
+            found = best(program, word, processors)
+            seconds, busy = found.beyond(made)
+            print(f"| {processors} | {word} | {seconds:.2f} | {busy:.2f} | {ROWS / seconds:,.0f} | {found.peak - made.peak:.0f} |")
 
 
 if __name__ == "__main__":

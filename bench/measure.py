@@ -1,5 +1,5 @@
-"""What the measurements of the program have in common: a run of it over a store, and the part of its time that
-SHA-256 takes."""
+"""What the measurements of programs have in common: a call with what it took, a run over a store, and the part of its time
+that SHA-256 takes."""
 import os
 import pathlib
 import re
@@ -12,11 +12,10 @@ import time
 import typing
 
 ROOT = pathlib.Path(__file__).resolve().parent.parent
-PROGRAM = ROOT / "crates/mesa/out/mesa"
 
 
 class Run(typing.NamedTuple):
-    """A run's seconds by the clock and of the processors, its peak memory in MB, and what it printed."""
+    """A call's seconds by the clock and of the processors, its peak memory in MB, and what it printed."""
 
     seconds: float
     busy: float
@@ -28,9 +27,9 @@ class Run(typing.NamedTuple):
         return self.seconds - other.seconds, self.busy - other.busy
 
 
-def given_program():
-    """The program that the command line names, or the one that `rt run` leaves."""
-    return os.path.abspath(sys.argv[1] if len(sys.argv) > 1 else PROGRAM)
+def given_program(name="mesa"):
+    """The program that the command line names, or the one of a crate that `rt run` leaves."""
+    return os.path.abspath(sys.argv[1] if len(sys.argv) > 1 else ROOT / f"crates/{name}/out/{name}")
 
 
 def allow_open_files():
@@ -49,22 +48,34 @@ def new_folder():
     return tempfile.TemporaryDirectory(dir=os.getcwd())
 
 
-def run(program, folder, lines, before=(), words=("run",)):
-    """One call of the program over the store in a folder, by default a run of a script, in which every reply has to be Ok.
-    `before` starts the program."""
-    with tempfile.TemporaryFile("w+") as script, tempfile.TemporaryFile("w+") as printed:
-        script.writelines(line + "\n" for line in lines)
-        script.seek(0)
+def call(command, **how):
+    """Calls a program, which has to end with status 0. `how` is what Popen is given.
+
+    The peak is the one that GNU time tells, and nan where that is missing: what Python is told of a program that it
+    starts itself is at least Python's own."""
+    timer = shutil.which("time")
+    with tempfile.NamedTemporaryFile("r") as told, tempfile.TemporaryFile("w+") as printed:
+        before = [timer, "-q", "-f", "%M", "-o", told.name] if timer else []
         start = time.monotonic()
-        child = subprocess.Popen([*before, program, *words], cwd=folder, stdin=script, stdout=printed)
+        child = subprocess.Popen([*before, *command], stdout=printed, **how)
         _, status, used = os.wait4(child.pid, 0)
         seconds = time.monotonic() - start
         child.returncode = os.waitstatus_to_exitcode(status)
         printed.seek(0)
         text = printed.read()
+        peak = int(told.read()) * 1024 / 1e6 if timer else float("nan")
     if child.returncode != 0:
-        sys.exit(f"the program ended with status {child.returncode}: {text[:200]}")
-    return Run(seconds, used.ru_utime + used.ru_stime, used.ru_maxrss / 1024, text)
+        sys.exit(f"{' '.join(command)}: ended with status {child.returncode}: {text[:200]}")
+    return Run(seconds, used.ru_utime + used.ru_stime, peak, text)
+
+
+def run(program, folder, lines, before=(), words=("run",)):
+    """One call of the program over the store in a folder, by default a run of a script, in which every reply has to be Ok.
+    `before` starts the program."""
+    with tempfile.TemporaryFile("w+") as script:
+        script.writelines(line + "\n" for line in lines)
+        script.seek(0)
+        return call([*before, program, *words], cwd=folder, stdin=script)
 
 
 def least(runs):

@@ -135,7 +135,7 @@ def main():
         loaded = anew(program, folder, loads(), RUNS)
         with new_folder() as other:
             part = digest_part(program, other, loads())
-        script = sum(len(it) + 1 for it in loads()) / 2**20
+        script = sum(len(it) + 1 for it in loads()) / 1e6
         print(line("load", loaded[:2], peer_loads, part, VERSIONS * ROWS), flush=True)
         beyond, empty, asked = answered(program, folder, rows)
         # (a query of one day reads one of the two blocks of each version's file, the others read both)
