@@ -1,9 +1,9 @@
 // Tables of calls, and of what they leave.
 use crate::call::{Case, Left, call_over, empty_disk, run};
-use crate::expected::expect_same;
-use crate::stores::shown::{are_files, shown, spelled};
+use crate::expected::{expect_same, expect_that};
+use crate::stores::shown::{are_numbered, shown, spelled};
 use crate::texts::{Part, whole};
-use mesa_disk::{FileId, MemDisk};
+use mesa_disk::{Disk, FileId, MemDisk};
 use std::alloc::Global;
 use std::process::Abort;
 use std::str;
@@ -12,13 +12,15 @@ use std::thread::Threads;
 
 fn expect_turns(rt: &impl Abort, case: &Case<'_>, left: &Left) {
     let turns = left.history.len();
-    let are_same = turns == case.turns.unwrap_or(turns);
-    assert!(rt; are_same, "the turns of {}: {turns}", case.name);
+    let wanted = case.turns.unwrap_or(turns);
+    expect_same(rt, &turns, &wanted, &("the turns of", case.name));
 }
 
 fn expect_files(rt: &impl Abort, case: &Case<'_>, disk: &mut MemDisk) {
     if let Some(files) = case.files {
-        assert!(rt; are_files(rt, disk, files), "the files of {}", case.name);
+        let ids = disk.file_ids().expect(rt, "a list of files");
+        let are_same = are_numbered(&ids, files);
+        expect_that(rt, are_same, &ids.as_slice(), &("the files of", case.name));
     }
 }
 

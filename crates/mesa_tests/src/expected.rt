@@ -13,3 +13,10 @@ pub fn expect_same<T: PartialEq + Debug, C: Debug>(
         panic!(rt; "{case:?}: {found:?} is found, {wanted:?} is wanted");
     }
 }
+
+/// Stops the test of a case where what is found isn't as it has to be.
+pub fn expect_that<T: Debug, C: Debug>(rt: &impl Abort, holds: bool, found: &T, case: &C) {
+    if !holds {
+        panic!(rt; "{case:?}: {found:?} is found");
+    }
+}

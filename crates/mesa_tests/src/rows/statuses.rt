@@ -1,8 +1,10 @@
 // How calls end that run nothing, or whose streams fail.
 use crate::call::{Case, PLAIN, call_over, empty_disk, script_run};
 use crate::cases::{expect_cases, expect_text};
+use crate::expected::expect_that;
 use std::alloc::Global;
 use std::process::Abort;
+use std::str;
 use std::sync::Wait;
 use std::thread::Threads;
 
@@ -115,7 +117,9 @@ fn expect_front<R: Abort + Threads + Wait + Sync>(rt: &R, alloc: Global, case: &
     let left = call_over(rt, alloc, empty_disk(alloc), case);
     let is_front = ONE_ROW_TEXT.as_bytes().starts_with(&left.text);
     let is_whole = left.text.len() == ONE_ROW_TEXT.len();
-    assert!(rt; is_front && left.status == case.status && is_whole == (case.status == 0));
+    let is_right = is_front && left.status == case.status && is_whole == (case.status == 0);
+    let found = (left.status, str::from_utf8(&left.text));
+    expect_that(rt, is_right, &found, &(case.name, case.sink_fails));
 }
 
 #[test]

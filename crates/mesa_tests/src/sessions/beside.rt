@@ -1,5 +1,6 @@
 // Eight sessions of 200 commands each beside each other, in whatever order their turns come.
 use crate::call::run;
+use crate::expected::expect_same;
 use crate::sessions::replay::expect_replayed;
 use crate::texts::push_filled;
 use std::alloc::Global;
@@ -74,6 +75,6 @@ fn eight_sessions(rt: &impl Abort, alloc: Global) -> String {
 fn eight_sessions_of_200_commands(rt: HostRuntime) {
     let script = eight_sessions(&rt, rt.alloc());
     let left = run(&rt, rt.alloc(), script.as_str());
-    assert!(rt; left.status == 1, "some replies are refusals");
+    expect_same(&rt, &left.status, &1, &"some replies are refusals");
     expect_replayed(&rt, rt.alloc(), script.as_str(), &left.text);
 }

@@ -1,11 +1,13 @@
 // A long run with expiry and work: its answers are those of a warehouse that merges nothing, and what is on the
 // disk is bounded by what is live.
 use crate::call::{Left, run};
+use crate::expected::expect_same;
 use crate::sessions::replay::expect_replayed;
 use crate::texts::push_filled;
 use mesa_disk::Disk;
 use std::alloc::Global;
 use std::process::Abort;
+use std::str;
 
 /// How many versions there are.
 const VERSIONS: u32 = 2_000;
@@ -46,10 +48,12 @@ static PLAN: &str = " spans 6\n\
 
 // A base, two cumulatives and the 24 singletons behind the base: of each a file of the table and one of the view.
 fn expect_few(rt: &impl Abort, left: &mut Left) {
-    assert!(rt; left.status == 0, "no reply is a refusal");
-    assert!(rt; left.text.ends_with(PLAN.as_bytes()), "the last plan");
+    expect_same(rt, &left.status, &0, &"no reply is a refusal");
+    let plan = left.text.len().saturating_sub(PLAN.len());
+    let last = left.text.get(plan..).unwrap_or(b"");
+    expect_same(rt, &str::from_utf8(last), &Ok(PLAN), &"the last plan");
     let files = left.disk.file_ids().expect(rt, "a list of files");
-    assert!(rt; files.len() == 54, "the files of 27 deltas");
+    expect_same(rt, &files.len(), &54, &"the files of 27 deltas");
 }
 
 #[test]

@@ -2,7 +2,7 @@
 ghost use Rattle.std.specs.Prelude.{◌≡◌, ◌<◌, ◌+◌, ◌^◌, IsTrue};
 ghost use Rattle.mesa_plain.specs.Plain.{GaveAtMost, is_plain};
 
-use crate::expected::expect_same;
+use crate::expected::{expect_same, expect_that};
 use mesa_model::{Command, Reply};
 use mesa_parse::parse;
 use mesa_plain::PlainWarehouse;
@@ -187,7 +187,7 @@ fn expect_work(rt: &impl Abort, printed: &[u8]) {
         || reply.starts_with("busy lease=")
         || reply.starts_with("refused lost lease=")
         || reply.starts_with("spans ");
-    assert!(rt; is_one, "a work or an explain prints {reply}");
+    expect_that(rt, is_one, &reply, &"the reply to a work or an explain");
 }
 
 // Does the commands of blocks one after the other.

@@ -1,5 +1,6 @@
 // A run that is stopped at any moment leaves a front of what it did, with every command that it had acknowledged.
 use crate::call::{Case, Left, PLAIN, call_over, run};
+use crate::expected::{expect_same, expect_that};
 use mesa_disk::{Disk, MemDisk};
 use mesa_model::{Entry, Kind};
 use std::alloc::Global;
@@ -217,10 +218,9 @@ fn is_front(commands: usize, answers: &str) -> bool {
 fn expect_answers(rt: &impl Abort, left: &Left, moment: u64, commands: usize) {
     let answers = str::from_utf8(&left.text).unwrap_or("no text");
     let next = commands.wrapping_add(1);
-    assert!(rt;
-        is_front(commands, answers) || is_front(next, answers),
-        "moment {moment}, behind {commands} commands: {answers}"
-    );
+    let is_either = is_front(commands, answers) || is_front(next, answers);
+    let case = ("the moment and the commands before it", moment, commands);
+    expect_that(rt, is_either, &answers, &case);
 }
 
 // The same of each image of a moment.
@@ -249,6 +249,6 @@ fn expect_moments<R: Abort + Threads + Wait + Sync>(rt: &R, alloc: Global, left:
 #[test]
 fn a_run_stopped_at_each_moment(rt: HostRuntime) {
     let left = run(&rt, rt.alloc(), SCRIPT);
-    assert!(rt; left.status == 0, "the run that is stopped");
+    expect_same(&rt, &left.status, &0, &"the run that is stopped");
     expect_moments(&rt, rt.alloc(), &left);
 }

@@ -61,8 +61,8 @@ pub fn spelled(rt: &impl Abort, alloc: Global, text: &str, fails: &[u64]) -> Mem
     MemDisk::new(alloc, area, Vec::new(alloc), files, fails)
 }
 
-/// Whether the files on a disk are those of these numbers.
-pub fn are_files(rt: &impl Abort, disk: &mut MemDisk, files: &[u64]) -> bool {
-    let ids = disk.file_ids().expect(rt, "a list of files");
-    ids.len() == files.len() && ids.iter().zip(files).all(|(id, file)| id.number() == *file)
+/// Whether these ids are those of these numbers.
+pub fn are_numbered(ids: &[FileId], numbers: &[u64]) -> bool {
+    let are_same = |(id, number): (&FileId, &u64)| id.number() == *number;
+    ids.len() == numbers.len() && ids.iter().zip(numbers).all(are_same)
 }
