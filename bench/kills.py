@@ -60,7 +60,11 @@ def killed(program, folder, word, beside):
         second(program, folder)
     time.sleep(random.uniform(0, LONGEST))
     child.send_signal(signal.SIGKILL)
-    rest, _ = child.communicate()
+    # (communicate would leave out what readline has read beyond the first line)
+    rest = child.stdout.read()
+    child.stderr.close()
+    child.stdout.close()
+    child.wait()
     if child.returncode != -signal.SIGKILL:
         stop(f"a run ended by itself with status {child.returncode}")
     found = found_in(first)

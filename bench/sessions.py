@@ -85,11 +85,7 @@ def main():
     allow_open_files()
     with new_folder() as folder:
         run(program, folder, tables())
-        print(f"{machine()}; queries a second")
-        print("| a table of | one session | seven | times one | six beside a load | times one | loads |")
-        print("|---|---|---|---|---|---|---|")
-        for name in SIZES:
-            at_once(program, folder, name)
+        print(machine())
         print("| a command | ms | processor ms |")
         print("|---|---|---|")
         a_command(program, folder, "explain", ["explain,small"] * MANY)
@@ -98,6 +94,12 @@ def main():
         a_command(program, folder, "work, with nothing to do", ["work,loaded"] * MANY)
         for files in FILES:
             a_command(program, folder, f"query of no block, {files} files", [f"query,files{files},,k<0"] * max(50, MANY // files))
+        # (behind the commands, since a quick machine loads many batches, each of which is a version of every table)
+        print("queries a second")
+        print("| a table of | one session | seven | times one | six beside a load | times one | loads |")
+        print("|---|---|---|---|---|---|---|")
+        for name in SIZES:
+            at_once(program, folder, name)
 
 
 if __name__ == "__main__":
