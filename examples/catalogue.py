@@ -1,0 +1,363 @@
+"""What a store's journal says: the tables with their columns, views and deltas, and the versions.
+
+Each part is written after the page and the heading that its comment names, in docs/STORE.md or docs/FORMATS.md."""
+import re
+import typing
+
+KEY_TYPES = ("int", "text")
+AGGREGATIONS = ("sum", "min", "max", "replace")
+NAME = re.compile(rb"[a-z][a-z0-9_]{0,31}")
+
+
+class Fault(Exception):
+    """What is wrong, in one line."""
+
+
+class Bytes:
+    """Bytes that are taken from the front. `source` says whose they are."""
+
+    def __init__(self, data, source):
+        self.data, self.source, self.at = data, source, 0
+
+    def fault(self, reason):
+        return Fault(f"{self.source} is damaged at {self.at}: {reason}")
+
+    def take(self, count):
+        if self.at + count > len(self.data):
+            raise self.fault("the bytes end within a field")
+        self.at += count
+        return self.data[self.at - count : self.at]
+
+    def number(self, size):
+        return int.from_bytes(self.take(size), "big")
+
+    def value(self):
+        return int.from_bytes(self.take(8), "big", signed=True)
+
+    def one_of(self, words):
+        number = self.number(1)
+        if number >= len(words):
+            raise self.fault(f"{number} has no meaning here")
+        return words[number]
+
+    def text(self):
+        return self.take(self.number(1))
+
+    def key(self):
+        return self.take(self.number(2))
+
+    def name(self):
+        name = self.text()
+        if not NAME.fullmatch(name):
+            raise self.fault("a name is none")
+        return name.decode()
+
+    def many(self, size, item):
+        return [item() for _ in range(self.number(size))]
+
+    def end(self):
+        if self.at < len(self.data):
+            raise self.fault("bytes stand behind the last field")
+
+
+# FORMATS, "Journal"
+
+
+def bodies(area):
+    """The place and the body of each record of a journal area."""
+    at = 0
+    while len(area) > 1 and area[at] == 1:
+        length = int.from_bytes(area[at + 1 : at + 5], "big")
+        begin, end = at + 5, at + 5 + length
+        # (the next gate is there too)
+        if end >= len(area):
+            raise Fault(f"journal0 is damaged at {at}: it ends within a record")
+        yield begin, area[begin:end]
+        at = end
+
+
+# FORMATS, "Records": what columns, file references and the files of a range are
+
+
+class Column(typing.NamedTuple):
+    name: str
+    word: str
+
+    def __str__(self):
+        return f"{self.name} {self.word}"
+
+
+class Columns(typing.NamedTuple):
+    keys: list
+    values: list
+
+    def key_place(self, name):
+        return [it.name for it in self.keys].index(name)
+
+    def value_place(self, name):
+        return [it.name for it in self.values].index(name)
+
+
+class Reference(typing.NamedTuple):
+    """A file as the journal tells of it."""
+
+    id: int
+    length: int
+    rows: int
+    blocks: int
+    first: bytes
+    last: bytes
+    aggregates: list
+    digest: bytes
+
+    @classmethod
+    def read(cls, b):
+        numbers = b.number(8), b.number(8), b.number(8), b.number(4)
+        return cls(*numbers, b.key(), b.key(), b.many(1, b.value), b.take(32))
+
+    @property
+    def file(self):
+        return f"{self.id:016x}.mesa"
+
+
+class Files(typing.NamedTuple):
+    """The files of a range of versions: the table's, and those of views by their numbers."""
+
+    table: Reference
+    views: dict
+
+    @classmethod
+    def read(cls, b):
+        return cls(Reference.read(b), dict(b.many(1, lambda: (b.number(1), Reference.read(b)))))
+
+    def all(self):
+        return [self.table, *self.views.values()]
+
+
+class Delta(typing.NamedTuple):
+    """The rows that the versions of a range brought, under the columns of an epoch."""
+
+    first: int
+    last: int
+    epoch: int
+    files: typing.Optional[Files]
+
+
+# FORMATS, "Records", kind 4; what each change makes of columns and of a row: STORE, "From the catalogue to rows", 2
+
+
+class AddValue(typing.NamedTuple):
+    """A value column at the end, with its default in the rows that are there."""
+
+    column: Column
+    default: int
+
+    @classmethod
+    def read(cls, b):
+        return cls(Column(b.name(), b.one_of(AGGREGATIONS)), b.value())
+
+    def columns(self, before):
+        return Columns(before.keys, [*before.values, self.column])
+
+    def lift(self, before, key, values):
+        return key, (*values, self.default)
+
+
+class DropValue(typing.NamedTuple):
+    """A value column less."""
+
+    name: str
+
+    @classmethod
+    def read(cls, b):
+        return cls(b.name())
+
+    def columns(self, before):
+        return Columns(before.keys, without(before.values, before.value_place(self.name)))
+
+    def lift(self, before, key, values):
+        return key, without(values, before.value_place(self.name))
+
+
+class AddKey(typing.NamedTuple):
+    """A key column at the end, with its default in the rows that are there."""
+
+    column: Column
+    default: typing.Union[int, bytes]
+
+    @classmethod
+    def read(cls, b):
+        column = Column(b.name(), b.one_of(KEY_TYPES))
+        return cls(column, b.value() if column.word == "int" else b.text())
+
+    def columns(self, before):
+        return Columns([*before.keys, self.column], before.values)
+
+    def lift(self, before, key, values):
+        return (*key, self.default), values
+
+
+def without(items, place):
+    return items[:place] + items[place + 1 :]
+
+
+class View(typing.NamedTuple):
+    """A view: the names of the key and value columns that it has of its table's."""
+
+    name: str
+    keys: list
+    values: list
+
+    @classmethod
+    def read(cls, b):
+        return cls(b.name(), b.many(1, b.name), b.many(1, b.name))
+
+    def columns(self, table):
+        """The view's own columns, out of its table's."""
+        keys = [table.keys[table.key_place(it)] for it in self.keys]
+        return Columns(keys, [table.values[table.value_place(it)] for it in self.values])
+
+    def derived(self, table, rows):
+        """Rows of the table as rows of the view, not yet folded."""
+        keys = [table.key_place(it) for it in self.keys]
+        values = [table.value_place(it) for it in self.values]
+        for key, row in rows:
+            yield tuple(key[it] for it in keys), tuple(row[it] for it in values)
+
+
+# STORE, "From the journal to a catalogue"
+
+
+class Table:
+    """A table: its columns in each epoch, its views by their numbers, and its deltas."""
+
+    def __init__(self, name, columns, base):
+        self.name, self.epochs, self.changes, self.views = name, [columns], [], []
+        self.base, self.cumulatives, self.singletons = base, [], {}
+
+    @property
+    def columns(self):
+        return self.epochs[-1]
+
+    @property
+    def behind_base(self):
+        return self.base.last + 1 if self.base else 0
+
+    def change(self, change):
+        self.epochs.append(change.columns(self.columns))
+        self.changes.append(change)
+
+    def publish(self, delta):
+        self.singletons[delta.first] = delta
+
+    def swap_base(self, delta):
+        """Puts a base in the place of all deltas that begin within it: each cumulative does, right behind the base before."""
+        self.base, self.cumulatives = delta, []
+        self.singletons = {version: it for version, it in self.singletons.items() if version > delta.last}
+
+    def swap_cumulative(self, delta):
+        self.cumulatives.append(delta)
+
+    def next_cumulative(self):
+        """The end of the first cumulative that isn't there: they end with the tenth, twentieth, .. version behind the base."""
+        return self.behind_base + 10 * (len(self.cumulatives) + 1) - 1
+
+    def deltas(self):
+        """All deltas that have rows: the base, the cumulatives by rising end, the singletons."""
+        found = [*filter(None, [self.base]), *self.cumulatives, *self.singletons.values()]
+        return [it for it in found if it.files]
+
+    def plan(self, version):
+        """The deltas that have the rows at a version. STORE, "From the catalogue to rows"."""
+        front = [self.base] if self.base else []
+        front += [it for it in self.cumulatives if it.last <= version][-1:]
+        next_version = front[-1].last + 1 if front else 0
+        behind = [it for it in self.singletons.values() if next_version <= it.first <= version]
+        return [it for it in front + behind if it.files]
+
+    def lifted(self, epoch, rows):
+        """Rows of an epoch as rows of the present."""
+        steps = list(zip(self.epochs[epoch:], self.changes[epoch:]))
+        for key, values in rows:
+            for before, change in steps:
+                key, values = change.lift(before, key, values)
+            yield key, values
+
+
+class Catalogue:
+    """What the journal's records make of an empty store. What reading rows rests on is tested of each; `check` tests all."""
+
+    def __init__(self):
+        self.tables, self.oldest, self.next = [], 0, 0
+
+    def apply(self, body, source):
+        b = Bytes(body, source)
+        kind = b.number(1)
+        readers = (self.run, self.table, self.view, self.alter, self.publish, self.swap, self.expire)
+        if not 1 <= kind <= len(readers):
+            raise b.fault(f"there is no record of kind {kind}")
+        try:
+            readers[kind - 1](b)
+        except (IndexError, ValueError):
+            raise b.fault("the record names a table, a view, an epoch or a column that isn't there") from None
+        b.end()
+
+    def run(self, b):
+        b.number(4)
+
+    def table(self, b):
+        name = b.name()
+        keys = b.many(1, lambda: Column(b.name(), b.one_of(KEY_TYPES)))
+        values = b.many(1, lambda: Column(b.name(), b.one_of(AGGREGATIONS)))
+        base = Delta(0, self.oldest - 1, 0, None) if self.oldest else None
+        self.tables.append(Table(name, Columns(keys, values), base))
+
+    def view(self, b):
+        table, view = self.tables[b.number(2)], View.read(b)
+        # (a column that isn't there is found here)
+        view.columns(table.columns)
+        table.views.append(view)
+
+    def alter(self, b):
+        table, kind = self.tables[b.number(2)], b.one_of((None, AddValue, DropValue, AddKey))
+        if kind is None:
+            raise b.fault("there is no change of kind 0")
+        table.change(kind.read(b))
+
+    def publish(self, b):
+        version = b.number(4)
+        if version != self.next:
+            raise b.fault(f"version {version} is published, and the next one is {self.next}")
+        b.many(2, lambda: self.part(b, version))
+        self.next += 1
+
+    def part(self, b, version):
+        table = self.tables[b.number(2)]
+        delta = Delta(version, version, b.number(4), Files.read(b))
+        b.many(1, lambda: b.number(8))
+        table.publish(self.tested(table, delta))
+
+    def swap(self, b):
+        table, is_base = self.tables[b.number(2)], b.one_of((False, True))
+        first, last, epoch = b.number(4), b.number(4), b.number(4)
+        files = Files.read(b) if b.one_of((False, True)) else None
+        delta = self.tested(table, Delta(first, last, epoch, files))
+        if is_base and first == 0 and max(1, table.behind_base) <= last <= self.oldest:
+            table.swap_base(delta)
+        elif not is_base and (first, last) == (table.behind_base, table.next_cumulative()) and last < self.next:
+            table.swap_cumulative(delta)
+        else:
+            raise b.fault(f"no work gives the range [{first},{last}]")
+
+    def tested(self, table, delta):
+        """The delta, whose epoch and views are there."""
+        table.epochs[delta.epoch]
+        for view in delta.files.views if delta.files else ():
+            table.views[view]
+        return delta
+
+    def expire(self, b):
+        version = b.number(4)
+        if not self.oldest <= version < self.next:
+            raise b.fault(f"the oldest version becomes {version}")
+        self.oldest = version
