@@ -1,5 +1,5 @@
 -- What a turn that stands does, of a command that is due in a warehouse that isn't closed.
-use Rattle.std.proofs.Common.{◌≡◌, ℕ, ◌+◌, ◌*◌, ◌≤◌, ◌&&◌, ◌||◌, List, length, true, not, false, IsTrue, refl, arith, ok_or, nat_le, is_none}
+use Rattle.std.proofs.Common.{◌≡◌, ℕ, ◌+◌, ◌*◌, ◌≤◌, ◌&&◌, ◌||◌, List, length, true, not, false, IsTrue, refl, arith, ok_or, nat_le, is_none, Option, Some, None}
 use Rattle.std.specs.Prelude.{Result, Ok, Err, IfOk}
 use Rattle.mesa_history.specs.mesa_span.mesa_list.Checks.{◌>>◌, refuse_if, refuse_unless, refused_as}
 use Rattle.mesa_history.specs.mesa_schema.Names.{is_name}
@@ -28,7 +28,7 @@ use Rattle.mesa_history.specs.mesa_model.Refusals.{bad_schema, batch_refusal, ch
 use Rattle.mesa_history.specs.mesa_model.Relations.{table_number, is_taken}
 use Rattle.mesa_history.specs.mesa_model.Step.{done_or_refused}
 use Rattle.mesa_history.specs.mesa_model.Tables.{columns_asked, names_are_good, make_table, make_view, view_of_table_checked, change_asked, changed_name, alter_table}
-use Rattle.mesa_history.specs.mesa_model.Versions.{version_asked, version_checked, expire_to}
+use Rattle.mesa_history.specs.mesa_model.Versions.{common_oldest, version_asked, version_checked, expire_to}
 use Rattle.mesa_history.specs.mesa_model.Warehouse.{Warehouse, max_tables, max_versions, max_pins, table_at}
 use Rattle.mesa_history.specs.Alone.{kind_due}
 use Rattle.mesa_history.specs.Legal.{first_kind, is_due_at, is_stands, is_unrenewed, same_kind}
@@ -114,7 +114,7 @@ decide_goes position s session (command.Alter words) = omega arith
 decide_goes position s session (command.Load rows) = omega arith
 decide_goes position s session (command.Pin version) = omega arith
 decide_goes position s session (command.Release token) = omega arith
-decide_goes position s session (command.Expire version) = omega arith
+decide_goes position s session (command.Expire table version) = omega arith
 decide_goes position s session (command.Work name) = omega arith
 
 grant_goes : (position : ℕ) (s : State) (o : Result Claim Reply) → 1 ≤ turns_at (grants position s o).stage
@@ -139,7 +139,7 @@ first_goes position s session (command.View words) = omega arith
 first_goes position s session (command.Alter words) = omega arith
 first_goes position s session (command.Pin version) = omega arith
 first_goes position s session (command.Release token) = omega arith
-first_goes position s session (command.Expire version) = omega arith
+first_goes position s session (command.Expire table version) = omega arith
 
 -- It takes its command on by a turn at least.
 pub turn_goes : (position : ℕ) (s : State) (session : ℕ) (c : Command) (stage : Stage) → turns_at stage ≤ 2 → turns_at stage + 1 ≤ turns_at (standing position s session c (kind_due c stage) stage).stage
@@ -195,7 +195,7 @@ load_keeps w rows =
 pin_keeps : (w : Warehouse) (session : ℕ) (asked : VersionWord) → IfOk (make_pin w session asked) (Keeps w)
 pin_keeps w session asked =
     ok_then (Keeps w) (refuse_closed w.closed) _ (
-    ok_bind (Keeps w) (version_asked w asked) _ (λ version is.
+    ok_bind (Keeps w) (version_asked w (common_oldest w.store) asked) _ (λ version is.
     ok_then (Keeps w) (refuse_if (nat_le max_pins (length w.pins)) (no.PinsFull max_pins)) _ refl))
 
 release_keeps : (w : Warehouse) (session token : ℕ) → IfOk (release_pin w session token) (Keeps w)
@@ -203,10 +203,14 @@ release_keeps w session token =
     ok_then (Keeps w) (refuse_closed w.closed) _ (
     ok_then (Keeps w) (refuse_if (is_none (pin_of w session token)) (no.NoPin token)) _ refl)
 
-expire_keeps : (w : Warehouse) (version : ℕ) → IfOk (expire_to w version) (Keeps w)
-expire_keeps w version =
+expire_keeps : (w : Warehouse) (table : Option (List ℕ)) (version : ℕ) → IfOk (expire_to w table version) (Keeps w)
+expire_keeps w None version =
     ok_then (Keeps w) (refuse_closed w.closed) _ (
-    ok_then (Keeps w) (version_checked w version) _ refl)
+    ok_then (Keeps w) (version_checked w w.store.floor version) _ refl)
+expire_keeps w (Some name) version =
+    ok_then (Keeps w) (refuse_closed w.closed) _ (
+    ok_bind (Keeps w) (ok_or (table_number w.store name) no_such_table) _ (λ number found.
+    ok_then (Keeps w) (version_checked w (table_at w.store number).oldest version) _ refl))
 
 nothing_keeps : (w : Warehouse) → IfOk (refuse_closed w.closed >> Ok (w, reply.Idle)) (Keeps w)
 nothing_keeps w = ok_then (Keeps w) (refuse_closed w.closed) _ refl
@@ -232,7 +236,7 @@ decide_stays position s session (command.Alter words) = done_keeps s.warehouse (
 decide_stays position s session (command.Load rows) = done_keeps s.warehouse (load_batch s.warehouse rows) (load_keeps s.warehouse rows)
 decide_stays position s session (command.Pin version) = done_keeps s.warehouse (make_pin s.warehouse session version) (pin_keeps s.warehouse session version)
 decide_stays position s session (command.Release token) = done_keeps s.warehouse (release_pin s.warehouse session token) (release_keeps s.warehouse session token)
-decide_stays position s session (command.Expire version) = done_keeps s.warehouse (expire_to s.warehouse version) (expire_keeps s.warehouse version)
+decide_stays position s session (command.Expire table version) = done_keeps s.warehouse (expire_to s.warehouse table version) (expire_keeps s.warehouse table version)
 decide_stays position s session (command.Work name) = done_keeps s.warehouse (refuse_closed s.warehouse.closed >> Ok (s.warehouse, reply.Idle)) (nothing_keeps s.warehouse)
 
 grant_stays : (position : ℕ) (s : State) (o : Result Claim Reply) → Stays s (grants position s o)
@@ -257,7 +261,7 @@ first_stays position s session (command.View words) = decide_stays position s se
 first_stays position s session (command.Alter words) = decide_stays position s session (command.Alter words)
 first_stays position s session (command.Pin version) = decide_stays position s session (command.Pin version)
 first_stays position s session (command.Release token) = decide_stays position s session (command.Release token)
-first_stays position s session (command.Expire version) = decide_stays position s session (command.Expire version)
+first_stays position s session (command.Expire table version) = decide_stays position s session (command.Expire table version)
 
 -- It leaves a warehouse open that was.
 pub turn_stays : (position : ℕ) (s : State) (session : ℕ) (c : Command) (stage : Stage) → Stays s (standing position s session c (kind_due c stage) stage)

@@ -41,31 +41,31 @@ no_relation w session words s opened tables relation = rw (opened, tables, relat
 
 pub not_asked : (w : Warehouse) (session : ℕ) (words : QueryWords) (s : Store) (r : Relation) (failure : Failure) → w.closed ≡ None → store_asked w session words.version ≡ Ok s → relation_of s words.relation ≡ Some r → IsDue (refused_as query_refusal (asked_of (relation_columns r) words)) failure → IsDue (query_answer w session words) failure
 not_asked w session words s r failure opened tables relation due =
-    let one : query_answer w session words ≡ (refused_as query_refusal (asked_of (relation_columns r) words) >>= λ asked. version_seen w s words.version >>= λ version. refused_as query_refusal (resume_of (relation_columns r) words.relation version (epoch_of r.table.lineage) asked.columns words.resume) >>= λ resume. Ok (answer_over s r words version asked resume)) = rw (opened, tables, relation) refl in
+    let one : query_answer w session words ≡ (refused_as query_refusal (asked_of (relation_columns r) words) >>= λ asked. version_seen w s r.table words.version >>= λ version. refused_as query_refusal (resume_of (relation_columns r) words.relation version (epoch_of r.table.lineage) asked.columns words.resume) >>= λ resume. Ok (answer_over r words version asked resume)) = rw (opened, tables, relation) refl in
     subst (λ x. IsDue x failure) (sym one) (due_first failure (refused_as query_refusal (asked_of (relation_columns r) words)) _ due)
 
-pub no_version : (w : Warehouse) (session : ℕ) (words : QueryWords) (s : Store) (r : Relation) (refusal : Refusal) → w.closed ≡ None → store_asked w session words.version ≡ Ok s → relation_of s words.relation ≡ Some r → IsOk (asked_of (relation_columns r) words) → version_seen w s words.version ≡ Err refusal → query_answer w session words ≡ Err refusal
+pub no_version : (w : Warehouse) (session : ℕ) (words : QueryWords) (s : Store) (r : Relation) (refusal : Refusal) → w.closed ≡ None → store_asked w session words.version ≡ Ok s → relation_of s words.relation ≡ Some r → IsOk (asked_of (relation_columns r) words) → version_seen w s r.table words.version ≡ Err refusal → query_answer w session words ≡ Err refusal
 no_version w session words s r refusal opened tables relation asked version =
     let a = ok_there (asked_of (relation_columns r) words) asked in
     rw (opened, tables, relation, a.1, version) refl
 
-not_built_of : (w : Warehouse) (session : ℕ) (words : QueryWords) (s : Store) (r : Relation) (asked : Asked) (version : ℕ) (failure : Failure) → w.closed ≡ None → store_asked w session words.version ≡ Ok s → relation_of s words.relation ≡ Some r → asked_of (relation_columns r) words ≡ Ok asked → version_seen w s words.version ≡ Ok version → IsDue (refused_as query_refusal (query_of (relation_columns r) words.relation version (epoch_of r.table.lineage) words)) failure → IsDue (query_answer w session words) failure
+not_built_of : (w : Warehouse) (session : ℕ) (words : QueryWords) (s : Store) (r : Relation) (asked : Asked) (version : ℕ) (failure : Failure) → w.closed ≡ None → store_asked w session words.version ≡ Ok s → relation_of s words.relation ≡ Some r → asked_of (relation_columns r) words ≡ Ok asked → version_seen w s r.table words.version ≡ Ok version → IsDue (refused_as query_refusal (query_of (relation_columns r) words.relation version (epoch_of r.table.lineage) words)) failure → IsDue (query_answer w session words) failure
 not_built_of w session words s r asked version failure opened tables relation is there due =
     let resume = resume_of (relation_columns r) words.relation version (epoch_of r.table.lineage) asked.columns words.resume in
-    let one : query_answer w session words ≡ (refused_as query_refusal resume >>= λ resume. Ok (answer_over s r words version asked resume)) = rw (opened, tables, relation, is, there) refl in
+    let one : query_answer w session words ≡ (refused_as query_refusal resume >>= λ resume. Ok (answer_over r words version asked resume)) = rw (opened, tables, relation, is, there) refl in
     let query : query_of (relation_columns r) words.relation version (epoch_of r.table.lineage) words ≡ (resume >>= λ resume. Ok (built (relation_columns r) words.relation version (epoch_of r.table.lineage) words asked resume)) = rw is refl in
     subst (λ x. IsDue x failure) (sym one) (due_same failure resume _ _ (subst (λ x. IsDue (refused_as query_refusal x) failure) query due))
 
-pub not_built : (w : Warehouse) (session : ℕ) (words : QueryWords) (s : Store) (r : Relation) (version : ℕ) (failure : Failure) → w.closed ≡ None → store_asked w session words.version ≡ Ok s → relation_of s words.relation ≡ Some r → IsOk (asked_of (relation_columns r) words) → version_seen w s words.version ≡ Ok version → IsDue (refused_as query_refusal (query_of (relation_columns r) words.relation version (epoch_of r.table.lineage) words)) failure → IsDue (query_answer w session words) failure
+pub not_built : (w : Warehouse) (session : ℕ) (words : QueryWords) (s : Store) (r : Relation) (version : ℕ) (failure : Failure) → w.closed ≡ None → store_asked w session words.version ≡ Ok s → relation_of s words.relation ≡ Some r → IsOk (asked_of (relation_columns r) words) → version_seen w s r.table words.version ≡ Ok version → IsDue (refused_as query_refusal (query_of (relation_columns r) words.relation version (epoch_of r.table.lineage) words)) failure → IsDue (query_answer w session words) failure
 not_built w session words s r version failure opened tables relation asked there due =
     let a = ok_there (asked_of (relation_columns r) words) asked in
     not_built_of w session words s r a.0 version failure opened tables relation a.1 there due
 
-pub answered : (w : Warehouse) (session : ℕ) (words : QueryWords) (s : Store) (r : Relation) (asked : Asked) (version : ℕ) (resume : Option (List ℕ)) → w.closed ≡ None → store_asked w session words.version ≡ Ok s → relation_of s words.relation ≡ Some r → asked_of (relation_columns r) words ≡ Ok asked → version_seen w s words.version ≡ Ok version → resume_of (relation_columns r) words.relation version (epoch_of r.table.lineage) asked.columns words.resume ≡ Ok resume → query_answer w session words ≡ Ok (answer_over s r words version asked resume)
+pub answered : (w : Warehouse) (session : ℕ) (words : QueryWords) (s : Store) (r : Relation) (asked : Asked) (version : ℕ) (resume : Option (List ℕ)) → w.closed ≡ None → store_asked w session words.version ≡ Ok s → relation_of s words.relation ≡ Some r → asked_of (relation_columns r) words ≡ Ok asked → version_seen w s r.table words.version ≡ Ok version → resume_of (relation_columns r) words.relation version (epoch_of r.table.lineage) asked.columns words.resume ≡ Ok resume → query_answer w session words ≡ Ok (answer_over r words version asked resume)
 answered w session words s r asked version resume opened tables relation is there after = rw (opened, tables, relation, is, there, after) refl
 
 -- the same refusal is due where the columns are the relation's
-pub not_built_by : (w : Warehouse) (session : ℕ) (words : QueryWords) (store : Store) (r : Relation) (s : Columns) (version : ℕ) (failure : Failure) → w.closed ≡ None → store_asked w session words.version ≡ Ok store → relation_of store words.relation ≡ Some r → s ≡ relation_columns r → IsOk (asked_of s words) → version_seen w store words.version ≡ Ok version → IsDue (refused_as query_refusal (query_of s words.relation version (epoch_of r.table.lineage) words)) failure → IsDue (query_answer w session words) failure
+pub not_built_by : (w : Warehouse) (session : ℕ) (words : QueryWords) (store : Store) (r : Relation) (s : Columns) (version : ℕ) (failure : Failure) → w.closed ≡ None → store_asked w session words.version ≡ Ok store → relation_of store words.relation ≡ Some r → s ≡ relation_columns r → IsOk (asked_of s words) → version_seen w store r.table words.version ≡ Ok version → IsDue (refused_as query_refusal (query_of s words.relation version (epoch_of r.table.lineage) words)) failure → IsDue (query_answer w session words) failure
 not_built_by w session words store r s version failure opened tables relation same asked there due =
     not_built w session words store r version failure opened tables relation
     (subst (λ (s : Columns). IsOk (asked_of s words)) same asked) there

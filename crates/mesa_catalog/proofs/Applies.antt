@@ -38,10 +38,10 @@ unfolding fits
 news_of_fits c r e = (both (kind_fits c r) (brings_new_files c r) e).1
 
 -- a table in the place of another
-pub put_stock : (s : Shelves) (i : ℕ) (t : Table) (u : Stock) → stock_of s.next t ≡ u → record { tables = map (stock_of s.next) (set s.tables.items i t); oldest = s.oldest; next = s.next; run = s.run } ≡ with_stock (catalogue_of s) i u
+pub put_stock : (s : Shelves) (i : ℕ) (t : Table) (u : Stock) → stock_of s.next t ≡ u → record { tables = map (stock_of s.next) (set s.tables.items i t); floor = s.floor; next = s.next; run = s.run } ≡ with_stock (catalogue_of s) i u
 put_stock s i t u e =
     let tables = map-set (stock_of s.next) s.tables.items i t ∙ ap (set (map (stock_of s.next) s.tables.items) i) e in
-    λ k. record { tables = tables k; oldest = s.oldest; next = s.next; run = s.run }
+    λ k. record { tables = tables k; floor = s.floor; next = s.next; run = s.run }
 
 -- ---- views
 
@@ -53,6 +53,7 @@ pub viewed_table : (next : ℕ) (t : Table) (u : Stock) (e : Arc Lineage Global)
 viewed_table next t u e table same made = record {
   tens = table.tens;
   loaded = table.loaded;
+  oldest = table.oldest;
   widths = table.widths ∙ sym (ap widths_of (made ∙ ap (λ (x : Stock). with_view x.lineage (last_view e.value)) same));
 }
 
@@ -90,19 +91,19 @@ next_version c version parts e =
 
 -- ---- merged deltas
 
-pub swap_base_of : (s : Shelves) (t : Table) (from to : ℕ) → IsShelved s → may_be_work (catalogue_of s) (stock_of s.next t) true from to ≡ true → IsSwapOf s.next t true to
-swap_base_of s t from to shelved e =
-    let all = sym (base_work s.next s.oldest from to t) ∙ e in
+pub swap_base_of : (s : Shelves) (t : Table) (from to : ℕ) → IsTable s.next t → may_be_work (catalogue_of s) (stock_of s.next t) true from to ≡ true → IsSwapOf s.next t true to
+swap_base_of s t from to table e =
+    let all = sym (base_work s.next t.oldest from to t) ∙ e in
     let starts_first = from == 0 in
     let not_first = nat_le 1 to in
     let is_behind = nat_le (start_of_base t.base) to in
-    let last = both (starts_first && not_first && is_behind) (nat_le to s.oldest) all in
+    let last = both (starts_first && not_first && is_behind) (nat_le to t.oldest) all in
     let third = both (starts_first && not_first) is_behind last.0 in
     let second = both starts_first not_first third.0 in
     let least = second.1 in
     let behind = third.1 in
     let most = last.1 in
-    let there = shelved.oldest in
+    let there = table.oldest in
     (grind (arith, nat_tests), grind (arith, nat_tests))
 
 pub swap_ten_of : (s : Shelves) (t : Table) (from to : ℕ) → may_be_work (catalogue_of s) (stock_of s.next t) false from to ≡ true → IsSwapOf s.next t false to
@@ -118,9 +119,9 @@ swap_ten_of s t from to e =
     let below : end_of (start_of_base t.base) (length t.cumulatives.items) < s.next = grind (arith, nat_tests) in
     (last, omega arith)
 
-pub swap_of : (s : Shelves) (t : Table) (base : Bool) (from to : ℕ) → IsShelved s → may_be_work (catalogue_of s) (stock_of s.next t) base from to ≡ true → IsSwapOf s.next t base to
-swap_of s t true from to shelved e = swap_base_of s t from to shelved e
-swap_of s t false from to shelved e = swap_ten_of s t from to e
+pub swap_of : (s : Shelves) (t : Table) (base : Bool) (from to : ℕ) → IsTable s.next t → may_be_work (catalogue_of s) (stock_of s.next t) base from to ≡ true → IsSwapOf s.next t base to
+swap_of s t true from to table e = swap_base_of s t from to table e
+swap_of s t false from to table e = swap_ten_of s t from to e
 
 pub swap_there : (c : Catalog) (table : ℕ) (base : Bool) (from to epoch : ℕ) (files : Option Files) → (is_there c table && swap_fits c (stock_at c table) base from to epoch files) ≡ true → (is_there c table ≡ true) × (may_be_work c (stock_at c table) base from to ≡ true)
 swap_there c table base from to epoch files e =

@@ -12,7 +12,7 @@ use Rattle.mesa_record.specs.declared.record.Files.{Files}
 use Rattle.mesa_record.specs.declared.record.Part.{Part}
 use Rattle.mesa_record.specs.declared.record.Record.{Record}
 use Rattle.mesa_record.specs.declared.record.Record.TheVariants as record_of
-use Rattle.mesa_image_laws.specs.mesa_image.Catalog.{Catalog, Delta, Ending, Stock, applied, empty_delta, merged_delta, new_stock, no_stock, part_delta, part_of, start_in, stock_at, stock_changed, stock_loaded, stock_swapped, stock_viewed, stocks_loaded}
+use Rattle.mesa_image_laws.specs.mesa_image.Catalog.{Catalog, Delta, Ending, Stock, applied, empty_delta, merged_delta, new_stock, no_stock, part_delta, part_of, start_in, stock_at, stock_changed, stock_from, stock_loaded, stock_swapped, stock_viewed, stocks_loaded}
 use Rattle.mesa_image_laws.specs.mesa_image.Fitting.{base_deltas, delta_in, delta_shelved, deltas_of, files_shelved, fits, is_there, kind_fits, part_shelved, shelved_id, stock_shelved, swap_fits, view_shelved}
 use Rattle.mesa_image_laws.specs.Ids.{brought_ids, delta_ids, dropped_deltas, file_ids, named, times}
 use Rattle.mesa_image_laws.proofs.Ids.{brought_own}
@@ -83,6 +83,11 @@ module _ (id : ℕ) where
   Of-same [] n u same = refl
   Of-same (t ∷ tables) zero u same = ap (λ ids. times id (ids ++ flat_map stock_ids tables)) same
   Of-same (t ∷ tables) (suc n) u same = Of-next t (slice_set tables n u) ∙ ap (λ k. times id (stock_ids t) + k) (Of-same tables n u same) ∙ sym (Of-next t tables)
+
+  -- versions that are let go name the same files
+  Of-from : (version : ℕ) (tables : List Stock) → Of (map (stock_from version) tables) ≡ Of tables
+  Of-from version [] = refl
+  Of-from version (t ∷ tables) = Of-next (stock_from version t) (map (stock_from version) tables) ∙ ap (λ k. times id (stock_ids t) + k) (Of-from version tables) ∙ sym (Of-next t tables)
 
   named_of : (c : Catalog) → times id (named c) ≡ Of c.tables
   named_of c = ap (times id) (ids_of_stocks c.tables)
@@ -212,7 +217,10 @@ module _ (id : ℕ) where
       swapped false there =
           let brought = ap (times id) (ids_of_files (stock_at c table).lineage epoch files) in
           omega (arith, named_of (applied c (record_of.Swap table false from to epoch files)), named_of c, brought, Of-set c.tables table (stock_swapped (stock_at c table) false to (merged_delta epoch files)) there, counted_cumulative (stock_at c table) to epoch files)
-  counted_most c (record_of.Expire version) e = omega arith
+  counted_most c (record_of.Expire version) e =
+      omega (arith, named_of (applied c (record_of.Expire version)), named_of c, Of-from version c.tables)
+  counted_most c (record_of.ExpireTable table version) e =
+      omega (arith, named_of (applied c (record_of.ExpireTable table version)), named_of c, Of-same c.tables table (stock_from version (stock_at c table)) refl)
 
   -- An id that stood once at most does so after a record that fits.
   pub still_once : (c : Catalog) (r : Record) → fits c r ≡ true → times id (named c) ≤ 1 → times id (named (applied c r)) ≤ 1

@@ -9,8 +9,8 @@ use Rattle.mesa_record.specs.declared.record.Record.{Record}
 use Rattle.mesa_record.specs.declared.record.Record.TheVariants as record_of
 use Rattle.mesa_record.specs.declared.record.Files.{Files}
 use Rattle.mesa_record.specs.declared.record.Part.{Part}
-use Rattle.mesa_image_laws.specs.mesa_image.Catalog.{Catalog, Stock, applied, merged_delta, new_stock, no_stock, part_of, stock_at, stock_changed, stock_loaded, stock_swapped, stock_viewed, stocks_loaded, with_stock}
-use Rattle.mesa_image_laws.specs.mesa_image.Fitting.{is_there, kind_fits, swap_fits}
+use Rattle.mesa_image_laws.specs.mesa_image.Catalog.{Catalog, Stock, applied, merged_delta, new_stock, no_stock, part_of, stock_at, stock_changed, stock_from, stock_loaded, stock_swapped, stock_viewed, stocks_loaded, with_stock}
+use Rattle.mesa_image_laws.specs.mesa_image.Fitting.{expire_fits, is_there, kind_fits, swap_fits}
 use Rattle.mesa_catalog.specs.Lookups.{changes_in, changes_of, generation_of, known_as, known_in, turns_generation}
 use Rattle.mesa_shelf.specs.declared.table.Table.{Table}
 use Rattle.mesa_shelf.specs.Meaning.{stock_of}
@@ -38,6 +38,11 @@ swapped_same : (t : Stock) (base : Bool) (to epoch : ℕ) (files : Option Files)
 swapped_same t true to epoch files = refl
 swapped_same t false to epoch files = refl
 
+-- versions that are let go change nothing
+changes_from : (version : ℕ) (tables : List Stock) → sum_by changes_in (map (stock_from version) tables) ≡ sum_by changes_in tables
+changes_from version [] = refl
+changes_from version (t ∷ tables) = sum_by-cons changes_in (stock_from version t) (map (stock_from version) tables) ∙ ap (λ n. changes_in t + n) (changes_from version tables) ∙ sym (sum_by-cons changes_in t tables)
+
 -- A record that fits turns the generation on as its kind says.
 pub generation_turned : (c : Catalog) (r : Record) → kind_fits c r ≡ true → generation_of (applied c r) ≡ generation_of c + turns_generation r
 generation_turned c (record_of.Run number) e = omega arith
@@ -56,7 +61,11 @@ generation_turned c (record_of.Swap table base from to epoch files) e =
     let t = stock_at c table in
     let there = (both (is_there c table) (swap_fits c t base from to epoch files) e).0 in
     put c table (stock_swapped t base to (merged_delta epoch files)) 0 (within c table there) (swapped_same t base to epoch files ∙ omega arith)
-generation_turned c (record_of.Expire version) e = omega arith
+generation_turned c (record_of.Expire version) e = changes_from version c.tables ∙ omega arith
+generation_turned c (record_of.ExpireTable table version) e =
+    let t = stock_at c table in
+    let there = (both (is_there c table) (expire_fits c t.oldest version) e).0 in
+    put c table (stock_from version t) 0 (within c table there) (omega arith)
 
 -- as the tables that are held count it
 pub generation_held : (next : ℕ) (tables : List Table) → sum_by changes_of tables ≡ sum_by changes_in (map (stock_of next) tables)

@@ -4,6 +4,7 @@ pub use Rattle.mesa_shelf.proofs as mesa_shelf
 pub mod Applies
 pub mod Counted
 pub mod Dropped
+pub mod Expired
 pub mod Generation
 pub mod Ids
 pub mod Keeping

@@ -92,20 +92,22 @@ start_new b oldest e =
 -- a table without rows
 pub record IsNew (s : Shelves) (t : Table) : Type 0 where
   pub lineage : t.evolving.value ≡ record { first = t.evolving.value.first; changes = []; views = [] }
+  pub oldest : t.oldest ≡ s.floor
   pub totals : t.totals ≡ replicate (sums_in (aggs_of t.evolving.value.first)) 0
-  pub base : option_map ending_of t.base ≡ option_map empty_base (base_before s.oldest)
+  pub base : option_map ending_of t.base ≡ option_map empty_base (base_before s.floor)
   pub cumulatives : t.cumulatives.items ≡ []
   pub loaded : t.loaded.items ≡ []
   pub widths : t.widths ≡ length t.evolving.value.first.values ∷ []
 
 pub new_made : (s : Shelves) (t : Table) → IsShelved s → IsNew s t → (stock_of s.next t ≡ new_stock (catalogue_of s) t.name t.evolving.value.first) × IsTable s.next t
 new_made s t shelved new =
-    let start = start_new t.base s.oldest new.base in
-    let below : s.oldest ≤ s.next = let h = shelved.oldest in omega arith in (
+    let start = start_new t.base s.floor new.base in
+    let below : s.floor ≤ s.next = let h = shelved.floor in omega arith in (
       λ i. record {
         name = t.name;
         lineage = new.lineage i;
         totals = new.totals i;
+        oldest = new.oldest i;
         base = new.base i;
         cumulatives = tens_from (start i) (new.cumulatives i);
         singles = singles_from (start i) s.next (new.loaded i);
@@ -113,6 +115,7 @@ new_made s t shelved new =
       record {
         tens = let count = ap length new.cumulatives in omega arith;
         loaded = subst (AreLoaded (start_of_base t.base) s.next) (sym new.loaded) tt;
+        oldest = let first = shelved.floor in omega (arith, first, new.oldest);
         widths = new.widths ∙ ap widths_of (sym new.lineage);
       },
     )

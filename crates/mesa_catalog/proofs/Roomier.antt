@@ -11,7 +11,7 @@ use Rattle.mesa_catalog.specs.Readied.{AreRoomier}
 use Rattle.mesa_shelf.specs.Readied.{HasSpare, IsRoomier}
 
 roomier_same : (t : Table) → IsRoomier t t
-roomier_same t = record { name = refl; evolving = refl; widths = refl; totals = refl; base = refl; cumulatives = refl; loaded = refl; spare = λ h. h }
+roomier_same t = record { name = refl; evolving = refl; widths = refl; totals = refl; oldest = refl; base = refl; cumulatives = refl; loaded = refl; spare = λ h. h }
 
 roomier_then : (a b c : Table) → IsRoomier a b → IsRoomier b c → IsRoomier a c
 roomier_then a b c h k = record {
@@ -19,6 +19,7 @@ roomier_then a b c h k = record {
   evolving = k.evolving ∙ h.evolving;
   widths = k.widths ∙ h.widths;
   totals = k.totals ∙ h.totals;
+  oldest = k.oldest ∙ h.oldest;
   base = k.base ∙ h.base;
   cumulatives = k.cumulatives ∙ h.cumulatives;
   loaded = k.loaded ∙ h.loaded;
@@ -41,6 +42,7 @@ roomier_stock next old new r = λ i. record {
   name = r.name i;
   lineage = ap (λ (e : Arc Lineage Global). e.value) r.evolving i;
   totals = r.totals i;
+  oldest = r.oldest i;
   base = option_map ending_of (r.base i);
   cumulatives = tens_from (start_of_base (r.base i)) (r.cumulatives i);
   singles = singles_from (start_of_base (r.base i)) next (r.loaded i);
@@ -56,6 +58,7 @@ roomier_table : (next : ℕ) (old new : Table) → IsRoomier old new → IsTable
 roomier_table next old new r table = record {
   tens = let tens = table.tens in let start = ap start_of_base r.base in let count = ap length r.cumulatives in omega arith;
   loaded = subst (λ b. AreLoaded (start_of_base b) next new.loaded.items) (sym r.base) (subst (AreLoaded (start_of_base old.base) next) (sym r.loaded) table.loaded);
+  oldest = omega (arith, r.oldest, table.oldest);
   widths = r.widths ∙ table.widths ∙ sym (ap (λ (e : Arc Lineage Global). widths_of e.value) r.evolving);
 }
 

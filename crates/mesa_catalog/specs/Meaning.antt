@@ -7,13 +7,13 @@ use Rattle.mesa_catalog.specs.declared.shelves.Shelves.{Shelves}
 
 -- What all that is held stands for.
 abbrev pub catalogue_of : Shelves → Catalog
-catalogue_of s = record { tables = map (stock_of s.next) s.tables.items; oldest = s.oldest; next = s.next; run = s.run }
+catalogue_of s = record { tables = map (stock_of s.next) s.tables.items; floor = s.floor; next = s.next; run = s.run }
 
 -- ---- what holds of what is held
 
--- Not too many tables and versions, an oldest version that is there where there is any, and tables of these versions.
+-- Not too many tables and versions, a floor that is there where there is any version, and tables of these versions.
 pub record IsShelved (s : Shelves) : Type 0 where
   pub few : length s.tables.items ≤ 32
   pub most : s.next ≤ 2 ^ 32 - 1
-  pub oldest : s.oldest ≤ s.next - 1
+  pub floor : s.floor ≤ s.next - 1
   pub tables : AllByRecursion (IsTable s.next) s.tables.items

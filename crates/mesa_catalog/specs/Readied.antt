@@ -40,6 +40,7 @@ record_in (ready_of.Alter table e widths totals) = record_of.Alter table (last_c
 record_in (ready_of.Publish version parts) = record_of.Publish version (map part_in parts.items)
 record_in (ready_of.Swap table base from to d) = record_of.Swap table base from to d.value.epoch d.value.files
 record_in (ready_of.Expire version) = record_of.Expire version
+record_in (ready_of.ExpireTable table version) = record_of.ExpireTable table version
 
 -- a part's delta has its totals, and beside it stand the table's totals with them
 pub record IsMadePart (c : Catalog) (p : ReadyPart) : Type 0 where
@@ -58,6 +59,7 @@ IsMade c (ready_of.Alter table e widths totals) =
 IsMade c (ready_of.Publish version parts) = AllByRecursion (IsMadePart c) parts.items
 IsMade c (ready_of.Swap table base from to d) = d.value.totals ≡ None
 IsMade c (ready_of.Expire version) = ⊤
+IsMade c (ready_of.ExpireTable table version) = ⊤
 
 -- there is room for a table more, and in each table for a delta more
 pub record HasRoom (s : Shelves) : Type 0 where

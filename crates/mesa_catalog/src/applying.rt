@@ -1,9 +1,11 @@
 // Taking a record in, without memory.
-ghost use Rattle.std.specs.Prelude.{◌≡◌};
-ghost use Rattle.mesa_image_laws.specs.mesa_image.Catalog.{applied};
+ghost use Rattle.std.specs.Prelude.{◌≡◌, ◌<◌, ℕ, map};
+ghost use Rattle.std.specs.List.{AllByRecursion};
+ghost use Rattle.mesa_image_laws.specs.mesa_image.Catalog.{applied, stock_from};
 ghost use Rattle.mesa_catalog.specs.declared.ready.Ready.TheVariants as ready_of;
 ghost use Rattle.mesa_catalog.specs.Meaning.{IsShelved, catalogue_of};
 ghost use Rattle.mesa_catalog.specs.Readied.{IsReady, record_in};
+ghost use Rattle.mesa_shelf.specs.Meaning.{IsTable, stock_of};
 
 mod loading;
 
@@ -41,7 +43,8 @@ impl Shelves {
                 to,
                 delta,
             } => self.take_merged(table, base, from, to, delta),
-            Ready::Expire { version } => self.take_oldest(version),
+            Ready::Expire { version } => self.take_floor(version),
+            Ready::ExpireTable { table, version } => self.take_oldest(table, version),
         }
     }
 
@@ -102,12 +105,33 @@ impl Shelves {
         swap(table, base, to, delta);
     }
 
-    fn take_oldest(&mut self, version: u32)
+    fn take_floor(&mut self, version: u32)
         requires shelved { IsShelved self.old }
         requires ready { IsReady self.old (ready_of.Expire version) }
         ensures applied { catalogue_of self.new ≡ applied (catalogue_of self.old) (record_in (ready_of.Expire version)) }
         ensures shelved { IsShelved self.new }
     {
-        self.oldest = version;
+        expire_tables(&mut self.tables, version);
+        self.floor = version;
+    }
+
+    fn take_oldest(&mut self, table: u16, version: u32)
+        requires shelved { IsShelved self.old }
+        requires ready { IsReady self.old (ready_of.ExpireTable table version) }
+        ensures applied { catalogue_of self.new ≡ applied (catalogue_of self.old) (record_in (ready_of.ExpireTable table version)) }
+        ensures shelved { IsShelved self.new }
+    {
+        let table = &mut self.tables[table as usize];
+        table.expire(version);
+    }
+}
+
+// Lets the versions of each table below this one go.
+fn expire_tables(tables: &mut [Table], version: u32)
+    ensures stocks { (next : ℕ) → map (stock_of next) tables.new ≡ map (stock_from version) (map (stock_of next) tables.old) }
+    ensures tables { (next : ℕ) → version < next → AllByRecursion (IsTable next) tables.old → AllByRecursion (IsTable next) tables.new }
+{
+    for table in tables.iter_mut() {
+        table.expire(version);
     }
 }

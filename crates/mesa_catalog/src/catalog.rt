@@ -15,7 +15,7 @@ use mesa_shelf::NoRows;
 use std::alloc::{AllocError, Global};
 use std::marker::Model;
 
-/// The catalogue: the tables with their deltas, the oldest version, how many versions there are, and the last run. A version that brought a table nothing costs nothing.
+/// The catalogue: the tables with their deltas and oldest versions, the floor, how many versions there are, and the last run. A version that brought a table nothing costs nothing.
 pub struct Catalog {
     pub(crate) shelves: Shelves,
     pub(crate) ready: Option<Ready>,
@@ -55,7 +55,7 @@ impl Catalog {
         Catalog {
             shelves: Shelves {
                 tables: Vec::new(alloc),
-                oldest: 0,
+                floor: 0,
                 next: 0,
                 run: 0,
             },
@@ -73,7 +73,7 @@ impl Catalog {
         let copy = Catalog {
             shelves: Shelves {
                 tables,
-                oldest: self.shelves.oldest,
+                floor: self.shelves.floor,
                 next: self.shelves.next,
                 run: self.shelves.run,
             },
@@ -84,11 +84,11 @@ impl Catalog {
         Ok(copy)
     }
 
-    /// The oldest version that can be queried.
-    pub fn oldest(&self) -> u32
-        ensures { result ≡ self.now.catalogue.oldest }
+    /// The floor: the oldest version of a table that is made now.
+    pub fn floor(&self) -> u32
+        ensures { result ≡ self.now.catalogue.floor }
     {
-        self.shelves.oldest
+        self.shelves.floor
     }
 
     /// The newest version.

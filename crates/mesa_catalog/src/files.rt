@@ -71,7 +71,8 @@ impl Shelves {
             | Record::View { .. }
             | Record::Alter { .. }
             | Record::Publish { .. }
-            | Record::Expire { .. } => Ok(()),
+            | Record::Expire { .. }
+            | Record::ExpireTable { .. } => Ok(()),
         }
     }
 }

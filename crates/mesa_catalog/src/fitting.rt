@@ -2,7 +2,7 @@
 ghost use Rattle.std.specs.Prelude.{◌≡◌, ◌&&◌};
 ghost use Rattle.std.specs.List.{list_all};
 ghost use Rattle.mesa_image_laws.specs.mesa_image.Catalog.{stock_at};
-ghost use Rattle.mesa_image_laws.specs.mesa_image.Fitting.{alter_fits, is_new_name, is_there, kind_fits, may_be_work, part_fits, publish_fits, run_fits, swap_fits, table_fits, view_fits};
+ghost use Rattle.mesa_image_laws.specs.mesa_image.Fitting.{alter_fits, expire_fits, is_new_name, is_there, kind_fits, may_be_work, part_fits, publish_fits, run_fits, swap_fits, table_fits, view_fits};
 ghost use Rattle.mesa_catalog.specs.Meaning.{IsShelved, catalogue_of};
 ghost use Rattle.mesa_shelf.specs.Meaning.{IsTable, stock_of};
 
@@ -44,7 +44,8 @@ impl Shelves {
                 epoch,
                 files,
             } => self.allows_swap(*table, *base, *from, *to, *epoch, files),
-            Record::Expire { version } => self.oldest <= *version && *version < self.next,
+            Record::Expire { version } => self.allows_expiry(self.floor, *version),
+            Record::ExpireTable { table, version } => self.allows_table_expiry(*table, *version),
         }
     }
 
@@ -136,13 +137,29 @@ impl Shelves {
         }
     }
 
+    fn allows_expiry(&self, oldest: u32, version: u32) -> bool
+        ensures { result ≡ expire_fits (catalogue_of self.now) oldest version }
+    {
+        oldest <= version && version < self.next
+    }
+
+    fn allows_table_expiry(&self, table: u16, version: u32) -> bool
+        requires { IsShelved self.now }
+        ensures { result ≡ (is_there (catalogue_of self.now) table && expire_fits (catalogue_of self.now) (stock_at (catalogue_of self.now) table).oldest version) }
+    {
+        match self.get(table) {
+            None => false,
+            Some(t) => self.allows_expiry(t.oldest, version),
+        }
+    }
+
     // Whether work may give this range.
     fn may_be_work(&self, t: &Table, base: bool, from: u32, to: u32) -> bool
         requires { IsTable self.now.next t.now }
         ensures { result ≡ may_be_work (catalogue_of self.now) (stock_of self.now.next t.now) base from to }
     {
         if base {
-            return may_be_base(t, self.oldest, from, to);
+            return may_be_base(t, from, to);
         }
         may_be_cumulative(t, self.next, from, to)
     }

@@ -66,6 +66,14 @@ impl Catalog {
             .delta(self.shelves.next, &self.no_rows, from, to)
     }
 
+    /// The oldest version at which the table of a number can be queried.
+    pub fn oldest(&self, table: u16) -> u32
+        requires { table < length self.now.catalogue.tables }
+        ensures { result ≡ (stock_at self.now.catalogue table).oldest }
+    {
+        self.shelves.tables[table as usize].oldest
+    }
+
     /// The columns of the table of a number, through its life, and its views.
     pub fn evolving(&self, table: u16) -> &Arc<Evolving>
         requires { table < length self.now.catalogue.tables }

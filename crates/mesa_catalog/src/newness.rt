@@ -32,7 +32,8 @@ pub(crate) fn brings_rising(run: u32, above: u64, r: &Record) -> bool
         | Record::Table { .. }
         | Record::View { .. }
         | Record::Alter { .. }
-        | Record::Expire { .. } => false,
+        | Record::Expire { .. }
+        | Record::ExpireTable { .. } => false,
     }
 }
 
@@ -87,7 +88,8 @@ pub(crate) fn brings_new(shelves: &Shelves, r: &Record) -> bool
         | Record::Table { .. }
         | Record::View { .. }
         | Record::Alter { .. }
-        | Record::Expire { .. } => true,
+        | Record::Expire { .. }
+        | Record::ExpireTable { .. } => true,
     }
 }
 
@@ -147,7 +149,8 @@ fn times_in_record(r: &Record, id: u64) -> u64
         | Record::Table { .. }
         | Record::View { .. }
         | Record::Alter { .. }
-        | Record::Expire { .. } => 0,
+        | Record::Expire { .. }
+        | Record::ExpireTable { .. } => 0,
     }
 }
 
@@ -200,7 +203,8 @@ pub(crate) fn greatest_with(least: u64, r: &Record) -> u64
         | Record::Table { .. }
         | Record::View { .. }
         | Record::Alter { .. }
-        | Record::Expire { .. } => least,
+        | Record::Expire { .. }
+        | Record::ExpireTable { .. } => least,
     }
 }
 

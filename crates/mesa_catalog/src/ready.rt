@@ -37,4 +37,8 @@ pub(crate) enum Ready {
     Expire {
         version: u32,
     },
+    ExpireTable {
+        table: u16,
+        version: u32,
+    },
 }

@@ -88,6 +88,10 @@ impl Shelves {
                 })
             }
             Record::Expire { version } => Ok(Ready::Expire { version: *version }),
+            Record::ExpireTable { table, version } => Ok(Ready::ExpireTable {
+                table: *table,
+                version: *version,
+            }),
         }
     }
 
@@ -116,7 +120,8 @@ impl Shelves {
             evolving,
             widths,
             totals,
-            base: self.base_before_oldest(),
+            oldest: self.floor,
+            base: self.base_before_floor(),
             cumulatives: Vec::new(alloc),
             loaded: Vec::new(alloc),
         };
@@ -124,10 +129,10 @@ impl Shelves {
     }
 
     // The base of a table that is made now: it has no rows.
-    fn base_before_oldest(&self) -> Option<Base>
-        ensures { option_map ending_of result ≡ option_map empty_base (base_before self.now.oldest) }
+    fn base_before_floor(&self) -> Option<Base>
+        ensures { option_map ending_of result ≡ option_map empty_base (base_before self.now.floor) }
     {
-        let to = self.oldest.checked_sub(1)?;
+        let to = self.floor.checked_sub(1)?;
         Some(Base { to, delta: None })
     }
 

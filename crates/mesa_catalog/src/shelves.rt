@@ -10,11 +10,11 @@ use mesa_shelf::Table;
 // How many tables there may be.
 pub(crate) const MAX_TABLES: usize = 32;
 
-// The tables by their numbers, the oldest version, how many versions there were, and the last run.
+// The tables by their numbers, the floor, how many versions there were, and the last run.
 #[derive(Drop)]
 pub(crate) struct Shelves {
     pub(crate) tables: Vec<Table>,
-    pub(crate) oldest: u32,
+    pub(crate) floor: u32,
     pub(crate) next: u32,
     pub(crate) run: u32,
 }

@@ -77,7 +77,7 @@ undone_alike a b l at s (command.View words) cause has = failed_alike a b l (com
 undone_alike a b l at s (command.Alter words) cause has = failed_alike a b l (command.Alter words) (λ w. alter_table w words) cause has
 undone_alike a b l at s (command.Pin asked) cause has = failed_alike a b l (command.Pin asked) (λ w. make_pin w s asked) cause has
 undone_alike a b l at s (command.Release token) cause has = failed_alike a b l (command.Release token) (λ w. release_pin w s token) cause has
-undone_alike a b l at s (command.Expire version) cause has = failed_alike a b l (command.Expire version) (λ w. expire_to w version) cause has
+undone_alike a b l at s (command.Expire table version) cause has = failed_alike a b l (command.Expire table version) (λ w. expire_to w table version) cause has
 undone_alike a b l at s (command.Explain words) cause has = plan_alike a b l words cause has
 undone_alike a b l at s (command.Query words) cause has = answer_alike a b l s words cause has
 undone_alike a b l at s (command.Work name) cause has = claim_alike a b l at name cause has
@@ -92,7 +92,7 @@ deciding_unanswered (command.Query words) = refl
 deciding_unanswered (command.Explain words) = refl
 deciding_unanswered (command.Pin asked) = refl
 deciding_unanswered (command.Release token) = refl
-deciding_unanswered (command.Expire version) = refl
+deciding_unanswered (command.Expire table version) = refl
 deciding_unanswered (command.Work name) = refl
 
 -- ---- causes without a device
@@ -154,7 +154,7 @@ module _ (o : Outset) (g : Origin) (sound : Bool) (l : Ledger) (story : Story) (
     walks (command.Alter words) due cause has quiet now new_held put = decided (command.Alter words) First (λ w. alter_table w words) (alter_decided s words) due cause has quiet now new_held put
     walks (command.Pin asked) due cause has quiet now new_held put = decided (command.Pin asked) First (λ w. make_pin w s asked) (pin_decided s asked) due cause has quiet now new_held put
     walks (command.Release token) due cause has quiet now new_held put = decided (command.Release token) First (λ w. release_pin w s token) (release_decided s token) due cause has quiet now new_held put
-    walks (command.Expire version) due cause has quiet now new_held put = decided (command.Expire version) First (λ w. expire_to w version) (expire_decided s version) due cause has quiet now new_held put
+    walks (command.Expire table version) due cause has quiet now new_held put = decided (command.Expire table version) First (λ w. expire_to w table version) (expire_decided s table version) due cause has quiet now new_held put
     walks (command.Explain words) due cause has quiet now new_held put = unexplained_turn o sound (books_of v.rows l) story held h running refused v.walk s number low few m moment words due ran at place cause has now new_held put
     walks (command.Query words) due cause has quiet now new_held put =
         unpinned_turn o sound (books_of v.rows l) story held h running refused v.walk s number low few words m moment ran story (stays story) due cause has (counts cause quiet) at place now new_held put
@@ -189,7 +189,7 @@ module _ (o : Outset) (g : Origin) (sound : Bool) (l : Ledger) (story : Story) (
   failing_takes (command.Alter words) due cause has grew = simply (command.Alter words) refl due cause grew
   failing_takes (command.Pin asked) due cause has grew = simply (command.Pin asked) refl due cause grew
   failing_takes (command.Release token) due cause has grew = simply (command.Release token) refl due cause grew
-  failing_takes (command.Expire version) due cause has grew = simply (command.Expire version) refl due cause grew
+  failing_takes (command.Expire table version) due cause has grew = simply (command.Expire table version) refl due cause grew
   failing_takes (command.Explain words) due cause has grew = simply (command.Explain words) refl due cause grew
   failing_takes (command.Query words) due cause has grew =
       takes_as o.script o.start old new s number (command.Query words) First kind.Decide Finished due (outcome_of cause)

@@ -22,7 +22,7 @@ use Rattle.mesa_model.specs.declared.replies.Reply.{Reply}
 use Rattle.mesa_model.specs.declared.replies.Reply.TheVariants as reply
 use Rattle.mesa_model.specs.declared.replies.Refusal.{Refusal}
 use Rattle.mesa_model.specs.declared.replies.Refusal.TheVariants as no
-use Rattle.mesa_model.specs.Warehouse.{Table, Store, Warehouse, newest_of}
+use Rattle.mesa_model.specs.Warehouse.{Table, Store, Warehouse, newest_of, table_at}
 use Rattle.mesa_model.specs.Relations.{table_number}
 use Rattle.mesa_model.specs.Refusals.{no_such_table, refuse_closed}
 use Rattle.mesa_model.specs.Query.{Answer, query_answer}
@@ -52,7 +52,7 @@ moved s m claim c is = record { was = c.was; oldest = c.oldest; versions = c.ver
 record IsNew (w : Warehouse) (m : Machine) (claim : Claim) : Type 0 where
   pub lease : claim.lease ≡ m.leases.granted + 1
   pub table : claim.table < length w.store.tables
-  pub work : next_work (ranges_at m claim.table) w.store.oldest (newest_of w) ≡ Some claim.work
+  pub work : next_work (ranges_at m claim.table) (table_at w.store claim.table).oldest (newest_of w) ≡ Some claim.work
 
 number_there : (s : Store) (name : List ℕ) (number : ℕ) → table_number s name ≡ Some number → number < length s.tables
 number_there s name number is =
@@ -70,7 +70,7 @@ claim_new w m position name =
     ok_then (IsNew w m) (refused_as reply.Refused (refuse_closed w.closed)) _ (
     ok_bind (IsNew w m) (ok_or (table_number w.store name) (reply.Refused no_such_table)) _ (λ table found.
     ok_then (IsNew w m) (refuse_busy (holder m.leases table position)) _ (
-    ok_bind (IsNew w m) (ok_or (next_work (ranges_at m table) w.store.oldest (newest_of w)) reply.Idle) _ (λ work next.
+    ok_bind (IsNew w m) (ok_or (next_work (ranges_at m table) (table_at w.store table).oldest (newest_of w)) reply.Idle) _ (λ work next.
     record { lease = refl; table = number_there w.store name table (found_of _ _ table found); work = found_of _ _ work next }))))
 
 unless_held : (b : Bool) (e : Refusal) → IfOk (refuse_unless b e) (λ ok. b ≡ true)
@@ -86,11 +86,11 @@ checked_held s position claim =
 -- ---- decisions
 
 after_reply : (w : Warehouse) (r : Reply) (m : Machine) (claim : Claim) (was : Ranges) → IsClaim m claim was → IsClaim (machine_after w r m) claim was
-after_reply w (reply.Table name) m claim was c = table_keeps m claim was c w.store.oldest
+after_reply w (reply.Table name) m claim was c = table_keeps m claim was c w.store.floor
 after_reply w r m claim was c = c
 
 ranges_after : (w : Warehouse) (r : Reply) (m : Machine) → length (machine_after w r m).ranges ≡ length m.ranges + made_by r
-ranges_after w (reply.Table name) m = length-append m.ranges (new_ranges w.store.oldest ∷ [])
+ranges_after w (reply.Table name) m = length-append m.ranges (new_ranges w.store.floor ∷ [])
 ranges_after w r m = omega arith
 
 module _ (position : ℕ) (s : State) (stage : Stage) where
@@ -111,7 +111,7 @@ module _ (position : ℕ) (s : State) (stage : Stage) where
       versions = c.versions;
       is = after_reply done.0 done.1 s.machine claim c.was c.is;
       next = c.next;
-      later_oldest = (let before = c.later_oldest in let more = grows.oldest in omega (arith, before, more));
+      later_oldest = (let before = c.later_oldest in let more = grows.oldest claim.table in omega (arith, before, more));
       later_versions = (let before = c.later_versions in let more = grows.versions in omega (arith, before, more));
     };
     own = λ has at. tt;
@@ -134,7 +134,7 @@ module _ (position : ℕ) (s : State) (stage : Stage) where
   decides session (command.Load rows) = deciding _ (step_grows s.warehouse session (command.Load rows))
   decides session (command.Pin asked) = deciding _ (step_grows s.warehouse session (command.Pin asked))
   decides session (command.Release token) = deciding _ (step_grows s.warehouse session (command.Release token))
-  decides session (command.Expire version) = deciding _ (step_grows s.warehouse session (command.Expire version))
+  decides session (command.Expire table version) = deciding _ (step_grows s.warehouse session (command.Expire table version))
   decides session (command.Work name) = deciding _ (step_grows s.warehouse session (command.Work name))
 
   -- ---- works
@@ -146,7 +146,7 @@ module _ (position : ℕ) (s : State) (stage : Stage) where
     claims = λ other c. moved s (claimed s.machine position claim) other c (claimed_keeps s.machine other c.was c.is position claim);
     own = λ has at. record {
       was = ranges_at s.machine claim.table;
-      oldest = s.warehouse.store.oldest;
+      oldest = (table_at s.warehouse.store claim.table).oldest;
       versions = s.warehouse.next;
       is = granted_claim s.machine position claim new.lease (let there = new.table in omega (arith, there, has));
       next = new.work;

@@ -24,7 +24,7 @@ decide-closed position s session (command.Query words) p is = rw is refl
 decide-closed position s session (command.Explain words) p is = rw is refl
 decide-closed position s session (command.Pin version) p is = ap (decided position s) (step-closed s.warehouse session (command.Pin version) p is)
 decide-closed position s session (command.Release token) p is = ap (decided position s) (step-closed s.warehouse session (command.Release token) p is)
-decide-closed position s session (command.Expire version) p is = ap (decided position s) (step-closed s.warehouse session (command.Expire version) p is)
+decide-closed position s session (command.Expire table version) p is = ap (decided position s) (step-closed s.warehouse session (command.Expire table version) p is)
 decide-closed position s session (command.Work table) p is = ap (decided position s) (step-closed s.warehouse session (command.Work table) p is)
 
 -- no command closes in its first turn
@@ -37,7 +37,7 @@ no_first_close (command.Query words) due = cc
 no_first_close (command.Explain words) due = cc
 no_first_close (command.Pin version) due = cc
 no_first_close (command.Release token) due = cc
-no_first_close (command.Expire version) due = cc
+no_first_close (command.Expire table version) due = cc
 no_first_close (command.Work table) due = cc
 
 -- no command is renewed in its first turn
@@ -50,7 +50,7 @@ no_first_renewal (command.Query words) due = cc
 no_first_renewal (command.Explain words) due = cc
 no_first_renewal (command.Pin version) due = cc
 no_first_renewal (command.Release token) due = cc
-no_first_renewal (command.Expire version) due = cc
+no_first_renewal (command.Expire table version) due = cc
 no_first_renewal (command.Work table) due = cc
 
 module _ (position : ℕ) (s : State) (session : ℕ) (c : Command) (p : ℕ) (is : s.warehouse.closed ≡ Some p) where

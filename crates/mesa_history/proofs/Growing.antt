@@ -1,5 +1,5 @@
 -- A command of the reference warehouse takes back no version and no expiry, and a table more is told.
-use Rattle.std.proofs.Common.{◌≡◌, ℕ, suc, ◌+◌, ◌≤◌, ◌-◌, drop, List, [], ◌∷◌, length, false, true, refl, ap, arith, ok_or, nat_le, nat_lt, is_none, set, Bool, ltb-false}
+use Rattle.std.proofs.Common.{◌≡◌, ℕ, suc, ◌+◌, ◌≤◌, List, [], ◌∷◌, length, refl, ap, arith, ok_or, nat_le, is_none, set, Option, Some, None}
 use Rattle.std.specs.Prelude.{Result, Ok, Err, IfOk}
 use Rattle.std.proofs.lemmas.List.{length-append, length-set, length-map}
 use Rattle.mesa_span.specs.mesa_list.Checks.{◌>>◌, refuse_if, refuse_unless, refused_as}
@@ -25,27 +25,28 @@ use Rattle.mesa_model.specs.Relations.{table_number, is_taken}
 use Rattle.mesa_model.specs.Refusals.{bad_schema, batch_refusal, change_refusal, no_such_table, refuse_closed, schema_refusal}
 use Rattle.mesa_model.specs.Tables.{columns_asked, names_are_good, new_table, make_table, make_view, view_of_table_checked, change_asked, changed_name, alter_table}
 use Rattle.mesa_model.specs.Load.{tables_named, bounds_checked, tables_loaded, load_batch}
-use Rattle.mesa_model.specs.Versions.{version_asked, version_checked, store_from, expire_to}
+use Rattle.mesa_model.specs.Versions.{common_oldest, version_asked, version_checked, table_from, expire_all, expire_table, expire_to}
 use Rattle.mesa_model.specs.Pins.{make_pin, pin_of, release_pin}
 use Rattle.mesa_model.specs.Query.{Answer, query_answer}
 use Rattle.mesa_model.specs.Step.{step, done_or_refused, reply_to_query}
-use Rattle.mesa_history.proofs.Checks.{ok_bind, ok_then, ok_if}
+use Rattle.mesa_history.proofs.Checks.{ok_bind, ok_then}
+use Rattle.mesa_history.proofs.Oldest.{pushed, set_later, mapped, loaded}
 
 -- how many tables a reply says were made
 abbrev pub made_by : Reply → ℕ
 made_by (reply.Table name) = 1
 made_by r = 0
 
--- what a command does to the oldest version, to the number of versions and to that of tables
+-- what a command does to each table's oldest version, to the number of versions and to that of tables
 pub record Grows (w : Warehouse) (done : Warehouse × Reply) : Type 0 where
-  pub oldest : w.store.oldest ≤ done.0.store.oldest
+  pub oldest : (number : ℕ) → (table_at w.store number).oldest ≤ (table_at done.0.store number).oldest
   pub versions : w.next ≤ done.0.next
   pub tables : length done.0.store.tables ≡ length w.store.tables + made_by done.1
 
 module _ (w : Warehouse) where
   done_grows : (r : Result (Warehouse × Reply) Refusal) → IfOk r (Grows w) → Grows w (done_or_refused w r)
   done_grows (Ok done) grows = grows
-  done_grows (Err refusal) grows = record { oldest = omega arith; versions = omega arith; tables = omega arith }
+  done_grows (Err refusal) grows = record { oldest = λ number. omega arith; versions = omega arith; tables = omega arith }
 
   table_grows : (words : TableWords) → IfOk (make_table w words) (Grows w)
   table_grows words =
@@ -55,10 +56,10 @@ module _ (w : Warehouse) where
       ok_then (Grows w) (refuse_unless (names_are_good (columns_asked words)) (bad_schema fault.BadName)) _ (
       ok_then (Grows w) (refused_as schema_refusal (schema_checked (columns_asked words))) _ (
       ok_then (Grows w) (refuse_if (nat_le max_tables (length w.store.tables)) (no.TablesFull max_tables)) _ (
-      record { oldest = omega arith; versions = omega arith; tables = length-append w.store.tables (new_table w words.table (columns_asked words) ∷ []) }))))))
+      record { oldest = pushed w.store.tables (new_table w words.table (columns_asked words) ∷ []); versions = omega arith; tables = length-append w.store.tables (new_table w words.table (columns_asked words) ∷ []) }))))))
 
-  set_grows : (number : ℕ) (t : Table) (r : Reply) → made_by r ≡ 0 → Grows w (record w { store = record w.store { tables = set w.store.tables number t } }, r)
-  set_grows number t r none = record { oldest = omega arith; versions = omega arith; tables = (let same = length-set w.store.tables number t in omega (arith, same, none)) }
+  set_grows : (number : ℕ) (t : Table) (r : Reply) → made_by r ≡ 0 → (table_at w.store number).oldest ≤ t.oldest → Grows w (record w { store = record w.store { tables = set w.store.tables number t } }, r)
+  set_grows number t r none le = record { oldest = set_later w.store.tables number t le; versions = omega arith; tables = (let same = length-set w.store.tables number t in omega (arith, same, none)) }
 
   view_grows : (words : ViewWords) → IfOk (make_view w words) (Grows w)
   view_grows words =
@@ -67,7 +68,7 @@ module _ (w : Warehouse) where
       ok_then (Grows w) (refuse_if (is_taken w.store words.view) no.TableExists) _ (
       ok_bind (Grows w) (ok_or (table_number w.store words.table) no_such_table) _ (λ number found.
       ok_then (Grows w) (view_of_table_checked (table_at w.store number) words) _ (
-      set_grows number _ (reply.View words.view) refl)))))
+      set_grows number _ (reply.View words.view) refl (omega arith))))))
 
   alter_grows : (words : AlterWords) → IfOk (alter_table w words) (Grows w)
   alter_grows words =
@@ -75,7 +76,7 @@ module _ (w : Warehouse) where
       ok_bind (Grows w) (ok_or (table_number w.store words.table) no_such_table) _ (λ number found.
       ok_bind (Grows w) (change_asked (columns_of (table_at w.store number).lineage) words.change) _ (λ c asked.
       ok_then (Grows w) (refused_as (change_refusal (changed_name c)) (change_checked (table_at w.store number).lineage c)) _ (
-      set_grows number _ (reply.Altered words.table _) refl))))
+      set_grows number _ (reply.Altered words.table _) refl (omega arith)))))
 
   loaded_length : (batch : List Placed) (number : ℕ) (ts : List Table) → length (tables_loaded batch number ts) ≡ length ts
   loaded_length batch number [] = refl
@@ -87,44 +88,48 @@ module _ (w : Warehouse) where
       ok_bind (Grows w) (refused_as batch_refusal (batch_of (tables_named w.store) rows)) _ (λ batch read.
       ok_then (Grows w) (refuse_if (nat_le max_versions w.next) (no.VersionsFull max_versions)) _ (
       ok_then (Grows w) (bounds_checked batch 0 w.store.tables) _ (
-      record { oldest = omega arith; versions = omega arith; tables = (let same = loaded_length batch 0 w.store.tables in omega (arith, same)) }))))
+      record { oldest = loaded batch 0 w.store.tables; versions = omega arith; tables = (let same = loaded_length batch 0 w.store.tables in omega (arith, same)) }))))
 
-  -- a version that can be expired to isn't below the oldest
-  not_stale : (version : ℕ) → IfOk (version_checked w version) (λ ok. w.store.oldest ≤ version)
-  not_stale version = ok_if (λ ok. w.store.oldest ≤ version) (nat_lt version w.store.oldest) _ _ (λ above. behind (nat_le w.next version) (no.Future (asks.At version) (newest_of w)) (ltb-false version w.store.oldest above))
-    where
-      behind : (b : Bool) (e : Refusal) → w.store.oldest ≤ version → IfOk (refuse_if b e) (λ ok. w.store.oldest ≤ version)
-      behind true e le = tt
-      behind false e le = le
+  -- a table without its versions below one has no lower oldest version
+  from_later : (version : ℕ) (t : Table) → t.oldest ≤ (table_from version t).oldest
+  from_later version t = omega arith
 
-  expire_grows : (version : ℕ) → IfOk (expire_to w version) (Grows w)
-  expire_grows version =
+  all_grows : (version : ℕ) → IfOk (expire_all w version) (Grows w)
+  all_grows version =
       ok_then (Grows w) (refuse_closed w.closed) _ (
-      after (version_checked w version) (not_stale version))
-    where
-      after : (r : Result (Unit {0}) Refusal) → IfOk r (λ ok. w.store.oldest ≤ version) → IfOk (r >> Ok (record w { store = store_from w.store version }, reply.Expired version)) (Grows w)
-      after (Ok ok) le = record { oldest = le; versions = omega arith; tables = (let same = length-map w.store.tables (λ (t : Table). record t { contents = drop (version - w.store.oldest) t.contents }) in omega (arith, same)) }
-      after (Err e) le = tt
+      ok_then (Grows w) (version_checked w w.store.floor version) _ (
+      record { oldest = mapped (table_from version) (from_later version) w.store.tables; versions = omega arith; tables = (let same = length-map w.store.tables (table_from version) in omega (arith, same)) }))
+
+  one_grows : (name : List ℕ) (version : ℕ) → IfOk (expire_table w name version) (Grows w)
+  one_grows name version =
+      ok_then (Grows w) (refuse_closed w.closed) _ (
+      ok_bind (Grows w) (ok_or (table_number w.store name) no_such_table) _ (λ number found.
+      ok_then (Grows w) (version_checked w (table_at w.store number).oldest version) _ (
+      set_grows number (table_from version (table_at w.store number)) (reply.Expired (Some name) version) refl (from_later version (table_at w.store number)))))
+
+  expire_grows : (table : Option (List ℕ)) (version : ℕ) → IfOk (expire_to w table version) (Grows w)
+  expire_grows None version = all_grows version
+  expire_grows (Some name) version = one_grows name version
 
   pin_grows : (session : ℕ) (asked : VersionWord) → IfOk (make_pin w session asked) (Grows w)
   pin_grows session asked =
       ok_then (Grows w) (refuse_closed w.closed) _ (
-      ok_bind (Grows w) (version_asked w asked) _ (λ version is.
+      ok_bind (Grows w) (version_asked w (common_oldest w.store) asked) _ (λ version is.
       ok_then (Grows w) (refuse_if (nat_le max_pins (length w.pins)) (no.PinsFull max_pins)) _ (
-      record { oldest = omega arith; versions = omega arith; tables = omega arith })))
+      record { oldest = λ number. omega arith; versions = omega arith; tables = omega arith })))
 
   release_grows : (session token : ℕ) → IfOk (release_pin w session token) (Grows w)
   release_grows session token =
       ok_then (Grows w) (refuse_closed w.closed) _ (
       ok_then (Grows w) (refuse_if (is_none (pin_of w session token)) (no.NoPin token)) _ (
-      record { oldest = omega arith; versions = omega arith; tables = omega arith }))
+      record { oldest = λ number. omega arith; versions = omega arith; tables = omega arith }))
 
   nothing_grows : IfOk (refuse_closed w.closed >> Ok (w, reply.Idle)) (Grows w)
-  nothing_grows = ok_then (Grows w) (refuse_closed w.closed) _ (record { oldest = omega arith; versions = omega arith; tables = omega arith })
+  nothing_grows = ok_then (Grows w) (refuse_closed w.closed) _ (record { oldest = λ number. omega arith; versions = omega arith; tables = omega arith })
 
   query_grows : (r : Result Answer Refusal) → Grows w (w, reply_to_query r)
-  query_grows (Ok answer) = record { oldest = omega arith; versions = omega arith; tables = omega arith }
-  query_grows (Err refusal) = record { oldest = omega arith; versions = omega arith; tables = omega arith }
+  query_grows (Ok answer) = record { oldest = λ number. omega arith; versions = omega arith; tables = omega arith }
+  query_grows (Err refusal) = record { oldest = λ number. omega arith; versions = omega arith; tables = omega arith }
 
   -- What Step does to them.
   pub step_grows : (session : ℕ) (c : Command) → Grows w (step w session c)
@@ -136,5 +141,5 @@ module _ (w : Warehouse) where
   step_grows session (command.Explain words) = done_grows _ nothing_grows
   step_grows session (command.Pin asked) = done_grows (make_pin w session asked) (pin_grows session asked)
   step_grows session (command.Release token) = done_grows (release_pin w session token) (release_grows session token)
-  step_grows session (command.Expire version) = done_grows (expire_to w version) (expire_grows version)
+  step_grows session (command.Expire table version) = done_grows (expire_to w table version) (expire_grows table version)
   step_grows session (command.Work name) = done_grows _ nothing_grows

@@ -2,6 +2,7 @@
 use Rattle.std.specs.Prelude.{◌≡◌, ℕ, ◌-◌, ◌<◌, ◌≤◌, length, Bool, true, false, ◌&&◌, ◌==◌, not, if◌then◌else◌, Option, None, Some}
 use Rattle.mesa_span.specs.declared.ranges.Ranges.{Ranges}
 use Rattle.mesa_span.specs.Work.{next_work}
+use Rattle.mesa_model.specs.Warehouse.{table_at}
 use Rattle.mesa_lease.specs.declared.lease.Lease.{Lease}
 use Rattle.mesa_lease.specs.Book.{Book, last_of}
 use Rattle.mesa_history.specs.Machine.{Machine, Claim, ranges_at}
@@ -22,14 +23,14 @@ pub record IsClaim (m : Machine) (claim : Claim) (was : Ranges) : Type 0 where
   pub there : claim.table < length m.ranges
   pub stays : is_live m.leases claim.table claim.lease ≡ true → ranges_at m claim.table ≡ was
 
--- A claim's work is the next one for the ranges that its table had then, at an oldest version and a number of versions that the warehouse had.
+-- A claim's work is the next one for the ranges that its table had then, at an oldest version that the table had and a number of versions that the warehouse had.
 pub record HasClaim (s : State) (claim : Claim) : Type 0 where
   pub was : Ranges
   pub oldest : ℕ
   pub versions : ℕ
   pub is : IsClaim s.machine claim was
   pub next : next_work was oldest (if versions == 0 then None else Some (versions - 1)) ≡ Some claim.work
-  pub later_oldest : oldest ≤ s.warehouse.store.oldest
+  pub later_oldest : oldest ≤ (table_at s.warehouse.store claim.table).oldest
   pub later_versions : versions ≤ s.warehouse.next
 
 -- the claim of a session's work, where it was granted one

@@ -63,13 +63,13 @@ abbrev pub at_present : Table → ℕ → List Row → List Row
 at_present t epoch rows = map (lifted t.lineage epoch (epoch_of t.lineage)) rows
 
 -- a table's content at a version of the start, lifted to the table's present epoch
-abbrev rows_then : Store → Table → ℕ → Option Table → List Row
-rows_then start t version None = []
-rows_then start t version (Some old) = at_present t (epoch_of old.lineage) (content_at start old version)
+abbrev rows_then : Table → ℕ → Option Table → List Row
+rows_then t version None = []
+rows_then t version (Some old) = at_present t (epoch_of old.lineage) (content_at old version)
 
 -- the content that the table of a number had at the start, lifted; none where the table or the version wasn't there
 abbrev pub start_rows : Store → ℕ → Table → ℕ → List Row
-start_rows start number t version = rows_then start t version (slice_get start.tables number)
+start_rows start number t version = rows_then t version (slice_get start.tables number)
 
 -- the rows of the table of a number in an accepted batch, lifted
 abbrev pub accepted_rows : ℕ → Table → Accepted → List Row
@@ -90,8 +90,8 @@ law_content start number t accepted version =
 -- A content of the run is what the law says: the table of a number, at a version that can be queried.
 abbrev pub HoldsIn : Warehouse → List Accepted → Warehouse → Type 0
 HoldsIn start accepted now = (number : ℕ) (t : Table) (version : ℕ)
-    → slice_get now.store.tables number ≡ Some t → now.store.oldest ≤ version → version < now.next
-    → content_at now.store t version ≡ law_content start number t accepted version
+    → slice_get now.store.tables number ≡ Some t → t.oldest ≤ version → version < now.next
+    → content_at t version ≡ law_content start number t accepted version
 
 -- The fold law: from a well-formed start every history leaves the contents that the law says.
 abbrev pub FoldLaw : Type 0

@@ -106,7 +106,7 @@ is_written (reply.Table name) = true
 is_written (reply.View name) = true
 is_written (reply.Altered table epoch) = true
 is_written (reply.Loaded version rows) = true
-is_written (reply.Expired oldest) = true
+is_written (reply.Expired table oldest) = true
 is_written (reply.Swapped from to) = true
 is_written r = false
 
@@ -143,7 +143,7 @@ is_writing (command.Load rows) = true
 is_writing (command.Table words) = true
 is_writing (command.View words) = true
 is_writing (command.Alter words) = true
-is_writing (command.Expire version) = true
+is_writing (command.Expire table version) = true
 is_writing c = false
 
 -- want of memory stands on every turn but a release and the renewal of a lease; a read fault or damage only on a query and on the close of a work, a read fault also on a grant; a write fault only on the close of a work and on a deciding turn that writes

@@ -4,6 +4,7 @@ pub use Rattle.mesa_model.specs.mesa_filter as mesa_filter
 pub use Rattle.mesa_model.specs as mesa_model
 pub use Rattle.mesa_model.specs.mesa_schema as mesa_schema
 pub use Rattle.mesa_span.specs as mesa_span
+pub use Rattle.mesa_lease.specs as mesa_lease
 pub mod Machine
 pub mod Run
 pub mod Replay

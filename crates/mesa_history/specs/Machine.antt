@@ -15,7 +15,7 @@ use Rattle.mesa_model.specs.declared.replies.Reply.{Reply}
 use Rattle.mesa_model.specs.declared.replies.Reply.TheVariants as reply
 use Rattle.mesa_model.specs.declared.replies.Refusal.{Refusal}
 use Rattle.mesa_model.specs.declared.replies.Refusal.TheVariants as no
-use Rattle.mesa_model.specs.Warehouse.{Warehouse, max_tables, newest_of}
+use Rattle.mesa_model.specs.Warehouse.{Warehouse, max_tables, newest_of, table_at}
 use Rattle.mesa_model.specs.Relations.{table_number, relation_of}
 use Rattle.mesa_model.specs.Refusals.{no_such_table, refuse_closed}
 use Rattle.mesa_model.specs.Versions.{version_asked}
@@ -39,9 +39,9 @@ ranges_at m table = slice_index_or m.ranges table (new_ranges 0)
 abbrev pub machine_of : Script → List Ranges → Machine
 machine_of script ranges = record { ranges = ranges; leases = begun max_tables script.lease }
 
--- the machine with a table more, which is made while this version is the oldest
+-- the machine with a table more, which is made while this version is the floor
 abbrev pub with_new_table : Machine → ℕ → Machine
-with_new_table m oldest = record m { ranges = m.ranges ++ new_ranges oldest ∷ [] }
+with_new_table m floor = record m { ranges = m.ranges ++ new_ranges floor ∷ [] }
 
 -- ---- grant
 
@@ -56,7 +56,7 @@ claim_of w m position name = do
   refused_as reply.Refused (refuse_closed w.closed)
   table ← ok_or (table_number w.store name) (reply.Refused no_such_table)
   refuse_busy (holder m.leases table position)
-  work ← ok_or (next_work (ranges_at m table) w.store.oldest (newest_of w)) reply.Idle
+  work ← ok_or (next_work (ranges_at m table) (table_at w.store table).oldest (newest_of w)) reply.Idle
   Ok (record { table = table; lease = m.leases.granted + 1; work = work })
 
 -- the machine once a claim is granted at a position
@@ -95,5 +95,5 @@ abbrev pub explained : Warehouse → Machine → ExplainWords → Result Reply R
 explained w m words = do
   refuse_closed w.closed
   relation ← ok_or (relation_of w.store words.relation) no_such_table
-  version ← version_asked w words.version
+  version ← version_asked w relation.table.oldest words.version
   Ok (reply.Spans (plan (ranges_at m relation.number) version))

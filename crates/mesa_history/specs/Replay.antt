@@ -46,7 +46,7 @@ refuses at s refusal = prints at s (reply.Refused refusal)
 
 -- the range machine after a command's reply: a table that was made enters it
 abbrev pub machine_after : Warehouse → Reply → Machine → Machine
-machine_after w (reply.Table name) m = with_new_table m w.store.oldest
+machine_after w (reply.Table name) m = with_new_table m w.store.floor
 machine_after w r m = m
 
 -- the state after a command, with its reply

@@ -59,11 +59,12 @@ before = record {
     name = codes "t";
     lineage = lineage;
     totals = [];
+    oldest = 1;
     base = None;
     cumulatives = [];
     singles = single 0 digest_5 ∷ single 1 digest_6 ∷ single 2 digest_4 ∷ [];
   } ∷ [];
-  oldest = 1;
+  floor = 1;
   next = 3;
   run = 1;
 }
@@ -74,11 +75,12 @@ after = record {
     name = codes "t";
     lineage = lineage;
     totals = [];
+    oldest = 1;
     base = Some (record { to = 1; delta = record { epoch = 0; files = Some (record { file = file 3 digest_6; views = [] }); totals = None } });
     cumulatives = [];
     singles = single 2 digest_4 ∷ [];
   } ∷ [];
-  oldest = 1;
+  floor = 1;
   next = 3;
   run = 1;
 }
@@ -131,7 +133,7 @@ rows id =
 
 -- the newest value stands at each version, before the swap
 stands_before : kept_of rows before ≡ record {
-  store = record { tables = record { name = codes "t"; lineage = lineage; totals = []; contents = (row 6 ∷ []) ∷ (row 4 ∷ []) ∷ [] } ∷ []; oldest = 1 };
+  store = record { tables = record { name = codes "t"; lineage = lineage; totals = []; oldest = 1; contents = (row 6 ∷ []) ∷ (row 4 ∷ []) ∷ [] } ∷ []; floor = 1 };
   next = 3;
   ranges = record { base_to = None; cumulatives = [] } ∷ [];
 }
@@ -140,7 +142,7 @@ stands_before = refl
 
 -- and after it
 stands_after : kept_of rows after ≡ record {
-  store = record { tables = record { name = codes "t"; lineage = lineage; totals = []; contents = (row 6 ∷ []) ∷ (row 4 ∷ []) ∷ [] } ∷ []; oldest = 1 };
+  store = record { tables = record { name = codes "t"; lineage = lineage; totals = []; oldest = 1; contents = (row 6 ∷ []) ∷ (row 4 ∷ []) ∷ [] } ∷ []; floor = 1 };
   next = 3;
   ranges = record { base_to = Some 1; cumulatives = [] } ∷ [];
 }

@@ -33,3 +33,7 @@ empty_batch version = 5 ∷ word version ++ half 0
 -- the oldest version is this one
 abbrev pub expire : ℕ → List ℕ
 expire version = 7 ∷ word version
+
+-- the oldest version of a table is this one
+abbrev pub expire_table : ℕ → ℕ → List ℕ
+expire_table table version = 12 ∷ half table ++ word version

@@ -67,6 +67,7 @@ catalogue = record {
     name = codes "t";
     lineage = lineage;
     totals = 13 ∷ [];
+    oldest = 0;
     base = None;
     cumulatives = [];
     singles =
@@ -74,7 +75,7 @@ catalogue = record {
         ∷ record { epoch = 0; files = Some (record { file = file_1; views = record { view = 0; file = file_w } ∷ [] }); totals = Some (1 ∷ []) }
         ∷ [];
   } ∷ [];
-  oldest = 0;
+  floor = 0;
   next = 2;
   run = 1;
 }
@@ -104,7 +105,7 @@ rows id =
 
 -- the view's file counts nowhere
 stands_for : kept_of rows catalogue ≡ record {
-  store = record { tables = record { name = codes "t"; lineage = lineage; totals = 13 ∷ []; contents = (row 1 5 ∷ row 2 7 ∷ []) ∷ (row 1 5 ∷ row 2 7 ∷ row 3 1 ∷ []) ∷ [] } ∷ []; oldest = 0 };
+  store = record { tables = record { name = codes "t"; lineage = lineage; totals = 13 ∷ []; oldest = 0; contents = (row 1 5 ∷ row 2 7 ∷ []) ∷ (row 1 5 ∷ row 2 7 ∷ row 3 1 ∷ []) ∷ [] } ∷ []; floor = 0 };
   next = 2;
   ranges = record { base_to = None; cumulatives = [] } ∷ [];
 }

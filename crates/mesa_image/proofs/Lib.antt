@@ -5,6 +5,7 @@ mod Bodies
 mod OneRow
 mod AcrossBase
 mod DerivedView
+mod Apart
 mod Misfits
 mod Damaged
 mod Empty

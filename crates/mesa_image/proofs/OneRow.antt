@@ -43,11 +43,12 @@ catalogue = record {
     name = codes "t";
     lineage = lineage;
     totals = 5 ∷ [];
+    oldest = 0;
     base = None;
     cumulatives = [];
     singles = record { epoch = 0; files = Some (record { file = file; views = [] }); totals = Some (5 ∷ []) } ∷ empty_delta ∷ [];
   } ∷ [];
-  oldest = 0;
+  floor = 0;
   next = 2;
   run = 1;
 }
@@ -65,7 +66,7 @@ rows id = if id == first_run 0 then row ∷ [] else []
 
 -- both versions have the row
 stands_for : kept_of rows catalogue ≡ record {
-  store = record { tables = record { name = codes "t"; lineage = lineage; totals = 5 ∷ []; contents = (row ∷ []) ∷ (row ∷ []) ∷ [] } ∷ []; oldest = 0 };
+  store = record { tables = record { name = codes "t"; lineage = lineage; totals = 5 ∷ []; oldest = 0; contents = (row ∷ []) ∷ (row ∷ []) ∷ [] } ∷ []; floor = 0 };
   next = 2;
   ranges = record { base_to = None; cumulatives = [] } ∷ [];
 }

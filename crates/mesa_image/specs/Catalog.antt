@@ -1,5 +1,5 @@
 -- The catalogue: what the records of a journal say of the tables and their deltas.
-use Rattle.std.specs.Prelude.{ℕ, ◌+◌, ◌-◌, List, [], ◌∷◌, ◌++◌, map, drop, replicate, find, Bool, true, false, ◌==◌, Option, Some, None, option_map, slice_index_or, slice_set}
+use Rattle.std.specs.Prelude.{ℕ, ◌+◌, ◌-◌, List, [], ◌∷◌, ◌++◌, map, drop, max, replicate, find, Bool, true, false, ◌==◌, Option, Some, None, option_map, slice_index_or, slice_set}
 use Rattle.mesa_history.specs.mesa_schema.declared.changes.Change.{Change}
 use Rattle.mesa_history.specs.mesa_schema.Columns.{Columns, aggs_of}
 use Rattle.mesa_history.specs.mesa_schema.Changes.{Lineage, columns_of, with_change}
@@ -23,25 +23,26 @@ pub record Ending : Type 0 where
   pub to : ℕ
   pub delta : Delta
 
--- A table of the catalogue: its name, its columns through its life with its views, its absolute totals for each sum column, its base, its cumulatives by rising ends, and a singleton for each version behind the base.
+-- A table of the catalogue: its name, its columns through its life with its views, its absolute totals for each sum column, its oldest version that can be queried, its base, its cumulatives by rising ends, and a singleton for each version behind the base.
 pub record Stock : Type 0 where
   pub name : List ℕ
   pub lineage : Lineage
   pub totals : List ℕ
+  pub oldest : ℕ
   pub base : Option Ending
   pub cumulatives : List Ending
   pub singles : List Delta
 
--- The catalogue: its tables in the order in which they were made, the oldest version that can be queried, how many versions there were, and the number of the last run, 0 before the first.
+-- The catalogue: its tables in the order in which they were made, the floor, which is the oldest version of a table when it is made, how many versions there were, and the number of the last run, 0 before the first.
 pub record Catalog : Type 0 where
   pub tables : List Stock
-  pub oldest : ℕ
+  pub floor : ℕ
   pub next : ℕ
   pub run : ℕ
 
 -- the catalogue before any record
 abbrev pub empty_catalog : Catalog
-empty_catalog = record { tables = []; oldest = 0; next = 0; run = 0 }
+empty_catalog = record { tables = []; floor = 0; next = 0; run = 0 }
 
 -- a delta without rows, of which nothing more is known
 abbrev pub empty_delta : Delta
@@ -60,7 +61,7 @@ start_in t = start_of (ranges_of t)
 
 -- what stands for a table that isn't there
 abbrev pub no_stock : Stock
-no_stock = record { name = []; lineage = record { first = record { keys = []; values = [] }; changes = []; views = [] }; totals = []; base = None; cumulatives = []; singles = [] }
+no_stock = record { name = []; lineage = record { first = record { keys = []; values = [] }; changes = []; views = [] }; totals = []; oldest = 0; base = None; cumulatives = []; singles = [] }
 
 -- the table of a number
 abbrev pub stock_at : Catalog → ℕ → Stock
@@ -76,15 +77,16 @@ with_stock c number t = record c { tables = slice_set c.tables number t }
 abbrev pub empty_base : ℕ → Ending
 empty_base to = record { to = to; delta = empty_delta }
 
--- a table without rows at each version that is there, with an empty base to the one before the oldest
+-- a table without rows at each version from the floor on, with an empty base to the one before it
 abbrev pub new_stock : Catalog → List ℕ → Columns → Stock
 new_stock c name s = record {
   name = name;
   lineage = record { first = s; changes = []; views = [] };
   totals = replicate (sums_in (aggs_of s)) 0;
-  base = option_map empty_base (base_before c.oldest);
+  oldest = c.floor;
+  base = option_map empty_base (base_before c.floor);
   cumulatives = [];
-  singles = replicate (c.next - c.oldest) empty_delta;
+  singles = replicate (c.next - c.floor) empty_delta;
 }
 
 -- a table with a view more
@@ -122,6 +124,10 @@ abbrev pub stock_swapped : Stock → Bool → ℕ → Delta → Stock
 stock_swapped t true to d = record t { base = Some (record { to = to; delta = d }); cumulatives = []; singles = drop (to + 1 - start_in t) t.singles }
 stock_swapped t false to d = record t { cumulatives = t.cumulatives ++ record { to = to; delta = d } ∷ [] }
 
+-- a table without versions below one
+abbrev pub stock_from : ℕ → Stock → Stock
+stock_from version t = record t { oldest = max t.oldest version }
+
 -- The catalogue after a record.
 abbrev pub applied : Catalog → Record → Catalog
 applied c (record_of.Run number) = record c { run = number }
@@ -130,4 +136,5 @@ applied c (record_of.View table name keys values) = with_stock c table (stock_vi
 applied c (record_of.Alter table change) = with_stock c table (stock_changed (stock_at c table) change)
 applied c (record_of.Publish version parts) = record c { tables = stocks_loaded parts 0 c.tables; next = c.next + 1 }
 applied c (record_of.Swap table base from to epoch files) = with_stock c table (stock_swapped (stock_at c table) base to (merged_delta epoch files))
-applied c (record_of.Expire version) = record c { oldest = version }
+applied c (record_of.Expire version) = record c { tables = map (stock_from version) c.tables; floor = version }
+applied c (record_of.ExpireTable table version) = with_stock c table (stock_from version (stock_at c table))

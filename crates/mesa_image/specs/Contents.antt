@@ -36,13 +36,13 @@ abbrev pub content : Rows → Stock → ℕ → List Row
 content rows t version = folded (aggs_of (columns_of t.lineage)) (map (present rows t.lineage) (deltas_to t version))
 
 -- a table with its content at each version that can be queried
-abbrev pub table_of : Rows → ℕ → ℕ → Stock → Table
-table_of rows oldest next t = record { name = t.name; lineage = t.lineage; totals = t.totals; contents = map (content rows t) (range_with_len oldest (next - oldest)) }
+abbrev pub table_of : Rows → ℕ → Stock → Table
+table_of rows next t = record { name = t.name; lineage = t.lineage; totals = t.totals; oldest = t.oldest; contents = map (content rows t) (range_with_len t.oldest (next - t.oldest)) }
 
 -- RefOf: what a catalogue stands for where its files have these rows: the tables with their contents, how many versions there were, and the ranges.
 unfoldable pub kept_of : Rows → Catalog → Kept
 kept_of rows c = record {
-  store = record { tables = map (table_of rows c.oldest c.next) c.tables; oldest = c.oldest };
+  store = record { tables = map (table_of rows c.next) c.tables; floor = c.floor };
   next = c.next;
   ranges = map ranges_of c.tables;
 }

@@ -171,7 +171,7 @@ abbrev pub publish_fits : Catalog → ℕ → List Part → Bool
 publish_fits c version parts =
     (version == c.next) && nat_lt version max_versions && list_all (λ (p : Part). is_there c p.table && part_fits (stock_at c p.table) p) parts
 
--- Work may give a base to this version, at the present oldest version or when a lesser one was the oldest: it is behind the present base, not the first version, and at most the oldest.
+-- Work may give a base to this version, at the table's present oldest version or when a lesser one was the oldest: it is behind the present base, not the first version, and at most the oldest.
 abbrev pub may_be_base : Ranges → ℕ → ℕ → ℕ → Bool
 may_be_base r oldest from to = (from == 0) && nat_le 1 to && nat_le (start_of r) to && nat_le to oldest
 
@@ -185,16 +185,16 @@ may_be_cumulative r next from to = (from == start_of r) && is_number (missing_en
 
 -- work may give this range, of a base or of a cumulative
 abbrev pub may_be_work : Catalog → Stock → Bool → ℕ → ℕ → Bool
-may_be_work c t true from to = may_be_base (ranges_of t) c.oldest from to
+may_be_work c t true from to = may_be_base (ranges_of t) t.oldest from to
 may_be_work c t false from to = may_be_cumulative (ranges_of t) c.next from to
 
 -- a merged range is one that work may give, of an epoch that its table has had, with files that count its columns
 abbrev pub swap_fits : Catalog → Stock → Bool → ℕ → ℕ → ℕ → Option Files → Bool
 swap_fits c t base from to epoch files = may_be_work c t base from to && nat_le epoch (epoch_of t.lineage) && files_fit_if_any t.lineage epoch files
 
--- a version from the oldest to the newest
-abbrev pub expire_fits : Catalog → ℕ → Bool
-expire_fits c version = nat_le c.oldest version && nat_lt version c.next
+-- a version from this one to the newest
+abbrev pub expire_fits : Catalog → ℕ → ℕ → Bool
+expire_fits c oldest version = nat_le oldest version && nat_lt version c.next
 
 -- the rules of a record's own kind
 abbrev pub kind_fits : Catalog → Record → Bool
@@ -204,7 +204,8 @@ kind_fits c (record_of.View table name keys values) = view_fits c table name key
 kind_fits c (record_of.Alter table change) = alter_fits c table change
 kind_fits c (record_of.Publish version parts) = publish_fits c version parts
 kind_fits c (record_of.Swap table base from to epoch files) = is_there c table && swap_fits c (stock_at c table) base from to epoch files
-kind_fits c (record_of.Expire version) = expire_fits c version
+kind_fits c (record_of.Expire version) = expire_fits c c.floor version
+kind_fits c (record_of.ExpireTable table version) = is_there c table && expire_fits c (stock_at c table).oldest version
 
 -- A record fits what stands before it: it keeps the rules of its kind, and its files are new.
 unfoldable pub fits : Catalog → Record → Bool

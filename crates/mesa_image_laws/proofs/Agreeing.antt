@@ -65,8 +65,8 @@ module _ (old new : Rows) where
     same_contents from zero = refl
     same_contents from (suc n) = λ i. same_content from i ∷ same_contents (from + 1) n i
 
-    same_table : (oldest next : ℕ) → table_of new oldest next t ≡ table_of old oldest next t
-    same_table oldest next = λ i. record { name = t.name; lineage = t.lineage; totals = t.totals; contents = same_contents oldest (next - oldest) i }
+    same_table : (next : ℕ) → table_of new next t ≡ table_of old next t
+    same_table next = λ i. record { name = t.name; lineage = t.lineage; totals = t.totals; oldest = t.oldest; contents = same_contents t.oldest (next - t.oldest) i }
 
     told : (x : Shelved) → Agrees x → IsTold old x → IsTold new x
     told x same is = record {
@@ -111,8 +111,8 @@ module _ (old new : Rows) where
   pub agree_kept : (c : Catalog) → AllByRecursion Agrees (shelved c) → kept_of new c ≡ kept_of old c
   unfolding kept_of
   agree_kept c all =
-      let tables = same_maps SameStock (table_of new c.oldest c.next) (table_of old c.oldest c.next) c.tables (λ t same. same_table t same c.oldest c.next) (all_unflat Agrees stock_shelved c.tables all) in
-      λ i. record { store = record { tables = tables i; oldest = c.oldest }; next = c.next; ranges = map ranges_of c.tables }
+      let tables = same_maps SameStock (table_of new c.next) (table_of old c.next) c.tables (λ t same. same_table t same c.next) (all_unflat Agrees stock_shelved c.tables all) in
+      λ i. record { store = record { tables = tables i; floor = c.floor }; next = c.next; ranges = map ranges_of c.tables }
 
   pub agree_stocked : (c : Catalog) → AllByRecursion Agrees (shelved c) → AreStocked old c → AreStocked new c
   agree_stocked c all is = all_both SameStock (IsStocked old) (IsStocked new) c.tables same_stocked (all_unflat Agrees stock_shelved c.tables all) is

@@ -20,8 +20,8 @@ use Rattle.mesa_image.specs.mesa_record.declared.record.Files.{Files}
 use Rattle.mesa_image.specs.mesa_record.declared.record.Part.{Part}
 use Rattle.mesa_image.specs.mesa_record.declared.record.Record.TheVariants as record_of
 use Rattle.mesa_image.specs.mesa_record.Rules.{IsTypedChange}
-use Rattle.mesa_image.specs.Catalog.{Catalog, Delta, Ending, Stock, applied, merged_delta, new_stock, no_stock, part_of, ranges_of, start_in, stock_at, stock_changed, stock_loaded, stock_swapped, stock_viewed, stocks_loaded}
-use Rattle.mesa_image.specs.Fitting.{base_deltas, delta_in, files_fit_if_any, fits, is_number, is_there, may_be_work, shelved, stock_shelved, swap_fits}
+use Rattle.mesa_image.specs.Catalog.{Catalog, Delta, Ending, Stock, applied, merged_delta, new_stock, no_stock, part_of, ranges_of, start_in, stock_at, stock_changed, stock_from, stock_loaded, stock_swapped, stock_viewed, stocks_loaded}
+use Rattle.mesa_image.specs.Fitting.{base_deltas, delta_in, expire_fits, files_fit_if_any, fits, is_number, is_there, may_be_work, shelved, stock_shelved, swap_fits}
 use Rattle.mesa_image.specs.Contents.{Rows, content, present}
 use Rattle.mesa_image.specs.Sound.{AreStocked, IsStocked}
 use Rattle.mesa_image.specs.Shape.{IsCatalog, IsShaped}
@@ -61,17 +61,17 @@ module _ (rows : Rows) (written : ℕ → List Written) where
 
 -- the range of a work
 module _ (rows : Rows) where
-  work_range : (c : Catalog) (t : Stock) (base : Bool) (from to : ℕ) → IsCatalog c → IsShaped c.oldest c.next t → may_be_work c t base from to ≡ true → (ws : List Written) (its : IsSourced rows ws t)
+  work_range : (c : Catalog) (t : Stock) (base : Bool) (from to : ℕ) → IsCatalog c → IsShaped c.floor c.next t → may_be_work c t base from to ≡ true → (ws : List Written) (its : IsSourced rows ws t)
       → (from ≡ first rows ws t its base) × (start_in t ≤ to + 1) × (to + 1 ≤ start_in t + length t.singles)
   work_range c t true from to is shaped may ws its =
-      let last = both_true ((from == 0) && nat_le 1 to && nat_le (start_in t) to) (nat_le to c.oldest) may in
+      let last = both_true ((from == 0) && nat_le 1 to && nat_le (start_in t) to) (nat_le to t.oldest) may in
       let third = both_true ((from == 0) && nat_le 1 to) (nat_le (start_in t) to) last.0 in
       let two = both_true (from == 0) (nat_le 1 to) third.0 in
       let some = is_at_most 1 to two.1 in
       let behind = is_at_most (start_in t) to third.1 in
-      let within = is_at_most to c.oldest last.1 in
+      let within = is_at_most to t.oldest last.1 in
       let whole = shaped.singles in
-      let lt : to < c.next = elim is.oldest [ inl lt ↦ omega (arith, within, lt) | inr none ↦ absurd (omega (arith, some, within, none.0)) ] in
+      let lt : to < c.next = elim shaped.oldest [ inl lt ↦ omega (arith, within, lt) | inr none ↦ absurd (omega (arith, some, within, none.0)) ] in
       (is_equal from 0 two.0, omega (arith, behind), omega (arith, whole, lt))
   work_range c t false from to is shaped may ws its =
       let both = both_true (from == start_in t) (is_number (missing_end (start_in t) (ranges_of t).cumulatives (base_before c.next)) to) may in
@@ -80,6 +80,31 @@ module _ (rows : Rows) where
       let lt : to < c.next = missing_there (start_in t) c.next to (ranges_of t).cumulatives (omega (arith, whole)) missing in
       let behind : start_in t ≤ to = missing_behind (start_in t) to (ranges_of t).cumulatives (base_before c.next) missing in
       (is_equal from (start_in t) both.0, omega (arith, behind), omega (arith, whole, lt))
+
+-- versions that are let go leave what deltas were made of
+from_sourced : (rows : Rows) (written : List Written) (version : ℕ) (t : Stock) → IsSourced rows written t → IsSourced rows written (stock_from version t)
+from_sourced rows written version t is = record { are = is.are; there = is.there; base = is.base; cumulatives = is.cumulatives; singles = is.singles }
+
+module _ (rows : Rows) (written : ℕ → List Written) (c : Catalog) (has : HasSources rows written c) where
+  all_from : (version number : ℕ) (tables : List Stock) → AreSourced rows written number tables → AreSourced rows written number (map (stock_from version) tables)
+  all_from version number [] all = tt
+  all_from version number (t ∷ tables) all = (from_sourced rows (written number) version t all.0, all_from version (number + 1) tables all.1)
+
+  pub expire_sourced : (version : ℕ) → HasSources rows written (applied c (record_of.Expire version))
+  expire_sourced version = record {
+    tables = all_from version 0 c.tables has.tables;
+    others = λ number le. has.others number (let same = length-map c.tables (stock_from version) in omega (arith, le, same));
+  }
+
+  pub expire_table_sourced : (table version : ℕ) → fits c (record_of.ExpireTable table version) ≡ true → HasSources rows written (applied c (record_of.ExpireTable table version))
+  expire_table_sourced table version fit =
+      let there = is_less table (length c.tables) (both_true (is_there c table) (expire_fits c (stock_at c table).oldest version) (kind_of c (record_of.ExpireTable table version) fit)).0 in
+      let u = stock_from version (stock_at c table) in
+      let own : IsSourced rows (written (0 + table)) u = from_sourced rows (written (0 + table)) version (stock_at c table) (sourced_at rows written 0 c.tables table there has.tables) in
+      record {
+        tables = sourced_set rows written 0 c.tables table u own has.tables;
+        others = λ number le. has.others number (let same = length_set c.tables table u in omega (arith, le, same));
+      }
 
 module _ (rows : Rows) (written : ℕ → List Written) (c : Catalog) (is : IsCatalog c) (has : HasSources rows written c) where
   own : (table : ℕ) → table < length c.tables → IsSourced rows (written table) (stock_at c table)
@@ -111,9 +136,9 @@ module _ (rows : Rows) (written : ℕ → List Written) (c : Catalog) (is : IsCa
   alter_sourced table change fit typed =
       let kind = kind_of c (record_of.Alter table change) fit in
       let lt = there c table change is kind in
-      let shaped = stock_found (IsShaped c.oldest c.next) c.tables table lt is.tables in
+      let shaped = stock_found (IsShaped c.floor c.next) c.tables table lt is.tables in
       let default = default_read (stock_at c table).lineage change typed (rule c table change is kind) in
-      set table (stock_changed (stock_at c table) change) (altered_sourced rows c.oldest c.next (written table) (stock_at c table) change shaped default (own table lt))
+      set table (stock_changed (stock_at c table) change) (altered_sourced rows c.floor c.next (written table) (stock_at c table) change shaped default (own table lt))
 
   -- ---- a merged range
 
@@ -124,8 +149,8 @@ module _ (rows : Rows) (written : ℕ → List Written) (c : Catalog) (is : IsCa
     swap_table : table < length c.tables
     swap_table = is_less table (length c.tables) (both_true (is_there c table) (swap_fits c (stock_at c table) base from to epoch files) swap_kind).0
 
-    swap_shaped : IsShaped c.oldest c.next (stock_at c table)
-    swap_shaped = stock_found (IsShaped c.oldest c.next) c.tables table swap_table is.tables
+    swap_shaped : IsShaped c.floor c.next (stock_at c table)
+    swap_shaped = stock_found (IsShaped c.floor c.next) c.tables table swap_table is.tables
 
     swap_work : may_be_work c (stock_at c table) base from to ≡ true
     swap_work =
@@ -163,7 +188,7 @@ module _ (rows : Rows) (written : ℕ → List Written) (c : Catalog) (is : IsCa
         past (n ∷ ns) zero le = absurd (omega (arith, le))
         past (n ∷ ns) (suc i) le = past ns i (omega (arith, le))
 
-    loaded_one : (number : ℕ) (t : Stock) → IsShaped c.oldest c.next t → IsSourced rows (written number) t → BringsIfAny rows t (part_of number parts) (rows_for number a.batch) → AreRowsOf (columns_of t.lineage) (rows_for number a.batch)
+    loaded_one : (number : ℕ) (t : Stock) → IsShaped c.floor c.next t → IsSourced rows (written number) t → BringsIfAny rows t (part_of number parts) (rows_for number a.batch) → AreRowsOf (columns_of t.lineage) (rows_for number a.batch)
         → slice_index_or a.epochs number 0 ≡ epoch_of t.lineage → IsSourced rows (written_with written a number) (stock_loaded t (part_of number parts))
     loaded_one number t shaped sourced brings form epoch =
         let w = batch_written number a in
@@ -174,7 +199,7 @@ module _ (rows : Rows) (written : ℕ → List Written) (c : Catalog) (is : IsCa
         (all_so (λ (e : Ending). e.to < c.next) (λ (e : Ending). e.to < start_in t + length t.singles) t.cumulatives (λ e lt. (let le : e.to < start_in t + length t.singles = omega (arith, lt, whole) in le)) shaped.ends)
 
     loaded_all : (number : ℕ) (tables : List Stock) → ((i : ℕ) → i < length tables → slice_index_or a.epochs (number + i) 0 ≡ epoch_of (slice_index_or tables i no_stock).lineage)
-        → AllByRecursion (IsShaped c.oldest c.next) tables → AreSourced rows written number tables → BringsAll rows parts a.batch number tables → AreFormed a.batch number tables
+        → AllByRecursion (IsShaped c.floor c.next) tables → AreSourced rows written number tables → BringsAll rows parts a.batch number tables → AreFormed a.batch number tables
         → AreSourced rows (written_with written a) number (stocks_loaded parts number tables)
     loaded_all number [] at shaped all brings forms = tt
     loaded_all number (t ∷ tables) at shaped all brings forms = (
@@ -211,12 +236,12 @@ all_found rows c is stocked = record {
   others = λ number le. subst (λ t. AreToCome c.next (found_written rows t)) (sym (past c.tables number le)) (record { nothing = tt; rise = tt; there = tt });
 }
   where
-    each : (number : ℕ) (tables : List Stock) → ((i : ℕ) → i < length tables → stock_at c (number + i) ≡ slice_index_or tables i no_stock) → AllByRecursion (IsShaped c.oldest c.next) tables → AllByRecursion (IsStocked rows) tables
+    each : (number : ℕ) (tables : List Stock) → ((i : ℕ) → i < length tables → stock_at c (number + i) ≡ slice_index_or tables i no_stock) → AllByRecursion (IsShaped c.floor c.next) tables → AllByRecursion (IsStocked rows) tables
         → AreSourced rows (λ n. found_written rows (stock_at c n)) number tables
     each number [] at shaped stocked = tt
     each number (t ∷ tables) at shaped stocked =
         let here : stock_at c number ≡ t = (let e : number ≡ number + 0 = omega arith in ap (stock_at c) e) ∙ at 0 (omega arith) in (
-          subst (λ u. IsSourced rows (found_written rows u) t) (sym here) (found_sourced rows c.oldest c.next t shaped.0 stocked.0),
+          subst (λ u. IsSourced rows (found_written rows u) t) (sym here) (found_sourced rows c.floor c.next t shaped.0 stocked.0),
           each (number + 1) tables (λ i lt. (let e : number + 1 + i ≡ number + suc i = omega arith in ap (stock_at c) e) ∙ at (suc i) (omega (arith, lt))) shaped.1 stocked.1,
         )
 
@@ -266,11 +291,11 @@ module _ (rows : Rows) (written : ℕ → List Written) (c : Catalog) (is : IsCa
   its : IsSourced rows (written table) (stock_at c table)
   its = own rows written c is has table lt
 
-  shaped : IsShaped c.oldest c.next (stock_at c table)
-  shaped = stock_found (IsShaped c.oldest c.next) c.tables table lt is.tables
+  shaped : IsShaped c.floor c.next (stock_at c table)
+  shaped = stock_found (IsShaped c.floor c.next) c.tables table lt is.tables
 
   -- A content is what was written to its version.
-  pub content_written : (version : ℕ) → c.oldest ≤ version → version < c.next → content rows (stock_at c table) version ≡ range_rows (stock_at c table).lineage (epoch_of (stock_at c table).lineage) (sources_from 0 version (written table))
+  pub content_written : (version : ℕ) → (stock_at c table).oldest ≤ version → version < c.next → content rows (stock_at c table) version ≡ range_rows (stock_at c table).lineage (epoch_of (stock_at c table).lineage) (sources_from 0 version (written table))
   content_written version from to =
       let base = shaped.base in
       let whole = shaped.singles in

@@ -61,8 +61,8 @@ module _ (l : Lineage) (c : Change) (last : AllByRecursion (Outlives (columns_of
   same_deltas [] all = refl
   same_deltas (d ∷ ds) all = λ i. same_delta d all.0 i ++ same_deltas ds all.1 i
 
-changed_shelved : (oldest next : ℕ) (t : Stock) (c : Change) → IsShaped oldest next t → is_ok (rule_checked t.lineage c) ≡ true → stock_shelved (stock_changed t c) ≡ stock_shelved t
-changed_shelved oldest next t c is rule = same_deltas t.lineage c (views_outlive t.lineage c rule is.lineage.views) (deltas_of t) is.epochs
+changed_shelved : (floor next : ℕ) (t : Stock) (c : Change) → IsShaped floor next t → is_ok (rule_checked t.lineage c) ≡ true → stock_shelved (stock_changed t c) ≡ stock_shelved t
+changed_shelved floor next t c is rule = same_deltas t.lineage c (views_outlive t.lineage c rule is.lineage.views) (deltas_of t) is.epochs
 
 -- ---- contents are lifted
 
@@ -72,14 +72,14 @@ changed_contents rows t ch from zero same = refl
 changed_contents rows t ch from (suc n) same = λ i. same from i ∷ changed_contents rows t ch (from + 1) n same i
 
 -- A sound table after a change stands for the changed one.
-changed_table : (rows : Rows) (oldest next : ℕ) (t : Stock) (ch : Change) → IsShaped oldest next t → IsStocked rows t → HasDefault ch
-    → table_of rows oldest next (stock_changed t ch) ≡ table_changed (table_of rows oldest next t) ch
-changed_table rows oldest next t ch shaped stocked default =
+changed_table : (rows : Rows) (floor next : ℕ) (t : Stock) (ch : Change) → IsShaped floor next t → IsStocked rows t → HasDefault ch
+    → table_of rows next (stock_changed t ch) ≡ table_changed (table_of rows next t) ch
+changed_table rows floor next t ch shaped stocked default =
     let told = all_unflat (IsTold rows) (delta_shelved t.lineage) (deltas_of t) stocked.files in
     let formed = λ (v : ℕ). up_to (λ (d : Delta). AreRowsOf (columns_of t.lineage) (present rows t.lineage d)) t v (all_formed rows t.lineage (deltas_of t) shaped.lineage told) in
     let epochs = λ (v : ℕ). up_to (λ (d : Delta). d.epoch ≤ epoch_of t.lineage) t v shaped.epochs in
-    let contents = changed_contents rows t ch oldest (next - oldest) (λ v. content_altered rows t ch v default (epochs v) (formed v)) in
-    λ i. record { name = t.name; lineage = with_change t.lineage ch; totals = totals_after (columns_of t.lineage) ch t.totals; contents = contents i }
+    let contents = changed_contents rows t ch t.oldest (next - t.oldest) (λ v. content_altered rows t ch v default (epochs v) (formed v)) in
+    λ i. record { name = t.name; lineage = with_change t.lineage ch; totals = totals_after (columns_of t.lineage) ch t.totals; oldest = t.oldest; contents = contents i }
 
 -- ---- rows stay as sound
 
@@ -117,7 +117,7 @@ totalled_still rows l c d le is = by d.totals is
     by None is = is
     by (Some totals) is = is ∙ ap (λ changes. abs_totals (columns_after l.first changes) (rows_in rows d)) (sym (take-append-le d.epoch l.changes (c ∷ []) le))
 
-module _ (rows : Rows) (oldest next : ℕ) (t : Stock) (c : Change) (shaped : IsShaped oldest next t) (is : IsStocked rows t) (default : HasDefault c) (rule : is_ok (rule_checked t.lineage c) ≡ true) where
+module _ (rows : Rows) (floor next : ℕ) (t : Stock) (c : Change) (shaped : IsShaped floor next t) (is : IsStocked rows t) (default : HasDefault c) (rule : is_ok (rule_checked t.lineage c) ≡ true) where
   abbrev l : Lineage
   l = t.lineage
 
@@ -155,7 +155,7 @@ module _ (rows : Rows) (oldest next : ℕ) (t : Stock) (c : Change) (shaped : Is
 
   altered_stocked : IsStocked rows (stock_changed t c)
   altered_stocked = record {
-    files = subst (AllByRecursion (IsTold rows)) (sym (changed_shelved oldest next t c shaped rule)) is.files;
+    files = subst (AllByRecursion (IsTold rows)) (sym (changed_shelved floor next t c shaped rule)) is.files;
     merged = all_both (λ (e : Ending). E (delta_in e)) (IsMerged rows t) (IsMerged rows (stock_changed t c)) t.cumulatives still_merged (all_unmap E delta_in t.cumulatives (merged_part E shaped.epochs)) is.merged;
     grouped = all_both (λ (d : Delta). E d × F d) (AreGrouped rows l) (AreGrouped rows (with_change l c)) (deltas_of t) (λ d both g. delta_still rows l c outlive d both.0 both.1 g)
         (all_both E F (λ d. E d × F d) (deltas_of t) (λ d e f. (e, f)) shaped.epochs formed) is.grouped;
@@ -175,12 +175,12 @@ module _ (c : Catalog) (table : ℕ) (change : Change) (is : IsCatalog c) (fit :
   pub rule : is_ok (rule_checked (stock_at c table).lineage change) ≡ true
   rule = (passed_first (rule_checked (stock_at c table).lineage change) _ both.1).0
 
-  shape : IsShaped c.oldest c.next (stock_at c table)
-  shape = stock_found (IsShaped c.oldest c.next) c.tables table there is.tables
+  shape : IsShaped c.floor c.next (stock_at c table)
+  shape = stock_found (IsShaped c.floor c.next) c.tables table there is.tables
 
   -- A change leaves the files that are named, and their columns.
   pub alter_shelves : shelved (applied c (record_of.Alter table change)) ≡ shelved c
-  alter_shelves = set_shelved c.tables table (stock_changed (stock_at c table) change) (changed_shelved c.oldest c.next (stock_at c table) change shape rule)
+  alter_shelves = set_shelved c.tables table (stock_changed (stock_at c table) change) (changed_shelved c.floor c.next (stock_at c table) change shape rule)
 
   module _ (rows : Rows) (stocked : AreStocked rows c) (typed : IsTypedChange change) where
     sound : IsStocked rows (stock_at c table)
@@ -192,15 +192,15 @@ module _ (c : Catalog) (table : ℕ) (change : Change) (is : IsCatalog c) (fit :
     pub alter_moves : kept_of rows (applied c (record_of.Alter table change)) ≡ kept_altered (kept_of rows c) table change
     unfolding kept_of
     alter_moves =
-        let table_is = table_of rows c.oldest c.next in
+        let table_is = table_of rows c.next in
         let u = stock_changed (stock_at c table) change in
-        let one = changed_table rows c.oldest c.next (stock_at c table) change shape sound default in
+        let one = changed_table rows c.floor c.next (stock_at c table) change shape sound default in
         let tables = map-set table_is c.tables table u ∙ ap (slice_set (map table_is c.tables) table) (one ∙ ap (λ t. table_changed t change) (sym (stock_table rows c table there))) in
         λ i. record {
-          store = record { tables = tables i; oldest = c.oldest };
+          store = record { tables = tables i; floor = c.floor };
           next = c.next;
           ranges = (map-set ranges_of c.tables table u ∙ ranges_same c table) i;
         }
 
     pub alter_stocked : AreStocked rows (applied c (record_of.Alter table change))
-    alter_stocked = all_set (IsStocked rows) c.tables table (stock_changed (stock_at c table) change) (altered_stocked rows c.oldest c.next (stock_at c table) change shape sound default rule) stocked
+    alter_stocked = all_set (IsStocked rows) c.tables table (stock_changed (stock_at c table) change) (altered_stocked rows c.floor c.next (stock_at c table) change shape sound default rule) stocked

@@ -104,15 +104,15 @@ module _ (rows : Rows) (t : Stock) where
   newest_then : (contents : List (List Row)) (batch : List Row) → newest_content contents ≡ folded aggs all_parts → folded aggs (newest_content contents ∷ batch ∷ []) ≡ folded aggs (all_parts ++ batch ∷ [])
   newest_then contents batch is = front_folded aggs (newest_content contents) all_parts (batch ∷ []) is
 
-  module _ (oldest next : ℕ) (shaped : IsShaped oldest next t) where
+  module _ (floor next : ℕ) (shaped : IsShaped floor next t) where
     -- the contents of the versions before stay
     earlier : (p : Option Part) (from n : ℕ) → from + n ≤ next → map (content rows (stock_loaded t p)) (range_with_len from n) ≡ map (content rows t) (range_with_len from n)
     earlier p from zero le = refl
     earlier p from (suc n) le = λ i. content_early p from (omega (arith, shaped.singles, le)) i ∷ earlier p (from + 1) n (omega (arith, le)) i
 
     -- the newest of them, where there is a version
-    newest_is : (n : ℕ) → oldest + n ≡ next → 0 < n → newest_content (map (content rows t) (range_with_len oldest n)) ≡ content rows t (next - 1)
-    newest_is n at some = by oldest n at some
+    newest_is : (n : ℕ) → t.oldest + n ≡ next → 0 < n → newest_content (map (content rows t) (range_with_len t.oldest n)) ≡ content rows t (next - 1)
+    newest_is n at some = by t.oldest n at some
       where
         by : (from n : ℕ) → from + n ≡ next → 0 < n → newest_content (map (content rows t) (range_with_len from n)) ≡ content rows t (next - 1)
         by from zero at some = absurd (omega (arith, some))
@@ -120,16 +120,16 @@ module _ (rows : Rows) (t : Stock) where
         by from (suc (suc n)) at some = by (from + 1) (suc n) (omega (arith, at)) (omega arith)
 
     -- the fold of the newest content and the batch is that of all parts and the batch
-    newest_folded : (n : ℕ) (batch : List Row) → oldest + n ≡ next → ((0 < n) ⊎ (next ≡ 0))
-        → folded aggs (newest_content (map (content rows t) (range_with_len oldest n)) ∷ batch ∷ []) ≡ folded aggs (all_parts ++ batch ∷ [])
+    newest_folded : (n : ℕ) (batch : List Row) → t.oldest + n ≡ next → ((0 < n) ⊎ (next ≡ 0))
+        → folded aggs (newest_content (map (content rows t) (range_with_len t.oldest n)) ∷ batch ∷ []) ≡ folded aggs (all_parts ++ batch ∷ [])
     newest_folded n batch at (inl some) =
         let last : content rows t (next - 1) ≡ folded aggs all_parts =
         ap (λ ds. folded aggs (map at_present (base_deltas t.base ++ ds))) (take_all (next - 1 + 1 - start_in t) t.singles (omega (arith, shaped.singles, at, some))) in
-        newest_then (map (content rows t) (range_with_len oldest n)) batch (newest_is n at some ∙ last)
+        newest_then (map (content rows t) (range_with_len t.oldest n)) batch (newest_is n at some ∙ last)
     newest_folded n batch at (inr none) = no_versions n t.base t.singles (omega (arith, at, none)) refl refl
       where
         no_versions : (n : ℕ) (base : Option Ending) (singles : List Delta) → n ≡ 0 → t.base ≡ base → t.singles ≡ singles
-            → folded aggs (newest_content (map (content rows t) (range_with_len oldest n)) ∷ batch ∷ []) ≡ folded aggs (all_parts ++ batch ∷ [])
+            → folded aggs (newest_content (map (content rows t) (range_with_len t.oldest n)) ∷ batch ∷ []) ≡ folded aggs (all_parts ++ batch ∷ [])
         no_versions (suc n) base singles e b s = absurd (omega (arith, e))
         no_versions zero (Some end) singles e b s =
             let start : start_in t ≡ end.to + 1 = ap (λ o. start_of (record { base_to = option_map end_in o; cumulatives = map end_in t.cumulatives })) b in
@@ -138,15 +138,16 @@ module _ (rows : Rows) (t : Stock) where
         no_versions zero None [] e b s = ap (λ ds. folded aggs (map at_present ds ++ batch ∷ [])) (sym (λ i. base_deltas (b i) ++ s i))
 
     -- a table with a version more stands for the loaded one
-    pub contents_loaded : (p : Option Part) (batch : List Row) → (oldest < next) ⊎ ((oldest ≡ 0) × (next ≡ 0)) → BringsIfAny rows t p batch
-        → map (content rows (stock_loaded t p)) (range_with_len oldest (next + 1 - oldest))
-        ≡ map (content rows t) (range_with_len oldest (next - oldest)) ++ folded aggs (newest_content (map (content rows t) (range_with_len oldest (next - oldest))) ∷ batch ∷ []) ∷ []
-    contents_loaded p batch there is =
-        let n = next - oldest in
-        let at : oldest + n ≡ next = ⊎_elim (λ lt. (let lt : oldest < next = lt in let e : oldest + (next - oldest) ≡ next = omega (arith, lt) in e)) (λ both. (let z : oldest ≡ 0 = both.0 in let e : oldest + (next - oldest) ≡ next = omega (arith, z) in e)) there in
-        let more : next + 1 - oldest ≡ n + 1 = omega (arith, at) in
+    pub contents_loaded : (p : Option Part) (batch : List Row) → BringsIfAny rows t p batch
+        → map (content rows (stock_loaded t p)) (range_with_len t.oldest (next + 1 - t.oldest))
+        ≡ map (content rows t) (range_with_len t.oldest (next - t.oldest)) ++ folded aggs (newest_content (map (content rows t) (range_with_len t.oldest (next - t.oldest))) ∷ batch ∷ []) ∷ []
+    contents_loaded p batch is =
+        let there = shaped.oldest in
+        let n = next - t.oldest in
+        let at : t.oldest + n ≡ next = ⊎_elim (λ lt. (let lt : t.oldest < next = lt in let e : t.oldest + (next - t.oldest) ≡ next = omega (arith, lt) in e)) (λ both. (let z : t.oldest ≡ 0 = both.0 in let e : t.oldest + (next - t.oldest) ≡ next = omega (arith, z) in e)) there in
+        let more : next + 1 - t.oldest ≡ n + 1 = omega (arith, at) in
         let new = content_new p batch next shaped.singles is in
-        let some : (0 < n) ⊎ (next ≡ 0) = ⊎_elim (λ lt. inl (let lt : oldest < next = lt in let e : 0 < next - oldest = omega (arith, lt) in e)) (λ both. inr both.1) there in
-        ap (λ k. map (content rows (stock_loaded t p)) (range_with_len oldest k)) more
-        ∙ map-range_with_len_more (content rows (stock_loaded t p)) oldest n next at
-        ∙ (λ i. earlier p oldest n (omega (arith, at)) i ++ (new ∙ sym (newest_folded n batch at some)) i ∷ [])
+        let some : (0 < n) ⊎ (next ≡ 0) = ⊎_elim (λ lt. inl (let lt : t.oldest < next = lt in let e : 0 < next - t.oldest = omega (arith, lt) in e)) (λ both. inr both.1) there in
+        ap (λ k. map (content rows (stock_loaded t p)) (range_with_len t.oldest k)) more
+        ∙ map-range_with_len_more (content rows (stock_loaded t p)) t.oldest n next at
+        ∙ (λ i. earlier p t.oldest n (omega (arith, at)) i ++ (new ∙ sym (newest_folded n batch at some)) i ∷ [])

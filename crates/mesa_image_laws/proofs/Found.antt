@@ -94,7 +94,7 @@ tens_behind start k zero = tt
 tens_behind start k (suc n) = (omega arith, tens_behind start (k + 1) n)
 
 -- A table that is found sound was made of what is found written of it.
-module _ (rows : Rows) (oldest next : ℕ) (t : Stock) (shaped : IsShaped oldest next t) (stocked : IsStocked rows t) where
+module _ (rows : Rows) (floor next : ℕ) (t : Stock) (shaped : IsShaped floor next t) (stocked : IsStocked rows t) where
   found : AllByRecursion (IsFound rows t.lineage) (deltas_of t)
   found = all_both (λ (d : Delta). d.epoch ≤ epoch_of t.lineage) (λ (d : Delta). AllByRecursion (IsTold rows) (delta_shelved t.lineage d)) (IsFound rows t.lineage) (deltas_of t) (λ d le told. (le, told)) shaped.epochs
       (all_unflat (IsTold rows) (delta_shelved t.lineage) (deltas_of t) stocked.files)
@@ -183,14 +183,14 @@ new_sourced rows c name s written is come =
     let none = come.nothing in
     let t = new_stock c name s in
     let start = start_new c name s in
-    let count = length-replicate (c.next - c.oldest) empty_delta in
-    let whole : start_in t + length t.singles ≡ c.next = elim is.oldest [ inl lt ↦ omega (arith, start, count, lt) | inr none ↦ omega (arith, start, count, none.0, none.1) ] in
+    let count = length-replicate (c.next - c.floor) empty_delta in
+    let whole : start_in t + length t.singles ≡ c.next = elim is.floor [ inl lt ↦ omega (arith, start, count, lt) | inr none ↦ omega (arith, start, count, none.0, none.1) ] in
     record {
       are = record { rise = come.rise; forms = all_so IsUnwritten (λ (w : Written). HasForm t.lineage w.source) written (λ w its. record { epoch = (let first = its.0 in omega (arith, first)); form = subst (AreRowsOf (columns_at t.lineage w.source.epoch)) (sym its.1) tt }) none };
       there = subst (λ n. AllByRecursion (λ (w : Written). w.version < n) written) (sym whole) come.there;
-      base = by (base_before c.oldest);
+      base = by (base_before c.floor);
       cumulatives = tt;
-      singles = nothing_singles rows t.lineage written (start_in t) (c.next - c.oldest) none;
+      singles = nothing_singles rows t.lineage written (start_in t) (c.next - c.floor) none;
     }
   where
     by : (o : Option ℕ) → IfSome (option_map empty_base o) (λ (e : Ending). IsMadeOf rows (new_stock c name s).lineage written 0 e.to e.delta)

@@ -15,9 +15,10 @@ use Rattle.mesa_image.specs.mesa_record.declared.record.Record.{Record}
 use Rattle.mesa_image.specs.mesa_record.declared.record.Record.TheVariants as record_of
 use Rattle.mesa_image.specs.mesa_record.Rules.{are_parts, is_part, keeps_rules, rise_from}
 use Rattle.mesa_image.specs.Catalog.{Catalog, Delta, Ending, Stock, applied, empty_delta, merged_delta, new_stock, no_stock, part_delta, part_of, start_in, stock_at, stock_changed, stock_loaded, stock_swapped, stock_viewed, stocks_loaded}
-use Rattle.mesa_image.specs.Fitting.{are_new_ids, base_deltas, brings_new_files, delta_in, delta_shelved, deltas_of, files_shelved, fits, has_number, is_there, kind_fits, max_runs, part_fits, part_shelved, publish_fits, run_of_id, shelved_id, stock_shelved, swap_fits, view_shelved}
+use Rattle.mesa_image.specs.Fitting.{Shelved, are_new_ids, base_deltas, brings_new_files, delta_in, delta_shelved, deltas_of, files_shelved, fits, has_number, is_there, kind_fits, max_runs, part_fits, part_shelved, publish_fits, run_of_id, shelved_id, stock_shelved, swap_fits, view_shelved}
 use Rattle.mesa_image_laws.specs.Ids.{HasOwnIds, IsNewId, brought_ids, delta_ids, dropped_deltas, dropped_ids, file_ids, named, times}
 use Rattle.mesa_image_laws.proofs.Lists.{both_true, is_equal, is_less, not_true}
+use Rattle.mesa_image_laws.proofs.Expiring.{expire_shelves, expire_table_shelves}
 use Rattle.mesa_image_laws.proofs.Moving.{kind_of}
 use Rattle.mesa_image_laws.proofs.Tables.{IsEmpty, new_deltas}
 
@@ -263,7 +264,8 @@ module _ (id : ℕ) where
   counted c (record_of.Publish version parts) rules e = omega (arith, published c version parts rules e)
   counted c (record_of.Swap table base from to epoch files) rules e =
       swapped c table base from to epoch files (is_less table (length c.tables) (both_true (is_there c table) (swap_fits c (stock_at c table) base from to epoch files) e).0)
-  counted c (record_of.Expire version) rules e = refl
+  counted c (record_of.Expire version) rules e = ap (λ (xs : List Shelved). times id (map shelved_id xs) + times id []) (expire_shelves c version)
+  counted c (record_of.ExpireTable table version) rules e = ap (λ (xs : List Shelved). times id (map shelved_id xs) + times id []) (expire_table_shelves c table version)
 
   -- ---- new ids
 
@@ -328,6 +330,7 @@ module _ (id : ℕ) where
   run_rises c (record_of.Publish version parts) e = omega arith
   run_rises c (record_of.Swap table base from to epoch files) e = omega arith
   run_rises c (record_of.Expire version) e = omega arith
+  run_rises c (record_of.ExpireTable table version) e = omega arith
 
   still_once : (c : Catalog) (r : Record) → keeps_rules r ≡ true → fits c r ≡ true → times id (named c) ≤ 1 → times id (named (applied c r)) ≤ 1
   still_once c r rules fit once =

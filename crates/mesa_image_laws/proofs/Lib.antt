@@ -14,6 +14,7 @@ pub mod Views
 pub mod Altered
 pub mod Defaults
 pub mod Changes
+pub mod Expiring
 pub mod Moving
 pub mod Agreeing
 pub mod Shaping

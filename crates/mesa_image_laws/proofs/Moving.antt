@@ -15,14 +15,15 @@ use Rattle.mesa_image.specs.mesa_record.declared.record.Record.{Record}
 use Rattle.mesa_image.specs.mesa_record.declared.record.Record.TheVariants as record_of
 use Rattle.mesa_image.specs.mesa_record.Rules.{IsTypedChange}
 use Rattle.mesa_image.specs.Catalog.{Catalog, applied, merged_delta, stock_at}
-use Rattle.mesa_image.specs.Fitting.{brings_new_files, fits, is_new_name, is_there, kind_fits, shelved}
+use Rattle.mesa_image.specs.Fitting.{brings_new_files, expire_fits, fits, is_new_name, is_there, kind_fits, shelved}
 use Rattle.mesa_image.specs.Contents.{Rows, kept_of}
 use Rattle.mesa_image.specs.Sound.{AreStocked, wanted, wants}
 use Rattle.mesa_image.specs.Shape.{IsCatalog}
 use Rattle.mesa_image_laws.specs.Brought.{AreTold, BringsAll, Merges}
-use Rattle.mesa_image_laws.specs.Moves.{Moves, kept_altered, kept_expired, kept_loaded, kept_made, kept_swapped, kept_viewed, work_of}
-use Rattle.mesa_image_laws.proofs.Lists.{all_unmap, both_true, is_at_most, is_less}
+use Rattle.mesa_image_laws.specs.Moves.{Moves, kept_altered, kept_expired, kept_expired_of, kept_loaded, kept_made, kept_swapped, kept_viewed, work_of}
+use Rattle.mesa_image_laws.proofs.Lists.{all_unmap, both_true, is_less}
 use Rattle.mesa_image_laws.proofs.Changes.{alter_moves, alter_shelves, alter_stocked}
+use Rattle.mesa_image_laws.proofs.Expiring.{expire_shelves, expire_stocked, expire_table_moves, expire_table_shelves, expire_table_stocked}
 use Rattle.mesa_image_laws.proofs.Kept.{expire_moves, publish_moves, run_moves, swap_moves}
 use Rattle.mesa_image_laws.proofs.Published.{publish_grows, publish_stocked}
 use Rattle.mesa_image_laws.proofs.Swapping.{swap_grows, swap_stocked, swap_there, swap_within}
@@ -78,8 +79,23 @@ module _ (rows : Rows) (c : Catalog) (stocked : AreStocked rows c) where
 
   pub expire_step : (version : ℕ) → fits c (record_of.Expire version) ≡ true → Moves rows c (record_of.Expire version) (kept_expired (kept_of rows c) version)
   expire_step version fit =
-      let both = both_true (nat_le c.oldest version) (nat_lt version c.next) (kind_of c (record_of.Expire version) fit) in
-      record { kept = expire_moves rows c version (is_at_most c.oldest version both.0) (is_less version c.next both.1); stocked = stocked; grows = λ i old new. old }
+      let both = both_true (nat_le c.floor version) (nat_lt version c.next) (kind_of c (record_of.Expire version) fit) in
+      record {
+        kept = expire_moves rows c version (is_less version c.next both.1);
+        stocked = expire_stocked rows c version stocked;
+        grows = λ i old new. subst (λ xs. Has (wants rows xs) i) (sym (expire_shelves c version)) old;
+      }
+
+  pub expire_table_step : (table version : ℕ) → fits c (record_of.ExpireTable table version) ≡ true → Moves rows c (record_of.ExpireTable table version) (kept_expired_of (kept_of rows c) table version)
+  expire_table_step table version fit =
+      let both = both_true (is_there c table) (expire_fits c (stock_at c table).oldest version) (kind_of c (record_of.ExpireTable table version) fit) in
+      let there = is_less table (length c.tables) both.0 in
+      let range = both_true (nat_le (stock_at c table).oldest version) (nat_lt version c.next) both.1 in
+      record {
+        kept = expire_table_moves rows c table version there (is_less version c.next range.1);
+        stocked = expire_table_stocked rows c table version there stocked;
+        grows = λ i old new. subst (λ xs. Has (wants rows xs) i) (sym (expire_table_shelves c table version)) old;
+      }
 
   pub publish_step : (is : IsCatalog c) (version : ℕ) (parts : List Part) (batch : List Placed) → AreTold rows c (record_of.Publish version parts) → BringsAll rows parts batch 0 c.tables
       → Moves rows c (record_of.Publish version parts) (kept_loaded (kept_of rows c) batch)

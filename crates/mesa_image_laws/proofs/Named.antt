@@ -8,10 +8,10 @@ use Rattle.mesa_image.specs.mesa_record.declared.record.Part.{Part}
 use Rattle.mesa_image.specs.mesa_record.declared.record.Files.{Files}
 use Rattle.mesa_image.specs.mesa_record.declared.record.Record.{Record}
 use Rattle.mesa_image.specs.mesa_record.declared.record.Record.TheVariants as record_of
-use Rattle.mesa_image.specs.Catalog.{Delta, Stock, Catalog, start_in, part_of, stock_loaded, stocks_loaded, stock_swapped, stock_at, no_stock, merged_delta, applied, empty_delta, part_delta}
+use Rattle.mesa_image.specs.Catalog.{Delta, Stock, Catalog, start_in, part_of, stock_from, stock_loaded, stocks_loaded, stock_swapped, stock_at, no_stock, merged_delta, applied, empty_delta, part_delta}
 use Rattle.mesa_image.specs.Fitting.{Shelved, base_deltas, delta_in, deltas_of, delta_shelved, stock_shelved, files_shelved, part_shelved, shelved, shelved_id, brought, are_new_ids, brings_new_files, fits, has_number, kind_fits}
 use Rattle.mesa_image.specs.Held.{IsUnnamed}
-use Rattle.mesa_fold.proofs.mesa_schema.Lists.{all_append, all_so, all_drop, all_set}
+use Rattle.mesa_fold.proofs.mesa_schema.Lists.{all_append, all_so, all_drop, all_map, all_set}
 use Rattle.mesa_image_laws.proofs.Lists.{all_front, all_back, all_flat, all_unflat, all_unmap, both_true, not_true, stock_found}
 
 module _ (P : Shelved → Type 0) where
@@ -100,7 +100,12 @@ module _ (P : Shelved → Type 0) where
   named_run c number all = all
 
   pub named_expired : (c : Catalog) (version : ℕ) → AllByRecursion P (shelved c) → AllByRecursion P (shelved (applied c (record_of.Expire version)))
-  named_expired c version all = all
+  named_expired c version all = all_flat P stock_shelved (map (stock_from version) c.tables) (all_map R (stock_from version) c.tables (all_unflat P stock_shelved c.tables all))
+
+  pub named_expired_of : (c : Catalog) (table version : ℕ) → table < length c.tables → AllByRecursion P (shelved c) → AllByRecursion P (shelved (applied c (record_of.ExpireTable table version)))
+  named_expired_of c table version there all =
+      let stocks = all_unflat P stock_shelved c.tables all in
+      all_flat P stock_shelved _ (all_set R c.tables table (stock_from version (stock_at c table)) (stock_found R c.tables table there stocks) stocks)
 
 -- ---- new ids
 

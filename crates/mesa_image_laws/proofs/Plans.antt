@@ -36,7 +36,7 @@ found_end (x ∷ endings) end e is = by (x.to == end) refl is (found_end endings
     by true at is rest = (let same : x ≡ e = cc in sym (ap end_in same) ∙ is_equal x.to end at)
     by false at is rest = rest is
 
-module _ (rows : Rows) (oldest next : ℕ) (t : Stock) (shaped : IsShaped oldest next t) (stocked : IsStocked rows t) (version : ℕ) where
+module _ (rows : Rows) (floor next : ℕ) (t : Stock) (shaped : IsShaped floor next t) (stocked : IsStocked rows t) (version : ℕ) where
   with_cumulative : (end : ℕ) (e : Ending) → longest version (map end_in t.cumulatives) ≡ Some end → find (λ (x : Ending). x.to == end) t.cumulatives ≡ Some e
       → folded (aggs_of (columns_of t.lineage)) (map (present rows t.lineage) (base_deltas t.base ++ behind_base t version (Some e))) ≡ content rows t version
   with_cumulative end e long found =
@@ -122,10 +122,10 @@ module _ (r : Ranges) (q oldest n next : ℕ) (w : Work) (later : q ≤ oldest) 
       by false e None missing is = absurd cc
       by false e (Some to) missing is = let same : work.Cumulative (start_of r) to ≡ w = cc in subst Fits same (cumulative_fits to missing)
 
--- A work that was due for these ranges may be swapped in while they stay: the oldest version and the newest only rise.
-pub due_work_fits : (c : Catalog) (t : Stock) (q n : ℕ) (w : Work) → next_work (ranges_of t) q (base_before n) ≡ Some w → q ≤ c.oldest → n ≤ c.next → may_be_work c t (is_base w) (first_of w) (last_of w) ≡ true
-due_work_fits c t q n w is later more = by w (due_fits (ranges_of t) q c.oldest n c.next w later more is)
+-- A work that was due for these ranges may be swapped in while they stay: the table's oldest version and the newest only rise.
+pub due_work_fits : (c : Catalog) (t : Stock) (q n : ℕ) (w : Work) → next_work (ranges_of t) q (base_before n) ≡ Some w → q ≤ t.oldest → n ≤ c.next → may_be_work c t (is_base w) (first_of w) (last_of w) ≡ true
+due_work_fits c t q n w is later more = by w (due_fits (ranges_of t) q t.oldest n c.next w later more is)
   where
-    by : (w : Work) → Fits (ranges_of t) q c.oldest n c.next w later more w → may_be_work c t (is_base w) (first_of w) (last_of w) ≡ true
+    by : (w : Work) → Fits (ranges_of t) q t.oldest n c.next w later more w → may_be_work c t (is_base w) (first_of w) (last_of w) ≡ true
     by (work.Base to) fit = fit
     by (work.Cumulative from to) fit = fit

@@ -18,14 +18,14 @@ use Rattle.mesa_image_laws.proofs.Named.{BroughtTo, found_part, named_published}
 use Rattle.mesa_image_laws.proofs.Stocked.{loaded_stocked}
 
 loaded_all : (rows : Rows) (c : Catalog) (parts : List Part) (batch : List Placed) (number : ℕ) (tables : List Stock) → ((i : ℕ) → i < length tables → stock_at c (number + i) ≡ slice_index_or tables i no_stock)
-    → AllByRecursion (IsShaped c.oldest c.next) tables → AllByRecursion (IsStocked rows) tables → AllByRecursion (λ (p : Part). AllByRecursion (IsTold rows) (part_shelved c p)) parts
+    → AllByRecursion (IsShaped c.floor c.next) tables → AllByRecursion (IsStocked rows) tables → AllByRecursion (λ (p : Part). AllByRecursion (IsTold rows) (part_shelved c p)) parts
     → BringsAll rows parts batch number tables → AllByRecursion (IsStocked rows) (stocks_loaded parts number tables)
 loaded_all rows c parts batch number [] at shaped stocked told brings = tt
 loaded_all rows c parts batch number (t ∷ tables) at shaped stocked told brings =
     let here : stock_at c number ≡ t = (let e : number ≡ number + 0 = omega arith in ap (stock_at c) e) ∙ at 0 (omega arith) in
     let p = part_of number parts in
     let own = subst (λ (s : Stock). BroughtTo (IsTold rows) s.lineage p) here (found_part (IsTold rows) c number parts told) in (
-      loaded_stocked rows c.oldest c.next t shaped.0 stocked.0 p (rows_for number batch) brings.0 own,
+      loaded_stocked rows c.floor c.next t shaped.0 stocked.0 p (rows_for number batch) brings.0 own,
       loaded_all rows c parts batch (number + 1) tables (λ i lt. (let e : number + 1 + i ≡ number + suc i = omega arith in ap (stock_at c) e) ∙ at (suc i) (omega (arith, lt))) shaped.1 stocked.1 told brings.1,
     )
 

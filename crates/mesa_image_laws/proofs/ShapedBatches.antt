@@ -71,11 +71,11 @@ fits_found c number (q ∷ qs) e =
     fits_first c number q qs (both_true (is_there c q.table) (part_fits (stock_at c q.table) q) both.0).1 (fits_found c number qs both.1) (q.table == number) refl
 
 all_loaded : (c : Catalog) (parts : List Part) (number : ℕ) (tables : List Stock) → list_all (fits_its c) parts ≡ true → ((i : ℕ) → i < length tables → stock_at c (number + i) ≡ slice_index_or tables i no_stock)
-    → AllByRecursion (IsShaped c.oldest c.next) tables → AllByRecursion (IsShaped c.oldest (c.next + 1)) (stocks_loaded parts number tables)
+    → AllByRecursion (IsShaped c.floor c.next) tables → AllByRecursion (IsShaped c.floor (c.next + 1)) (stocks_loaded parts number tables)
 all_loaded c parts number [] e at all = tt
 all_loaded c parts number (t ∷ tables) e at all =
     let here : stock_at c number ≡ t = (let n : number ≡ number + 0 = omega arith in ap (stock_at c) n) ∙ at 0 (omega arith) in (
-      loaded_shaped c.oldest c.next t (part_of number parts) all.0 (subst (λ (s : Stock). FitsIfAny s (part_of number parts)) here (fits_found c number parts e)),
+      loaded_shaped c.floor c.next t (part_of number parts) all.0 (subst (λ (s : Stock). FitsIfAny s (part_of number parts)) here (fits_found c number parts e)),
       all_loaded c parts (number + 1) tables e (λ i lt. (let n : number + 1 + i ≡ number + suc i = omega arith in ap (stock_at c) n) ∙ at (suc i) (omega (arith, lt))) all.1,
     )
 
@@ -100,7 +100,7 @@ publish_shaped c version parts is e =
     record {
       tables = all_loaded c parts 0 c.tables last.1 (λ i lt. (let n : 0 + i ≡ i = omega arith in ap (stock_at c) n)) is.tables;
       names = ap (λ ns. is_none (repeated ns)) (names_loaded parts 0 c.tables) ∙ is.names;
-      oldest = elim is.oldest [ inl lt ↦ inl (omega (arith, lt)) | inr none ↦ inl (omega (arith, none.0)) ];
+      floor = elim is.floor [ inl lt ↦ inl (omega (arith, lt)) | inr none ↦ inl (omega (arith, none.0)) ];
       few = omega (arith, is.few, length_loaded parts 0 c.tables);
       most = omega (arith, same, lt);
     }
@@ -137,21 +137,21 @@ pub number_is : (o : Option ℕ) (n : ℕ) → is_number o n ≡ true → o ≡ 
 number_is None n e = absurd (let f : false ≡ true = e in cc)
 number_is (Some m) n e = ap Some (is_equal m n e)
 
-swapped_shaped : (c : Catalog) (t : Stock) (base : Bool) (from to epoch : ℕ) (files : Option Files) → IsCatalog c → IsShaped c.oldest c.next t → may_be_work c t base from to ≡ true → epoch ≤ epoch_of t.lineage
-    → IsShaped c.oldest c.next (stock_swapped t base to (merged_delta epoch files))
+swapped_shaped : (c : Catalog) (t : Stock) (base : Bool) (from to epoch : ℕ) (files : Option Files) → IsCatalog c → IsShaped c.floor c.next t → may_be_work c t base from to ≡ true → epoch ≤ epoch_of t.lineage
+    → IsShaped c.floor c.next (stock_swapped t base to (merged_delta epoch files))
 swapped_shaped c t true from to epoch files is shaped may le =
-    let last = both_true ((from == 0) && nat_le 1 to && nat_le (start_in t) to) (nat_le to c.oldest) may in
+    let last = both_true ((from == 0) && nat_le 1 to && nat_le (start_in t) to) (nat_le to t.oldest) may in
     let third = both_true ((from == 0) && nat_le 1 to) (nat_le (start_in t) to) last.0 in
     let first = both_true (from == 0) (nat_le 1 to) third.0 in
     let some = is_at_most 1 to first.1 in
-    let within = is_at_most to c.oldest last.1 in
-    let lt : to < c.next = elim is.oldest [ inl lt ↦ omega (arith, within, lt) | inr none ↦ absurd (omega (arith, some, within, none.0)) ] in
-    based_shaped c.oldest c.next t to (merged_delta epoch files) (is_at_most (start_in t) to third.1) within lt le refl shaped
+    let within = is_at_most to t.oldest last.1 in
+    let lt : to < c.next = elim shaped.oldest [ inl lt ↦ omega (arith, within, lt) | inr none ↦ absurd (omega (arith, some, within, none.0)) ] in
+    based_shaped c.floor c.next t to (merged_delta epoch files) (is_at_most (start_in t) to third.1) within lt le refl shaped
 swapped_shaped c t false from to epoch files is shaped may le =
     let both = both_true (from == start_in t) (is_number (missing_end (start_in t) (ranges_of t).cumulatives (base_before c.next)) to) may in
     let missing = number_is (missing_end (start_in t) (ranges_of t).cumulatives (base_before c.next)) to both.1 in
     let lt : to < c.next = missing_there (start_in t) c.next to (ranges_of t).cumulatives (omega (arith, shaped.singles)) missing in
-    covered_shaped c.oldest c.next t to (merged_delta epoch files) lt le (works_keep (ranges_of t) 0 (base_before c.next) (work.Cumulative (start_in t) to) shaped.reachable (ap (option_map (work.Cumulative (start_in t))) missing)) shaped
+    covered_shaped c.floor c.next t to (merged_delta epoch files) lt le (works_keep (ranges_of t) 0 (base_before c.next) (work.Cumulative (start_in t) to) shaped.reachable (ap (option_map (work.Cumulative (start_in t))) missing)) shaped
 
 pub swap_shaped : (c : Catalog) (table : ℕ) (base : Bool) (from to epoch : ℕ) (files : Option Files) → IsCatalog c → is_there c table && swap_fits c (stock_at c table) base from to epoch files ≡ true
     → IsCatalog (with_stock c table (stock_swapped (stock_at c table) base to (merged_delta epoch files)))
@@ -161,7 +161,7 @@ swap_shaped c table base from to epoch files is e =
     let there = is_less table (length c.tables) both.0 in
     let last = both_true (may_be_work c t base from to && nat_le epoch (epoch_of t.lineage)) (files_fit_if_any t.lineage epoch files) both.1 in
     let first = both_true (may_be_work c t base from to) (nat_le epoch (epoch_of t.lineage)) last.0 in
-    let shaped = stock_found (IsShaped c.oldest c.next) c.tables table there is.tables in
+    let shaped = stock_found (IsShaped c.floor c.next) c.tables table there is.tables in
     same_set c table (stock_swapped t base to (merged_delta epoch files)) is (swapped_shaped c t base from to epoch files is shaped first.0 (is_at_most epoch (epoch_of t.lineage) first.1)) (names_swapped t base to (merged_delta epoch files))
   where
     names_swapped : (t : Stock) (base : Bool) (to : ℕ) (d : Delta) → names_in (stock_swapped t base to d) ≡ names_in t

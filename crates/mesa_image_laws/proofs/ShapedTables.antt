@@ -1,5 +1,5 @@
 -- A table, a view and a change keep what catalogues keep.
-use Rattle.std.proofs.Common.{◌≡◌, inl, inr, ℕ, zero, suc, ◌+◌, ◌-◌, ◌^◌, ◌<◌, ◌≤◌, List, [], ◌∷◌, ◌++◌, map, length, take, drop, flat_map, Option, Some, None, is_ok, is_none, true, false, Bool, ◌&&◌, ◌==◌, nat_lt, cond, refl, sym, ◌∙◌, ap, subst, arith, append_assoc, length-append, length-drop, slice_index_or, slice_set}
+use Rattle.std.proofs.Common.{◌≡◌, inl, inr, ℕ, zero, suc, ◌+◌, ◌-◌, ◌^◌, ◌<◌, ◌≤◌, List, [], ◌∷◌, ◌++◌, map, length, take, drop, flat_map, Option, Some, None, is_ok, is_none, true, false, Bool, ◌&&◌, ◌==◌, nat_le, nat_lt, cond, refl, sym, ◌∙◌, ap, subst, arith, append_assoc, length-append, length-drop, slice_index_or, slice_set}
 use Rattle.std.proofs.lemmas.Bool.Decides.{nat_tests}
 use Rattle.std.proofs.lemmas.Bool.{eqb-true}
 use Rattle.std.proofs.lemmas.Grind.{flat_map-append}
@@ -27,9 +27,10 @@ use Rattle.mesa_fold.specs.mesa_batch.Totals.{is_sum, sum_places, sums_in, total
 use Rattle.mesa_image.specs.mesa_span.Ranges.{base_before, start_behind}
 use Rattle.mesa_image.specs.mesa_model.Warehouse.{max_tables}
 use Rattle.mesa_image.specs.mesa_record.Rules.{IsTypedChange}
-use Rattle.mesa_image.specs.Catalog.{Delta, Stock, Catalog, start_in, no_stock, new_stock, stock_at, stock_viewed, stock_changed, with_stock, empty_base, empty_delta}
-use Rattle.mesa_image.specs.Fitting.{base_deltas, deltas_of, names_in, is_new_name, is_there, table_fits, view_fits, alter_fits}
+use Rattle.mesa_image.specs.Catalog.{Delta, Stock, Catalog, start_in, no_stock, new_stock, stock_at, stock_from, stock_viewed, stock_changed, with_stock, empty_base, empty_delta}
+use Rattle.mesa_image.specs.Fitting.{base_deltas, deltas_of, names_in, is_new_name, is_there, table_fits, view_fits, alter_fits, expire_fits}
 use Rattle.mesa_image.specs.Shape.{IsShaped, IsCatalog}
+use Rattle.mesa_image_laws.proofs.Shaping.{from_shaped}
 use Rattle.mesa_image_laws.proofs.Lists.{all_take, both_true, is_less, not_true, stock_found}
 use Rattle.mesa_image_laws.proofs.Defaults.{default_read}
 use Rattle.mesa_image_laws.proofs.Tables.{same_ends}
@@ -37,11 +38,11 @@ use Rattle.mesa_image_laws.proofs.Tables.{same_ends}
 -- ---- one table in the place of another
 
 -- A table in the place of one: the others stay, and the names are told.
-pub set_shaped : (c : Catalog) (table : ℕ) (t : Stock) → IsCatalog c → IsShaped c.oldest c.next t → is_none (repeated (flat_map names_in (slice_set c.tables table t))) ≡ true → length (slice_set c.tables table t) ≡ length c.tables → IsCatalog (with_stock c table t)
+pub set_shaped : (c : Catalog) (table : ℕ) (t : Stock) → IsCatalog c → IsShaped c.floor c.next t → is_none (repeated (flat_map names_in (slice_set c.tables table t))) ≡ true → length (slice_set c.tables table t) ≡ length c.tables → IsCatalog (with_stock c table t)
 set_shaped c table t is shaped names len = record {
-  tables = all_set (IsShaped c.oldest c.next) c.tables table t shaped is.tables;
+  tables = all_set (IsShaped c.floor c.next) c.tables table t shaped is.tables;
   names = names;
-  oldest = is.oldest;
+  floor = is.floor;
   few = subst (λ n. n ≤ max_tables) (sym len) is.few;
   most = is.most;
 }
@@ -58,7 +59,7 @@ names_set (x ∷ tables) zero t same = ap (λ ns. ns ++ flat_map names_in tables
 names_set (x ∷ tables) (suc n) t same = ap (λ ns. names_in x ++ ns) (names_set tables n t same)
 
 -- One with the same names.
-pub same_set : (c : Catalog) (table : ℕ) (t : Stock) → IsCatalog c → IsShaped c.oldest c.next t → names_in t ≡ names_in (stock_at c table) → IsCatalog (with_stock c table t)
+pub same_set : (c : Catalog) (table : ℕ) (t : Stock) → IsCatalog c → IsShaped c.floor c.next t → names_in t ≡ names_in (stock_at c table) → IsCatalog (with_stock c table t)
 same_set c table t is shaped same = set_shaped c table t is shaped (ap (λ ns. is_none (repeated ns)) (names_set c.tables table t same) ∙ is.names) (length_set c.tables table t)
 
 -- ---- a table
@@ -70,25 +71,27 @@ start_before version = by (version == 0) refl
     by true e = let f : version ≡ 0 = eqb-true version 0 e in sym f
     by false e = grind (arith, nat_tests)
 
-pub start_new : (c : Catalog) (name : List ℕ) (s : Columns) → start_in (new_stock c name s) ≡ c.oldest
-start_new c name s = ap start_behind (same_ends (base_before c.oldest)) ∙ start_before c.oldest
+pub start_new : (c : Catalog) (name : List ℕ) (s : Columns) → start_in (new_stock c name s) ≡ c.floor
+start_new c name s = ap start_behind (same_ends (base_before c.floor)) ∙ start_before c.floor
 
 base_epochs : (o : Option ℕ) → AllByRecursion (λ (d : Delta). d.epoch ≤ 0) (base_deltas (option_map empty_base o))
 base_epochs None = tt
 base_epochs (Some to) = (omega arith, tt)
 
-new_shaped : (c : Catalog) (name : List ℕ) (s : Columns) → IsCatalog c → is_schema s ≡ true → IsShaped c.oldest c.next (new_stock c name s)
+new_shaped : (c : Catalog) (name : List ℕ) (s : Columns) → IsCatalog c → is_schema s ≡ true → IsShaped c.floor c.next (new_stock c name s)
 new_shaped c name s is schema =
     let start = start_new c name s in
     record {
       lineage = lineage_new s schema;
       totals = length-replicate (sums_in (aggs_of s)) 0;
       bounded = all_replicate (λ total. total < 2 ^ 63) 0 (sums_in (aggs_of s)) (omega arith);
-      singles = (let len = length-replicate (c.next - c.oldest) empty_delta in elim is.oldest [ inl lt ↦ omega (arith, start, len, lt) | inr none ↦ omega (arith, start, len, none.0, none.1) ]);
+      above = omega arith;
+      oldest = is.floor;
+      singles = (let len = length-replicate (c.next - c.floor) empty_delta in elim is.floor [ inl lt ↦ omega (arith, start, len, lt) | inr none ↦ omega (arith, start, len, none.0, none.1) ]);
       base = omega (arith, start);
       reachable = refl;
       ends = tt;
-      epochs = all_append (λ (d : Delta). d.epoch ≤ 0) (base_deltas (new_stock c name s).base) _ (base_epochs (base_before c.oldest)) (all_replicate (λ (d : Delta). d.epoch ≤ 0) empty_delta (c.next - c.oldest) (omega arith));
+      epochs = all_append (λ (d : Delta). d.epoch ≤ 0) (base_deltas (new_stock c name s).base) _ (base_epochs (base_before c.floor)) (all_replicate (λ (d : Delta). d.epoch ≤ 0) empty_delta (c.next - c.floor) (omega arith));
     }
 
 names_pushed : (tables : List Stock) (t : Stock) → t.lineage.views ≡ [] → has_name t.name (flat_map names_in tables) ≡ false → is_none (repeated (flat_map names_in tables)) ≡ true → is_none (repeated (flat_map names_in (tables ++ t ∷ []))) ≡ true
@@ -106,9 +109,9 @@ table_shaped c name s is e =
     let first = both_true (is_new_name c name) (is_schema s) last.0 in
     let room : length c.tables < max_tables = is_less (length c.tables) max_tables last.1 in
     record {
-      tables = all_append (IsShaped c.oldest c.next) c.tables (new_stock c name s ∷ []) is.tables (new_shaped c name s is first.1, tt);
+      tables = all_append (IsShaped c.floor c.next) c.tables (new_stock c name s ∷ []) is.tables (new_shaped c name s is first.1, tt);
       names = names_pushed c.tables (new_stock c name s) refl (not_true (has_name name (flat_map names_in c.tables)) first.0) is.names;
-      oldest = is.oldest;
+      floor = is.floor;
       few = omega (arith, room, length-append c.tables (new_stock c name s ∷ []));
       most = is.most;
     }
@@ -141,13 +144,15 @@ inserted (x ∷ tables) (suc n) name keys values lt =
       is = ap (λ names. names_in x ++ names) rest.is ∙ sym (append_assoc (names_in x) rest.front (name ∷ rest.back));
     }
 
-viewed_shaped : (oldest next : ℕ) (t : Stock) (name : List ℕ) (keys values : List (List ℕ)) → IsShaped oldest next t → is_ok (view_checked (columns_of t.lineage) keys values) ≡ true → length t.lineage.views < 8 → IsShaped oldest next (stock_viewed t name keys values)
-viewed_shaped oldest next t name keys values is ok room =
+viewed_shaped : (floor next : ℕ) (t : Stock) (name : List ℕ) (keys values : List (List ℕ)) → IsShaped floor next t → is_ok (view_checked (columns_of t.lineage) keys values) ≡ true → length t.lineage.views < 8 → IsShaped floor next (stock_viewed t name keys values)
+viewed_shaped floor next t name keys values is ok room =
     let w : View = record { name = name; keys = keys; values = values } in
     record {
       lineage = lineage_viewed t.lineage w is.lineage room ok;
       totals = is.totals;
       bounded = is.bounded;
+      above = is.above;
+      oldest = is.oldest;
       singles = is.singles;
       base = is.base;
       reachable = is.reachable;
@@ -167,7 +172,7 @@ view_shaped c table name keys values is e =
     let free = not_true (has_name name (flat_map names_in c.tables)) first.1 in
     let new : has_name name (place.front ++ place.back) ≡ false = ap (has_name name) (sym place.was) ∙ free in
     set_shaped c table (stock_viewed t name keys values) is
-    (viewed_shaped c.oldest c.next t name keys values (stock_found (IsShaped c.oldest c.next) c.tables table there is.tables) third.1 room)
+    (viewed_shaped c.floor c.next t name keys values (stock_found (IsShaped c.floor c.next) c.tables table there is.tables) third.1 room)
     (ap (λ ns. is_none (repeated ns)) place.is
     ∙ unrepeated [] (place.front ++ name ∷ place.back) (apart_insert name [] place.front place.back refl new (apart [] (place.front ++ place.back) (ap (λ ns. is_none (repeated ns)) (sym place.was) ∙ is.names))))
     (length_set c.tables table (stock_viewed t name keys values))
@@ -247,11 +252,13 @@ totals_below s (DropValue name) totals all =
 totals_below s (AddKey column default) totals all = all
 
 -- A change that is allowed keeps a table's shape.
-pub changed_shaped : (oldest next : ℕ) (t : Stock) (c : Change) → IsShaped oldest next t → HasDefault c → is_ok (change_checked t.lineage c) ≡ true → IsShaped oldest next (stock_changed t c)
-changed_shaped oldest next t c is default ok = record {
+pub changed_shaped : (floor next : ℕ) (t : Stock) (c : Change) → IsShaped floor next t → HasDefault c → is_ok (change_checked t.lineage c) ≡ true → IsShaped floor next (stock_changed t c)
+changed_shaped floor next t c is default ok = record {
   lineage = lineage_changed t.lineage c is.lineage default ok;
   totals = totals_changed (columns_of t.lineage) c t.totals is.totals ∙ ap (λ s. sums_in (aggs_of s)) (sym (columns_more t.lineage c));
   bounded = totals_below (columns_of t.lineage) c t.totals is.bounded;
+  above = is.above;
+  oldest = is.oldest;
   singles = is.singles;
   base = is.base;
   reachable = is.reachable;
@@ -265,4 +272,16 @@ alter_shaped c table change is typed e =
     let both = both_true (is_there c table) (is_ok (change_checked t.lineage change)) e in
     let there : table < length c.tables = is_less table (length c.tables) both.0 in
     let rule = (passed_first (rule_checked t.lineage change) _ both.1).0 in
-    same_set c table (stock_changed t change) is (changed_shaped c.oldest c.next t change (stock_found (IsShaped c.oldest c.next) c.tables table there is.tables) (default_read t.lineage change typed rule) both.1) refl
+    same_set c table (stock_changed t change) is (changed_shaped c.floor c.next t change (stock_found (IsShaped c.floor c.next) c.tables table there is.tables) (default_read t.lineage change typed rule) both.1) refl
+
+-- ---- an expiry
+
+pub expire_table_shaped : (c : Catalog) (table version : ℕ) → IsCatalog c → is_there c table && expire_fits c (stock_at c table).oldest version ≡ true → IsCatalog (with_stock c table (stock_from version (stock_at c table)))
+expire_table_shaped c table version is e =
+    let t = stock_at c table in
+    let both = both_true (is_there c table) (expire_fits c t.oldest version) e in
+    let there : table < length c.tables = is_less table (length c.tables) both.0 in
+    let range = both_true (nat_le t.oldest version) (nat_lt version c.next) both.1 in
+    let shaped = stock_found (IsShaped c.floor c.next) c.tables table there is.tables in
+    let above = shaped.above in
+    same_set c table (stock_from version t) is (from_shaped c.floor c.floor version c.next t (omega (arith, above)) (is_less version c.next range.1) shaped) refl

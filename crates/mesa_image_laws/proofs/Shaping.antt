@@ -1,6 +1,7 @@
 -- Every record that fits keeps what catalogues keep.
-use Rattle.std.proofs.Common.{◌≡◌, inl, ℕ, suc, ◌+◌, ◌-◌, ◌^◌, ◌<◌, ◌≤◌, List, [], ◌∷◌, ◌++◌, map, length, Option, Some, None, true, false, refl, sym, ◌∙◌, ap, subst, arith, length-append, length-drop}
-use Rattle.std.proofs.lemmas.List.{map-append}
+use Rattle.std.proofs.Common.{◌≡◌, inl, inr, ℕ, suc, ◌+◌, ◌-◌, ◌^◌, ◌<◌, ◌≤◌, List, [], ◌∷◌, ◌++◌, map, length, Option, Some, None, true, false, refl, sym, ◌∙◌, ap, subst, arith, length-append, length-drop, is_none}
+use Rattle.std.specs.Prelude.{flat_map, max}
+use Rattle.std.proofs.lemmas.List.{length-map, map-append}
 use Rattle.std.specs.List.{AllByRecursion}
 use Rattle.mesa_fold.specs.mesa_schema.Columns.{aggs_of}
 use Rattle.mesa_fold.specs.mesa_schema.Changes.{columns_of, epoch_of}
@@ -11,36 +12,46 @@ use Rattle.mesa_image.specs.mesa_span.Ranges.{IsReachable}
 use Rattle.mesa_image.specs.mesa_span.Work.{swapped}
 use Rattle.mesa_image.specs.mesa_record.declared.record.Part.{Part}
 use Rattle.mesa_image.specs.mesa_record.declared.record.Record.TheVariants as record_of
-use Rattle.mesa_image.specs.Catalog.{Delta, Ending, Stock, Catalog, start_in, ranges_of, stock_loaded, stock_swapped, applied, empty_delta, part_delta}
-use Rattle.mesa_image.specs.Fitting.{base_deltas, delta_in, deltas_of}
+use Rattle.mesa_image.specs.Catalog.{Delta, Ending, Stock, Catalog, start_in, ranges_of, stock_from, stock_loaded, stock_swapped, applied, empty_delta, part_delta}
+use Rattle.mesa_image.specs.Fitting.{base_deltas, delta_in, deltas_of, names_in}
+use Rattle.mesa_image.specs.mesa_model.Warehouse.{max_tables}
+use Rattle.mesa_fold.specs.mesa_schema.Names.{repeated}
 use Rattle.mesa_image.specs.Shape.{IsShaped, IsCatalog}
-use Rattle.mesa_fold.proofs.mesa_schema.Lists.{all_append, all_drop, all_so}
+use Rattle.mesa_fold.proofs.mesa_schema.Lists.{all_append, all_drop, all_map, all_so}
 use Rattle.mesa_image_laws.proofs.Lists.{all_front, all_back}
 use Rattle.mesa_image_laws.proofs.Kept.{ranges_swapped}
 
 -- ---- runs and expiries
 
 pub run_shaped : (c : Catalog) (number : ℕ) → IsCatalog c → IsCatalog (applied c (record_of.Run number))
-run_shaped c number is = record { tables = is.tables; names = is.names; oldest = is.oldest; few = is.few; most = is.most }
+run_shaped c number is = record { tables = is.tables; names = is.names; floor = is.floor; few = is.few; most = is.most }
 
-later_shaped : (oldest version next : ℕ) (t : Stock) → oldest ≤ version → IsShaped oldest next t → IsShaped version next t
-later_shaped oldest version next t le is = record {
+-- a table without versions below one that is there, under a floor that is at most its oldest version then
+pub from_shaped : (floor later version next : ℕ) (t : Stock) → later ≤ max t.oldest version → version < next → IsShaped floor next t → IsShaped later next (stock_from version t)
+from_shaped floor later version next t above lt is = record {
   lineage = is.lineage;
   totals = is.totals;
   bounded = is.bounded;
+  above = above;
+  oldest = inl (elim is.oldest [ inl old ↦ omega (arith, old, lt) | inr none ↦ omega (arith, none.1, lt) ]);
   singles = is.singles;
-  base = omega (arith, le, is.base);
+  base = (let base = is.base in omega (arith, base));
   reachable = is.reachable;
   ends = is.ends;
   epochs = is.epochs;
 }
 
-pub expire_shaped : (c : Catalog) (version : ℕ) → c.oldest ≤ version → version < c.next → IsCatalog c → IsCatalog (applied c (record_of.Expire version))
-expire_shaped c version le lt is = record {
-  tables = all_so (IsShaped c.oldest c.next) (IsShaped version c.next) c.tables (λ t. later_shaped c.oldest version c.next t le) is.tables;
-  names = is.names;
-  oldest = inl lt;
-  few = is.few;
+-- names stay where versions are let go
+names_from : (version : ℕ) (tables : List Stock) → flat_map names_in (map (stock_from version) tables) ≡ flat_map names_in tables
+names_from version [] = refl
+names_from version (t ∷ tables) = ap (λ names. names_in t ++ names) (names_from version tables)
+
+pub expire_shaped : (c : Catalog) (version : ℕ) → version < c.next → IsCatalog c → IsCatalog (applied c (record_of.Expire version))
+expire_shaped c version lt is = record {
+  tables = all_map (IsShaped version c.next) (stock_from version) c.tables (all_so (IsShaped c.floor c.next) (λ t. IsShaped version c.next (stock_from version t)) c.tables (λ t shaped. from_shaped c.floor version version c.next t (omega arith) lt shaped) is.tables);
+  names = ap (λ names. is_none (repeated names)) (names_from version c.tables) ∙ is.names;
+  floor = inl lt;
+  few = subst (λ n. n ≤ max_tables) (sym (length-map c.tables (stock_from version))) is.few;
   most = is.most;
 }
 
@@ -72,21 +83,25 @@ abbrev pub FitsIfAny : Stock → Option Part → Type 0
 FitsIfAny t None = Unit {0}
 FitsIfAny t (Some p) = PartFits t p
 
-pub loaded_shaped : (oldest next : ℕ) (t : Stock) (p : Option Part) → IsShaped oldest next t → FitsIfAny t p → IsShaped oldest (next + 1) (stock_loaded t p)
-loaded_shaped oldest next t None is fit = record {
+pub loaded_shaped : (floor next : ℕ) (t : Stock) (p : Option Part) → IsShaped floor next t → FitsIfAny t p → IsShaped floor (next + 1) (stock_loaded t p)
+loaded_shaped floor next t None is fit = record {
   lineage = is.lineage;
   totals = is.totals;
   bounded = is.bounded;
+  above = is.above;
+  oldest = inl (elim is.oldest [ inl lt ↦ omega (arith, lt) | inr none ↦ omega (arith, none.0) ]);
   singles = omega (arith, is.singles, length-append t.singles (empty_delta ∷ []));
   base = is.base;
   reachable = is.reachable;
   ends = ends_later next t.cumulatives is.ends;
   epochs = epochs_more t (empty_delta) (omega arith) is.epochs;
 }
-loaded_shaped oldest next t (Some p) is fit = record {
+loaded_shaped floor next t (Some p) is fit = record {
   lineage = is.lineage;
   totals = length-totals t.totals p.totals (fit.count ∙ sym is.totals) ∙ is.totals;
   bounded = fit.bound;
+  above = is.above;
+  oldest = inl (elim is.oldest [ inl lt ↦ omega (arith, lt) | inr none ↦ omega (arith, none.0) ]);
   singles = omega (arith, is.singles, length-append t.singles (part_delta p ∷ []));
   base = is.base;
   reachable = is.reachable;
@@ -96,8 +111,8 @@ loaded_shaped oldest next t (Some p) is fit = record {
 
 -- ---- a merged range
 
-pub based_shaped : (oldest next : ℕ) (t : Stock) (to : ℕ) (d : Delta) → start_in t ≤ to → to ≤ oldest → to < next → d.epoch ≤ epoch_of t.lineage → IsReachable (swapped (work.Base to) (ranges_of t)) → IsShaped oldest next t → IsShaped oldest next (stock_swapped t true to d)
-based_shaped oldest next t to d behind within lt epoch reachable is =
+pub based_shaped : (floor next : ℕ) (t : Stock) (to : ℕ) (d : Delta) → start_in t ≤ to → to ≤ t.oldest → to < next → d.epoch ≤ epoch_of t.lineage → IsReachable (swapped (work.Base to) (ranges_of t)) → IsShaped floor next t → IsShaped floor next (stock_swapped t true to d)
+based_shaped floor next t to d behind within lt epoch reachable is =
     let E = λ (x : Delta). x.epoch ≤ epoch_of t.lineage in
     let n = to + 1 - start_in t in
     let rest = all_back E (map delta_in t.cumulatives) t.singles (all_back E (base_deltas t.base) (map delta_in t.cumulatives ++ t.singles) is.epochs) in
@@ -105,6 +120,8 @@ based_shaped oldest next t to d behind within lt epoch reachable is =
       lineage = is.lineage;
       totals = is.totals;
       bounded = is.bounded;
+      above = is.above;
+      oldest = is.oldest;
       singles = omega (arith, is.singles, length-drop n t.singles, behind, lt);
       base = omega (arith, within);
       reachable = reachable;
@@ -112,8 +129,8 @@ based_shaped oldest next t to d behind within lt epoch reachable is =
       epochs = (epoch, all_drop E n t.singles rest);
     }
 
-pub covered_shaped : (oldest next : ℕ) (t : Stock) (to : ℕ) (d : Delta) → to < next → d.epoch ≤ epoch_of t.lineage → IsReachable (swapped (work.Cumulative (start_in t) to) (ranges_of t)) → IsShaped oldest next t → IsShaped oldest next (stock_swapped t false to d)
-covered_shaped oldest next t to d lt epoch reachable is =
+pub covered_shaped : (floor next : ℕ) (t : Stock) (to : ℕ) (d : Delta) → to < next → d.epoch ≤ epoch_of t.lineage → IsReachable (swapped (work.Cumulative (start_in t) to) (ranges_of t)) → IsShaped floor next t → IsShaped floor next (stock_swapped t false to d)
+covered_shaped floor next t to d lt epoch reachable is =
     let E = λ (x : Delta). x.epoch ≤ epoch_of t.lineage in
     let ending : Ending = record { to = to; delta = d } in
     let rest = all_back E (base_deltas t.base) (map delta_in t.cumulatives ++ t.singles) is.epochs in
@@ -121,6 +138,8 @@ covered_shaped oldest next t to d lt epoch reachable is =
       lineage = is.lineage;
       totals = is.totals;
       bounded = is.bounded;
+      above = is.above;
+      oldest = is.oldest;
       singles = is.singles;
       base = is.base;
       reachable = subst IsReachable (sym (ranges_swapped t false (start_in t) to d)) reachable;

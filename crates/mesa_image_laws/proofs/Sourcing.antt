@@ -214,7 +214,7 @@ viewed_sourced rows written t name keys values is = record {
     same version (d ∷ ds) all = (all.0, same (version + 1) ds all.1)
 
 -- a change
-module _ (rows : Rows) (oldest next : ℕ) (written : List Written) (t : Stock) (c : Change) (shaped : IsShaped oldest next t) (default : HasDefault c) (sourced : IsSourced rows written t) where
+module _ (rows : Rows) (floor next : ℕ) (written : List Written) (t : Stock) (c : Change) (shaped : IsShaped floor next t) (default : HasDefault c) (sourced : IsSourced rows written t) where
   made_more : (from to : ℕ) (d : Delta) → d.epoch ≤ epoch_of t.lineage → IsMadeOf rows t.lineage written from to d → IsMadeOf rows (with_change t.lineage c) written from to d
   made_more from to d le is =
       now_made rows (with_change t.lineage c) written sourced.are.rise from to d

@@ -83,7 +83,7 @@ columns_now l = ap (columns_after l.first) (take_all (epoch_of l) l.changes (ome
 
 -- ---- a batch
 
-module _ (rows : Rows) (oldest next : ℕ) (t : Stock) (shaped : IsShaped oldest next t) (stocked : IsStocked rows t) where
+module _ (rows : Rows) (floor next : ℕ) (t : Stock) (shaped : IsShaped floor next t) (stocked : IsStocked rows t) where
   abbrev l : Lineage
   l = t.lineage
 

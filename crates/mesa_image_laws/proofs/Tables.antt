@@ -47,7 +47,7 @@ base_is_empty None = tt
 base_is_empty (Some to) = (refl, tt)
 
 pub new_deltas : (c : Catalog) (name : List ℕ) (s : Columns) → AllByRecursion IsEmpty (deltas_of (new_stock c name s))
-new_deltas c name s = all_append IsEmpty (base_deltas (new_stock c name s).base) (replicate (c.next - c.oldest) empty_delta) (base_is_empty (base_before c.oldest)) (all_replicate IsEmpty empty_delta (c.next - c.oldest) refl)
+new_deltas c name s = all_append IsEmpty (base_deltas (new_stock c name s).base) (replicate (c.next - c.floor) empty_delta) (base_is_empty (base_before c.floor)) (all_replicate IsEmpty empty_delta (c.next - c.floor) refl)
 
 none_shelved : (P : Shelved → Type 0) (l : Lineage) (d : Delta) → IsEmpty d → AllByRecursion P (delta_shelved l d)
 none_shelved P l d is = subst (λ (files : Option Files). AllByRecursion P (delta_shelved l (record d { files = files }))) (sym is) tt
@@ -72,15 +72,15 @@ table_moves rows c name keys values =
     let s : Columns = record { keys = keys; values = values } in
     let t = new_stock c name s in
     let none = λ (v : ℕ). folds_nothing (aggs_of s) (map (present rows t.lineage) (deltas_to t v))
-    (no_rows rows t.lineage (deltas_to t v) (all_append IsEmpty (base_deltas t.base) _ (base_is_empty (base_before c.oldest)) (all_copies (c.next - c.oldest) (v + 1 - start_in t)))) in
-    let contents = nothing_yet rows t c.oldest (c.next - c.oldest) none in
+    (no_rows rows t.lineage (deltas_to t v) (all_append IsEmpty (base_deltas t.base) _ (base_is_empty (base_before c.floor)) (all_copies (c.next - c.floor) (v + 1 - start_in t)))) in
+    let contents = nothing_yet rows t c.floor (c.next - c.floor) none in
     λ i. record {
       store = record {
-        tables = (map-append (table_of rows c.oldest c.next) c.tables (t ∷ []) ∙ (λ j. map (table_of rows c.oldest c.next) c.tables ++ record { name = name; lineage = t.lineage; totals = t.totals; contents = contents j } ∷ [])) i;
-        oldest = c.oldest;
+        tables = (map-append (table_of rows c.next) c.tables (t ∷ []) ∙ (λ j. map (table_of rows c.next) c.tables ++ record { name = name; lineage = t.lineage; totals = t.totals; oldest = c.floor; contents = contents j } ∷ [])) i;
+        floor = c.floor;
       };
       next = c.next;
-      ranges = (map-append ranges_of c.tables (t ∷ []) ∙ (λ j. map ranges_of c.tables ++ record { base_to = same_ends (base_before c.oldest) j; cumulatives = [] } ∷ [])) i;
+      ranges = (map-append ranges_of c.tables (t ∷ []) ∙ (λ j. map ranges_of c.tables ++ record { base_to = same_ends (base_before c.floor) j; cumulatives = [] } ∷ [])) i;
     }
 
 -- ---- what holds of its rows
@@ -96,7 +96,7 @@ new_stocked rows c name s =
       files = all_flat (IsTold rows) (delta_shelved t.lineage) (deltas_of t) (all_so IsEmpty (λ d. AllByRecursion (IsTold rows) (delta_shelved t.lineage d)) (deltas_of t) (none_shelved (IsTold rows) t.lineage) (new_deltas c name s));
       merged = tt;
       grouped = all_so IsEmpty (AreGrouped rows t.lineage) (deltas_of t) (none_grouped rows t.lineage) (new_deltas c name s);
-      totals = all_replicate (IsTotalled rows t.lineage) empty_delta (c.next - c.oldest) tt;
+      totals = all_replicate (IsTotalled rows t.lineage) empty_delta (c.next - c.floor) tt;
       bound = subst (λ rs. AreAtMost (abs_totals s rs) t.totals) (sym (no_rows rows t.lineage (deltas_of t) (new_deltas c name s))) (zeros (sum_places 0 (aggs_of s)));
     }
 

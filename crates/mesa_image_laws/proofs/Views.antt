@@ -85,8 +85,8 @@ map_within f (x ∷ xs) zero none d lt = refl
 map_within f (x ∷ xs) (suc n) none d lt = map_within f xs n none d (omega (arith, lt))
 
 -- the table of a number, as it is kept
-pub stock_table : (rows : Rows) (c : Catalog) (table : ℕ) → table < length c.tables → slice_index_or (map (table_of rows c.oldest c.next) c.tables) table no_table ≡ table_of rows c.oldest c.next (stock_at c table)
-stock_table rows c table lt = map_within (table_of rows c.oldest c.next) c.tables table no_table no_stock lt
+pub stock_table : (rows : Rows) (c : Catalog) (table : ℕ) → table < length c.tables → slice_index_or (map (table_of rows c.next) c.tables) table no_table ≡ table_of rows c.next (stock_at c table)
+stock_table rows c table lt = map_within (table_of rows c.next) c.tables table no_table no_stock lt
 
 -- Files under the same columns, where one table's are.
 pub set_shelved : (tables : List Stock) (n : ℕ) (t : Stock) → stock_shelved t ≡ stock_shelved (slice_index_or tables n no_stock) → flat_map stock_shelved (slice_set tables n t) ≡ flat_map stock_shelved tables
@@ -101,11 +101,11 @@ module _ (rows : Rows) (c : Catalog) (table : ℕ) (name : List ℕ) (keys value
   pub view_moves : kept_of rows (applied c (record_of.View table name keys values)) ≡ kept_viewed (kept_of rows c) table w
   unfolding kept_of
   view_moves =
-      let table_is = table_of rows c.oldest c.next in
+      let table_is = table_of rows c.next in
       let u = stock_viewed (stock_at c table) name keys values in
       let tables = map-set table_is c.tables table u ∙ ap (λ t. slice_set (map table_is c.tables) table (table_viewed t w)) (sym (stock_table rows c table there)) in
       λ i. record {
-        store = record { tables = tables i; oldest = c.oldest };
+        store = record { tables = tables i; floor = c.floor };
         next = c.next;
         ranges = (map-set ranges_of c.tables table u ∙ ranges_same c table) i;
       }

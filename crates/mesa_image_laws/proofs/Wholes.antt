@@ -13,9 +13,9 @@ use Rattle.mesa_image.specs.Fitting.{fits, kind_fits, brings_new_files, with_bod
 use Rattle.mesa_image.specs.Shape.{IsCatalog}
 use Rattle.mesa_image_laws.specs.Ids.{HasOwnIds}
 use Rattle.mesa_image_laws.proofs.Ids.{own_ids}
-use Rattle.mesa_image_laws.proofs.Lists.{both_true, is_at_most, is_less}
+use Rattle.mesa_image_laws.proofs.Lists.{both_true, is_less}
 use Rattle.mesa_image_laws.proofs.Shaping.{run_shaped, expire_shaped}
-use Rattle.mesa_image_laws.proofs.ShapedTables.{table_shaped, view_shaped, alter_shaped}
+use Rattle.mesa_image_laws.proofs.ShapedTables.{table_shaped, view_shaped, alter_shaped, expire_table_shaped}
 use Rattle.mesa_image_laws.proofs.ShapedBatches.{publish_shaped, swap_shaped}
 
 -- A record that keeps the rules of its kind keeps the shape.
@@ -27,8 +27,9 @@ kind_shaped c (record_of.Alter table change) is typed e = alter_shaped c table c
 kind_shaped c (record_of.Publish version parts) is typed e = publish_shaped c version parts is e
 kind_shaped c (record_of.Swap table base from to epoch files) is typed e = swap_shaped c table base from to epoch files is e
 kind_shaped c (record_of.Expire version) is typed e =
-    let both = both_true (nat_le c.oldest version) (nat_lt version c.next) e in
-    expire_shaped c version (is_at_most c.oldest version both.0) (is_less version c.next both.1) is
+    let both = both_true (nat_le c.floor version) (nat_lt version c.next) e in
+    expire_shaped c version (is_less version c.next both.1) is
+kind_shaped c (record_of.ExpireTable table version) is typed e = expire_table_shaped c table version is e
 
 -- A record that fits keeps the shape.
 pub fits_shaped : (c : Catalog) (r : Record) → IsCatalog c → IsTyped r → fits c r ≡ true → IsCatalog (applied c r)
@@ -36,7 +37,7 @@ unfolding fits
 fits_shaped c r is typed e = kind_shaped c r is typed (both_true (kind_fits c r) (brings_new_files c r) e).0
 
 pub empty_shaped : IsCatalog empty_catalog
-empty_shaped = record { tables = tt; names = refl; oldest = inr (refl, refl); few = omega arith; most = omega arith }
+empty_shaped = record { tables = tt; names = refl; floor = inr (refl, refl); few = omega arith; most = omega arith }
 
 -- what records that fit keep, and the empty catalogue has, every catalogue has that bodies make
 module _ (P : Catalog → Type 0) (keeps : (c : Catalog) (r : Record) → P c → IsRecord r → fits c r ≡ true → P (applied c r)) where

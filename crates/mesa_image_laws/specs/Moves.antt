@@ -14,7 +14,7 @@ use Rattle.mesa_image.specs.mesa_commit.Images.{Has}
 use Rattle.mesa_image.specs.mesa_model.Warehouse.{Table, Warehouse, table_at, with_table, with_tables}
 use Rattle.mesa_image.specs.mesa_model.Load.{with_batch}
 use Rattle.mesa_image.specs.mesa_model.Tables.{new_table, table_changed}
-use Rattle.mesa_image.specs.mesa_model.Versions.{store_from}
+use Rattle.mesa_image.specs.mesa_model.Versions.{store_from, table_from}
 use Rattle.mesa_image.specs.mesa_history.Found.{Kept}
 use Rattle.mesa_image.specs.mesa_record.declared.record.Record.{Record}
 use Rattle.mesa_image.specs.Catalog.{Catalog, applied}
@@ -36,7 +36,7 @@ kept_loaded k batch = kept_with (with_batch (warehouse_of k) batch) k
 
 -- once a table is made, which enters the ranges too
 abbrev pub kept_made : Kept → List ℕ → Columns → Kept
-kept_made k name s = record (kept_with (with_tables (warehouse_of k) (k.store.tables ++ new_table (warehouse_of k) name s ∷ [])) k) { ranges = k.ranges ++ new_ranges k.store.oldest ∷ [] }
+kept_made k name s = record (kept_with (with_tables (warehouse_of k) (k.store.tables ++ new_table (warehouse_of k) name s ∷ [])) k) { ranges = k.ranges ++ new_ranges k.store.floor ∷ [] }
 
 -- a table with a view more
 abbrev pub table_viewed : Table → View → Table
@@ -50,9 +50,13 @@ kept_viewed k table view = kept_with (with_table (warehouse_of k) table (table_v
 abbrev pub kept_altered : Kept → ℕ → Change → Kept
 kept_altered k table change = kept_with (with_table (warehouse_of k) table (table_changed (table_at k.store table) change)) k
 
--- once this is the oldest version
+-- once versions below one are let go of all tables
 abbrev pub kept_expired : Kept → ℕ → Kept
 kept_expired k version = record k { store = store_from k.store version }
+
+-- once they are let go of the table of a number
+abbrev pub kept_expired_of : Kept → ℕ → ℕ → Kept
+kept_expired_of k table version = kept_with (with_table (warehouse_of k) table (table_from version (table_at k.store table))) k
 
 -- the work whose range a swap brings in
 abbrev pub work_of : Bool → ℕ → ℕ → Work

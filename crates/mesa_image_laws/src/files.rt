@@ -27,6 +27,12 @@ pub fn views_keep_files()
         → shelved (applied c (record_of.View table name keys values)) ≡ shelved c }
 {}
 
+/// So does an expiry, of all tables or of one.
+pub fn expiries_keep_files()
+    ensures all { (c : Catalog) (version : ℕ) → shelved (applied c (record_of.Expire version)) ≡ shelved c }
+    ensures table { (c : Catalog) (table version : ℕ) → shelved (applied c (record_of.ExpireTable table version)) ≡ shelved c }
+{}
+
 /// What is named after a record, with what it lets go, is what was named before with what it brings.
 pub fn ids_are_counted()
     ensures { (c : Catalog) (r : RecordOf) (id : ℕ) → keeps_rules r ≡ true → fits c r ≡ true

@@ -10,8 +10,8 @@ mod sources;
 mod works;
 
 pub use files::{
-    brought_ids_are_new, catalogs_own_ids, changes_keep_files, ids_are_counted,
-    rows_count_where_named, views_keep_files,
+    brought_ids_are_new, catalogs_own_ids, changes_keep_files, expiries_keep_files,
+    ids_are_counted, rows_count_where_named, views_keep_files,
 };
 pub use moves::{batches_move, commands_move, runs_move_nothing, works_move};
 pub use shapes::{catalogs_are_shaped, catalogs_go_on, records_keep_shape};

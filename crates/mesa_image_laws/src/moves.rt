@@ -6,7 +6,7 @@ ghost use Rattle.mesa_image.specs.Fitting.{fits};
 ghost use Rattle.mesa_image.specs.Shape.{IsCatalog};
 ghost use Rattle.mesa_image.specs.Sound.{AreStocked};
 ghost use Rattle.mesa_image_laws.specs.Brought.{AreTold, BringsAll, Merges};
-ghost use Rattle.mesa_image_laws.specs.Moves.{Moves, kept_altered, kept_expired, kept_loaded, kept_made, kept_swapped, kept_viewed, work_of};
+ghost use Rattle.mesa_image_laws.specs.Moves.{Moves, kept_altered, kept_expired, kept_expired_of, kept_loaded, kept_made, kept_swapped, kept_viewed, work_of};
 ghost use Rattle.mesa_image.specs.mesa_record.declared.record.Files.{Files as FilesOf};
 ghost use Rattle.mesa_image.specs.mesa_record.declared.record.Part.{Part as PartOf};
 ghost use Rattle.mesa_image.specs.mesa_record.declared.record.Record.TheVariants as record_of;
@@ -21,8 +21,8 @@ pub fn runs_move_nothing()
     ensures { (rows : Rows) (c : Catalog) (number : ℕ) → AreStocked rows c → Moves rows c (record_of.Run number) (kept_of rows c) }
 {}
 
-/// A table, a view, a change and an expiry move what is kept as their commands move the reference
-/// warehouse.
+/// A table, a view, a change and an expiry, of all tables or of one, move what is kept as their
+/// commands move the reference warehouse.
 pub fn commands_move()
     ensures table { (rows : Rows) (c : Catalog) (name : List ℕ) (keys : List KeyOf) (values : List ValueOf) → AreStocked rows c
         → Moves rows c (record_of.Table name keys values) (kept_made (kept_of rows c) name (record { keys = keys; values = values })) }
@@ -32,6 +32,8 @@ pub fn commands_move()
         → Moves rows c (record_of.Alter table change) (kept_altered (kept_of rows c) table change) }
     ensures expire { (rows : Rows) (c : Catalog) (version : ℕ) → AreStocked rows c → fits c (record_of.Expire version) ≡ true
         → Moves rows c (record_of.Expire version) (kept_expired (kept_of rows c) version) }
+    ensures expire_table { (rows : Rows) (c : Catalog) (table version : ℕ) → AreStocked rows c → fits c (record_of.ExpireTable table version) ≡ true
+        → Moves rows c (record_of.ExpireTable table version) (kept_expired_of (kept_of rows c) table version) }
 {}
 
 /// A batch moves what is kept as a load moves the reference warehouse, where its parts bring the

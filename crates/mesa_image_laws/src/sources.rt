@@ -43,6 +43,7 @@ pub fn sources_go_on()
         → fits c (record_of.Swap table base from to epoch files) ≡ true → IsMadeOf rows (stock_at c table).lineage (written table) from to (merged_delta epoch files)
         → HasSources rows written (applied c (record_of.Swap table base from to epoch files)) }
     ensures expire { (rows : Rows) (written : ℕ → List Written) (c : Catalog) (version : ℕ) → HasSources rows written c → HasSources rows written (applied c (record_of.Expire version)) }
+    ensures expire_table { (rows : Rows) (written : ℕ → List Written) (c : Catalog) (table version : ℕ) → HasSources rows written c → fits c (record_of.ExpireTable table version) ≡ true → HasSources rows written (applied c (record_of.ExpireTable table version)) }
 {}
 
 /// A batch that was read by a catalogue's tables may be accepted as its next version.
@@ -53,7 +54,7 @@ pub fn batches_are_accepted()
 /// A content is the fold of what was written to its version, and what a work reads that of what was
 /// written in its range.
 pub fn sources_tell()
-    ensures contents { (rows : Rows) (written : ℕ → List Written) (c : Catalog) (table version : ℕ) → IsCatalog c → HasSources rows written c → table < length c.tables → c.oldest ≤ version → version < c.next
+    ensures contents { (rows : Rows) (written : ℕ → List Written) (c : Catalog) (table version : ℕ) → IsCatalog c → HasSources rows written c → table < length c.tables → (stock_at c table).oldest ≤ version → version < c.next
         → content rows (stock_at c table) version ≡ range_rows (stock_at c table).lineage (epoch_of (stock_at c table).lineage) (sources_from 0 version (written table)) }
     ensures works { (rows : Rows) (written : ℕ → List Written) (c : Catalog) (table : ℕ) (base : Bool) (from to : ℕ) → IsCatalog c → HasSources rows written c → table < length c.tables → may_be_work c (stock_at c table) base from to ≡ true
         → folded (aggs_of (columns_of (stock_at c table).lineage)) (map (present rows (stock_at c table).lineage) (merged_of (stock_at c table) base to))

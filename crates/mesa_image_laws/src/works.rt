@@ -14,15 +14,15 @@ ghost use Rattle.mesa_image.specs.mesa_span.Ranges.{base_before};
 ghost use Rattle.mesa_image.specs.mesa_span.Work.{next_work};
 ghost use Rattle.std.specs.Prelude.{◌≡◌, ◌≤◌, ℕ, Some, map, true};
 
-/// A work that was due for a table's ranges may be swapped in while they stay, however far the oldest
-/// version and the newest have risen.
+/// A work that was due for a table's ranges may be swapped in while they stay, however far the
+/// table's oldest version and the newest have risen.
 pub fn due_works_fit()
-    ensures { (c : Catalog) (t : Stock) (oldest next : ℕ) (work : WorkOf) → next_work (ranges_of t) oldest (base_before next) ≡ Some work → oldest ≤ c.oldest → next ≤ c.next
+    ensures { (c : Catalog) (t : Stock) (oldest next : ℕ) (work : WorkOf) → next_work (ranges_of t) oldest (base_before next) ≡ Some work → oldest ≤ t.oldest → next ≤ c.next
         → may_be_work c t (is_base work) (first_of work) (last_of work) ≡ true }
 {}
 
 /// The deltas that a query at a version reads fold to the content at that version.
 pub fn plans_fold()
-    ensures { (rows : Rows) (oldest next : ℕ) (t : Stock) (version : ℕ) → IsShaped oldest next t → IsStocked rows t
+    ensures { (rows : Rows) (floor next : ℕ) (t : Stock) (version : ℕ) → IsShaped floor next t → IsStocked rows t
         → folded (aggs_of (columns_of t.lineage)) (map (present rows t.lineage) (planned t version)) ≡ content rows t version }
 {}

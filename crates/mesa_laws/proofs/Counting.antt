@@ -21,6 +21,7 @@ counts w = record {
   views = λ words number free at rules. omega arith;
   alters = λ words number c at asked rules. omega arith;
   expires = λ version ok. omega arith;
+  expires_one = λ name number version at ok. omega arith;
 }
 
 -- Each version was made by one batch that was accepted.

@@ -15,13 +15,13 @@ use Rattle.mesa_history.specs.Replay.{go, runs}
 use Rattle.mesa_laws.proofs.Kept.{Law, LawAt, law_early, rows_then}
 use Rattle.mesa_laws.proofs.LawAlters.{law_alters}
 use Rattle.mesa_laws.proofs.LawLoads.{law_loads}
-use Rattle.mesa_laws.proofs.LawTables.{law_expires, law_makes, law_views}
+use Rattle.mesa_laws.proofs.LawTables.{law_expires, law_expires_one, law_makes, law_views}
 use Rattle.mesa_laws.proofs.Lifting.{present_now}
 use Rattle.mesa_laws.proofs.Lineages.{change_default}
 use Rattle.mesa_schema.proofs.Lists.{all_at, all_got}
 use Rattle.mesa_laws.proofs.Moves.{Moves}
 use Rattle.mesa_laws.proofs.Turns.{go_moves}
-use Rattle.mesa_laws.proofs.WellFormed.{go_well, oldest_there, table_there, version_there}
+use Rattle.mesa_laws.proofs.WellFormed.{go_well, table_kept, table_there}
 
 -- ---- the start
 
@@ -30,23 +30,23 @@ module _ (start : Warehouse) (is : IsWellFormed start) where
   nothing : (number : ℕ) (t : Table) → start.next ≡ 0 → start_rows start.store number t 0 ≡ []
   nothing number t none = then_none (slice_get start.store.tables number) refl
     where
-      then_none : (o : Option Table) → slice_get start.store.tables number ≡ o → rows_then start.store t 0 o ≡ []
+      then_none : (o : Option Table) → slice_get start.store.tables number ≡ o → rows_then t 0 o ≡ []
       then_none None e = refl
       then_none (Some old) e =
           let table = all_got (IsTable start) start.store.tables number old e is.tables in
-          let past : length old.contents ≤ 0 - start.store.oldest = omega (arith, table.versions, none) in
-          ap (at_present t (epoch_of old.lineage)) (get_or_past old.contents (0 - start.store.oldest) [] past)
+          let past : length old.contents ≤ 0 - old.oldest = omega (arith, table.versions, none) in
+          ap (at_present t (epoch_of old.lineage)) (get_or_past old.contents (0 - old.oldest) [] past)
 
   -- what the law says of a table of the start is its content
-  start_is : (number : ℕ) (t : Table) (version : ℕ) → slice_get start.store.tables number ≡ Some t → start_rows start.store number t version ≡ content_at start.store t version
-  start_is number t version at = ap (rows_then start.store t version) at ∙ present_now t (content_at start.store t version)
+  start_is : (number : ℕ) (t : Table) (version : ℕ) → slice_get start.store.tables number ≡ Some t → start_rows start.store number t version ≡ content_at t version
+  start_is number t version at = ap (rows_then t version) at ∙ present_now t (content_at t version)
 
-  start_forms : (t : Table) (version : ℕ) → IsTable start t → AreRowsOf (columns_of t.lineage) (content_at start.store t version)
+  start_forms : (t : Table) (version : ℕ) → IsTable start t → AreRowsOf (columns_of t.lineage) (content_at t version)
   start_forms t version table =
-      let content : IsContent (columns_of t.lineage) (content_at start.store t version) = all_at (IsContent (columns_of t.lineage)) t.contents (version - start.store.oldest) [] (record { forms = tt; order = refl }) table.contents in
+      let content : IsContent (columns_of t.lineage) (content_at t version) = all_at (IsContent (columns_of t.lineage)) t.contents (version - t.oldest) [] (record { forms = tt; order = refl }) table.contents in
       content.forms
 
-  start_law : (number : ℕ) (t : Table) → slice_get start.store.tables number ≡ Some t → LawAt start [] start.store.oldest start.next number t
+  start_law : (number : ℕ) (t : Table) → slice_get start.store.tables number ≡ Some t → LawAt start [] start.next number t
   start_law number t at =
       let table = all_got (IsTable start) start.store.tables number t at is.tables in
       record {
@@ -72,13 +72,14 @@ module _ (start : Warehouse) (first : IsWellFormed start) (w : Warehouse) (is : 
   law_moves : Moves w (λ s next more. Law start (batches ++ more) s next)
   law_moves = record {
     same = no_more w.store w.next law;
-    loads = λ words batch read. law_loads start w batches law (oldest_there w is) (nothing start first) words batch read;
+    loads = λ words batch read. law_loads start w batches law (table_kept w is) (nothing start first) words batch read;
     makes = λ words free schema. no_more _ w.next (law_makes start batches w law words.table (columns_asked words));
     views = λ words number free at rules. no_more _ w.next (law_views start batches w.store w.next number (table_at w.store number) words law (table_there w.store words.table number at));
     alters = λ words number c at asked rules.
         let t : Table = table_at w.store number in
         no_more _ w.next (law_alters start batches w.store w.next number t c law (table_there w.store words.table number at) (change_default t.lineage words.change c asked (passed_first (rule_checked t.lineage c) _ rules).0));
-    expires = λ version ok. no_more _ w.next (law_expires start batches w.store w.next version (version_there w version ok).0 law);
+    expires = λ version ok. no_more _ w.next (law_expires start batches w.store w.next version law);
+    expires_one = λ name number version at ok. no_more _ w.next (law_expires_one start batches w.store w.next number version (table_at w.store number) law (table_there w.store name number at));
   }
 
 -- ---- a history

@@ -17,12 +17,12 @@ pub record BatchAt (number : ℕ) (t : Table) (a : Accepted) : Type 0 where
   pub form : AreRowsOf (columns_of t.lineage) (accepted_rows number t a)
 
 -- A table of a number: it has its contents, it has gone on from the one of the start, what its law folds has the form of its columns, and its contents are what the law says.
-pub record LawAt (start : Warehouse) (accepted : List Accepted) (oldest next number : ℕ) (t : Table) : Type 0 where
-  pub versions : length t.contents ≡ next - oldest
+pub record LawAt (start : Warehouse) (accepted : List Accepted) (next number : ℕ) (t : Table) : Type 0 where
+  pub versions : length t.contents ≡ next - t.oldest
   pub started : (old : Table) → slice_get start.store.tables number ≡ Some old → epoch_of old.lineage ≤ epoch_of t.lineage
   pub first : AreRowsOf (columns_of t.lineage) (start_rows start.store number t (start.next - 1))
   pub batches : AllByRecursion (BatchAt number t) accepted
-  pub contents : (version : ℕ) → oldest ≤ version → version < next → slice_index_or t.contents (version - oldest) [] ≡ law_content start number t accepted version
+  pub contents : (version : ℕ) → t.oldest ≤ version → version < next → content_at t version ≡ law_content start number t accepted version
 
 -- A batch was accepted since the start, and has rows of no table that wasn't there.
 pub record IsAccepted (start : Warehouse) (next tables : ℕ) (a : Accepted) : Type 0 where
@@ -33,15 +33,15 @@ pub record IsAccepted (start : Warehouse) (next tables : ℕ) (a : Accepted) : T
 
 -- The law holds of each table, and of the batches that were accepted.
 pub record Law (start : Warehouse) (accepted : List Accepted) (s : Store) (next : ℕ) : Type 0 where
-  pub tables : (number : ℕ) (t : Table) → slice_get s.tables number ≡ Some t → LawAt start accepted s.oldest next number t
+  pub tables : (number : ℕ) (t : Table) → slice_get s.tables number ≡ Some t → LawAt start accepted next number t
   pub more : length start.store.tables ≤ length s.tables
   pub grows : start.next ≤ next
   pub batches : AllByRecursion (IsAccepted start next (length s.tables)) accepted
 
 -- a table's content at a version of the start, lifted, as the law has it
-abbrev pub rows_then : Store → Table → ℕ → Option Table → List Row
-rows_then start t version None = []
-rows_then start t version (Some old) = at_present t (epoch_of old.lineage) (content_at start old version)
+abbrev pub rows_then : Table → ℕ → Option Table → List Row
+rows_then t version None = []
+rows_then t version (Some old) = at_present t (epoch_of old.lineage) (content_at old version)
 
 -- ---- the law at a version
 

@@ -31,14 +31,14 @@ module _ (start : Warehouse) (t : Table) (c : Change) (default : HasDefault c) w
   once = lifted_once (columns_of t.lineage) c
 
   then_more : (version : ℕ) (o : Option Table) → ((old : Table) → o ≡ Some old → epoch_of old.lineage ≤ epoch_of t.lineage)
-      → rows_then start.store (table_changed t c) version o ≡ map once (rows_then start.store t version o)
+      → rows_then (table_changed t c) version o ≡ map once (rows_then t version o)
   then_more version None le = refl
-  then_more version (Some old) le = present_more t c (epoch_of old.lineage) (content_at start.store old version) (le old refl)
+  then_more version (Some old) le = present_more t c (epoch_of old.lineage) (content_at old version) (le old refl)
 
   forms_changed : (rows : List Row) → AreRowsOf (columns_of t.lineage) rows → AreRowsOf (columns_of (table_changed t c).lineage) (map once rows)
   forms_changed rows all = subst (λ s. AreRowsOf s (map once rows)) (sym (columns_more t.lineage c)) (forms_more (columns_of t.lineage) c rows default all)
 
-  module _ (batches : List Accepted) (oldest next number : ℕ) (its : LawAt start batches oldest next number t) where
+  module _ (batches : List Accepted) (next number : ℕ) (its : LawAt start batches next number t) where
     start_more : (version : ℕ) → start_rows start.store number (table_changed t c) version ≡ map once (start_rows start.store number t version)
     start_more version = then_more version (slice_get start.store.tables number) its.started
 
@@ -72,7 +72,7 @@ module _ (start : Warehouse) (t : Table) (c : Change) (default : HasDefault c) w
           ∙ ap (map once) (sym (law_late start number t batches version late))
     ]
 
-    changed_law : LawAt start batches oldest next number (table_changed t c)
+    changed_law : LawAt start batches next number (table_changed t c)
     changed_law = record {
       versions = length-map t.contents (map once) ∙ its.versions;
       started = λ old is. omega (arith, its.started old is, epoch_more t.lineage c);
@@ -81,16 +81,16 @@ module _ (start : Warehouse) (t : Table) (c : Change) (default : HasDefault c) w
         epoch = omega (arith, is.epoch, epoch_more t.lineage c);
         form = subst (AreRowsOf (columns_of (table_changed t c).lineage)) (sym (accepted_more a is)) (forms_changed (accepted_rows number t a) is.form);
       }) its.batches;
-      contents = λ version le lt. map_at (map once) t.contents (version - oldest) [] ∙ ap (map once) (its.contents version le lt) ∙ sym (law_more version);
+      contents = λ version le lt. map_at (map once) t.contents (version - t.oldest) [] ∙ ap (map once) (its.contents version le lt) ∙ sym (law_more version);
     }
 
 -- One table in the place of another of which the law holds too.
-pub law_set : (start : Warehouse) (batches : List Accepted) (s : Store) (next number : ℕ) (t' : Table) → Law start batches s next → LawAt start batches s.oldest next number t'
+pub law_set : (start : Warehouse) (batches : List Accepted) (s : Store) (next number : ℕ) (t' : Table) → Law start batches s next → LawAt start batches next number t'
     → Law start batches (record s { tables = set s.tables number t' }) next
 law_set start batches s next number t' law its = record {
   tables = λ place t got. elim (got_set s.tables number t' place t got) [
     | inl at ↦ law.tables place t at
-    | inr here ↦ subst (λ n. LawAt start batches s.oldest next n t) (sym here.0) (subst (LawAt start batches s.oldest next number) here.1 its)
+    | inr here ↦ subst (λ n. LawAt start batches next n t) (sym here.0) (subst (LawAt start batches next number) here.1 its)
   ];
   more = (let before = law.more in omega (arith, before, length-set s.tables number t'));
   grows = law.grows;
@@ -100,4 +100,4 @@ law_set start batches s next number t' law its = record {
 -- A change of a table's schema keeps the law.
 pub law_alters : (start : Warehouse) (batches : List Accepted) (s : Store) (next number : ℕ) (t : Table) (c : Change) → Law start batches s next → slice_get s.tables number ≡ Some t → HasDefault c
     → Law start batches (record s { tables = set s.tables number (table_changed t c) }) next
-law_alters start batches s next number t c law at default = law_set start batches s next number (table_changed t c) law (changed_law start t c default batches s.oldest next number (law.tables number t at))
+law_alters start batches s next number t c law at default = law_set start batches s next number (table_changed t c) law (changed_law start t c default batches next number (law.tables number t at))

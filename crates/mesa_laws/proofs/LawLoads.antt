@@ -15,7 +15,7 @@ use Rattle.mesa_schema.specs.Rows.{AreRowsOf}
 use Rattle.mesa_schema.proofs.Refolds.{refolded}
 use Rattle.mesa_batch.specs.declared.words.RowWords.{RowWords}
 use Rattle.mesa_batch.specs.Batch.{Placed, batch_of, rows_for}
-use Rattle.mesa_model.specs.Warehouse.{Table, Warehouse}
+use Rattle.mesa_model.specs.Warehouse.{Table, Warehouse, content_at}
 use Rattle.mesa_model.specs.Load.{newest_content, table_loaded, tables_loaded, tables_named, with_batch}
 use Rattle.mesa_history.specs.Law.{Accepted, accepted, accepted_rows, at_present, law_content, start_rows}
 use Rattle.mesa_laws.proofs.Batches.{batch_forms, no_rows_for}
@@ -61,7 +61,7 @@ all_until : (start : Warehouse) (next tables version : ℕ) (batches : List Acce
 all_until start next tables version batches le all = all_pass (IsAccepted start next tables) (λ (a : Accepted). nat_le a.version version) batches (λ a is. le-leb a.version version (omega (arith, is.until))) all
 
 module _ (start : Warehouse) (w : Warehouse) (batches : List Accepted) (law : Law start batches w.store w.next)
-    (there : (w.store.oldest < w.next) ⊎ ((w.store.oldest ≡ 0) × (w.next ≡ 0)))
+    (there : (number : ℕ) (t : Table) → slice_get w.store.tables number ≡ Some t → (t.oldest < w.next) ⊎ ((t.oldest ≡ 0) × (w.next ≡ 0)))
     (nothing : (number : ℕ) (t : Table) → start.next ≡ 0 → start_rows start.store number t 0 ≡ [])
     (words : List RowWords) (batch : List Placed) (is : batch_of (tables_named w.store) words ≡ Ok batch) where
   abbrev more : Accepted
@@ -82,15 +82,15 @@ module _ (start : Warehouse) (w : Warehouse) (batches : List Accepted) (law : La
     rows_are = ap (λ epoch. at_present t epoch (rows_for number batch)) epoch_is ∙ present_now t (rows_for number batch)
 
     -- the newest content is what the law folds up to it
-    newest_at : w.store.oldest < w.next → newest_content t.contents ≡ law_content start number t batches (w.next - 1)
+    newest_at : t.oldest < w.next → newest_content t.contents ≡ law_content start number t batches (w.next - 1)
     newest_at lt =
         let its = law.tables number t at in
-        let place : length t.contents - 1 ≡ w.next - 1 - w.store.oldest = omega (arith, its.versions) in
+        let place : length t.contents - 1 ≡ w.next - 1 - t.oldest = omega (arith, its.versions) in
         newest_last t.contents ∙ ap (λ i. get_or t.contents i []) place ∙ its.contents (w.next - 1) (omega arith) (omega arith)
 
     -- folding the newest content with more rows is folding all that the law folds with them
     newest_folds : (rows : List Row) → folded aggs (newest_content t.contents ∷ rows ∷ []) ≡ folded aggs (oldest_rows ∷ map (accepted_rows number t) batches ++ rows ∷ [])
-    newest_folds rows = elim there [
+    newest_folds rows = elim (there number t at) [
       | inl lt ↦ elim (cases_lt (w.next - 1) start.next) [
         | inl early ↦
             let grows = law.grows in
@@ -134,24 +134,24 @@ module _ (start : Warehouse) (w : Warehouse) (batches : List Accepted) (law : La
         ∙ sym (newest_folds (rows_for number batch))
 
     -- the contents of a loaded table
-    loaded_contents : (version : ℕ) → w.store.oldest ≤ version → version < w.next + 1
-        → slice_index_or (table_loaded t (rows_for number batch)).contents (version - w.store.oldest) [] ≡ law_content start number t (batches ++ more ∷ []) version
+    loaded_contents : (version : ℕ) → t.oldest ≤ version → version < w.next + 1
+        → content_at (table_loaded t (rows_for number batch)) version ≡ law_content start number t (batches ++ more ∷ []) version
     loaded_contents version le lt =
         let its = law.tables number t at in
         let new : List Row = folded aggs (newest_content t.contents ∷ rows_for number batch ∷ []) in
         elim (cases_lt version w.next) [
-          | inl before ↦ get_or_append_left t.contents (new ∷ []) [] (version - w.store.oldest) (omega (arith, its.versions)) ∙ its.contents version le before ∙ sym (law_before version before)
+          | inl before ↦ get_or_append_left t.contents (new ∷ []) [] (version - t.oldest) (omega (arith, its.versions)) ∙ its.contents version le before ∙ sym (law_before version before)
           | inr after ↦
               let same : version ≡ w.next = omega arith in
-              get_or_push t.contents new [] (version - w.store.oldest) (omega (arith, its.versions)) ∙ sym law_new ∙ ap (law_content start number t (batches ++ more ∷ [])) (sym same)
+              get_or_push t.contents new [] (version - t.oldest) (omega (arith, its.versions)) ∙ sym law_new ∙ ap (law_content start number t (batches ++ more ∷ [])) (sym same)
         ]
 
-    loaded_law : LawAt start (batches ++ more ∷ []) w.store.oldest (w.next + 1) number (table_loaded t (rows_for number batch))
+    loaded_law : LawAt start (batches ++ more ∷ []) (w.next + 1) number (table_loaded t (rows_for number batch))
     loaded_law =
         let its = law.tables number t at in
         let new : List Row = folded aggs (newest_content t.contents ∷ rows_for number batch ∷ []) in
         record {
-          versions = length-append t.contents (new ∷ []) ∙ (let count = its.versions in elim there [ inl lt ↦ omega (arith, count) | inr empty ↦ omega (arith, count, empty.0, empty.1) ]);
+          versions = length-append t.contents (new ∷ []) ∙ (let count = its.versions in elim (there number t at) [ inl lt ↦ omega (arith, count) | inr empty ↦ omega (arith, count, empty.0, empty.1) ]);
           started = its.started;
           first = its.first;
           batches = all_append (BatchAt number (table_loaded t (rows_for number batch))) batches (more ∷ [])
@@ -168,7 +168,7 @@ module _ (start : Warehouse) (w : Warehouse) (batches : List Accepted) (law : La
         tables = λ number t' got.
             let from = got_loaded batch 0 w.store.tables number t' got in
             let at : 0 + number ≡ number = omega arith in
-            subst (LawAt start (batches ++ more ∷ []) w.store.oldest (w.next + 1) number) (ap (λ k. table_loaded from.0 (rows_for k batch)) (sym at) ∙ from.2) (loaded_law number from.0 from.1);
+            subst (LawAt start (batches ++ more ∷ []) (w.next + 1) number) (ap (λ k. table_loaded from.0 (rows_for k batch)) (sym at) ∙ from.2) (loaded_law number from.0 from.1);
         more = (let before = law.more in omega (arith, before, count));
         grows = (let before = law.grows in omega (arith, before));
         batches = all_append (IsAccepted start (w.next + 1) (length (tables_loaded batch 0 w.store.tables))) batches (more ∷ [])

@@ -1,6 +1,7 @@
 -- A table or a view more, and an expiry, keep the fold law.
-use Rattle.std.proofs.Common.{◌≡◌, ℕ, ◌+◌, ◌-◌, ◌≤◌, List, [], ◌∷◌, ◌++◌, map, length, drop, filter, set, refl, sym, ◌∙◌, ap, subst, arith, slice_get, slice_index_or, Some, None, nat_le, inl, inr}
+use Rattle.std.proofs.Common.{◌≡◌, ℕ, ◌+◌, ◌-◌, ◌≤◌, List, [], ◌∷◌, ◌++◌, map, length, filter, set, refl, sym, ◌∙◌, ap, subst, arith, slice_get, slice_index_or, Some, None, nat_le, inl, inr}
 use Rattle.std.specs.List.{AllByRecursion}
+use Rattle.std.specs.Prelude.{max}
 use Rattle.std.proofs.lemmas.Bool.{cases_lt}
 use Rattle.std.proofs.lemmas.List.{get_or-drop, get_or-replicate, get_or_past, length-append, length-drop, length-map, length-replicate}
 use Rattle.std.proofs.lemmas.Option.{slice_get_past}
@@ -13,7 +14,7 @@ use Rattle.mesa_schema.specs.Rows.{AreRowsOf}
 use Rattle.mesa_model.specs.declared.commands.ViewWords.{ViewWords}
 use Rattle.mesa_model.specs.Warehouse.{Store, Table, Warehouse}
 use Rattle.mesa_model.specs.Tables.{new_table}
-use Rattle.mesa_model.specs.Versions.{store_from}
+use Rattle.mesa_model.specs.Versions.{store_from, table_from}
 use Rattle.mesa_history.specs.Law.{Accepted, accepted_rows, at_present, law_content, parts_to, start_rows}
 use Rattle.mesa_laws.proofs.Kept.{BatchAt, IsAccepted, Law, LawAt, law_early, law_late, rows_then}
 use Rattle.mesa_laws.proofs.LawAlters.{law_set}
@@ -42,7 +43,7 @@ module _ (start : Warehouse) (batches : List Accepted) (w : Warehouse) (law : La
   not_then = slice_get_past start.store.tables number law.more
 
   no_start_rows : (version : ℕ) → start_rows start.store number t version ≡ []
-  no_start_rows version = ap (rows_then start.store t version) not_then
+  no_start_rows version = ap (rows_then t version) not_then
 
   no_accepted_rows : (a : Accepted) → IsAccepted start w.next number a → accepted_rows number t a ≡ []
   no_accepted_rows a is = ap (at_present t (slice_index_or a.epochs number 0)) (is.within number (omega arith))
@@ -57,16 +58,16 @@ module _ (start : Warehouse) (batches : List Accepted) (w : Warehouse) (law : La
     )
   ]
 
-  new_law : LawAt start batches w.store.oldest w.next number t
+  new_law : LawAt start batches w.next number t
   new_law = record {
-    versions = length-replicate (w.next - w.store.oldest) [];
+    versions = length-replicate (w.next - w.store.floor) [];
     started = λ old is. absurd (let none : None ≡ Some old = sym not_then ∙ is in cc);
     first = subst (AreRowsOf (columns_of t.lineage)) (sym (no_start_rows (start.next - 1))) tt;
     batches = all_so (IsAccepted start w.next number) (BatchAt number t) batches (λ a is. record {
       epoch = (let none = get_or_past a.epochs number 0 is.epochs in omega (arith, none));
       form = subst (AreRowsOf (columns_of t.lineage)) (sym (no_accepted_rows a is)) tt;
     }) law.batches;
-    contents = λ version le lt. get_or-replicate (w.next - w.store.oldest) (version - w.store.oldest) [] [] (omega arith) ∙ sym (no_law version);
+    contents = λ version le lt. get_or-replicate (w.next - w.store.floor) (version - w.store.floor) [] [] (omega arith) ∙ sym (no_law version);
   }
 
   -- A table more keeps the law.
@@ -74,7 +75,7 @@ module _ (start : Warehouse) (batches : List Accepted) (w : Warehouse) (law : La
   law_makes = record {
     tables = λ place t' got. elim (got_push w.store.tables t place t' got) [
       | inl at ↦ law.tables place t' at
-      | inr last ↦ subst (λ n. LawAt start batches w.store.oldest w.next n t') (sym last.0) (subst (LawAt start batches w.store.oldest w.next number) last.1 new_law)
+      | inr last ↦ subst (λ n. LawAt start batches w.next n t') (sym last.0) (subst (LawAt start batches w.next number) last.1 new_law)
     ];
     more = (let before = law.more in omega (arith, before, length-append w.store.tables (t ∷ [])));
     grows = law.grows;
@@ -88,8 +89,8 @@ module _ (start : Warehouse) (batches : List Accepted) (w : Warehouse) (law : La
 
 -- ---- a view more
 
-viewed_law : (start : Warehouse) (batches : List Accepted) (oldest next number : ℕ) (t : Table) (words : ViewWords) → LawAt start batches oldest next number t → LawAt start batches oldest next number (viewed t words)
-viewed_law start batches oldest next number t words its = record {
+viewed_law : (start : Warehouse) (batches : List Accepted) (next number : ℕ) (t : Table) (words : ViewWords) → LawAt start batches next number t → LawAt start batches next number (viewed t words)
+viewed_law start batches next number t words its = record {
   versions = its.versions;
   started = its.started;
   first = its.first;
@@ -100,34 +101,33 @@ viewed_law start batches oldest next number t words its = record {
 -- A view more keeps the law.
 pub law_views : (start : Warehouse) (batches : List Accepted) (s : Store) (next number : ℕ) (t : Table) (words : ViewWords) → Law start batches s next → slice_get s.tables number ≡ Some t
     → Law start batches (record s { tables = set s.tables number (viewed t words) }) next
-law_views start batches s next number t words law at = law_set start batches s next number (viewed t words) law (viewed_law start batches s.oldest next number t words (law.tables number t at))
+law_views start batches s next number t words law at = law_set start batches s next number (viewed t words) law (viewed_law start batches next number t words (law.tables number t at))
 
 -- ---- an expiry
 
--- a table without its contents of the oldest so many versions
-abbrev without_versions : ℕ → Table → Table
-without_versions versions t = record t { contents = drop versions t.contents }
-
-expired_law : (start : Warehouse) (batches : List Accepted) (oldest next number version : ℕ) (t : Table) → oldest ≤ version → LawAt start batches oldest next number t → LawAt start batches version next number (without_versions (version - oldest) t)
-expired_law start batches oldest next number version t le its = record {
-  versions = (let count = its.versions in omega (arith, count, length-drop (version - oldest) t.contents));
+expired_law : (start : Warehouse) (batches : List Accepted) (next number version : ℕ) (t : Table) → LawAt start batches next number t → LawAt start batches next number (table_from version t)
+expired_law start batches next number version t its = record {
+  versions = (let count = its.versions in omega (arith, count, length-drop (version - t.oldest) t.contents));
   started = its.started;
   first = its.first;
-  batches = all_so (BatchAt number t) (BatchAt number (without_versions (version - oldest) t)) batches (λ a is. record { epoch = is.epoch; form = is.form }) its.batches;
+  batches = all_so (BatchAt number t) (BatchAt number (table_from version t)) batches (λ a is. record { epoch = is.epoch; form = is.form }) its.batches;
   contents = λ v above lt.
-      let place : version - oldest + (v - version) ≡ v - oldest = omega arith in
-      get_or-drop (version - oldest) t.contents (v - version) [] ∙ ap (λ i. slice_index_or t.contents i []) place ∙ its.contents v (omega arith) lt;
+      let place : version - t.oldest + (v - max t.oldest version) ≡ v - t.oldest = omega (arith, above) in
+      get_or-drop (version - t.oldest) t.contents (v - max t.oldest version) [] ∙ ap (λ i. slice_index_or t.contents i []) place ∙ its.contents v (omega (arith, above)) lt;
 }
 
--- An expiry keeps the law.
-pub law_expires : (start : Warehouse) (batches : List Accepted) (s : Store) (next version : ℕ) → s.oldest ≤ version → Law start batches s next → Law start batches (store_from s version) next
-law_expires start batches s next version le law =
-    let drops : Table → Table = without_versions (version - s.oldest) in
-    record {
-      tables = λ number t' got.
-          let from = got_map drops s.tables number t' got in
-          subst (LawAt start batches version next number) from.2 (expired_law start batches s.oldest next number version from.0 le (law.tables number from.0 from.1));
-      more = (let before = law.more in omega (arith, before, length-map s.tables drops));
-      grows = law.grows;
-      batches = subst (λ n. AllByRecursion (IsAccepted start next n) batches) (sym (length-map s.tables drops)) law.batches;
-    }
+-- An expiry of all tables keeps the law.
+pub law_expires : (start : Warehouse) (batches : List Accepted) (s : Store) (next version : ℕ) → Law start batches s next → Law start batches (store_from s version) next
+law_expires start batches s next version law = record {
+  tables = λ number t' got.
+      let from = got_map (table_from version) s.tables number t' got in
+      subst (LawAt start batches next number) from.2 (expired_law start batches next number version from.0 (law.tables number from.0 from.1));
+  more = (let before = law.more in omega (arith, before, length-map s.tables (table_from version)));
+  grows = law.grows;
+  batches = subst (λ n. AllByRecursion (IsAccepted start next n) batches) (sym (length-map s.tables (table_from version))) law.batches;
+}
+
+-- An expiry of one table keeps the law.
+pub law_expires_one : (start : Warehouse) (batches : List Accepted) (s : Store) (next number version : ℕ) (t : Table) → Law start batches s next → slice_get s.tables number ≡ Some t
+    → Law start batches (record s { tables = set s.tables number (table_from version t) }) next
+law_expires_one start batches s next number version t law at = law_set start batches s next number (table_from version t) law (expired_law start batches next number version t (law.tables number t at))

@@ -1,5 +1,5 @@
--- What a turn makes of the tables and the number of versions: nothing, or what one of five commands makes of them.
-use Rattle.std.proofs.Common.{◌≡◌, ℕ, ◌+◌, List, [], ◌∷◌, ◌++◌, length, true, false, subst, sym, Some, Result, Ok, Err, is_none, is_ok, nat_le}
+-- What a turn makes of the tables and the number of versions: nothing, or what one of six commands makes of them.
+use Rattle.std.proofs.Common.{◌≡◌, ℕ, ◌+◌, List, [], ◌∷◌, ◌++◌, length, true, false, subst, sym, Option, Some, None, Result, Ok, Err, is_none, is_ok, nat_le}
 use Rattle.mesa_schema.specs.declared.changes.Change.{Change}
 use Rattle.mesa_schema.specs.Changes.{change_checked, columns_of}
 use Rattle.mesa_schema.specs.Names.{is_name}
@@ -23,7 +23,7 @@ use Rattle.mesa_model.specs.Load.{bounds_checked, load_batch, tables_named, with
 use Rattle.mesa_model.specs.Relations.{is_taken, table_number}
 use Rattle.mesa_model.specs.Step.{done_or_refused, reply_to_query, step}
 use Rattle.mesa_model.specs.Tables.{alter_table, change_asked, columns_asked, make_table, make_view, names_are_good, new_table, table_changed, view_of_table_checked}
-use Rattle.mesa_model.specs.Versions.{expire_to, store_from, version_asked, version_checked}
+use Rattle.mesa_model.specs.Versions.{common_oldest, expire_to, store_from, table_from, version_asked, version_checked}
 use Rattle.mesa_model.specs.Pins.{make_pin, pin_of, release_pin}
 use Rattle.mesa_model.specs.Query.{Answer, query_answer}
 use Rattle.mesa_model.specs.Refusals.{refuse_closed}
@@ -49,7 +49,9 @@ pub record Moves (w : Warehouse) (P : Store → ℕ → List Accepted → Type 0
   pub alters : (words : AlterWords) (number : ℕ) (c : Change) → table_number w.store words.table ≡ Some number
       → change_asked (columns_of (table_at w.store number).lineage) words.change ≡ Ok c → is_ok (change_checked (table_at w.store number).lineage c) ≡ true
       → P (with_table w number (table_changed (table_at w.store number) c)).store w.next []
-  pub expires : (version : ℕ) → is_ok (version_checked w version) ≡ true → P (store_from w.store version) w.next []
+  pub expires : (version : ℕ) → is_ok (version_checked w w.store.floor version) ≡ true → P (store_from w.store version) w.next []
+  pub expires_one : (name : List ℕ) (number version : ℕ) → table_number w.store name ≡ Some number → is_ok (version_checked w (table_at w.store number).oldest version) ≡ true
+      → P (with_table w number (table_from version (table_at w.store number))).store w.next []
 
 -- It holds once a command was done or refused.
 record Done (w : Warehouse) (P : Store → ℕ → List Accepted → Type 0) (c : Command) (r : Result (Warehouse × Reply) Refusal) : Type 0 where
@@ -90,17 +92,22 @@ module _ (w : Warehouse) (P : Store → ℕ → List Accepted → Type 0) (moves
       after_other_check D no _ (change_checked (table_at w.store number).lineage c) _ (λ rules.
       record { holds = moves.alters words number c is asked rules }))))
 
-  expire_moves : (version : ℕ) → Done w P (command.Expire version) (expire_to w version)
-  expire_moves version =
-      let D = Done w P (command.Expire version) in
-      let no = refused (command.Expire version) in
-      after_check D no (refuse_closed w.closed) _ (λ open'. after_check D no (version_checked w version) _ (λ there. record { holds = moves.expires version there }))
+  expire_moves : (table : Option (List ℕ)) (version : ℕ) → Done w P (command.Expire table version) (expire_to w table version)
+  expire_moves None version =
+      let D = Done w P (command.Expire None version) in
+      let no = refused (command.Expire None version) in
+      after_check D no (refuse_closed w.closed) _ (λ open'. after_check D no (version_checked w w.store.floor version) _ (λ there. record { holds = moves.expires version there }))
+  expire_moves (Some name) version =
+      let D = Done w P (command.Expire (Some name) version) in
+      let no = refused (command.Expire (Some name) version) in
+      after_check D no (refuse_closed w.closed) _ (λ open'. after_some D no (table_number w.store name) _ _ (λ number is. after_check D no (version_checked w (table_at w.store number).oldest version) _ (λ there.
+      record { holds = moves.expires_one name number version is there })))
 
   pin_moves : (session : ℕ) (asked : VersionWord) → Done w P (command.Pin asked) (make_pin w session asked)
   pin_moves session asked =
       let D = Done w P (command.Pin asked) in
       let no = refused (command.Pin asked) in
-      after_check D no (refuse_closed w.closed) _ (λ open'. after_value D no (version_asked w asked) _ (λ version is. after_refuse_if D no (nat_le max_pins (length w.pins)) _ _ (λ room. record { holds = moves.same })))
+      after_check D no (refuse_closed w.closed) _ (λ open'. after_value D no (version_asked w (common_oldest w.store) asked) _ (λ version is. after_refuse_if D no (nat_le max_pins (length w.pins)) _ _ (λ room. record { holds = moves.same })))
 
   release_moves : (session token : ℕ) → Done w P (command.Release token) (release_pin w session token)
   release_moves session token =
@@ -127,5 +134,5 @@ module _ (w : Warehouse) (P : Store → ℕ → List Accepted → Type 0) (moves
   step_moves session (command.Explain words) = (nothing_moves (command.Explain words)).holds
   step_moves session (command.Pin asked) = (pin_moves session asked).holds
   step_moves session (command.Release token) = (release_moves session token).holds
-  step_moves session (command.Expire version) = (expire_moves version).holds
+  step_moves session (command.Expire table version) = (expire_moves table version).holds
   step_moves session (command.Work name) = (nothing_moves (command.Work name)).holds

@@ -24,7 +24,7 @@ use Rattle.mesa_model.specs.Load.{bounds_checked, load_batch, tables_named}
 use Rattle.mesa_model.specs.Relations.{is_taken, relation_of, table_number}
 use Rattle.mesa_model.specs.Step.{done_or_refused}
 use Rattle.mesa_model.specs.Tables.{alter_table, change_asked, columns_asked, make_table, make_view, names_are_good, view_of_table_checked}
-use Rattle.mesa_model.specs.Versions.{expire_to, version_asked, version_checked}
+use Rattle.mesa_model.specs.Versions.{common_oldest, expire_to, version_asked, version_checked}
 use Rattle.mesa_model.specs.Pins.{make_pin, pin_of, release_pin}
 use Rattle.mesa_model.specs.Refusals.{refuse_closed}
 use Rattle.mesa_history.specs.Machine.{Claim, Machine, claim_of, explained, ranges_at, refuse_busy, swapped_reply}
@@ -85,7 +85,7 @@ module _ (w : Warehouse) where
   pub pin_tells : (session : ℕ) (asked : VersionWord) → NoPage (done_or_refused w (make_pin w session asked)).1
   pin_tells session asked =
       let all : Tells (make_pin w session asked) =
-      after_check Tells no (refuse_closed w.closed) _ (λ open'. after_value Tells no (version_asked w asked) _ (λ version is. after_refuse_if Tells no (nat_le max_pins (length w.pins)) _ _ (λ room. record { none = λ page is. cc }))) in
+      after_check Tells no (refuse_closed w.closed) _ (λ open'. after_value Tells no (version_asked w (common_oldest w.store) asked) _ (λ version is. after_refuse_if Tells no (nat_le max_pins (length w.pins)) _ _ (λ room. record { none = λ page is. cc }))) in
       all.none
 
   pub release_tells : (session token : ℕ) → NoPage (done_or_refused w (release_pin w session token)).1
@@ -94,10 +94,14 @@ module _ (w : Warehouse) where
       after_check Tells no (refuse_closed w.closed) _ (λ open'. after_refuse_if Tells no (is_none (pin_of w session token)) _ _ (λ held. record { none = λ page is. cc })) in
       all.none
 
-  pub expire_tells : (version : ℕ) → NoPage (done_or_refused w (expire_to w version)).1
-  expire_tells version =
-      let all : Tells (expire_to w version) =
-      after_check Tells no (refuse_closed w.closed) _ (λ open'. after_check Tells no (version_checked w version) _ (λ there. record { none = λ page is. cc })) in
+  pub expire_tells : (table : Option (List ℕ)) (version : ℕ) → NoPage (done_or_refused w (expire_to w table version)).1
+  expire_tells None version =
+      let all : Tells (expire_to w None version) =
+      after_check Tells no (refuse_closed w.closed) _ (λ open'. after_check Tells no (version_checked w w.store.floor version) _ (λ there. record { none = λ page is. cc })) in
+      all.none
+  expire_tells (Some name) version =
+      let all : Tells (expire_to w (Some name) version) =
+      after_check Tells no (refuse_closed w.closed) _ (λ open'. after_some Tells no (table_number w.store name) _ _ (λ number at. after_check Tells no (version_checked w (table_at w.store number).oldest version) _ (λ there. record { none = λ page is. cc }))) in
       all.none
 
 -- ---- the range machine
@@ -111,7 +115,7 @@ module _ (w : Warehouse) (m : Machine) where
   explain_tells words r =
       let no : (e : Refusal) → Explains (Err e) = λ e. record { none = λ other is page same. cc } in
       let all : Explains (explained w m words) =
-      after_check Explains no (refuse_closed w.closed) _ (λ open'. after_some Explains no (relation_of w.store words.relation) _ _ (λ relation is. after_value Explains no (version_asked w words.version) _ (λ version there.
+      after_check Explains no (refuse_closed w.closed) _ (λ open'. after_some Explains no (relation_of w.store words.relation) _ _ (λ relation is. after_value Explains no (version_asked w relation.table.oldest words.version) _ (λ version there.
       record { none = λ other is page same. cc }))) in
       all.none r
 
@@ -137,7 +141,7 @@ module _ (w : Warehouse) (m : Machine) where
       not_granted_closed (refuse_closed w.closed) _ (
       not_there (table_number w.store name) _ _ (λ page is. cc) (λ table.
       not_free (holder m.leases table position) _ (
-      not_there (next_work (ranges_at m table) w.store.oldest (newest_of w)) _ _ (λ page is. cc) (λ work. record { none = λ other is page same. cc })))) in
+      not_there (next_work (ranges_at m table) (table_at w.store table).oldest (newest_of w)) _ _ (λ page is. cc) (λ work. record { none = λ other is page same. cc })))) in
       all.none r
 
 pub swap_tells : (w : Work) → NoPage (swapped_reply w)

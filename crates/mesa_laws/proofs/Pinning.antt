@@ -1,5 +1,5 @@
 -- Each held pin was given in the history, and holds the tables as they stood there.
-use Rattle.std.proofs.Common.{◌≡◌, ℕ, ◌<◌, ◌≤◌, List, [], ◌∷◌, ◌++◌, length, refl, sym, ◌∙◌, ap, subst, append_assoc, not, is_none, nat_le, ◌⊎◌, inl, inr, Some, Result, Ok, Err}
+use Rattle.std.proofs.Common.{◌≡◌, ℕ, ◌<◌, ◌≤◌, List, [], ◌∷◌, ◌++◌, length, refl, sym, ◌∙◌, ap, subst, append_assoc, not, is_none, nat_le, ◌⊎◌, inl, inr, Some, None, Result, Ok, Err}
 use Rattle.std.specs.List.{AllByRecursion}
 use Rattle.std.proofs.lemmas.List.{append-nil}
 use Rattle.mesa_list.specs.Checks.{◌>>◌}
@@ -21,7 +21,7 @@ use Rattle.mesa_model.specs.Load.{bounds_checked, load_batch, tables_named}
 use Rattle.mesa_model.specs.Relations.{is_taken, table_number}
 use Rattle.mesa_model.specs.Step.{done_or_refused, step}
 use Rattle.mesa_model.specs.Tables.{alter_table, change_asked, columns_asked, make_table, make_view, names_are_good, view_of_table_checked}
-use Rattle.mesa_model.specs.Versions.{expire_to, version_asked, version_checked}
+use Rattle.mesa_model.specs.Versions.{common_oldest, expire_to, version_asked, version_checked}
 use Rattle.mesa_model.specs.Pins.{is_pin, make_pin, pin_of, release_pin, store_at}
 use Rattle.mesa_model.specs.Refusals.{refuse_closed}
 use Rattle.mesa_history.specs.Run.{Run, State, Told, begins}
@@ -32,14 +32,14 @@ use Rattle.mesa_laws.proofs.Checks.{after_check, after_other, after_other_check,
 use Rattle.mesa_laws.proofs.FromTheFold.{asked_there}
 use Rattle.mesa_schema.proofs.Lists.{all_append, all_filter, all_so}
 use Rattle.mesa_laws.proofs.TurnKinds.{Stays, Steps, turned_does}
-use Rattle.mesa_laws.proofs.WellFormed.{runs_well}
+use Rattle.mesa_laws.proofs.WellFormed.{common_kept, runs_well}
 
 -- a pin that a command's reply tells of
 record IsNew (w : Warehouse) (session : ℕ) (told : Reply) (pin : Pin) : Type 0 where
   mine : session ≡ pin.session
   tells : told ≡ reply.Pinned pin.token pin.version
   store : pin.store ≡ store_at w.store pin.version
-  above : w.store.oldest ≤ pin.version
+  above : common_oldest w.store ≤ pin.version
   below : pin.version < w.next
 
 -- ---- a command
@@ -63,8 +63,8 @@ module _ (w : Warehouse) (is : IsWellFormed w) (session : ℕ) (Q : Pin → Type
 
   pin_keeps : (asked : VersionWord) → Pins (make_pin w session asked)
   pin_keeps asked =
-      after_check Pins no (refuse_closed w.closed) _ (λ open'. after_value Pins no (version_asked w asked) _ (λ version told. after_refuse_if Pins no (nat_le max_pins (length w.pins)) _ _ (λ room.
-      let there = asked_there w is asked version told in
+      after_check Pins no (refuse_closed w.closed) _ (λ open'. after_value Pins no (version_asked w (common_oldest w.store) asked) _ (λ version told. after_refuse_if Pins no (nat_le max_pins (length w.pins)) _ _ (λ room.
+      let there = asked_there w (common_oldest w.store) (common_kept w is) asked version told in
       record { each = all_append (IsKept _) w.pins _ (old _) (inr (record { mine = refl; tells = refl; store = refl; above = there.0; below = there.1 }), tt) })))
 
   release_keeps : (token : ℕ) → Pins (release_pin w session token)
@@ -101,9 +101,13 @@ module _ (w : Warehouse) (is : IsWellFormed w) (session : ℕ) (Q : Pin → Type
   pins_kept (command.Explain words) = nothing_keeps.each
   pins_kept (command.Pin asked) = (pin_keeps asked).each
   pins_kept (command.Release token) = (release_keeps token).each
-  pins_kept (command.Expire version) =
-      let all : Pins (expire_to w version) =
-      after_check Pins no (refuse_closed w.closed) _ (λ open'. after_check Pins no (version_checked w version) _ (λ there. record { each = old _ })) in
+  pins_kept (command.Expire None version) =
+      let all : Pins (expire_to w None version) =
+      after_check Pins no (refuse_closed w.closed) _ (λ open'. after_check Pins no (version_checked w w.store.floor version) _ (λ there. record { each = old _ })) in
+      all.each
+  pins_kept (command.Expire (Some name) version) =
+      let all : Pins (expire_to w (Some name) version) =
+      after_check Pins no (refuse_closed w.closed) _ (λ open'. after_some Pins no (table_number w.store name) _ _ (λ number at. after_check Pins no (version_checked w (table_at w.store number).oldest version) _ (λ there. record { each = old _ }))) in
       all.each
   pins_kept (command.Work name) = nothing_keeps.each
 

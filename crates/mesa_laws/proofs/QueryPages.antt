@@ -64,7 +64,7 @@ module _ (words : QueryWords) (limit : ℕ) (some : 0 < limit) where
     columns = relation_columns relation
 
     abbrev rows : List Row
-    rows = answer_rows columns asked (relation_content store relation version)
+    rows = answer_rows columns asked (relation_content relation version)
 
     abbrev reads : List ℕ → Result (Option (List ℕ)) QueryError
     reads text = resume_of columns words.relation version (epoch_of relation.table.lineage) asked.columns text
@@ -76,7 +76,7 @@ module _ (words : QueryWords) (limit : ℕ) (some : 0 < limit) where
 
     -- the query is answered there over these rows, whatever the resume key
     abbrev pub AnswersThere : Asking → Type 0
-    AnswersThere asking = (text : List ℕ) (resume : Option (List ℕ)) → reads text ≡ Ok resume → query_answer asking.warehouse asking.session (W limit text) ≡ Ok (answer_over store relation (W limit text) version asked resume)
+    AnswersThere asking = (text : List ℕ) (resume : Option (List ℕ)) → reads text ≡ Ok resume → query_answer asking.warehouse asking.session (W limit text) ≡ Ok (answer_over relation (W limit text) version asked resume)
 
     -- The pages that are asked for are those of the answer's rows.
     pages_are : (askings : List Asking) (text : List ℕ) (resume : Option (List ℕ)) → AllByRecursion AnswersThere askings → reads text ≡ Ok resume → pages_asked_at askings (W limit text) ≡ pages_from version rows resume (replicate (length askings) limit)
@@ -105,9 +105,9 @@ record Answered (w : Warehouse) (session : ℕ) (words : QueryWords) (all : ℕ)
   version : ℕ
   sees : store_asked w session words.version ≡ Ok store
   found : relation_of store words.relation ≡ Some relation
-  page : whole.page ≡ page_of version all None (answer_rows (relation_columns relation) asked (relation_content store relation version))
+  page : whole.page ≡ page_of version all None (answer_rows (relation_columns relation) asked (relation_content relation version))
   answers : (limit : ℕ) (text : List ℕ) (resume : Option (List ℕ)) → resume_of (relation_columns relation) words.relation version (epoch_of relation.table.lineage) asked.columns text ≡ Ok resume
-      → query_answer w session (record words { limit = limit; resume = text }) ≡ Ok (answer_over store relation (record words { limit = limit; resume = text }) version asked resume)
+      → query_answer w session (record words { limit = limit; resume = text }) ≡ Ok (answer_over relation (record words { limit = limit; resume = text }) version asked resume)
 
 -- a check that has passed passes again
 opened : {A B E : Type 0} (r : Result A E) (next other : Result B E) (y : B) → (r >> next) ≡ Ok y → (r >> other) ≡ other
@@ -117,16 +117,16 @@ opened (Err e) next other y is = cc
 answered : (w : Warehouse) (session : ℕ) (words : QueryWords) (all : ℕ) (whole : Answer) → query_answer w session (from_first words all) ≡ Ok whole → Answered w session words all whole
 answered w session words all whole is =
     let first : QueryWords = from_first words all in
-    let over : Store → Result Answer Refusal = λ (s : Store). answer_in s first (version_seen w s words.version) in
+    let over : Store → Result Answer Refusal = λ (s : Store). answer_in s first (λ t. version_seen w s t words.version) in
     let open' = passed (refuse_closed w.closed) (store_asked w session words.version >>= over) whole is in
     let store = bound (store_asked w session words.version) over whole open' in
     let s : Store = store.0 in
     let relation = bound_some (relation_of s words.relation) no_such_table _ whole store.2 in
     let r : Relation = relation.0 in
     let asked = bound_other query_refusal (asked_of (relation_columns r) first) _ whole relation.2 in
-    let version = bound (version_seen w s words.version) _ whole asked.2 in
-    let last : Ok (answer_over s r first version.0 asked.0 None) ≡ Ok whole = version.2 in
-    let same : answer_over s r first version.0 asked.0 None ≡ whole = cc in
+    let version = bound (version_seen w s r.table words.version) _ whole asked.2 in
+    let last : Ok (answer_over r first version.0 asked.0 None) ≡ Ok whole = version.2 in
+    let same : answer_over r first version.0 asked.0 None ≡ whole = cc in
     record {
       store = s;
       relation = r;
@@ -138,13 +138,13 @@ answered w session words all whole is =
       answers = λ limit text resume reads.
           let again : QueryWords = record words { limit = limit; resume = text } in
           let more : Relation → Asked → ℕ → Result Answer Refusal = λ (x : Relation) (a : Asked) (v : ℕ).
-          refused_as query_refusal (resume_of (relation_columns x) words.relation v (epoch_of x.table.lineage) a.columns text) >>= (λ (key : Option (List ℕ)). Ok (answer_over s x again v a key)) in
-          opened (refuse_closed w.closed) (store_asked w session words.version >>= over) (store_asked w session words.version >>= (λ (s : Store). answer_in s again (version_seen w s words.version))) whole is
-          ∙ ap (λ o. o >>= (λ (s : Store). answer_in s again (version_seen w s words.version))) store.1
-          ∙ ap (λ o. ok_or o no_such_table >>= (λ (x : Relation). refused_as query_refusal (asked_of (relation_columns x) again) >>= (λ (a : Asked). version_seen w s words.version >>= (λ (v : ℕ). more x a v)))) relation.1
-          ∙ ap (λ o. refused_as query_refusal o >>= (λ (a : Asked). version_seen w s words.version >>= (λ (v : ℕ). more r a v))) asked.1
+          refused_as query_refusal (resume_of (relation_columns x) words.relation v (epoch_of x.table.lineage) a.columns text) >>= (λ (key : Option (List ℕ)). Ok (answer_over x again v a key)) in
+          opened (refuse_closed w.closed) (store_asked w session words.version >>= over) (store_asked w session words.version >>= (λ (s : Store). answer_in s again (λ t. version_seen w s t words.version))) whole is
+          ∙ ap (λ o. o >>= (λ (s : Store). answer_in s again (λ t. version_seen w s t words.version))) store.1
+          ∙ ap (λ o. ok_or o no_such_table >>= (λ (x : Relation). refused_as query_refusal (asked_of (relation_columns x) again) >>= (λ (a : Asked). version_seen w s x.table words.version >>= (λ (v : ℕ). more x a v)))) relation.1
+          ∙ ap (λ o. refused_as query_refusal o >>= (λ (a : Asked). version_seen w s r.table words.version >>= (λ (v : ℕ). more r a v))) asked.1
           ∙ ap (λ o. o >>= (λ (v : ℕ). more r asked.0 v)) version.1
-          ∙ ap (λ o. refused_as query_refusal o >>= (λ (key : Option (List ℕ)). Ok (answer_over s r again version.0 asked.0 key))) reads;
+          ∙ ap (λ o. refused_as query_refusal o >>= (λ (key : Option (List ℕ)). Ok (answer_over r again version.0 asked.0 key))) reads;
     }
 
 -- ---- the whole answer
@@ -167,7 +167,7 @@ module _ (w : Warehouse) (session : ℕ) (words : QueryWords) (limit all : ℕ) 
   read_whole =
       let made = answered w session words all whole is in
       let columns : Columns = relation_columns made.relation in
-      let content : List Row = relation_content made.store made.relation made.version in
+      let content : List Row = relation_content made.relation made.version in
       let rows : List Row = answer_rows columns made.asked content in
       let told : (page_of made.version all None rows).resume ≡ None = ap (λ (p : Page). p.resume) (sym made.page) ∙ last in
       let kept : IsStored made.store = stored made.store made.sees in
@@ -201,8 +201,8 @@ module _ (w : Warehouse) (session : ℕ) (words : QueryWords) (limit all : ℕ) 
 pub whole_there : (w : Warehouse) (session : ℕ) (words : QueryWords) (limit : ℕ) (first : Answer) → query_answer w session (from_first words limit) ≡ Ok first → (whole : Answer) × IsWholeAnswer w session words whole
 whole_there w session words limit first is =
     let made = answered w session words limit first is in
-    let rows : List Row = answer_rows (relation_columns made.relation) made.asked (relation_content made.store made.relation made.version) in (
-      answer_over made.store made.relation (from_first words (length rows)) made.version made.asked None,
+    let rows : List Row = answer_rows (relation_columns made.relation) made.asked (relation_content made.relation made.version) in (
+      answer_over made.relation (from_first words (length rows)) made.version made.asked None,
       record {
         limit = length rows;
         answers = made.answers (length rows) [] None refl;

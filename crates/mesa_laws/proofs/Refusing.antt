@@ -1,5 +1,5 @@
 -- A refused command changes nothing.
-use Rattle.std.proofs.Common.{◌≡◌, ℕ, length, refl, Result, Ok, Err, is_none, nat_le}
+use Rattle.std.proofs.Common.{◌≡◌, ℕ, length, refl, Some, None, Result, Ok, Err, is_none, nat_le}
 use Rattle.mesa_list.specs.Checks.{◌>>◌}
 use Rattle.mesa_schema.specs.Changes.{change_checked, columns_of}
 use Rattle.mesa_schema.specs.Names.{is_name}
@@ -15,7 +15,7 @@ use Rattle.mesa_model.specs.Load.{bounds_checked, load_batch, tables_named}
 use Rattle.mesa_model.specs.Relations.{is_taken, table_number}
 use Rattle.mesa_model.specs.Step.{done_or_refused, step}
 use Rattle.mesa_model.specs.Tables.{alter_table, change_asked, columns_asked, make_table, make_view, names_are_good, view_of_table_checked}
-use Rattle.mesa_model.specs.Versions.{expire_to, version_asked, version_checked}
+use Rattle.mesa_model.specs.Versions.{common_oldest, expire_to, version_asked, version_checked}
 use Rattle.mesa_model.specs.Pins.{make_pin, pin_of, release_pin}
 use Rattle.mesa_model.specs.Refusals.{refuse_closed}
 use Rattle.mesa_laws.proofs.Checks.{after_check, after_other, after_other_check, after_refuse_if, after_refuse_unless, after_some, after_value}
@@ -63,14 +63,18 @@ module _ (w : Warehouse) where
   refused_stays session (command.Explain words) = nothing_stays.same
   refused_stays session (command.Pin asked) =
       let all : S (make_pin w session asked) =
-      after_check S no (refuse_closed w.closed) _ (λ open'. after_value S no (version_asked w asked) _ (λ version is. after_refuse_if S no (nat_le max_pins (length w.pins)) _ _ (λ room. record { same = λ refusal is. cc }))) in
+      after_check S no (refuse_closed w.closed) _ (λ open'. after_value S no (version_asked w (common_oldest w.store) asked) _ (λ version is. after_refuse_if S no (nat_le max_pins (length w.pins)) _ _ (λ room. record { same = λ refusal is. cc }))) in
       all.same
   refused_stays session (command.Release token) =
       let all : S (release_pin w session token) =
       after_check S no (refuse_closed w.closed) _ (λ open'. after_refuse_if S no (is_none (pin_of w session token)) _ _ (λ held. record { same = λ refusal is. cc })) in
       all.same
-  refused_stays session (command.Expire version) =
-      let all : S (expire_to w version) =
-      after_check S no (refuse_closed w.closed) _ (λ open'. after_check S no (version_checked w version) _ (λ there. record { same = λ refusal is. cc })) in
+  refused_stays session (command.Expire None version) =
+      let all : S (expire_to w None version) =
+      after_check S no (refuse_closed w.closed) _ (λ open'. after_check S no (version_checked w w.store.floor version) _ (λ there. record { same = λ refusal is. cc })) in
+      all.same
+  refused_stays session (command.Expire (Some name) version) =
+      let all : S (expire_to w (Some name) version) =
+      after_check S no (refuse_closed w.closed) _ (λ open'. after_some S no (table_number w.store name) _ _ (λ number at. after_check S no (version_checked w (table_at w.store number).oldest version) _ (λ there. record { same = λ refusal is. cc }))) in
       all.same
   refused_stays session (command.Work name) = nothing_stays.same

@@ -126,3 +126,9 @@ names_loaded batch number (t ∷ tables) = ap (λ names. names_in t ++ names) (n
 pub names_mapped : (f : Table → Table) (tables : List Table) → ((t : Table) → names_in (f t) ≡ names_in t) → names_of (map f tables) ≡ names_of tables
 names_mapped f [] same = refl
 names_mapped f (t ∷ tables) same = λ i. same t i ++ names_mapped f tables same i
+
+-- So does a table in the place of one with the same names.
+pub names_set : (tables : List Table) (number : ℕ) (t other : Table) → slice_get tables number ≡ Some t → names_in other ≡ names_in t → names_of (set tables number other) ≡ names_of tables
+names_set [] number t other at same = refl
+names_set (x ∷ tables) zero t other at same = (let is : x ≡ t = cc in ap (λ names. names ++ names_of tables) (same ∙ ap names_in (sym is)))
+names_set (x ∷ tables) (suc number) t other at same = ap (λ names. names_in x ++ names) (names_set tables number t other at same)

@@ -1,6 +1,6 @@
 -- A table through a history: while its epoch is the same, so is each content that can still be queried.
-use Rattle.std.proofs.Common.{◌≡◌, ℕ, zero, suc, ◌+◌, ◌-◌, ◌≤◌, List, [], ◌∷◌, ◌++◌, length, drop, set, refl, sym, ◌∙◌, ap, subst, arith, append_assoc, slice_get, slice_index_or, Some, ◌⊎◌, inl, inr}
-use Rattle.std.specs.Prelude.{option_map}
+use Rattle.std.proofs.Common.{◌≡◌, ℕ, zero, suc, ◌+◌, ◌-◌, ◌≤◌, List, [], ◌∷◌, ◌++◌, length, set, refl, sym, ◌∙◌, ap, subst, arith, append_assoc, slice_get, slice_index_or, Some, ◌⊎◌, inl, inr}
+use Rattle.std.specs.Prelude.{max, option_map}
 use Rattle.std.proofs.lemmas.List.{append-nil, get_or-drop, get_or_append_left, length-append}
 use Rattle.std.proofs.lemmas.Option.{get_or_from_slice_get, slice_get-map}
 use Rattle.mesa_schema.specs.declared.changes.Change.{Change}
@@ -17,14 +17,14 @@ use Rattle.mesa_model.specs.Warehouse.{Store, Table, Warehouse, no_table, table_
 use Rattle.mesa_model.specs.WellFormed.{IsTable, IsWellFormed}
 use Rattle.mesa_model.specs.Load.{newest_content, table_loaded, tables_loaded, with_batch}
 use Rattle.mesa_model.specs.Tables.{table_changed}
-use Rattle.mesa_model.specs.Versions.{store_from}
+use Rattle.mesa_model.specs.Versions.{store_from, table_from}
 use Rattle.mesa_history.specs.Run.{Run}
 use Rattle.mesa_history.specs.Replay.{go, runs}
 use Rattle.mesa_laws.specs.Later.{IsLater}
 use Rattle.mesa_schema.proofs.Lists.{all_got}
 use Rattle.mesa_laws.proofs.Moves.{Moves, viewed}
 use Rattle.mesa_laws.proofs.Turns.{go_moves}
-use Rattle.mesa_laws.proofs.WellFormed.{go_well, version_there}
+use Rattle.mesa_laws.proofs.WellFormed.{go_well}
 
 -- ---- elements that are there after a list was changed
 
@@ -56,55 +56,54 @@ loaded_there batch n (x ∷ tables) (suc i) t at =
 -- The table of a number is there later on.
 pub record Stays (before : Warehouse) (number : ℕ) (t : Table) (now : Store) (next : ℕ) : Type 0 where
   pub grown : before.next ≤ next
-  pub older : before.store.oldest ≤ now.oldest
   pub table : Table
   pub there : slice_get now.tables number ≡ Some table
-  pub later : IsLater before t now table
+  pub later : IsLater before t table
 
 module _ (before : Warehouse) (number : ℕ) (t : Table) (w : Warehouse) (is : IsWellFormed w) (stays : Stays before number t w.store w.next) where
   abbrev table : Table
   table = stays.table
 
   -- another table in its place, which has the same contents
-  in_its_place : (s : Store) (next : ℕ) (other : Table) → w.next ≤ next → w.store.oldest ≤ s.oldest → slice_get s.tables number ≡ Some other → IsLater before t s other → Stays before number t s next
-  in_its_place s next other grown older there later =
+  in_its_place : (s : Store) (next : ℕ) (other : Table) → w.next ≤ next → slice_get s.tables number ≡ Some other → IsLater before t other → Stays before number t s next
+  in_its_place s next other grown there later =
       let was = stays.grown in
-      let old = stays.older in
-      record { grown = omega (arith, was, grown); older = omega (arith, old, older); table = other; there = there; later = later }
+      record { grown = omega (arith, was, grown); table = other; there = there; later = later }
 
   loads : (batch : List Placed) → Stays before number t (with_batch w batch).store (w.next + 1)
   loads batch =
       let rows : List Row = rows_for (0 + number) batch in
       let later = stays.later in
-      in_its_place (with_batch w batch).store (w.next + 1) (table_loaded table rows) (omega arith) (omega arith) (loaded_there batch 0 w.store.tables number table stays.there) (
+      in_its_place (with_batch w batch).store (w.next + 1) (table_loaded table rows) (omega arith) (loaded_there batch 0 w.store.tables number table stays.there) (
       record {
         name = later.name;
         more = later.more;
         views = later.views;
         epoch = later.epoch;
+        oldest = later.oldest;
         columns = later.columns;
         contents = λ same version le lt.
             let grown = stays.grown in
             let its : IsTable w table = all_got (IsTable w) w.store.tables number table stays.there is.tables in
             let count = its.versions in
-            get_or_append_left table.contents (folded (aggs_of (columns_of table.lineage)) (newest_content table.contents ∷ rows ∷ []) ∷ []) [] (version - w.store.oldest) (omega (arith, count, grown, le, lt))
+            get_or_append_left table.contents (folded (aggs_of (columns_of table.lineage)) (newest_content table.contents ∷ rows ∷ []) ∷ []) [] (version - table.oldest) (omega (arith, count, grown, le, lt))
             ∙ later.contents same version le lt;
       })
 
   makes : (new : Table) → Stays before number t (record w.store { tables = w.store.tables ++ new ∷ [] }) w.next
   makes new =
       let later = stays.later in
-      in_its_place (record w.store { tables = w.store.tables ++ new ∷ [] }) w.next table (omega arith) (omega arith) (got_in_front w.store.tables (new ∷ []) number table stays.there)
-      (record { name = later.name; more = later.more; views = later.views; epoch = later.epoch; columns = later.columns; contents = later.contents })
+      in_its_place (record w.store { tables = w.store.tables ++ new ∷ [] }) w.next table (omega arith) (got_in_front w.store.tables (new ∷ []) number table stays.there)
+      (record { name = later.name; more = later.more; views = later.views; epoch = later.epoch; oldest = later.oldest; columns = later.columns; contents = later.contents })
 
   -- a table was set, maybe this one
-  sets : (n : ℕ) (other : Table) → (number ≡ n → IsLater before t (record w.store { tables = set w.store.tables n other }) other) → Stays before number t (record w.store { tables = set w.store.tables n other }) w.next
+  sets : (n : ℕ) (other : Table) → (number ≡ n → IsLater before t other) → Stays before number t (record w.store { tables = set w.store.tables n other }) w.next
   sets n other here =
       let s : Store = record w.store { tables = set w.store.tables n other } in
       let later = stays.later in
       elim (set_there w.store.tables n other number table stays.there) as (λ _. Stays before number t s w.next) [
-        | inl same ↦ in_its_place s w.next table (omega arith) (omega arith) same (record { name = later.name; more = later.more; views = later.views; epoch = later.epoch; columns = later.columns; contents = later.contents })
-        | inr own ↦ in_its_place s w.next other (omega arith) (omega arith) own.1 (here own.0)
+        | inl same ↦ in_its_place s w.next table (omega arith) same (record { name = later.name; more = later.more; views = later.views; epoch = later.epoch; oldest = later.oldest; columns = later.columns; contents = later.contents })
+        | inr own ↦ in_its_place s w.next other (omega arith) own.1 (here own.0)
       ]
 
   -- the table that was set from the one of its number
@@ -115,12 +114,13 @@ module _ (before : Warehouse) (number : ℕ) (t : Table) (w : Warehouse) (is : I
   views n words = sets n (viewed (table_at w.store n) words) (λ same.
       let later = stays.later in
       let new : List View = record { name = words.view; keys = words.keys; values = words.values } ∷ [] in
-      subst (λ (x : Table). IsLater before t (record w.store { tables = set w.store.tables n (viewed x words) }) (viewed x words)) (sym (its_own n same)) (
+      subst (λ (x : Table). IsLater before t (viewed x words)) (sym (its_own n same)) (
       record {
         name = later.name;
         more = later.more ++ new;
         views = ap (λ (vs : List View). vs ++ new) later.views ∙ append_assoc t.lineage.views later.more new;
         epoch = later.epoch;
+        oldest = later.oldest;
         columns = later.columns;
         contents = later.contents;
       }))
@@ -130,31 +130,39 @@ module _ (before : Warehouse) (number : ℕ) (t : Table) (w : Warehouse) (is : I
       let later = stays.later in
       let old = later.epoch in
       let more : length (table.lineage.changes ++ c ∷ []) ≡ length table.lineage.changes + 1 = length-append table.lineage.changes (c ∷ []) in
-      subst (λ (x : Table). IsLater before t (record w.store { tables = set w.store.tables n (table_changed x c) }) (table_changed x c)) (sym (its_own n same)) (
+      subst (λ (x : Table). IsLater before t (table_changed x c)) (sym (its_own n same)) (
       record {
         name = later.name;
         more = later.more;
         views = later.views;
         epoch = omega (arith, old, more);
+        oldest = later.oldest;
         columns = λ equal. absurd (omega (arith, old, more, equal));
         contents = λ equal version le lt. absurd (omega (arith, old, more, equal));
       }))
 
-  expires : (version : ℕ) → w.store.oldest ≤ version → Stays before number t (store_from w.store version) w.next
-  expires version from =
-      let drops : Table → Table = λ (x : Table). record x { contents = drop (version - w.store.oldest) x.contents } in
+  -- a table without its versions below one
+  from_later : (version : ℕ) → IsLater before t (table_from version table)
+  from_later version =
       let later = stays.later in
-      in_its_place (store_from w.store version) w.next (drops table) (omega arith) from (slice_get-map drops w.store.tables number ∙ ap (option_map drops) stays.there) (
+      let old = later.oldest in
       record {
         name = later.name;
         more = later.more;
         views = later.views;
         epoch = later.epoch;
+        oldest = omega (arith, old);
         columns = later.columns;
         contents = λ same v le lt.
-            let place : version - w.store.oldest + (v - version) ≡ v - w.store.oldest = omega (arith, from, le) in
-            get_or-drop (version - w.store.oldest) table.contents (v - version) [] ∙ ap (λ i. slice_index_or table.contents i []) place ∙ later.contents same v (omega (arith, from, le)) lt;
-      })
+            let place : version - table.oldest + (v - max table.oldest version) ≡ v - table.oldest = omega (arith, le) in
+            get_or-drop (version - table.oldest) table.contents (v - max table.oldest version) [] ∙ ap (λ i. slice_index_or table.contents i []) place ∙ later.contents same v (omega (arith, le)) lt;
+      }
+
+  expires : (version : ℕ) → Stays before number t (store_from w.store version) w.next
+  expires version = in_its_place (store_from w.store version) w.next (table_from version table) (omega arith) (slice_get-map (table_from version) w.store.tables number ∙ ap (option_map (table_from version)) stays.there) (from_later version)
+
+  expires_one : (n version : ℕ) → Stays before number t (record w.store { tables = set w.store.tables n (table_from version (table_at w.store n)) }) w.next
+  expires_one n version = sets n (table_from version (table_at w.store n)) (λ same. subst (λ (x : Table). IsLater before t (table_from version x)) (sym (its_own n same)) (from_later version))
 
   -- Every turn keeps it.
   stays_moves : Moves w (λ s next accepted. Stays before number t s next)
@@ -164,7 +172,8 @@ module _ (before : Warehouse) (number : ℕ) (t : Table) (w : Warehouse) (is : I
     makes = λ words free schema. makes _;
     views = λ words n free at rules. views n words;
     alters = λ words n c at asked rules. alters n c;
-    expires = λ version ok. expires version (version_there w version ok).0;
+    expires = λ version ok. expires version;
+    expires_one = λ name n version at ok. expires_one n version;
   }
 
 -- A table stays through a history.
@@ -181,7 +190,6 @@ pub table_stays : (script : Script) (r : Run) (h : List Entry) (number : ℕ) (t
 table_stays script r h number t is at = stays_on r.state.warehouse number t script r h is (
     record {
       grown = omega arith;
-      older = omega arith;
       table = t;
       there = at;
       later = record {
@@ -189,6 +197,7 @@ table_stays script r h number t is at = stays_on r.state.warehouse number t scri
         more = [];
         views = sym (append-nil t.lineage.views);
         epoch = omega arith;
+        oldest = omega arith;
         columns = λ same. refl;
         contents = λ same version le lt. refl;
       };

@@ -14,7 +14,7 @@ use Rattle.mesa_filter.specs.Filter.{filtered}
 use Rattle.mesa_model.specs.Warehouse.{Store, Table, Warehouse, content_at}
 use Rattle.mesa_model.specs.WellFormed.{IsContent, IsTable, IsWellFormed}
 use Rattle.mesa_model.specs.Relations.{Relation, relation_columns, relation_content, relation_of}
-use Rattle.mesa_model.specs.Pins.{store_at}
+use Rattle.mesa_model.specs.Pins.{store_at, table_pinned}
 use Rattle.mesa_model.specs.Query.{answer_rows}
 use Rattle.mesa_laws.proofs.AnswersOver.{columns_seen, rows_seen}
 use Rattle.mesa_laws.proofs.LaterRelations.{relation_there}
@@ -38,9 +38,9 @@ no_content s = record { forms = tt; order = refl }
 -- and so do those pinned at a version
 pub pin_stored : (s : Store) (version : ℕ) → IsStored s → IsStored (store_at s version)
 pin_stored s version all =
-    all_map HasContents (λ (t : Table). record t { contents = content_at s t version ∷ [] }) s.tables
-    (all_so HasContents (λ (t : Table). HasContents (record t { contents = content_at s t version ∷ [] })) s.tables
-    (λ t contents. (all_at (IsContent (columns_of t.lineage)) t.contents (version - s.oldest) [] (no_content (columns_of t.lineage)) contents, tt)) all)
+    all_map HasContents (table_pinned version) s.tables
+    (all_so HasContents (λ (t : Table). HasContents (table_pinned version t)) s.tables
+    (λ t contents. (all_at (IsContent (columns_of t.lineage)) t.contents (version - t.oldest) [] (no_content (columns_of t.lineage)) contents, tt)) all)
 
 -- ---- a relation's rows
 
@@ -52,11 +52,11 @@ seen_spell s (Some view) rows all =
 
 -- The rows of an answer have keys of the group columns' types.
 pub answer_spells : (s : Store) (name : List ℕ) (r : Relation) (asked : Asked) (version : ℕ) → IsStored s → relation_of s name ≡ Some r
-    → AllSpell (chosen asked.columns (kinds_of (relation_columns r))) (answer_rows (relation_columns r) asked (relation_content s r version))
+    → AllSpell (chosen asked.columns (kinds_of (relation_columns r))) (answer_rows (relation_columns r) asked (relation_content r version))
 answer_spells s name r asked version stored found =
     let columns : Columns = columns_of r.table.lineage in
     let contents : HasContents r.table = all_got HasContents s.tables r.number r.table (relation_there s name r found) stored in
-    let content : IsContent columns (content_at s r.table version) = all_at (IsContent columns) r.table.contents (version - s.oldest) [] (no_content columns) contents in
-    let rows : AllSpell (kinds_of (relation_columns r)) (relation_content s r version) = seen_spell columns r.view (content_at s r.table version) (rows_spell columns (content_at s r.table version) content.forms) in
-    grouped_spell (relation_columns r) asked.columns asked.values (filtered (relation_columns r) asked.terms (relation_content s r version))
-    (all_filter (λ (row : Row). Spells (kinds_of (relation_columns r)) row.key) _ (relation_content s r version) rows)
+    let content : IsContent columns (content_at r.table version) = all_at (IsContent columns) r.table.contents (version - r.table.oldest) [] (no_content columns) contents in
+    let rows : AllSpell (kinds_of (relation_columns r)) (relation_content r version) = seen_spell columns r.view (content_at r.table version) (rows_spell columns (content_at r.table version) content.forms) in
+    grouped_spell (relation_columns r) asked.columns asked.values (filtered (relation_columns r) asked.terms (relation_content r version))
+    (all_filter (λ (row : Row). Spells (kinds_of (relation_columns r)) row.key) _ (relation_content r version) rows)

@@ -123,7 +123,7 @@ module _ (session position : ℕ) (s : State) where
   decides (command.Load rows) stage = finishes s.warehouse session position (Some (command.Load rows)) stage _ _ (load_tells s.warehouse rows)
   decides (command.Pin asked) stage = finishes s.warehouse session position (Some (command.Pin asked)) stage _ _ (pin_tells s.warehouse session asked)
   decides (command.Release token) stage = finishes s.warehouse session position (Some (command.Release token)) stage _ _ (release_tells s.warehouse session token)
-  decides (command.Expire version) stage = finishes s.warehouse session position (Some (command.Expire version)) stage _ _ (expire_tells s.warehouse version)
+  decides (command.Expire table version) stage = finishes s.warehouse session position (Some (command.Expire table version)) stage _ _ (expire_tells s.warehouse table version)
   decides (command.Work name) stage = finishes s.warehouse session position (Some (command.Work name)) stage _ _ (nothing_tells s.warehouse)
 
   stands : (c : Command) (k : Kind) (stage : Stage) → Tells s.warehouse session position (Some c) stage (standing position s session c k stage)

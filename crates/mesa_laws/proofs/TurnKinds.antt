@@ -41,7 +41,7 @@ module _ (position : ℕ) (s : State) where
   decides session (command.Load rows) = Steps (command.Load rows) refl refl
   decides session (command.Pin asked) = Steps (command.Pin asked) refl refl
   decides session (command.Release token) = Steps (command.Release token) refl refl
-  decides session (command.Expire version) = Steps (command.Expire version) refl refl
+  decides session (command.Expire table version) = Steps (command.Expire table version) refl refl
   decides session (command.Work name) = Steps (command.Work name) refl refl
 
   granting : (r : Result Claim Reply) → (grants position s r).state.warehouse.pins ≡ s.warehouse.pins

@@ -18,7 +18,7 @@ use Rattle.mesa_model.specs.declared.replies.Refusal.{Refusal}
 use Rattle.mesa_model.specs.declared.replies.Refusal.TheVariants as no
 use Rattle.mesa_model.specs.declared.replies.Reply.{Reply}
 use Rattle.mesa_model.specs.declared.replies.Reply.TheVariants as reply
-use Rattle.mesa_model.specs.Warehouse.{Store, newest_of}
+use Rattle.mesa_model.specs.Warehouse.{Store, newest_of, table_at}
 use Rattle.mesa_model.specs.Query.{Answer, query_answer}
 use Rattle.mesa_model.specs.Refusals.{refuse_closed}
 use Rattle.mesa_model.specs.Relations.{relation_of, table_number}
@@ -74,7 +74,7 @@ module _ (before : Store) (s : State) (c : Command) (P : Store → ℕ → List 
       let D = Explains before P c position s in
       let stays : (e : Refusal) → D (Err e) = λ e. record { holds = record { holds = same } } in
       let all : D (explained w s.machine words) =
-      after_check D stays (refuse_closed w.closed) _ (λ open'. after_some D stays (relation_of w.store words.relation) _ _ (λ relation is. after_value D stays (version_asked w words.version) _ (λ version there.
+      after_check D stays (refuse_closed w.closed) _ (λ open'. after_some D stays (relation_of w.store words.relation) _ _ (λ relation is. after_value D stays (version_asked w relation.table.oldest words.version) _ (λ version there.
       record { holds = record { holds = same } }))) in
       all.holds
 
@@ -86,7 +86,7 @@ module _ (before : Store) (s : State) (c : Command) (P : Store → ℕ → List 
       not_granted_closed D (refuse_closed w.closed) _ (λ e. record { holds = record { holds = same } }) (
       not_there D (table_number w.store name) _ _ (record { holds = record { holds = same } }) (λ table.
       not_free D (holder s.machine.leases table position) _ (λ lease. record { holds = record { holds = same } }) (
-      not_there D (next_work (ranges_at s.machine table) w.store.oldest (newest_of w)) _ _ (record { holds = record { holds = same } }) (λ work. record { holds = record { holds = same } })))) in
+      not_there D (next_work (ranges_at s.machine table) (table_at w.store table).oldest (newest_of w)) _ _ (record { holds = record { holds = same } }) (λ work. record { holds = record { holds = same } })))) in
       all.holds
 
   completes_turns : (position : ℕ) (claim : Claim) (w : Work) (r : Result (Unit {0}) Refusal) → T (completes position s (record claim { work = w }) r)
@@ -148,7 +148,7 @@ module _ (r : Run) (e : Entry) (P : Store → ℕ → List Accepted → Type 0) 
   decide_turns (command.Explain words) = explain_turns before r.state (command.Explain words) P moves.same r.position words
   decide_turns (command.Pin asked) = record { holds = step_moves r.state.warehouse P moves e.session (command.Pin asked) }
   decide_turns (command.Release token) = record { holds = step_moves r.state.warehouse P moves e.session (command.Release token) }
-  decide_turns (command.Expire version) = record { holds = step_moves r.state.warehouse P moves e.session (command.Expire version) }
+  decide_turns (command.Expire table version) = record { holds = step_moves r.state.warehouse P moves e.session (command.Expire table version) }
   decide_turns (command.Work name) = record { holds = step_moves r.state.warehouse P moves e.session (command.Work name) }
 
   standing_turns : (c : Command) (k : Kind) (stage : Stage) → Turns before P c (standing r.position r.state e.session c k stage)

@@ -14,7 +14,7 @@ use Rattle.mesa_model.specs.declared.commands.Command.TheVariants as command
 use Rattle.mesa_model.specs.declared.replies.Refusal.{Refusal}
 use Rattle.mesa_model.specs.declared.replies.Reply.{Reply}
 use Rattle.mesa_model.specs.Relations.{relation_content}
-use Rattle.mesa_model.specs.Warehouse.{Store, Table, Warehouse, content_at, max_versions, no_table, table_at}
+use Rattle.mesa_model.specs.Warehouse.{Table, Warehouse, content_at, max_versions, no_table, table_at}
 use Rattle.mesa_model.specs.WellFormed.{IsTable, IsWellFormed}
 use Rattle.mesa_model.specs.Load.{bounds_checked, load_batch, newest_content, table_loaded, tables_loaded, tables_named, with_batch}
 use Rattle.mesa_model.specs.Step.{done_or_refused, step}
@@ -23,7 +23,7 @@ use Rattle.mesa_laws.specs.Whole.{HasBatch, HasWhole, IsWholeOrNone}
 use Rattle.mesa_laws.proofs.Checks.{after_check, after_other, after_refuse_if}
 use Rattle.mesa_laws.proofs.LawLoads.{length_loaded, newest_last}
 use Rattle.mesa_schema.proofs.Lists.{all_got}
-use Rattle.mesa_laws.proofs.WellFormed.{oldest_there}
+use Rattle.mesa_laws.proofs.WellFormed.{kept_there}
 
 -- the table of a number after a load
 loaded_at : (batch : List Placed) (n : ℕ) (tables : List Table) (i : ℕ) → i < length tables → get_or (tables_loaded batch n tables) i no_table ≡ table_loaded (get_or tables i no_table) (rows_for (n + i) batch)
@@ -38,26 +38,25 @@ module _ (w : Warehouse) (is : IsWellFormed w) (batch : List Placed) where
   after = with_batch w batch
 
   -- the newest content of a table is that of the version before the new one
-  newest_is : (t : Table) → IsTable w t → newest_content t.contents ≡ content_at w.store t (w.next - 1)
+  newest_is : (t : Table) → IsTable w t → newest_content t.contents ≡ content_at t (w.next - 1)
   newest_is t table =
       let count = table.versions in
-      newest_last t.contents ∙ (elim (oldest_there w is) as (λ _. get_or t.contents (length t.contents - 1) [] ≡ content_at w.store t (w.next - 1)) [
-        | inl lt ↦ (let place : length t.contents - 1 ≡ w.next - 1 - w.store.oldest = omega (arith, count, lt) in ap (λ i. get_or t.contents i []) place)
-        | inr empty ↦ (let place : length t.contents - 1 ≡ w.next - 1 - w.store.oldest = omega (arith, count, empty.0, empty.1) in ap (λ i. get_or t.contents i []) place)
+      newest_last t.contents ∙ (elim (kept_there w.next t.oldest table.oldest) as (λ _. get_or t.contents (length t.contents - 1) [] ≡ content_at t (w.next - 1)) [
+        | inl lt ↦ (let place : length t.contents - 1 ≡ w.next - 1 - t.oldest = omega (arith, count, lt) in ap (λ i. get_or t.contents i []) place)
+        | inr empty ↦ (let place : length t.contents - 1 ≡ w.next - 1 - t.oldest = omega (arith, count, empty.0, empty.1) in ap (λ i. get_or t.contents i []) place)
       ])
 
   -- the contents of a loaded table
-  loaded_new : (t : Table) (rows : List Row) → IsTable w t
-      → content_at after.store (table_loaded t rows) w.next ≡ folded (aggs_of (columns_of t.lineage)) (content_at w.store t (w.next - 1) ∷ rows ∷ [])
+  loaded_new : (t : Table) (rows : List Row) → IsTable w t → content_at (table_loaded t rows) w.next ≡ folded (aggs_of (columns_of t.lineage)) (content_at t (w.next - 1) ∷ rows ∷ [])
   loaded_new t rows table =
       let count = table.versions in
-      get_or_push t.contents (folded (aggs_of (columns_of t.lineage)) (newest_content t.contents ∷ rows ∷ [])) [] (w.next - w.store.oldest) count
+      get_or_push t.contents (folded (aggs_of (columns_of t.lineage)) (newest_content t.contents ∷ rows ∷ [])) [] (w.next - t.oldest) count
       ∙ ap (λ (newest : List Row). folded (aggs_of (columns_of t.lineage)) (newest ∷ rows ∷ [])) (newest_is t table)
 
-  loaded_old : (t : Table) (rows : List Row) (version : ℕ) → IsTable w t → w.store.oldest ≤ version → version < w.next → content_at after.store (table_loaded t rows) version ≡ content_at w.store t version
+  loaded_old : (t : Table) (rows : List Row) (version : ℕ) → IsTable w t → t.oldest ≤ version → version < w.next → content_at (table_loaded t rows) version ≡ content_at t version
   loaded_old t rows version table le lt =
       let count = table.versions in
-      get_or_append_left t.contents (folded (aggs_of (columns_of t.lineage)) (newest_content t.contents ∷ rows ∷ []) ∷ []) [] (version - w.store.oldest) (omega (arith, count, le, lt))
+      get_or_append_left t.contents (folded (aggs_of (columns_of t.lineage)) (newest_content t.contents ∷ rows ∷ []) ∷ []) [] (version - t.oldest) (omega (arith, count, le, lt))
 
   has_batch : (number : ℕ) → number < length w.store.tables → HasBatch w batch after number
   has_batch number lt =
@@ -69,8 +68,9 @@ module _ (w : Warehouse) (is : IsWellFormed w) (batch : List Placed) where
       record {
         name = ap (λ (x : Table). x.name) loaded;
         lineage = ap (λ (x : Table). x.lineage) loaded;
-        new = ap (λ (x : Table). content_at after.store x w.next) loaded ∙ loaded_new t rows table;
-        old = λ version le below. ap (λ (x : Table). content_at after.store x version) loaded ∙ loaded_old t rows version table le below;
+        oldest = ap (λ (x : Table). x.oldest) loaded;
+        new = ap (λ (x : Table). content_at x w.next) loaded ∙ loaded_new t rows table;
+        old = λ version le below. ap (λ (x : Table). content_at x version) loaded ∙ loaded_old t rows version table le below;
       }
 
   has_whole : (rows : List RowWords) → batch_of (tables_named w.store) rows ≡ Ok batch → HasWhole w rows w.next (length batch) after
@@ -91,6 +91,6 @@ whole_or_none w session rows is =
     all.holds
 
 -- A view's content is its table's content, grouped by the view's columns.
-pub view_is : (s : Store) (number version : ℕ) (t : Table) (view : View)
-    → relation_content s (record { number = number; table = t; view = Some view }) version ≡ grouped (columns_of t.lineage) (view_key_places (columns_of t.lineage) view) (view_value_places (columns_of t.lineage) view) (content_at s t version)
-view_is s number version t view = refl
+pub view_is : (number version : ℕ) (t : Table) (view : View)
+    → relation_content (record { number = number; table = t; view = Some view }) version ≡ grouped (columns_of t.lineage) (view_key_places (columns_of t.lineage) view) (view_value_places (columns_of t.lineage) view) (content_at t version)
+view_is number version t view = refl

@@ -44,11 +44,11 @@ pub record IsFromTheFold (start : Warehouse) (accepted : List Accepted) (store :
 
 -- ---- after a history
 
--- An answer over the present tables: it is from the fold of all batches accepted so far, at the version asked.
+-- An answer over the present tables: it is from the fold of all batches accepted so far, at the version asked of the relation's table.
 pub record IsFromThePresent (script : Script) (start : State) (h : List Entry) (words : QueryWords) (answer : Answer) : Type 0 where
   pub version : ℕ
-  pub asked : version_asked (warehouse_after script start h) words.version ≡ Ok version
   pub fold : IsFromTheFold start.warehouse (accepted_in script (begins start) h) (warehouse_after script start h).store words version answer
+  pub asked : version_asked (warehouse_after script start h) fold.relation.table.oldest words.version ≡ Ok version
 
 -- An answer by a pin: the pin was given in the history, and the answer is from the fold of the batches accepted before that, at the pin's version.
 pub record IsFromItsPin (script : Script) (start : State) (h : List Entry) (session token : ℕ) (words : QueryWords) (answer : Answer) : Type 0 where

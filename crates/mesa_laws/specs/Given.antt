@@ -5,6 +5,7 @@ use Rattle.mesa_model.specs.declared.entries.Entry.{Entry}
 use Rattle.mesa_model.specs.declared.replies.Reply.TheVariants as reply
 use Rattle.mesa_model.specs.Warehouse.{Pin, Warehouse}
 use Rattle.mesa_model.specs.Pins.{store_at}
+use Rattle.mesa_model.specs.Versions.{common_oldest}
 use Rattle.mesa_history.specs.Run.{State, Told, begins}
 use Rattle.mesa_history.specs.Replay.{runs, told_by}
 
@@ -12,7 +13,7 @@ use Rattle.mesa_history.specs.Replay.{runs, told_by}
 abbrev pub warehouse_after : Script → State → List Entry → Warehouse
 warehouse_after script start h = (runs script (begins start) h).state.warehouse
 
--- A pin was given in a history: an entry of its session was told of it, and what it holds are the tables as they stood there, each with its content at the pin's version, which could be queried there.
+-- A pin was given in a history: an entry of its session was told of it, and what it holds are the tables as they stood there, each with its content at the pin's version, at which every one of them could be queried there.
 pub record WasGiven (script : Script) (start : State) (h : List Entry) (pin : Pin) : Type 0 where
   pub before : List Entry
   pub entry : Entry
@@ -23,5 +24,5 @@ pub record WasGiven (script : Script) (start : State) (h : List Entry) (pin : Pi
   pub tells : told_by script (runs script (begins start) before) entry ≡ Some told
   pub reply : told.reply ≡ reply.Pinned pin.token pin.version
   pub store : pin.store ≡ store_at (warehouse_after script start before).store pin.version
-  pub above : (warehouse_after script start before).store.oldest ≤ pin.version
+  pub above : common_oldest (warehouse_after script start before).store ≤ pin.version
   pub below : pin.version < (warehouse_after script start before).next

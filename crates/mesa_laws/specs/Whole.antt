@@ -10,12 +10,13 @@ use Rattle.mesa_model.specs.declared.replies.Reply.TheVariants as reply
 use Rattle.mesa_model.specs.Warehouse.{Warehouse, content_at, table_at}
 use Rattle.mesa_model.specs.Load.{tables_named}
 
--- A table's contents after a batch: at the new version the fold of the newest content and of the batch's rows of the table, at the versions before it what was there; its name, columns and views stay.
+-- A table's contents after a batch: at the new version the fold of the newest content and of the batch's rows of the table, at the versions before it what was there; its name, columns, views and oldest version stay.
 pub record HasBatch (w : Warehouse) (batch : List Placed) (after : Warehouse) (number : ℕ) : Type 0 where
   pub name : (table_at after.store number).name ≡ (table_at w.store number).name
   pub lineage : (table_at after.store number).lineage ≡ (table_at w.store number).lineage
-  pub new : content_at after.store (table_at after.store number) w.next ≡ folded (aggs_of (columns_of (table_at w.store number).lineage)) (content_at w.store (table_at w.store number) (w.next - 1) ∷ rows_for number batch ∷ [])
-  pub old : (version : ℕ) → w.store.oldest ≤ version → version < w.next → content_at after.store (table_at after.store number) version ≡ content_at w.store (table_at w.store number) version
+  pub oldest : (table_at after.store number).oldest ≡ (table_at w.store number).oldest
+  pub new : content_at (table_at after.store number) w.next ≡ folded (aggs_of (columns_of (table_at w.store number).lineage)) (content_at (table_at w.store number) (w.next - 1) ∷ rows_for number batch ∷ [])
+  pub old : (version : ℕ) → (table_at w.store number).oldest ≤ version → version < w.next → content_at (table_at after.store number) version ≡ content_at (table_at w.store number) version
 
 -- A warehouse after a load that was accepted: one version more, in which every table has the batch, and nothing else changed.
 pub record HasWhole (w : Warehouse) (rows : List RowWords) (version count : ℕ) (after : Warehouse) : Type 0 where

@@ -13,7 +13,7 @@ ghost use Rattle.mesa_model.specs.declared.replies.Refusal.{Refusal};
 ghost use Rattle.mesa_model.specs.declared.replies.Reply.TheVariants as reply;
 ghost use Rattle.mesa_model.specs.Relations.{relation_content};
 ghost use Rattle.mesa_model.specs.Step.{step};
-ghost use Rattle.mesa_model.specs.Warehouse.{Store, Table, Warehouse, content_at};
+ghost use Rattle.mesa_model.specs.Warehouse.{Table, Warehouse, content_at};
 ghost use Rattle.mesa_model.specs.WellFormed.{IsWellFormed};
 ghost use Rattle.mesa_schema.specs.Changes.{columns_of};
 ghost use Rattle.mesa_schema.specs.Folded.{grouped};
@@ -27,5 +27,5 @@ pub fn batch_is_whole()
     ensures load { (w : Warehouse) (session : ℕ) (rows : List RowWords) → IsWellFormed w → IsWholeOrNone w rows (step w session (command.Load rows)).0 (step w session (command.Load rows)).1 }
     ensures versions { (script : Script) (r : Run) (h : List Entry) → (runs script r h).state.warehouse.next ≡ r.state.warehouse.next + length (accepted_in script r h) }
     ensures refused { (w : Warehouse) (session : ℕ) (c : Command) (refusal : Refusal) → (step w session c).1 ≡ reply.Refused refusal → (step w session c).0 ≡ w }
-    ensures view { (s : Store) (number version : ℕ) (t : Table) (view : View) → relation_content s (record { number = number; table = t; view = Some view }) version ≡ grouped (columns_of t.lineage) (view_key_places (columns_of t.lineage) view) (view_value_places (columns_of t.lineage) view) (content_at s t version) }
+    ensures view { (number version : ℕ) (t : Table) (view : View) → relation_content (record { number = number; table = t; view = Some view }) version ≡ grouped (columns_of t.lineage) (view_key_places (columns_of t.lineage) view) (view_value_places (columns_of t.lineage) view) (content_at t version) }
 {}

@@ -11,7 +11,7 @@ use Rattle.mesa_walk.specs.mesa_skeleton.Bare.{bare_pin, bare_store, bare_table}
 use Rattle.mesa_walk.specs.mesa_skeleton.Rows.{Rows}
 use Rattle.mesa_trash.specs.declared.trash.Hold.{Hold}
 use Rattle.mesa_walk.specs.Books.{pinned_books, released_books}
-use Rattle.mesa_ledger.specs.Ledger.{HeldPin, Ledger, skeleton_of, skeletons_from, bare_held, held_with, books_of}
+use Rattle.mesa_ledger.specs.Ledger.{HeldPin, Ledger, skeleton_at, skeleton_of, skeletons, skeletons_at, bare_held, held_with, books_of}
 use Rattle.mesa_ledger.specs.Turned.{pin_now, pinned_ledger, is_held_pin, released_ledger}
 
 -- ---- skeletons
@@ -21,15 +21,23 @@ pub bare_tables : (ts : List Stock) → map bare_table (map skeleton_of ts) ≡ 
 bare_tables [] = refl
 bare_tables (t ∷ ts) = ap (λ (x : List Table). skeleton_of t ∷ x) (bare_tables ts)
 
-bare_again : (version : ℕ) (c : Catalog) → bare_store (skeletons_from version c) ≡ skeletons_from version c
-bare_again version c = ap (λ (x : List Table). record { tables = x; oldest = version }) (bare_tables c.tables)
+bare_again : (c : Catalog) → bare_store (skeletons c) ≡ skeletons c
+bare_again c = ap (λ (x : List Table). record { tables = x; floor = c.floor }) (bare_tables c.tables)
+
+-- nor from those of one version
+bare_tables_at : (version : ℕ) (ts : List Stock) → map bare_table (map (skeleton_at version) ts) ≡ map (skeleton_at version) ts
+bare_tables_at version [] = refl
+bare_tables_at version (t ∷ ts) = ap (λ (x : List Table). skeleton_at version t ∷ x) (bare_tables_at version ts)
+
+bare_again_at : (version : ℕ) (c : Catalog) → bare_store (skeletons_at version c) ≡ skeletons_at version c
+bare_again_at version c = ap (λ (x : List Table). record { tables = x; floor = version }) (bare_tables_at version c.tables)
 
 pub bare_pins : (pins : List HeldPin) → map bare_pin (map bare_held pins) ≡ map bare_held pins
 bare_pins [] = refl
-bare_pins (p ∷ pins) = λ i. record { session = p.session; token = p.token; version = p.version; store = bare_again p.version p.copy i } ∷ bare_pins pins i
+bare_pins (p ∷ pins) = λ i. record { session = p.session; token = p.token; version = p.version; store = bare_again_at p.version p.copy i } ∷ bare_pins pins i
 
 -- nor from a copy of them at a version
-bare_copy : (s : Store) (version : ℕ) (ts : List Stock) → map bare_table (store_at (record { tables = map skeleton_of ts; oldest = s.oldest }) version).tables ≡ map skeleton_of ts
+bare_copy : (s : Store) (version : ℕ) (ts : List Stock) → map bare_table (store_at (record { tables = map skeleton_of ts; floor = s.floor }) version).tables ≡ map (skeleton_at version) ts
 bare_copy s version ts = map-map _ _ (map skeleton_of ts) ∙ map-map _ _ ts
 
 -- ---- a pin more
@@ -37,10 +45,10 @@ bare_copy s version ts = map-map _ _ (map skeleton_of ts) ∙ map-map _ _ ts
 module _ (rows : Rows) (l : Ledger) (session version : ℕ) (hold : Hold) where
   -- the pin that the books make
   abbrev made : Pin
-  made = record { session = session; token = (pin_now l session version hold).token; version = version; store = store_at (skeletons_from l.catalogue.oldest l.catalogue) version }
+  made = record { session = session; token = (pin_now l session version hold).token; version = version; store = store_at (skeletons l.catalogue) version }
 
-  copy_is : bare_store made.store ≡ skeletons_from version l.catalogue
-  copy_is = ap (λ (x : List Table). record { tables = x; oldest = version }) (bare_copy (skeletons_from l.catalogue.oldest l.catalogue) version l.catalogue.tables)
+  copy_is : bare_store made.store ≡ skeletons_at version l.catalogue
+  copy_is = ap (λ (x : List Table). record { tables = x; floor = version }) (bare_copy (skeletons l.catalogue) version l.catalogue.tables)
 
   pinned_bare : map bare_held (l.pins ++ pin_now l session version hold ∷ []) ≡ map bare_pin (map bare_held l.pins ++ made ∷ [])
   pinned_bare = map-append bare_held l.pins (pin_now l session version hold ∷ [])
@@ -50,7 +58,7 @@ module _ (rows : Rows) (l : Ledger) (session version : ℕ) (hold : Hold) where
   pub pinned_as : books_of rows (pinned_ledger l session version hold) ≡ pinned_books session version (books_of rows l)
   pinned_as =
       λ i. record (books_of rows (pinned_ledger l session version hold)) {
-        bare = record (books_of rows (pinned_ledger l session version hold)).bare { store = sym (bare_again l.catalogue.oldest l.catalogue) i; pins = pinned_bare i };
+        bare = record (books_of rows (pinned_ledger l session version hold)).bare { store = sym (bare_again l.catalogue) i; pins = pinned_bare i };
         pins = map-append (held_with rows) l.pins (pin_now l session version hold ∷ []) i;
       }
 
@@ -78,7 +86,7 @@ mapped_less f test (x ∷ xs) = by (test (f x)) ∙ ap (λ ys. cond (test (f x))
 pub released_as : (rows : Rows) (l : Ledger) (session token : ℕ) → books_of rows (released_ledger l session token) ≡ released_books session token (books_of rows l)
 released_as rows l session token =
     λ i. record (books_of rows (released_ledger l session token)) {
-      bare = record (books_of rows (released_ledger l session token)).bare { store = sym (bare_again l.catalogue.oldest l.catalogue) i; pins = pins_are i };
+      bare = record (books_of rows (released_ledger l session token)).bare { store = sym (bare_again l.catalogue) i; pins = pins_are i };
       pins = mapped_less (held_with rows) (λ pin. not (is_pin session token pin)) l.pins i;
     }
   where

@@ -101,6 +101,7 @@ dropped_named id c (record_of.Publish version parts) is = absurd is
 dropped_named id c (record_of.Swap table true from to epoch files) is = table_named id c.tables table (dropped_there id (stock_at c table) to is)
 dropped_named id c (record_of.Swap table false from to epoch files) is = absurd is
 dropped_named id c (record_of.Expire version) is = absurd is
+dropped_named id c (record_of.ExpireTable table version) is = absurd is
 
 -- ---- a record
 

@@ -73,7 +73,7 @@ module _ (o : Outset) (g : Origin) (sound : Bool) (l : Ledger) (story : Story) (
     s = (run_of o h).state.warehouse.store
 
     batch_is : batch_or_none (batch_of (tables_named s) words) ≡ batch
-    batch_is = ap (λ (n : List Named). batch_or_none (batch_of n words)) (named_is sound (books_of v.rows l) (run_of o h).state v.walk.state ∙ tables_are c.oldest c) ∙ ap batch_or_none read
+    batch_is = ap (λ (n : List Named). batch_or_none (batch_of n words)) (named_is sound (books_of v.rows l) (run_of o h).state v.walk.state ∙ tables_are c) ∙ ap batch_or_none read
 
     epochs_are : map (λ (t : Table). epoch_of t.lineage) s.tables ≡ map epoch_in c.tables
     epochs_are = epochs_bare s ∙ ap (λ (w : Warehouse). map (λ (t : Table). epoch_of t.lineage) w.store.tables) v.walk.state.skeleton ∙ map-map _ _ c.tables

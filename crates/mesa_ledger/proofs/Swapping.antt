@@ -66,7 +66,7 @@ module _ (o : Outset) (g : Origin) (sound : Bool) (l : Ledger) (story : Story) (
   old = books_of v.rows l
 
   -- The claim's range is swapped in, and the store then keeps what the catalogue stands for.
-  pub swap_is : IsWithin base t to c.oldest → (IsTrue sound → Replaces later t.lineage (merged_delta epoch files) (merged_of t base to)) → Swaps sound old claim (kept_of later x)
+  pub swap_is : IsWithin base t to → (IsTrue sound → Replaces later t.lineage (merged_delta epoch files) (merged_of t base to)) → Swaps sound old claim (kept_of later x)
   swap_is within replaces s had ok =
       ap (λ k. kept_swapped k claim.table claim.work) (had.rows ok ∙ sym (same_kept o g sound l story held h running refused v later agree)) ∙ ap (kept_swapped (kept_of later c) claim.table) (sym work_is)
       ∙ sym (swap_moves later c claim.table base from to epoch files within (replaces ok))
@@ -82,7 +82,7 @@ module _ (o : Outset) (g : Origin) (sound : Bool) (l : Ledger) (story : Story) (
   -- and the books are those of the ledger.
   pub swapped_as : (position generation : ℕ) (gone : List ℕ) (adopted end : ℕ) → books_of later (recorded_ledger l position x generation gone (ended claim.table claim.lease l.leases) adopted end) ≡ swapped_books claim (kept_of later x) old
   swapped_as position generation gone adopted end = λ i. record (books_of later (recorded_ledger l position x generation gone (ended claim.table claim.lease l.leases) adopted end)) {
-    bare = record old.bare { store = record { tables = skeletons i; oldest = c.oldest } };
+    bare = record old.bare { store = record { tables = skeletons i; floor = c.floor } };
     machine = record { ranges = ranges i; leases = ended claim.table claim.lease l.leases };
     pins = same_pins o g sound l story held h running refused v later agree i;
   }

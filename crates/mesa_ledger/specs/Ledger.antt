@@ -46,15 +46,22 @@ pub record Ledger : Type 0 where
 
 -- a table without its contents
 abbrev pub skeleton_of : Stock → Table
-skeleton_of t = record { name = t.name; lineage = t.lineage; totals = t.totals; contents = [] }
+skeleton_of t = record { name = t.name; lineage = t.lineage; totals = t.totals; oldest = t.oldest; contents = [] }
 
--- a catalogue's tables without their contents, with an oldest version
-abbrev pub skeletons_from : ℕ → Catalog → Store
-skeletons_from oldest c = record { tables = map skeleton_of c.tables; oldest = oldest }
+-- a catalogue's tables without their contents
+abbrev pub skeletons : Catalog → Store
+skeletons c = record { tables = map skeleton_of c.tables; floor = c.floor }
+
+-- the same of one version alone
+abbrev pub skeleton_at : ℕ → Stock → Table
+skeleton_at version t = record { name = t.name; lineage = t.lineage; totals = t.totals; oldest = version; contents = [] }
+
+abbrev pub skeletons_at : ℕ → Catalog → Store
+skeletons_at version c = record { tables = map (skeleton_at version) c.tables; floor = version }
 
 -- a pin without rows
 abbrev pub bare_held : HeldPin → Pin
-bare_held p = record { session = p.session; token = p.token; version = p.version; store = skeletons_from p.version p.copy }
+bare_held p = record { session = p.session; token = p.token; version = p.version; store = skeletons_at p.version p.copy }
 
 -- a pin with the rows that its files have
 abbrev pub held_with : Rows → HeldPin → Pin
@@ -63,7 +70,7 @@ held_with rows p = record { session = p.session; token = p.token; version = p.ve
 -- The books that a ledger stands for, where the files have these rows.
 abbrev pub books_of : Rows → Ledger → Books
 books_of rows l = record {
-  bare = record { store = skeletons_from l.catalogue.oldest l.catalogue; next = l.catalogue.next; given = l.given; pins = map bare_held l.pins; closed = l.closed };
+  bare = record { store = skeletons l.catalogue; next = l.catalogue.next; given = l.given; pins = map bare_held l.pins; closed = l.closed };
   machine = record { ranges = map ranges_of l.catalogue.tables; leases = l.leases };
   kept = kept_of rows l.catalogue;
   pins = map (held_with rows) l.pins;

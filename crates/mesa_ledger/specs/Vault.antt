@@ -21,7 +21,8 @@ use Rattle.mesa_trash.specs.Filed.{AreFresh, AreNamedOrWait, PinFiles}
 use Rattle.mesa_trash.specs.Holding.{AreFiled, ids_of}
 use Rattle.mesa_walk.specs.Sight.{schema_changes}
 use Rattle.mesa_walk.specs.Walk.{Outset, IsWalk}
-use Rattle.mesa_ledger.specs.Ledger.{HeldPin, Ledger, books_of, next_id, past_id, most_files, Holder, holders, ids_held, files_held}
+use Rattle.mesa_image_laws.specs.mesa_model.Versions.{common_oldest}
+use Rattle.mesa_ledger.specs.Ledger.{HeldPin, Ledger, books_of, next_id, past_id, most_files, Holder, holders, ids_held, files_held, skeletons}
 
 -- The batches that a run accepted so far.
 abbrev pub accepted_by : Outset → List Entry → List Accepted
@@ -57,9 +58,9 @@ AreShaped seen l = AllByRecursion (λ (x : Holder). IsCatalog x.1) (holders seen
 abbrev pub AllStocked : Rows → (ℕ → Catalog) → Ledger → Type 0
 AllStocked rows seen l = AreStocked rows l.catalogue × AllByRecursion (λ (x : Holder). AreStocked rows x.1) (holders seen l)
 
--- A pin's version is one that its copy of the catalogue has.
+-- A pin's version is one that all tables of its copy of the catalogue have.
 abbrev pub IsVersioned : HeldPin → Type 0
-IsVersioned p = (p.copy.oldest ≤ p.version) × (p.version < p.copy.next)
+IsVersioned p = (common_oldest (skeletons p.copy) ≤ p.version) × (p.version < p.copy.next)
 
 -- What a run finds at its start beside its state: what was written of each table, and the catalogue's generation.
 pub record Origin : Type 0 where

@@ -1,5 +1,5 @@
 -- A closed warehouse answers `closed`.
-use Rattle.std.proofs.Common.{◌≡◌, ℕ, refl, Some}
+use Rattle.std.proofs.Common.{◌≡◌, ℕ, refl, Some, None}
 use Rattle.mesa_model.specs.declared.commands.Command.{Command}
 use Rattle.mesa_model.specs.declared.commands.Command.TheVariants as command
 use Rattle.mesa_model.specs.declared.replies.Reply.TheVariants as reply
@@ -16,5 +16,6 @@ step-closed w session (command.Query words) position is = rw is refl
 step-closed w session (command.Explain words) position is = rw is refl
 step-closed w session (command.Pin version) position is = rw is refl
 step-closed w session (command.Release token) position is = rw is refl
-step-closed w session (command.Expire version) position is = rw is refl
+step-closed w session (command.Expire None version) position is = rw is refl
+step-closed w session (command.Expire (Some name) version) position is = rw is refl
 step-closed w session (command.Work table) position is = rw is refl

@@ -8,7 +8,7 @@ use Rattle.mesa_model.specs.declared.replies.Reply.{Reply}
 use Rattle.mesa_model.specs.declared.replies.Reply.TheVariants as reply
 use Rattle.mesa_model.specs.Warehouse.{Table, Store, Pin, Warehouse, max_pins, content_at}
 use Rattle.mesa_model.specs.Refusals.{refuse_closed}
-use Rattle.mesa_model.specs.Versions.{version_asked}
+use Rattle.mesa_model.specs.Versions.{common_oldest, version_asked}
 
 -- a count at a place; places behind the end count 0
 abbrev pub count_at : List ℕ → ℕ → ℕ
@@ -30,12 +30,12 @@ abbrev pub pin_of : Warehouse → ℕ → ℕ → Option Pin
 pin_of w session token = find (is_pin session token) w.pins
 
 -- the table with its content at one version alone
-abbrev table_pinned : Store → ℕ → Table → Table
-table_pinned s version t = record t { contents = content_at s t version ∷ [] }
+abbrev pub table_pinned : ℕ → Table → Table
+table_pinned version t = record t { oldest = version; contents = content_at t version ∷ [] }
 
 -- a copy of the tables with their contents at one version alone
 abbrev pub store_at : Store → ℕ → Store
-store_at s version = record { tables = map (table_pinned s version) s.tables; oldest = version }
+store_at s version = record { tables = map (table_pinned version) s.tables; floor = version }
 
 -- the token of a session's next pin: pins are counted from 1 in each session
 abbrev pub next_token : Warehouse → ℕ → ℕ
@@ -52,7 +52,7 @@ with_pin w session version = record w {
 abbrev pub make_pin : Warehouse → ℕ → VersionWord → Result (Warehouse × Reply) Refusal
 make_pin w session asked = do
   refuse_closed w.closed
-  version ← version_asked w asked
+  version ← version_asked w (common_oldest w.store) asked
   refuse_if (nat_le max_pins (length w.pins)) (no.PinsFull max_pins)
   Ok (with_pin w session version, reply.Pinned (next_token w session) version)
 

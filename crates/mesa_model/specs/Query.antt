@@ -16,7 +16,7 @@ use Rattle.mesa_filter.specs.Resume.{resume_prefix, resume_of}
 use Rattle.mesa_model.specs.declared.replies.Page.{Page}
 use Rattle.mesa_model.specs.declared.replies.Refusal.{Refusal}
 use Rattle.mesa_model.specs.declared.replies.Refusal.TheVariants as no
-use Rattle.mesa_model.specs.Warehouse.{Store, Warehouse}
+use Rattle.mesa_model.specs.Warehouse.{Table, Store, Warehouse}
 use Rattle.mesa_model.specs.Relations.{Relation, relation_of, relation_columns, relation_content}
 use Rattle.mesa_model.specs.Refusals.{no_such_table, refuse_closed, query_refusal}
 use Rattle.mesa_model.specs.Versions.{version_asked}
@@ -41,11 +41,11 @@ store_asked w session (asks.Pin token) = do
   pin ← ok_or (pin_of w session token) (no.NoPin token)
   Ok pin.store
 
--- the version that a query asks of these tables: a pin's own, or one that can be queried
-abbrev pub version_seen : Warehouse → Store → VersionWord → Result ℕ Refusal
-version_seen w store asks.Latest = version_asked w asks.Latest
-version_seen w store (asks.At version) = version_asked w (asks.At version)
-version_seen w store (asks.Pin token) = Ok store.oldest
+-- the version that a query asks of a table among these: a pin's own, or one at which the table can be queried
+abbrev pub version_seen : Warehouse → Store → Table → VersionWord → Result ℕ Refusal
+version_seen w store t asks.Latest = version_asked w t.oldest asks.Latest
+version_seen w store t (asks.At version) = version_asked w t.oldest (asks.At version)
+version_seen w store t (asks.Pin token) = Ok store.floor
 
 -- The rows of an answer: those that meet the filter, grouped by the group columns.
 abbrev pub answer_rows : Columns → Asked → List Row → List Row
@@ -56,9 +56,9 @@ abbrev pub heading_of : Columns → QueryWords → ℕ → ℕ → Asked → Hea
 heading_of s words version epoch asked = record { kinds = chosen asked.columns (kinds_of s); prefix = resume_prefix s words.relation version epoch asked.columns }
 
 -- the answer over a relation's content at a version, after a resume key
-abbrev pub answer_over : Store → Relation → QueryWords → ℕ → Asked → Option (List ℕ) → Answer
-answer_over store relation words version asked resume = record {
-  page = page_of version words.limit resume (answer_rows (relation_columns relation) asked (relation_content store relation version));
+abbrev pub answer_over : Relation → QueryWords → ℕ → Asked → Option (List ℕ) → Answer
+answer_over relation words version asked resume = record {
+  page = page_of version words.limit resume (answer_rows (relation_columns relation) asked (relation_content relation version));
   heading = heading_of (relation_columns relation) words version (epoch_of relation.table.lineage) asked;
 }
 
@@ -69,6 +69,6 @@ query_answer w session words = do
   store ← store_asked w session words.version
   relation ← ok_or (relation_of store words.relation) no_such_table
   asked ← refused_as query_refusal (asked_of (relation_columns relation) words)
-  version ← version_seen w store words.version
+  version ← version_seen w store relation.table words.version
   resume ← refused_as query_refusal (resume_of (relation_columns relation) words.relation version (epoch_of relation.table.lineage) asked.columns words.resume)
-  Ok (answer_over store relation words version asked resume)
+  Ok (answer_over relation words version asked resume)

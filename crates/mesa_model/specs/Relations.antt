@@ -56,5 +56,5 @@ rows_seen s None rows = rows
 rows_seen s (Some view) rows = view_rows s view rows
 
 -- The content of a relation at a version: a table's own, or for a view its table's, grouped.
-abbrev pub relation_content : Store → Relation → ℕ → List Row
-relation_content s r version = rows_seen (columns_of r.table.lineage) r.view (content_at s r.table version)
+abbrev pub relation_content : Relation → ℕ → List Row
+relation_content r version = rows_seen (columns_of r.table.lineage) r.view (content_at r.table version)

@@ -40,5 +40,5 @@ step w session (command.Query words) = (w, reply_to_query (query_answer w sessio
 step w session (command.Explain words) = done_or_refused w (nothing_done w)
 step w session (command.Pin version) = done_or_refused w (make_pin w session version)
 step w session (command.Release token) = done_or_refused w (release_pin w session token)
-step w session (command.Expire version) = done_or_refused w (expire_to w version)
+step w session (command.Expire table version) = done_or_refused w (expire_to w table version)
 step w session (command.Work table) = done_or_refused w (nothing_done w)

@@ -41,13 +41,14 @@ columns_asked t = record {
 abbrev pub names_are_good : Columns → Bool
 names_are_good s = list_all is_name (key_names s) && list_all is_name (value_names s)
 
--- a table without rows at each version that is there
+-- a table without rows at each version from the floor on
 abbrev pub new_table : Warehouse → List ℕ → Columns → Table
 new_table w name s = record {
   name = name;
   lineage = record { first = s; changes = []; views = [] };
   totals = replicate (sums_in (aggs_of s)) 0;
-  contents = replicate (w.next - w.store.oldest) [];
+  oldest = w.store.floor;
+  contents = replicate (w.next - w.store.floor) [];
 }
 
 -- The warehouse with a table more, or the first refusal.

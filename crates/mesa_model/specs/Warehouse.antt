@@ -3,17 +3,18 @@ use Rattle.std.specs.Prelude.{ℕ, ◌-◌, ◌^◌, List, [], Option, Some, Non
 use Rattle.mesa_schema.specs.declared.rows.Row.{Row}
 use Rattle.mesa_schema.specs.Changes.{Lineage}
 
--- A table: its name, its columns through its life with its views, its absolute totals for each sum column, and its content at each version from the oldest on.
+-- A table: its name, its columns through its life with its views, its absolute totals for each sum column, its oldest version that can be queried, and its content at each version from that one on.
 pub record Table : Type 0 where
   pub name : List ℕ
   pub lineage : Lineage
   pub totals : List ℕ
+  pub oldest : ℕ
   pub contents : List (List Row)
 
--- The tables in the order in which they were made, and the oldest version that can be queried.
+-- The tables in the order in which they were made, and the floor: the version that is the oldest one of a table when it is made, at most every table's oldest.
 pub record Store : Type 0 where
   pub tables : List Table
-  pub oldest : ℕ
+  pub floor : ℕ
 
 -- A held pin: whose it is, its token, its version, and a copy of the tables with their contents at that version alone.
 pub record Pin : Type 0 where
@@ -32,7 +33,7 @@ pub record Warehouse : Type 0 where
 
 -- A warehouse in which nothing was done yet.
 abbrev pub empty_warehouse : Warehouse
-empty_warehouse = record { store = record { tables = []; oldest = 0 }; next = 0; given = []; pins = []; closed = None }
+empty_warehouse = record { store = record { tables = []; floor = 0 }; next = 0; given = []; pins = []; closed = None }
 
 -- ---- limits
 
@@ -55,14 +56,14 @@ abbrev pub newest_of : Warehouse → Option ℕ
 newest_of w = if w.next == 0 then None else Some (w.next - 1)
 
 -- a table's content at a version
-abbrev pub content_at : Store → Table → ℕ → List Row
-content_at s t version = slice_index_or t.contents (version - s.oldest) []
+abbrev pub content_at : Table → ℕ → List Row
+content_at t version = slice_index_or t.contents (version - t.oldest) []
 
 -- ---- tables by number
 
 -- what stands for a table that isn't there
 abbrev pub no_table : Table
-no_table = record { name = []; lineage = record { first = record { keys = []; values = [] }; changes = []; views = [] }; totals = []; contents = [] }
+no_table = record { name = []; lineage = record { first = record { keys = []; values = [] }; changes = []; views = [] }; totals = []; oldest = 0; contents = [] }
 
 -- the table of a number
 abbrev pub table_at : Store → ℕ → Table

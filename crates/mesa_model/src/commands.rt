@@ -73,8 +73,8 @@ pub enum Command {
     Pin(VersionWord),
     /// The token of a pin that the session gives back.
     Release(u32),
-    /// The version below which none is to be asked for any more.
-    Expire(u32),
+    /// The version below which none is to be asked for any more, of one table or of all.
+    Expire { table: Option<Words>, version: u32 },
     /// The table of which deltas are to be merged.
     Work(Words),
 }
@@ -91,7 +91,10 @@ impl Drop for Command {
             Command::Explain(_) => {}
             Command::Pin(_) => {}
             Command::Release(_) => {}
-            Command::Expire(_) => {}
+            Command::Expire {
+                table: _,
+                version: _,
+            } => {}
             Command::Work(_) => {}
         }
     }

@@ -90,7 +90,16 @@ impl TryCopy for Command {
             Command::Explain(words) => Command::Explain(words.copy()?),
             Command::Pin(version) => Command::Pin(*version),
             Command::Release(token) => Command::Release(*token),
-            Command::Expire(version) => Command::Expire(*version),
+            Command::Expire { table, version } => {
+                let table = match table {
+                    None => None,
+                    Some(name) => Some(name.copy()?),
+                };
+                Command::Expire {
+                    table,
+                    version: *version,
+                }
+            }
             Command::Work(table) => Command::Work(table.copy()?),
         })
     }
@@ -204,7 +213,16 @@ impl TryCopy for Reply {
                 version: *version,
             },
             Reply::Released { token } => Reply::Released { token: *token },
-            Reply::Expired { oldest } => Reply::Expired { oldest: *oldest },
+            Reply::Expired { table, oldest } => {
+                let table = match table {
+                    None => None,
+                    Some(name) => Some(name.copy()?),
+                };
+                Reply::Expired {
+                    table,
+                    oldest: *oldest,
+                }
+            }
             Reply::Swapped { from, to } => Reply::Swapped {
                 from: *from,
                 to: *to,

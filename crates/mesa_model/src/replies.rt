@@ -174,7 +174,8 @@ pub enum Reply {
     Spans(Items<(u32, u32)>),
     Pinned { token: u32, version: u32 },
     Released { token: u32 },
-    Expired { oldest: u32 },
+    /// The oldest version of one table, or of all where none is named.
+    Expired { table: Option<Name>, oldest: u32 },
     /// The deltas of these versions were merged into one.
     Swapped { from: u32, to: u32 },
     /// There is nothing to merge.
@@ -207,7 +208,10 @@ impl Drop for Reply {
                 version: _,
             } => {}
             Reply::Released { token: _ } => {}
-            Reply::Expired { oldest: _ } => {}
+            Reply::Expired {
+                table: _,
+                oldest: _,
+            } => {}
             Reply::Swapped { from: _, to: _ } => {}
             Reply::Idle => {}
             Reply::Busy { lease: _ } => {}

@@ -66,6 +66,7 @@ few_kept c (record_of.Alter table change) fit few = few
 few_kept c (record_of.Publish version parts) fit few = few
 few_kept c (record_of.Swap table base from to epoch files) fit few = few
 few_kept c (record_of.Expire version) fit few = few
+few_kept c (record_of.ExpireTable table version) fit few = few
 
 few_applied : (c d : Catalog) (r : Record) (b : Bool) → fits c r ≡ b → applied_if c r b ≡ Some d → Few c → Few d
 few_applied c d r true fit is few = (let same : applied c r ≡ d = (let e : Some (applied c r) ≡ Some d = is in cc) in subst Few same (few_kept c r fit few))

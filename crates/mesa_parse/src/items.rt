@@ -133,13 +133,21 @@ fn release(fields: &ByteRecord) -> Result<Command, Failed>
     Ok(Command::Release(token))
 }
 
-// The version below which none is to be asked for any more.
-fn expire(fields: &ByteRecord) -> Result<Command, Failed>
+// The version below which none is to be asked for any more, of the table that is named or of all.
+fn expire(alloc: Global, fields: &ByteRecord) -> Result<Command, Failed>
     ensures read { IfOk result (λ command. item_of Expire (fields_of fields.now) ≡ Ok (Single command)) }
     ensures refused { IfErr result (λ e. Tells e (item_of Expire (fields_of fields.now))) }
 {
+    if fields.len() == 3 {
+        let version = number_in(0, MAX_NUMBER, field(fields, 2))?;
+        let table = Some(words(alloc, fields, 1)?);
+        return Ok(Command::Expire { table, version });
+    }
     let version = number_in(0, MAX_NUMBER, field(fields, 1))?;
-    Ok(Command::Expire(version))
+    Ok(Command::Expire {
+        table: None,
+        version,
+    })
 }
 
 // The table of which deltas are to be merged.
@@ -166,7 +174,7 @@ pub(crate) fn read_item(alloc: Global, kind: Kind, fields: &ByteRecord) -> Resul
         Kind::Explain => explain(alloc, fields)?,
         Kind::Pin => pin(fields)?,
         Kind::Release => release(fields)?,
-        Kind::Expire => expire(fields)?,
+        Kind::Expire => expire(alloc, fields)?,
         Kind::Work => work(alloc, fields)?,
     };
     Ok(Said::Single(command))

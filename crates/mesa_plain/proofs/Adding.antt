@@ -1,5 +1,5 @@
 -- A table more.
-use Rattle.std.proofs.Common.{◌≡◌, ◌<◌, ◌≤◌, ◌+◌, ◌-◌, ◌^◌, ℕ, zero, suc, List, [], ◌∷◌, ◌++◌, length, get_or, replicate, cond, Some, refl, sym, ◌∙◌, ap, subst, arith, append_assoc, length-append}
+use Rattle.std.proofs.Common.{◌≡◌, ◌<◌, ◌≤◌, ◌+◌, ◌-◌, ◌^◌, ℕ, zero, suc, List, [], ◌∷◌, ◌++◌, drop, length, get_or, replicate, cond, Some, refl, sym, ◌∙◌, ap, subst, arith, append_assoc, length-append}
 use Rattle.std.specs.Prelude.{slice_get}
 use Rattle.std.specs.List.{AllByRecursion}
 use Rattle.std.proofs.lemmas.List.{length-map, length-replicate}
@@ -11,22 +11,30 @@ use Rattle.mesa_schema.specs.Changes.{columns_of}
 use Rattle.mesa_batch.specs.Glance.{Known}
 use Rattle.mesa_batch.specs.Totals.{is_sum, sums_in}
 use Rattle.mesa_model.specs.Warehouse.{max_tables}
-use Rattle.mesa_plain.specs.Kept.{Contents, contents_in, shared, tables_in}
-use Rattle.mesa_plain.specs.Sound.{AreKept, HasTotals, IsHeld}
+use Rattle.mesa_plain.specs.Kept.{Contents, From, contents_in, oldest_in, shared, tables_in}
+use Rattle.mesa_plain.specs.Sound.{AreKept, HasTotals, IsHeld, IsOldest}
 use Rattle.mesa_plain.proofs.Items.{get_or-before, get_or-last, one_more}
 use Rattle.mesa_plain.proofs.Newest.{past}
 use Rattle.mesa_plain.proofs.Stores.{nothing_held}
 use Rattle.mesa_plain.proofs.SumNames.{named}
 
-pub tables_more : (n : ℕ) (totals : List (List ℕ)) (t : List ℕ) (versions : List Contents) (tables : List Known) (k : Known) → n + length tables ≡ length totals
-    → tables_in n (totals ++ t ∷ []) versions (tables ++ k ∷ []) ≡ tables_in n totals versions tables ++ record { name = k.name; lineage = k.lineage; totals = t; contents = contents_in (length totals) versions } ∷ []
-tables_more n totals t versions [] k e =
+-- one more table, of which the floor is the oldest version
+abbrev pub from_more : From → From
+from_more from = record { floor = from.floor; oldests = from.oldests ++ from.floor ∷ [] }
+
+pub tables_more : (from : From) (n : ℕ) (totals : List (List ℕ)) (t : List ℕ) (versions : List Contents) (tables : List Known) (k : Known) → n + length tables ≡ length totals → length from.oldests ≡ length totals
+    → tables_in (from_more from) n (totals ++ t ∷ []) versions (tables ++ k ∷ []) ≡ tables_in from n totals versions tables ++ record { name = k.name; lineage = k.lineage; totals = t; oldest = from.floor; contents = contents_in (length totals) versions } ∷ []
+tables_more from n totals t versions [] k e many =
     let at : n ≡ length totals = omega (arith, e) in
     let last : get_or (totals ++ t ∷ []) n [] ≡ t = ap (λ m. get_or (totals ++ t ∷ []) m []) at ∙ get_or-last totals t [] in
-    λ j. record { name = k.name; lineage = k.lineage; totals = last j; contents = contents_in (at j) versions } ∷ []
-tables_more n totals t versions (q ∷ tables) k e =
+    let place : n ≡ length from.oldests = omega (arith, at, many) in
+    let oldest : oldest_in n (from_more from) ≡ from.floor = ap (λ m. get_or (from.oldests ++ from.floor ∷ []) m 0) place ∙ get_or-last from.oldests from.floor 0 in
+    let none : oldest_in n (from_more from) - from.floor ≡ 0 = omega (arith, oldest) in
+    λ j. record { name = k.name; lineage = k.lineage; totals = last j; oldest = oldest j; contents = (ap (λ m. drop m (contents_in n versions)) none ∙ ap (λ m. contents_in m versions) at) j } ∷ []
+tables_more from n totals t versions (q ∷ tables) k e many =
     let same : get_or (totals ++ t ∷ []) n [] ≡ get_or totals n [] = get_or-before totals t [] n (omega (arith, e)) in
-    λ j. record { name = q.name; lineage = q.lineage; totals = same j; contents = contents_in n versions } ∷ tables_more (n + 1) totals t versions tables k (omega (arith, e)) j
+    let oldest : oldest_in n (from_more from) ≡ oldest_in n from = get_or-before from.oldests from.floor 0 n (omega (arith, e, many)) in
+    λ j. record { name = q.name; lineage = q.lineage; totals = same j; oldest = oldest j; contents = drop (oldest j - from.floor) (contents_in n versions) } ∷ tables_more from (n + 1) totals t versions tables k (omega (arith, e)) many j
 
 -- no version has a content of a table that isn't there
 pub none_there : (number : ℕ) (versions : List Contents) → AllByRecursion (λ (c : Contents). length c ≤ number) versions → contents_in number versions ≡ replicate (length versions) []
@@ -57,9 +65,13 @@ all_empty : (s : Columns) (totals : List ℕ) (n : ℕ) → IsHeld s totals [] �
 all_empty s totals zero none = tt
 all_empty s totals (suc n) none = (none, all_empty s totals n none)
 
-pub kept_more : (tables : List Known) (totals : List (List ℕ)) (versions : List Contents) (oldest next : ℕ) (k : Known) (t : List ℕ) → AreKept tables totals versions oldest next → length tables < max_tables → t ≡ replicate (sums_in (aggs_of (columns_of k.lineage))) 0
-    → AreKept (tables ++ k ∷ []) (totals ++ t ∷ []) versions oldest next
-kept_more tables totals versions oldest next k t kept few is =
+all_more : {X : Type 0} (P : X → Type 0) (xs : List X) (x : X) → AllByRecursion P xs → P x → AllByRecursion P (xs ++ x ∷ [])
+all_more P [] x all own = (own, tt)
+all_more P (y ∷ xs) x all own = (all.0, all_more P xs x all.1 own)
+
+pub kept_more : (tables : List Known) (totals : List (List ℕ)) (versions : List Contents) (from : From) (next : ℕ) (k : Known) (t : List ℕ) → AreKept tables totals versions from next → length tables < max_tables → t ≡ replicate (sums_in (aggs_of (columns_of k.lineage))) 0
+    → AreKept (tables ++ k ∷ []) (totals ++ t ∷ []) versions (from_more from) next
+kept_more tables totals versions from next k t kept few is =
     let all = tables ++ k ∷ [] in
     let long : length all ≡ length tables + 1 = length-append tables (k ∷ []) in
     let there : slice_get all (length tables) ≡ Some k = get-last tables k in
@@ -69,21 +81,24 @@ kept_more tables totals versions oldest next k t kept few is =
     record {
       few = omega (arith, long, few);
       count = omega (arith, long, length-append totals (t ∷ []), kept.count);
+      oldests = omega (arith, long, length-append from.oldests (from.floor ∷ []), kept.oldests);
+      apart = all_more (IsOldest from.floor next) from.oldests from.floor kept.apart (omega arith, kept.floor);
       widths = wider (length tables) (length all) versions (omega (arith, long)) kept.widths;
       numbers = kept.numbers;
+      floor = kept.floor;
       most = kept.most;
       have = λ n q e. one_more (λ (m : ℕ) (p : Known) (ts : List ℕ). HasTotals (columns_of p.lineage) ts) totals t [] all (length tables) k kept.count there has (λ m p lt f. kept.have m p (sym (get-before tables k m lt) ∙ f)) n q (omega (arith, long, slice_get_within all n q e)) e;
       held = λ n q e. one_more (λ (m : ℕ) (p : Known) (ts : List ℕ). AllByRecursion (IsHeld (columns_of p.lineage) ts) (contents_in m versions)) totals t [] all (length tables) k kept.count there empty (λ m p lt f. kept.held m p (sym (get-before tables k m lt) ∙ f)) n q (omega (arith, long, slice_get_within all n q e)) e;
     }
 
 -- the tables with one more, which has no rows at each version that is there
-pub added : (tables : List Known) (totals : List (List ℕ)) (versions : List Contents) (oldest next : ℕ) (k : Known) (t : List ℕ) (s : Columns) → AreKept tables totals versions oldest next → k.lineage ≡ record { first = s; changes = []; views = [] } → t ≡ replicate (sums_in (aggs_of s)) 0
-    → tables_in 0 (totals ++ t ∷ []) versions (tables ++ k ∷ []) ≡ tables_in 0 totals versions tables ++ record { name = k.name; lineage = record { first = s; changes = []; views = [] }; totals = replicate (sums_in (aggs_of s)) 0; contents = replicate (next - oldest) [] } ∷ []
-added tables totals versions oldest next k t s kept lineage is =
-    let many : length versions ≡ next - oldest = omega (arith, kept.numbers) in
-    let none : contents_in (length totals) versions ≡ replicate (next - oldest) [] = ap (λ n. contents_in n versions) kept.count ∙ none_there (length tables) versions kept.widths ∙ ap (λ n. replicate n []) many in
-    tables_more 0 totals t versions tables k (omega (arith, kept.count))
-    ∙ (λ j. tables_in 0 totals versions tables ++ record { name = k.name; lineage = lineage j; totals = is j; contents = none j } ∷ [])
+pub added : (tables : List Known) (totals : List (List ℕ)) (versions : List Contents) (from : From) (next : ℕ) (k : Known) (t : List ℕ) (s : Columns) → AreKept tables totals versions from next → k.lineage ≡ record { first = s; changes = []; views = [] } → t ≡ replicate (sums_in (aggs_of s)) 0
+    → tables_in (from_more from) 0 (totals ++ t ∷ []) versions (tables ++ k ∷ []) ≡ tables_in from 0 totals versions tables ++ record { name = k.name; lineage = record { first = s; changes = []; views = [] }; totals = replicate (sums_in (aggs_of s)) 0; oldest = from.floor; contents = replicate (next - from.floor) [] } ∷ []
+added tables totals versions from next k t s kept lineage is =
+    let many : length versions ≡ next - from.floor = omega (arith, kept.numbers) in
+    let none : contents_in (length totals) versions ≡ replicate (next - from.floor) [] = ap (λ n. contents_in n versions) kept.count ∙ none_there (length tables) versions kept.widths ∙ ap (λ n. replicate n []) many in
+    tables_more from 0 totals t versions tables k (omega (arith, kept.count)) (kept.oldests ∙ sym kept.count)
+    ∙ (λ j. tables_in from 0 totals versions tables ++ record { name = k.name; lineage = lineage j; totals = is j; oldest = from.floor; contents = none j } ∷ [])
 
 -- ---- zeros for the sum columns
 

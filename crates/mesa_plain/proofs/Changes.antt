@@ -23,10 +23,10 @@ use Rattle.mesa_batch.specs.Totals.{AreAtMost, abs_total, abs_totals, is_sum, su
 use Rattle.mesa_batch.proofs.LastTotals.{totals_last}
 use Rattle.mesa_model.specs.Tables.{table_changed}
 use Rattle.mesa_plain.specs.Found.{known_at, no_known}
-use Rattle.mesa_plain.specs.Kept.{Contents, all_shared, content_in, contents_in, contents_lifted, shared, table_in, tables_in, totals_in}
+use Rattle.mesa_plain.specs.Kept.{Contents, From, all_shared, content_in, contents_in, contents_lifted, gone_in, oldest_in, shared, table_in, tables_in, totals_in}
 use Rattle.mesa_plain.specs.Sound.{AreKept, HasTotals, IsHeld}
 use Rattle.mesa_plain.proofs.Items.{map_there}
-use Rattle.mesa_plain.proofs.Stores.{nothing_held}
+use Rattle.mesa_plain.proofs.Stores.{drop-map, nothing_held}
 
 -- ---- a row through one change
 
@@ -154,31 +154,33 @@ pub record IsChanged (s : Columns) (c : Change) (i : ℕ) (totals after : List (
   pub own_contents : contents_in i later ≡ map (map (lifted_once s c)) (contents_in i versions)
   pub other_contents : (n : ℕ) → n ≢ i → contents_in n later ≡ contents_in n versions
 
-tables_same : (n i : ℕ) (totals after : List (List ℕ)) (versions later : List Contents) (tables : List Known) → i < n → ((m : ℕ) → m ≢ i → totals_in m after ≡ totals_in m totals) → ((m : ℕ) → m ≢ i → contents_in m later ≡ contents_in m versions)
-    → tables_in n after later tables ≡ tables_in n totals versions tables
-tables_same n i totals after versions later [] below same stay = refl
-tables_same n i totals after versions later (k ∷ tables) below same stay =
+tables_same : (from : From) (n i : ℕ) (totals after : List (List ℕ)) (versions later : List Contents) (tables : List Known) → i < n → ((m : ℕ) → m ≢ i → totals_in m after ≡ totals_in m totals) → ((m : ℕ) → m ≢ i → contents_in m later ≡ contents_in m versions)
+    → tables_in from n after later tables ≡ tables_in from n totals versions tables
+tables_same from n i totals after versions later [] below same stay = refl
+tables_same from n i totals after versions later (k ∷ tables) below same stay =
     let other : n ≢ i = λ e. omega (arith, below, e) in
-    λ j. record { name = k.name; lineage = k.lineage; totals = same n other j; contents = stay n other j } ∷ tables_same (n + 1) i totals after versions later tables (omega (arith, below)) same stay j
+    λ j. record { name = k.name; lineage = k.lineage; totals = same n other j; oldest = oldest_in n from; contents = drop (gone_in n from) (stay n other j) } ∷ tables_same from (n + 1) i totals after versions later tables (omega (arith, below)) same stay j
 
-tables_set : (n i at : ℕ) (totals after : List (List ℕ)) (versions later : List Contents) (tables : List Known) (q : Known) → at ≡ n + i → i < length tables → ((m : ℕ) → m ≢ at → totals_in m after ≡ totals_in m totals) → ((m : ℕ) → m ≢ at → contents_in m later ≡ contents_in m versions)
-    → tables_in n after later (set tables i q) ≡ set (tables_in n totals versions tables) i (table_in at after later q)
-tables_set n i at totals after versions later [] q is lt same stay = absurd (omega (arith, lt))
-tables_set n zero at totals after versions later (k ∷ tables) q is lt same stay =
+tables_set : (from : From) (n i at : ℕ) (totals after : List (List ℕ)) (versions later : List Contents) (tables : List Known) (q : Known) → at ≡ n + i → i < length tables → ((m : ℕ) → m ≢ at → totals_in m after ≡ totals_in m totals) → ((m : ℕ) → m ≢ at → contents_in m later ≡ contents_in m versions)
+    → tables_in from n after later (set tables i q) ≡ set (tables_in from n totals versions tables) i (table_in from at after later q)
+tables_set from n i at totals after versions later [] q is lt same stay = absurd (omega (arith, lt))
+tables_set from n zero at totals after versions later (k ∷ tables) q is lt same stay =
     let here : n ≡ at = omega (arith, is) in
-    λ j. table_in (here j) after later q ∷ tables_same (n + 1) at totals after versions later tables (omega (arith, is)) same stay j
-tables_set n (suc i) at totals after versions later (k ∷ tables) q is lt same stay =
+    λ j. table_in from (here j) after later q ∷ tables_same from (n + 1) at totals after versions later tables (omega (arith, is)) same stay j
+tables_set from n (suc i) at totals after versions later (k ∷ tables) q is lt same stay =
     let other : n ≢ at = λ e. omega (arith, is, e) in
-    λ j. record { name = k.name; lineage = k.lineage; totals = same n other j; contents = stay n other j } ∷ tables_set (n + 1) i at totals after versions later tables q (omega (arith, is)) (omega (arith, lt)) same stay j
+    λ j. record { name = k.name; lineage = k.lineage; totals = same n other j; oldest = oldest_in n from; contents = drop (gone_in n from) (stay n other j) } ∷ tables_set from (n + 1) i at totals after versions later tables q (omega (arith, is)) (omega (arith, lt)) same stay j
 
-pub tables_changed : (s : Columns) (c : Change) (i : ℕ) (totals after : List (List ℕ)) (versions later : List Contents) (tables : List Known) → IsChanged s c i totals after versions later → i < length tables → s ≡ columns_of (known_at i tables).lineage
-    → tables_in 0 after later (set tables i (record (known_at i tables) { lineage = with_change (known_at i tables).lineage c })) ≡ set (tables_in 0 totals versions tables) i (table_changed (table_in i totals versions (known_at i tables)) c)
-tables_changed s c i totals after versions later tables is lt columns =
+pub tables_changed : (from : From) (s : Columns) (c : Change) (i : ℕ) (totals after : List (List ℕ)) (versions later : List Contents) (tables : List Known) → IsChanged s c i totals after versions later → i < length tables → s ≡ columns_of (known_at i tables).lineage
+    → tables_in from 0 after later (set tables i (record (known_at i tables) { lineage = with_change (known_at i tables).lineage c })) ≡ set (tables_in from 0 totals versions tables) i (table_changed (table_in from i totals versions (known_at i tables)) c)
+tables_changed from s c i totals after versions later tables is lt columns =
     let k = known_at i tables in
     let own : totals_in i after ≡ totals_after (columns_of k.lineage) c (totals_in i totals) = is.own_totals ∙ ap (λ (p : Columns). totals_after p c (totals_in i totals)) columns in
     let contents : contents_in i later ≡ map (map (lifted_once (columns_of k.lineage) c)) (contents_in i versions) = is.own_contents ∙ ap (λ (p : Columns). map (map (lifted_once p c)) (contents_in i versions)) columns in
-    tables_set 0 i i totals after versions later tables (record k { lineage = with_change k.lineage c }) (sym (zero-add i)) lt is.other_totals is.other_contents
-    ∙ (λ j. set (tables_in 0 totals versions tables) i (record { name = k.name; lineage = with_change k.lineage c; totals = own j; contents = contents j }))
+    let left : drop (gone_in i from) (contents_in i later) ≡ map (map (lifted_once (columns_of k.lineage) c)) (drop (gone_in i from) (contents_in i versions)) =
+    ap (drop (gone_in i from)) contents ∙ sym (drop-map (map (lifted_once (columns_of k.lineage) c)) (gone_in i from) (contents_in i versions)) in
+    tables_set from 0 i i totals after versions later tables (record k { lineage = with_change k.lineage c }) (sym (zero-add i)) lt is.other_totals is.other_contents
+    ∙ (λ j. set (tables_in from 0 totals versions tables) i (record { name = k.name; lineage = with_change k.lineage c; totals = own j; oldest = oldest_in i from; contents = left j }))
 
 -- ---- what is kept of them
 
@@ -212,10 +214,10 @@ widths_lifted lift i count (c ∷ versions) (d ∷ later) is all =
 many_lifted : (lift : Lift) (i : ℕ) (versions later : List Contents) → all_shared later ≡ map (contents_lifted i lift) (all_shared versions) → length later ≡ length versions
 many_lifted lift i versions later is = sym (length-map later shared) ∙ ap length is ∙ length-map (all_shared versions) (contents_lifted i lift) ∙ length-map versions shared
 
-pub kept_changed : (tables : List Known) (totals after : List (List ℕ)) (versions later : List Contents) (oldest next i : ℕ) (c : Change) (lift : Lift) → AreKept tables totals versions oldest next → i < length tables → HasDefault c
+pub kept_changed : (tables : List Known) (totals after : List (List ℕ)) (versions later : List Contents) (from : From) (next i : ℕ) (c : Change) (lift : Lift) → AreKept tables totals versions from next → i < length tables → HasDefault c
     → IsChanged (columns_of (known_at i tables).lineage) c i totals after versions later → length after ≡ length totals → all_shared later ≡ map (contents_lifted i lift) (all_shared versions)
-    → AreKept (set tables i (record (known_at i tables) { lineage = with_change (known_at i tables).lineage c })) after later oldest next
-kept_changed tables totals after versions later oldest next i c lift kept lt default is as_before lifted =
+    → AreKept (set tables i (record (known_at i tables) { lineage = with_change (known_at i tables).lineage c })) after later from next
+kept_changed tables totals after versions later from next i c lift kept lt default is as_before lifted =
     let k = known_at i tables in
     let l = k.lineage in
     let s : Columns = columns_of l in
@@ -232,8 +234,11 @@ kept_changed tables totals after versions later oldest next i c lift kept lt def
     record {
       few = omega (arith, long, kept.few);
       count = as_before ∙ kept.count ∙ sym long;
+      oldests = kept.oldests ∙ sym long;
+      apart = kept.apart;
       widths = subst (λ n. AllByRecursion (λ (contents : Contents). length contents ≤ n) later) (sym long) (widths_lifted lift i (length tables) versions later lifted kept.widths);
       numbers = omega (arith, many_lifted lift i versions later lifted, kept.numbers);
+      floor = kept.floor;
       most = kept.most;
       have = λ n p e. elim (one_set tables i n q p e) [
         | inl w ↦ subst (λ (x : Known). HasTotals (columns_of x.lineage) (totals_in n after)) w.1 (subst (λ m. HasTotals (columns_of q.lineage) (totals_in m after)) (sym w.0) has)
@@ -246,10 +251,10 @@ kept_changed tables totals after versions later oldest next i c lift kept lt def
     }
 
 -- the totals in which those of one table were set, and the versions in which its rows were lifted, are those after a change
-pub is_changed : (tables : List Known) (totals : List (List ℕ)) (own : List ℕ) (versions later : List Contents) (oldest next i epoch : ℕ) (c : Change) (lift : Lift) → AreKept tables totals versions oldest next → i < length tables
+pub is_changed : (tables : List Known) (totals : List (List ℕ)) (own : List ℕ) (versions later : List Contents) (from : From) (next i epoch : ℕ) (c : Change) (lift : Lift) → AreKept tables totals versions from next → i < length tables
     → own ≡ totals_after (columns_of (known_at i tables).lineage) c (totals_in i totals) → epoch ≡ epoch_of (known_at i tables).lineage → Lifts lift (with_change (known_at i tables).lineage c) epoch → all_shared later ≡ map (contents_lifted i lift) (all_shared versions)
     → IsChanged (columns_of (known_at i tables).lineage) c i totals (set totals i own) versions later
-is_changed tables totals own versions later oldest next i epoch c lift kept lt is at lifts lifted =
+is_changed tables totals own versions later from next i epoch c lift kept lt is at lifts lifted =
     let k = known_at i tables in
     let there : slice_get tables i ≡ Some k = slice_get-get_or tables i no_known lt in
     record {
@@ -260,12 +265,12 @@ is_changed tables totals own versions later oldest next i epoch c lift kept lt i
     }
 
 -- the totals of a table that is there
-pub own_count : (tables : List Known) (totals : List (List ℕ)) (versions : List Contents) (oldest next i : ℕ) → AreKept tables totals versions oldest next → i < length tables → length (totals_in i totals) ≡ sums_in (aggs_of (columns_of (known_at i tables).lineage))
-own_count tables totals versions oldest next i kept lt = (kept.have i (known_at i tables) (slice_get-get_or tables i no_known lt)).count
+pub own_count : (tables : List Known) (totals : List (List ℕ)) (versions : List Contents) (from : From) (next i : ℕ) → AreKept tables totals versions from next → i < length tables → length (totals_in i totals) ≡ sums_in (aggs_of (columns_of (known_at i tables).lineage))
+own_count tables totals versions from next i kept lt = (kept.have i (known_at i tables) (slice_get-get_or tables i no_known lt)).count
 
 -- ---- the same as a change of a store tells it
 
-module _ (tables later_tables : List Known) (totals : List (List ℕ)) (own : List ℕ) (versions later : List Contents) (oldest next i epoch : ℕ) (c : Change) (lift : Lift) (before after : Lineage) where
+module _ (tables later_tables : List Known) (totals : List (List ℕ)) (own : List ℕ) (versions later : List Contents) (from : From) (next i epoch : ℕ) (c : Change) (lift : Lift) (before after : Lineage) where
   after_is : before ≡ (known_at i tables).lineage → after ≡ with_change before c → after ≡ with_change (known_at i tables).lineage c
   after_is was is = is ∙ ap (λ l. with_change l c) was
 
@@ -273,22 +278,22 @@ module _ (tables later_tables : List Known) (totals : List (List ℕ)) (own : Li
       → later_tables ≡ set tables i (record (known_at i tables) { lineage = with_change (known_at i tables).lineage c })
   all_is was is put = put ∙ ap (λ l. set tables i (record (known_at i tables) { lineage = l })) (after_is was is)
 
-  changed_so : AreKept tables totals versions oldest next → i < length tables → before ≡ (known_at i tables).lineage → after ≡ with_change before c → own ≡ totals_after (columns_of before) c (totals_in i totals) → epoch ≡ epoch_of before → Lifts lift after epoch
+  changed_so : AreKept tables totals versions from next → i < length tables → before ≡ (known_at i tables).lineage → after ≡ with_change before c → own ≡ totals_after (columns_of before) c (totals_in i totals) → epoch ≡ epoch_of before → Lifts lift after epoch
       → all_shared later ≡ map (contents_lifted i lift) (all_shared versions) → IsChanged (columns_of (known_at i tables).lineage) c i totals (set totals i own) versions later
   changed_so kept lt was is owned at lifts lifted =
-      is_changed tables totals own versions later oldest next i epoch c lift kept lt (owned ∙ ap (λ l. totals_after (columns_of l) c (totals_in i totals)) was) (at ∙ ap epoch_of was) (subst (λ l. Lifts lift l epoch) (after_is was is) lifts) lifted
+      is_changed tables totals own versions later from next i epoch c lift kept lt (owned ∙ ap (λ l. totals_after (columns_of l) c (totals_in i totals)) was) (at ∙ ap epoch_of was) (subst (λ l. Lifts lift l epoch) (after_is was is) lifts) lifted
 
   -- what is kept still fits together
-  pub kept_after : AreKept tables totals versions oldest next → i < length tables → HasDefault c → before ≡ (known_at i tables).lineage → after ≡ with_change before c → later_tables ≡ set tables i (record (known_at i tables) { lineage = after })
-      → own ≡ totals_after (columns_of before) c (totals_in i totals) → epoch ≡ epoch_of before → Lifts lift after epoch → all_shared later ≡ map (contents_lifted i lift) (all_shared versions) → AreKept later_tables (set totals i own) later oldest next
+  pub kept_after : AreKept tables totals versions from next → i < length tables → HasDefault c → before ≡ (known_at i tables).lineage → after ≡ with_change before c → later_tables ≡ set tables i (record (known_at i tables) { lineage = after })
+      → own ≡ totals_after (columns_of before) c (totals_in i totals) → epoch ≡ epoch_of before → Lifts lift after epoch → all_shared later ≡ map (contents_lifted i lift) (all_shared versions) → AreKept later_tables (set totals i own) later from next
   kept_after kept lt default was is put owned at lifts lifted =
-      subst (λ ks. AreKept ks (set totals i own) later oldest next) (sym (all_is was is put))
-      (kept_changed tables totals (set totals i own) versions later oldest next i c lift kept lt default (changed_so kept lt was is owned at lifts lifted) (length-set totals i own) lifted)
+      subst (λ ks. AreKept ks (set totals i own) later from next) (sym (all_is was is put))
+      (kept_changed tables totals (set totals i own) versions later from next i c lift kept lt default (changed_so kept lt was is owned at lifts lifted) (length-set totals i own) lifted)
 
   -- and the tables are those before, but for the one that was changed
-  pub tables_after : AreKept tables totals versions oldest next → i < length tables → before ≡ (known_at i tables).lineage → after ≡ with_change before c → later_tables ≡ set tables i (record (known_at i tables) { lineage = after })
+  pub tables_after : AreKept tables totals versions from next → i < length tables → before ≡ (known_at i tables).lineage → after ≡ with_change before c → later_tables ≡ set tables i (record (known_at i tables) { lineage = after })
       → own ≡ totals_after (columns_of before) c (totals_in i totals) → epoch ≡ epoch_of before → Lifts lift after epoch → all_shared later ≡ map (contents_lifted i lift) (all_shared versions)
-      → tables_in 0 (set totals i own) later later_tables ≡ set (tables_in 0 totals versions tables) i (table_changed (table_in i totals versions (known_at i tables)) c)
+      → tables_in from 0 (set totals i own) later later_tables ≡ set (tables_in from 0 totals versions tables) i (table_changed (table_in from i totals versions (known_at i tables)) c)
   tables_after kept lt was is put owned at lifts lifted =
-      ap (tables_in 0 (set totals i own) later) (all_is was is put)
-      ∙ tables_changed (columns_of (known_at i tables).lineage) c i totals (set totals i own) versions later tables (changed_so kept lt was is owned at lifts lifted) lt refl
+      ap (tables_in from 0 (set totals i own) later) (all_is was is put)
+      ∙ tables_changed from (columns_of (known_at i tables).lineage) c i totals (set totals i own) versions later tables (changed_so kept lt was is owned at lifts lifted) lt refl

@@ -1,6 +1,7 @@
 -- Commands of a plain warehouse, which nothing closes.
 use Rattle.std.proofs.Common.{◌≡◌, ℕ, List, [], ◌∷◌, length, map, Bool, true, false, Result, Ok, Err, Some, None, refl, ◌∙◌, ap}
 use Rattle.std.specs.Prelude.{filter, is_none, is_some, nat_le, not, Option}
+use Rattle.std.specs.Option.{ok_or}
 use Rattle.mesa_list.specs.Checks.{◌>>=◌, ◌>>◌, refuse_if, refused_as}
 use Rattle.mesa_schema.specs.Changes.{columns_of}
 use Rattle.mesa_batch.specs.declared.words.RowWords.{RowWords}
@@ -11,13 +12,14 @@ use Rattle.mesa_model.specs.declared.replies.Refusal.TheVariants as no
 use Rattle.mesa_model.specs.declared.replies.Reply.{Reply}
 use Rattle.mesa_model.specs.declared.replies.Reply.TheVariants as reply
 use Rattle.mesa_model.specs.Load as load
-use Rattle.mesa_model.specs.Refusals.{batch_refusal}
-use Rattle.mesa_model.specs.Versions.{expire_to, store_from, version_checked}
+use Rattle.mesa_model.specs.Refusals.{batch_refusal, no_such_table}
+use Rattle.mesa_model.specs.Relations.{table_number}
+use Rattle.mesa_model.specs.Versions.{expire_all, expire_table, store_from, version_checked}
 use Rattle.mesa_model.specs.Pins.{is_pin, release_pin, pin_of}
-use Rattle.mesa_model.specs.Warehouse.{Pin, Store, Table, Warehouse, max_versions}
+use Rattle.mesa_model.specs.Warehouse.{Pin, Store, Table, Warehouse, max_versions, table_at}
 use Rattle.mesa_asked.specs.declared.failure.Failure.{Failure}
 use Rattle.mesa_asked.specs.declared.failure.Failure.TheVariants.{Memory, Refused}
-use Rattle.mesa_plain.specs.Kept.{Versioned, known_in, with_batch}
+use Rattle.mesa_plain.specs.Kept.{Versioned, known_in, with_batch, with_table_from}
 use Rattle.mesa_plain.specs.Pinned.{warehouse_of}
 use Rattle.mesa_asked.specs.Told.{IsDue}
 
@@ -67,12 +69,30 @@ load_over s given pins rows placed (Refused r) e full due = loads_as s given pin
 
 -- ---- versions
 
-pub expire_done : (s : Versioned) (given : List ℕ) (pins : List Pin) (version : ℕ) → version_checked (warehouse_of s given pins) version ≡ Ok tt
-    → expire_to (warehouse_of s given pins) version ≡ Ok (warehouse_of (record s { store = store_from s.store version }) given pins, reply.Expired version)
-expire_done s given pins version e = ap (λ r. r >> Ok (warehouse_of (record s { store = store_from s.store version }) given pins, reply.Expired version)) e
+pub expire_done : (s : Versioned) (given : List ℕ) (pins : List Pin) (version : ℕ) → version_checked (warehouse_of s given pins) s.store.floor version ≡ Ok tt
+    → expire_all (warehouse_of s given pins) version ≡ Ok (warehouse_of (record s { store = store_from s.store version }) given pins, reply.Expired None version)
+expire_done s given pins version e = ap (λ r. r >> Ok (warehouse_of (record s { store = store_from s.store version }) given pins, reply.Expired None version)) e
 
-pub expire_refused : (s : Versioned) (given : List ℕ) (pins : List Pin) (version : ℕ) (r : Refusal) → version_checked (warehouse_of s given pins) version ≡ Err r → expire_to (warehouse_of s given pins) version ≡ Err r
-expire_refused s given pins version r e = ap (λ c. c >> Ok (warehouse_of (record s { store = store_from s.store version }) given pins, reply.Expired version)) e
+pub expire_refused : (s : Versioned) (given : List ℕ) (pins : List Pin) (version : ℕ) (r : Refusal) → version_checked (warehouse_of s given pins) s.store.floor version ≡ Err r → expire_all (warehouse_of s given pins) version ≡ Err r
+expire_refused s given pins version r e = ap (λ c. c >> Ok (warehouse_of (record s { store = store_from s.store version }) given pins, reply.Expired None version)) e
+
+-- what the expiry of one table comes to, by the table's number and by whether the version can be queried
+abbrev behind_check : Versioned → List ℕ → List Pin → List ℕ → ℕ → ℕ → Result (Unit {0}) Refusal → Result (Warehouse × Reply) Refusal
+behind_check s given pins name version number checked = checked >> Ok (warehouse_of (with_table_from s number version) given pins, reply.Expired (Some name) version)
+
+abbrev behind_table : Versioned → List ℕ → List Pin → List ℕ → ℕ → Option ℕ → Result (Warehouse × Reply) Refusal
+behind_table s given pins name version found = ok_or found no_such_table >>= (λ number. behind_check s given pins name version number (version_checked (warehouse_of s given pins) (table_at s.store number).oldest version))
+
+pub table_expired : (s : Versioned) (given : List ℕ) (pins : List Pin) (name : List ℕ) (version number : ℕ) → table_number s.store name ≡ Some number → version_checked (warehouse_of s given pins) (table_at s.store number).oldest version ≡ Ok tt
+    → expire_table (warehouse_of s given pins) name version ≡ Ok (warehouse_of (with_table_from s number version) given pins, reply.Expired (Some name) version)
+table_expired s given pins name version number found e = ap (behind_table s given pins name version) found ∙ ap (behind_check s given pins name version number) e
+
+pub table_not_expired : (s : Versioned) (given : List ℕ) (pins : List Pin) (name : List ℕ) (version number : ℕ) (r : Refusal) → table_number s.store name ≡ Some number → version_checked (warehouse_of s given pins) (table_at s.store number).oldest version ≡ Err r
+    → expire_table (warehouse_of s given pins) name version ≡ Err r
+table_not_expired s given pins name version number r found e = ap (behind_table s given pins name version) found ∙ ap (behind_check s given pins name version number) e
+
+pub no_table_expired : (s : Versioned) (given : List ℕ) (pins : List Pin) (name : List ℕ) (version : ℕ) → table_number s.store name ≡ None → expire_table (warehouse_of s given pins) name version ≡ Err no_such_table
+no_table_expired s given pins name version found = ap (behind_table s given pins name version) found
 
 -- ---- pins
 

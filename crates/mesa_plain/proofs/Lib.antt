@@ -14,5 +14,6 @@ pub mod Tables
 pub mod Tokens
 pub mod Seen
 pub mod Viewed
+pub mod Raising
 pub mod Queries
 pub mod Lineages

@@ -12,22 +12,22 @@ use Rattle.mesa_batch.specs.Glance.{Known}
 use Rattle.mesa_batch.specs.Numbers.{known_of}
 use Rattle.mesa_model.specs.Warehouse.{Table, no_table}
 use Rattle.mesa_plain.specs.Found.{known_at}
-use Rattle.mesa_plain.specs.Kept.{Contents, contents_in, table_in, tables_in, totals_in}
+use Rattle.mesa_plain.specs.Kept.{Contents, From, contents_in, table_in, tables_in, totals_in}
 use Rattle.mesa_plain.specs.Sound.{AreKept, HasTotals, IsHeld}
 use Rattle.mesa_plain.proofs.Seen.{some_there}
 
 -- the tables' names
-pub names_kept : (n : ℕ) (totals : List (List ℕ)) (versions : List Contents) (tables : List Glanced)
-    → map (λ (t : Table). t.name) (tables_in n totals versions (map known_of tables)) ≡ map (λ (t : Glanced). t.name) tables
-names_kept n totals versions [] = refl
-names_kept n totals versions (t ∷ tables) = ap (λ names. t.name ∷ names) (names_kept (n + 1) totals versions tables)
+pub names_kept : (from : From) (n : ℕ) (totals : List (List ℕ)) (versions : List Contents) (tables : List Glanced)
+    → map (λ (t : Table). t.name) (tables_in from n totals versions (map known_of tables)) ≡ map (λ (t : Glanced). t.name) tables
+names_kept from n totals versions [] = refl
+names_kept from n totals versions (t ∷ tables) = ap (λ names. t.name ∷ names) (names_kept from (n + 1) totals versions tables)
 
 -- one of the tables has another lineage
-pub tables_set : (n : ℕ) (totals : List (List ℕ)) (versions : List Contents) (tables : List Known) (i : ℕ) (l : Lineage)
-    → tables_in n totals versions (set tables i (record (known_at i tables) { lineage = l })) ≡ set (tables_in n totals versions tables) i (record (slice_index_or (tables_in n totals versions tables) i no_table) { lineage = l })
-tables_set n totals versions [] i l = refl
-tables_set n totals versions (k ∷ tables) zero l = refl
-tables_set n totals versions (k ∷ tables) (suc i) l = ap (λ ts. table_in n totals versions k ∷ ts) (tables_set (n + 1) totals versions tables i l)
+pub tables_set : (from : From) (n : ℕ) (totals : List (List ℕ)) (versions : List Contents) (tables : List Known) (i : ℕ) (l : Lineage)
+    → tables_in from n totals versions (set tables i (record (known_at i tables) { lineage = l })) ≡ set (tables_in from n totals versions tables) i (record (slice_index_or (tables_in from n totals versions tables) i no_table) { lineage = l })
+tables_set from n totals versions [] i l = refl
+tables_set from n totals versions (k ∷ tables) zero l = refl
+tables_set from n totals versions (k ∷ tables) (suc i) l = ap (λ ts. table_in from n totals versions k ∷ ts) (tables_set from (n + 1) totals versions tables i l)
 
 same_item : {X : Type 0} (x y : X) → Some x ≡ Some y → x ≡ y
 same_item x y h = cc
@@ -55,16 +55,19 @@ was_there (t ∷ tables) (suc i) q zero k same there = (t, (refl, ap (λ (x : Kn
 was_there (t ∷ tables) (suc i) q (suc n) k same there = was_there tables i q n k same there
 
 -- with the same columns what is kept of the tables still fits together
-pub kept_lineage : (tables : List Known) (totals : List (List ℕ)) (versions : List Contents) (oldest next i : ℕ) (l : Lineage) → AreKept tables totals versions oldest next → columns_of l ≡ columns_of (known_at i tables).lineage
-    → AreKept (set tables i (record (known_at i tables) { lineage = l })) totals versions oldest next
-kept_lineage tables totals versions oldest next i l kept same =
+pub kept_lineage : (tables : List Known) (totals : List (List ℕ)) (versions : List Contents) (from : From) (next i : ℕ) (l : Lineage) → AreKept tables totals versions from next → columns_of l ≡ columns_of (known_at i tables).lineage
+    → AreKept (set tables i (record (known_at i tables) { lineage = l })) totals versions from next
+kept_lineage tables totals versions from next i l kept same =
     let q : Known = record (known_at i tables) { lineage = l } in
     let long : length (set tables i q) ≡ length tables = length-set tables i q in
     record {
       few = omega (arith, long, kept.few);
       count = kept.count ∙ sym long;
+      oldests = kept.oldests ∙ sym long;
+      apart = kept.apart;
       widths = subst (λ n. AllByRecursion (λ (contents : Contents). length contents ≤ n) versions) (sym long) kept.widths;
       numbers = kept.numbers;
+      floor = kept.floor;
       most = kept.most;
       have = λ n k e.
           let was = was_there tables i q n k same e in

@@ -54,18 +54,18 @@ page_spells passes s q (Ok page) asked form =
 page_spells passes s q (Err e) asked form = tt
 
 -- what a built query is given behind its page is the answer
-answered_built : (w : Warehouse) (session : ℕ) (words : QueryWords) (store : Store) (r : Relation) (version : ℕ) (q : BuiltQuery) (page : Page) → w.closed ≡ None → store_asked w session words.version ≡ Ok store → relation_of store words.relation ≡ Some r → version_seen w store words.version ≡ Ok version → IsBuiltOf (relation_columns r) version (epoch_of r.table.lineage) words q → page ≡ page_of q.version q.limit q.resume (answer_rows (relation_columns r) q.asked (relation_content store r q.version)) → query_answer w session words ≡ Ok (answer_of (page, q))
+answered_built : (w : Warehouse) (session : ℕ) (words : QueryWords) (store : Store) (r : Relation) (version : ℕ) (q : BuiltQuery) (page : Page) → w.closed ≡ None → store_asked w session words.version ≡ Ok store → relation_of store words.relation ≡ Some r → version_seen w store r.table words.version ≡ Ok version → IsBuiltOf (relation_columns r) version (epoch_of r.table.lineage) words q → page ≡ page_of q.version q.limit q.resume (answer_rows (relation_columns r) q.asked (relation_content r q.version)) → query_answer w session words ≡ Ok (answer_of (page, q))
 answered_built w session words store r version q page opened tables relation there made is =
     let s = relation_columns r in
     let parts = made.parts in
-    let page_is : page ≡ page_of version words.limit q.resume (answer_rows s q.asked (relation_content store r version)) = is ∙ ap (λ (p : BuiltQuery). page_of p.version p.limit q.resume (answer_rows s q.asked (relation_content store r p.version))) parts in
+    let page_is : page ≡ page_of version words.limit q.resume (answer_rows s q.asked (relation_content r version)) = is ∙ ap (λ (p : BuiltQuery). page_of p.version p.limit q.resume (answer_rows s q.asked (relation_content r p.version))) parts in
     let kinds : chosen q.asked.columns (kinds_of s) ≡ group_kinds q = ap (λ (p : BuiltQuery). chosen q.asked.columns p.kinds) (sym parts) in
     let prefix : resume_prefix s words.relation version (epoch_of r.table.lineage) q.asked.columns ≡ q.prefix = ap (λ (p : BuiltQuery). p.prefix) (sym parts) in
     answered w session words store r q.asked version q.resume opened tables relation made.asked there made.resume
     ∙ (λ j. Ok (record { page = sym page_is j; heading = record { kinds = kinds j; prefix = prefix j } }))
 
-pub answered_by : (w : Warehouse) (session : ℕ) (words : QueryWords) (store : Store) (r : Relation) (s : Columns) (version : ℕ) (q : BuiltQuery) (page : Page) → w.closed ≡ None → store_asked w session words.version ≡ Ok store → relation_of store words.relation ≡ Some r → s ≡ relation_columns r → version_seen w store words.version ≡ Ok version → IsBuiltOf s version (epoch_of r.table.lineage) words q → page ≡ page_of q.version q.limit q.resume (answer_rows s q.asked (relation_content store r q.version)) → query_answer w session words ≡ Ok (answer_of (page, q))
+pub answered_by : (w : Warehouse) (session : ℕ) (words : QueryWords) (store : Store) (r : Relation) (s : Columns) (version : ℕ) (q : BuiltQuery) (page : Page) → w.closed ≡ None → store_asked w session words.version ≡ Ok store → relation_of store words.relation ≡ Some r → s ≡ relation_columns r → version_seen w store r.table words.version ≡ Ok version → IsBuiltOf s version (epoch_of r.table.lineage) words q → page ≡ page_of q.version q.limit q.resume (answer_rows s q.asked (relation_content r q.version)) → query_answer w session words ≡ Ok (answer_of (page, q))
 answered_by w session words store r s version q page opened tables relation same there made is =
     answered_built w session words store r version q page opened tables relation there
     (subst (λ (s : Columns). IsBuiltOf s version (epoch_of r.table.lineage) words q) same made)
-    (subst (λ (s : Columns). page ≡ page_of q.version q.limit q.resume (answer_rows s q.asked (relation_content store r q.version))) same is)
+    (subst (λ (s : Columns). page ≡ page_of q.version q.limit q.resume (answer_rows s q.asked (relation_content r q.version))) same is)

@@ -1,8 +1,8 @@
 -- The tables of a store, whose totals and contents are kept in lists of their own.
-use Rattle.std.proofs.Common.{◌≡◌, ◌<◌, ◌≤◌, ◌+◌, ◌^◌, ℕ, zero, suc, List, [], ◌∷◌, ◌++◌, drop, length, map, Some, None, Ok, refl, sym, ◌∙◌, ap, subst, arith, add-zero, zero-add}
-use Rattle.std.specs.Prelude.{slice_get, zip}
+use Rattle.std.proofs.Common.{◌≡◌, ◌<◌, ◌≤◌, ◌+◌, ◌^◌, inl, inr, ℕ, zero, suc, List, [], ◌∷◌, ◌++◌, drop, drop-drop, get_or, length, length-drop, map, set, Some, None, Ok, refl, sym, ◌∙◌, ap, subst, arith, add-zero, zero-add}
+use Rattle.std.specs.Prelude.{max, slice_get, zip, ◌-◌, ◌⊎◌}
 use Rattle.std.specs.List.{AllByRecursion}
-use Rattle.std.proofs.lemmas.List.{length-map, map-append}
+use Rattle.std.proofs.lemmas.List.{length-map, length-set, map-append}
 use Rattle.std.proofs.lemmas.Slice.Zip.{length-zip}
 use Rattle.mesa_value.specs.declared.Agg.{Agg}
 use Rattle.mesa_schema.specs.declared.rows.Row.{Row}
@@ -22,9 +22,11 @@ use Rattle.mesa_schema.proofs.Folds.{folded-folded}
 use Rattle.mesa_fold.proofs.Kept.{put_rows-fold}
 use Rattle.mesa_fold.proofs.Merged.{abs_total-put_rows}
 use Rattle.mesa_model.specs.Load.{bound_checked, bounds_checked, newest_content, tables_loaded}
+use Rattle.mesa_model.specs.Versions.{table_from}
 use Rattle.mesa_model.specs.Warehouse.{Table}
-use Rattle.mesa_plain.specs.Kept.{Contents, content_in, contents_in, table_in, tables_in, totals_in}
-use Rattle.mesa_plain.specs.Sound.{AreHeld, HasTotals, HaveTotals, IsHeld}
+use Rattle.mesa_plain.specs.Kept.{Contents, From, content_in, contents_in, gone_in, oldest_in, table_in, tables_in, totals_in}
+use Rattle.mesa_plain.specs.Sound.{AreHeld, AreKept, HasTotals, HaveTotals, IsHeld, IsOldest}
+use Rattle.mesa_plain.specs.Found.{no_known}
 use Rattle.mesa_plain.specs.Grown.{AreContentsWith, AreTotalsWith, CanTake, HasRows, IsBatchOf}
 use Rattle.mesa_plain.proofs.Tables.{bound_none}
 use Rattle.mesa_list.specs.Checks.{◌>>◌}
@@ -40,23 +42,69 @@ pub record IsLoaded (placed : List Placed) (number : ℕ) (known : Known) (total
 shifted : (n i : ℕ) → n + suc i ≡ n + 1 + i
 shifted n i = omega arith
 
-loaded_from : (placed : List Placed) (n : ℕ) (tables : List Known) (totals after : List (List ℕ)) (versions : List Contents) (contents : Contents)
+-- ---- versions that a table has let go
+
+-- the newest content is among those that are left, and one more comes behind them
+pub newest_left : (k : ℕ) (xs : List (List Row)) → (k < length xs) ⊎ (length xs ≡ 0) → newest_content (drop k xs) ≡ newest_content xs
+newest_left zero xs some = refl
+newest_left (suc k) [] some = refl
+newest_left (suc k) (x ∷ []) (inl lt) = absurd (omega (arith, lt))
+newest_left (suc k) (x ∷ []) (inr none) = absurd (omega (arith, none))
+newest_left (suc k) (x ∷ y ∷ xs) (inl lt) = newest_left k (y ∷ xs) (inl (omega (arith, lt)))
+newest_left (suc k) (x ∷ y ∷ xs) (inr none) = absurd (omega (arith, none))
+
+pub pushed_left : (k : ℕ) (xs : List (List Row)) (x : List Row) → k ≤ length xs → drop k (xs ++ x ∷ []) ≡ drop k xs ++ x ∷ []
+pushed_left zero xs x le = refl
+pushed_left (suc k) [] x le = absurd (omega (arith, le))
+pushed_left (suc k) (y ∷ xs) x le = pushed_left k xs x (omega (arith, le))
+
+-- a table has let go fewer versions than there are, or there is none
+abbrev pub HasNewest : From → ℕ → ℕ → Type 0
+HasNewest from versions number = (gone_in number from < versions) ⊎ ((gone_in number from ≡ 0) × (versions ≡ 0))
+
+oldest_there : (floor next : ℕ) (oldests : List ℕ) (n : ℕ) → (floor < next) ⊎ ((floor ≡ 0) × (next ≡ 0)) → AllByRecursion (IsOldest floor next) oldests → (get_or oldests n 0 < next) ⊎ ((get_or oldests n 0 ≡ 0) × (next ≡ 0))
+oldest_there floor next [] n some all = elim some [ inl lt ↦ inl (omega (arith, lt)) | inr none ↦ inr (refl, none.1) ]
+oldest_there floor next (o ∷ oldests) zero some all = all.0.1
+oldest_there floor next (o ∷ oldests) (suc n) some all = oldest_there floor next oldests n some all.1
+
+pub newest_there : (tables : List Known) (totals : List (List ℕ)) (versions : List Contents) (from : From) (next : ℕ) → AreKept tables totals versions from next → (m : ℕ) → HasNewest from (length versions) m
+newest_there tables totals versions from next kept m = elim kept.floor [
+  | inl some ↦ elim (oldest_there from.floor next from.oldests m kept.floor kept.apart) [
+    | inl lt ↦ inl (omega (arith, some, lt, kept.numbers))
+    | inr none ↦ absurd (omega (arith, some, none.1))
+  ]
+  | inr none ↦ elim (oldest_there from.floor next from.oldests m kept.floor kept.apart) [
+    | inl lt ↦ absurd (omega (arith, none.1, lt))
+    | inr first ↦ inr (omega (arith, first.0), omega (arith, none.1, kept.numbers))
+  ]
+]
+
+loaded_from : (from : From) (placed : List Placed) (n : ℕ) (tables : List Known) (totals after : List (List ℕ)) (versions : List Contents) (contents : Contents) → ((m : ℕ) → HasNewest from (length versions) m)
     → ((i : ℕ) (k : Known) → slice_get tables i ≡ Some k → IsLoaded placed (n + i) k totals after versions contents)
-    → tables_in n after (versions ++ contents ∷ []) tables ≡ tables_loaded placed n (tables_in n totals versions tables)
-loaded_from placed n [] totals after versions contents h = refl
-loaded_from placed n (k ∷ tables) totals after versions contents h =
+    → tables_in from n after (versions ++ contents ∷ []) tables ≡ tables_loaded placed n (tables_in from n totals versions tables)
+loaded_from from placed n [] totals after versions contents newest h = refl
+loaded_from from placed n (k ∷ tables) totals after versions contents newest h =
     let own = subst (λ m. IsLoaded placed m k totals after versions contents) (add-zero n) (h zero k refl) in
-    let rest = loaded_from placed (n + 1) tables totals after versions contents (λ i q e. subst (λ m. IsLoaded placed m q totals after versions contents) (shifted n i) (h (suc i) q e)) in
-    let grown : contents_in n (versions ++ contents ∷ []) ≡ contents_in n versions ++ folded (aggs_of (columns_of k.lineage)) (newest_content (contents_in n versions) ∷ rows_for n placed ∷ []) ∷ [] = map-append (content_in n) versions (contents ∷ []) ∙ ap (λ rows. contents_in n versions ++ rows ∷ []) own.folds in
-    λ j. record { name = k.name; lineage = k.lineage; totals = own.more j; contents = grown j } ∷ rest j
+    let rest = loaded_from from placed (n + 1) tables totals after versions contents newest (λ i q e. subst (λ m. IsLoaded placed m q totals after versions contents) (shifted n i) (h (suc i) q e)) in
+    let gone = gone_in n from in
+    let old = contents_in n versions in
+    let long : length old ≡ length versions = length-map versions (content_in n) in
+    let aggs = aggs_of (columns_of k.lineage) in
+    let few : gone ≤ length old = elim (newest n) [ inl lt ↦ omega (arith, lt, long) | inr none ↦ omega (arith, none.0, none.1, long) ] in
+    let some : (gone < length old) ⊎ (length old ≡ 0) = elim (newest n) [ inl lt ↦ inl (omega (arith, lt, long)) | inr none ↦ inr (omega (arith, none.1, long)) ] in
+    let grown : contents_in n (versions ++ contents ∷ []) ≡ old ++ folded aggs (newest_content old ∷ rows_for n placed ∷ []) ∷ [] = map-append (content_in n) versions (contents ∷ []) ∙ ap (λ rows. old ++ rows ∷ []) own.folds in
+    let left : drop gone (contents_in n (versions ++ contents ∷ [])) ≡ drop gone old ++ folded aggs (newest_content (drop gone old) ∷ rows_for n placed ∷ []) ∷ [] =
+    ap (drop gone) grown ∙ pushed_left gone old (folded aggs (newest_content old ∷ rows_for n placed ∷ [])) few
+    ∙ ap (λ (newest : List Row). drop gone old ++ folded aggs (newest ∷ rows_for n placed ∷ []) ∷ []) (sym (newest_left gone old some)) in
+    λ j. record { name = k.name; lineage = k.lineage; totals = own.more j; oldest = oldest_in n from; contents = left j } ∷ rest j
 
 -- a batch's rows may be folded first
 batch_folded : (aggs : List Agg) (content rows : List Row) → folded aggs (content ∷ folded aggs (rows ∷ []) ∷ []) ≡ folded aggs (content ∷ rows ∷ [])
 batch_folded aggs content rows = refolded aggs (content ∷ []) (rows ∷ []) []
 
-pub loaded : (placed : List Placed) (tables : List Known) (batch : Batched) (totals after : List (List ℕ)) (versions : List Contents) (contents : Contents) → HasRows placed batch → AreTotalsWith tables totals batch after → AreContentsWith tables versions batch contents
-    → tables_in 0 after (versions ++ contents ∷ []) tables ≡ tables_loaded placed 0 (tables_in 0 totals versions tables)
-loaded placed tables batch totals after versions contents has with grown = loaded_from placed 0 tables totals after versions contents (λ i k e. subst (λ m. IsLoaded placed m k totals after versions contents) (sym (zero-add i)) (record {
+pub loaded : (from : From) (placed : List Placed) (tables : List Known) (batch : Batched) (totals after : List (List ℕ)) (versions : List Contents) (contents : Contents) → ((m : ℕ) → HasNewest from (length versions) m) → HasRows placed batch → AreTotalsWith tables totals batch after → AreContentsWith tables versions batch contents
+    → tables_in from 0 after (versions ++ contents ∷ []) tables ≡ tables_loaded placed 0 (tables_in from 0 totals versions tables)
+loaded from placed tables batch totals after versions contents newest has with grown = loaded_from from placed 0 tables totals after versions contents newest (λ i k e. subst (λ m. IsLoaded placed m k totals after versions contents) (sym (zero-add i)) (record {
   more = with.more i k e ∙ ap (totals_with (totals_in i totals)) (has.totals i (columns_of k.lineage));
   folds =
       let aggs = aggs_of (columns_of k.lineage) in
@@ -163,14 +211,40 @@ dropped P zero xs all = all
 dropped P (suc n) [] all = all
 dropped P (suc n) (x ∷ xs) all = dropped P n xs all.1
 
-drop-map : {X Y : Type 0} (f : X → Y) (n : ℕ) (xs : List X) → map f (drop n xs) ≡ drop n (map f xs)
+pub drop-map : {X Y : Type 0} (f : X → Y) (n : ℕ) (xs : List X) → map f (drop n xs) ≡ drop n (map f xs)
 drop-map f zero xs = refl
 drop-map f (suc n) [] = refl
 drop-map f (suc n) (x ∷ xs) = drop-map f n xs
 
-pub tables_from : (m n : ℕ) (totals : List (List ℕ)) (versions : List Contents) (tables : List Known) → tables_in n totals (drop m versions) tables ≡ map (λ (t : Table). record t { contents = drop m t.contents }) (tables_in n totals versions tables)
-tables_from m n totals versions [] = refl
-tables_from m n totals versions (k ∷ tables) = λ j. record { name = k.name; lineage = k.lineage; totals = totals_in n totals; contents = drop-map (content_in n) m versions j } ∷ tables_from m (n + 1) totals versions tables j
+-- the versions from one on
+abbrev pub raised : From → ℕ → From
+raised from version = record { floor = version; oldests = map (λ oldest. max oldest version) from.oldests }
+
+oldest_raised : (oldests : List ℕ) (n version : ℕ) → n < length oldests → get_or (map (λ oldest. max oldest version) oldests) n 0 ≡ max (get_or oldests n 0) version
+oldest_raised [] n version lt = absurd (omega (arith, lt))
+oldest_raised (o ∷ oldests) zero version lt = refl
+oldest_raised (o ∷ oldests) (suc n) version lt = oldest_raised oldests n version (omega (arith, lt))
+
+pub above_floor : (floor next : ℕ) (oldests : List ℕ) (n : ℕ) → AllByRecursion (IsOldest floor next) oldests → n < length oldests → IsOldest floor next (get_or oldests n 0)
+above_floor floor next [] n all lt = absurd (omega (arith, lt))
+above_floor floor next (o ∷ oldests) zero all lt = all.0
+above_floor floor next (o ∷ oldests) (suc n) all lt = above_floor floor next oldests n all.1 (omega (arith, lt))
+
+-- Tables without the versions below one.
+pub tables_from : (from : From) (next version n : ℕ) (totals : List (List ℕ)) (versions : List Contents) (tables : List Known) → AllByRecursion (IsOldest from.floor next) from.oldests → n + length tables ≡ length from.oldests → from.floor ≤ version
+    → tables_in (raised from version) n totals (drop (version - from.floor) versions) tables ≡ map (table_from version) (tables_in from n totals versions tables)
+tables_from from next version n totals versions [] all long le = refl
+tables_from from next version n totals versions (k ∷ tables) all long le =
+    let oldest = oldest_in n from in
+    let own = above_floor from.floor next from.oldests n all (omega (arith, long)) in
+    let first = own.0 in
+    let is : oldest_in n (raised from version) ≡ max oldest version = oldest_raised from.oldests n version (omega (arith, long)) in
+    let old = contents_in n versions in
+    let gone : (version - from.floor) + (max oldest version - version) ≡ (oldest - from.floor) + (version - oldest) = omega (arith, le, first) in
+    let left : drop (oldest_in n (raised from version) - version) (contents_in n (drop (version - from.floor) versions)) ≡ drop (version - oldest) (drop (gone_in n from) old) =
+    (λ j. drop (is j - version) (drop-map (content_in n) (version - from.floor) versions j))
+    ∙ drop-drop (max oldest version - version) (version - from.floor) old ∙ ap (λ m. drop m old) gone ∙ sym (drop-drop (version - oldest) (gone_in n from) old) in
+    λ j. record { name = k.name; lineage = k.lineage; totals = totals_in n totals; oldest = is j; contents = left j } ∷ tables_from from next version (n + 1) totals versions tables all (omega (arith, long)) le j
 
 pub held_from : (m : ℕ) (tables : List Known) (totals : List (List ℕ)) (versions : List Contents) → AreHeld tables totals versions → AreHeld tables totals (drop m versions)
 held_from m tables totals versions held n k e = subst (AllByRecursion (IsHeld (columns_of k.lineage) (totals_in n totals))) (sym (drop-map (content_in n) m versions)) (dropped (IsHeld (columns_of k.lineage) (totals_in n totals)) m (contents_in n versions) (held n k e))
@@ -178,25 +252,122 @@ held_from m tables totals versions held n k e = subst (AllByRecursion (IsHeld (c
 pub widths_from : (m count : ℕ) (versions : List Contents) → AllByRecursion (λ (c : Contents). length c ≤ count) versions → AllByRecursion (λ (c : Contents). length c ≤ count) (drop m versions)
 widths_from m count versions all = dropped (λ (c : Contents). length c ≤ count) m versions all
 
+raised_apart : (floor next version : ℕ) (oldests : List ℕ) → version < next → AllByRecursion (IsOldest floor next) oldests → AllByRecursion (IsOldest version next) (map (λ oldest. max oldest version) oldests)
+raised_apart floor next version [] lt all = tt
+raised_apart floor next version (o ∷ oldests) lt all = ((omega arith, elim all.0.1 [ inl there ↦ inl (omega (arith, lt, there)) | inr none ↦ inl (omega (arith, lt, none.0)) ]), raised_apart floor next version oldests lt all.1)
+
+-- what is kept from a version on still fits together
+pub kept_from : (tables : List Known) (totals : List (List ℕ)) (versions : List Contents) (from : From) (next version : ℕ) → AreKept tables totals versions from next → from.floor ≤ version → version < next
+    → AreKept tables totals (drop (version - from.floor) versions) (raised from version) next
+kept_from tables totals versions from next version kept low high = record {
+  few = kept.few;
+  count = kept.count;
+  oldests = length-map from.oldests (λ oldest. max oldest version) ∙ kept.oldests;
+  apart = raised_apart from.floor next version from.oldests high kept.apart;
+  widths = widths_from (version - from.floor) (length tables) versions kept.widths;
+  numbers = omega (arith, length-drop (version - from.floor) versions, kept.numbers, low, high);
+  floor = inl high;
+  most = kept.most;
+  have = kept.have;
+  held = held_from (version - from.floor) tables totals versions kept.held;
+}
+
+-- ---- one table's versions let go
+
+oldest_set : (oldests : List ℕ) (i version : ℕ) → i < length oldests → get_or (set oldests i version) i 0 ≡ version
+oldest_set [] i version lt = absurd (omega (arith, lt))
+oldest_set (o ∷ oldests) zero version lt = refl
+oldest_set (o ∷ oldests) (suc i) version lt = oldest_set oldests i version (omega (arith, lt))
+
+oldest_other : (oldests : List ℕ) (i n version : ℕ) → (i ≡ n → ⊥) → get_or (set oldests i version) n 0 ≡ get_or oldests n 0
+oldest_other [] i n version apart = refl
+oldest_other (o ∷ oldests) zero zero version apart = absurd (apart refl)
+oldest_other (o ∷ oldests) zero (suc n) version apart = refl
+oldest_other (o ∷ oldests) (suc i) zero version apart = refl
+oldest_other (o ∷ oldests) (suc i) (suc n) version apart = oldest_other oldests i n version (λ e. apart (ap suc e))
+
+-- where the table of a number has no version below one
+abbrev pub from_one : From → ℕ → ℕ → From
+from_one from i version = record { floor = from.floor; oldests = set from.oldests i version }
+
+-- the tables behind it stay
+others_stay : (from : From) (i version n : ℕ) (totals : List (List ℕ)) (versions : List Contents) (tables : List Known) → i < n → tables_in (from_one from i version) n totals versions tables ≡ tables_in from n totals versions tables
+others_stay from i version n totals versions [] lt = refl
+others_stay from i version n totals versions (k ∷ tables) lt =
+    let same = oldest_other from.oldests i n version (λ e. absurd (omega (arith, lt, e))) in
+    λ j. record { name = k.name; lineage = k.lineage; totals = totals_in n totals; oldest = same j; contents = drop (same j - from.floor) (contents_in n versions) } ∷ others_stay from i version (n + 1) totals versions tables (omega (arith, lt)) j
+
+pub tables_one : (from : From) (next version n i : ℕ) (totals : List (List ℕ)) (versions : List Contents) (tables : List Known) → AllByRecursion (IsOldest from.floor next) from.oldests → n + length tables ≡ length from.oldests → i < length tables → oldest_in (n + i) from ≤ version
+    → tables_in (from_one from (n + i) version) n totals versions tables ≡ set (tables_in from n totals versions tables) i (table_from version (table_in from (n + i) totals versions (get_or tables i no_known)))
+tables_one from next version n i totals versions [] all long lt low = absurd (omega (arith, lt))
+tables_one from next version n zero totals versions (k ∷ tables) all long lt low =
+    let at : n + 0 ≡ n = add-zero n in
+    let here : n < length from.oldests = omega (arith, long) in
+    let oldest = oldest_in n from in
+    let below : oldest ≤ version = subst (λ m. oldest_in m from ≤ version) at low in
+    let first = (above_floor from.floor next from.oldests n all here).0 in
+    let is : oldest_in n (from_one from n version) ≡ version = oldest_set from.oldests n version here in
+    let greatest : version ≡ max oldest version = omega (arith, below) in
+    let old = contents_in n versions in
+    let gone : version - from.floor ≡ (oldest - from.floor) + (version - oldest) = omega (arith, below, first) in
+    let left : drop (oldest_in n (from_one from n version) - from.floor) old ≡ drop (version - oldest) (drop (gone_in n from) old) =
+    ap (λ o. drop (o - from.floor) old) is ∙ ap (λ m. drop m old) gone ∙ sym (drop-drop (version - oldest) (gone_in n from) old) in
+    let one : tables_in (from_one from n version) n totals versions (k ∷ tables) ≡ table_from version (table_in from n totals versions k) ∷ tables_in from (n + 1) totals versions tables =
+    λ j. record { name = k.name; lineage = k.lineage; totals = totals_in n totals; oldest = (is ∙ greatest) j; contents = left j } ∷ others_stay from n version (n + 1) totals versions tables (omega arith) j in
+    subst (λ m. tables_in (from_one from m version) n totals versions (k ∷ tables) ≡ table_from version (table_in from m totals versions k) ∷ tables_in from (n + 1) totals versions tables) (sym at) one
+tables_one from next version n (suc i) totals versions (k ∷ tables) all long lt low =
+    let at : n + suc i ≡ n + 1 + i = shifted n i in
+    let same = oldest_other from.oldests (n + suc i) n version (λ e. absurd (omega (arith, e))) in
+    let rest = tables_one from next version (n + 1) i totals versions tables all (omega (arith, long)) (omega (arith, lt)) (subst (λ m. oldest_in m from ≤ version) at low) in
+    let there = subst (λ m. tables_in (from_one from m version) (n + 1) totals versions tables ≡ set (tables_in from (n + 1) totals versions tables) i (table_from version (table_in from m totals versions (get_or tables i no_known)))) (sym at) rest in
+    λ j. record { name = k.name; lineage = k.lineage; totals = totals_in n totals; oldest = same j; contents = drop (same j - from.floor) (contents_in n versions) } ∷ there j
+
+-- the tables where the one of a number has no version below one
+pub one_from : (from : From) (next version i : ℕ) (totals : List (List ℕ)) (versions : List Contents) (tables : List Known) → AllByRecursion (IsOldest from.floor next) from.oldests → length tables ≡ length from.oldests → i < length tables → oldest_in i from ≤ version
+    → tables_in (from_one from i version) 0 totals versions tables ≡ set (tables_in from 0 totals versions tables) i (table_from version (table_in from i totals versions (get_or tables i no_known)))
+one_from from next version i totals versions tables all long lt low =
+    subst (λ m. tables_in (from_one from m version) 0 totals versions tables ≡ set (tables_in from 0 totals versions tables) i (table_from version (table_in from m totals versions (get_or tables i no_known)))) (zero-add i)
+    (tables_one from next version 0 i totals versions tables all (omega (arith, long)) lt (subst (λ m. oldest_in m from ≤ version) (sym (zero-add i)) low))
+
+set_apart : (floor next i version : ℕ) (oldests : List ℕ) → IsOldest floor next version → AllByRecursion (IsOldest floor next) oldests → AllByRecursion (IsOldest floor next) (set oldests i version)
+set_apart floor next i version [] own all = tt
+set_apart floor next zero version (o ∷ oldests) own all = (own, all.1)
+set_apart floor next (suc i) version (o ∷ oldests) own all = (all.0, set_apart floor next i version oldests own all.1)
+
+pub kept_one : (tables : List Known) (totals : List (List ℕ)) (versions : List Contents) (from : From) (next i version : ℕ) → AreKept tables totals versions from next → from.floor ≤ version → version < next
+    → AreKept tables totals versions (from_one from i version) next
+kept_one tables totals versions from next i version kept low high = record {
+  few = kept.few;
+  count = kept.count;
+  oldests = length-set from.oldests i version ∙ kept.oldests;
+  apart = set_apart from.floor next i version from.oldests (low, inl high) kept.apart;
+  widths = kept.widths;
+  numbers = kept.numbers;
+  floor = kept.floor;
+  most = kept.most;
+  have = kept.have;
+  held = kept.held;
+}
+
 -- ---- as callers see them
 
-pub known_again : (n : ℕ) (totals : List (List ℕ)) (versions : List Contents) (tables : List Known) → map (λ (t : Table). record { name = t.name; lineage = t.lineage }) (tables_in n totals versions tables) ≡ tables
-known_again n totals versions [] = refl
-known_again n totals versions (k ∷ tables) = ap (λ ks. k ∷ ks) (known_again (n + 1) totals versions tables)
+pub known_again : (from : From) (n : ℕ) (totals : List (List ℕ)) (versions : List Contents) (tables : List Known) → map (λ (t : Table). record { name = t.name; lineage = t.lineage }) (tables_in from n totals versions tables) ≡ tables
+known_again from n totals versions [] = refl
+known_again from n totals versions (k ∷ tables) = ap (λ ks. k ∷ ks) (known_again from (n + 1) totals versions tables)
 
 -- bounds don't hang on contents
-pub bounds_any : (placed : List Placed) (n : ℕ) (totals : List (List ℕ)) (versions others : List Contents) (tables : List Known) → bounds_checked placed n (tables_in n totals versions tables) ≡ bounds_checked placed n (tables_in n totals others tables)
-bounds_any placed n totals versions others [] = refl
-bounds_any placed n totals versions others (k ∷ tables) = ap (λ rest. bound_checked (table_in n totals versions k) (rows_for n placed) >> rest) (bounds_any placed (n + 1) totals versions others tables)
+pub bounds_any : (from other : From) (placed : List Placed) (n : ℕ) (totals : List (List ℕ)) (versions others : List Contents) (tables : List Known) → bounds_checked placed n (tables_in from n totals versions tables) ≡ bounds_checked placed n (tables_in other n totals others tables)
+bounds_any from other placed n totals versions others [] = refl
+bounds_any from other placed n totals versions others (k ∷ tables) = ap (λ rest. bound_checked (table_in from n totals versions k) (rows_for n placed) >> rest) (bounds_any from other placed (n + 1) totals versions others tables)
 
-bounds_pass : (placed : List Placed) (n : ℕ) (totals : List (List ℕ)) (versions : List Contents) (tables : List Known) → ((i : ℕ) (k : Known) → slice_get tables i ≡ Some k → over_bound (totals_in (n + i) totals) (abs_totals (columns_of k.lineage) (rows_for (n + i) placed)) ≡ None)
-    → bounds_checked placed n (tables_in n totals versions tables) ≡ Ok tt
-bounds_pass placed n totals versions [] h = refl
-bounds_pass placed n totals versions (k ∷ tables) h =
+bounds_pass : (from : From) (placed : List Placed) (n : ℕ) (totals : List (List ℕ)) (versions : List Contents) (tables : List Known) → ((i : ℕ) (k : Known) → slice_get tables i ≡ Some k → over_bound (totals_in (n + i) totals) (abs_totals (columns_of k.lineage) (rows_for (n + i) placed)) ≡ None)
+    → bounds_checked placed n (tables_in from n totals versions tables) ≡ Ok tt
+bounds_pass from placed n totals versions [] h = refl
+bounds_pass from placed n totals versions (k ∷ tables) h =
     let none : over_bound (totals_in n totals) (abs_totals (columns_of k.lineage) (rows_for n placed)) ≡ None = subst (λ m. over_bound (totals_in m totals) (abs_totals (columns_of k.lineage) (rows_for m placed)) ≡ None) (add-zero n) (h zero k refl) in
-    ap (λ r. r >> bounds_checked placed (n + 1) (tables_in (n + 1) totals versions tables)) (bound_none (table_in n totals versions k) (rows_for n placed) none)
-    ∙ bounds_pass placed (n + 1) totals versions tables (λ i q e. subst (λ m. over_bound (totals_in m totals) (abs_totals (columns_of q.lineage) (rows_for m placed)) ≡ None) (shifted n i) (h (suc i) q e))
+    ap (λ r. r >> bounds_checked placed (n + 1) (tables_in from (n + 1) totals versions tables)) (bound_none (table_in from n totals versions k) (rows_for n placed) none)
+    ∙ bounds_pass from placed (n + 1) totals versions tables (λ i q e. subst (λ m. over_bound (totals_in m totals) (abs_totals (columns_of q.lineage) (rows_for m placed)) ≡ None) (shifted n i) (h (suc i) q e))
 
-pub bounds_passed : (placed : List Placed) (tables : List Known) (totals after : List (List ℕ)) (versions : List Contents) (batch : Batched) → HasRows placed batch → AreTotalsWith tables totals batch after → bounds_checked placed 0 (tables_in 0 totals versions tables) ≡ Ok tt
-bounds_passed placed tables totals after versions batch has with = bounds_pass placed 0 totals versions tables (λ i k e.
+pub bounds_passed : (from : From) (placed : List Placed) (tables : List Known) (totals after : List (List ℕ)) (versions : List Contents) (batch : Batched) → HasRows placed batch → AreTotalsWith tables totals batch after → bounds_checked placed 0 (tables_in from 0 totals versions tables) ≡ Ok tt
+bounds_passed from placed tables totals after versions batch has with = bounds_pass from placed 0 totals versions tables (λ i k e.
     subst (λ m. over_bound (totals_in m totals) (abs_totals (columns_of k.lineage) (rows_for m placed)) ≡ None) (sym (zero-add i)) (ap (over_bound (totals_in i totals)) (sym (has.totals i (columns_of k.lineage))) ∙ with.bound i k e))

@@ -18,7 +18,7 @@ use Rattle.mesa_model.specs.Load.{bound_checked, bounds_checked, sum_name}
 use Rattle.mesa_model.specs.Warehouse.{Table}
 use Rattle.mesa_asked.specs.declared.failure.Failure.{Failure}
 use Rattle.mesa_asked.specs.declared.failure.Failure.TheVariants.{Memory, Refused}
-use Rattle.mesa_plain.specs.Kept.{table_in, tables_in, totals_in}
+use Rattle.mesa_plain.specs.Kept.{nowhere, table_in, tables_in, totals_in}
 use Rattle.mesa_plain.specs.Grown.{HasRows, with_totals}
 use Rattle.mesa_plain.specs.Sound.{HasTotals}
 use Rattle.mesa_asked.specs.Told.{IsDue}
@@ -41,27 +41,27 @@ bound_same t rows others e = ap (λ more. bound_by t (over_bound t.totals more))
 
 -- the first refusal among the tables from this one on is the first of all
 abbrev pub IsDueFrom : List Known → List (List ℕ) → Batched → ℕ → Type 0
-IsDueFrom tables totals batch i = (placed : List Placed) → HasRows placed batch → bounds_checked placed i (tables_in i totals [] (drop i tables)) ≡ bounds_checked placed 0 (tables_in 0 totals [] tables)
+IsDueFrom tables totals batch i = (placed : List Placed) → HasRows placed batch → bounds_checked placed i (tables_in nowhere i totals [] (drop i tables)) ≡ bounds_checked placed 0 (tables_in nowhere 0 totals [] tables)
 
 pub due_next : (tables : List Known) (totals : List (List ℕ)) (batch : Batched) (i : ℕ) (k : Known) → slice_get tables i ≡ Some k → over_bound (totals_in i totals) (abs_totals (columns_of k.lineage) (rows_at i batch)) ≡ None → IsDueFrom tables totals batch i → IsDueFrom tables totals batch (i + 1)
 due_next tables totals batch i k there none before placed has =
-    let t = table_in i totals [] k in
+    let t = table_in nowhere i totals [] k in
     let passes : bound_checked t (rows_for i placed) ≡ Ok tt = bound_same t (rows_for i placed) (rows_at i batch) (sym (has.totals i (columns_of k.lineage))) ∙ bound_none t (rows_at i batch) none in
-    let rest : Result (Unit {0}) Refusal = bounds_checked placed (i + 1) (tables_in (i + 1) totals [] (drop (i + 1) tables)) in
-    sym (ap (λ ks. bounds_checked placed i (tables_in i totals [] ks)) (drop_from tables i k there) ∙ ap (λ r. r >> rest) passes) ∙ before placed has
+    let rest : Result (Unit {0}) Refusal = bounds_checked placed (i + 1) (tables_in nowhere (i + 1) totals [] (drop (i + 1) tables)) in
+    sym (ap (λ ks. bounds_checked placed i (tables_in nowhere i totals [] ks)) (drop_from tables i k there) ∙ ap (λ r. r >> rest) passes) ∙ before placed has
 
 first_due : (failure : Failure) (first rest all : Result (Unit {0}) Refusal) → IsDue first failure → (first >> rest) ≡ all → IsDue all failure
 first_due Memory first rest all due e = tt
 first_due (Refused r) first rest all due e = sym e ∙ ap (λ x. x >> rest) due
 
 pub due_here : (tables : List Known) (totals : List (List ℕ)) (batch : Batched) (i : ℕ) (k : Known) (own : List ℕ) (failure : Failure) → slice_get tables i ≡ Some k → totals_in i totals ≡ own → IsDue (bound_checked (with_totals k own) (rows_at i batch)) failure → IsDueFrom tables totals batch i
-    → (placed : List Placed) → HasRows placed batch → IsDue (bounds_checked placed 0 (tables_in 0 totals [] tables)) failure
+    → (placed : List Placed) → HasRows placed batch → IsDue (bounds_checked placed 0 (tables_in nowhere 0 totals [] tables)) failure
 due_here tables totals batch i k own failure there is due before placed has =
-    let rest : Result (Unit {0}) Refusal = bounds_checked placed (i + 1) (tables_in (i + 1) totals [] (drop (i + 1) tables)) in
-    let here : bound_checked (table_in i totals [] k) (rows_for i placed) ≡ bound_checked (with_totals k own) (rows_at i batch) =
-    bound_same (table_in i totals [] k) (rows_for i placed) (rows_at i batch) (sym (has.totals i (columns_of k.lineage))) ∙ ap (λ ts. bound_checked (with_totals k ts) (rows_at i batch)) is in
+    let rest : Result (Unit {0}) Refusal = bounds_checked placed (i + 1) (tables_in nowhere (i + 1) totals [] (drop (i + 1) tables)) in
+    let here : bound_checked (table_in nowhere i totals [] k) (rows_for i placed) ≡ bound_checked (with_totals k own) (rows_at i batch) =
+    bound_same (table_in nowhere i totals [] k) (rows_for i placed) (rows_at i batch) (sym (has.totals i (columns_of k.lineage))) ∙ ap (λ ts. bound_checked (with_totals k ts) (rows_at i batch)) is in
     first_due failure (bound_checked (with_totals k own) (rows_at i batch)) rest _ due
-    (ap (λ r. r >> rest) (sym here) ∙ sym (ap (λ ks. bounds_checked placed i (tables_in i totals [] ks)) (drop_from tables i k there)) ∙ before placed has)
+    (ap (λ r. r >> rest) (sym here) ∙ sym (ap (λ ks. bounds_checked placed i (tables_in nowhere i totals [] ks)) (drop_from tables i k there)) ∙ before placed has)
 
 -- ---- a table's rows of a batch
 

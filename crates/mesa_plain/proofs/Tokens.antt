@@ -1,5 +1,5 @@
 -- How many tokens commands give.
-use Rattle.std.proofs.Common.{◌≡◌, ◌≤◌, ◌+◌, ℕ, zero, suc, List, [], ◌∷◌, length, Result, Ok, Err, sym, subst, arith}
+use Rattle.std.proofs.Common.{◌≡◌, ◌≤◌, ◌+◌, ℕ, zero, suc, List, [], ◌∷◌, length, Option, Some, None, Result, Ok, Err, sym, subst, arith}
 use Rattle.std.specs.Prelude.{is_none, nat_le, IfOk}
 use Rattle.std.specs.Option.{ok_or}
 use Rattle.mesa_list.specs.Checks.{◌>>=◌, ◌>>◌, refuse_if, refuse_unless, refused_as}
@@ -26,7 +26,7 @@ use Rattle.mesa_model.specs.Refusals.{bad_schema, batch_refusal, change_refusal,
 use Rattle.mesa_model.specs.Relations.{is_taken, table_number}
 use Rattle.mesa_model.specs.Step.{done_or_refused, reply_to_query, step}
 use Rattle.mesa_model.specs.Tables.{alter_table, change_asked, changed_name, columns_asked, make_table, make_view, names_are_good, view_of_table_checked}
-use Rattle.mesa_model.specs.Versions.{expire_to, version_asked, version_checked}
+use Rattle.mesa_model.specs.Versions.{common_oldest, expire_to, version_asked, version_checked}
 use Rattle.mesa_model.specs.Warehouse.{Warehouse, max_pins, max_tables, max_versions, table_at}
 use Rattle.mesa_plain.specs.Plain.{GaveAtMost}
 
@@ -94,7 +94,7 @@ load_gives w rows =
 pin_gives : (w : Warehouse) (session : ℕ) (asked : VersionWord) → IfOk (make_pin w session asked) (Gives w)
 pin_gives w session asked =
     then (Gives w) (refuse_closed w.closed) _ (
-    bind (Gives w) (version_asked w asked) _ (λ version.
+    bind (Gives w) (version_asked w (common_oldest w.store) asked) _ (λ version.
     then (Gives w) (refuse_if (nat_le max_pins (length w.pins)) (no.PinsFull max_pins)) _ (counted w.given session)))
 
 release_gives : (w : Warehouse) (session token : ℕ) → IfOk (release_pin w session token) (Gives w)
@@ -102,10 +102,14 @@ release_gives w session token =
     then (Gives w) (refuse_closed w.closed) _ (
     then (Gives w) (refuse_if (is_none (pin_of w session token)) (no.NoPin token)) _ (λ s. omega arith))
 
-expire_gives : (w : Warehouse) (version : ℕ) → IfOk (expire_to w version) (Gives w)
-expire_gives w version =
+expire_gives : (w : Warehouse) (table : Option (List ℕ)) (version : ℕ) → IfOk (expire_to w table version) (Gives w)
+expire_gives w None version =
     then (Gives w) (refuse_closed w.closed) _ (
-    then (Gives w) (version_checked w version) _ (λ session. omega arith))
+    then (Gives w) (version_checked w w.store.floor version) _ (λ session. omega arith))
+expire_gives w (Some name) version =
+    then (Gives w) (refuse_closed w.closed) _ (
+    bind (Gives w) (ok_or (table_number w.store name) no_such_table) _ (λ number.
+    then (Gives w) (version_checked w (table_at w.store number).oldest version) _ (λ session. omega arith)))
 
 nothing_gives : (w : Warehouse) (given : Reply) → IfOk (refuse_closed w.closed >> Ok (w, given)) (Gives w)
 nothing_gives w given = then (Gives w) (refuse_closed w.closed) _ (none w given)
@@ -119,7 +123,7 @@ gives w session (command.Query words) = none w (reply_to_query (query_answer w s
 gives w session (command.Explain words) = done_gives w (refuse_closed w.closed >> Ok (w, reply.Idle)) (nothing_gives w reply.Idle)
 gives w session (command.Pin version) = done_gives w (make_pin w session version) (pin_gives w session version)
 gives w session (command.Release token) = done_gives w (release_pin w session token) (release_gives w session token)
-gives w session (command.Expire version) = done_gives w (expire_to w version) (expire_gives w version)
+gives w session (command.Expire table version) = done_gives w (expire_to w table version) (expire_gives w table version)
 gives w session (command.Work name) = done_gives w (refuse_closed w.closed >> Ok (w, reply.Idle)) (nothing_gives w reply.Idle)
 
 -- a command gives each session at most one

@@ -6,7 +6,7 @@ use Rattle.mesa_batch.specs.Glance.{Known}
 use Rattle.mesa_model.specs.Relations.{Relation}
 use Rattle.mesa_model.specs.Warehouse.{Store, table_at}
 use Rattle.mesa_plain.specs.declared.names.Place.{Place}
-use Rattle.mesa_plain.specs.Kept.{Contents, table_in}
+use Rattle.mesa_plain.specs.Kept.{Contents, From, table_in}
 
 -- the view of a name among these
 abbrev pub view_named : List ℕ → List View → Option View
@@ -21,10 +21,10 @@ abbrev pub known_at : ℕ → List Known → Known
 known_at number tables = slice_index_or tables number no_known
 
 -- the relation at a place
-abbrev pub relation_at : List (List ℕ) → List Contents → List Known → Place → Relation
-relation_at totals versions tables place = record {
+abbrev pub relation_at : From → List (List ℕ) → List Contents → List Known → Place → Relation
+relation_at from totals versions tables place = record {
   number = place.table;
-  table = table_in place.table totals versions (known_at place.table tables);
+  table = table_in from place.table totals versions (known_at place.table tables);
   view = option_and_then (slice_get (known_at place.table tables).lineage.views) place.view;
 }
 

@@ -41,7 +41,7 @@ pub record CanTake (tables : List Known) (versions : List Contents) (batch : Bat
 
 -- a table without contents
 abbrev pub with_totals : Known → List ℕ → Table
-with_totals known totals = record { name = known.name; lineage = known.lineage; totals = totals; contents = [] }
+with_totals known totals = record { name = known.name; lineage = known.lineage; totals = totals; oldest = 0; contents = [] }
 
 -- These contents are the folds of the tables' newest contents and of their rows of the batch.
 pub record AreContentsWith (tables : List Known) (versions : List Contents) (batch : Batched) (after : Contents) : Type 0 where

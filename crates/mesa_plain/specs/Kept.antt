@@ -1,5 +1,5 @@
 -- How the plain warehouse keeps its tables and their contents.
-use Rattle.std.specs.Prelude.{ℕ, ◌+◌, List, [], ◌∷◌, ◌++◌, None, map, slice_index_or, slice_set}
+use Rattle.std.specs.Prelude.{ℕ, ◌+◌, ◌-◌, drop, max, List, [], ◌∷◌, ◌++◌, None, map, slice_index_or, slice_set}
 use Rattle.std.specs.declared.alloc.Global.{Global}
 use Rattle.std.specs.declared.sync.Arc.{Arc}
 use Rattle.mesa_schema.specs.declared.changes.Change.{Change}
@@ -12,12 +12,39 @@ use Rattle.mesa_batch.specs.Batch.{Placed}
 use Rattle.mesa_batch.specs.Glance.{Known}
 use Rattle.mesa_model.specs.Tables.{new_table, table_changed}
 use Rattle.mesa_model.specs.Load.{tables_loaded}
+use Rattle.mesa_model.specs.Versions.{table_from}
 use Rattle.mesa_model.specs.Warehouse.{Table, Store, Warehouse, table_at}
 
 -- The tables at their versions, and how many versions there were by then.
 pub record Versioned : Type 0 where
   pub store : Store
   pub next : ℕ
+
+-- From which version on contents are kept: the floor, from which they are kept of all tables, and each table's own oldest version, below which a table has none, by the tables' numbers.
+pub record From : Type 0 where
+  pub floor : ℕ
+  pub oldests : List ℕ
+
+-- the greatest of a number and of these
+abbrev pub greatest_of : ℕ → List ℕ → ℕ
+greatest_of number [] = number
+greatest_of number (n ∷ ns) = max n (greatest_of number ns)
+
+-- these, as they are kept
+abbrev pub from_of : ℕ → List ℕ → From
+from_of floor oldests = record { floor = floor; oldests = oldests }
+
+-- from the first version on, of no table
+abbrev pub nowhere : From
+nowhere = record { floor = 0; oldests = [] }
+
+-- the oldest version of the table of a number
+abbrev pub oldest_in : ℕ → From → ℕ
+oldest_in number from = slice_index_or from.oldests number 0
+
+-- how many of the versions that are kept the table of a number has let go
+abbrev pub gone_in : ℕ → From → ℕ
+gone_in number from = oldest_in number from - from.floor
 
 -- the contents of the tables at one version, by the tables' numbers
 abbrev pub Contents : Type 0
@@ -48,13 +75,19 @@ abbrev pub totals_in : ℕ → List (List ℕ) → List ℕ
 totals_in number totals = slice_index_or totals number []
 
 -- the table of a number
-abbrev pub table_in : ℕ → List (List ℕ) → List Contents → Known → Table
-table_in number totals versions known = record { name = known.name; lineage = known.lineage; totals = totals_in number totals; contents = contents_in number versions }
+abbrev pub table_in : From → ℕ → List (List ℕ) → List Contents → Known → Table
+table_in from number totals versions known = record {
+  name = known.name;
+  lineage = known.lineage;
+  totals = totals_in number totals;
+  oldest = oldest_in number from;
+  contents = drop (gone_in number from) (contents_in number versions);
+}
 
 -- The tables from a number on, of which the totals and the contents are kept in lists of their own.
-abbrev pub tables_in : ℕ → List (List ℕ) → List Contents → List Known → List Table
-tables_in number totals versions [] = []
-tables_in number totals versions (known ∷ tables) = table_in number totals versions known ∷ tables_in (number + 1) totals versions tables
+abbrev pub tables_in : From → ℕ → List (List ℕ) → List Contents → List Known → List Table
+tables_in from number totals versions [] = []
+tables_in from number totals versions (known ∷ tables) = table_in from number totals versions known ∷ tables_in from (number + 1) totals versions tables
 
 -- ---- as callers see it
 
@@ -79,3 +112,7 @@ with_lineage s number l = record s { store = record s.store { tables = slice_set
 -- the tables where the schema of the one of a number is changed
 abbrev pub with_schema_changed : Versioned → ℕ → Change → Versioned
 with_schema_changed s number c = record s { store = record s.store { tables = slice_set s.store.tables number (table_changed (table_at s.store number) c) } }
+
+-- the tables where the one of a number has no version below this one
+abbrev pub with_table_from : Versioned → ℕ → ℕ → Versioned
+with_table_from s number version = record s { store = record s.store { tables = slice_set s.store.tables number (table_from version (table_at s.store number)) } }

@@ -1,5 +1,5 @@
 -- What holds of the tables of a plain warehouse, whatever was done to it.
-use Rattle.std.specs.Prelude.{◌≡◌, ℕ, ◌+◌, ◌^◌, ◌<◌, ◌≤◌, List, length, slice_get, Some}
+use Rattle.std.specs.Prelude.{◌≡◌, ℕ, ◌+◌, ◌^◌, ◌<◌, ◌≤◌, ◌⊎◌, List, length, slice_get, Some}
 use Rattle.std.specs.List.{AllByRecursion}
 use Rattle.mesa_schema.specs.declared.rows.Row.{Row}
 use Rattle.mesa_schema.specs.Columns.{Columns, aggs_of}
@@ -9,7 +9,7 @@ use Rattle.mesa_batch.specs.Glance.{Known}
 use Rattle.mesa_batch.specs.Totals.{AreAtMost, abs_totals, sums_in}
 use Rattle.mesa_fold.specs.Put.{IsFold}
 use Rattle.mesa_model.specs.Warehouse.{max_tables, max_versions}
-use Rattle.mesa_plain.specs.Kept.{Contents, contents_in, totals_in}
+use Rattle.mesa_plain.specs.Kept.{Contents, From, contents_in, totals_in}
 
 -- A table's content: rows of the form of its columns in the order of their keys, whose absolute values add up to at most its totals.
 pub record IsHeld (s : Columns) (totals : List ℕ) (rows : List Row) : Type 0 where
@@ -30,12 +30,19 @@ HaveTotals tables totals = (number : ℕ) (known : Known) → slice_get tables n
 abbrev pub AreHeld : List Known → List (List ℕ) → List Contents → Type 0
 AreHeld tables totals versions = (number : ℕ) (known : Known) → slice_get tables number ≡ Some known → AllByRecursion (IsHeld (columns_of known.lineage) (totals_in number totals)) (contents_in number versions)
 
--- What is kept of tables fits together: each table has totals, no version has a content for a table that isn't there, and the versions are those from the oldest to the newest.
-pub record AreKept (tables : List Known) (totals : List (List ℕ)) (versions : List Contents) (oldest next : ℕ) : Type 0 where
+-- An oldest version isn't below the floor, and is one that is there, where there is any.
+abbrev pub IsOldest : ℕ → ℕ → ℕ → Type 0
+IsOldest floor next oldest = (floor ≤ oldest) × ((oldest < next) ⊎ ((oldest ≡ 0) × (next ≡ 0)))
+
+-- What is kept of tables fits together: each table has totals and an oldest version, no version has a content for a table that isn't there, and the versions are those from the floor, which is one of them where there is any, to the newest.
+pub record AreKept (tables : List Known) (totals : List (List ℕ)) (versions : List Contents) (from : From) (next : ℕ) : Type 0 where
   pub few : length tables ≤ max_tables
   pub count : length totals ≡ length tables
+  pub oldests : length from.oldests ≡ length tables
+  pub apart : AllByRecursion (IsOldest from.floor next) from.oldests
   pub widths : AllByRecursion (λ (contents : Contents). length contents ≤ length tables) versions
-  pub numbers : oldest + length versions ≡ next
+  pub numbers : from.floor + length versions ≡ next
+  pub floor : (from.floor < next) ⊎ ((from.floor ≡ 0) × (next ≡ 0))
   pub most : next ≤ max_versions
   pub have : HaveTotals tables totals
   pub held : AreHeld tables totals versions

@@ -14,7 +14,7 @@ ghost use Rattle.mesa_batch.specs.Totals.{is_sum as adds};
 ghost use Rattle.mesa_fold.specs.Bound.{KeepsBound};
 ghost use Rattle.mesa_fold.specs.Put.{IsFold};
 ghost use Rattle.mesa_model.specs.Load.{bound_checked, bounds_checked, newest_content, sum_name};
-ghost use Rattle.mesa_plain.specs.Kept.{content_in, contents_in, tables_in};
+ghost use Rattle.mesa_plain.specs.Kept.{content_in, contents_in, nowhere, tables_in};
 ghost use Rattle.mesa_plain.specs.Grown.{AreContentsWith, AreTotalsWith, CanTake, HasRows, IsBatchOf, with_totals};
 ghost use Rattle.mesa_plain.specs.Sound.{HaveTotals, HasTotals};
 ghost use Rattle.mesa_asked.specs.Told.{IsDue};
@@ -43,7 +43,7 @@ pub(crate) fn totals_with_batch(
     requires totals { HaveTotals (map known_of tables.now) totals.now }
     requires batch { IsBatchOf (map known_of tables.now) batch.now }
     ensures after { IfOk result (AreTotalsWith (map known_of tables.now) totals.now batch.now) }
-    ensures refused { IfErr result (λ failure. (placed : List PlacedRow) → HasRows placed batch.now → IsDue (bounds_checked placed 0 (tables_in 0 totals.now [] (map known_of tables.now))) failure) }
+    ensures refused { IfErr result (λ failure. (placed : List PlacedRow) → HasRows placed batch.now → IsDue (bounds_checked placed 0 (tables_in nowhere 0 totals.now [] (map known_of tables.now))) failure) }
 {
     let mut after = Items::new(alloc);
     'tables: for (number, table) in tables.iter().enumerate() {

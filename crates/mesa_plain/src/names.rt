@@ -5,7 +5,7 @@ ghost use Rattle.mesa_schema.specs.declared.views.View.{View};
 ghost use Rattle.mesa_schema.specs.Columns.{place_of};
 ghost use Rattle.mesa_batch.specs.Numbers.{known_of};
 ghost use Rattle.mesa_model.specs.Relations.{relation_from};
-ghost use Rattle.mesa_plain.specs.Kept.{Contents, tables_in};
+ghost use Rattle.mesa_plain.specs.Kept.{Contents, From, tables_in};
 ghost use Rattle.mesa_plain.specs.Found.{relation_at, view_named};
 
 use mesa_batch::Glanced;
@@ -49,7 +49,7 @@ fn view_place(name: &[u8], evolving: &Evolving) -> Option<u8>
 
 // Where the relation of a name stands: the tables are looked through in order, each before its views.
 pub(crate) fn relation_place(name: &[u8], tables: &[Glanced]) -> Option<Place>
-    ensures found { (totals : List (List ℕ)) (versions : List Contents) → relation_from 0 name.now (tables_in 0 totals versions (map known_of tables.now)) ≡ option_map (relation_at totals versions (map known_of tables.now)) result }
+    ensures found { (from : From) (totals : List (List ℕ)) (versions : List Contents) → relation_from 0 name.now (tables_in from 0 totals versions (map known_of tables.now)) ≡ option_map (relation_at from totals versions (map known_of tables.now)) result }
     ensures within { IfSome result (λ place. place.table < length tables.now) }
     ensures view_within { IfSome result (λ place. IfSome place.view (λ view. IfSome (slice_get tables.now place.table) (λ table. view < length table.evolving.value.views))) }
 {

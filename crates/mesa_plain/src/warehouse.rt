@@ -1,10 +1,11 @@
 // The plain warehouse.
-ghost use Rattle.std.specs.Prelude.{◌≡◌, ◌==◌, ◌≤◌, ◌<◌, ◌-◌, ◌^◌, if◌then◌else◌, Ok, IfOk, IfErr, OnOk, OnErr};
+ghost use Rattle.std.specs.Prelude.{◌≡◌, ◌==◌, ◌≤◌, ◌<◌, ◌-◌, ◌+◌, ℕ, ◌^◌, ◌⊎◌, if◌then◌else◌, length, None, Some, Ok, IfOk, IfErr, IfSome, OnOk, OnErr};
+ghost use Rattle.mesa_filter.specs.declared.words.VersionWord.TheVariants as asks;
 ghost use Rattle.mesa_model.specs.Load.{load_batch};
 ghost use Rattle.mesa_model.specs.Step.{done_or_refused};
-ghost use Rattle.mesa_model.specs.Versions.{expire_to, version_asked as version_of, version_checked};
+ghost use Rattle.mesa_model.specs.Versions.{common_oldest as oldest_of_all, expire_all as all_expired, expire_table as table_expired, expire_to, version_asked as version_of, version_checked};
 ghost use Rattle.mesa_model.specs.Pins.{make_pin, next_token, release_pin};
-ghost use Rattle.mesa_model.specs.Warehouse.{empty_warehouse};
+ghost use Rattle.mesa_model.specs.Warehouse.{empty_warehouse, table_at};
 ghost use Rattle.mesa_asked.specs.Told.{IsDue};
 
 mod altering;
@@ -19,8 +20,9 @@ use crate::store::PlainStore;
 use mesa_asked::Failure;
 use mesa_batch::LoadRows;
 use mesa_filter::VersionWord;
-use mesa_list::Items;
+use mesa_list::{Items, TryCopy};
 use mesa_model::{Refusal, Reply};
+use mesa_schema::Words;
 use std::alloc::{AllocError, Global};
 use std::marker::Model;
 
@@ -92,24 +94,55 @@ impl PlainWarehouse {
         Ok(Reply::Loaded { version, rows })
     }
 
-    /// Lets the versions below this one go.
-    pub fn expire(&mut self, version: u32) -> Reply
-        ensures { done_or_refused self.old (expire_to self.old version) ≡ (self.new, result) }
+    /// Lets the versions below this one go: those of a table that is named, or of all.
+    pub fn expire(&mut self, table: &Option<Words>, version: u32) -> Result<Reply, AllocError>
+        ensures done { IfOk result (λ reply. done_or_refused self.old (expire_to self.old table.now version) ≡ (self.new, reply)) }
+        ensures kept { OnErr result (self.new ≡ self.old) }
     {
-        if let Err(refusal) = self.check_version(version) {
+        match table {
+            None => Ok(self.expire_all(version)),
+            Some(name) => self.expire_table(name.as_slice(), version),
+        }
+    }
+
+    fn expire_all(&mut self, version: u32) -> Reply
+        ensures { done_or_refused self.old (all_expired self.old version) ≡ (self.new, result) }
+    {
+        if let Err(refusal) = self.check_version(self.store.floor(), version) {
             return Reply::Refused(refusal);
         }
         self.store.expire(version);
-        Reply::Expired { oldest: version }
+        Reply::Expired {
+            table: None,
+            oldest: version,
+        }
     }
 
-    // Whether a version can be queried.
-    fn check_version(&self, version: u32) -> Result<(), Refusal>
-        ensures checked { result ≡ version_checked self.now version }
-        ensures low { OnOk result (self.now.store.oldest ≤ version) }
+    fn expire_table(&mut self, name: &[u8], version: u32) -> Result<Reply, AllocError>
+        ensures done { IfOk result (λ reply. done_or_refused self.old (table_expired self.old name.now version) ≡ (self.new, reply)) }
+        ensures kept { OnErr result (self.new ≡ self.old) }
+    {
+        let Some(number) = self.store.number(name) else {
+            return Ok(Reply::Refused(Refusal::NoTable { row: None }));
+        };
+        let oldest = self.store.oldest(number);
+        if let Err(refusal) = self.check_version(oldest, version) {
+            return Ok(Reply::Refused(refusal));
+        }
+        let table = self.store.name(number).copy()?;
+        self.store.expire_table(number, version);
+        Ok(Reply::Expired {
+            table: Some(table),
+            oldest: version,
+        })
+    }
+
+    // Whether a version can be queried where this one is the oldest.
+    fn check_version(&self, oldest: u32, version: u32) -> Result<(), Refusal>
+        ensures checked { result ≡ version_checked self.now oldest version }
+        ensures low { OnOk result (oldest ≤ version) }
         ensures high { OnOk result (version < self.now.next) }
     {
-        let oldest = self.store.oldest();
         if version < oldest {
             return Err(Refusal::Stale {
                 asked: version,
@@ -148,7 +181,8 @@ impl PlainWarehouse {
         ensures refused { IfErr result (IsDue (make_pin self.old session asked)) }
         ensures kept { OnErr result (self.new ≡ self.old) }
     {
-        let version = match self.version_asked(asked) {
+        let oldest = self.store.common_oldest();
+        let version = match self.version_asked(oldest, asked) {
             Ok(version) => version,
             Err(refusal) => return Err(Failure::Refused(refusal)),
         };
@@ -170,28 +204,36 @@ impl PlainWarehouse {
         Ok(Reply::Pinned { token, version })
     }
 
-    // The version that is asked for, or its refusal.
-    fn version_asked(&self, asked: VersionWord) -> Result<u32, Refusal>
-        ensures asked { result ≡ version_of self.now asked }
+    // The version that is asked for where this one is the oldest, or its refusal.
+    fn version_asked(&self, oldest: u32, asked: VersionWord) -> Result<u32, Refusal>
+        requires { (oldest < self.now.next) ⊎ ((oldest ≡ 0) × (self.now.next ≡ 0)) }
+        ensures asked { result ≡ version_of self.now oldest asked }
+        ensures low { IfOk result (λ version. oldest ≤ version) }
         ensures there { IfOk result (λ version. version < self.now.next) }
     {
         match asked {
-            VersionWord::Latest => {
-                let next = self.store.next();
-                if next == 0 {
-                    return Err(Refusal::Future {
-                        asked,
-                        newest: None,
-                    });
-                }
-                Ok(next - 1)
-            }
+            VersionWord::Latest => self.newest_version(),
             VersionWord::At(version) => {
-                self.check_version(version)?;
+                self.check_version(oldest, version)?;
                 Ok(version)
             }
             VersionWord::Pin(token) => Err(Refusal::NoPin { token }),
         }
+    }
+
+    // The newest version, or that there is none.
+    fn newest_version(&self) -> Result<u32, Refusal>
+        ensures asked { (oldest : ℕ) → result ≡ version_of self.now oldest asks.Latest }
+        ensures newest { IfOk result (λ version. version + 1 ≡ self.now.next) }
+    {
+        let next = self.store.next();
+        if next == 0 {
+            return Err(Refusal::Future {
+                asked: VersionWord::Latest,
+                newest: None,
+            });
+        }
+        Ok(next - 1)
     }
 
     /// Gives a pin of the session back; it takes no memory.

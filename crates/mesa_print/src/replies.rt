@@ -1,10 +1,11 @@
 // Replies on a line.
 ghost use Rattle.std.specs.Prelude.{◌+◌, ◌≤◌};
-ghost use Rattle.mesa_script.specs.Replies.{reply_text, rows_text};
+ghost use Rattle.mesa_script.specs.Replies.{expired_word, reply_text, rows_text};
 ghost use Rattle.mesa_print.specs.Lines.{Puts};
 
 use crate::line::Line;
 use mesa_model::Reply;
+use mesa_schema::Name;
 
 impl Line<'_> {
     // Puts the head of a query's answer.
@@ -16,6 +17,18 @@ impl Line<'_> {
         self.put_pair(b"rows ", rows, b" version=", version as u64);
         if more {
             self.put(b" more");
+        }
+    }
+
+    // Puts which table an expiry was of, if it wasn't of all.
+    fn put_expired(&mut self, table: &Option<Name>)
+        requires { self.old.len + 40 ≤ 512 }
+        ensures puts { Puts self.old self.new (expired_word table.now) }
+        ensures short { self.new.len ≤ self.old.len + 40 }
+    {
+        match table {
+            None => self.put(b"expired"),
+            Some(name) => self.put_named(b"expired ", name),
         }
     }
 
@@ -51,8 +64,9 @@ impl Line<'_> {
             Reply::Released { token } => {
                 self.put_labelled(b"released token=", *token as u64);
             }
-            Reply::Expired { oldest } => {
-                self.put_labelled(b"expired oldest=", *oldest as u64);
+            Reply::Expired { table, oldest } => {
+                self.put_expired(table);
+                self.put_labelled(b" oldest=", *oldest as u64);
             }
             Reply::Swapped { from, to } => {
                 self.put_pair(b"swapped ", *from as u64, b" ", *to as u64);

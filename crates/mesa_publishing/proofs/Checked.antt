@@ -52,12 +52,12 @@ module _ {M : Type 0} (bytes : M → Option (List ℕ)) (id_of : M → ℕ) (ove
       λ i. own i >> rest parts are.1 i
 
   -- the batch is refused by its rows as by its parts
-  pub checked_same : (oldest next n : ℕ) (ts : List Stock) (parts : List (PreparedPart M)) → AllByRecursion (IsShaped oldest next) ts → AreTables c n ts → AreParts bytes id_of over (shares_from batch n (map known_as ts)) parts
+  pub checked_same : (floor next n : ℕ) (ts : List Stock) (parts : List (PreparedPart M)) → AllByRecursion (IsShaped floor next) ts → AreTables c n ts → AreParts bytes id_of over (shares_from batch n (map known_as ts)) parts
       → bounds_checked batch n (map skeleton_of ts) ≡ parts_checked c parts
-  checked_same oldest next n [] [] shaped tables are = refl
-  checked_same oldest next n [] (part ∷ parts) shaped tables are = absurd are
-  checked_same oldest next n (t ∷ ts) parts shaped tables are =
-      step_same n t ts (rows_for n batch) refl (shares_from batch (n + 1) (map known_as ts)) parts tables.0 shaped.0.bounded are (λ more are. checked_same oldest next (n + 1) ts more shaped.1 tables.2 are)
+  checked_same floor next n [] [] shaped tables are = refl
+  checked_same floor next n [] (part ∷ parts) shaped tables are = absurd are
+  checked_same floor next n (t ∷ ts) parts shaped tables are =
+      step_same n t ts (rows_for n batch) refl (shares_from batch (n + 1) (map known_as ts)) parts tables.0 shaped.0.bounded are (λ more are. checked_same floor next (n + 1) ts more shaped.1 tables.2 are)
 
   -- ---- what holds of the parts alone
 
@@ -74,11 +74,11 @@ module _ {M : Type 0} (bytes : M → Option (List ℕ)) (id_of : M → ℕ) (ove
       let many : length t.totals ≡ length (abs_totals (columns_of t.lineage) (row ∷ load)) = count ∙ sym (length-map (sum_places 0 (aggs_of (columns_of t.lineage))) _) in
       ap (λ b. b || list_any is_over shares) (none_alone t.totals (abs_totals (columns_of t.lineage) (row ∷ load)) many (ap (over_bound t.totals) (sym are.0.totals) ∙ none)) ∙ rest parts are.1 both.1
 
-  pub none_over : (oldest next n : ℕ) (ts : List Stock) (parts : List (PreparedPart M)) → AllByRecursion (IsShaped oldest next) ts → AreTables c n ts → AreParts bytes id_of over (shares_from batch n (map known_as ts)) parts
+  pub none_over : (floor next n : ℕ) (ts : List Stock) (parts : List (PreparedPart M)) → AllByRecursion (IsShaped floor next) ts → AreTables c n ts → AreParts bytes id_of over (shares_from batch n (map known_as ts)) parts
       → parts_checked c parts ≡ Ok tt → list_any is_over (shares_from batch n (map known_as ts)) ≡ false
-  none_over oldest next n [] parts shaped tables are checked = refl
-  none_over oldest next n (t ∷ ts) parts shaped tables are checked =
-      part_alone n t (rows_for n batch) (shares_from batch (n + 1) (map known_as ts)) parts tables.0 shaped.0.totals are checked (λ more are checked. none_over oldest next (n + 1) ts more shaped.1 tables.2 are checked)
+  none_over floor next n [] parts shaped tables are checked = refl
+  none_over floor next n (t ∷ ts) parts shaped tables are checked =
+      part_alone n t (rows_for n batch) (shares_from batch (n + 1) (map known_as ts)) parts tables.0 shaped.0.totals are checked (λ more are checked. none_over floor next (n + 1) ts more shaped.1 tables.2 are checked)
 
   -- each part is of a table that is there, with a total for each of its sum columns
   part_there : (n : ℕ) (t : Stock) (load : List Row) (shares : List Share) (parts : List (PreparedPart M)) → stock_at c n ≡ t → n < length c.tables → AreParts bytes id_of over (share_of n t.lineage load ++ shares) parts
@@ -120,11 +120,11 @@ module _ {M : Type 0} (bytes : M → Option (List ℕ)) (id_of : M → ℕ) (ove
       let sum = length-append (files_of_part part) (files_of_parts parts) in
       omega (arith, le, own, sum)
 
-  pub files_few : (oldest next n : ℕ) (ts : List Stock) (parts : List (PreparedPart M)) → AllByRecursion (IsShaped oldest next) ts → AreParts bytes id_of over (shares_from batch n (map known_as ts)) parts → length (files_of_parts parts) ≤ length ts * (1 + max_views)
-  files_few oldest next n [] [] shaped are = omega arith
-  files_few oldest next n [] (part ∷ parts) shaped are = absurd are
-  files_few oldest next n (t ∷ ts) parts shaped are =
-      subst (λ k. length (files_of_parts parts) ≤ k * (1 + max_views)) (one_more (length ts)) (part_few n (length ts) t (rows_for n batch) (shares_from batch (n + 1) (map known_as ts)) parts shaped.0.lineage.few_views are (λ more are. files_few oldest next (n + 1) ts more shaped.1 are))
+  pub files_few : (floor next n : ℕ) (ts : List Stock) (parts : List (PreparedPart M)) → AllByRecursion (IsShaped floor next) ts → AreParts bytes id_of over (shares_from batch n (map known_as ts)) parts → length (files_of_parts parts) ≤ length ts * (1 + max_views)
+  files_few floor next n [] [] shaped are = omega arith
+  files_few floor next n [] (part ∷ parts) shaped are = absurd are
+  files_few floor next n (t ∷ ts) parts shaped are =
+      subst (λ k. length (files_of_parts parts) ≤ k * (1 + max_views)) (one_more (length ts)) (part_few n (length ts) t (rows_for n batch) (shares_from batch (n + 1) (map known_as ts)) parts shaped.0.lineage.few_views are (λ more are. files_few floor next (n + 1) ts more shaped.1 are))
     where
       one_more : (k : ℕ) → k + 1 ≡ suc k
       one_more k = omega arith

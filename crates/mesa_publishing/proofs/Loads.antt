@@ -213,10 +213,10 @@ module _ {M : Type 0} (bytes : M → Option (List ℕ)) (id_of : M → ℕ) (row
           (subst (λ (u : Stock). AreBrought bytes rows c batch n id (t ∷ ts) (record { table = n; epoch = epoch_of u.lineage; files = files_under id made; totals = part.totals } ∷ parts_under c (id + length (files_in made)) parts) (files_in made ++ files_of_parts parts)) (sym at) one))
 
   -- all parts
-  pub all_brought : (oldest next n id : ℕ) (ts : List Stock) (parts : List (PreparedPart M)) → AllByRecursion (IsShaped oldest next) ts → AreTables c n ts → AreParts bytes id_of false (shares_from batch n (map known_as ts)) parts
+  pub all_brought : (floor next n id : ℕ) (ts : List Stock) (parts : List (PreparedPart M)) → AllByRecursion (IsShaped floor next) ts → AreTables c n ts → AreParts bytes id_of false (shares_from batch n (map known_as ts)) parts
       → AreAt rows id (flat_map rows_of_share (shares_from batch n (map known_as ts))) → parts_checked c parts ≡ Ok tt → AreBrought bytes rows c batch n id ts (parts_under c id parts) (files_of_parts parts)
-  all_brought oldest next n id [] [] shaped tables are have checked = record { brings = tt; behind = tt; told = tt; fits = refl; ids = refl; files = λ all. refl }
-  all_brought oldest next n id [] (part ∷ parts) shaped tables are have checked = absurd are
-  all_brought oldest next n id (t ∷ ts) parts shaped tables are have checked =
+  all_brought floor next n id [] [] shaped tables are have checked = record { brings = tt; behind = tt; told = tt; fits = refl; ids = refl; files = λ all. refl }
+  all_brought floor next n id [] (part ∷ parts) shaped tables are have checked = absurd are
+  all_brought floor next n id (t ∷ ts) parts shaped tables are have checked =
       next_part n id t ts (rows_for n batch) refl (shares_from batch (n + 1) (map known_as ts)) parts tables.0 tables.1 shaped.0.totals are have checked
-      (λ k more are have checked. all_brought oldest next (n + 1) k ts more shaped.1 tables.2 are have checked)
+      (λ k more are have checked. all_brought floor next (n + 1) k ts more shaped.1 tables.2 are have checked)

@@ -220,13 +220,13 @@ module _ {M : Type 0} (bytes : M → Option (List ℕ)) (id_of : M → ℕ) wher
         part_with number id count share part lineage are.0.table (of.0.count ∙ ap (λ (u : Stock). sums_in (aggs_of (columns_of u.lineage))) (ap (stock_at c) are.0.table ∙ at)) part.files are.0.files
         (parts_under c (id + length (files_of_part part)) parts) (behind (id + length (files_of_part part)) parts of.1 are.1)
 
-    parts_good : (oldest next number id : ℕ) (ts : List Stock) (parts : List (PreparedPart M)) → AllByRecursion (IsShaped oldest next) ts → AreTables c number ts → ArePartsOf c parts → AreParts bytes id_of over (shares_from batch number (map known_as ts)) parts
+    parts_good : (floor next number id : ℕ) (ts : List Stock) (parts : List (PreparedPart M)) → AllByRecursion (IsShaped floor next) ts → AreTables c number ts → ArePartsOf c parts → AreParts bytes id_of over (shares_from batch number (map known_as ts)) parts
         → AreGood number (length ts) (parts_under c id parts)
-    parts_good oldest next number id [] [] shaped tables of are = record { rise = refl; good = refl; few = omega arith }
-    parts_good oldest next number id [] (part ∷ parts) shaped tables of are = absurd are
-    parts_good oldest next number id (t ∷ ts) parts shaped tables of are =
+    parts_good floor next number id [] [] shaped tables of are = record { rise = refl; good = refl; few = omega arith }
+    parts_good floor next number id [] (part ∷ parts) shaped tables of are = absurd are
+    parts_good floor next number id (t ∷ ts) parts shaped tables of are =
         subst (λ k. AreGood number k (parts_under c id parts)) (one_more (length ts))
-        (step_good number id (length ts) t (rows_for number batch) (shares_from batch (number + 1) (map known_as ts)) parts shaped.0.lineage tables.0 of are (λ id more of are. parts_good oldest next (number + 1) id ts more shaped.1 tables.2 of are))
+        (step_good number id (length ts) t (rows_for number batch) (shares_from batch (number + 1) (map known_as ts)) parts shaped.0.lineage tables.0 of are (λ id more of are. parts_good floor next (number + 1) id ts more shaped.1 tables.2 of are))
       where
         one_more : (k : ℕ) → k + 1 ≡ suc k
         one_more k = omega arith
@@ -234,7 +234,7 @@ module _ {M : Type 0} (bytes : M → Option (List ℕ)) (id_of : M → ℕ) wher
     -- The parts of a load keep the rules.
     pub parts_rules : (id : ℕ) (parts : List (PreparedPart M)) → IsCatalog c → AreTables c 0 c.tables → ArePartsOf c parts → AreParts bytes id_of over (shares (sight_of c) batch) parts → are_parts (parts_under c id parts) ≡ true
     parts_rules id parts shaped tables of are =
-        let is = parts_good c.oldest c.next 0 id c.tables parts shaped.tables tables of are in
+        let is = parts_good c.floor c.next 0 id c.tables parts shaped.tables tables of are in
         let few = shaped.few in
         let le = is.few in
         λ i. lt-ltb (length (parts_under c id parts)) (2 ^ 16) (omega (arith, few, le)) i && is.rise i && is.good i

@@ -94,7 +94,7 @@ then_loaded l batch = refuse_if (nat_le max_versions l.catalogue.next) (no.Versi
 load_is : (l : Ledger) (words : List RowWords) (batch : List Placed) → l.closed ≡ None → batch_of (tables_read l.catalogue) words ≡ Ok batch → load_batch (bare_of l) words ≡ then_loaded l batch
 load_is l words batch unclosed read =
     ap (λ (o : Option ℕ). refuse_closed o >> (refused_as batch_refusal (batch_of (tables_named (bare_of l).store) words) >>= then_loaded l)) unclosed
-    ∙ ap (λ (r : Result (List Placed) BatchError). refused_as batch_refusal r >>= then_loaded l) (ap (λ (n : List Named). batch_of n words) (tables_are l.catalogue.oldest l.catalogue) ∙ read)
+    ∙ ap (λ (r : Result (List Placed) BatchError). refused_as batch_refusal r >>= then_loaded l) (ap (λ (n : List Named). batch_of n words) (tables_are l.catalogue) ∙ read)
 
 is_full : (n : ℕ) → n ≡ max_versions → nat_le max_versions n ≡ true
 is_full n e = grind (arith, nat_tests)
@@ -135,13 +135,13 @@ module _ {M : Type 0} (bytes : M → Option (List ℕ)) (id_of : M → ℕ) (l :
   are_there = parts_there bytes id_of over c batch 0 c.tables parts (all_tables c) is.parts
 
   pub few_there : length (files_of_parts parts) ≤ most_files
-  few_there = (let le = files_few bytes id_of over c batch c.oldest c.next 0 c.tables parts shaped.tables is.parts in let few = shaped.few in by (length c.tables) (length (files_of_parts parts)) few le)
+  few_there = (let le = files_few bytes id_of over c batch c.floor c.next 0 c.tables parts shaped.tables is.parts in let few = shaped.few in by (length c.tables) (length (files_of_parts parts)) few le)
     where
       by : (n k : ℕ) → n ≤ max_tables → k ≤ n * (1 + max_views) → k ≤ most_files
       by n k few le = omega arith
 
   same_check : bounds_checked batch 0 (map skeleton_of c.tables) ≡ parts_checked c parts
-  same_check = checked_same bytes id_of over c batch c.oldest c.next 0 c.tables parts shaped.tables (all_tables c) is.parts
+  same_check = checked_same bytes id_of over c batch c.floor c.next 0 c.tables parts shaped.tables (all_tables c) is.parts
 
   pub bounds_due : (words : List RowWords) → batch_of (tables_read l.catalogue) words ≡ Ok batch → (e : Unpublished) → l.closed ≡ None → c.next < max_versions → IsDue (parts_checked c parts) e → IsDue (load_batch (bare_of l) words) e
   bounds_due words read e unclosed few due =
@@ -157,10 +157,10 @@ module _ {M : Type 0} (bytes : M → Option (List ℕ)) (id_of : M → ℕ) (l :
       named_parts = parts_under c (next_id l) parts
 
       not_over : AreParts bytes id_of false (shares_from batch 0 (map known_as c.tables)) parts
-      not_over = subst (λ b. AreParts bytes id_of b (shares_from batch 0 (map known_as c.tables)) parts) (none_over bytes id_of over c batch c.oldest c.next 0 c.tables parts shaped.tables (all_tables c) is.parts checked) is.parts
+      not_over = subst (λ b. AreParts bytes id_of b (shares_from batch 0 (map known_as c.tables)) parts) (none_over bytes id_of over c batch c.floor c.next 0 c.tables parts shaped.tables (all_tables c) is.parts checked) is.parts
 
       brought_all : (rows : ℕ → List Row) → AreBrought bytes (rows_later l batch rows) c batch 0 (next_id l) c.tables named_parts (files_of_parts parts)
-      brought_all rows = all_brought bytes id_of (rows_later l batch rows) c batch (λ n s. totals_by_key (tables_read c) words batch n s read) c.oldest c.next 0 (next_id l) c.tables parts shaped.tables (all_tables c) not_over (rows_stand rows (next_id l) (rows_brought c batch)) checked
+      brought_all rows = all_brought bytes id_of (rows_later l batch rows) c batch (λ n s. totals_by_key (tables_read c) words batch n s read) c.floor c.next 0 (next_id l) c.tables parts shaped.tables (all_tables c) not_over (rows_stand rows (next_id l) (rows_brought c batch)) checked
 
       some : AreBrought bytes (rows_later l batch (λ id. [])) c batch 0 (next_id l) c.tables named_parts (files_of_parts parts)
       some = brought_all (λ id. [])

@@ -13,7 +13,7 @@ use Rattle.mesa_record.specs.declared.record.Record.TheVariants as record_of
 use Rattle.mesa_record.specs.declared.record.ViewRef.{ViewRef}
 use Rattle.mesa_record.specs.declared.record.Files.{Files}
 use Rattle.mesa_record.specs.declared.record.Part.{Part}
-use Rattle.mesa_record.specs.Reading.{Left, Read, alter_at, byte_at, change_at, ended, expire_at, fields_of, files_if_any_at, flag_of, half_at, key_column_at, key_columns_at, meaning, name_at, names_at, part_at, part_number, publish_at, record_at, rising, run_at, swap_at, table_at, value_column_at, value_columns_at, view_at, view_number, word_at}
+use Rattle.mesa_record.specs.Reading.{Left, Read, alter_at, byte_at, change_at, ended, expire_at, expire_table_at, fields_of, files_if_any_at, flag_of, half_at, key_column_at, key_columns_at, meaning, name_at, names_at, part_at, part_number, publish_at, record_at, rising, run_at, swap_at, table_at, value_column_at, value_columns_at, view_at, view_number, word_at}
 use Rattle.mesa_record.specs.Rules.{AreTypedFiles, IsHalf, IsNamed, IsRecord, IsTypedFiles, IsTypedPart, IsTypedView, IsWord, are_files, are_files_if_any, are_view_refs, is_count_of_columns, is_file_ref, is_part, rise_from}
 use Rattle.mesa_record.specs.Spelling.{change, counted, files_if_any, flag, half, key_column, part, spelled, text, value_column, word}
 use Rattle.mesa_record.proofs.Both.{Again, Begins, Bytes, Found, InOrder, all_bytes, begins_two, here, list_again, list_found, ok_is, step_of}
@@ -103,6 +103,7 @@ kind_number (record_of.Alter table c) = 4
 kind_number (record_of.Publish version parts) = 5
 kind_number (record_of.Swap table base from to epoch f) = 6
 kind_number (record_of.Expire version) = 7
+kind_number (record_of.ExpireTable table version) = 12
 
 -- a record's bytes behind its kind
 abbrev fields : Record → List ℕ
@@ -113,6 +114,7 @@ fields (record_of.Alter table c) = half table ++ change c
 fields (record_of.Publish version parts) = word version ++ (half (length parts) ++ flat_map part parts)
 fields (record_of.Swap table base from to epoch f) = half table ++ (flag base ∷ (word from ++ (word to ++ (word epoch ++ files_if_any f))))
 fields (record_of.Expire version) = word version
+fields (record_of.ExpireTable table version) = half table ++ word version
 
 spelled_so : (r : Record) → spelled r ≡ one (kind_number r) ++ fields r
 unfolding spelled
@@ -123,6 +125,7 @@ spelled_so (record_of.Alter table c) = refl
 spelled_so (record_of.Publish version parts) = refl
 spelled_so (record_of.Swap table base from to epoch f) = refl
 spelled_so (record_of.Expire version) = refl
+spelled_so (record_of.ExpireTable table version) = refl
 
 abbrev HasKeys : List KeyColumn → Type 0
 HasKeys keys = IsCounted is_count_of_columns (λ (c : KeyColumn). IsNamed c.name) keys
@@ -203,6 +206,8 @@ fields_again (record_of.Publish version parts) is place =
 fields_again (record_of.Swap table base from to epoch f) is place =
     swap_again table base from to epoch f is.typed.0 is.typed.1 is.typed.2 is.typed.3 (files_if_any_of f is.typed.4 is.rules)
 fields_again (record_of.Expire version) is place = made_again word_at record_of.Expire (word version) version (word_again version is.typed)
+fields_again (record_of.ExpireTable table version) is place =
+    two_again half_at (λ table. word_at) record_of.ExpireTable (half table) (word version) table version (half_again table is.typed.0) (word_again version is.typed.1)
 
 -- a record is read again from its spelling
 pub record_again : (r : Record) → IsRecord r → record_at (spelled r) ≡ Ok r
@@ -227,6 +232,10 @@ run_found = made_found word_at record_of.Run IsWord (IsOfKind 1) word fields wor
 
 expire_found : FoundFields 7 expire_at
 expire_found = made_found word_at record_of.Expire IsWord (IsOfKind 7) word fields word_found (λ version small. (record { «record» = record { typed = small; rules = refl }; kind = refl }, refl))
+
+expire_table_found : FoundFields 12 expire_table_at
+expire_table_found = two_found half_at (λ table. word_at) record_of.ExpireTable IsHalf (λ table version. IsWord version) (IsOfKind 12) half word fields half_found (λ table. word_found)
+    (λ table version small is. (record { «record» = record { typed = (small, is); rules = refl }; kind = refl }, refl))
 
 alter_found : FoundFields 4 alter_at
 alter_found = two_found half_at (λ table. change_at) record_of.Alter IsHalf (λ table c. IsChange c) (IsOfKind 4) half change fields half_found (λ table. change_found)
@@ -330,7 +339,10 @@ fields_found place b l after r bytes h = elim (either_way (b == 1) (run_at l) _ 
             | inl is ↦ of_number 6 b l after r is.0 (swap_found l after r bytes is.1)
             | inr h6 ↦ elim (either_way (b == 7) (expire_at l) _ (r, after) h6) [
               | inl is ↦ of_number 7 b l after r is.0 (expire_found l after r bytes is.1)
-              | inr h7 ↦ absurd cc
+              | inr h7 ↦ elim (either_way (b == 12) (expire_table_at l) _ (r, after) h7) [
+                | inl is ↦ of_number 12 b l after r is.0 (expire_table_found l after r bytes is.1)
+                | inr h12 ↦ absurd cc
+              ]
             ]
           ]
         ]

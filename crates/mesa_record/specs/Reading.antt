@@ -254,6 +254,9 @@ swap_at l = do
 abbrev pub expire_at : Left → Read Record
 expire_at l = word_at l >>= λ version. Ok (record_of.Expire version.0, version.1)
 
+abbrev pub expire_table_at : Left → Read Record
+expire_table_at l = half_at l >>= λ table. word_at table.1 >>= λ version. Ok (record_of.ExpireTable table.0 version.0, version.1)
+
 -- the fields of a record, by its kind, which stood at a place
 unfoldable pub fields_of : ℕ → ℕ → Left → Read Record
 fields_of at b l =
@@ -264,6 +267,7 @@ fields_of at b l =
     else if b == 5 then publish_at l
     else if b == 6 then swap_at l
     else if b == 7 then expire_at l
+    else if b == 12 then expire_table_at l
     else Err (fault.BadKind at)
 
 -- a record that nothing may follow

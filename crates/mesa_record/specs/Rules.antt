@@ -69,6 +69,7 @@ keeps_rules (record_of.Alter table c) = is_change c
 keeps_rules (record_of.Publish version parts) = are_parts parts
 keeps_rules (record_of.Swap table base from to epoch f) = are_files_if_any f
 keeps_rules (record_of.Expire version) = true
+keeps_rules (record_of.ExpireTable table version) = true
 
 -- ---- what the types of the fields say of them
 
@@ -128,6 +129,7 @@ IsTyped (record_of.Alter table c) = IsHalf table × IsTypedChange c
 IsTyped (record_of.Publish version parts) = IsWord version × AllByRecursion IsTypedPart parts
 IsTyped (record_of.Swap table base from to epoch f) = IsHalf table × IsWord from × IsWord to × IsWord epoch × AreTypedFiles f
 IsTyped (record_of.Expire version) = IsWord version
+IsTyped (record_of.ExpireTable table version) = IsHalf table × IsWord version
 
 -- A record: its fields are within their types and keep the rules.
 pub record IsRecord (r : Record) : Type 0 where

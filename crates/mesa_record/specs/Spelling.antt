@@ -118,3 +118,4 @@ spelled (record_of.Alter table c) = 4 ∷ (half table ++ change c)
 spelled (record_of.Publish version parts) = 5 ∷ (word version ++ parts_fields parts)
 spelled (record_of.Swap table base from to epoch f) = 6 ∷ (half table ++ (flag base ∷ (word from ++ (word to ++ (word epoch ++ files_if_any f)))))
 spelled (record_of.Expire version) = 7 ∷ word version
+spelled (record_of.ExpireTable table version) = 12 ∷ (half table ++ word version)

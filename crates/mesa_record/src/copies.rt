@@ -73,6 +73,10 @@ impl TryCopy for Record {
                 files: copy_files(files)?,
             }),
             Record::Expire { version } => Ok(Record::Expire { version: *version }),
+            Record::ExpireTable { table, version } => Ok(Record::ExpireTable {
+                table: *table,
+                version: *version,
+            }),
         }
     }
 }

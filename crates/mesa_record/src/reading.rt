@@ -1,6 +1,6 @@
 // Reading records.
 ghost use Rattle.std.specs.Prelude.{◌≡◌, ◌≢◌, Ok, Err, IfOk, IfErr};
-ghost use Rattle.mesa_record.specs.Reading.{Gives, alter_at, change_at, fields_of, add_key_at, add_value_at, key_columns_at, key_default_at, names_at, publish_at, record_at, swap_at, table_at, value_columns_at, view_at};
+ghost use Rattle.mesa_record.specs.Reading.{Gives, alter_at, change_at, expire_table_at, fields_of, add_key_at, add_value_at, key_columns_at, key_default_at, names_at, publish_at, record_at, swap_at, table_at, value_columns_at, view_at};
 ghost use Rattle.mesa_record.specs.declared.record.Record.{Record as AnyRecord};
 ghost use Rattle.mesa_record.specs.Rules.{IsRecord};
 ghost use Rattle.mesa_record.specs.Spelling.{spelled};
@@ -63,8 +63,17 @@ fn fields(alloc: Global, kind: u8, at: u64, cursor: &mut Cursor<'_>) -> Result<R
         7 => Ok(Record::Expire {
             version: cursor.word()?,
         }),
+        12 => expire_table(cursor),
         _ => Err(RecordError::BadKind { at }),
     }
+}
+
+fn expire_table(cursor: &mut Cursor<'_>) -> Result<Record, RecordError>
+    ensures { Gives result cursor.new (expire_table_at cursor.old) }
+{
+    let table = cursor.half()?;
+    let version = cursor.word()?;
+    Ok(Record::ExpireTable { table, version })
 }
 
 fn table(alloc: Global, cursor: &mut Cursor<'_>) -> Result<Record, RecordError>

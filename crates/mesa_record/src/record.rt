@@ -76,6 +76,11 @@ pub enum Record {
     Expire {
         version: u32,
     },
+    /// Versions of a table below this one aren't kept any more.
+    ExpireTable {
+        table: u16,
+        version: u32,
+    },
 }
 
 // Each exit calls this, in place of letting go of each part itself.
@@ -111,6 +116,10 @@ impl Drop for Record {
                 files: _,
             } => {}
             Record::Expire { version: _ } => {}
+            Record::ExpireTable {
+                table: _,
+                version: _,
+            } => {}
         }
     }
 }

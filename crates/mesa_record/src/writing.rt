@@ -61,6 +61,7 @@ fn write(record: &Record, out: &mut Vec<u8>) -> Result<(), AllocError>
             write_files_if_any(files, out)
         }
         Record::Expire { version } => write_number(7, *version, out),
+        Record::ExpireTable { table, version } => write_expire_table(*table, *version, out),
     }
 }
 
@@ -71,6 +72,15 @@ fn write_number(kind: u8, number: u32, out: &mut Vec<u8>) -> Result<(), AllocErr
 {
     out.push(kind)?;
     put_word(number, out)
+}
+
+fn write_expire_table(table: u16, version: u32, out: &mut Vec<u8>) -> Result<(), AllocError>
+    ensures bytes { OnOk result (out.new.items ≡ out.old.items ++ 12 ∷ (half table ++ word version)) }
+    ensures typed { OnOk result (IsHalf table × IsWord version) }
+{
+    out.push(12)?;
+    put_half(table, out)?;
+    put_word(version, out)
 }
 
 fn write_alter(table: u16, change: &Change, out: &mut Vec<u8>) -> Result<(), AllocError>

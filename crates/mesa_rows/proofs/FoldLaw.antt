@@ -17,9 +17,9 @@ use Rattle.mesa_rows.proofs.OnLiterals.{on_literals}
 abbrev versions : List ℕ
 versions = 2 ∷ 3 ∷ 4 ∷ []
 
-abbrev contents_of : Warehouse → Option Table → List (List Row)
-contents_of w None = []
-contents_of w (Some t) = map (content_at w.store t) versions
+abbrev contents_of : Option Table → List (List Row)
+contents_of None = []
+contents_of (Some t) = map (content_at t) versions
 
 abbrev law_of : ℕ → List Accepted → Option Table → List (List Row)
 law_of number accepted None = []
@@ -32,7 +32,7 @@ after_alone script h = (runs script (begins (nothing_there script)) h).state.war
 abbrev contents_after : ℕ → Result Script ScriptError → List (List Row)
 contents_after number (Err e) = []
 contents_after number (Ok script) =
-    let w = after_alone script (history_alone (nothing_there script) script) in contents_of w (slice_get w.store.tables number)
+    let w = after_alone script (history_alone (nothing_there script) script) in contents_of (slice_get w.store.tables number)
 
 abbrev law_after : ℕ → Result Script ScriptError → List (List Row)
 law_after number (Err e) = []

@@ -112,6 +112,49 @@ stale_and_future : Prints (
 unfolding on_literals
 stale_and_future = record { prints = refl; legal = refl }
 
+-- One table lets versions go, and another keeps its own; a pin asks for a version that all have.
+expiry_per_table : Prints (
+    codes "table,t,k int,v sum"
+    ∷ codes "table,u,k int,v sum"
+    ∷ codes "row,t,1,10"
+    ∷ codes "row,u,1,100"
+    ∷ codes "commit"
+    ∷ codes "row,t,1,20"
+    ∷ codes "commit"
+    ∷ codes "expire,t,1"
+    ∷ codes "query,t,0"
+    ∷ codes "pin,0"
+    ∷ codes "expire,t,0"
+    ∷ codes "expire,w,1"
+    ∷ codes "query,u,0"
+    ∷ codes "query,t"
+    ∷ codes "expire,0"
+    ∷ codes "query,u,0"
+    ∷ codes "expire,1"
+    ∷ codes "query,u,0"
+    ∷ []) (
+    codes "0.1@0 table t"
+    ∷ codes "0.2@1 table u"
+    ∷ codes "0.3@3 loaded version=0 rows=2"
+    ∷ codes "0.4@5 loaded version=1 rows=1"
+    ∷ codes "0.5@6 expired t oldest=1"
+    ∷ codes "0.6@7 refused stale asked=0 oldest=1"
+    ∷ codes "0.7@8 refused stale asked=0 oldest=1"
+    ∷ codes "0.8@9 refused stale asked=0 oldest=1"
+    ∷ codes "0.9@10 refused no_table"
+    ∷ codes "0.10@11 rows 1 version=0"
+    ∷ codes "1,100"
+    ∷ codes "0.11@13 rows 1 version=1"
+    ∷ codes "1,30"
+    ∷ codes "0.12@15 expired oldest=0"
+    ∷ codes "0.13@16 rows 1 version=0"
+    ∷ codes "1,100"
+    ∷ codes "0.14@18 expired oldest=1"
+    ∷ codes "0.15@19 refused stale asked=0 oldest=1"
+    ∷ [])
+unfolding on_literals
+expiry_per_table = record { prints = refl; legal = refl }
+
 -- Pages of an answer, and a page at a pin.
 pages_and_pin : Prints (
     codes "table,t,k int,v sum"

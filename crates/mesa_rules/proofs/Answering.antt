@@ -33,7 +33,7 @@ use Rattle.mesa_asked.specs.declared.failure.Failure.{Failure}
 use Rattle.mesa_asked.specs.Built.{IsBuiltOf}
 use Rattle.mesa_asked.specs.Told.{IsDue}
 use Rattle.mesa_asked.proofs.Queries.{answered, no_relation, no_version, not_asked, not_built_by}
-use Rattle.mesa_rules.specs.Found.{Sees, answer_found, columns_at, relation_seen, relation_with, without_rows}
+use Rattle.mesa_rules.specs.Found.{Sees, answer_found, columns_at, relation_seen, relation_with, version_in, without_rows}
 use Rattle.mesa_rules.specs.Seen.{known_in, known_of}
 
 -- ---- the first that passes, by its place
@@ -117,7 +117,7 @@ built_at s k version epoch n words q columns same built =
     (subst (λ e. IsBuiltOf s q.version e words q) same
     (subst (λ v. IsBuiltOf s v epoch words q) (sym (ap (λ (b : BuiltQuery). b.version) built.parts)) built))
 
-module _ (c : Catalog) (version : Result ℕ Refusal) (words : QueryWords) (w : Warehouse) (session : ℕ) (s : Sees c version words session w) where
+module _ (c : Catalog) (pinned : Option ℕ) (words : QueryWords) (w : Warehouse) (session : ℕ) (s : Sees c pinned words session w) where
   pub nothing_found : place_named c words.relation ≡ None → query_answer w session words ≡ Err no_such_table
   nothing_found none = no_relation w session words s.store s.opened s.asked (relation_there c s.store words.relation s.tables ∙ ap (option_map (relation_seen s.store)) none)
 
@@ -134,15 +134,15 @@ module _ (c : Catalog) (version : Result ℕ Refusal) (words : QueryWords) (w : 
     pub unasked : (failure : Failure) → IsDue (refused_as query_refusal (asked_of (columns_at c p) words)) failure → IsDue (query_answer w session words) failure
     unasked failure due = not_asked w session words s.store (relation_seen s.store p) failure s.opened s.asked relation_is (subst (λ (k : Columns). IsDue (refused_as query_refusal (asked_of k words)) failure) (sym columns_are) due)
 
-    pub unversioned : (refusal : Refusal) → IsOk (asked_of (columns_at c p) words) → version ≡ Err refusal → query_answer w session words ≡ Err refusal
-    unversioned refusal asked none = no_version w session words s.store (relation_seen s.store p) refusal s.opened s.asked relation_is (subst (λ (k : Columns). IsOk (asked_of k words)) (sym columns_are) asked) (s.seen ∙ none)
+    pub unversioned : (refusal : Refusal) → IsOk (asked_of (columns_at c p) words) → version_in c pinned words.version p.table ≡ Err refusal → query_answer w session words ≡ Err refusal
+    unversioned refusal asked none = no_version w session words s.store (relation_seen s.store p) refusal s.opened s.asked relation_is (subst (λ (k : Columns). IsOk (asked_of k words)) (sym columns_are) asked) (s.seen p.table ∙ none)
 
-    pub unbuilt : (v : ℕ) (failure : Failure) → IsOk (asked_of (columns_at c p) words) → version ≡ Ok v → IsDue (refused_as query_refusal (query_of (columns_at c p) words.relation v (epoch_of (stock_at c p.table).lineage) words)) failure → IsDue (query_answer w session words) failure
+    pub unbuilt : (v : ℕ) (failure : Failure) → IsOk (asked_of (columns_at c p) words) → version_in c pinned words.version p.table ≡ Ok v → IsDue (refused_as query_refusal (query_of (columns_at c p) words.relation v (epoch_of (stock_at c p.table).lineage) words)) failure → IsDue (query_answer w session words) failure
     unbuilt v failure asked is due =
-        not_built_by w session words s.store (relation_seen s.store p) (columns_at c p) v failure s.opened s.asked relation_is (sym columns_are) asked (s.seen ∙ is)
+        not_built_by w session words s.store (relation_seen s.store p) (columns_at c p) v failure s.opened s.asked relation_is (sym columns_are) asked (s.seen p.table ∙ is)
         (subst (λ e. IsDue (refused_as query_refusal (query_of (columns_at c p) words.relation v e words)) failure) (sym epoch_is) due)
 
-    pub built_answer : (q : BuiltQuery) → version ≡ Ok q.version → IsBuiltOf (columns_at c p) q.version (epoch_of (stock_at c p.table).lineage) words q → query_answer w session words ≡ Ok (answer_found s.store (record { relation = p; query = q }))
+    pub built_answer : (q : BuiltQuery) → version_in c pinned words.version p.table ≡ Ok q.version → IsBuiltOf (columns_at c p) q.version (epoch_of (stock_at c p.table).lineage) words q → query_answer w session words ≡ Ok (answer_found s.store (record { relation = p; query = q }))
     built_answer q is made =
         let r = relation_seen s.store p in
         let k = relation_columns r in
@@ -152,5 +152,5 @@ module _ (c : Catalog) (version : Result ℕ Refusal) (words : QueryWords) (w : 
         let page : Answer → Page = λ a. a.page in
         let kinds : chosen q.asked.columns (kinds_of k) ≡ group_kinds q = ap (λ (b : BuiltQuery). chosen q.asked.columns b.kinds) (sym own.parts) in
         let prefix : resume_prefix k words.relation q.version e q.asked.columns ≡ q.prefix = ap (λ (b : BuiltQuery). b.prefix) (sym own.parts) in
-        answered w session words s.store r q.asked q.version q.resume s.opened s.asked relation_is own.asked (s.seen ∙ is) own.resume
-        ∙ (λ j. Ok (record { page = page_of q.version (sym limit j) q.resume (answer_rows k q.asked (relation_content s.store r q.version)); heading = record { kinds = kinds j; prefix = prefix j } }))
+        answered w session words s.store r q.asked q.version q.resume s.opened s.asked relation_is own.asked (s.seen p.table ∙ is) own.resume
+        ∙ (λ j. Ok (record { page = page_of q.version (sym limit j) q.resume (answer_rows k q.asked (relation_content r q.version)); heading = record { kinds = kinds j; prefix = prefix j } }))

@@ -1,5 +1,5 @@
 -- What the rules say of every warehouse with the catalogue.
-use Rattle.std.proofs.Common.{◌≡◌, ◌≤◌, ◌<◌, ◌+◌, ℕ, List, length, map, Bool, true, false, None, Some, Ok, refl, sym, ◌∙◌, ap, subst, arith}
+use Rattle.std.proofs.Common.{◌≡◌, ◌≤◌, ◌<◌, ◌+◌, ℕ, List, length, map, Bool, true, false, Option, None, Some, Ok, Err, ok_or, refl, sym, ◌∙◌, ap, subst, arith}
 use Rattle.std.specs.Prelude.{flat_map, is_some}
 use Rattle.std.proofs.lemmas.Bool.{le-leb}
 use Rattle.mesa_list.specs.Checks.{◌>>=◌, ◌>>◌, refuse_unless, refused_as}
@@ -13,14 +13,16 @@ use Rattle.mesa_model.specs.declared.commands.AlterWords.{AlterWords}
 use Rattle.mesa_model.specs.declared.commands.ChangeWords.{ChangeWords}
 use Rattle.mesa_model.specs.declared.commands.TableWords.{TableWords}
 use Rattle.mesa_model.specs.declared.commands.ViewWords.{ViewWords}
+use Rattle.mesa_model.specs.declared.replies.Refusal.{Refusal}
 use Rattle.mesa_model.specs.declared.replies.Refusal.TheVariants as no
 use Rattle.mesa_model.specs.declared.replies.Reply.{Reply}
 use Rattle.mesa_model.specs.declared.replies.Reply.TheVariants as reply
 use Rattle.mesa_model.specs.declared.replies.SchemaFault.TheVariants as fault
 use Rattle.mesa_model.specs.Refusals.{bad_schema, change_refusal, no_such_table, refuse_closed}
+use Rattle.mesa_model.specs.Relations.{table_number}
 use Rattle.mesa_model.specs.Tables.{alter_table, change_asked, changed_name, columns_asked, make_table, make_view}
-use Rattle.mesa_model.specs.Versions.{expire_to, store_from, version_checked}
-use Rattle.mesa_model.specs.Warehouse.{Warehouse, max_tables}
+use Rattle.mesa_model.specs.Versions.{expire_all, expire_table, store_from, table_from, version_checked}
+use Rattle.mesa_model.specs.Warehouse.{Warehouse, max_tables, table_at, with_table}
 use Rattle.mesa_catalog.specs.mesa_image.Catalog.{Stock, Catalog, no_stock, stock_at}
 use Rattle.mesa_catalog.specs.mesa_image.Fitting.{names_in}
 use Rattle.mesa_catalog.specs.Lookups.{relation_of}
@@ -37,8 +39,8 @@ use Rattle.mesa_rules.specs.Ruled.{Doing, IsRefused, IsRuled}
 use Rattle.mesa_rules.specs.Seen.{HasCatalog, number_of}
 use Rattle.std.proofs.Math.ListN.{get_or-map}
 use Rattle.mesa_schema.proofs.Places.{place_named}
-use Rattle.mesa_rules.proofs.Fits.{alter_fit, alter_rules, expire_fit, schema_checked_is, table_fit, table_rules, view_fit, view_passed, view_rules}
-use Rattle.mesa_rules.proofs.Seen.{count_there, lineage_there, number_there, taken_by}
+use Rattle.mesa_rules.proofs.Fits.{alter_fit, alter_rules, expire_fit, expire_table_fit, schema_checked_is, table_fit, table_rules, view_fit, view_passed, view_rules}
+use Rattle.mesa_rules.proofs.Seen.{count_there, lineage_there, number_there, oldest_there, taken_by}
 
 -- a relation of a name stands in the catalogue just where the name is taken
 pub free_there : (c : Catalog) (name : List ℕ) (found : Bool) → is_some (relation_of c name) ≡ found → has_name name (flat_map names_in c.tables) ≡ found
@@ -150,10 +152,38 @@ stock_named c name number found = sym (get_or-map (λ (t : Stock). t.name) c.tab
 
 -- ---- an expiry
 
-pub ruled_expiry : (c : Catalog) (version : ℕ) (r : Ruled) → c.oldest ≤ version → version < c.next → ((w : Warehouse) → HasCatalog c w → version_checked w version ≡ Ok tt) → r.writes ≡ record_of.Expire version → r.tells ≡ reply.Expired version → IsRuled c (λ w. expire_to w version) r
+pub ruled_expiry : (c : Catalog) (version : ℕ) (r : Ruled) → c.floor ≤ version → version < c.next → ((w : Warehouse) → HasCatalog c w → version_checked w w.store.floor version ≡ Ok tt) → r.writes ≡ record_of.Expire version → r.tells ≡ reply.Expired None version → IsRuled c (λ w. expire_all w version) r
 ruled_expiry c version r low high checked writes tells = record {
   rules = rw writes refl;
   fit = rw writes (expire_fit c version low high);
-  does = λ w has. (let made : Warehouse × Reply = (record w { store = store_from w.store version }, reply.Expired version) in
-      done_as (λ w. expire_to w version) w made r.tells (ap (λ o. refuse_closed o >> (version_checked w version >> Ok made)) has.opened ∙ ap (λ q. q >> Ok made) (checked w has)) tells);
+  does = λ w has. (let made : Warehouse × Reply = (record w { store = store_from w.store version }, reply.Expired None version) in
+      done_as (λ w. expire_all w version) w made r.tells (ap (λ o. refuse_closed o >> (version_checked w w.store.floor version >> Ok made)) has.opened ∙ ap (λ q. q >> Ok made) (checked w has)) tells);
 }
+
+module _ (c : Catalog) (name : List ℕ) (version : ℕ) where
+  abbrev expiring : Doing
+  expiring = λ w. expire_table w name version
+
+  abbrev expired_in : Warehouse → ℕ → Warehouse × Reply
+  expired_in w number = (with_table w number (table_from version (table_at w.store number)), reply.Expired (Some name) version)
+
+  expired_by : (w : Warehouse) (found : Option ℕ) → HasCatalog c w → table_number w.store name ≡ found → expire_table w name version ≡ (ok_or found no_such_table >>= (λ number. version_checked w (table_at w.store number).oldest version >> Ok (expired_in w number)))
+  expired_by w found has is = λ j. refuse_closed (has.opened j) >> (ok_or (is j) no_such_table >>= (λ number. version_checked w (table_at w.store number).oldest version >> Ok (expired_in w number)))
+
+  pub nowhere_expired : number_of c name ≡ None → IsRefused c expiring (Refused no_such_table)
+  nowhere_expired none w has = expired_by w None has (number_there c w name has ∙ none)
+
+  module _ (number : ℕ) (found : number_of c name ≡ Some number) where
+    expiry_of : (w : Warehouse) → HasCatalog c w → expire_table w name version ≡ (version_checked w (stock_at c number).oldest version >> Ok (expired_in w number))
+    expiry_of w has = expired_by w (Some number) has (number_there c w name has ∙ found) ∙ ap (λ o. version_checked w o version >> Ok (expired_in w number)) (oldest_there c w number has)
+
+    pub refused_expiry : (refusal : Refusal) → ((w : Warehouse) → HasCatalog c w → version_checked w (stock_at c number).oldest version ≡ Err refusal) → IsRefused c expiring (Refused refusal)
+    refused_expiry refusal checked w has = expiry_of w has ∙ ap (λ q. q >> Ok (expired_in w number)) (checked w has)
+
+    pub ruled_table_expiry : (r : Ruled) → number < length c.tables → (stock_at c number).oldest ≤ version → version < c.next → ((w : Warehouse) → HasCatalog c w → version_checked w (stock_at c number).oldest version ≡ Ok tt)
+        → r.writes ≡ record_of.ExpireTable number version → r.tells ≡ reply.Expired (Some name) version → IsRuled c expiring r
+    ruled_table_expiry r there low high checked writes tells = record {
+      rules = rw writes refl;
+      fit = rw writes (expire_table_fit c number version there low high);
+      does = λ w has. done_as expiring w (expired_in w number) r.tells (expiry_of w has ∙ ap (λ q. q >> Ok (expired_in w number)) (checked w has)) tells;
+    }

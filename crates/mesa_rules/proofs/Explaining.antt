@@ -9,7 +9,7 @@ use Rattle.mesa_model.specs.declared.replies.Reply.TheVariants as reply
 use Rattle.mesa_model.specs.Refusals.{no_such_table}
 use Rattle.mesa_model.specs.Relations.{relation_of}
 use Rattle.mesa_model.specs.Versions.{version_asked}
-use Rattle.mesa_model.specs.Warehouse.{Warehouse}
+use Rattle.mesa_model.specs.Warehouse.{Warehouse, table_at}
 use Rattle.mesa_catalog.specs.mesa_history.Machine.{Machine, explained, ranges_at}
 use Rattle.mesa_catalog.specs.mesa_image.Catalog.{Catalog, no_stock, ranges_of, stock_at}
 use Rattle.mesa_catalog.specs.mesa_shelf.declared.relation.Relation.{Relation as Place}
@@ -28,10 +28,10 @@ module _ (c : Catalog) (words : ExplainWords) (w : Warehouse) (m : Machine) (has
     relation_is : relation_of w.store words.relation ≡ Some (relation_seen w.store p)
     relation_is = relation_there c w.store words.relation has.tables ∙ ap (option_map (relation_seen w.store)) found
 
-    pub unexplained : (refusal : Refusal) → version_asked w words.version ≡ Err refusal → explained w m words ≡ Err refusal
+    pub unexplained : (refusal : Refusal) → version_asked w (table_at w.store p.table).oldest words.version ≡ Err refusal → explained w m words ≡ Err refusal
     unexplained refusal none = rw (has.opened, relation_is, none) refl
 
-    pub plan_explained : (version : ℕ) → version_asked w words.version ≡ Ok version → m.ranges ≡ map ranges_of c.tables → explained w m words ≡ Ok (reply.Spans (plan (ranges_of (stock_at c p.table)) version))
+    pub plan_explained : (version : ℕ) → version_asked w (table_at w.store p.table).oldest words.version ≡ Ok version → m.ranges ≡ map ranges_of c.tables → explained w m words ≡ Ok (reply.Spans (plan (ranges_of (stock_at c p.table)) version))
     plan_explained version is ranges =
         let own : ranges_at m p.table ≡ ranges_of (stock_at c p.table) = ap (λ rs. get_or rs p.table (ranges_of no_stock)) ranges ∙ get_or-map ranges_of c.tables p.table no_stock in
         rw (has.opened, relation_is, is) (ap (λ r. Ok (reply.Spans (plan r version))) own)

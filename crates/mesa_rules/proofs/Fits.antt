@@ -123,5 +123,8 @@ alter_rules l number (change.AddKey column default) passed = kept (is_of_kind co
 
 -- ---- an expiry
 
-pub expire_fit : (c : Catalog) (version : ℕ) → c.oldest ≤ version → version < c.next → fits c (record_of.Expire version) ≡ true
-expire_fit c version low high = fit_of c (record_of.Expire version) (λ j. le-leb c.oldest version low j && lt-ltb version c.next high j) refl
+pub expire_fit : (c : Catalog) (version : ℕ) → c.floor ≤ version → version < c.next → fits c (record_of.Expire version) ≡ true
+expire_fit c version low high = fit_of c (record_of.Expire version) (λ j. le-leb c.floor version low j && lt-ltb version c.next high j) refl
+
+pub expire_table_fit : (c : Catalog) (number version : ℕ) → number < length c.tables → (stock_at c number).oldest ≤ version → version < c.next → fits c (record_of.ExpireTable number version) ≡ true
+expire_table_fit c number version there low high = fit_of c (record_of.ExpireTable number version) (λ j. lt-ltb number (length c.tables) there j && (le-leb (stock_at c number).oldest version low j && lt-ltb version c.next high j)) refl

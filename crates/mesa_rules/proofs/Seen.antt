@@ -1,9 +1,9 @@
 -- What a warehouse with a catalogue's tables is asked, the catalogue can tell.
-use Rattle.std.proofs.Common.{◌≡◌, ℕ, ◌+◌, List, [], ◌∷◌, ◌++◌, length, map, get_or, refl, sym, ◌∙◌, ap, Bool, true, false, cond, Option, Some, None}
-use Rattle.std.specs.Prelude.{◌||◌, find, flat_map, is_some, option_map}
+use Rattle.std.proofs.Common.{◌≡◌, ℕ, ◌+◌, ◌<◌, List, [], ◌∷◌, ◌++◌, arith, drop, length, map, get_or, refl, sym, ◌∙◌, ap, Bool, true, false, cond, Option, Some, None, Result, Ok, Err}
+use Rattle.std.specs.Prelude.{◌||◌, find, flat_map, is_some, max, nat_le, option_map}
 use Rattle.std.specs.List.{list_any}
 use Rattle.std.proofs.Math.ListN.{get_or-map}
-use Rattle.std.proofs.lemmas.List.{length-map}
+use Rattle.std.proofs.lemmas.List.{drop_more, length-map}
 use Rattle.std.proofs.lemmas.Simd.{map-map}
 use Rattle.mesa_list.specs.Bytes.{same_bytes}
 use Rattle.mesa_schema.specs.declared.views.View.{View}
@@ -11,12 +11,22 @@ use Rattle.mesa_schema.specs.Columns.{place_of}
 use Rattle.mesa_schema.specs.Names.{has_name}
 use Rattle.mesa_batch.specs.Glance.{Known}
 use Rattle.mesa_model.specs.Relations.{Relation, is_taken, relation_from, table_number}
-use Rattle.mesa_model.specs.Warehouse.{Table, Warehouse, no_table, table_at}
+use Rattle.mesa_filter.specs.declared.words.VersionWord.{VersionWord}
+use Rattle.mesa_list.specs.Checks.{◌>>=◌, ◌>>◌, refuse_if}
+use Rattle.mesa_model.specs.declared.replies.Refusal.{Refusal}
+use Rattle.mesa_model.specs.declared.replies.Refusal.TheVariants as no
+use Rattle.mesa_model.specs.declared.replies.Reply.{Reply}
+use Rattle.mesa_model.specs.declared.replies.Reply.TheVariants as reply
+use Rattle.mesa_model.specs.Pins.{make_pin, next_token, with_pin}
+use Rattle.mesa_model.specs.Refusals.{refuse_closed}
+use Rattle.mesa_model.specs.Versions.{common_oldest, oldest_among, version_asked}
+use Rattle.mesa_model.specs.Warehouse.{max_pins, Table, Warehouse, no_table, table_at}
 use Rattle.mesa_catalog.specs.mesa_image.Catalog.{Stock, Catalog, no_stock, stock_at}
 use Rattle.mesa_catalog.specs.mesa_image.Fitting.{names_in}
 use Rattle.mesa_catalog.specs.Lookups.{known_as, relation_of}
 use Rattle.mesa_catalog.proofs.Relations.{known_name}
-use Rattle.mesa_rules.specs.Seen.{HasCatalog, known_of, number_of}
+use Rattle.mesa_rules.specs.Found.{of_catalog, without_rows}
+use Rattle.mesa_rules.specs.Seen.{HasCatalog, greatest_in, known_of, number_of}
 
 -- ---- names that are taken
 
@@ -74,3 +84,53 @@ lineage_there c w number has = ap (λ (k : Known). k.lineage) (known_there c w n
 
 pub count_there : (c : Catalog) (w : Warehouse) → HasCatalog c w → length w.store.tables ≡ length c.tables
 count_there c w has = sym (length-map w.store.tables known_of) ∙ ap length has.tables ∙ length-map c.tables known_as
+
+-- ---- versions
+
+pub oldest_there : (c : Catalog) (w : Warehouse) (number : ℕ) → HasCatalog c w → (table_at w.store number).oldest ≡ (stock_at c number).oldest
+oldest_there c w number has =
+    sym (get_or-map (λ (t : Table). t.oldest) w.store.tables number no_table) ∙ ap (λ ns. get_or ns number 0) has.oldests ∙ get_or-map (λ (t : Stock). t.oldest) c.tables number no_stock
+
+greatest_same : (floor : ℕ) (ts : List Table) (ss : List Stock) → map (λ (t : Table). t.oldest) ts ≡ map (λ (t : Stock). t.oldest) ss → oldest_among floor ts ≡ greatest_in floor ss
+greatest_same floor [] [] same = refl
+greatest_same floor [] (s ∷ ss) same = absurd cc
+greatest_same floor (t ∷ ts) [] same = absurd cc
+greatest_same floor (t ∷ ts) (s ∷ ss) same =
+    let first : t.oldest ≡ s.oldest = cc in
+    let others : map (λ (t : Table). t.oldest) ts ≡ map (λ (t : Stock). t.oldest) ss = cc in
+    λ j. max (first j) (greatest_same floor ts ss others j)
+
+pub common_there : (c : Catalog) (w : Warehouse) → HasCatalog c w → common_oldest w.store ≡ greatest_in c.floor c.tables
+common_there c w has = ap (λ n. oldest_among n w.store.tables) has.floor ∙ greatest_same c.floor w.store.tables c.tables has.oldests
+
+greatest_next : (found oldest : ℕ) (rest : List Stock) → greatest_in (max found oldest) rest ≡ max oldest (greatest_in found rest)
+greatest_next found oldest [] = omega arith
+greatest_next found oldest (next ∷ rest) =
+    let before = greatest_next found oldest rest in
+    omega (arith, before)
+
+pub greatest_step : (found : ℕ) (tables : List Stock) (i whole : ℕ) → i < length tables → greatest_in found (drop i tables) ≡ whole → greatest_in (max found (get_or tables i no_stock).oldest) (drop (i + 1) tables) ≡ whole
+greatest_step found tables i whole lt before =
+    greatest_next found (get_or tables i no_stock).oldest (drop (i + 1) tables) ∙ sym (ap (greatest_in found) (drop_more tables i no_stock lt)) ∙ before
+
+-- the catalogue itself is such a warehouse
+pub catalog_has : (c : Catalog) → HasCatalog c (of_catalog c)
+catalog_has c = record {
+  opened = refl;
+  tables = map-map known_of without_rows c.tables;
+  oldests = map-map (λ (t : Table). t.oldest) without_rows c.tables;
+  floor = refl;
+  next = refl;
+}
+
+-- ---- pins
+
+-- what making a pin comes to, by the version that is asked and by whether as many pins are held as there may be
+abbrev pub pin_behind : Warehouse → ℕ → Result ℕ Refusal → Bool → Result (Warehouse × Reply) Refusal
+pin_behind w session q full = q >>= (λ version. refuse_if full (no.PinsFull max_pins) >> Ok (with_pin w session version, reply.Pinned (next_token w session) version))
+
+pub pinned_by : (c : Catalog) (w : Warehouse) (session : ℕ) (asked : VersionWord) (oldest : ℕ) (q : Result ℕ Refusal) (full : Bool) → HasCatalog c w → oldest ≡ greatest_in c.floor c.tables → q ≡ version_asked w oldest asked → nat_le max_pins (length w.pins) ≡ full
+    → make_pin w session asked ≡ pin_behind w session q full
+pinned_by c w session asked oldest q full has is found many =
+    let version : version_asked w (common_oldest w.store) asked ≡ q = ap (λ o. version_asked w o asked) (common_there c w has ∙ sym is) ∙ sym found in
+    λ j. refuse_closed (has.opened j) >> pin_behind w session (version j) (many j)

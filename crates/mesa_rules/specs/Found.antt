@@ -1,13 +1,15 @@
 -- What a query finds in a catalogue, and the answer that it stands for.
-use Rattle.std.specs.Prelude.{◌≡◌, ℕ, [], map, option_and_then, slice_get, None, Result, Ok}
+use Rattle.std.specs.Prelude.{◌≡◌, ℕ, [], map, option_and_then, slice_get, None, Option, Some, Result, Ok}
 use Rattle.mesa_schema.specs.Changes.{epoch_of}
 use Rattle.mesa_schema.specs.Columns.{Columns}
 use Rattle.mesa_filter.specs.declared.words.QueryWords.{QueryWords}
+use Rattle.mesa_filter.specs.declared.words.VersionWord.{VersionWord}
 use Rattle.mesa_filter.specs.Query.{group_kinds}
 use Rattle.mesa_model.specs.declared.replies.Refusal.{Refusal}
 use Rattle.mesa_model.specs.Page.{page_of}
 use Rattle.mesa_model.specs.Query.{Answer, answer_rows, query_answer, store_asked, version_seen}
 use Rattle.mesa_model.specs.Relations.{Relation, relation_columns, relation_content}
+use Rattle.mesa_model.specs.Versions.{version_asked}
 use Rattle.mesa_model.specs.Warehouse.{Store, Table, Warehouse, table_at}
 use Rattle.mesa_catalog.specs.mesa_image.Catalog.{Stock, Catalog, stock_at}
 use Rattle.mesa_catalog.specs.mesa_shelf.declared.relation.Relation.{Relation as Place}
@@ -28,7 +30,7 @@ relation_seen s p = relation_with (table_at s p.table) p
 
 -- a table without rows
 abbrev pub without_rows : Stock → Table
-without_rows t = record { name = t.name; lineage = t.lineage; totals = t.totals; contents = [] }
+without_rows t = record { name = t.name; lineage = t.lineage; totals = t.totals; oldest = t.oldest; contents = [] }
 
 -- the columns of the relation at a place of a catalogue
 abbrev pub columns_at : Catalog → Place → Columns
@@ -36,13 +38,22 @@ columns_at c p = relation_columns (relation_with (without_rows (stock_at c p.tab
 
 -- ---- what is seen
 
+-- a warehouse of a catalogue's tables and versions, without rows
+abbrev pub of_catalog : Catalog → Warehouse
+of_catalog c = record { store = record { tables = map without_rows c.tables; floor = c.floor }; next = c.next; given = []; pins = []; closed = None }
+
+-- the version of the catalogue's table of a number that is asked: a pin's own, or one at which the table can be queried
+abbrev pub version_in : Catalog → Option ℕ → VersionWord → ℕ → Result ℕ Refusal
+version_in c None asked number = version_asked (of_catalog c) (stock_at c number).oldest asked
+version_in c (Some version) asked number = Ok version
+
 -- A session's query sees the catalogue's tables in a warehouse, present ones or those of a pin, and this version of them, or no version for this refusal.
-pub record Sees (c : Catalog) (version : Result ℕ Refusal) (words : QueryWords) (session : ℕ) (w : Warehouse) : Type 0 where
+pub record Sees (c : Catalog) (pinned : Option ℕ) (words : QueryWords) (session : ℕ) (w : Warehouse) : Type 0 where
   pub opened : w.closed ≡ None
   pub store : Store
   pub asked : store_asked w session words.version ≡ Ok store
   pub tables : known_in store ≡ map known_as c.tables
-  pub seen : version_seen w store words.version ≡ version
+  pub seen : (number : ℕ) → version_seen w store (table_at store number) words.version ≡ version_in c pinned words.version number
 
 -- What is found is what the words ask of its relation.
 abbrev pub IsFound : Catalog → QueryWords → Found → Type 0
@@ -51,10 +62,10 @@ IsFound c words f = IsBuiltOf (columns_at c f.relation) f.query.version (epoch_o
 -- the answer to a query over a store
 abbrev pub answer_found : Store → Found → Answer
 answer_found s f = record {
-  page = page_of f.query.version f.query.limit f.query.resume (answer_rows (relation_columns (relation_seen s f.relation)) f.query.asked (relation_content s (relation_seen s f.relation) f.query.version));
+  page = page_of f.query.version f.query.limit f.query.resume (answer_rows (relation_columns (relation_seen s f.relation)) f.query.asked (relation_content (relation_seen s f.relation) f.query.version));
   heading = record { kinds = group_kinds f.query; prefix = f.query.prefix };
 }
 
 -- Every warehouse in which the query sees the catalogue's tables answers it so.
-abbrev pub IsAnswered : Catalog → Result ℕ Refusal → QueryWords → Found → Type 0
-IsAnswered c version words f = (w : Warehouse) (session : ℕ) (s : Sees c version words session w) → query_answer w session words ≡ Ok (answer_found s.store f)
+abbrev pub IsAnswered : Catalog → Option ℕ → QueryWords → Found → Type 0
+IsAnswered c pinned words f = (w : Warehouse) (session : ℕ) (s : Sees c pinned words session w) → query_answer w session words ≡ Ok (answer_found s.store f)

@@ -1,5 +1,5 @@
 -- What a warehouse and a catalogue have in common, by which commands are refused.
-use Rattle.std.specs.Prelude.{◌≡◌, ℕ, List, map, Option, None}
+use Rattle.std.specs.Prelude.{◌≡◌, ℕ, List, [], ◌∷◌, map, max, Option, None}
 use Rattle.mesa_schema.specs.Columns.{place_of}
 use Rattle.mesa_batch.specs.Glance.{Known}
 use Rattle.mesa_model.specs.Warehouse.{Table, Store, Warehouse}
@@ -18,9 +18,15 @@ known_in s = map known_of s.tables
 pub record HasCatalog (c : Catalog) (w : Warehouse) : Type 0 where
   pub opened : w.closed ≡ None
   pub tables : known_in w.store ≡ map known_as c.tables
-  pub oldest : w.store.oldest ≡ c.oldest
+  pub oldests : map (λ (t : Table). t.oldest) w.store.tables ≡ map (λ (t : Stock). t.oldest) c.tables
+  pub floor : w.store.floor ≡ c.floor
   pub next : w.next ≡ c.next
 
 -- the number of the catalogue's table of a name; a view is no table
 abbrev pub number_of : Catalog → List ℕ → Option ℕ
 number_of c name = place_of name (map (λ (t : Stock). t.name) c.tables)
+
+-- the greatest of a number and of tables' oldest versions
+abbrev pub greatest_in : ℕ → List Stock → ℕ
+greatest_in floor [] = floor
+greatest_in floor (t ∷ tables) = max t.oldest (greatest_in floor tables)

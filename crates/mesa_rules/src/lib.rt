@@ -13,4 +13,4 @@ pub use lookups::table_number;
 pub use queries::{explain, query};
 pub use ruled::Ruled;
 pub use schemas::{alter, table, view};
-pub use versions::{expire, pin, version_asked};
+pub use versions::{expire, expire_table, pin};

@@ -1,8 +1,7 @@
 // Queries, and what is told of how they would be answered.
-ghost use Rattle.std.specs.Prelude.{◌≡◌, ◌<◌, ℕ, map, Result as AnyResult, Ok, Some, IfOk, IfErr, IfSome, IsOk, length};
+ghost use Rattle.std.specs.Prelude.{◌≡◌, ◌<◌, ℕ, map, Option as AnyOption, Ok, Some, IfOk, IfErr, IfSome, IsOk, length};
 ghost use Rattle.mesa_filter.specs.Asked.{asked_of};
 ghost use Rattle.mesa_filter.specs.Query.{IsQueryOf};
-ghost use Rattle.mesa_model.specs.declared.replies.Refusal.{Refusal as AnyRefusal};
 ghost use Rattle.mesa_model.specs.Query.{query_answer};
 ghost use Rattle.mesa_model.specs.Warehouse.{Warehouse};
 ghost use Rattle.mesa_catalog.specs.mesa_history.Machine.{Machine, explained};
@@ -10,7 +9,7 @@ ghost use Rattle.mesa_catalog.specs.mesa_image.Catalog.{ranges_of, stock_at};
 ghost use Rattle.mesa_catalog.specs.mesa_image.Shape.{IsCatalog};
 ghost use Rattle.mesa_catalog.specs.Lookups.{relation_of};
 ghost use Rattle.mesa_asked.specs.Told.{IsDue};
-ghost use Rattle.mesa_rules.specs.Found.{IsAnswered, IsFound, Sees, columns_at};
+ghost use Rattle.mesa_rules.specs.Found.{IsAnswered, IsFound, Sees, columns_at, version_in};
 ghost use Rattle.mesa_rules.specs.Seen.{HasCatalog};
 
 use crate::Found;
@@ -18,32 +17,48 @@ use crate::lookups::relation_asked;
 use crate::versions::version_asked;
 use mesa_asked::{Failure, build_query, check_query};
 use mesa_catalog::{Catalog, Relation};
-use mesa_filter::QueryWords;
+use mesa_filter::{QueryWords, VersionWord};
 use mesa_list::{Items, TryCopy};
 use mesa_model::{ExplainWords, Refusal, Reply};
 use mesa_schema::Schema;
 use mesa_span::plan;
 use std::alloc::{AllocError, Global};
 
-/// What a query asks of the catalogue's tables: the vault's, or a pin's own copy. The version is the one that it sees, or why there is none.
+/// What a query asks of the catalogue's tables: the vault's, or a pin's own copy, with the pin's version.
 pub fn query(
     alloc: Global,
     catalog: &Catalog,
-    version: Result<u32, Refusal>,
+    pinned: Option<u32>,
     words: &QueryWords,
 ) -> Result<Found, Failure>
     ensures relation { IfOk result (λ found. relation_of catalog.now.catalogue words.now.relation ≡ Some found.relation) }
-    ensures version { IfOk result (λ found. version ≡ Ok found.query.version) }
+    ensures version { IfOk result (λ found. version_in catalog.now.catalogue pinned words.now.version found.relation.table ≡ Ok found.query.version) }
     ensures asked { IfOk result (IsFound catalog.now.catalogue words.now) }
     ensures sound { IfOk result (λ found. IsQueryOf (columns_at catalog.now.catalogue found.relation) found.query) }
-    ensures answered { IfOk result (IsAnswered catalog.now.catalogue version words.now) }
-    ensures refused { IfErr result (λ failure. (w : Warehouse) (session : ℕ) → Sees catalog.now.catalogue version words.now session w → IsDue (query_answer w session words.now) failure) }
+    ensures answered { IfOk result (IsAnswered catalog.now.catalogue pinned words.now) }
+    ensures refused { IfErr result (λ failure. (w : Warehouse) (session : ℕ) → Sees catalog.now.catalogue pinned words.now session w → IsDue (query_answer w session words.now) failure) }
 {
     let (relation, schema) = checked_relation(alloc, catalog, words)?;
-    let version = version?;
+    let version = version_of(catalog, pinned, relation.table, words.version)?;
     let epoch = catalog.evolving(relation.table).epoch();
     let query = build_query(alloc, &schema, version, epoch, words)?;
     Ok(Found { relation, query })
+}
+
+// The version that is asked of a table: the pin's own, or one at which the table can be queried.
+fn version_of(
+    catalog: &Catalog,
+    pinned: Option<u32>,
+    table: u16,
+    asked: VersionWord,
+) -> Result<u32, Refusal>
+    requires { table < length catalog.now.catalogue.tables }
+    ensures { result ≡ version_in catalog.now.catalogue pinned asked table }
+{
+    match pinned {
+        Some(version) => Ok(version),
+        None => version_asked(catalog, catalog.oldest(table), asked),
+    }
 }
 
 // The relation that is asked, and its columns, which have what the query asks of them.
@@ -56,7 +71,7 @@ fn checked_relation(
     ensures there { IfOk result (λ x. x.0.table < length catalog.now.catalogue.tables) }
     ensures columns { IfOk result (λ x. x.1 ≡ columns_at catalog.now.catalogue x.0) }
     ensures asked { IfOk result (λ x. IsOk (asked_of (columns_at catalog.now.catalogue x.0) words.now)) }
-    ensures refused { IfErr result (λ failure. (version : AnyResult ℕ AnyRefusal) (w : Warehouse) (session : ℕ) → Sees catalog.now.catalogue version words.now session w → IsDue (query_answer w session words.now) failure) }
+    ensures refused { IfErr result (λ failure. (pinned : AnyOption ℕ) (w : Warehouse) (session : ℕ) → Sees catalog.now.catalogue pinned words.now session w → IsDue (query_answer w session words.now) failure) }
 {
     let Some(relation) = relation_asked(catalog, words.relation.as_slice()) else {
         return Err(Failure::Refused(Refusal::NoTable { row: None }));
@@ -88,7 +103,7 @@ pub fn explain(alloc: Global, catalog: &Catalog, words: &ExplainWords) -> Result
     let Some(relation) = relation_asked(catalog, words.relation.as_slice()) else {
         return Err(Failure::Refused(Refusal::NoTable { row: None }));
     };
-    let version = version_asked(catalog, words.version)?;
+    let version = version_asked(catalog, catalog.oldest(relation.table), words.version)?;
     let ranges = catalog.ranges(relation.table)?;
     let spans = plan(alloc, &ranges, version)?;
     Ok(Reply::Spans(Items::from_vec(spans)))

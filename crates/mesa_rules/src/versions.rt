@@ -1,17 +1,19 @@
 // Versions that are asked for.
-ghost use Rattle.std.specs.Prelude.{◌≡◌, ◌≤◌, ◌<◌, ℕ, Ok, Err, IfOk, IfErr, OnOk, length};
+ghost use Rattle.std.specs.Prelude.{◌≡◌, ◌≤◌, ◌<◌, ◌-◌, ℕ, max, None, Some, Ok, Err, IfOk, IfErr, OnOk, length};
 ghost use Rattle.mesa_record.specs.declared.record.Record.TheVariants as record_of;
 ghost use Rattle.mesa_model.specs.declared.replies.Reply.TheVariants as reply;
 ghost use Rattle.mesa_model.specs.Pins.{make_pin, next_token, with_pin};
-ghost use Rattle.mesa_model.specs.Versions.{expire_to, version_asked as version_of, version_checked};
+ghost use Rattle.mesa_model.specs.Versions.{expire_all, expire_table as table_expired, version_asked as version_of, version_checked};
 ghost use Rattle.mesa_model.specs.Warehouse.{Warehouse};
-ghost use Rattle.mesa_catalog.specs.mesa_image.Shape.{IsCatalog};
-ghost use Rattle.mesa_rules.specs.Ruled.{IsRuled};
-ghost use Rattle.mesa_rules.specs.Seen.{HasCatalog};
+ghost use Rattle.mesa_rules.specs.Ruled.{IsRefused, IsRuled};
+ghost use Rattle.mesa_rules.specs.Seen.{HasCatalog, greatest_in, number_of};
 
 use crate::Ruled;
+use crate::lookups::table_number;
+use mesa_asked::Failure;
 use mesa_catalog::Catalog;
 use mesa_filter::VersionWord;
+use mesa_list::TryCopy;
 use mesa_model::{Refusal, Reply};
 use mesa_record::Record;
 
@@ -21,14 +23,40 @@ const MAX_PINS: usize = 64;
 /// An expiry of the versions below this one.
 pub fn expire(catalog: &Catalog, version: u32) -> Result<Ruled, Refusal>
     ensures written { IfOk result (λ r. r.writes ≡ record_of.Expire version) }
-    ensures told { IfOk result (λ r. r.tells ≡ reply.Expired version) }
-    ensures ruled { IfOk result (IsRuled catalog.now.catalogue (λ w. expire_to w version)) }
-    ensures refused { IfErr result (λ refusal. (w : Warehouse) → HasCatalog catalog.now.catalogue w → expire_to w version ≡ Err refusal) }
+    ensures told { IfOk result (λ r. r.tells ≡ reply.Expired None version) }
+    ensures ruled { IfOk result (IsRuled catalog.now.catalogue (λ w. expire_all w version)) }
+    ensures refused { IfErr result (λ refusal. (w : Warehouse) → HasCatalog catalog.now.catalogue w → expire_all w version ≡ Err refusal) }
 {
-    check_version(catalog, version)?;
+    check_version(catalog, catalog.floor(), version)?;
     Ok(Ruled {
         writes: Record::Expire { version },
-        tells: Reply::Expired { oldest: version },
+        tells: Reply::Expired {
+            table: None,
+            oldest: version,
+        },
+    })
+}
+
+/// An expiry of a table's versions below this one.
+pub fn expire_table(catalog: &Catalog, name: &[u8], version: u32) -> Result<Ruled, Failure>
+    ensures written { IfOk result (λ r. (number : ℕ) × (number_of catalog.now.catalogue name.now ≡ Some number) × (r.writes ≡ record_of.ExpireTable number version)) }
+    ensures told { IfOk result (λ r. r.tells ≡ reply.Expired (Some name.now) version) }
+    ensures ruled { IfOk result (IsRuled catalog.now.catalogue (λ w. table_expired w name.now version)) }
+    ensures refused { IfErr result (IsRefused catalog.now.catalogue (λ w. table_expired w name.now version)) }
+{
+    let Some(table) = table_number(catalog, name) else {
+        return Err(Failure::Refused(Refusal::NoTable { row: None }));
+    };
+    if let Err(refusal) = check_version(catalog, catalog.oldest(table), version) {
+        return Err(Failure::Refused(refusal));
+    }
+    let name = catalog.name(table).copy()?;
+    Ok(Ruled {
+        writes: Record::ExpireTable { table, version },
+        tells: Reply::Expired {
+            table: Some(name),
+            oldest: version,
+        },
     })
 }
 
@@ -37,7 +65,7 @@ pub fn pin(catalog: &Catalog, asked: VersionWord, pins: usize) -> Result<u32, Re
     ensures pinned { IfOk result (λ version. (w : Warehouse) (session : ℕ) → HasCatalog catalog.now.catalogue w → length w.pins ≡ pins → make_pin w session asked ≡ Ok (with_pin w session version, reply.Pinned (next_token w session) version)) }
     ensures refused { IfErr result (λ refusal. (w : Warehouse) (session : ℕ) → HasCatalog catalog.now.catalogue w → length w.pins ≡ pins → make_pin w session asked ≡ Err refusal) }
 {
-    let version = version_asked(catalog, asked)?;
+    let version = version_asked(catalog, common_oldest(catalog), asked)?;
     if pins >= MAX_PINS {
         let limit = MAX_PINS as u32;
         return Err(Refusal::PinsFull { limit });
@@ -45,10 +73,28 @@ pub fn pin(catalog: &Catalog, asked: VersionWord, pins: usize) -> Result<u32, Re
     Ok(version)
 }
 
-/// The version that is asked for, or its refusal. A pin's version is asked of the pin.
-pub fn version_asked(catalog: &Catalog, asked: VersionWord) -> Result<u32, Refusal>
-    ensures asked { (w : Warehouse) → HasCatalog catalog.now.catalogue w → result ≡ version_of w asked }
-    ensures low { IsCatalog catalog.now.catalogue → IfOk result (λ version. catalog.now.catalogue.oldest ≤ version) }
+// The first version at which all tables can be queried.
+fn common_oldest(catalog: &Catalog) -> u32
+    ensures { result ≡ greatest_in catalog.now.catalogue.floor catalog.now.catalogue.tables }
+{
+    let mut found = catalog.floor();
+    for table in 0..catalog.tables() {
+        found = greater(found, catalog.oldest(table));
+    }
+    found
+}
+
+// The greater of two numbers.
+fn greater(a: u32, b: u32) -> u32
+    ensures { result ≡ max a b }
+{
+    if a < b { b } else { a }
+}
+
+/// The version that is asked for where this one is the oldest, or its refusal. A pin's version is asked of the pin.
+pub fn version_asked(catalog: &Catalog, oldest: u32, asked: VersionWord) -> Result<u32, Refusal>
+    ensures asked { (w : Warehouse) → HasCatalog catalog.now.catalogue w → result ≡ version_of w oldest asked }
+    ensures low { oldest ≤ catalog.now.catalogue.next - 1 → IfOk result (λ version. oldest ≤ version) }
 {
     match asked {
         VersionWord::Latest => match catalog.newest() {
@@ -59,20 +105,19 @@ pub fn version_asked(catalog: &Catalog, asked: VersionWord) -> Result<u32, Refus
             }),
         },
         VersionWord::At(version) => {
-            check_version(catalog, version)?;
+            check_version(catalog, oldest, version)?;
             Ok(version)
         }
         VersionWord::Pin(token) => Err(Refusal::NoPin { token }),
     }
 }
 
-// Whether a version can be queried.
-fn check_version(catalog: &Catalog, version: u32) -> Result<(), Refusal>
-    ensures checked { (w : Warehouse) → HasCatalog catalog.now.catalogue w → result ≡ version_checked w version }
-    ensures low { OnOk result (catalog.now.catalogue.oldest ≤ version) }
+// Whether a version can be queried where this one is the oldest.
+fn check_version(catalog: &Catalog, oldest: u32, version: u32) -> Result<(), Refusal>
+    ensures checked { (w : Warehouse) → HasCatalog catalog.now.catalogue w → result ≡ version_checked w oldest version }
+    ensures low { OnOk result (oldest ≤ version) }
     ensures high { OnOk result (version < catalog.now.catalogue.next) }
 {
-    let oldest = catalog.oldest();
     if version < oldest {
         return Err(Refusal::Stale {
             asked: version,

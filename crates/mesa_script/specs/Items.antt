@@ -1,5 +1,5 @@
 -- What each record of a script says.
-use Rattle.std.specs.Prelude.{ℕ, List, drop, true, false, Option, Some, None, Result, Ok, Err}
+use Rattle.std.specs.Prelude.{ℕ, List, drop, length, ◌==◌, Bool, true, false, Option, Some, None, Result, Ok, Err}
 use Rattle.mesa_list.specs.Checks.{◌>>=◌, each_of}
 use Rattle.mesa_list.specs.Split.{entries_of}
 use Rattle.mesa_model.specs.mesa_batch.declared.words.RowWords.{RowWords}
@@ -31,6 +31,15 @@ change_words (Some AddKey) column default = do
   c ← key_words column
   Ok (words.AddKey c default)
 
+-- an expiry of all tables to the version of its first field, or of the table that its first field names to that of its second
+abbrev pub expire_words : Bool → List (List ℕ) → Result Command Reason
+expire_words false f = do
+  n ← number_in 0 max_number (field 1 f)
+  Ok (command.Expire None n)
+expire_words true f = do
+  n ← number_in 0 max_number (field 2 f)
+  Ok (command.Expire (Some (field 1 f)) n)
+
 -- What a record of this name says, or what is wrong with its words and numbers; its words are looked at before its numbers.
 abbrev pub item_of : Name → List (List ℕ) → Result Item Reason
 item_of Lease f = do
@@ -61,6 +70,6 @@ item_of Release f = do
   n ← number_in 0 max_number (field 1 f)
   Ok (Single (command.Release n))
 item_of Expire f = do
-  n ← number_in 0 max_number (field 1 f)
-  Ok (Single (command.Expire n))
+  c ← expire_words (length f == 3) f
+  Ok (Single c)
 item_of Work f = Ok (Single (command.Work (field 1 f)))

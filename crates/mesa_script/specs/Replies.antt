@@ -87,6 +87,11 @@ refusal_text (no.EpochsFull limit) = codes "epochs_full limit=" ++ decimal limit
 abbrev pub rows_text : ℕ → ℕ → Bool → List ℕ
 rows_text rows version more = codes "rows " ++ decimal rows ++ codes " version=" ++ decimal version ++ (if more then codes " more" else [])
 
+-- that versions were let go: of all tables, or of the one that is named
+abbrev pub expired_word : Option (List ℕ) → List ℕ
+expired_word None = codes "expired"
+expired_word (Some table) = codes "expired " ++ table
+
 -- The text of a reply, without its rows.
 abbrev pub reply_text : Reply → List ℕ
 reply_text (reply.Table name) = codes "table " ++ name
@@ -98,7 +103,7 @@ reply_text (reply.Rows rows version more) = rows_text rows version more
 reply_text (reply.Spans spans) = codes "spans " ++ decimal (length spans)
 reply_text (reply.Pinned token version) = codes "pinned token=" ++ decimal token ++ codes " version=" ++ decimal version
 reply_text (reply.Released token) = codes "released token=" ++ decimal token
-reply_text (reply.Expired oldest) = codes "expired oldest=" ++ decimal oldest
+reply_text (reply.Expired table oldest) = expired_word table ++ codes " oldest=" ++ decimal oldest
 reply_text (reply.Swapped from to) = codes "swapped " ++ decimal from ++ 32 ∷ decimal to
 reply_text reply.Idle = codes "idle"
 reply_text (reply.Busy lease) = codes "busy lease=" ++ decimal lease

@@ -1,5 +1,5 @@
 -- Copies that share their deltas stand for the same.
-use Rattle.std.proofs.Common.{◌≡◌, ℕ, ◌+◌, ◌-◌, ◌*◌, ◌≤◌, ◌<◌, List, [], ◌∷◌, ◌++◌, length, map, refl, sym, ◌∙◌, ap, subst}
+use Rattle.std.proofs.Common.{◌≡◌, ℕ, ◌+◌, ◌-◌, ◌*◌, ◌≤◌, ◌<◌, List, [], ◌∷◌, ◌++◌, length, map, refl, sym, ◌∙◌, ap, subst, arith}
 use Rattle.std.specs.Prelude.{Option, Some, None, option_map, replicate, ⊤}
 use Rattle.std.specs.declared.alloc.Global.{Global}
 use Rattle.std.specs.declared.sync.Arc.{Arc}
@@ -71,6 +71,7 @@ pub record IsShared (old new : Table) : Type 0 where
   pub evolving : new.evolving.value ≡ old.evolving.value
   pub widths : new.widths ≡ old.widths
   pub totals : new.totals ≡ old.totals
+  pub oldest : new.oldest ≡ old.oldest
   pub base : option_map ending_of new.base ≡ option_map ending_of old.base
   pub cumulatives : map value_in new.cumulatives.items ≡ map value_in old.cumulatives.items
   pub loaded : map loaded_as new.loaded.items ≡ map loaded_as old.loaded.items
@@ -80,7 +81,7 @@ shared_stock next old new shared =
     let start = starts_same new.base old.base shared.base in
     let tens = tens_are (start_of_base new.base) new.cumulatives.items ∙ (λ i. tens_of (start i) (shared.cumulatives i)) ∙ sym (tens_are (start_of_base old.base) old.cumulatives.items) in
     let singles = singles_are (start_of_base new.base) next new.loaded.items ∙ (λ i. singles_of (start i) next (shared.loaded i)) ∙ sym (singles_are (start_of_base old.base) next old.loaded.items) in
-    λ i. record { name = shared.name i; lineage = shared.evolving i; totals = shared.totals i; base = shared.base i; cumulatives = tens i; singles = singles i }
+    λ i. record { name = shared.name i; lineage = shared.evolving i; totals = shared.totals i; oldest = shared.oldest i; base = shared.base i; cumulatives = tens i; singles = singles i }
 
 pub shared_table : (next : ℕ) (old new : Table) → IsShared old new → IsTable next old → IsTable next new
 shared_table next old new shared table =
@@ -91,5 +92,6 @@ shared_table next old new shared table =
       tens = subst (λ n. n ≤ next) (λ i. sym start i + 10 * sym count i) table.tens;
       loaded = loaded_of (start_of_base new.base) next new.loaded.items
           (subst (λ n. Rising n next (map loaded_as new.loaded.items)) (sym start) (subst (Rising (start_of_base old.base) next) (sym shared.loaded) (rising_of (start_of_base old.base) next old.loaded.items table.loaded)));
+      oldest = omega (arith, shared.oldest, table.oldest);
       widths = shared.widths ∙ table.widths ∙ ap widths_of (sym shared.evolving);
     }

@@ -22,6 +22,7 @@ pub table_next : (next : ℕ) (t : Table) → IsTable next t → IsTable (next +
 table_next next t table = record {
   tens = let tens = table.tens in omega arith;
   loaded = loaded_next (start_of_base t.base) next t.loaded.items table.loaded;
+  oldest = omega (arith, table.oldest);
   widths = table.widths;
 }
 
@@ -39,5 +40,6 @@ pub table_part : (next : ℕ) (t : Table) (p : ReadyPart) (loaded : Vec Loaded G
 table_part next t p loaded table is = record {
   tens = let tens = table.tens in omega arith;
   loaded = subst (AreLoaded (start_of_base t.base) (next + 1)) (sym is) (loaded_pushed (start_of_base t.base) next t.loaded.items (record { version = next; delta = p.delta }) (behind next t table) table.loaded refl);
+  oldest = omega (arith, table.oldest);
   widths = table.widths;
 }

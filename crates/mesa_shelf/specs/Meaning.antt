@@ -38,6 +38,7 @@ stock_of next t = record {
   name = t.name;
   lineage = t.evolving.value;
   totals = t.totals;
+  oldest = t.oldest;
   base = option_map ending_of t.base;
   cumulatives = tens_from (start_of_base t.base) t.cumulatives.items;
   singles = singles_from (start_of_base t.base) next t.loaded.items;
@@ -52,8 +53,9 @@ AreLoaded from next (l ∷ loaded) = (from ≤ l.version) × (l.version < next) 
 abbrev pub widths_of : Lineage → List ℕ
 widths_of l = map (λ epoch. length (columns_at l epoch).values) (range_with_len 0 (epoch_of l + 1))
 
--- A table whose cumulatives and singletons are of versions that are there.
+-- A table whose cumulatives and singletons are of versions that are there, and so is its oldest version, where there is any.
 pub record IsTable (next : ℕ) (t : Table) : Type 0 where
   pub tens : start_of_base t.base + 10 * length t.cumulatives.items ≤ next
   pub loaded : AreLoaded (start_of_base t.base) next t.loaded.items
+  pub oldest : t.oldest ≤ next - 1
   pub widths : t.widths ≡ widths_of t.evolving.value

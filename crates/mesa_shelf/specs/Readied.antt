@@ -40,6 +40,7 @@ pub record IsRoomier (old new : Table) : Type 0 where
   pub evolving : new.evolving ≡ old.evolving
   pub widths : new.widths ≡ old.widths
   pub totals : new.totals ≡ old.totals
+  pub oldest : new.oldest ≡ old.oldest
   pub base : new.base ≡ old.base
   pub cumulatives : new.cumulatives.items ≡ old.cumulatives.items
   pub loaded : new.loaded.items ≡ old.loaded.items

@@ -25,6 +25,7 @@ pub fn share_table(alloc: Global, table: &Table) -> Result<Table, AllocError>
         evolving,
         widths,
         totals,
+        oldest: table.oldest,
         base,
         cumulatives,
         loaded,

@@ -20,12 +20,12 @@ pub fn counts_files_if_any(t: &Table, epoch: u32, files: &Option<Files>) -> bool
     }
 }
 
-/// Whether work may give a base to this version: it is behind the present base, not the first version, and at most the oldest.
-pub fn may_be_base(t: &Table, oldest: u32, from: u32, to: u32) -> bool
-    ensures { (next : ℕ) → result ≡ is_base_work (ranges_of (stock_of next t.now)) oldest from to }
+/// Whether work may give a base to this version: it is behind the present base, not the first version, and at most the table's oldest.
+pub fn may_be_base(t: &Table, from: u32, to: u32) -> bool
+    ensures { (next : ℕ) → result ≡ is_base_work (ranges_of (stock_of next t.now)) t.now.oldest from to }
 {
     let start = t.start();
-    from == 0 && to >= 1 && start <= to as u64 && to <= oldest
+    from == 0 && to >= 1 && start <= to as u64 && to <= t.oldest
 }
 
 /// Whether work may give this cumulative: it is the ten behind those that are there.

@@ -1,7 +1,9 @@
 // A table as the catalogue holds it.
-ghost use Rattle.std.specs.Prelude.{◌≡◌, ◌≤◌, ◌^◌, option_map};
+ghost use Rattle.std.specs.Prelude.{◌≡◌, ◌<◌, ◌≤◌, ◌^◌, ℕ, max, option_map};
+ghost use Rattle.mesa_image.specs.Catalog.{stock_from};
 ghost use Rattle.mesa_shelf.specs.declared.table.Base.{Base as BaseOf};
-ghost use Rattle.mesa_shelf.specs.Meaning.{start_of_base};
+ghost use Rattle.mesa_shelf.specs.Meaning.{IsTable, start_of_base, stock_of};
+ghost use Rattle.mesa_shelf.specs.Readied.{HasSpare};
 
 use crate::Delta;
 use mesa_list::Items;
@@ -30,6 +32,8 @@ pub struct Table {
     /// How many value columns there were in each epoch.
     pub widths: Items<u8>,
     pub totals: Totals,
+    /// The table's oldest version.
+    pub oldest: u32,
     pub base: Option<Base>,
     /// They end ten, twenty and so on versions behind the base.
     pub cumulatives: Vec<Arc<Delta>>,
@@ -45,6 +49,7 @@ impl Drop for Table {
             evolving: _,
             widths: _,
             totals: _,
+            oldest: _,
             base: _,
             cumulatives: _,
             loaded: _,
@@ -64,10 +69,26 @@ impl Table {
         }
     }
 
+    /// Lets the versions below this one go.
+    pub fn expire(&mut self, version: u32)
+        ensures stock { (next : ℕ) → stock_of next self.new ≡ stock_from version (stock_of next self.old) }
+        ensures table { (next : ℕ) → version < next → IsTable next self.old → IsTable next self.new }
+        ensures spare { HasSpare self.old → HasSpare self.new }
+    {
+        self.oldest = greater(self.oldest, version);
+    }
+
     /// The last version of the base.
     pub fn base_to(&self) -> Option<u32>
         ensures { result ≡ option_map (λ (b : BaseOf). b.to) self.now.base }
     {
         self.base.as_ref().map(|base| base.to)
     }
+}
+
+// The greater of two numbers.
+fn greater(a: u32, b: u32) -> u32
+    ensures { result ≡ max a b }
+{
+    if a < b { b } else { a }
 }

@@ -1,6 +1,6 @@
 -- Each command does the same to a warehouse without rows.
 use Rattle.std.proofs.Common.{◌≡◌, ℕ, ◌+◌, List, [], ◌∷◌, ◌++◌, map, length, Bool, true, false, refl, sym, ◌∙◌, ap, Option, Some, None, option_map, Result, Ok, Err, ok_or, set, filter, find, is_some, is_none, nat_le, not}
-use Rattle.std.specs.Prelude.{if◌then◌else◌}
+use Rattle.std.specs.Prelude.{if◌then◌else◌, max}
 use Rattle.mesa_list.specs.Bytes.{same_bytes}
 use Rattle.mesa_list.specs.Checks.{◌>>=◌, ◌>>◌, refuse_if, refuse_unless, refused_as}
 use Rattle.mesa_history.specs.mesa_schema.declared.views.View.{View}
@@ -25,16 +25,18 @@ use Rattle.mesa_history.specs.mesa_model.declared.replies.Refusal.{Refusal}
 use Rattle.mesa_history.specs.mesa_model.declared.replies.Refusal.TheVariants as no
 use Rattle.mesa_history.specs.mesa_model.declared.replies.Reply.{Reply}
 use Rattle.mesa_history.specs.mesa_model.declared.replies.Reply.TheVariants as reply
-use Rattle.mesa_history.specs.mesa_model.Warehouse.{Table, Store, Pin, Warehouse, max_pins, max_tables, max_versions, no_table, table_at}
+use Rattle.mesa_history.specs.mesa_model.Warehouse.{Table, Store, Pin, Warehouse, max_pins, max_tables, max_versions, newest_of, no_table, table_at}
 use Rattle.mesa_history.specs.mesa_model.Refusals.{refuse_closed, no_such_table, query_refusal, batch_refusal, schema_refusal, change_refusal}
 use Rattle.mesa_history.specs.mesa_model.Relations.{Relation, relation_from, relation_of, relation_columns, is_taken, table_number}
-use Rattle.mesa_history.specs.mesa_model.Versions.{version_asked, version_checked, store_from, expire_to}
-use Rattle.mesa_history.specs.mesa_model.Pins.{is_pin, pin_of, next_token, store_at, make_pin, release_pin}
+use Rattle.mesa_history.specs.mesa_model.Versions.{common_oldest, oldest_among, version_asked, version_checked, table_from, expire_all, expire_table, expire_to}
+use Rattle.mesa_history.specs.mesa_model.Pins.{is_pin, pin_of, next_token, table_pinned, store_at, make_pin, release_pin}
 use Rattle.mesa_history.specs.mesa_model.Load.{tables_named, bound_checked, bounds_checked, table_loaded, tables_loaded, load_batch}
 use Rattle.mesa_history.specs.mesa_model.Tables.{columns_asked, names_are_good, new_table, make_table, view_of_table_checked, make_view, change_asked, changed_name, table_changed, alter_table}
 use Rattle.mesa_history.specs.mesa_model.Query.{Answer, store_asked, version_seen, query_answer}
 use Rattle.mesa_history.specs.mesa_model.Step.{done_or_refused, reply_to_query, step}
-use Rattle.mesa_history.specs.Machine.{Machine, claim_of, explained}
+use Rattle.mesa_history.specs.Machine.{Machine, Claim, claim_of, explained, ranges_at, refuse_busy}
+use Rattle.mesa_history.specs.mesa_span.Work.{next_work}
+use Rattle.mesa_history.specs.mesa_lease.Book.{holder}
 use Rattle.mesa_skeleton.specs.Bare.{bare, bare_table, bare_store, bare_pin, bare_done, bare_reply, bare_answer, bare_result}
 use Rattle.mesa_skeleton.proofs.Lists.{same_check, same_value, same_bare, some_bare, is_some_same, maps_same, length_same, at_same, set_same, append_same, find_same, filter_same}
 
@@ -47,7 +49,7 @@ pub tables_twice : (ts : List Table) → map bare_table (map bare_table ts) ≡ 
 tables_twice ts = maps_same bare_table bare_table (λ t. refl) ts
 
 pub store_twice : (s : Store) → bare_store (bare_store s) ≡ bare_store s
-store_twice s = λ i. record { tables = tables_twice s.tables i; oldest = s.oldest }
+store_twice s = λ i. record { tables = tables_twice s.tables i; floor = s.floor }
 
 pub pins_twice : (ps : List Pin) → map bare_pin (map bare_pin ps) ≡ map bare_pin ps
 pins_twice ps = maps_same bare_pin bare_pin (λ (p : Pin). λ i. record p { store = store_twice p.store i }) ps
@@ -107,7 +109,7 @@ table-bare w words =
     (ap (λ n. refuse_if (nat_le max_tables n) (no.TablesFull max_tables)) (sym (length_same bare_table w.store.tables)))
     (with_store w _ _ w.next (reply.Table words.table) (λ i. record {
       tables = (append_same bare_table w.store.tables (made ∷ []) ∙ ap (λ xs. xs ++ bare_table made ∷ []) (sym (tables_twice w.store.tables)) ∙ sym (append_same bare_table (map bare_table w.store.tables) (made ∷ []))) i;
-      oldest = w.store.oldest;
+      floor = w.store.floor;
     })))))))
 
 -- a table is set that was made of the one there
@@ -118,7 +120,7 @@ set_bare s number f same = λ i. record {
       ∙ ap (λ t. set (map bare_table s.tables) number t) (same (table_at s number) ∙ ap (λ t. bare_table (f t)) (sym (table_bare s number)))
       ∙ ap (λ ts. set ts number (bare_table (f (table_at (bare_store s) number)))) (sym (tables_twice s.tables))
       ∙ sym (set_same bare_table (map bare_table s.tables) number (f (table_at (bare_store s) number)))) i;
-  oldest = s.oldest;
+  floor = s.floor;
 }
 
 pub view-bare : (w : Warehouse) (words : ViewWords) → done_of (make_view w words) ≡ done_of (make_view (bare w) words)
@@ -158,44 +160,61 @@ load-bare w rows =
     (ap (λ (named : List Named). refused_as batch_refusal (batch_of named rows)) (sym (maps_same bare_table (λ (t : Table). record { name = t.name; columns = columns_of t.lineage }) (λ t. refl) w.store.tables))) (λ batch.
     same_check done_of (refuse_if (nat_le max_versions w.next) _) _ _ _ refl
     (same_check done_of (bounds_checked batch 0 w.store.tables) (bounds_checked batch 0 (map bare_table w.store.tables)) _ _ (bounds_bare batch 0 w.store.tables)
-    (with_store w _ _ (w.next + 1) (reply.Loaded w.next (length batch)) (λ i. record { tables = loaded_bare batch 0 w.store.tables i; oldest = w.store.oldest })))))
+    (with_store w _ _ (w.next + 1) (reply.Loaded w.next (length batch)) (λ i. record { tables = loaded_bare batch 0 w.store.tables i; floor = w.store.floor })))))
 
 -- ---- expiries and pins
 
-from_bare : (k version : ℕ) (ts : List Table) → map bare_table (store_from (record { tables = ts; oldest = k }) version).tables ≡ map bare_table (store_from (record { tables = map bare_table ts; oldest = k }) version).tables
-from_bare k version [] = refl
-from_bare k version (t ∷ ts) = ap (λ xs. bare_table t ∷ xs) (from_bare k version ts)
+from_bare : (version : ℕ) (ts : List Table) → map bare_table (map (table_from version) ts) ≡ map bare_table (map (table_from version) (map bare_table ts))
+from_bare version [] = refl
+from_bare version (t ∷ ts) = ap (λ xs. bare_table (table_from version t) ∷ xs) (from_bare version ts)
 
-pub expire-bare : (w : Warehouse) (version : ℕ) → done_of (expire_to w version) ≡ done_of (expire_to (bare w) version)
-expire-bare w version =
+all-bare : (w : Warehouse) (version : ℕ) → done_of (expire_all w version) ≡ done_of (expire_all (bare w) version)
+all-bare w version =
     same_check done_of (refuse_closed w.closed) _ _ _ refl
-    (same_check done_of (version_checked w version) _ _ _ refl
-    (with_store w _ _ w.next (reply.Expired version) (λ i. record { tables = from_bare w.store.oldest version w.store.tables i; oldest = version })))
+    (same_check done_of (version_checked w w.store.floor version) _ _ _ refl
+    (with_store w _ _ w.next (reply.Expired None version) (λ i. record { tables = from_bare version w.store.tables i; floor = version })))
 
-asked_bare : (w : Warehouse) (v : VersionWord) → version_asked w v ≡ version_asked (bare w) v
-asked_bare w asks.Latest = refl
-asked_bare w (asks.At version) = refl
-asked_bare w (asks.Pin token) = refl
+one-bare : (w : Warehouse) (name : List ℕ) (version : ℕ) → done_of (expire_table w name version) ≡ done_of (expire_table (bare w) name version)
+one-bare w name version =
+    same_check done_of (refuse_closed w.closed) _ _ _ refl
+    (same_value done_of (ok_or (table_number w.store name) no_such_table) (ok_or (table_number (bare_store w.store) name) no_such_table) _ _ (ap (λ o. ok_or o no_such_table) (number_bare w.store name)) (λ number.
+    same_check done_of (version_checked w (table_at w.store number).oldest version) (version_checked (bare w) (table_at (bare_store w.store) number).oldest version) _ _
+    (ap (λ (t : Table). version_checked w t.oldest version) (sym (table_bare w.store number)))
+    (with_store w _ _ w.next (reply.Expired (Some name) version) (set_bare w.store number (table_from version) (λ t. refl)))))
+
+pub expire-bare : (w : Warehouse) (table : Option (List ℕ)) (version : ℕ) → done_of (expire_to w table version) ≡ done_of (expire_to (bare w) table version)
+expire-bare w None version = all-bare w version
+expire-bare w (Some name) version = one-bare w name version
+
+asked_bare : (w : Warehouse) (oldest : ℕ) (v : VersionWord) → version_asked w oldest v ≡ version_asked (bare w) oldest v
+asked_bare w oldest asks.Latest = refl
+asked_bare w oldest (asks.At version) = refl
+asked_bare w oldest (asks.Pin token) = refl
+
+-- the first version at which all tables can be queried is the same
+among_bare : (floor : ℕ) (ts : List Table) → oldest_among floor ts ≡ oldest_among floor (map bare_table ts)
+among_bare floor [] = refl
+among_bare floor (t ∷ ts) = ap (max t.oldest) (among_bare floor ts)
 
 with_pins : (w : Warehouse) (given : List ℕ) (ps qs : List Pin) (r : Reply) → map bare_pin ps ≡ map bare_pin qs
     → done_of (Ok (record w { given = given; pins = ps }, r)) ≡ done_of (Ok (record (bare w) { given = given; pins = qs }, r))
 with_pins w given ps qs r same = λ i. Ok (record w { store = sym (store_twice w.store) i; given = given; pins = same i }, bare_reply r)
 
-pinned_bare : (k version : ℕ) (ts : List Table) → map bare_table (store_at (record { tables = ts; oldest = k }) version).tables ≡ map bare_table (store_at (record { tables = map bare_table ts; oldest = k }) version).tables
-pinned_bare k version [] = refl
-pinned_bare k version (t ∷ ts) = ap (λ xs. bare_table t ∷ xs) (pinned_bare k version ts)
+pinned_bare : (version : ℕ) (ts : List Table) → map bare_table (map (table_pinned version) ts) ≡ map bare_table (map (table_pinned version) (map bare_table ts))
+pinned_bare version [] = refl
+pinned_bare version (t ∷ ts) = ap (λ xs. bare_table (table_pinned version t) ∷ xs) (pinned_bare version ts)
 
 pub pin-bare : (w : Warehouse) (session : ℕ) (asked : VersionWord) → done_of (make_pin w session asked) ≡ done_of (make_pin (bare w) session asked)
 pin-bare w session asked =
     same_check done_of (refuse_closed w.closed) _ _ _ refl
-    (same_value done_of (version_asked w asked) (version_asked (bare w) asked) _ _ (asked_bare w asked) (λ version.
+    (same_value done_of (version_asked w (common_oldest w.store) asked) (version_asked (bare w) (common_oldest (bare_store w.store)) asked) _ _ (ap (λ oldest. version_asked w oldest asked) (among_bare w.store.floor w.store.tables) ∙ asked_bare w (common_oldest (bare_store w.store)) asked) (λ version.
     let new : Store → Pin = λ s. record { session = session; token = next_token w session; version = version; store = store_at s version } in
     same_check done_of (refuse_if (nat_le max_pins (length w.pins)) (no.PinsFull max_pins)) (refuse_if (nat_le max_pins (length (map bare_pin w.pins))) (no.PinsFull max_pins)) _ _
     (ap (λ n. refuse_if (nat_le max_pins n) (no.PinsFull max_pins)) (sym (length_same bare_pin w.pins)))
     (with_pins w _ _ _ (reply.Pinned (next_token w session) version) (
     append_same bare_pin w.pins (new w.store ∷ [])
     ∙ ap (λ ps. ps ++ bare_pin (new w.store) ∷ []) (sym (pins_twice w.pins))
-    ∙ (λ i. map bare_pin (map bare_pin w.pins) ++ record (new w.store) { store = record { tables = pinned_bare w.store.oldest version w.store.tables i; oldest = version } } ∷ [])
+    ∙ (λ i. map bare_pin (map bare_pin w.pins) ++ record (new w.store) { store = record { tables = pinned_bare version w.store.tables i; floor = version } } ∷ [])
     ∙ sym (append_same bare_pin (map bare_pin w.pins) (new (bare_store w.store) ∷ []))))))
 
 pub held_bare : (w : Warehouse) (session token : ℕ) → pin_of (bare w) session token ≡ option_map bare_pin (pin_of w session token)
@@ -225,10 +244,10 @@ store_asked_bare w session (asks.Pin token) = ap (λ o. ok_or o (no.NoPin token)
     of_pin None = refl
     of_pin (Some p) = refl
 
-seen_bare : (w : Warehouse) (s : Store) (v : VersionWord) → version_seen w s v ≡ version_seen (bare w) (bare_store s) v
-seen_bare w s asks.Latest = refl
-seen_bare w s (asks.At version) = refl
-seen_bare w s (asks.Pin token) = refl
+seen_bare : (w : Warehouse) (s : Store) (t : Table) (v : VersionWord) → version_seen w s t v ≡ version_seen (bare w) (bare_store s) (bare_table t) v
+seen_bare w s t asks.Latest = refl
+seen_bare w s t (asks.At version) = refl
+seen_bare w s t (asks.Pin token) = refl
 
 abbrev pub answer_of : Result Answer Refusal → Result Answer Refusal
 answer_of = bare_result bare_answer
@@ -241,7 +260,7 @@ query-bare w session words =
     same_bare answer_of bare_relation (ok_or (relation_of store words.relation) no_such_table) (ok_or (relation_of (bare_store store) words.relation) no_such_table) _ _
     (ap (λ o. ok_or o no_such_table) (relation_bare store words.relation) ∙ some_bare bare_relation (relation_of store words.relation) no_such_table) (λ relation.
     same_value answer_of (refused_as query_refusal (asked_of (relation_columns relation) words)) _ _ _ refl (λ asked.
-    same_value answer_of (version_seen w store words.version) (version_seen (bare w) (bare_store store) words.version) _ _ (seen_bare w store words.version) (λ version.
+    same_value answer_of (version_seen w store relation.table words.version) (version_seen (bare w) (bare_store store) (bare_table relation.table) words.version) _ _ (seen_bare w store relation.table words.version) (λ version.
     same_value answer_of (refused_as query_refusal (resume_of (relation_columns relation) words.relation version (epoch_of relation.table.lineage) asked.columns words.resume)) _ _ _ refl (λ resume. refl))))))
 
 pub explain-bare : (w : Warehouse) (m : Machine) (words : ExplainWords) → explained w m words ≡ explained (bare w) m words
@@ -249,12 +268,20 @@ explain-bare w m words =
     same_check (λ r. r) (refuse_closed w.closed) _ _ _ refl
     (same_bare (λ r. r) bare_relation (ok_or (relation_of w.store words.relation) no_such_table) (ok_or (relation_of (bare_store w.store) words.relation) no_such_table) _ _
     (ap (λ o. ok_or o no_such_table) (relation_bare w.store words.relation) ∙ some_bare bare_relation (relation_of w.store words.relation) no_such_table) (λ relation.
-    same_value (λ r. r) (version_asked w words.version) (version_asked (bare w) words.version) _ _ (asked_bare w words.version) (λ version. refl)))
+    same_value (λ r. r) (version_asked w relation.table.oldest words.version) (version_asked (bare w) relation.table.oldest words.version) _ _ (asked_bare w relation.table.oldest words.version) (λ version. refl)))
+
+-- what a work on the table of a number is granted, where this is its oldest version
+abbrev granted_at : Warehouse → Machine → ℕ → ℕ → ℕ → Result Claim Reply
+granted_at w m position table oldest = do
+  refuse_busy (holder m.leases table position)
+  work ← ok_or (next_work (ranges_at m table) oldest (newest_of w)) reply.Idle
+  Ok (record { table = table; lease = m.leases.granted + 1; work = work })
 
 pub claim-bare : (w : Warehouse) (m : Machine) (position : ℕ) (name : List ℕ) → claim_of w m position name ≡ claim_of (bare w) m position name
 claim-bare w m position name =
     same_check (λ r. r) (refused_as reply.Refused (refuse_closed w.closed)) _ _ _ refl
-    (same_value (λ r. r) (ok_or (table_number w.store name) (reply.Refused no_such_table)) (ok_or (table_number (bare_store w.store) name) (reply.Refused no_such_table)) _ _ (ap (λ o. ok_or o (reply.Refused no_such_table)) (number_bare w.store name)) (λ table. refl))
+    (same_value (λ r. r) (ok_or (table_number w.store name) (reply.Refused no_such_table)) (ok_or (table_number (bare_store w.store) name) (reply.Refused no_such_table)) _ _ (ap (λ o. ok_or o (reply.Refused no_such_table)) (number_bare w.store name)) (λ table.
+    ap (λ (t : Table). granted_at w m position table t.oldest) (sym (table_bare w.store table))))
 
 -- ---- Step
 
@@ -285,5 +312,5 @@ step-bare w session (command.Query words) = told_of w (bare w) (query_answer w s
 step-bare w session (command.Explain words) = steps w _ _ (nothing-bare w)
 step-bare w session (command.Pin asked) = steps w _ _ (pin-bare w session asked)
 step-bare w session (command.Release token) = steps w _ _ (release-bare w session token)
-step-bare w session (command.Expire version) = steps w _ _ (expire-bare w version)
+step-bare w session (command.Expire table version) = steps w _ _ (expire-bare w table version)
 step-bare w session (command.Work name) = steps w _ _ (nothing-bare w)

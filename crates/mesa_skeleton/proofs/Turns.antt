@@ -41,7 +41,7 @@ machine_bare w (reply.Rows rows v more) m = refl
 machine_bare w (reply.Spans spans) m = refl
 machine_bare w (reply.Pinned token v) m = refl
 machine_bare w (reply.Released token) m = refl
-machine_bare w (reply.Expired oldest) m = refl
+machine_bare w (reply.Expired table oldest) m = refl
 machine_bare w (reply.Swapped from to) m = refl
 machine_bare w reply.Idle m = refl
 machine_bare w (reply.Busy lease) m = refl
@@ -74,7 +74,7 @@ decide_bare p s session (command.Alter words) = done_bare p s _ _ (step-bare s.w
 decide_bare p s session (command.Load rows) = done_bare p s _ _ (step-bare s.warehouse session (command.Load rows))
 decide_bare p s session (command.Pin asked) = done_bare p s _ _ (step-bare s.warehouse session (command.Pin asked))
 decide_bare p s session (command.Release token) = done_bare p s _ _ (step-bare s.warehouse session (command.Release token))
-decide_bare p s session (command.Expire version) = done_bare p s _ _ (step-bare s.warehouse session (command.Expire version))
+decide_bare p s session (command.Expire table version) = done_bare p s _ _ (step-bare s.warehouse session (command.Expire table version))
 decide_bare p s session (command.Work name) = done_bare p s _ _ (step-bare s.warehouse session (command.Work name))
 
 -- ---- works

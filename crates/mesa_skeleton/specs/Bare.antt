@@ -15,7 +15,7 @@ bare_table t = record t { contents = [] }
 
 -- the tables without their contents
 abbrev pub bare_store : Store → Store
-bare_store s = record { tables = map bare_table s.tables; oldest = s.oldest }
+bare_store s = record { tables = map bare_table s.tables; floor = s.floor }
 
 -- a pin without the contents that it keeps
 abbrev pub bare_pin : Pin → Pin

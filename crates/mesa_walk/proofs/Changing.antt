@@ -47,8 +47,8 @@ use Rattle.mesa_walk.proofs.Turning.{stays, counts_same, counts_any, counts_belo
 
 -- ---- the commands
 
-pub expire_decided : (session : ℕ) (version : ℕ) → IsDecided session (command.Expire version) First (λ w. expire_to w version)
-expire_decided session version = record { decides = λ position s. refl; alike = λ w. expire-bare w version; due = refl }
+pub expire_decided : (session : ℕ) (table : Option (List ℕ)) (version : ℕ) → IsDecided session (command.Expire table version) First (λ w. expire_to w table version)
+expire_decided session table version = record { decides = λ position s. refl; alike = λ w. expire-bare w table version; due = refl }
 
 pub load_decided : (session : ℕ) (rows : List RowWords) → IsDecided session (command.Load rows) Looked (λ w. load_batch w rows)
 load_decided session rows = record { decides = λ position s. refl; alike = λ w. load-bare w rows; due = refl }
@@ -78,7 +78,7 @@ drafted_later (command.Query words) s writes builds due = absurd cc
 drafted_later (command.Explain words) s writes builds due = absurd cc
 drafted_later (command.Pin version) s writes builds due = absurd cc
 drafted_later (command.Release token) s writes builds due = absurd cc
-drafted_later (command.Expire version) s writes builds due = absurd cc
+drafted_later (command.Expire table version) s writes builds due = absurd cc
 drafted_later (command.Work name) s writes builds due = absurd cc
 
 memory_fits : (c : Command) → is_release c ≡ false → IsTrue (outcome_fits c kind.Decide outcome.Memory)

@@ -21,7 +21,7 @@ use Rattle.mesa_skeleton.specs.mesa_model.Load.{load_batch, bounds_checked, tabl
 use Rattle.mesa_skeleton.specs.mesa_model.Refusals.{no_such_table, refuse_closed, bad_schema, batch_refusal, schema_refusal, change_refusal}
 use Rattle.mesa_skeleton.specs.mesa_model.Relations.{is_taken, table_number}
 use Rattle.mesa_skeleton.specs.mesa_model.Tables.{make_table, make_view, alter_table, columns_asked, names_are_good, new_table, view_of_table_checked, change_asked, changed_name, table_changed}
-use Rattle.mesa_skeleton.specs.mesa_model.Versions.{expire_to, store_from, version_checked}
+use Rattle.mesa_skeleton.specs.mesa_model.Versions.{expire_all, expire_table, store_from, table_from, version_checked}
 use Rattle.mesa_skeleton.specs.mesa_model.Warehouse.{Warehouse, max_tables, max_versions, table_at, with_table, with_tables}
 use Rattle.mesa_skeleton.specs.mesa_history.Found.{kept_of}
 use Rattle.mesa_skeleton.specs.mesa_history.Machine.{Machine}
@@ -59,8 +59,15 @@ both w after p r is = let same : (w, p) ≡ (after, r) = cc in (ap (λ (d : Ware
 
 -- ---- each command
 
-pub expire_made : (w : Warehouse) (version : ℕ) (after : Warehouse) (r : Reply) → expire_to w version ≡ Ok (after, r) → (after ≡ record w { store = store_from w.store version }) × (r ≡ reply.Expired version)
-expire_made w version after r is = both _ after _ r (passed (version_checked w version) _ (after, r) (passed (refuse_closed w.closed) _ (after, r) is))
+pub expire_made : (w : Warehouse) (version : ℕ) (after : Warehouse) (r : Reply) → expire_all w version ≡ Ok (after, r) → (after ≡ record w { store = store_from w.store version }) × (r ≡ reply.Expired None version)
+expire_made w version after r is = both _ after _ r (passed (version_checked w w.store.floor version) _ (after, r) (passed (refuse_closed w.closed) _ (after, r) is))
+
+pub expire_table_made : (w : Warehouse) (name : List ℕ) (version : ℕ) (after : Warehouse) (r : Reply) → expire_table w name version ≡ Ok (after, r)
+    → (number : ℕ) × (table_number w.store name ≡ Some number) × (after ≡ with_table w number (table_from version (table_at w.store number))) × (r ≡ reply.Expired (Some name) version)
+expire_table_made w name version after r is =
+    let found = got (ok_or (table_number w.store name) no_such_table) _ (after, r) (passed (refuse_closed w.closed) _ (after, r) is) in
+    let made = both _ after _ r (passed (version_checked w (table_at w.store found.0).oldest version) _ (after, r) found.2) in
+    (found.0, there (table_number w.store name) no_such_table found.0 found.1, made.0, made.1)
 
 pub load_made : (w : Warehouse) (rows : List RowWords) (after : Warehouse) (r : Reply) → load_batch w rows ≡ Ok (after, r)
     → (batch : List Placed) × (batch_of (tables_named w.store) rows ≡ Ok batch) × (after ≡ with_batch w batch) × (r ≡ reply.Loaded w.next (length batch))
@@ -111,7 +118,7 @@ machine_bare w (reply.Rows rows v more) m = refl
 machine_bare w (reply.Spans spans) m = refl
 machine_bare w (reply.Pinned token v) m = refl
 machine_bare w (reply.Released token) m = refl
-machine_bare w (reply.Expired oldest) m = refl
+machine_bare w (reply.Expired table oldest) m = refl
 machine_bare w (reply.Swapped from to) m = refl
 machine_bare w reply.Idle m = refl
 machine_bare w (reply.Busy lease) m = refl

@@ -15,7 +15,7 @@ use Rattle.mesa_skeleton.specs.mesa_model.declared.replies.Reply.TheVariants as 
 use Rattle.mesa_skeleton.specs.mesa_model.Warehouse.{Warehouse, max_pins}
 use Rattle.mesa_skeleton.specs.mesa_model.Pins.{make_pin, release_pin, with_pin, next_token, store_at, pin_of}
 use Rattle.mesa_skeleton.specs.mesa_model.Refusals.{refuse_closed}
-use Rattle.mesa_skeleton.specs.mesa_model.Versions.{version_asked}
+use Rattle.mesa_skeleton.specs.mesa_model.Versions.{common_oldest, version_asked}
 use Rattle.mesa_skeleton.specs.mesa_history.Run.{First}
 use Rattle.mesa_skeleton.specs.mesa_history.Replay.{stepped}
 use Rattle.mesa_skeleton.specs.mesa_history.Found.{kept_of}
@@ -47,7 +47,7 @@ released_ok w s token = Ok (record w { pins = without_pin s token w.pins }, repl
 
 -- what a pin that was made is
 pin_made : (w : Warehouse) (s : ℕ) (asked : VersionWord) (after : Warehouse) (r : Reply) → make_pin w s asked ≡ Ok (after, r) → (v : ℕ) × (after ≡ with_pin w s v) × (r ≡ reply.Pinned (next_token w s) v)
-pin_made w s asked after r is = by w.closed (version_asked w asked) (nat_le max_pins (length w.pins)) is
+pin_made w s asked after r is = by w.closed (version_asked w (common_oldest w.store) asked) (nat_le max_pins (length w.pins)) is
   where
     by : (o : Option ℕ) (q : Result ℕ Refusal) (b : Bool) → (refuse_closed o >> (q >>= (λ version. refuse_if b (no.PinsFull max_pins) >> pinned_ok w s version))) ≡ Ok (after, r)
         → (v : ℕ) × (after ≡ with_pin w s v) × (r ≡ reply.Pinned (next_token w s) v)

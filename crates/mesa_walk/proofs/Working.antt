@@ -23,7 +23,7 @@ use Rattle.mesa_skeleton.specs.mesa_model.declared.replies.Reply.TheVariants as 
 use Rattle.mesa_skeleton.specs.mesa_model.Entry.{IsShort}
 use Rattle.mesa_skeleton.specs.mesa_model.Refusals.{no_such_table, refuse_closed}
 use Rattle.mesa_skeleton.specs.mesa_model.Relations.{table_number}
-use Rattle.mesa_skeleton.specs.mesa_model.Warehouse.{Warehouse, newest_of}
+use Rattle.mesa_skeleton.specs.mesa_model.Warehouse.{Warehouse, newest_of, table_at}
 use Rattle.mesa_skeleton.specs.mesa_history.Machine.{Machine, Claim, ranges_at, refuse_busy, claim_of, claimed, claim_checked, claim_renewed, claim_ended, claim_done, swapped_reply}
 use Rattle.mesa_skeleton.specs.mesa_history.Run.{State, Stage, First, Granted, Renewed, Finished, Run, begins}
 use Rattle.mesa_skeleton.specs.mesa_history.Replay.{Turned, turn_of, leaves, place_after, prints, refuses, grants, renews, completes, closed_off, closed_if, closes, with_machine, stood}
@@ -80,7 +80,7 @@ claim_silent w m position name r is =
     closed_silent w.closed _ r
     (λ x e. table_silent (table_number w.store name) _ x
     (λ table y f. busy_silent (holder m.leases table position) _ y
-    (λ z g. idle_silent (next_work (ranges_at m table) w.store.oldest (newest_of w)) (λ work. record { table = table; lease = m.leases.granted + 1; work = work }) z g) f) e) is
+    (λ z g. idle_silent (next_work (ranges_at m table) (table_at w.store table).oldest (newest_of w)) (λ work. record { table = table; lease = m.leases.granted + 1; work = work }) z g) f) e) is
 
 -- a work that is granted finds the warehouse open
 claim_open : (w : Warehouse) (m : Machine) (position : ℕ) (name : List ℕ) (claim : Claim) → claim_of w m position name ≡ Ok claim → w.closed ≡ None

@@ -1,5 +1,5 @@
 // What stands in a store, found by names and numbers.
-ghost use Rattle.std.specs.Prelude.{◌≡◌, ◌<◌, [], length, slice_get, slice_index_or, option_map, IfSome};
+ghost use Rattle.std.specs.Prelude.{◌≡◌, ◌<◌, ◌≤◌, ◌⊎◌, [], length, slice_get, slice_index_or, option_map, IfSome};
 ghost use Rattle.mesa_schema.specs.Rows.{AreRowsOf};
 ghost use Rattle.mesa_schema.specs.Changes.{columns_of};
 ghost use Rattle.mesa_answer.specs.Answering.{KeepsSums};
@@ -57,13 +57,31 @@ impl PlainStore {
     // A table's rows at a version; none where the version isn't there.
     pub(crate) fn content(&self, table: usize, version: u32) -> &[Row]
         requires { table < length self.now.store.tables }
-        ensures rows { result.now ≡ content_at self.now.store (table_at self.now.store table) version }
+        ensures rows { result.now ≡ content_at (table_at self.now.store table) version }
         ensures forms { AreRowsOf (columns_of (table_at self.now.store table).lineage) result.now }
         ensures sums { KeepsSums (columns_of (table_at self.now.store table).lineage) result.now }
     {
-        let behind = version.saturating_sub(self.oldest);
-        content_of(&self.versions, behind as usize, table)
+        let oldest = self.oldest(table);
+        let behind = (oldest - self.floor) as usize + version.saturating_sub(oldest) as usize;
+        content_of(&self.versions, behind, table)
     }
+
+    // A table's oldest version.
+    pub(crate) fn oldest(&self, table: usize) -> u32
+        requires { table < length self.now.store.tables }
+        ensures oldest { result ≡ (table_at self.now.store table).oldest }
+        ensures above { self.now.store.floor ≤ result }
+        ensures there { (result < self.now.next) ⊎ ((result ≡ 0) × (self.now.next ≡ 0)) }
+    {
+        oldest_of(self.oldests.as_slice(), table)
+    }
+}
+
+fn oldest_of(oldests: &[u32], table: usize) -> u32
+    requires { table < length oldests.now }
+    ensures { result ≡ slice_index_or oldests.now table 0 }
+{
+    oldests[table]
 }
 
 fn name_of(tables: &[Glanced], table: usize) -> &Name

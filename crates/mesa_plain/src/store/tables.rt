@@ -9,6 +9,7 @@ use crate::growing::zeros;
 use crate::store::PlainStore;
 use mesa_asked::totals_changed;
 use mesa_batch::Glanced;
+use mesa_list::TryCopy;
 use mesa_schema::{Change, ChangeError, Evolving, Name, Schema, Totals};
 use std::alloc::{AllocError, Global};
 use std::sync::Arc;
@@ -27,8 +28,11 @@ impl PlainStore {
     {
         let totals = zeros(alloc, &schema)?;
         let evolving = Arc::new(alloc, Evolving::new(alloc, schema))?;
+        let mut oldests = self.oldests.copy()?;
+        oldests.push(self.floor)?;
         self.tables.reserve(1)?;
         self.totals.push(totals)?;
+        self.oldests = oldests;
         push_table(&mut self.tables, Glanced { name, evolving });
         Ok(())
     }

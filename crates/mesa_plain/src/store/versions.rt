@@ -1,20 +1,20 @@
 // Versions that are added, kept and let go.
-ghost use Rattle.std.specs.Prelude.{◌≡◌, ◌<◌, ◌≤◌, List, [], ◌∷◌, ◌++◌, drop, length, map, slice_index_or, Ok, IfOk, IfErr, OnOk, OnErr};
+ghost use Rattle.std.specs.Prelude.{◌≡◌, ◌<◌, ◌≤◌, ◌⊎◌, List, [], ◌∷◌, ◌++◌, drop, length, map, max, replicate, slice_index_or, Ok, IfOk, IfErr, OnOk, OnErr};
 ghost use Rattle.mesa_batch.specs.Batch.{Placed as PlacedRow};
 ghost use Rattle.mesa_batch.specs.Numbers.{known_of};
 ghost use Rattle.mesa_model.specs.Load.{bounds_checked};
 ghost use Rattle.mesa_model.specs.Pins.{store_at};
-ghost use Rattle.mesa_model.specs.Versions.{store_from};
-ghost use Rattle.mesa_model.specs.Warehouse.{max_versions};
+ghost use Rattle.mesa_model.specs.Versions.{common_oldest, store_from};
+ghost use Rattle.mesa_model.specs.Warehouse.{max_versions, table_at};
 ghost use Rattle.mesa_plain.specs.Grown.{HasRows, IsBatchOf};
-ghost use Rattle.mesa_plain.specs.Kept.{known_in, shared, with_batch};
+ghost use Rattle.mesa_plain.specs.Kept.{greatest_of, known_in, shared, with_batch, with_table_from};
 ghost use Rattle.mesa_asked.specs.Told.{IsDue};
 
 use crate::growing::{contents_with_batch, totals_with_batch};
 use crate::store::{Contents, PlainStore};
 use mesa_asked::Failure;
 use mesa_batch::{Batch, Glance, Glanced};
-use mesa_list::TryCopy;
+use mesa_list::{Items, TryCopy};
 use mesa_schema::RowList;
 use std::alloc::{AllocError, Global};
 use std::collections::VecDeque;
@@ -48,31 +48,93 @@ impl PlainStore {
 
     // Lets the versions below this one go.
     pub(crate) fn expire(&mut self, version: u32)
-        requires low { self.old.store.oldest ≤ version }
+        requires low { self.old.store.floor ≤ version }
         requires high { version < self.old.next }
         ensures { self.new ≡ record self.old { store = store_from self.old.store version } }
     {
-        drop_front(&mut self.versions, (version - self.oldest) as usize);
-        self.oldest = version;
+        drop_front(&mut self.versions, (version - self.floor) as usize);
+        raise(&mut self.oldests, version);
+        self.floor = version;
+    }
+
+    // Lets the versions of a table below this one go: they aren't seen any more, and are dropped once
+    // all tables let them go.
+    pub(crate) fn expire_table(&mut self, table: usize, version: u32)
+        requires there { table < length self.old.store.tables }
+        requires low { (table_at self.old.store table).oldest ≤ version }
+        requires high { version < self.old.next }
+        ensures { self.new ≡ with_table_from self.old table version }
+    {
+        *self.oldests.at_mut(table) = version;
     }
 
     // The tables and their contents at one version alone; none is copied.
     pub(crate) fn at(&self, alloc: Global, version: u32) -> Result<Self, AllocError>
-        requires { version < self.now.next }
+        requires low { common_oldest self.now.store ≤ version }
+        requires high { version < self.now.next }
         ensures { IfOk result (λ s. s.store ≡ store_at self.now.store version) }
     {
         let tables = tables_again(alloc, &self.tables)?;
         let totals = self.totals.copy()?;
-        let place = version.saturating_sub(self.oldest) as usize;
+        let oldests = repeated(alloc, self.oldests.len(), version)?;
+        let place = (version - self.floor) as usize;
         let contents = contents_again(alloc, &self.versions, place)?;
         Ok(PlainStore {
             tables,
             totals,
             versions: only(alloc, contents)?,
-            oldest: version,
+            floor: version,
+            oldests,
             next: version + 1,
         })
     }
+
+    // The first version at which all tables can be queried.
+    pub(crate) fn common_oldest(&self) -> u32
+        ensures common { result ≡ common_oldest self.now.store }
+        ensures there { (result < self.now.next) ⊎ ((result ≡ 0) × (self.now.next ≡ 0)) }
+    {
+        greatest(self.floor, self.oldests.as_slice())
+    }
+}
+
+// The greatest of a number and of these.
+fn greatest(floor: u32, oldests: &[u32]) -> u32
+    ensures { result ≡ greatest_of floor oldests.now }
+{
+    let mut found = floor;
+    'oldests: for oldest in oldests {
+        found = greater(found, *oldest);
+    }
+    found
+}
+
+// None of these is below a number any more.
+fn raise(oldests: &mut Items<u32>, version: u32)
+    ensures { oldests.new ≡ map (λ oldest. max oldest version) oldests.old }
+{
+    'tables: for number in 0..oldests.len() {
+        let oldest = greater(oldests.as_slice()[number], version);
+        *oldests.at_mut(number) = oldest;
+    }
+}
+
+// The greater of two numbers.
+fn greater(a: u32, b: u32) -> u32
+    ensures { result ≡ max a b }
+{
+    if a < b { b } else { a }
+}
+
+// A number so many times.
+fn repeated(alloc: Global, count: usize, number: u32) -> Result<Items<u32>, AllocError>
+    ensures { IfOk result (λ many. many ≡ replicate count number) }
+{
+    let mut many = Items::new(alloc);
+    'count: for _done in 0..count {
+        many.push(number)?;
+    }
+    Ok(many)
 }
 
 // Adds a version's contents.

@@ -38,7 +38,7 @@ impl PlainWarehouse {
             Command::Query(words) => self.reply_to_query(session, words),
             Command::Pin(version) => self.pin(session, *version),
             Command::Release(token) => Ok(self.release(session, *token)),
-            Command::Expire(version) => Ok(self.expire(*version)),
+            Command::Expire { table, version } => self.expire(table, *version),
             Command::Explain(_) | Command::Work(_) => unreachable!(),
         }
     }

@@ -1,5 +1,5 @@
 // Answering queries.
-ghost use Rattle.std.specs.Prelude.{◌≡◌, None, Ok, Err, IfOk, IfErr, IsTrue, MatchResult};
+ghost use Rattle.std.specs.Prelude.{◌≡◌, ◌<◌, length, None, Ok, Err, IfOk, IfErr, IsTrue, MatchResult};
 ghost use Rattle.std.specs.List.{AllByRecursion};
 ghost use Rattle.mesa_list.specs.Checks.{refused_as};
 ghost use Rattle.mesa_key.specs.Spelling.{is_spelling};
@@ -12,6 +12,7 @@ ghost use Rattle.mesa_model.specs.Page.{page_of};
 ghost use Rattle.mesa_model.specs.Query.{answer_rows, query_answer, store_asked as tables_asked, version_seen as version_of};
 ghost use Rattle.mesa_model.specs.Refusals.{query_refusal};
 ghost use Rattle.mesa_model.specs.Relations.{relation_columns, relation_content};
+ghost use Rattle.mesa_model.specs.Warehouse.{table_at};
 ghost use Rattle.mesa_asked.specs.Built.{IsBuiltOf};
 ghost use Rattle.mesa_plain.specs.Found.{IsThere, relation_seen};
 ghost use Rattle.mesa_plain.specs.Plain.{answer_as, answer_of};
@@ -58,7 +59,7 @@ impl PlainWarehouse {
         };
         let schema = schema_at(self.alloc, store, place)?;
         check_query(self.alloc, &schema, words)?;
-        let version = self.version_seen(store, words.version)?;
+        let version = self.version_seen(store, place.table, words.version)?;
         answer_at(self.alloc, store, place, &schema, version, words)
     }
 
@@ -76,13 +77,23 @@ impl PlainWarehouse {
         }
     }
 
-    // The version that a query asks of these tables.
-    fn version_seen(&self, store: &PlainStore, asked: VersionWord) -> Result<u32, Refusal>
-        ensures { result ≡ version_of self.now store.now.store asked }
+    // The version that a query asks of one of these tables.
+    fn version_seen(
+        &self,
+        store: &PlainStore,
+        table: usize,
+        asked: VersionWord,
+    ) -> Result<u32, Refusal>
+        requires { table < length store.now.store.tables }
+        ensures { result ≡ version_of self.now store.now.store (table_at store.now.store table) asked }
     {
         match asked {
-            VersionWord::Latest | VersionWord::At(_) => self.version_asked(asked),
-            VersionWord::Pin(_) => Ok(store.oldest()),
+            VersionWord::Latest => self.newest_version(),
+            VersionWord::At(version) => {
+                self.check_version(store.oldest(table), version)?;
+                Ok(version)
+            }
+            VersionWord::Pin(_) => Ok(store.floor()),
         }
     }
 }
@@ -111,7 +122,7 @@ fn answer_at(
     requires there { IsThere store.now.store place }
     requires columns { schema.now ≡ relation_columns (relation_seen store.now.store place) }
     ensures built { IfOk result (λ found. IsBuiltOf schema.now version (epoch_of (relation_seen store.now.store place).table.lineage) words.now found.1) }
-    ensures page { IfOk result (λ found. found.0 ≡ page_of found.1.version found.1.limit found.1.resume (answer_rows schema.now found.1.asked (relation_content store.now.store (relation_seen store.now.store place) found.1.version))) }
+    ensures page { IfOk result (λ found. found.0 ≡ page_of found.1.version found.1.limit found.1.resume (answer_rows schema.now found.1.asked (relation_content (relation_seen store.now.store place) found.1.version))) }
     ensures spelled { IfOk result (λ found. AllByRecursion (λ (row : AnyRow). IsTrue (is_spelling (group_kinds found.1) row.key)) found.0.rows) }
     ensures refused { IfErr result (IsDue (refused_as query_refusal (query_of schema.now words.now.relation version (epoch_of (relation_seen store.now.store place).table.lineage) words.now))) }
 {
@@ -132,7 +143,7 @@ fn page(
     requires there { IsThere store.now.store place }
     requires columns { schema.now ≡ relation_columns (relation_seen store.now.store place) }
     requires asked { IsQueryOf schema.now query.now }
-    ensures page { IfOk result (λ page. page ≡ page_of query.now.version query.now.limit query.now.resume (answer_rows schema.now query.now.asked (relation_content store.now.store (relation_seen store.now.store place) query.now.version))) }
+    ensures page { IfOk result (λ page. page ≡ page_of query.now.version query.now.limit query.now.resume (answer_rows schema.now query.now.asked (relation_content (relation_seen store.now.store place) query.now.version))) }
     ensures form { IfOk result (λ page. AreRowsOf (grouped_columns schema.now query.now.asked.columns query.now.asked.values) page.rows) }
     ensures spelled { IfOk result (λ page. AllByRecursion (λ (row : AnyRow). IsTrue (is_spelling (group_kinds query.now) row.key)) page.rows) }
 {

@@ -12,7 +12,7 @@ returns-clause-same c =
     let items = with_items_is c.reserve.new.self c.make_spares.new.tables (omega arith) in
     let old = c.deref_mut.ensures.value ∙ c.in_ok-reserve.ensures.items in
     let tables = ap (map (stock_of s.next)) items ∙ roomier_stocks s.next c.deref_mut.result.now c.make_spares.new.tables c.make_spares.ensures.roomier ∙ ap (map (stock_of s.next)) old in
-    λ i. record { tables = tables i; oldest = s.oldest; next = s.next; run = s.run }
+    λ i. record { tables = tables i; floor = s.floor; next = s.next; run = s.run }
 
 pub returns-clause-shelved : goal.returns-clause-shelved
 returns-clause-shelved c =
@@ -24,7 +24,7 @@ returns-clause-shelved c =
     record {
       few = omega arith;
       most = c.requires.most;
-      oldest = c.requires.oldest;
+      floor = c.requires.floor;
       tables = subst (AllByRecursion (IsTable s.next)) (sym items) (roomier_tables s.next c.deref_mut.result.now c.make_spares.new.tables c.make_spares.ensures.roomier (subst (AllByRecursion (IsTable s.next)) (sym old) c.requires.tables));
     }
 

@@ -1,4 +1,4 @@
-use Rattle.mesa_image_laws.proofs.AllSourced.{alter_sourced, publish_sourced, swap_sourced, table_sourced, view_sourced}
+use Rattle.mesa_image_laws.proofs.AllSourced.{alter_sourced, expire_sourced, expire_table_sourced, publish_sourced, swap_sourced, table_sourced, view_sourced}
 use Rattle.mesa_image_laws.proofs.sources.sources_go_on.Goals as goal
 
 pub returns : goal.returns
@@ -9,5 +9,6 @@ returns g = record {
   alter = λ rows written c table change is has fit typed. alter_sourced rows written c is has table change fit typed;
   publish = λ rows written c version parts a is has accepted brings. publish_sourced rows written c is has parts a accepted version brings;
   swap = λ rows written c table base from to epoch files is has fit made. swap_sourced rows written c is has table base from to epoch files fit made;
-  expire = λ rows written c version has. record { tables = has.tables; others = has.others };
+  expire = λ rows written c version has. expire_sourced rows written c has version;
+  expire_table = λ rows written c table version has fit. expire_table_sourced rows written c has table version fit;
 }

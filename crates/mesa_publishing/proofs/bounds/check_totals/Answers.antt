@@ -10,8 +10,8 @@ use Rattle.mesa_catalog.proofs.mesa_image_laws.Lists.{stock_found}
 use Rattle.mesa_publishing.proofs.Totals.{few_totals, over_within}
 use Rattle.mesa_publishing.proofs.bounds.check_totals.Goals as goal
 
-shaped_at : (k : Catalog) (n : ℕ) → IsCatalog k → n < length k.tables → IsShaped k.oldest k.next (stock_at k n)
-shaped_at k n is lt = stock_found (IsShaped k.oldest k.next) k.tables n lt is.tables
+shaped_at : (k : Catalog) (n : ℕ) → IsCatalog k → n < length k.tables → IsShaped k.floor k.next (stock_at k n)
+shaped_at k n is lt = stock_found (IsShaped k.floor k.next) k.tables n lt is.tables
 
 pub fits-requires-clause-few : goal.fits-requires-clause-few
 fits-requires-clause-few c =

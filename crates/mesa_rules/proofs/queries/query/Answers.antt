@@ -13,14 +13,14 @@ use Rattle.mesa_rules.proofs.queries.query.Goals as goal
 pub returns-in_err-relation-clause-refused : goal.returns-in_err-relation-clause-refused
 returns-in_err-relation-clause-refused c =
     let p = err_from_is_err_and c.from_residual.result c.from_residual.ensures.1 in
-    rw (p.1, p.2) (λ w session s. c.in_err-relation.ensures.refused c.args.version w session s)
+    rw (p.1, p.2) (λ w session s. c.in_err-relation.ensures.refused c.args.pinned w session s)
 
 pub returns-in_err-version-clause-refused : goal.returns-in_err-version-clause-refused
 returns-in_err-version-clause-refused c =
     let p = err_from_is_err_and c.from_residual-in_err-version.result c.from_residual-in_err-version.ensures.1 in
     let words = c.args.words.now in
     let cat = c.args.catalog.now.catalogue in
-    rw (p.1, p.2) (λ w session s. unversioned cat c.args.version words w session s c.in_ok-relation.relation c.in_ok-relation.ensures.found c.in_err-version.field-0.0 c.in_ok-relation.ensures.asked c.in_err-version.was)
+    rw (p.1, p.2) (λ w session s. unversioned cat c.args.pinned words w session s c.in_ok-relation.relation c.in_ok-relation.ensures.found c.in_err-version.field-0.0 c.in_ok-relation.ensures.asked (sym c.in_err-version.ensures))
 
 pub returns-in_err-query-clause-refused : goal.returns-in_err-query-clause-refused
 returns-in_err-query-clause-refused c =
@@ -32,7 +32,7 @@ returns-in_err-query-clause-refused c =
     let failure = c.in_err-query.field-0.0 in
     let epoch = c.epoch-epoch.ensures.count ∙ ap epoch_of (c.deref.ensures ∙ c.evolving.ensures) in
     let due = subst (λ (r : Result BuiltQuery Refusal). IsDue r failure) (λ i. refused_as query_refusal (query_of (c.in_ok-relation.ensures.columns i) words.relation version (epoch i) words)) c.in_err-query.ensures.refused in
-    rw (p.1, p.2) (λ w session s. unbuilt cat c.args.version words w session s relation c.in_ok-relation.ensures.found version failure c.in_ok-relation.ensures.asked c.in_ok-version.was due)
+    rw (p.1, p.2) (λ w session s. unbuilt cat c.args.pinned words w session s relation c.in_ok-relation.ensures.found version failure c.in_ok-relation.ensures.asked (sym c.in_ok-version.ensures) due)
 
 pub returns-clause-asked : goal.returns-clause-asked
 returns-clause-asked c =
@@ -53,4 +53,4 @@ returns-clause-answered c =
     let epoch = c.epoch-epoch.ensures.count ∙ ap epoch_of (c.deref.ensures ∙ c.evolving.ensures) in
     let version = ap (λ (q : BuiltQuery). q.version) c.in_ok-query.ensures.built.parts in
     let made = built_at _ _ _ _ _ words query c.in_ok-relation.ensures.columns epoch c.in_ok-query.ensures.built in
-    λ w session s. built_answer cat c.args.version words w session s relation c.in_ok-relation.ensures.found query (c.in_ok-version.was ∙ ap (λ n. Ok n) (sym version)) made
+    λ w session s. built_answer cat c.args.pinned words w session s relation c.in_ok-relation.ensures.found query (sym c.in_ok-version.ensures ∙ ap (λ n. Ok n) (sym version)) made

@@ -24,6 +24,7 @@ returns-else-base-clause-table c = λ next table swap.
     record {
       tens = let end = is.0 in let below = is.1 in omega arith;
       loaded = table.loaded;
+      oldest = table.oldest;
       widths = table.widths;
     }
 

@@ -18,6 +18,7 @@ returns-clause-stock c = λ next table swap.
       name = t.name;
       lineage = t.evolving.value;
       totals = t.totals;
+      oldest = t.oldest;
       base = Some (record { to = to; delta = c.args.delta.value });
       cumulatives = cumulatives i;
       singles = singles i;
@@ -27,5 +28,6 @@ pub returns-clause-table : goal.returns-clause-table
 returns-clause-table c = λ next table swap. record {
   tens = let below = swap.1 in let none = ap length c.clear.ensures.items in omega arith;
   loaded = subst (AreLoaded (c.args.to + 1) next) (sym c.drop_through.ensures) (loaded_behind c.args.to (start_of_base c.args.table.now.base) next c.args.table.now.loaded.items table.loaded);
+  oldest = table.oldest;
   widths = table.widths;
 }

@@ -14,16 +14,16 @@ pub invariant_of-copy : goal.invariant_of-copy
 invariant_of-copy c =
     let s = c.self.inside.shelves in
     let kept = c.self.invariant in
-    let new : Shelves = record { tables = c.in_ok-tables.tables; oldest = s.oldest; next = s.next; run = s.run } in
+    let new : Shelves = record { tables = c.in_ok-tables.tables; floor = s.floor; next = s.next; run = s.run } in
     let tables = c.in_ok-tables.ensures.same s.next ∙ ap (map (stock_of s.next)) c.deref.ensures.value in
-    let same : catalogue_of new ≡ catalogue_of s = (λ i. record { tables = tables i; oldest = s.oldest; next = s.next; run = s.run }) in
+    let same : catalogue_of new ≡ catalogue_of s = (λ i. record { tables = tables i; floor = s.floor; next = s.next; run = s.run }) in
     let count : length new.tables.items ≡ length s.tables.items = sym (length-map new.tables.items (stock_of s.next)) ∙ ap length tables ∙ length-map s.tables.items (stock_of s.next) in
     let few = kept.shelves.few in
     record {
       shelves = record {
         few = omega (arith, few, count);
         most = kept.shelves.most;
-        oldest = kept.shelves.oldest;
+        floor = kept.shelves.floor;
         tables = c.in_ok-tables.ensures.tables s.next (subst (AllByRecursion (IsTable s.next)) (sym c.deref.ensures.value) kept.shelves.tables);
       };
       ready = tt;
@@ -35,5 +35,5 @@ pub returns : goal.returns
 returns c =
     let s = c.self.inside.shelves in
     let tables = c.in_ok-tables.ensures.same s.next ∙ ap (map (stock_of s.next)) c.deref.ensures.value in
-    let same = (λ i. record { tables = tables i; oldest = s.oldest; next = s.next; run = s.run }) ∙ ap (λ (k : Reserved). k.catalogue) c.self.view_is in
+    let same = (λ i. record { tables = tables i; floor = s.floor; next = s.next; run = s.run }) ∙ ap (λ (k : Reserved). k.catalogue) c.self.view_is in
     λ i. record { catalogue = same i; reserved = None }

@@ -1,4 +1,4 @@
-use Rattle.std.proofs.Common.{List, ◌∷◌, [], ◌++◌, ◌∙◌, ap, sym, length, map}
+use Rattle.std.proofs.Common.{List, ◌∷◌, [], ◌++◌, ◌∙◌, ap, refl, sym, length, map}
 use Rattle.std.specs.Prelude.{replicate}
 use Rattle.mesa_schema.specs.declared.columns.ValueColumn.{ValueColumn}
 use Rattle.mesa_schema.specs.Columns.{Columns, aggs_of}
@@ -15,7 +15,8 @@ returns-clause-made c =
     new_made c.args.self.now _ c.requires.shelved (record {
       lineage = lineage ∙ (λ i. record { first = first i; changes = []; views = [] });
       totals = c.in_ok-totals.ensures ∙ ap (λ (columns : List ValueColumn). replicate (sums_in (map (λ (column : ValueColumn). column.agg) columns)) 0) c.values.ensures.same ∙ ap (λ (s : Columns). replicate (sums_in (aggs_of s)) 0) present;
-      base = c.base_before_oldest.ensures;
+      oldest = refl;
+      base = c.base_before_floor.ensures;
       cumulatives = c.new-2.ensures.items;
       loaded = c.new-3.ensures.items;
       widths = c.in_ok-widths.ensures ∙ (λ i. c.new.ensures i ++ length (present i).values ∷ []);

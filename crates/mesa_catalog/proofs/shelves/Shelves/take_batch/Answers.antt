@@ -38,7 +38,7 @@ returns-clause-applied c =
     let tables =
     ap (map (stock_of (s.next + 1))) items ∙ ap (λ version. map (stock_of (version + 1)) c.load.new.tables) (sym same) ∙ c.load.ensures.loaded
     ∙ (λ i. stocks_loaded parts 0 (map (stock_of (same i)) (c.deref_mut.ensures.value i))) in
-    λ i. record { tables = tables i; oldest = s.oldest; next = s.next + 1; run = s.run }
+    λ i. record { tables = tables i; floor = s.floor; next = s.next + 1; run = s.run }
 
 pub returns-clause-shelved : goal.returns-clause-shelved
 returns-clause-shelved c =
@@ -48,13 +48,13 @@ returns-clause-shelved c =
     let same = next.0 in
     let below = next.1 in
     let few = c.requires.shelved.few in
-    let oldest = c.requires.shelved.oldest in
+    let floor = c.requires.shelved.floor in
     let items = with_items_is s.tables c.load.new.tables (omega arith) in
     let count = ap length items in
     record {
       few = omega arith;
       most = omega arith;
-      oldest = omega arith;
+      floor = omega arith;
       tables = subst (AllByRecursion (IsTable (s.next + 1))) (sym items) (subst (λ version. AllByRecursion (IsTable (version + 1)) c.load.new.tables) same c.load.ensures.tables);
     }
 

@@ -37,6 +37,6 @@ returns-clause-shelved c =
     record {
       few = omega arith;
       most = c.requires.shelved.most;
-      oldest = c.requires.shelved.oldest;
-      tables = all_set (IsTable s.next) s.tables.items c.args.table _ c.requires.shelved.tables (record { tens = table.tens; loaded = table.loaded; widths = c.requires.ready.made.1 });
+      floor = c.requires.shelved.floor;
+      tables = all_set (IsTable s.next) s.tables.items c.args.table _ c.requires.shelved.tables (record { tens = table.tens; loaded = table.loaded; oldest = table.oldest; widths = c.requires.ready.made.1 });
     }

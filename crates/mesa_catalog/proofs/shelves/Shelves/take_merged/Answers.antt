@@ -39,7 +39,7 @@ returns-clause-applied c =
     let same = stock_here s c.args.table t within ∙ ap (stock_of s.next) (sym c.index_mut-table.ensures.value) in
     let table = subst (IsTable s.next) (sym c.index_mut-table.ensures.value) (all_at (IsTable s.next) s.tables.items c.args.table t c.requires.shelved.tables within) in
     let work = ap (λ (u : Stock). may_be_work (catalogue_of s) u base c.args.from to) (sym same) ∙ fits.1 in
-    let swap = swap_of s t base c.args.from to c.requires.shelved work in
+    let swap = swap_of s t base c.args.from to table work in
     let merged : d ≡ merged_delta d.epoch d.files = (λ i. record { epoch = d.epoch; files = d.files; totals = c.requires.ready.made i }) in
     put_stock s c.args.table c.swap.new.table _ (c.swap.ensures.stock s.next table swap ∙ (λ i. stock_swapped (sym same i) base to (merged i)))
 
@@ -55,12 +55,12 @@ returns-clause-shelved c =
     let same = stock_here s c.args.table t within ∙ ap (stock_of s.next) (sym c.index_mut-table.ensures.value) in
     let table = subst (IsTable s.next) (sym c.index_mut-table.ensures.value) (all_at (IsTable s.next) s.tables.items c.args.table t c.requires.shelved.tables within) in
     let work = ap (λ (u : Stock). may_be_work (catalogue_of s) u base c.args.from to) (sym same) ∙ fits.1 in
-    let swap = swap_of s t base c.args.from to c.requires.shelved work in
+    let swap = swap_of s t base c.args.from to table work in
     let few = c.requires.shelved.few in
     let count = length-set s.tables.items c.args.table c.swap.new.table in
     record {
       few = omega arith;
       most = c.requires.shelved.most;
-      oldest = c.requires.shelved.oldest;
+      floor = c.requires.shelved.floor;
       tables = all_set (IsTable s.next) s.tables.items c.args.table c.swap.new.table c.requires.shelved.tables (c.swap.ensures.table s.next table swap);
     }

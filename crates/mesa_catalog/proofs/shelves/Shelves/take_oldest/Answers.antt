@@ -1,22 +1,49 @@
-use Rattle.std.proofs.Common.{◌<◌, arith}
-use Rattle.std.specs.Prelude.{nat_le, nat_lt}
+use Rattle.std.proofs.Common.{◌∙◌, ◌<◌, ap, sym, subst, arith}
+use Rattle.std.specs.Prelude.{◌&&◌, nat_le, nat_lt}
 use Rattle.std.proofs.lemmas.Bool.Decides.{nat_tests}
+use Rattle.std.proofs.lemmas.List.{length-set}
+use Rattle.mesa_image_laws.specs.mesa_image.Catalog.{stock_at, stock_from}
+use Rattle.mesa_image_laws.specs.mesa_image.Fitting.{expire_fits, is_there}
+use Rattle.mesa_shelf.specs.Meaning.{IsTable, stock_of}
 use Rattle.mesa_catalog.specs.Meaning.{catalogue_of}
 use Rattle.mesa_catalog.specs.Readied.{record_in}
 use Rattle.mesa_catalog.specs.declared.ready.Ready.TheVariants as ready_of
-use Rattle.mesa_catalog.proofs.Applies.{kind_of_fits}
+use Rattle.mesa_catalog.proofs.Applies.{kind_of_fits, put_stock}
+use Rattle.mesa_catalog.proofs.Stocks.{all_at, all_set, stock_here, there_within}
 use Rattle.mesa_shelf.proofs.Tests.{both}
 use Rattle.mesa_catalog.proofs.shelves.Shelves.take_oldest.Goals as goal
+
+pub index_mut-table-requires : goal.index_mut-table-requires
+index_mut-table-requires c =
+    let s = c.args.self.now in
+    let fits = both (is_there (catalogue_of s) c.args.table) (expire_fits (catalogue_of s) (stock_at (catalogue_of s) c.args.table).oldest c.args.version) (kind_of_fits (catalogue_of s) (record_in (ready_of.ExpireTable c.args.table c.args.version)) c.requires.ready.fits) in
+    let within = there_within s c.args.table fits.0 in
+    omega arith
+
+pub returns-clause-applied : goal.returns-clause-applied
+returns-clause-applied c =
+    let s = c.args.self.now in
+    let t = c.index_mut-table.result.now in
+    let fits = both (is_there (catalogue_of s) c.args.table) (expire_fits (catalogue_of s) (stock_at (catalogue_of s) c.args.table).oldest c.args.version) (kind_of_fits (catalogue_of s) (record_in (ready_of.ExpireTable c.args.table c.args.version)) c.requires.ready.fits) in
+    let within = there_within s c.args.table fits.0 in
+    let same = stock_here s c.args.table t within ∙ ap (stock_of s.next) (sym c.index_mut-table.ensures.value) in
+    put_stock s c.args.table c.expire.new.self _ (c.expire.ensures.stock s.next ∙ ap (stock_from c.args.version) (sym same))
 
 pub returns-clause-shelved : goal.returns-clause-shelved
 returns-clause-shelved c =
     let s = c.args.self.now in
-    let version = c.args.version in
-    let room = (both (nat_le s.oldest version) (nat_lt version s.next) (kind_of_fits (catalogue_of s) (record_in (ready_of.Expire version)) c.requires.ready.fits)).1 in
-    let below : version < s.next = grind (arith, nat_tests) in
+    let t = c.index_mut-table.result.now in
+    let oldest = (stock_at (catalogue_of s) c.args.table).oldest in
+    let fits = both (is_there (catalogue_of s) c.args.table) (expire_fits (catalogue_of s) oldest c.args.version) (kind_of_fits (catalogue_of s) (record_in (ready_of.ExpireTable c.args.table c.args.version)) c.requires.ready.fits) in
+    let within = there_within s c.args.table fits.0 in
+    let room = (both (nat_le oldest c.args.version) (nat_lt c.args.version s.next) fits.1).1 in
+    let below : c.args.version < s.next = grind (arith, nat_tests) in
+    let table = subst (IsTable s.next) (sym c.index_mut-table.ensures.value) (all_at (IsTable s.next) s.tables.items c.args.table t c.requires.shelved.tables within) in
+    let few = c.requires.shelved.few in
+    let count = length-set s.tables.items c.args.table c.expire.new.self in
     record {
-      few = c.requires.shelved.few;
+      few = omega arith;
       most = c.requires.shelved.most;
-      oldest = omega arith;
-      tables = c.requires.shelved.tables;
+      floor = c.requires.shelved.floor;
+      tables = all_set (IsTable s.next) s.tables.items c.args.table c.expire.new.self c.requires.shelved.tables (c.expire.ensures.table s.next below table);
     }

@@ -19,6 +19,6 @@ returns-clause-shelved c =
     record {
       few = omega arith;
       most = c.requires.shelved.most;
-      oldest = c.requires.shelved.oldest;
+      floor = c.requires.shelved.floor;
       tables = subst (AllByRecursion (IsTable s.next)) (sym c.push_reserved.ensures.items) (all_pushed (IsTable s.next) s.tables.items c.args.made c.requires.shelved.tables c.requires.ready.made.1);
     }

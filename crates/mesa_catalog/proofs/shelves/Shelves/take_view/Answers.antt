@@ -41,6 +41,6 @@ returns-clause-shelved c =
     record {
       few = omega arith;
       most = c.requires.shelved.most;
-      oldest = c.requires.shelved.oldest;
+      floor = c.requires.shelved.floor;
       tables = all_set (IsTable s.next) s.tables.items c.args.table _ c.requires.shelved.tables (viewed_table s.next t _ c.args.evolving table same c.requires.ready.made);
     }

@@ -3,7 +3,7 @@ use Rattle.std.specs.Prelude.{IfSome, option_map}
 use Rattle.mesa_batch.specs.Numbers.{known_of}
 use Rattle.mesa_model.specs.Relations.{relation_from, relation_of}
 use Rattle.mesa_plain.specs.Found.{IsThere, relation_at, relation_seen}
-use Rattle.mesa_plain.specs.Kept.{Versioned, tables_in}
+use Rattle.mesa_plain.specs.Kept.{Versioned, from_of, tables_in}
 use Rattle.mesa_plain.proofs.Seen.{found_kept, places_kept, within_known}
 use Rattle.mesa_plain.proofs.store.PlainStore.find.Goals as goal
 
@@ -13,9 +13,9 @@ returns-clause-found c =
     let found = c.relation_place.result in
     let same = c.deref.ensures.value in
     let within = within_known known_of c.deref.result.now s.tables.items found same c.relation_place.ensures.within in
-    let read : relation_from 0 c.args.name.now (tables_in 0 s.totals s.versions.items (map known_of s.tables.items)) ≡ option_map (relation_at s.totals s.versions.items (map known_of s.tables.items)) found =
-    subst (λ items. relation_from 0 c.args.name.now (tables_in 0 s.totals s.versions.items (map known_of items)) ≡ option_map (relation_at s.totals s.versions.items (map known_of items)) found) same (c.relation_place.ensures.found s.totals s.versions.items) in
-    subst (λ (v : Versioned). relation_of v.store c.args.name.now ≡ option_map (relation_seen v.store) found) c.self.view_is (read ∙ found_kept s.totals s.versions.items (map known_of s.tables.items) s.oldest found within)
+    let read : relation_from 0 c.args.name.now (tables_in (from_of s.floor s.oldests) 0 s.totals s.versions.items (map known_of s.tables.items)) ≡ option_map (relation_at (from_of s.floor s.oldests) s.totals s.versions.items (map known_of s.tables.items)) found =
+    subst (λ items. relation_from 0 c.args.name.now (tables_in (from_of s.floor s.oldests) 0 s.totals s.versions.items (map known_of items)) ≡ option_map (relation_at (from_of s.floor s.oldests) s.totals s.versions.items (map known_of items)) found) same (c.relation_place.ensures.found (from_of s.floor s.oldests) s.totals s.versions.items) in
+    subst (λ (v : Versioned). relation_of v.store c.args.name.now ≡ option_map (relation_seen v.store) found) c.self.view_is (read ∙ found_kept s.totals s.versions.items (map known_of s.tables.items) (from_of s.floor s.oldests) found within)
 
 pub returns-clause-there : goal.returns-clause-there
 returns-clause-there c =
@@ -23,5 +23,5 @@ returns-clause-there c =
     let found = c.relation_place.result in
     let same = c.deref.ensures.value in
     subst (λ (v : Versioned). IfSome found (IsThere v.store)) c.self.view_is
-    (subst (λ items. IfSome found (IsThere (record { tables = tables_in 0 s.totals s.versions.items (map known_of items); oldest = s.oldest }))) same
-    (places_kept known_of c.deref.result.now s.totals s.versions.items s.oldest found c.relation_place.ensures.within c.relation_place.ensures.view_within))
+    (subst (λ items. IfSome found (IsThere (record { tables = tables_in (from_of s.floor s.oldests) 0 s.totals s.versions.items (map known_of items); floor = s.floor }))) same
+    (places_kept known_of c.deref.result.now s.totals s.versions.items (from_of s.floor s.oldests) found c.relation_place.ensures.within c.relation_place.ensures.view_within))

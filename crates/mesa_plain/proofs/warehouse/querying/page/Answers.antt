@@ -60,8 +60,8 @@ returns-clause-page c =
     let t = table_at store place.table in
     let rows = c.in_ok-rows.rows in
     let q = c.args.query.now in
-    let P : Relation → Type 0 = λ r. rows ≡ relation_content store r q.version in
-    let content : c.content-content.result.now ≡ content_at store t q.version = c.content-content.ensures.rows ∙ ap (content_at store t) c.version.ensures in
+    let P : Relation → Type 0 = λ r. rows ≡ relation_content r q.version in
+    let content : c.content-content.result.now ≡ content_at t q.version = c.content-content.ensures.rows ∙ ap (content_at t) c.version.ensures in
     let of = at_view P store place c.in-Some.view c.in-Some.is
     (view_seen P place.table t c.evolving.result.now c.in-Some.view c.evolving.ensures (rw c.evolving.ensures (at_some (λ view. view < length t.lineage.views) place.view c.in-Some.view c.in-Some.is c.requires.there.view))
     (λ v is. at_some (λ v. rows ≡ view_rows (columns_of c.evolving.result.now) v c.content-content.result.now) _ v is c.in_ok-rows.ensures.content ∙ ap (view_rows (columns_of c.evolving.result.now) v) content)) in

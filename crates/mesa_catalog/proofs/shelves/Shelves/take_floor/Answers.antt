@@ -1,0 +1,36 @@
+use Rattle.std.proofs.Common.{◌∙◌, ◌<◌, ap, arith, length, map, subst, sym}
+use Rattle.std.specs.Prelude.{nat_le, nat_lt}
+use Rattle.std.specs.List.{AllByRecursion}
+use Rattle.std.proofs.lemmas.Bool.Decides.{nat_tests}
+use Rattle.std.proofs.lemmas.List.{with_items_is}
+use Rattle.mesa_image_laws.specs.mesa_image.Catalog.{stock_from}
+use Rattle.mesa_shelf.specs.Meaning.{IsTable, stock_of}
+use Rattle.mesa_catalog.specs.Meaning.{catalogue_of}
+use Rattle.mesa_catalog.specs.Readied.{record_in}
+use Rattle.mesa_catalog.specs.declared.ready.Ready.TheVariants as ready_of
+use Rattle.mesa_catalog.proofs.Applies.{kind_of_fits}
+use Rattle.mesa_shelf.proofs.Tests.{both}
+use Rattle.mesa_catalog.proofs.shelves.Shelves.take_floor.Goals as goal
+
+pub returns-clause-applied : goal.returns-clause-applied
+returns-clause-applied c =
+    let s = c.args.self.now in
+    let items = with_items_is s.tables c.expire_tables.new.tables (omega arith) in
+    let tables = ap (map (stock_of s.next)) items ∙ c.expire_tables.ensures.stocks s.next ∙ ap (λ ts. map (stock_from c.args.version) (map (stock_of s.next) ts)) c.deref_mut.ensures.value in
+    λ i. record { tables = tables i; floor = c.args.version; next = s.next; run = s.run }
+
+pub returns-clause-shelved : goal.returns-clause-shelved
+returns-clause-shelved c =
+    let s = c.args.self.now in
+    let version = c.args.version in
+    let room = (both (nat_le s.floor version) (nat_lt version s.next) (kind_of_fits (catalogue_of s) (record_in (ready_of.Expire version)) c.requires.ready.fits)).1 in
+    let below : version < s.next = grind (arith, nat_tests) in
+    let few = c.requires.shelved.few in
+    let items = with_items_is s.tables c.expire_tables.new.tables (omega arith) in
+    let count = ap length items in
+    record {
+      few = omega arith;
+      most = c.requires.shelved.most;
+      floor = omega (arith, below);
+      tables = subst (AllByRecursion (IsTable s.next)) (sym items) (c.expire_tables.ensures.tables s.next below (subst (AllByRecursion (IsTable s.next)) (sym c.deref_mut.ensures.value) c.requires.shelved.tables));
+    }
