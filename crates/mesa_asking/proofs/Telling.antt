@@ -122,14 +122,14 @@ module _ (o : Outset) (g : Origin) (sound : Bool) (l : Ledger) (story : Story) (
       let shaped = asked_shaped o g sound l story held h running refused v session words.version c has.asked in
       let read = asked_read image told session words.version c has.asked in
       let there = name_there c words.relation f.relation has.relation in
-      let range = version_range l session words c has.asked f.query.version has.sees shaped v.versions in
+      let range = version_range l session words c has.asked f.relation.table f.query.version there.0 has.version shaped v.versions in
       let rowed : AreBooksOf true (books_of v.rows l) s = record { skeleton = are.skeleton; machine = are.machine; rows = λ yes. are.rows ok; pins = λ yes. are.pins ok } in
-      let sees = sees_state l session words c has.asked f.query.version has.sees v.rows range.0 range.1 s rowed in
+      let sees = sees_state l session words c has.asked f.relation.table f.query.version there.0 has.version has.sees v.rows range.0 range.1 s rowed in
       let found : Ok (answer_found sees.sees.store f) ≡ Ok answer = sym (has.answered s.warehouse session sees.sees) ∙ is in
       let same : answer_found sees.sees.store f ≡ answer = cc in
-      let columns = seen_columns v.rows c f.query.version sees.sees.store sees.has f.relation there.0 in
-      let content = seen_content v.rows c f.query.version sees.sees.store sees.has f.relation there.0 in
-      pinned_tells bytes faults story.told t f p has.files there.1 v.rows image told c.oldest c.next (all_at (IsShaped c.oldest c.next) c.tables f.relation.table no_stock shaped.tables there.0) (all_at (IsStocked v.rows) c.tables f.relation.table no_stock read.stocked there.0)
+      let columns = seen_columns v.rows c f.query.version sees.sees.store f.relation sees.has in
+      let content = seen_content v.rows c f.query.version sees.sees.store f.relation sees.has in
+      pinned_tells bytes faults story.told t f p has.files there.1 v.rows image told c.floor c.next (all_at (IsShaped c.floor c.next) c.tables f.relation.table no_stock shaped.tables there.0) (all_at (IsStocked v.rows) c.tables f.relation.table no_stock read.stocked there.0)
       (stock_given v.rows c image f.relation.table read.stocked read.has there.0) answer
       (ap (λ (a : Answer). a.page) (sym same) ∙ (λ j. page_of f.query.version f.query.limit f.query.resume (answer_rows (columns j) f.query.asked (content j))))
       (ap (λ (a : Answer). a.heading) (sym same))

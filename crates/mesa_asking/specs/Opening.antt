@@ -2,7 +2,7 @@
 use Rattle.std.specs.Prelude.{◌≡◌, ℕ, List, map, Bool, false, Option, None, Some, Result, Ok, Err}
 use Rattle.mesa_asked.specs.declared.failure.Failure.{Failure as AskedFailure}
 use Rattle.mesa_asked.specs.declared.failure.Failure.TheVariants as asked
-use Rattle.mesa_asking.specs.Seeing.{catalogue_asked}
+use Rattle.mesa_asking.specs.Seeing.{catalogue_asked, pinned_asked}
 use Rattle.mesa_catalog.specs.Lookups.{relation_of}
 use Rattle.mesa_disk.specs.Image.{Image}
 use Rattle.mesa_filter.specs.declared.words.QueryWords.{QueryWords}
@@ -18,7 +18,7 @@ use Rattle.mesa_model.specs.declared.replies.Reply.TheVariants as reply
 use Rattle.mesa_ledger.specs.mesa_image_laws.Planned.{planned}
 use Rattle.mesa_pinning.specs.Read.{IsPinnedFor, SomeUnsound, relation_read}
 use Rattle.mesa_pinning.specs.mesa_plans.Files.{want_in}
-use Rattle.mesa_rules.specs.Found.{IsAnswered, Sees}
+use Rattle.mesa_rules.specs.Found.{IsAnswered, Sees, version_in}
 use Rattle.mesa_rules.specs.declared.found.Found.{Found}
 use Rattle.mesa_skeleton.specs.Rows.{no_rows}
 use Rattle.mesa_tasks.specs.declared.querying.Pinned.{Pinned}
@@ -41,14 +41,15 @@ asked_ledger l session asks.Latest position = queried_ledger l session (hold_now
 asked_ledger l session (asks.At version) position = queried_ledger l session (hold_now l position)
 asked_ledger l session (asks.Pin token) position = l
 
--- A session's query has the files of what it finds in the catalogue that it sees.
+-- A session's query has the files of what it finds in the catalogue that it sees, at the version that it asks of its table.
 pub record HasItsFiles {R : Type 0} (bytes : R → Option (List ℕ)) (faults : R → ℕ) (told : Option Image) (l : Ledger) (session : ℕ) (words : QueryWords) (p : Pinned R) : Type 0 where
   pub catalogue : Catalog
   pub asked : catalogue_asked l session words.version ≡ Some catalogue
   pub found : Found
-  pub sees : Sees catalogue (Ok found.query.version) words session (books_of no_rows l).bare
+  pub sees : Sees catalogue (pinned_asked l session words.version) words session (books_of no_rows l).bare
   pub relation : relation_of catalogue words.relation ≡ Some found.relation
-  pub answered : IsAnswered catalogue (Ok found.query.version) words found
+  pub version : version_in catalogue (pinned_asked l session words.version) words.version found.relation.table ≡ Ok found.query.version
+  pub answered : IsAnswered catalogue (pinned_asked l session words.version) words found
   pub files : IsPinnedFor bytes faults told (stock_at catalogue found.relation.table) found p
 
 -- Of the files of what a session's query finds in the catalogue that it sees, one isn't the recorded one.

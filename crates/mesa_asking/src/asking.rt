@@ -2,12 +2,12 @@
 ghost use Rattle.std.specs.Prelude.{◌≡◌, None, Ok, Some, IfErr, IfOk};
 ghost use Rattle.mesa_asked.specs.Told.{IsDue};
 ghost use Rattle.mesa_asked.specs.declared.failure.Failure.TheVariants.{Memory as WantOfMemory};
-ghost use Rattle.mesa_asking.specs.Seeing.{catalogue_asked};
+ghost use Rattle.mesa_asking.specs.Seeing.{catalogue_asked, pinned_asked};
 ghost use Rattle.mesa_catalog.specs.Lookups.{relation_of};
 ghost use Rattle.mesa_filter.specs.Query.{IsQueryOf};
 ghost use Rattle.mesa_ledger.specs.Ledger.{books_of};
 ghost use Rattle.mesa_model.specs.Query.{query_answer};
-ghost use Rattle.mesa_rules.specs.Found.{IsAnswered, Sees, columns_at};
+ghost use Rattle.mesa_rules.specs.Found.{IsAnswered, Sees, columns_at, version_in};
 ghost use Rattle.mesa_skeleton.specs.Rows.{Rows};
 
 use crate::{Seen, seen_by};
@@ -31,15 +31,16 @@ pub fn ask<'a>(
     session: u16,
     words: &QueryWords,
 ) -> Result<Asked<'a>, Failure>
-    ensures sees { IfOk result (λ a. (rows : Rows) → Sees a.catalog.now.catalogue (Ok a.found.query.version) words.now session (books_of rows metadata.now.ledger).bare) }
+    ensures sees { IfOk result (λ a. (rows : Rows) → Sees a.catalog.now.catalogue (pinned_asked metadata.now.ledger session words.now.version) words.now session (books_of rows metadata.now.ledger).bare) }
     ensures catalogue { IfOk result (λ a. catalogue_asked metadata.now.ledger session words.now.version ≡ Some a.catalog.now.catalogue) }
     ensures relation { IfOk result (λ a. relation_of a.catalog.now.catalogue words.now.relation ≡ Some a.found.relation) }
+    ensures version { IfOk result (λ a. version_in a.catalog.now.catalogue (pinned_asked metadata.now.ledger session words.now.version) words.now.version a.found.relation.table ≡ Ok a.found.query.version) }
     ensures sound { IfOk result (λ a. IsQueryOf (columns_at a.catalog.now.catalogue a.found.relation) a.found.query) }
-    ensures answered { IfOk result (λ a. IsAnswered a.catalog.now.catalogue (Ok a.found.query.version) words.now a.found) }
+    ensures answered { IfOk result (λ a. IsAnswered a.catalog.now.catalogue (pinned_asked metadata.now.ledger session words.now.version) words.now a.found) }
     ensures refused { IfErr result (λ failure. (rows : Rows) → IsDue (query_answer (books_of rows metadata.now.ledger).bare session words.now) failure) }
     ensures opened { IfErr result (λ failure. failure ≡ WantOfMemory → metadata.now.ledger.closed ≡ None) }
 {
-    let Seen { catalog, version } = seen_by(metadata, session, words.version)?;
-    let found = mesa_rules::query(alloc, catalog, version, words)?;
+    let Seen { catalog, pinned } = seen_by(metadata, session, words.version)?;
+    let found = mesa_rules::query(alloc, catalog, pinned, words)?;
     Ok(Asked { catalog, found })
 }

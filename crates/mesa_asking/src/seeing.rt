@@ -1,6 +1,6 @@
 // What a query sees of a vault.
 ghost use Rattle.std.specs.Prelude.{◌≡◌, ℕ, Err, IfErr, IfOk, None, Some};
-ghost use Rattle.mesa_asking.specs.Seeing.{SeesBooks, catalogue_asked};
+ghost use Rattle.mesa_asking.specs.Seeing.{SeesBooks, catalogue_asked, pinned_asked};
 ghost use Rattle.mesa_filter.specs.declared.words.QueryWords.{QueryWords as AnyWords};
 ghost use Rattle.mesa_ledger.specs.Ledger.{books_of};
 ghost use Rattle.mesa_model.specs.Query.{query_answer};
@@ -11,10 +11,10 @@ use mesa_filter::VersionWord;
 use mesa_metadata::Metadata;
 use mesa_model::Refusal;
 
-/// The tables that a query sees, and the version of them that it asks, or why there is none.
+/// The tables that a query sees, and where they are a pin's, its version, which is asked of each of them.
 pub struct Seen<'a> {
     pub catalog: &'a Catalog,
-    pub version: Result<u32, Refusal>,
+    pub pinned: Option<u32>,
 }
 
 /// What a session's query sees: the tables of the pin that it names, as they were pinned, or the present ones.
@@ -25,21 +25,23 @@ pub fn seen_by<'a>(
 ) -> Result<Seen<'a>, Refusal>
     ensures sees { IfOk result (λ seen. (rows : Rows) (words : AnyWords) → words.version ≡ asked → SeesBooks seen words session (books_of rows metadata.now.ledger)) }
     ensures catalogue { IfOk result (λ seen. catalogue_asked metadata.now.ledger session asked ≡ Some seen.catalog.now.catalogue) }
+    ensures pinned { IfOk result (λ seen. seen.pinned ≡ pinned_asked metadata.now.ledger session asked) }
     ensures refused { IfErr result (λ x. (rows : Rows) (words : AnyWords) → words.version ≡ asked → query_answer (books_of rows metadata.now.ledger).bare session words ≡ Err x) }
 {
     if let Some(position) = metadata.closed() {
         return Err(Refusal::Closed { position });
     }
     let VersionWord::Pin(token) = asked else {
-        let catalog = metadata.catalog();
-        let version = mesa_rules::version_asked(catalog, asked);
-        return Ok(Seen { catalog, version });
+        return Ok(Seen {
+            catalog: metadata.catalog(),
+            pinned: None,
+        });
     };
     let Some(pin) = metadata.pin_of(session, token) else {
         return Err(Refusal::NoPin { token });
     };
     Ok(Seen {
         catalog: &pin.copy,
-        version: Ok(pin.version),
+        pinned: Some(pin.version),
     })
 }

@@ -46,14 +46,17 @@ pub record IsPlanReply (r : Reply) : Type 0 where
   pub granted : is_refusal r ≡ false
 
 pub plan_told : (w : Warehouse) (m : Machine) (words : ExplainWords) (r : Reply) → explained w m words ≡ Ok r → IsPlanReply r
-plan_told w m words r is = by w.closed (ok_or (relation_of w.store words.relation) no_such_table) (version_asked w words.version) is
+plan_told w m words r is = by w.closed (ok_or (relation_of w.store words.relation) no_such_table) is
   where
-    by : (o : Option ℕ) (q : Result Relation Refusal) (v : Result ℕ Refusal) → (refuse_closed o >> (q >>= (λ relation. v >>= (λ version. Ok (reply.Spans (plan (ranges_at m relation.number) version)))))) ≡ Ok r → IsPlanReply r
-    by (Some p) q v e = absurd cc
-    by None (Err x) v e = absurd cc
-    by None (Ok relation) (Err x) e = absurd cc
-    by None (Ok relation) (Ok version) e =
+    at : (relation : Relation) (v : Result ℕ Refusal) → (v >>= (λ version. Ok (reply.Spans (plan (ranges_at m relation.number) version)))) ≡ Ok r → IsPlanReply r
+    at relation (Err x) e = absurd cc
+    at relation (Ok version) e =
         let same : reply.Spans (plan (ranges_at m relation.number) version) ≡ r = cc in record { plain = ap is_plain (sym same); silent = ap is_written (sym same); granted = ap is_refusal (sym same) }
+
+    by : (o : Option ℕ) (q : Result Relation Refusal) → (refuse_closed o >> (q >>= (λ relation. version_asked w relation.table.oldest words.version >>= (λ version. Ok (reply.Spans (plan (ranges_at m relation.number) version)))))) ≡ Ok r → IsPlanReply r
+    by (Some p) q e = absurd cc
+    by None (Err x) e = absurd cc
+    by None (Ok relation) e = at relation (version_asked w relation.table.oldest words.version) e
 
 -- the vault behind it
 pub explained_vault : (o : Outset) (g : Origin) (sound : Bool) (l : Ledger) (story : Story) (held : Option (List ℕ)) (h : List Entry) (running refused : Bool) → IsVault o g sound l story held h running refused

@@ -1,7 +1,7 @@
-use Rattle.std.proofs.Common.{refl, subst}
+use Rattle.std.proofs.Common.{◌≡◌, ℕ, refl, subst, Option, Ok}
 use Rattle.std.proofs.lemmas.Result.{err_from_is_err_and}
 use Rattle.mesa_ledger.specs.Ledger.{books_of}
-use Rattle.mesa_rules.specs.Found.{IsAnswered, Sees}
+use Rattle.mesa_rules.specs.Found.{IsAnswered, Sees, version_in}
 use Rattle.mesa_skeleton.specs.Rows.{no_rows}
 use Rattle.mesa_asking.proofs.asking.ask.Goals as goal
 
@@ -17,10 +17,14 @@ returns-in_err-found-clause-refused c =
 
 pub returns-clause-sees : goal.returns-clause-sees
 returns-clause-sees c rows =
-    subst (λ v. Sees c.in_ok-catalog.field-0.catalog.now.catalogue v c.args.words.now c.args.session (books_of rows c.args.metadata.now.ledger).bare) c.in_ok-found.ensures.version (c.in_ok-catalog.ensures.sees rows c.args.words.now refl)
+    subst (λ (p : Option ℕ). Sees c.in_ok-catalog.field-0.catalog.now.catalogue p c.args.words.now c.args.session (books_of rows c.args.metadata.now.ledger).bare) c.in_ok-catalog.ensures.pinned (c.in_ok-catalog.ensures.sees rows c.args.words.now refl)
+
+pub returns-clause-version : goal.returns-clause-version
+returns-clause-version c =
+    subst (λ (p : Option ℕ). version_in c.in_ok-catalog.field-0.catalog.now.catalogue p c.args.words.now.version c.in_ok-found.found.relation.table ≡ Ok c.in_ok-found.found.query.version) c.in_ok-catalog.ensures.pinned c.in_ok-found.ensures.version
 
 pub returns-clause-answered : goal.returns-clause-answered
-returns-clause-answered c = subst (λ v. IsAnswered c.in_ok-catalog.field-0.catalog.now.catalogue v c.args.words.now c.in_ok-found.found) c.in_ok-found.ensures.version c.in_ok-found.ensures.answered
+returns-clause-answered c = subst (λ (p : Option ℕ). IsAnswered c.in_ok-catalog.field-0.catalog.now.catalogue p c.args.words.now c.in_ok-found.found) c.in_ok-catalog.ensures.pinned c.in_ok-found.ensures.answered
 
 pub returns-in_err-catalog-clause-opened : goal.returns-in_err-catalog-clause-opened
 returns-in_err-catalog-clause-opened c =

@@ -38,7 +38,7 @@ open_files-requires-clause-table g c κs within =
     let k = c.in-Ok.asked.catalog.now.catalogue in
     let f = c.in-Ok.asked.found in
     let there = name_there k c.args.words.now.relation f.relation c.in-Ok.ensures.relation in
-    let shaped = all_at (IsShaped k.oldest k.next) k.tables f.relation.table no_stock (c.requires k c.in-Ok.ensures.catalogue).tables there.0 in
+    let shaped = all_at (IsShaped k.floor k.next) k.tables f.relation.table no_stock (c.requires k c.in-Ok.ensures.catalogue).tables there.0 in
     (k.next, c.table-table.ensures.few, c.table-table.ensures.held, subst (λ (u : Stock). AllByRecursion (λ (d : Delta). d.epoch ≤ epoch_of u.lineage) (deltas_of u)) (sym c.table-table.ensures.stock) shaped.epochs)
 
 pub open_files-requires-clause-view : goal.open_files-requires-clause-view
@@ -70,6 +70,7 @@ returns-in-Ok-open_files-clause-files g c =
       found = f;
       sees = c.in-Ok.ensures.sees no_rows;
       relation = c.in-Ok.ensures.relation;
+      version = c.in-Ok.ensures.version;
       answered = c.in-Ok.ensures.answered;
       files = subst (λ (u : Stock). IsPinnedFor g.D.Reader.FileReader.bytes g.D.Reader.FileReader.faults (g.D.Disk.story c.args.disk.now).told u f c.in-Ok-open_files.pinned) c.table-table.ensures.stock (c.in-Ok-open_files.ensures.files k.next c.table-table.ensures.held);
     }
