@@ -1,5 +1,5 @@
 // Versions that are asked for.
-ghost use Rattle.std.specs.Prelude.{◌≡◌, ◌≤◌, ◌<◌, ◌-◌, ℕ, max, None, Some, Ok, Err, IfOk, IfErr, OnOk, length};
+ghost use Rattle.std.specs.Prelude.{◌≡◌, ◌≤◌, ◌<◌, ◌-◌, ℕ, None, Some, Ok, Err, IfOk, IfErr, OnOk, length};
 ghost use Rattle.mesa_record.specs.declared.record.Record.TheVariants as record_of;
 ghost use Rattle.mesa_model.specs.declared.replies.Reply.TheVariants as reply;
 ghost use Rattle.mesa_model.specs.Pins.{make_pin, next_token, with_pin};
@@ -79,16 +79,9 @@ fn common_oldest(catalog: &Catalog) -> u32
 {
     let mut found = catalog.floor();
     for table in 0..catalog.tables() {
-        found = greater(found, catalog.oldest(table));
+        found = found.max(catalog.oldest(table));
     }
     found
-}
-
-// The greater of two numbers.
-fn greater(a: u32, b: u32) -> u32
-    ensures { result ≡ max a b }
-{
-    if a < b { b } else { a }
 }
 
 /// The version that is asked for where this one is the oldest, or its refusal. A pin's version is asked of the pin.

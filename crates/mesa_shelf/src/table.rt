@@ -1,5 +1,5 @@
 // A table as the catalogue holds it.
-ghost use Rattle.std.specs.Prelude.{◌≡◌, ◌<◌, ◌≤◌, ◌^◌, ℕ, max, option_map};
+ghost use Rattle.std.specs.Prelude.{◌≡◌, ◌<◌, ◌≤◌, ◌^◌, ℕ, option_map};
 ghost use Rattle.mesa_image.specs.Catalog.{stock_from};
 ghost use Rattle.mesa_shelf.specs.declared.table.Base.{Base as BaseOf};
 ghost use Rattle.mesa_shelf.specs.Meaning.{IsTable, start_of_base, stock_of};
@@ -75,7 +75,7 @@ impl Table {
         ensures table { (next : ℕ) → version < next → IsTable next self.old → IsTable next self.new }
         ensures spare { HasSpare self.old → HasSpare self.new }
     {
-        self.oldest = greater(self.oldest, version);
+        self.oldest = self.oldest.max(version);
     }
 
     /// The last version of the base.
@@ -84,11 +84,4 @@ impl Table {
     {
         self.base.as_ref().map(|base| base.to)
     }
-}
-
-// The greater of two numbers.
-fn greater(a: u32, b: u32) -> u32
-    ensures { result ≡ max a b }
-{
-    if a < b { b } else { a }
 }

@@ -104,7 +104,7 @@ fn greatest(floor: u32, oldests: &[u32]) -> u32
 {
     let mut found = floor;
     'oldests: for oldest in oldests {
-        found = greater(found, *oldest);
+        found = found.max(*oldest);
     }
     found
 }
@@ -114,16 +114,9 @@ fn raise(oldests: &mut Items<u32>, version: u32)
     ensures { oldests.new ≡ map (λ oldest. max oldest version) oldests.old }
 {
     'tables: for number in 0..oldests.len() {
-        let oldest = greater(oldests.as_slice()[number], version);
+        let oldest = oldests.as_slice()[number].max(version);
         *oldests.at_mut(number) = oldest;
     }
-}
-
-// The greater of two numbers.
-fn greater(a: u32, b: u32) -> u32
-    ensures { result ≡ max a b }
-{
-    if a < b { b } else { a }
 }
 
 // A number so many times.

@@ -9,7 +9,7 @@ pub loop-table-preserved : goal.loop-table-preserved
 loop-table-preserved c =
     let cat = c.args.catalog.now.catalogue in
     let within : c.loop-table.table < length cat.tables = omega arith in
-    ap (λ f. greatest_in f (drop (c.loop-table.table + 1) cat.tables)) (c.greater-found.ensures ∙ ap (max c.loop-table.found) c.oldest.ensures)
+    ap (λ f. greatest_in f (drop (c.loop-table.table + 1) cat.tables)) (c.max-found.ensures ∙ ap (max c.loop-table.found) c.oldest.ensures)
     ∙ greatest_step c.loop-table.found cat.tables c.loop-table.table (greatest_in cat.floor cat.tables) within c.loop-table.invariant
 
 pub returns : goal.returns
