@@ -81,8 +81,8 @@ ends_behind start (e ∷ es) is rise =
     let first : e.to ≡ start + 10 * 0 + 9 = cc in
     (omega (arith, first), rise.1)
 
-table_ordered : (oldest next : ℕ) (t : Stock) → IsShaped oldest next t → are_ordered (checked_ranges t) ≡ true
-table_ordered oldest next t shaped = by t.base (start_in t) refl (ends_behind (start_in t) t.cumulatives shaped.reachable (reachable_in_order (ranges_of t) shaped.reachable))
+table_ordered : (floor next : ℕ) (t : Stock) → IsShaped floor next t → are_ordered (checked_ranges t) ≡ true
+table_ordered floor next t shaped = by t.base (start_in t) refl (ends_behind (start_in t) t.cumulatives shaped.reachable (reachable_in_order (ranges_of t) shaped.reachable))
   where
     by : (b : Option Ending) (start : ℕ) → start_behind (option_map end_in b) ≡ start → Rise (start + 1) (map end_in t.cumulatives)
         → are_ordered (base_range b ++ (take 1 (single_ranges start t.singles) ++ (map (cumulative_range start) t.cumulatives ++ drop 1 (single_ranges start t.singles)))) ≡ true
@@ -93,4 +93,4 @@ table_ordered oldest next t shaped = by t.base (start_in t) refl (ends_behind (s
         are_so None (base_range (Some b) ++ (take 1 (single_ranges start t.singles) ++ (map (cumulative_range start) t.cumulatives ++ drop 1 (single_ranges start t.singles)))) (tt, all)
 
 pub ranges_ordered : RangesAreOrdered
-ranges_ordered c is = all_so (IsShaped c.oldest c.next) (λ (t : Stock). are_ordered (checked_ranges t) ≡ true) c.tables (λ t its. table_ordered c.oldest c.next t its) is.tables
+ranges_ordered c is = all_so (IsShaped c.floor c.next) (λ (t : Stock). are_ordered (checked_ranges t) ≡ true) c.tables (λ t its. table_ordered c.floor c.next t its) is.tables

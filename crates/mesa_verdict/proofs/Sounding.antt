@@ -81,7 +81,7 @@ key_none false o e is = absurd cc
 
 -- ---- a table
 
-module _ (found : Found) (i : Image) (oldest next : ℕ) (t : Stock) (shaped : IsShaped oldest next t) (its : AllByRecursion (λ (x : Shelved). IsFoundAs i x (found x.file.id)) (stock_shelved t))
+module _ (found : Found) (i : Image) (floor next : ℕ) (t : Stock) (shaped : IsShaped floor next t) (its : AllByRecursion (λ (x : Shelved). IsFoundAs i x (found x.file.id)) (stock_shelved t))
     (all : AllByRecursion (IsSilent found t) (checked_ranges t)) where
   abbrev rows : Rows
   rows = rows_found found

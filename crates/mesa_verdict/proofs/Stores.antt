@@ -32,10 +32,10 @@ sound_found i c rows has all =
 module _ (i : Image) (found : Found) (c : Catalog) (is : IsCatalog c) (are : AreFound i found (shelved c)) (none : first_fault found c ≡ None) where
   -- a table's shape and its files, as they were found
   abbrev IsRead : Stock → Type 0
-  IsRead t = IsShaped c.oldest c.next t × AllByRecursion (λ (x : Shelved). IsFoundAs i x (found x.file.id)) (stock_shelved t)
+  IsRead t = IsShaped c.floor c.next t × AllByRecursion (λ (x : Shelved). IsFoundAs i x (found x.file.id)) (stock_shelved t)
 
   read : AllByRecursion IsRead c.tables
-  read = all_both (IsShaped c.oldest c.next) (λ t. AllByRecursion (λ (x : Shelved). IsFoundAs i x (found x.file.id)) (stock_shelved t)) IsRead c.tables (λ t a b. (a, b)) is.tables (all_unflat (λ (x : Shelved). IsFoundAs i x (found x.file.id)) stock_shelved c.tables are)
+  read = all_both (IsShaped c.floor c.next) (λ t. AllByRecursion (λ (x : Shelved). IsFoundAs i x (found x.file.id)) (stock_shelved t)) IsRead c.tables (λ t a b. (a, b)) is.tables (all_unflat (λ (x : Shelved). IsFoundAs i x (found x.file.id)) stock_shelved c.tables are)
 
   silent_all : AllByRecursion (λ t. AllByRecursion (IsSilent found t) (checked_ranges t)) c.tables
   silent_all = all_so (λ t. table_faults found t ≡ []) (λ t. AllByRecursion (IsSilent found t) (checked_ranges t)) c.tables
@@ -43,10 +43,10 @@ module _ (i : Image) (found : Found) (c : Catalog) (is : IsCatalog c) (are : Are
       (flat_nil (table_faults found) c.tables (none_first (faults found c) none))
 
   all_stocked : AreStocked (rows_found found) c
-  all_stocked = all_both IsRead (λ t. AllByRecursion (IsSilent found t) (checked_ranges t)) (IsStocked (rows_found found)) c.tables (λ t a b. stocked found i c.oldest c.next t a.0 a.1 b) read silent_all
+  all_stocked = all_both IsRead (λ t. AllByRecursion (IsSilent found t) (checked_ranges t)) (IsStocked (rows_found found)) c.tables (λ t a b. stocked found i c.floor c.next t a.0 a.1 b) read silent_all
 
   all_there : AllByRecursion (IsThere i found) (shelved c)
-  all_there = all_flat (IsThere i found) stock_shelved c.tables (all_both IsRead (λ t. AllByRecursion (IsSilent found t) (checked_ranges t)) (λ t. AllByRecursion (IsThere i found) (stock_shelved t)) c.tables (λ t a b. files_are found i c.oldest c.next t a.0 a.1 b) read silent_all)
+  all_there = all_flat (IsThere i found) stock_shelved c.tables (all_both IsRead (λ t. AllByRecursion (IsSilent found t) (checked_ranges t)) (λ t. AllByRecursion (IsThere i found) (stock_shelved t)) c.tables (λ t a b. files_are found i c.floor c.next t a.0 a.1 b) read silent_all)
 
   pub has_sound : HasSoundFiles i c
   has_sound = (rows_found found, all_map (λ (w : ℕ × List ℕ). file_of i w.0 ≡ Some w.1) (wanted (rows_found found)) (shelved c) (all_so (IsThere i found) (λ (x : Shelved). file_of i x.file.id ≡ Some (Rattle.mesa_image.specs.Sound.bytes_of (rows_found found) x)) (shelved c) (λ x its. its.0) all_there), all_stocked)

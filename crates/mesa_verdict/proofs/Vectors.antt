@@ -49,11 +49,12 @@ store total = record {
     name = codes "t";
     lineage = lineage;
     totals = total ∷ [];
+    oldest = 0;
     base = None;
     cumulatives = record { to = 9; delta = merged 30 31 } ∷ [];
     singles = single 10 11 5 ∷ single 20 21 13 ∷ replicate 8 empty_delta;
   } ∷ [];
-  oldest = 0;
+  floor = 0;
   next = 10;
   run = 1;
 }
