@@ -123,7 +123,7 @@ among_there : (floor next : ℕ) (tables : List Stock) → AllByRecursion (IsSha
 among_there floor next [] all there = there
 among_there floor next (t ∷ tables) all there =
     elim (among_there floor next tables all.1 there) [
-      | inl low ↦ inl (elim all.0.oldest as (λ _. oldest_among floor (map skeleton_of (t ∷ tables)) < next) [ inl own ↦ omega (arith, own, low) | inr empty ↦ (let none = empty.1 in omega (arith, none, low)) ])
+      | inl low ↦ inl (elim all.0.oldest [ inl own ↦ omega (arith, own, low) | inr empty ↦ (let none = empty.1 in omega (arith, none, low)) ])
       | inr empty ↦ (let zero = empty.0 in let none = empty.1 in elim all.0.oldest [ inl own ↦ absurd (omega (arith, own, none)) | inr its ↦ (let first = its.0 in inr (omega (arith, first, zero), none)) ])
     ]
 
