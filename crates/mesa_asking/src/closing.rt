@@ -87,6 +87,8 @@ pub fn close_query<N: Naming, M: Made, D: Disk<M>, K: Sink>(
     requires undamaged { (w : Rows) → N.sound w → is_damaged (closing_outcome (cause_if answered)) ≡ false }
     requires room { length engine.old.shown.history < N.room }
     ensures turn { Takes N.script (N.start no_rows) engine.old.shown engine.new.shown who.session who.command kind.Close Finished }
+    // It ends as its answer says: with want of memory, a fault or damage only where that has it.
+    ensures outcome { engine.old.shown.running ≡ true → engine.new.shown.history ≡ engine.old.shown.history ++ closing_entry who.session who.command answered engine.new.shown.clock ∷ [] }
     // What the query held is given back, unless the sink had failed.
     ensures ledger { engine.old.shown.running ≡ true → engine.new.ledger ≡ answered_ledger engine.old.ledger (is_of_another who.session) }
     ensures catalogue { engine.new.ledger.catalogue ≡ engine.old.ledger.catalogue }

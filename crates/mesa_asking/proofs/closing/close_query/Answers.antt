@@ -1,4 +1,4 @@
-use Rattle.std.proofs.Common.{◌≡◌, ◌∷◌, ◌++◌, [], true, not, refl, sym, ◌∙◌, ap, subst}
+use Rattle.std.proofs.Common.{◌≡◌, ◌∷◌, ◌++◌, [], true, false, not, refl, sym, ◌∙◌, ap, subst}
 use Rattle.mesa_history.specs.Run.{Answered, Finished}
 use Rattle.mesa_model.specs.Query.{Answer}
 use Rattle.mesa_model.specs.declared.commands.Command.TheVariants as command
@@ -79,3 +79,15 @@ returns-clause-turn g c =
     (λ (answer : Answer). N.sound no_rows → IsPageOf c.args.answered c.args.pinned.version answer) (due_at g c no_rows) (cause_if c.args.answered)
     (c.print.ensures.items ∙ ap (λ x. h ++ closing_entry s number c.args.answered x ∷ []) c.clock-moment.ensures) (runs g c)
     (vault_at_seen n c.close_query.new.self.ledger new_story (g.K.Sink.held later.printer.sink) later.history.items (not later.printer.broken) later.refused new_story.moment (kept g c).vault))
+
+pub returns-then-not-running-clause-outcome : goal.returns-then-not-running-clause-outcome
+returns-then-not-running-clause-outcome g c on = absurd (let no : true ≡ false = sym on ∙ sym c.running.ensures ∙ c.if-not-running.true in cc)
+
+pub returns-clause-outcome : goal.returns-clause-outcome
+returns-clause-outcome g c on =
+    let h = c.engine.inside.log.history.items in
+    let s = c.args.who.session in
+    let number = c.args.who.command in
+    let now = (g.D.Disk.story c.retire_pinned.new.disk).moment in
+    subst (λ (x : Standing). c.print.new.log.history.items ≡ x.shown.history ++ closing_entry s number c.args.answered now ∷ []) c.engine.view_is
+    (c.print.ensures.items ∙ ap (λ x. h ++ closing_entry s number c.args.answered x ∷ []) c.clock-moment.ensures)

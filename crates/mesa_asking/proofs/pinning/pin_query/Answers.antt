@@ -1,5 +1,5 @@
 use Rattle.std.proofs.Common.{◌≡◌, List, [], ◌∷◌, ◌++◌, length, true, false, not, refl, sym, ◌∙◌, ap, subst}
-use Rattle.mesa_asking.specs.Opening.{asked_ledger}
+use Rattle.mesa_asking.specs.Opening.{HasItsFiles, asked_ledger}
 use Rattle.mesa_asking.proofs.Opens.{opened_engine, unopened_engine, unopened_takes}
 use Rattle.mesa_asking.proofs.Telling.{asked_shaped, files_answered, opened_is, opened_undamaged}
 use Rattle.mesa_asking.proofs.pinning.pin_query.Goals as goal
@@ -118,6 +118,10 @@ returns-in-Ok-clause-held g c =
     ap (λ (x : Memory). x.ledger) c.in-Ok.ensures.held
     ∙ ap (asked_ledger c.engine.inside.metadata.ledger s version) c.position-at.ensures
     ∙ ap (λ (x : Standing). asked_ledger x.ledger s version (length x.shown.history)) c.engine.view_is
+
+pub returns-in-Ok-clause-files : goal.returns-in-Ok-clause-files
+returns-in-Ok-clause-files g c =
+    subst (λ (x : Standing). HasItsFiles g.D.Reader.FileReader.bytes g.D.Reader.FileReader.faults x.told x.ledger c.args.who.session c.args.words.now c.in-Ok.pinned) c.engine.view_is c.in-Ok.ensures.files
 
 -- ---- it isn't
 
