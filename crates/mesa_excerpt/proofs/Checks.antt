@@ -15,9 +15,9 @@ module _ {B E : Type 0} (P : Result B E → Type 0) where
   on_unless true e next bad good = good refl
   on_unless false e next bad good = bad
 
-  pub on_some : {A : Type 0} (o : Option A) (e : E) (f : A → Result B E) → P (Err e) → ((x : A) → P (f x)) → P (ok_or o e >>= f)
+  pub on_some : {A : Type 0} (o : Option A) (e : E) (f : A → Result B E) → P (Err e) → ((x : A) → o ≡ Some x → P (f x)) → P (ok_or o e >>= f)
   on_some None e f bad good = bad
-  on_some (Some x) e f bad good = good x
+  on_some (Some x) e f bad good = good x refl
 
   pub on_other : {A D : Type 0} (say : D → E) (r : Result A D) (f : A → Result B E) → ((d : D) → P (Err (say d))) → ((x : A) → P (f x)) → P (refused_as say r >>= f)
   on_other say (Ok x) f bad good = good x

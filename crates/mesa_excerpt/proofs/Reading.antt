@@ -17,7 +17,7 @@ use Rattle.mesa_script.specs.declared.script.Reason.TheVariants as reason
 use Rattle.mesa_script.specs.declared.script.ScriptError.{ScriptError}
 use Rattle.mesa_script.specs.declared.script.ScriptError.TheVariants as bad
 use Rattle.mesa_script.specs.Generated.{draw, generated}
-use Rattle.mesa_script.specs.Items.{EndOfLoad, Item, LeaseOf, NextSession, RowOf, Single, item_of}
+use Rattle.mesa_script.specs.Items.{EndOfLoad, Item, LeaseOf, NextSession, RowOf, Single, expire_words, item_of}
 use Rattle.mesa_script.specs.Records.{Alter, Commit, Expire, Explain, Lease, Name, Pin, Query, Release, Row, Session, Table, View, Work, field, fits_fields, name_of}
 use Rattle.mesa_script.specs.Script.{Read, fits_order, item_at, max_commands, nothing_read, read_from, records_of, script_from, script_of, with_item, with_record}
 use Rattle.mesa_excerpt.specs.Excerpt.{before_last_three, is_unasked}
@@ -85,12 +85,21 @@ says_then : (P : Item → Type 0) {A : Type 0} (r : Result A Reason) (f : A → 
 says_then P (Ok x) f all = all x
 says_then P (Err e) f all = says_none P e
 
+-- a command that is made of a word
+says_of : (P : Item → Type 0) {A : Type 0} (r : Result A Reason) (f : A → Command) → ((x : A) → P (Single (f x))) → Says P ((r >>= (λ x. Ok (f x))) >>= (λ c. Ok (Single c)))
+says_of P (Ok x) f all = says_it P (Single (f x)) (all x)
+says_of P (Err e) f all = says_none P e
+
+expiry_item : (named : Bool) (f : List (List ℕ)) → Says IsPlainItem (expire_words named f >>= (λ c. Ok (Single c)))
+expiry_item false f = says_of IsPlainItem (number_in 0 max_number (field 1 f)) (λ n. command.Expire None n) (λ n. refl)
+expiry_item true f = says_of IsPlainItem (number_in 0 max_number (field 2 f)) (λ n. command.Expire (Some (field 1 f)) n) (λ n. refl)
+
 plain_item : (n : Name) (f : List (List ℕ)) → is_plain_name n ≡ true → Says IsPlainItem (item_of n f)
 plain_item Table f is = says_then IsPlainItem (each_of key_words (entries_of (field 2 f))) _ (λ keys. says_then IsPlainItem (each_of value_words (entries_of (field 3 f))) _ (λ values. says_it IsPlainItem (Single _) refl))
 plain_item View f is = says_it IsPlainItem (Single _) refl
 plain_item Row f is = says_it IsPlainItem (RowOf _) tt
 plain_item Commit f is = says_it IsPlainItem EndOfLoad tt
-plain_item Expire f is = says_then IsPlainItem (number_in 0 max_number (field 1 f)) _ (λ n. says_it IsPlainItem (Single _) refl)
+plain_item Expire f is = expiry_item (length f == 3) f
 plain_item Work f is = says_it IsPlainItem (Single _) refl
 plain_item Lease f is = absurd cc
 plain_item Session f is = absurd cc

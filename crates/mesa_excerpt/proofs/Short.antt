@@ -35,7 +35,7 @@ use Rattle.mesa_model.specs.Refusals.{batch_refusal, no_such_table, refuse_close
 use Rattle.mesa_model.specs.Relations.{is_taken, table_number}
 use Rattle.mesa_model.specs.Step.{done_or_refused}
 use Rattle.mesa_model.specs.Tables.{columns_asked, make_table, make_view, names_are_good, view_of_table_checked}
-use Rattle.mesa_model.specs.Versions.{expire_to, version_checked}
+use Rattle.mesa_model.specs.Versions.{expire_to, table_from, version_checked}
 use Rattle.mesa_model.specs.Warehouse.{Table, Warehouse, max_tables, max_versions, newest_of, table_at}
 use Rattle.mesa_script.specs.Replies.{refusal_text, reply_text}
 use Rattle.mesa_script.specs.Rows.{body_of}
@@ -43,7 +43,7 @@ use Rattle.mesa_excerpt.specs.Lines.{IsUnbroken}
 use Rattle.mesa_excerpt.proofs.Breaks.{decimal_unbroken, name_unbroken, unbroken_both}
 use Rattle.mesa_excerpt.proofs.Checks.{on_check, on_if, on_other, on_other_check, on_some, on_unless}
 use Rattle.mesa_excerpt.specs.Excerpt.{ArePlainColumns, HasPlainNames, IsPlainColumn, IsPlainTable}
-use Rattle.mesa_excerpt.proofs.Names.{chosen_plain, loaded_plain, named_columns, sum_plain, table_plain}
+use Rattle.mesa_excerpt.proofs.Names.{chosen_plain, loaded_plain, named_columns, named_plain, sum_plain, table_plain}
 
 -- a reply without lines behind its head line, and without a line break in it
 pub record IsShort (r : Reply) : Type 0 where
@@ -143,9 +143,9 @@ bounds_short batch number [] all = record { short = λ e is. absurd cc }
 bounds_short batch number (t ∷ tables) all = on_check Bounds (bound_checked t (rows_for number batch)) (bounds_checked batch (number + 1) tables)
     (λ e is. bounds_one e ((bound_short t (rows_for number batch) all.0).short e is)) (bounds_short batch (number + 1) tables all.1)
 
-version_short : (w : Warehouse) (version : ℕ) → Bounds (version_checked w version)
-version_short w version =
-    on_if Bounds (nat_lt version w.store.oldest) (no.Stale version w.store.oldest) _ (bounds_one _ (two_numbers [] _ version w.store.oldest refl refl)) (
+version_short : (w : Warehouse) (oldest version : ℕ) → Bounds (version_checked w oldest version)
+version_short w oldest version =
+    on_if Bounds (nat_lt version oldest) (no.Stale version oldest) _ (bounds_one _ (two_numbers [] _ version oldest refl refl)) (
     last (nat_le w.next version))
   where
     newest : (o : Option ℕ) → IsShortRefusal (no.Future (asks.At version) o)
@@ -192,7 +192,7 @@ module _ (w : Warehouse) (plain : HasPlainNames w.store) where
       closed _ (
       on_unless Does (is_name words.view) _ _ (refusing _ refl) (λ named.
       on_if Does (is_taken w.store words.view) _ _ (refusing _ refl) (
-      on_some Does (table_number w.store words.table) no_such_table _ (refusing _ refl) (λ number.
+      on_some Does (table_number w.store words.table) no_such_table _ (refusing _ refl) (λ number found.
       let t : Table = table_at w.store number in
       let table : IsPlainTable t = table_plain w.store number plain in
       on_check Does (view_of_table_checked t words) _ (λ e is. refusing e ((rules t words table).short e is)) (
@@ -221,11 +221,19 @@ module _ (w : Warehouse) (plain : HasPlainNames w.store) where
         short = record { text = two_numbers [] _ w.next (length placed) refl refl; body = λ heading. refl };
       }))))
 
-  pub expire_does : (version : ℕ) → Does (expire_to w version)
-  expire_does version =
+  pub expire_does : (table : Option (List ℕ)) (version : ℕ) → Does (expire_to w table version)
+  expire_does None version =
       closed _ (
-      on_check Does (version_checked w version) _ (λ e is. refusing e ((version_short w version).short e is)) (
+      on_check Does (version_checked w w.store.floor version) _ (λ e is. refusing e ((version_short w w.store.floor version).short e is)) (
       record {
-        names = all_map IsPlainTable _ w.store.tables plain;
+        names = all_map IsPlainTable (table_from version) w.store.tables plain;
         short = record { text = decimal_unbroken version; body = λ heading. refl };
       }))
+  expire_does (Some name) version =
+      closed _ (
+      on_some Does (table_number w.store name) no_such_table _ (refusing _ refl) (λ number found.
+      on_check Does (version_checked w (table_at w.store number).oldest version) _ (λ e is. refusing e ((version_short w (table_at w.store number).oldest version).short e is)) (
+      record {
+        names = all_set IsPlainTable w.store.tables number (table_from version (table_at w.store number)) (table_plain w.store number plain) plain;
+        short = record { text = numbered (name ++ codes " oldest=") version (unbroken_both name (codes " oldest=") (named_plain w.store name number plain found) refl); body = λ heading. refl };
+      })))

@@ -16,7 +16,7 @@ use Rattle.mesa_model.specs.declared.replies.Refusal.TheVariants as no
 use Rattle.mesa_model.specs.declared.replies.Reply.{Reply}
 use Rattle.mesa_model.specs.declared.replies.Reply.TheVariants as reply
 use Rattle.mesa_model.specs.Refusals.{refuse_closed}
-use Rattle.mesa_model.specs.Warehouse.{newest_of}
+use Rattle.mesa_model.specs.Warehouse.{newest_of, table_at}
 use Rattle.mesa_model.specs.Relations.{table_number}
 use Rattle.mesa_history.specs.mesa_span.Work.{next_work}
 use Rattle.mesa_history.specs.Machine.{Claim, claim_checked, claim_of, ranges_at, refuse_busy, swapped_reply}
@@ -57,7 +57,7 @@ module _ (position : ℕ) (s : State) (plain : HasPlainNames s.warehouse.store) 
   decides session (command.Table words) is = let d = table_does s.warehouse plain words in record { names = d.names; turn = (refl, d.short) }
   decides session (command.View words) is = let d = view_does s.warehouse plain words in record { names = d.names; turn = (refl, d.short) }
   decides session (command.Load rows) is = let d = load_does s.warehouse plain rows in record { names = d.names; turn = (refl, d.short) }
-  decides session (command.Expire version) is = let d = expire_does s.warehouse plain version in record { names = d.names; turn = (refl, d.short) }
+  decides session (command.Expire table version) is = let d = expire_does s.warehouse plain table version in record { names = d.names; turn = (refl, d.short) }
   decides session (command.Work name) is = let d = nothing_does s.warehouse plain in record { names = d.names; turn = (refl, d.short) }
   decides session (command.Alter words) is = absurd cc
   decides session (command.Query words) is = absurd cc
@@ -81,10 +81,10 @@ module _ (position : ℕ) (s : State) (plain : HasPlainNames s.warehouse.store) 
   granted name =
       let all : Grants (claim_of s.warehouse s.machine position name) =
       on_other_check Grants reply.Refused (refuse_closed s.warehouse.closed) _ (λ e is. ungranted (reply.Refused e) (refused_short e (closed_short s.warehouse.closed e is))) (
-      on_some Grants (table_number s.warehouse.store name) _ _ (ungranted _ (refused_short (no.NoTable None) refl)) (λ table.
+      on_some Grants (table_number s.warehouse.store name) _ _ (ungranted _ (refused_short (no.NoTable None) refl)) (λ table found.
       on_check Grants (refuse_busy (holder s.machine.leases table position)) _ (λ e is. ungranted e (busy (holder s.machine.leases table position) e is)) (
-      on_some Grants (next_work (ranges_at s.machine table) s.warehouse.store.oldest (newest_of s.warehouse)) reply.Idle (λ w. Ok (record { table = table; lease = s.machine.leases.granted + 1; work = w }))
-      (ungranted reply.Idle (record { text = refl; body = λ heading. refl })) (λ w. record { good = record { names = plain; turn = tt } })))) in
+      on_some Grants (next_work (ranges_at s.machine table) (table_at s.warehouse.store table).oldest (newest_of s.warehouse)) reply.Idle (λ w. Ok (record { table = table; lease = s.machine.leases.granted + 1; work = w }))
+      (ungranted reply.Idle (record { text = refl; body = λ heading. refl })) (λ w due. record { good = record { names = plain; turn = tt } })))) in
       all.good
 
   lost_short : (lease : ℕ) (o : Option ℕ) → IsShortRefusal (no.Lost lease o)

@@ -36,7 +36,7 @@ abbrev pub is_unasked : Command → Bool
 is_unasked (command.Table words) = true
 is_unasked (command.View words) = true
 is_unasked (command.Load rows) = true
-is_unasked (command.Expire version) = true
+is_unasked (command.Expire table version) = true
 is_unasked (command.Work name) = true
 is_unasked c = false
 
