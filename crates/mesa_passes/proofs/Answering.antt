@@ -117,7 +117,7 @@ may_then store (Some (command.Query words)) e builds fault fits = absurd cc
 may_then store (Some (command.Explain words)) e builds fault fits = absurd cc
 may_then store (Some (command.Pin asked)) e builds fault fits = absurd cc
 may_then store (Some (command.Release token)) e builds fault fits = absurd cc
-may_then store (Some (command.Expire version)) e builds fault fits = absurd cc
+may_then store (Some (command.Expire table version)) e builds fault fits = absurd cc
 
 pub may_fault : (script : Script) (r : Run) (e : Entry) (session : ℕ) → Fits script r e → is_bench_fault session r e ≡ true → may_answer (command_of script e) e.kind ≡ true
 may_fault script r e session fits is =
@@ -150,7 +150,7 @@ none_asking (command.Alter words) k is = refl
 none_asking (command.Explain words) k is = refl
 none_asking (command.Pin asked) k is = refl
 none_asking (command.Release token) k is = refl
-none_asking (command.Expire version) k is = refl
+none_asking (command.Expire table version) k is = refl
 
 pub none_simple : (c : Command) (k : Kind) → is_simple c ≡ true → may_answer (Some c) k ≡ false
 none_simple c k is =
