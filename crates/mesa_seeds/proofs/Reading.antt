@@ -1,5 +1,5 @@
 -- Every record of a generated script is read.
-use Rattle.std.proofs.Common.{◌≡◌, ℕ, zero, suc, ◌+◌, ◌-◌, ◌*◌, ◌≤◌, ◌<◌, List, [], ◌∷◌, ◌++◌, length, drop, Bool, true, false, refl, sym, ◌∙◌, ap, subst, append_assoc, arith, Result, Ok, Err}
+use Rattle.std.proofs.Common.{◌≡◌, ℕ, zero, suc, ◌+◌, ◌-◌, ◌*◌, ◌≤◌, ◌<◌, List, [], ◌∷◌, ◌++◌, length, drop, Bool, true, false, refl, sym, ◌∙◌, ap, subst, append_assoc, arith, None, Result, Ok, Err}
 use Rattle.std.specs.Prelude.{nat_le, codes, ◌==◌, ◌%◌, if◌then◌else◌}
 use Rattle.std.specs.Fmt.{decimal}
 use Rattle.std.proofs.lemmas.Bool.{lt-leb}
@@ -68,11 +68,11 @@ queries_accepted = then_single 2 totals_record _ (sites_record ∷ day_record �
 
 -- ---- the versions
 
-expire_says : (version : ℕ) → version ≤ max_number → Says (codes "expire" ∷ decimal version ∷ []) (command.Expire version)
-expire_says version le place = ap (λ (o : Result ℕ Reason). o >>= (λ n. Ok (Single (command.Expire n)))) (number_back version le)
+expire_says : (version : ℕ) → version ≤ max_number → Says (codes "expire" ∷ decimal version ∷ []) (command.Expire None version)
+expire_says version le place = ap (λ (o : Result ℕ Reason). (o >>= (λ n. Ok (command.Expire None n))) >>= (λ (c : Command). Ok (Single c))) (number_back version le)
 
 expiry_accepted : (room version : ℕ) (rest : List (List (List ℕ))) → version ≤ max_number → Accepts room rest → (b : Bool) → Accepts (1 + room) ((if b then (codes "expire" ∷ decimal version ∷ []) ∷ [] else []) ++ rest)
-expiry_accepted room version rest le accepts true = then_single room _ (command.Expire version) rest (expire_says version le) accepts
+expiry_accepted room version rest le accepts true = then_single room _ (command.Expire None version) rest (expire_says version le) accepts
 expiry_accepted room version rest le accepts false = record { reads = λ place r none few. accepts.reads place r none (omega (arith, few)) }
 
 -- with a row more
