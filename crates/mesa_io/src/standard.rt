@@ -11,8 +11,8 @@ pub struct StdSource<R> {
     faults: FaultCount,
 }
 
-/// A sink over a writer, which tells the bytes that the writer tells. A writer that takes
-/// nothing of a piece has failed.
+/// A sink over a writer, which tells the bytes that the writer tells. It holds nothing back: what it
+/// took, the writer has. A writer that takes nothing of a piece has failed.
 #[derive(Drop)]
 pub struct StdSink<W> {
     inner: W,
@@ -53,9 +53,7 @@ impl<R: Read> Source for StdSource<R> {
 
 impl<W: Write> StdSink<W> {
     ghost use Rattle.mesa_io.specs.Standard.{sink_faults, sink_writer};
-    ghost use Rattle.mesa_fault.specs.Causes.{HasCause};
     ghost use Rattle.std.specs.Prelude.{◌≡◌};
-    ghost use Rattle.std.specs.Io.KnownBytes.{Keeps};
 
     /// A sink that writes to the writer.
     pub fn new(inner: W) -> Self
@@ -66,18 +64,6 @@ impl<W: Write> StdSink<W> {
             inner,
             faults: FaultCount::new(),
         }
-    }
-
-    /// Lets the writer hand on what it holds back. Where it can't, the sink has failed.
-    pub fn flush(&mut self) -> Result<(), SinkFailed>
-        ensures bytes { Keeps (W.contents (sink_writer self.old)) (W.contents (sink_writer self.new)) }
-        ensures cause { HasCause (sink_faults self.old) (sink_faults self.new) result }
-    {
-        if self.inner.flush().is_ok() {
-            return Ok(());
-        }
-        self.faults.rise();
-        Err(SinkFailed)
     }
 }
 

@@ -1,5 +1,5 @@
 // Printing onto a sink, without memory.
-ghost use Rattle.std.specs.Prelude.{decimal, ◌++◌};
+ghost use Rattle.std.specs.Prelude.{◌≡◌, ◌≤◌, IfSome, decimal, take, ◌++◌};
 ghost use Rattle.mesa_printer.specs.Printed.{Printed};
 ghost use Rattle.mesa_print.specs.mesa_script.Replies.{head_line};
 
@@ -7,6 +7,25 @@ use itoa::Buffer;
 use mesa_io::{Sink, write_all};
 use mesa_model::Reply;
 use mesa_print::{HEAD_ROOM, head};
+
+// The longest block that goes out by one call of the sink, in bytes: no more reaches a pipe whole.
+const BLOCK_ROOM: usize = 4096;
+
+// Puts two texts, one behind the other, to the front of a buffer, and says how long they are together;
+// none where they don't fit.
+fn join(front: &[u8], back: &[u8], out: &mut [u8; BLOCK_ROOM]) -> Option<usize>
+    ensures room { IfSome result (λ n. n ≤ 4096) }
+    ensures text { IfSome result (λ n. take n out.new ≡ front.now ++ back.now) }
+{
+    let (start, length) = (front.len(), back.len());
+    if start > BLOCK_ROOM || length > BLOCK_ROOM - start {
+        return None;
+    }
+    let out = &mut *out;
+    out[..start].copy_from_slice(front);
+    out[start..start + length].copy_from_slice(back);
+    Some(start + length)
+}
 
 /// A sink that is given nothing more once it has failed.
 #[derive(Drop)]
@@ -37,7 +56,9 @@ impl<K: Sink> Printer<K> {
         self.put(buffer.format(number).as_bytes());
     }
 
-    /// Prints a command's block: its head line, and a body that is made already.
+    /// Prints a command's block: its head line, and a body that is made already. Who reads what is
+    /// printed gets a short block whole: it goes out by one call of the sink, and so does each part of a
+    /// longer one.
     pub fn put_block(
         &mut self,
         session: u16,
@@ -50,7 +71,14 @@ impl<K: Sink> Printer<K> {
     {
         let mut line = [0; HEAD_ROOM];
         let length = head(session, number, position, reply, &mut line);
-        self.put(&line[..length]);
-        self.put(body);
+        let line = &line[..length];
+        let mut block = [0; BLOCK_ROOM];
+        match join(line, body, &mut block) {
+            Some(length) => self.put(&block[..length]),
+            None => {
+                self.put(line);
+                self.put(body);
+            }
+        }
     }
 }

@@ -1,4 +1,3 @@
 pub mod Start
 pub mod Begun
 pub mod Ran
-pub mod Exits

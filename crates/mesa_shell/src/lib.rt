@@ -12,4 +12,4 @@ pub use mesa_ending::{Devices, Done};
 pub use mesa_sessions::{Gate, OpenGate, Point};
 pub use mesa_telling::statuses;
 pub use shell::{MAX_INPUT, mesa};
-pub use standard::{flushed, program};
+pub use standard::program;

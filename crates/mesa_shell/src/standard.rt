@@ -1,18 +1,15 @@
 // The program over the standard streams and a folder.
-ghost use Rattle.mesa_io.specs.Standard.{sink_faults, sink_writer};
-ghost use Rattle.mesa_shell.specs.Exits.{Exits};
-ghost use Rattle.std.specs.Io.KnownBytes.{Keeps};
 ghost use Rattle.std.specs.Prelude.{◌≡◌, IfOk, length};
 
 use crate::shell::mesa;
 use mesa_dir::{DirBench, DirDisk};
 use mesa_ending::Done;
-use mesa_io::{SinkFailed, StdSink, StdSource};
+use mesa_io::{StdSink, StdSource};
 use mesa_sessions::OpenGate;
 use mesa_telling::statuses;
 use std::alloc::{AllocError, Global};
 use std::env;
-use std::io::{BufWriter, ErrorKind, Write};
+use std::io::ErrorKind;
 use std::process::ExitCode;
 use std::sync::Wait;
 use std::thread::Threads;
@@ -22,18 +19,6 @@ const FOLDER: &str = "mesa-store";
 
 // How many benches a call is given: one for each session that a script may have.
 const BENCHES: usize = 8;
-
-/// The status to exit with after a call that ended with this one. What the sink still holds back
-/// goes out; where that fails, so has the sink.
-pub fn flushed<W: Write>(status: u8, out: &mut StdSink<W>) -> u8
-    ensures exits { Exits status (sink_faults out.old) (sink_faults out.new) result }
-    ensures bytes { Keeps (W.contents (sink_writer out.old)) (W.contents (sink_writer out.new)) }
-{
-    match out.flush() {
-        Ok(()) => status,
-        Err(SinkFailed) => statuses::SINK_FAULT,
-    }
-}
 
 // Texts as slices.
 fn slices(alloc: Global, texts: &[String]) -> Result<Vec<&str>, AllocError> {
@@ -74,21 +59,19 @@ fn benches(
     Ok(all)
 }
 
-// Runs the words over the standard streams and the folder; what is printed goes out in large pieces.
+// Runs the words over the standard streams and the folder. Nothing that is printed is held back: a
+// block goes out in its turn, and where that fails, the call ends as one whose sink failed.
 fn run_words<R: Threads + Wait + Sync>(rt: &R, host: HostRuntime) -> Result<u8, AllocError> {
     let alloc = host.alloc();
     let words = words(&host)?;
     let words = slices(alloc, &words)?;
     let mut source = StdSource::new(host.reader());
-    let Ok(out) = BufWriter::new(alloc, host.stdout()) else {
-        return Err(AllocError);
-    };
-    let out = StdSink::new(out);
+    let out = StdSink::new(host.stdout());
     let disk = DirDisk::open(host, FOLDER)?;
     let benches = benches(alloc, &disk)?;
     let Done {
         status,
-        mut out,
+        out: _out,
         disk: _disk,
         benches: _benches,
         history: _history,
@@ -102,7 +85,7 @@ fn run_words<R: Threads + Wait + Sync>(rt: &R, host: HostRuntime) -> Result<u8, 
         benches,
         &OpenGate,
     );
-    Ok(flushed(status, &mut out))
+    Ok(status)
 }
 
 /// The program: takes the words behind its name, reads standard input where they ask for that, and runs or
