@@ -1,3 +1,4 @@
+pub mod Settled
 mod Undated
 mod Standing
 mod Walking

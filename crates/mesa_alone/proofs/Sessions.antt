@@ -10,7 +10,8 @@ use Rattle.mesa_history.specs.Legal.{AllFit, IsLegal, is_complete, sessions_of}
 use Rattle.mesa_history.specs.Replay.{runs}
 use Rattle.mesa_history.specs.Run.{State, Run, command_at, commands_of, numbered, begins, place_of}
 use Rattle.mesa_history.proofs.Due.{due_turn}
-use Rattle.mesa_alone.specs.Alone.{AllTurnsStand, IsAlone, undated}
+use Rattle.mesa_alone.specs.Alone.{IsAlone, undated}
+use Rattle.mesa_alone.proofs.Settled.{AllSettled}
 use Rattle.mesa_alone.proofs.Standing.{turns_to}
 use Rattle.mesa_alone.proofs.Walking.{walks_alone}
 
@@ -61,7 +62,7 @@ quiet script k (c ∷ cs) past all =
 
 -- ---- a script's sessions
 
-module _ (script : Script) (start : State) (h : List Entry) (alone : IsAlone script) (fit : AllFit script (begins start) h) (stand : AllTurnsStand h) (none : start.warehouse.closed ≡ None)
+module _ (script : Script) (start : State) (h : List Entry) (alone : IsAlone script) (fit : AllFit script (begins start) h) (stand : AllSettled h) (none : start.warehouse.closed ≡ None)
     (ends : IsTrue (list_all (is_complete script (runs script (begins start) h)) (sessions_of script))) where
   abbrev first : SoFar
   first = record { run = begins start; history = [] }
@@ -102,7 +103,7 @@ module _ (script : Script) (start : State) (h : List Entry) (alone : IsAlone scr
       room : 3 * length (commands_of script k) + 3 ≤ 3 * length (c ∷ more) + turns_to (place_of (begins start) k)
       room = let long = ap length is in let begun = begun_place start k in omega (arith, long, begun)
 
--- Its history is the one without faults, but for its moments.
-pub runs_alone : (start : State) (script : Script) (h : List Entry) → IsAlone script → start.warehouse.closed ≡ None → IsLegal start script h false → AllTurnsStand h → map undated h ≡ map undated (history_alone start script)
-runs_alone start script h alone none legal stand =
+-- Its history is the one without faults, but for its moments and the outcomes of looks.
+pub sessions_run_alone : (start : State) (script : Script) (h : List Entry) → IsAlone script → start.warehouse.closed ≡ None → IsLegal start script h false → AllSettled h → map undated h ≡ map undated (history_alone start script)
+sessions_run_alone start script h alone none legal stand =
     sym (sessions_run script start h alone legal.each stand none (right_of _ _ legal.ends) 0 script.sessions (λ j. let same : j ≡ 0 + j = omega arith in ap (commands_of script) same) (λ t lt. absurd (omega (arith, lt))) (omega arith))

@@ -1,5 +1,5 @@
 -- What a turn that stands does, of a command that is due in a warehouse that isn't closed.
-use Rattle.std.proofs.Common.{◌≡◌, ℕ, ◌+◌, ◌*◌, ◌≤◌, ◌&&◌, ◌||◌, List, length, true, not, false, IsTrue, refl, arith, ok_or, nat_le, is_none, Option, Some, None}
+use Rattle.std.proofs.Common.{◌≡◌, ℕ, ◌+◌, ◌*◌, ◌≤◌, ◌&&◌, ◌||◌, List, length, true, not, false, IsTrue, refl, sym, arith, ok_or, nat_le, is_none, Option, Some, None}
 use Rattle.std.specs.Prelude.{Result, Ok, Err, IfOk}
 use Rattle.mesa_history.specs.mesa_span.mesa_list.Checks.{◌>>◌, refuse_if, refuse_unless, refused_as}
 use Rattle.mesa_history.specs.mesa_schema.Names.{is_name}
@@ -62,6 +62,16 @@ kind_stands c (Granted claim) k due renewal = renewed_first k due renewal
 kind_stands c (Renewed claim) k due renewal = kind_is kind.Close k due
 kind_stands c Finished k due renewal = absurd cc
 kind_stands c CutOff k due renewal = absurd cc
+
+-- A look that is due comes next.
+pub look_due : (c : Command) (stage : Stage) → IsTrue (is_due_at c stage kind.Look) → kind_due c stage ≡ kind.Look
+look_due c First due = sym (kind_is (first_kind c) kind.Look due)
+look_due c Looked due = absurd cc
+look_due c (Answered at answer) due = absurd cc
+look_due c (Granted claim) due = absurd cc
+look_due c (Renewed claim) due = absurd cc
+look_due c Finished due = refl
+look_due c CutOff due = refl
 
 -- ---- how far it takes its command
 

@@ -1,4 +1,4 @@
-use Rattle.mesa_alone.proofs.Sessions.{runs_alone}
+use Rattle.mesa_alone.proofs.Printing.{runs_alone}
 use Rattle.mesa_alone.proofs.laws.one_session_runs_alone.Goals as goal
 
 pub returns : goal.returns
