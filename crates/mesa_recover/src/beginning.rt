@@ -62,6 +62,11 @@ pub fn begin<M: Made, D: Disk<M>>(
     ensures quiet { IfOk result (λ b. ((D.story b.disk).faults ≡ (D.story opened.disk).faults) × ((D.story b.disk).read_faults ≡ (D.story opened.disk).read_faults)) }
     ensures clock { IfOk result (λ b. (D.story opened.disk).moment ≤ (D.story b.disk).moment) }
     ensures clock_err { IfErr result (λ e. (D.story opened.disk).moment ≤ (D.story e.1).moment) }
+
+    // Whatever it answers, a read gives an image where it gave one. No count rose but for a fault; and it gives the disk as it was, but for a fault or for want of memory.
+    ensures told_err { IfErr result (λ e. (i : AnyImage) → (D.story opened.disk).told ≡ Some i → (j : AnyImage) × ((D.story e.1).told ≡ Some j)) }
+    ensures other { IfErr result (λ e. (e.0 ≡ open_error.Fault → ⊥) → ((D.story e.1).faults ≡ (D.story opened.disk).faults) × ((D.story e.1).read_faults ≡ (D.story opened.disk).read_faults)) }
+    ensures untouched { IfErr result (λ e. (e.0 ≡ open_error.Fault → ⊥) → (e.0 ≡ open_error.Memory → ⊥) → e.1 ≡ opened.disk) }
 {
     catalogs_own_ids();
     let mut opened = opened;

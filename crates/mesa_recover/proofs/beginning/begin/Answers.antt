@@ -1,8 +1,9 @@
-use Rattle.std.proofs.Common.{◌≡◌, ◌+◌, [], Some, sym, subst, arith}
+use Rattle.std.proofs.Common.{◌≡◌, ⊎_elim, ◌+◌, [], Some, Err, refl, sym, ◌∙◌, subst, arith}
 use Rattle.mesa_disk.specs.Image.{Image}
 use Rattle.mesa_trash.specs.Filed.{FilesAdopted}
 use Rattle.mesa_image_laws.specs.Ids.{named}
 use Rattle.mesa_catalog.specs.declared.begun.Begun.{Begun}
+use Rattle.mesa_opening.specs.declared.error.OpenError.TheVariants as open_error
 use Rattle.mesa_opening.specs.Opening.{IsHeldAs, Keeps, first_id}
 use Rattle.mesa_opening.proofs.Beginnings.{files_adopted, found_start, keeps_from, runs_few}
 use Rattle.mesa_recover.proofs.beginning.begin.Goals as goal
@@ -53,3 +54,25 @@ returns-then-opened-ge-MOST_RUNS-clause-keeps_err g c =
 
 pub returns-in-Ok-clause-told : goal.returns-in-Ok-clause-told
 returns-in-Ok-clause-told g c i told = subst (λ (b : Begun _). (j : Image) × ((g.D.Disk.story b.disk).told ≡ Some j)) (sym c.into_begun.ensures) (c.begin_run.ensures.told i told)
+
+-- ---- where no run begins
+
+pub returns-then-opened-ge-MOST_RUNS-clause-told_err : goal.returns-then-opened-ge-MOST_RUNS-clause-told_err
+returns-then-opened-ge-MOST_RUNS-clause-told_err g c i told = subst (λ d. (j : Image) × ((g.D.Disk.story d).told ≡ Some j)) (sym c.into_disk.ensures) (i, told)
+
+pub returns-in-Err-clause-told_err : goal.returns-in-Err-clause-told_err
+returns-in-Err-clause-told_err g c i told = subst (λ d. (j : Image) × ((g.D.Disk.story d).told ≡ Some j)) (sym c.into_disk-in-Err.ensures) (c.begin_run.ensures.told i told)
+
+pub returns-then-opened-ge-MOST_RUNS-clause-other : goal.returns-then-opened-ge-MOST_RUNS-clause-other
+returns-then-opened-ge-MOST_RUNS-clause-other g c other =
+    let old = g.D.Disk.story c.args.opened.disk in
+    subst (λ d. ((g.D.Disk.story d).faults ≡ old.faults) × ((g.D.Disk.story d).read_faults ≡ old.read_faults)) (sym c.into_disk.ensures) (refl, refl)
+
+pub returns-in-Err-clause-other : goal.returns-in-Err-clause-other
+returns-in-Err-clause-other g c other =
+    let old = g.D.Disk.story c.args.opened.disk in
+    subst (λ d. ((g.D.Disk.story d).faults ≡ old.faults) × ((g.D.Disk.story d).read_faults ≡ old.read_faults)) (sym c.into_disk-in-Err.ensures)
+    (c.begin_run.ensures.counts.quiet (λ failed. other (let same : Err c.in-Err.error ≡ Err open_error.Fault = sym c.in-Err.is ∙ failed in cc)))
+
+pub returns-in-Err-clause-untouched : goal.returns-in-Err-clause-untouched
+returns-in-Err-clause-untouched g c fault memory = absurd (⊎_elim fault memory c.in-Err.ensures.kind)
