@@ -62,8 +62,8 @@ module _ {M R : Type 0} (bytes : M → Option (List ℕ)) (id_of : M → ℕ) (r
   abbrev more : List (List Row)
   more = rows_made bytes id_of read was t its d.files is.merged.files
 
-  shape : IsShaped c.oldest c.next (table_in l t)
-  shape = stock_found (IsShaped c.oldest c.next) c.tables t.table there shaped.tables
+  shape : IsShaped c.floor c.next (table_in l t)
+  shape = stock_found (IsShaped c.floor c.next) c.tables t.table there shaped.tables
 
   pub few_files : length (files_if_any d.files) ≤ most_files
   few_files =

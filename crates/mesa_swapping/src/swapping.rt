@@ -39,7 +39,7 @@ pub fn swap<M: Made, R: FileReader>(
 ) -> Result<Swapped<M>, AllocError>
     requires shaped { IsCatalog metadata.now.ledger.catalogue }
     requires there { task.now.table < length metadata.now.ledger.catalogue.tables }
-    requires due { (oldest next : ℕ) × (next_work (ranges_of (table_in metadata.now.ledger task.now)) oldest (base_before next) ≡ Some task.now.work) × (oldest ≤ metadata.now.ledger.catalogue.oldest) × (next ≤ metadata.now.ledger.catalogue.next) }
+    requires due { (oldest next : ℕ) × (next_work (ranges_of (table_in metadata.now.ledger task.now)) oldest (base_before next) ≡ Some task.now.work) × (oldest ≤ (table_in metadata.now.ledger task.now).oldest) × (next ≤ metadata.now.ledger.catalogue.next) }
     requires finished { (was : Lineage) × IsFinished M.bytes M.id_of R.bytes was (table_in metadata.now.ledger task.now).lineage task.now delta }
     requires given { (id : ℕ) → Among id (named metadata.now.ledger.catalogue) → id < next_id metadata.now.ledger }
     requires room { metadata.now.ledger.adopted + most_files < 2 ^ 40 }
