@@ -137,7 +137,6 @@ pub sessions_stand : (script : Script) (s : ℕ) (sessions : List (List Command)
 sessions_stand script s [] past all = all
 sessions_stand script s (commands ∷ sessions) past all = sessions_stand script (s + 1) sessions (session_alone (3 * length commands) script s past) (alone_stands script s (3 * length commands) past all)
 
-
 -- A session whose entries are the only ones, and which is complete behind them, goes on by just these turns, as long as it may go on.
 pub walks_alone : (script : Script) (s : ℕ) → ((t number : ℕ) (c : Command) → command_at script t number ≡ Some c → t ≡ s) → (h : List Entry) (r q : Run) (n : ℕ) (g : List Entry) → undated_run r ≡ undated_run q → AllFit script r h → AllSettled h
     → r.state.warehouse.closed ≡ None → IsTrue (is_complete script (runs script r h) s) → 3 * length (commands_of script s) + 3 ≤ n + turns_to (place_of r s)
