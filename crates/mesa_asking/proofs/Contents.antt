@@ -92,7 +92,7 @@ module _ (rows : Rows) (c : Catalog) (version : ℕ) (s : Store) (p : Place) (ha
   seen_columns = columns_there c s p has.tables ∙ columns_found c p
 
   -- and its content is the catalogue's
-  pub seen_content : relation_content s (relation_seen s p) version ≡ content_read rows (stock_at c p.table) p.view version
+  pub seen_content : relation_content (relation_seen s p) version ≡ content_read rows (stock_at c p.table) p.view version
   seen_content =
       (λ j. rows_seen (columns_of (same_lineage j)) (option_and_then (slice_get (same_lineage j).views) p.view) (has.content j))
       ∙ ap (λ (o : Option View). rows_seen (columns_of (stock_at c p.table).lineage) o (content rows (stock_at c p.table) version)) (view_same (stock_at c p.table).lineage p.view)
