@@ -102,7 +102,7 @@ module _ (o : Outset) (g : Origin) (l : Ledger) (story : Story) (held : Option (
         let parts = lifted_are bytes faults story.told v.rows gathered.wanted t.inputs.items (flat_map (table_wanted lin) ds) gathered.are all_open in
         let all = ap rows_of parts ∙ table_parts v.rows lin ds in
         subst (λ n. n < 2 ^ 63) (sym (zero-add _)) (subst (λ (rs : List Row). abs_total k rs < 2 ^ 63) (sym all)
-        (merged_sums v.rows c.oldest c.next u (shaped_at c v.shaped t.table there) (stock_found (IsStocked v.rows) c.tables t.table there (v.stocked refl).0) (is_base t.work) (last_of t.work) k sum));
+        (merged_sums v.rows c.floor c.next u (shaped_at c v.shaped t.table there) (stock_found (IsStocked v.rows) c.tables t.table there (v.stocked refl).0) (is_base t.work) (last_of t.work) k sum));
   }
 
   -- The sums over the files of a range, and over those of its views, stay in their type.

@@ -13,14 +13,14 @@ use Rattle.mesa_span.specs.declared.works.Work.TheVariants as range
 use Rattle.mesa_history.specs.Machine.{Claim, Machine, claim_of, ranges_at, refuse_busy}
 use Rattle.mesa_metadata.specs.mesa_image.Catalog.{Catalog, Stock, no_stock, ranges_of, start_in, stock_at}
 use Rattle.mesa_metadata.specs.mesa_image.Fitting.{is_number, may_be_work}
-use Rattle.mesa_metadata.specs.mesa_image.Shape.{IsCatalog, IsShaped}
+use Rattle.mesa_metadata.specs.mesa_image.Shape.{IsShaped}
 use Rattle.mesa_ledger.proofs.mesa_image_laws.Lists.{both_true, is_at_most, is_equal}
 use Rattle.mesa_ledger.proofs.mesa_image_laws.ShapedBatches.{missing_there}
 use Rattle.mesa_ledger.specs.mesa_image_laws.Moves.{first_of, is_base, last_of}
 use Rattle.mesa_lease.specs.Book.{holder}
 use Rattle.mesa_model.specs.Refusals.{no_such_table, refuse_closed}
 use Rattle.mesa_model.specs.Relations.{table_number}
-use Rattle.mesa_model.specs.Warehouse.{Table, Warehouse}
+use Rattle.mesa_model.specs.Warehouse.{Table, Warehouse, table_at}
 use Rattle.mesa_model.specs.declared.replies.Refusal.TheVariants as no
 use Rattle.mesa_model.specs.declared.replies.Reply.{Reply}
 use Rattle.mesa_model.specs.declared.replies.Reply.TheVariants as reply
@@ -42,7 +42,7 @@ module _ (l : Ledger) (at : ℕ) (name : List ℕ) where
   at_table table held work = refuse_busy held >> given table work
 
   abbrev work_of : ℕ → Option Work
-  work_of table = next_work (ranges_at machine table) l.catalogue.oldest (base_before l.catalogue.next)
+  work_of table = next_work (ranges_at machine table) (table_at bare.store table).oldest (base_before l.catalogue.next)
 
   -- its steps, by what each asks
   abbrev steps : Option ℕ → Option ℕ → Result Claim Reply
@@ -68,13 +68,16 @@ module _ (l : Ledger) (at : ℕ) (name : List ℕ) where
       pub busy : (lease : ℕ) → holder l.leases table at ≡ Some lease → claim_of bare machine at name ≡ Err (reply.Busy lease)
       busy lease is = table_is ∙ ap (λ held. at_table table held (work_of table)) is
 
-      work_is : (o : Option Work) → next_work (ranges_of (stock_at l.catalogue table)) l.catalogue.oldest (base_before l.catalogue.next) ≡ o → work_of table ≡ o
-      work_is o is = ap (λ r. next_work r l.catalogue.oldest (base_before l.catalogue.next)) (get_or-map ranges_of l.catalogue.tables table no_stock) ∙ is
+      work_is : (o : Option Work) → next_work (ranges_of (stock_at l.catalogue table)) (stock_at l.catalogue table).oldest (base_before l.catalogue.next) ≡ o → work_of table ≡ o
+      work_is o is =
+          let ranges = get_or-map ranges_of l.catalogue.tables table no_stock in
+          let oldest = ap (λ (t : Table). t.oldest) (get_or-map skeleton_of l.catalogue.tables table no_stock) in
+          (λ i. next_work (ranges i) (oldest i) (base_before l.catalogue.next)) ∙ is
 
-      pub idle : holder l.leases table at ≡ None → next_work (ranges_of (stock_at l.catalogue table)) l.catalogue.oldest (base_before l.catalogue.next) ≡ None → claim_of bare machine at name ≡ Err reply.Idle
+      pub idle : holder l.leases table at ≡ None → next_work (ranges_of (stock_at l.catalogue table)) (stock_at l.catalogue table).oldest (base_before l.catalogue.next) ≡ None → claim_of bare machine at name ≡ Err reply.Idle
       idle free is = table_is ∙ (λ i. at_table table (free i) (work_is None is i))
 
-      pub claimed : (work : Work) → holder l.leases table at ≡ None → next_work (ranges_of (stock_at l.catalogue table)) l.catalogue.oldest (base_before l.catalogue.next) ≡ Some work
+      pub claimed : (work : Work) → holder l.leases table at ≡ None → next_work (ranges_of (stock_at l.catalogue table)) (stock_at l.catalogue table).oldest (base_before l.catalogue.next) ≡ Some work
           → claim_of bare machine at name ≡ Ok (record { table = table; lease = l.leases.granted + 1; work = work })
       claimed work free is = table_is ∙ (λ i. at_table table (free i) (work_is (Some work) is i))
 
@@ -86,14 +89,14 @@ some_number None n is = absurd cc
 some_number (Some m) n is = ap Some (is_equal m n is)
 
 -- A range that work may give ends before the next version.
-pub work_ends : (c : Catalog) (t : Stock) (work : Work) → IsCatalog c → IsShaped c.oldest c.next t → may_be_work c t (is_base work) (first_of work) (last_of work) ≡ true → last_of work < c.next
-work_ends c t (range.Base to) is shaped may =
-    let last = both_true ((0 == 0) && nat_le 1 to && nat_le (start_in t) to) (nat_le to c.oldest) may in
+pub work_ends : (c : Catalog) (t : Stock) (work : Work) → IsShaped c.floor c.next t → may_be_work c t (is_base work) (first_of work) (last_of work) ≡ true → last_of work < c.next
+work_ends c t (range.Base to) shaped may =
+    let last = both_true ((0 == 0) && nat_le 1 to && nat_le (start_in t) to) (nat_le to t.oldest) may in
     let third = both_true ((0 == 0) && nat_le 1 to) (nat_le (start_in t) to) last.0 in
     let some = is_at_most 1 to (both_true (0 == 0) (nat_le 1 to) third.0).1 in
-    let within = is_at_most to c.oldest last.1 in
-    elim is.oldest [ inl lt ↦ omega (arith, within, lt) | inr none ↦ absurd (omega (arith, some, within, none.0)) ]
-work_ends c t (range.Cumulative from to) is shaped may =
+    let within = is_at_most to t.oldest last.1 in
+    elim shaped.oldest [ inl lt ↦ omega (arith, within, lt) | inr none ↦ absurd (omega (arith, some, within, none.0)) ]
+work_ends c t (range.Cumulative from to) shaped may =
     let both = both_true (from == start_in t) (is_number (missing_end (start_in t) (ranges_of t).cumulatives (base_before c.next)) to) may in
     let whole = shaped.singles in
     missing_there (start_in t) c.next to (ranges_of t).cumulatives (omega (arith, whole)) (some_number (missing_end (start_in t) (ranges_of t).cumulatives (base_before c.next)) to both.1)

@@ -162,8 +162,8 @@ answers un.Memory = refl
 -- ---- its table
 
 -- a table of a catalogue is shaped
-pub shaped_at : (c : Catalog) → IsCatalog c → (table : ℕ) → table < length c.tables → IsShaped c.oldest c.next (stock_at c table)
-shaped_at c is table there = all_at (IsShaped c.oldest c.next) c.tables table no_stock is.tables there
+pub shaped_at : (c : Catalog) → IsCatalog c → (table : ℕ) → table < length c.tables → IsShaped c.floor c.next (stock_at c table)
+shaped_at c is table there = all_at (IsShaped c.floor c.next) c.tables table no_stock is.tables there
 
 -- ---- what stands behind a turn
 

@@ -34,7 +34,7 @@ pub(crate) fn claim(metadata: &Metadata, name: &[u8], position: u64) -> Result<C
     ensures low { IfOk result (λ x. x.table < TABLES) }
     ensures free { IfOk result (λ x. holder metadata.now.ledger.leases x.table position ≡ None) }
     ensures opened { OnOk result (metadata.now.ledger.closed ≡ None) }
-    ensures next { IfOk result (λ x. work_due (ranges_of (stock_at metadata.now.ledger.catalogue x.table)) metadata.now.ledger.catalogue.oldest (base_before metadata.now.ledger.catalogue.next) ≡ Some x.work) }
+    ensures next { IfOk result (λ x. work_due (ranges_of (stock_at metadata.now.ledger.catalogue x.table)) (stock_at metadata.now.ledger.catalogue x.table).oldest (base_before metadata.now.ledger.catalogue.next) ≡ Some x.work) }
     ensures refused { IfErr result (λ f. HasNoClaim (books_of no_rows metadata.now.ledger) position name.now (cause_in f)) }
     ensures quiet { IfErr result (λ f. is_of_device (cause_in f) ≡ false) }
 {
@@ -51,7 +51,7 @@ pub(crate) fn claim(metadata: &Metadata, name: &[u8], position: u64) -> Result<C
     let Ok(ranges) = catalog.ranges(table) else {
         return Err(Failure::Memory);
     };
-    match next_work(&ranges, catalog.oldest(), catalog.newest()) {
+    match next_work(&ranges, catalog.oldest(table), catalog.newest()) {
         Some(work) => Ok(Claimed { table, work }),
         None => Err(Failure::Idle),
     }

@@ -84,7 +84,7 @@ fn take<N: Naming, M: Made, D: Disk<M>, K: Sink>(
     requires low { claimed.table < TABLES }
     requires free { holder engine.old.ledger.leases claimed.table (length engine.old.shown.history) ≡ None }
     requires opened { engine.old.ledger.closed ≡ None }
-    requires next { next_work (ranges_of (stock_at engine.old.ledger.catalogue claimed.table)) engine.old.ledger.catalogue.oldest (base_before engine.old.ledger.catalogue.next) ≡ Some claimed.work }
+    requires next { next_work (ranges_of (stock_at engine.old.ledger.catalogue claimed.table)) (stock_at engine.old.ledger.catalogue claimed.table).oldest (base_before engine.old.ledger.catalogue.next) ≡ Some claimed.work }
     requires runs { engine.old.shown.running ≡ true }
     requires room { length engine.old.shown.history < N.room }
     ensures turn { Takes N.script (N.start no_rows) engine.old.shown engine.new.shown who.session who.command kind.Grant (stage_if claim_in Granted result) }

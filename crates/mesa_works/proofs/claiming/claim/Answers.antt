@@ -22,7 +22,7 @@ returns-in-Some-next_work-clause-claimed c =
     let table = c.in-Some-table_number.table in
     let there = sym (ap (λ k. number_of k c.args.name.now) same) ∙ sym c.table_number.ensures.found ∙ c.in-Some-table_number.is in
     let ranges = c.in-Ok.ensures.ranges ∙ ap (λ k. ranges_of (stock_at k table)) same in
-    let oldest = c.oldest.ensures ∙ ap (λ (k : Catalog). k.oldest) same in
+    let oldest = c.oldest.ensures ∙ ap (λ k. (stock_at k table).oldest) same in
     let newest = c.newest.ensures ∙ ap (λ (k : Catalog). base_before k.next) same in
     let work = sym (c.next_work.ensures ∙ (λ i. next_work (ranges i) (oldest i) (newest i))) ∙ c.in-Some-next_work.is in
     claimed c.args.metadata.now.ledger c.args.position c.args.name.now (sym c.closed.ensures ∙ c.in_default.is) table there c.in-Some-next_work.work (sym c.holder.ensures ∙ c.in_default-holder.is) work
@@ -33,7 +33,7 @@ returns-clause-refused c =
     let table = c.in-Some-table_number.table in
     let there = sym (ap (λ k. number_of k c.args.name.now) same) ∙ sym c.table_number.ensures.found ∙ c.in-Some-table_number.is in
     let ranges = c.in-Ok.ensures.ranges ∙ ap (λ k. ranges_of (stock_at k table)) same in
-    let oldest = c.oldest.ensures ∙ ap (λ (k : Catalog). k.oldest) same in
+    let oldest = c.oldest.ensures ∙ ap (λ k. (stock_at k table).oldest) same in
     let newest = c.newest.ensures ∙ ap (λ (k : Catalog). base_before k.next) same in
     let none = sym (c.next_work.ensures ∙ (λ i. next_work (ranges i) (oldest i) (newest i))) ∙ c.in-None.is in
     idle c.args.metadata.now.ledger c.args.position c.args.name.now (sym c.closed.ensures ∙ c.in_default.is) table there (sym c.holder.ensures ∙ c.in_default-holder.is) none
@@ -43,6 +43,6 @@ returns-in-Some-next_work-clause-next c =
     let same = c.catalog-catalog.ensures in
     let table = c.in-Some-table_number.table in
     let ranges = c.in-Ok.ensures.ranges ∙ ap (λ k. ranges_of (stock_at k table)) same in
-    let oldest = c.oldest.ensures ∙ ap (λ (k : Catalog). k.oldest) same in
+    let oldest = c.oldest.ensures ∙ ap (λ k. (stock_at k table).oldest) same in
     let newest = c.newest.ensures ∙ ap (λ (k : Catalog). base_before k.next) same in
     sym (c.next_work.ensures ∙ (λ i. next_work (ranges i) (oldest i) (newest i))) ∙ c.in-Some-next_work.is

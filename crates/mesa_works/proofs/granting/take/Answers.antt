@@ -142,10 +142,10 @@ work_due : (g : _) (c : goal.After-pass g)
 work_due g c =
     let l = c.engine.inside.metadata.ledger in
     let t = c.in-Ok.task in
-    let next : next_work (ranges_of (stock_at l.catalogue c.args.claimed.table)) l.catalogue.oldest (base_before l.catalogue.next) ≡ Some c.args.claimed.work =
-    subst (λ (x : Standing). next_work (ranges_of (stock_at x.ledger.catalogue c.args.claimed.table)) x.ledger.catalogue.oldest (base_before x.ledger.catalogue.next) ≡ Some c.args.claimed.work) (sym c.engine.view_is) c.requires.next in
-    due_work_fits l.catalogue (stock_at l.catalogue t.table) l.catalogue.oldest l.catalogue.next t.work
-    (ap (λ k. next_work (ranges_of (stock_at l.catalogue k)) l.catalogue.oldest (base_before l.catalogue.next)) c.in-Ok.ensures.table ∙ next ∙ ap Some (sym c.in-Ok.ensures.work)) (omega arith) (omega arith)
+    let next : next_work (ranges_of (stock_at l.catalogue c.args.claimed.table)) (stock_at l.catalogue c.args.claimed.table).oldest (base_before l.catalogue.next) ≡ Some c.args.claimed.work =
+    subst (λ (x : Standing). next_work (ranges_of (stock_at x.ledger.catalogue c.args.claimed.table)) (stock_at x.ledger.catalogue c.args.claimed.table).oldest (base_before x.ledger.catalogue.next) ≡ Some c.args.claimed.work) (sym c.engine.view_is) c.requires.next in
+    due_work_fits l.catalogue (stock_at l.catalogue t.table) (stock_at l.catalogue t.table).oldest l.catalogue.next t.work
+    (ap (λ k. next_work (ranges_of (stock_at l.catalogue k)) (stock_at l.catalogue k).oldest (base_before l.catalogue.next)) c.in-Ok.ensures.table ∙ next ∙ ap Some (sym c.in-Ok.ensures.work)) (omega arith) (omega arith)
 
 pub returns-in-Ok-clause-there : goal.returns-in-Ok-clause-there
 returns-in-Ok-clause-there g c =
@@ -162,7 +162,7 @@ returns-in-Ok-clause-next g c =
     let is = (c.engine.invariant.vault no_rows false (λ z. absurd cc)).shaped in
     subst (λ k. last_of t.work < k)
     (sym (next_there (outset_of (starts g c) no_rows) (g.N.Naming.origin no_rows) false (leased g c) (g.D.Disk.story c.gather-gathered.new.disk) (g.K.Sink.held later.printer.sink) later.history.items (not later.printer.broken) later.refused (vault_behind g c no_rows false (λ z. absurd cc))))
-    (work_ends l.catalogue (stock_at l.catalogue t.table) t.work is (shaped_at l.catalogue is t.table (table_there g c)) (work_due g c))
+    (work_ends l.catalogue (stock_at l.catalogue t.table) t.work (shaped_at l.catalogue is t.table (table_there g c)) (work_due g c))
 
 -- the task as it is handed out
 abbrev task_of : (g : _) → goal.After-pass g → Task g.row.D-Reader.Denot
