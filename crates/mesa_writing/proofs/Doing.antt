@@ -19,7 +19,7 @@ use Rattle.mesa_model.specs.declared.replies.Reply.TheVariants as reply
 use Rattle.mesa_model.specs.Load.{load_batch}
 use Rattle.mesa_model.specs.Relations.{table_number}
 use Rattle.mesa_model.specs.Tables.{alter_table, change_asked, columns_asked, make_table, make_view}
-use Rattle.mesa_model.specs.Versions.{expire_to}
+use Rattle.mesa_model.specs.Versions.{expire_all, expire_table}
 use Rattle.mesa_model.specs.Warehouse.{Table}
 use Rattle.mesa_history.specs.Counting.{one_if}
 use Rattle.mesa_history.specs.Found.{Kept}
@@ -31,12 +31,12 @@ use Rattle.mesa_record.specs.declared.record.Record.{Record}
 use Rattle.mesa_record.specs.declared.record.Record.TheVariants as record_of
 use Rattle.mesa_record.specs.Rules.{IsTyped, IsTypedChange}
 use Rattle.mesa_catalog.specs.mesa_image.Catalog.{Catalog, applied, stock_at}
-use Rattle.mesa_catalog.specs.mesa_image.Fitting.{fits, is_new_name, is_there}
+use Rattle.mesa_catalog.specs.mesa_image.Fitting.{expire_fits, fits, is_new_name, is_there}
 use Rattle.mesa_catalog.specs.mesa_image.Sound.{AreStocked}
 use Rattle.mesa_ledger.proofs.mesa_image_laws.Agreeing.{agree_stocked}
-use Rattle.mesa_ledger.proofs.mesa_image_laws.AllSourced.{alter_sourced, table_sourced, view_sourced}
-use Rattle.mesa_ledger.proofs.mesa_image_laws.Lists.{both_true, is_at_most, is_less}
-use Rattle.mesa_ledger.proofs.mesa_image_laws.Moving.{alter_step, expire_step, kind_of, publish_step, table_step, view_step}
+use Rattle.mesa_ledger.proofs.mesa_image_laws.AllSourced.{alter_sourced, expire_sourced, expire_table_sourced, table_sourced, view_sourced}
+use Rattle.mesa_ledger.proofs.mesa_image_laws.Lists.{both_true, is_less}
+use Rattle.mesa_ledger.proofs.mesa_image_laws.Moving.{alter_step, expire_step, expire_table_step, kind_of, publish_step, table_step, view_step}
 use Rattle.mesa_ledger.specs.mesa_image_laws.Brought.{AreTold, BringsAll}
 use Rattle.mesa_ledger.specs.mesa_image_laws.Ids.{dropped_ids}
 use Rattle.mesa_ledger.specs.mesa_image_laws.Moves.{Moves}
@@ -53,7 +53,7 @@ use Rattle.mesa_ledger.specs.Ledger.{Ledger, books_of, next_id, skeleton_of}
 use Rattle.mesa_ledger.specs.Recorded.{recorded_ledger}
 use Rattle.mesa_ledger.specs.Vault.{Origin, IsVault, written_by}
 use Rattle.mesa_ledger.proofs.Agreeing.{named_agree}
-use Rattle.mesa_ledger.proofs.Changing.{alter_change, expire_change, load_change, table_change, view_change}
+use Rattle.mesa_ledger.proofs.Changing.{alter_change, expire_change, expire_table_change, load_change, table_change, view_change}
 use Rattle.mesa_ledger.proofs.Sources.{batch_sources, sources_stay}
 use Rattle.mesa_engine.specs.Failing.{deciding_stage}
 use Rattle.mesa_writing.specs.Writing.{Does, HasRecord}
@@ -93,16 +93,40 @@ module _ (o : Outset) (g : Origin) (sound : Bool) (l : Ledger) (story : Story) (
   number_seen : (name : List ℕ) → table_number (books_of v.rows l).bare.store name ≡ number_of c name
   number_seen name = ap (place_of name) (map-map (λ (t : Table). t.name) skeleton_of c.tables)
 
-  expire_done : (version : ℕ) → fits c (record_of.Expire version) ≡ true → Does l (λ w. expire_to w version) (reply.Expired version) → Done (command.Expire version) (record_of.Expire version) (reply.Expired version)
+  -- a version that may be let go up to is there
+  version_there : (oldest version : ℕ) → expire_fits c oldest version ≡ true → version < c.next
+  version_there oldest version fit = is_less version c.next (both_true (nat_le oldest version) (nat_lt version c.next) fit).1
+
+  expire_done : (version : ℕ) → fits c (record_of.Expire version) ≡ true → Does l (λ w. expire_all w version) (reply.Expired None version) → Done (command.Expire None version) (record_of.Expire version) (reply.Expired None version)
   expire_done version fit does =
-      let both = both_true (nat_le c.oldest version) (nat_lt version c.next) (kind_of c (record_of.Expire version) fit) in
+      let r : Record = record_of.Expire version in
       record {
-        f = λ w. expire_to w version;
-        decided = expire_decided session version;
-        change = expire_change o g sound l story held h running refused v new (agree v.rows) opened position (generation_after (record_of.Expire version)) [] adopted end version (is_at_most c.oldest version both.0) (is_less version c.next both.1) does.after does.is;
+        f = λ w. expire_all w version;
+        decided = expire_decided session None version;
+        change = expire_change o g sound l story held h running refused v new (agree v.rows) opened position (generation_after r) [] adopted end version (version_there c.floor version (kind_of c r fit)) does.after does.is;
         moves = λ stocked. (_, expire_step new c stocked version fit);
         sources = λ e p known told ok.
-            sources_stay o g sound l story held h running refused v new (agree v.rows) e p (reply.Expired version) told (λ s k. refl) (applied c (record_of.Expire version)) (λ has. record { tables = has.tables; others = has.others }) ok;
+            sources_stay o g sound l story held h running refused v new (agree v.rows) e p (reply.Expired None version) told (λ s k. refl) (applied c r) (λ has. expire_sourced new (written_by o g.found h) c has version) ok;
+        gone = refl;
+        run = refl;
+        rises = refl;
+        writes = refl;
+        writing = refl;
+      }
+
+  expire_table_done : (name : List ℕ) (version number : ℕ) → number_of c name ≡ Some number → fits c (record_of.ExpireTable number version) ≡ true → Does l (λ w. expire_table w name version) (reply.Expired (Some name) version)
+      → Done (command.Expire (Some name) version) (record_of.ExpireTable number version) (reply.Expired (Some name) version)
+  expire_table_done name version number found fit does =
+      let r : Record = record_of.ExpireTable number version in
+      let both = both_true (is_there c number) (expire_fits c (stock_at c number).oldest version) (kind_of c r fit) in
+      record {
+        f = λ w. expire_table w name version;
+        decided = expire_decided session (Some name) version;
+        change = expire_table_change o g sound l story held h running refused v new (agree v.rows) opened position (generation_after r) [] adopted end name number version (number_seen name ∙ found) (is_less number (length c.tables) both.0) (version_there (stock_at c number).oldest version both.1) does.after does.is;
+        moves = λ stocked. (_, expire_table_step new c stocked number version fit);
+        sources = λ e p known told ok.
+            sources_stay o g sound l story held h running refused v new (agree v.rows) e p (reply.Expired (Some name) version) told (λ s k. refl) (applied c r)
+            (λ has. expire_table_sourced new (written_by o g.found h) c has number version fit) ok;
         gone = refl;
         run = refl;
         rises = refl;
@@ -207,7 +231,9 @@ module _ (o : Outset) (g : Origin) (sound : Bool) (l : Ledger) (story : Story) (
       as_told (command.Alter words) r _ rep _ has.4 has.5 (alter_done words has.0 has.1 has.2 has.3 (subst (λ q. fits c q ≡ true) has.4 fit) whole.1 (does_as (λ w. alter_table w words) rep _ has.5 has.6))
   command_done (command.Load words) r rep fit typed told has =
       as_told (command.Load words) r _ rep _ has.4 has.5 (load_done words has.0 has.1 has.2 (has.3 v.rows) (subst (AreTold new c) has.4 (told v.rows)) (does_as (λ w. load_batch w words) rep _ has.5 has.6))
-  command_done (command.Expire version) r rep fit typed told has = as_told (command.Expire version) r _ rep _ has.0 has.1 (expire_done version (subst (λ q. fits c q ≡ true) has.0 fit) (does_as (λ w. expire_to w version) rep _ has.1 has.2))
+  command_done (command.Expire None version) r rep fit typed told has = as_told (command.Expire None version) r _ rep _ has.0 has.1 (expire_done version (subst (λ q. fits c q ≡ true) has.0 fit) (does_as (λ w. expire_all w version) rep _ has.1 has.2))
+  command_done (command.Expire (Some name) version) r rep fit typed told has =
+      as_told (command.Expire (Some name) version) r _ rep _ has.2 has.3 (expire_table_done name version has.0 has.1 (subst (λ q. fits c q ≡ true) has.2 fit) (does_as (λ w. expire_table w name version) rep _ has.3 has.4))
   command_done (command.Query words) r rep fit typed told has = absurd has
   command_done (command.Explain words) r rep fit typed told has = absurd has
   command_done (command.Pin asked) r rep fit typed told has = absurd has

@@ -85,7 +85,7 @@ module _ (l : Ledger) (words : List RowWords) where
   read_so batch is = ap (λ (n : List Named). batch_of n words) (sym seen_is) ∙ is
 
   named_is_seen : tables_named (bare_of l).store ≡ tables_of (sight_of l.catalogue)
-  named_is_seen = tables_are l.catalogue.oldest l.catalogue ∙ sym seen_is
+  named_is_seen = tables_are l.catalogue ∙ sym seen_is
 
   -- rows that make no batch are refused so
   pub unread_load : (e : BatchError) → l.closed ≡ None → batch_of (tables_of (sight_of l.catalogue)) words ≡ Err e → load_batch (books_of no_rows l).bare words ≡ Err (batch_refusal e)

@@ -18,6 +18,7 @@ use Rattle.mesa_model.specs.declared.replies.Refusal.{Refusal}
 use Rattle.mesa_model.specs.declared.replies.Refusal.TheVariants as no
 use Rattle.mesa_model.specs.declared.replies.Reply.{Reply}
 use Rattle.mesa_model.specs.Refusals.{refuse_closed}
+use Rattle.mesa_model.specs.Warehouse.{Table}
 use Rattle.mesa_history.specs.Legal.{is_release}
 use Rattle.mesa_history.specs.Replay.{is_skip, no_rows as no_lines}
 use Rattle.mesa_history.specs.Run.{State, First, Finished}
@@ -46,7 +47,7 @@ use Rattle.mesa_writing.specs.Writing.{Brings, CanWrite, Does, HasRecord}
 module _ (l : Ledger) (opened : l.closed ≡ None) where
   -- the warehouse without rows has the catalogue
   has_catalog : HasCatalog l.catalogue (books_of no_rows l).bare
-  has_catalog = record { opened = opened; tables = map-map known_of skeleton_of l.catalogue.tables; oldest = refl; next = refl }
+  has_catalog = record { opened = opened; tables = map-map known_of skeleton_of l.catalogue.tables; oldests = map-map (λ (t : Table). t.oldest) skeleton_of l.catalogue.tables; floor = refl; next = refl }
 
   pub rules_do : (f : Doing) (r : Ruled) → IsRuled l.catalogue f r → Does l f r.tells
   rules_do f r is = let does = is.does (books_of no_rows l).bare has_catalog in record { after = does.0; is = does.1 }
@@ -71,7 +72,7 @@ writes_decide l later (command.Table words) r rep has = refl
 writes_decide l later (command.View words) r rep has = refl
 writes_decide l later (command.Alter words) r rep has = refl
 writes_decide l later (command.Load words) r rep has = refl
-writes_decide l later (command.Expire version) r rep has = refl
+writes_decide l later (command.Expire table version) r rep has = refl
 writes_decide l later (command.Query words) r rep has = absurd has
 writes_decide l later (command.Explain words) r rep has = absurd has
 writes_decide l later (command.Pin asked) r rep has = absurd has
@@ -84,7 +85,7 @@ writes_starve l later (command.Table words) r rep position session opened has = 
 writes_starve l later (command.View words) r rep position session opened has = (opened, refl)
 writes_starve l later (command.Alter words) r rep position session opened has = (opened, refl)
 writes_starve l later (command.Load words) r rep position session opened has = (opened, refl)
-writes_starve l later (command.Expire version) r rep position session opened has = (opened, refl)
+writes_starve l later (command.Expire table version) r rep position session opened has = (opened, refl)
 writes_starve l later (command.Query words) r rep position session opened has = absurd has
 writes_starve l later (command.Explain words) r rep position session opened has = absurd has
 writes_starve l later (command.Pin asked) r rep position session opened has = absurd has
@@ -97,7 +98,8 @@ writes_print l later (command.Table words) r rep has = ap (body_of no_lines) (sy
 writes_print l later (command.View words) r rep has = ap (body_of no_lines) (sym has.3)
 writes_print l later (command.Alter words) r rep has = ap (body_of no_lines) (sym has.5)
 writes_print l later (command.Load words) r rep has = ap (body_of no_lines) (sym has.5)
-writes_print l later (command.Expire version) r rep has = ap (body_of no_lines) (sym has.1)
+writes_print l later (command.Expire None version) r rep has = ap (body_of no_lines) (sym has.1)
+writes_print l later (command.Expire (Some name) version) r rep has = ap (body_of no_lines) (sym has.3)
 writes_print l later (command.Query words) r rep has = absurd has
 writes_print l later (command.Explain words) r rep has = absurd has
 writes_print l later (command.Pin asked) r rep has = absurd has
@@ -110,7 +112,8 @@ nothing_brought l later (command.Table words) r rep simple has = ap (brought l.c
 nothing_brought l later (command.View words) r rep simple has = ap (brought l.catalogue) has.2
 nothing_brought l later (command.Alter words) r rep simple has = ap (brought l.catalogue) has.4
 nothing_brought l later (command.Load words) r rep simple has = cc
-nothing_brought l later (command.Expire version) r rep simple has = ap (brought l.catalogue) has.0
+nothing_brought l later (command.Expire None version) r rep simple has = ap (brought l.catalogue) has.0
+nothing_brought l later (command.Expire (Some name) version) r rep simple has = ap (brought l.catalogue) has.2
 nothing_brought l later (command.Query words) r rep simple has = absurd has
 nothing_brought l later (command.Explain words) r rep simple has = absurd has
 nothing_brought l later (command.Pin asked) r rep simple has = absurd has
@@ -148,7 +151,7 @@ module _ (script : Script) (start : State) (old new : Shown) (s n : ℕ) (ran : 
   writes_take (command.Table words) has due = simple_takes script start old new s n (record { asked = command.Table words; is = refl; due = due }) (record { outcome = out; grew = grew; skipped = done ∙ ap not (sym ran); still = λ on. ran }) seen
   writes_take (command.View words) has due = simple_takes script start old new s n (record { asked = command.View words; is = refl; due = due }) (record { outcome = out; grew = grew; skipped = done ∙ ap not (sym ran); still = λ on. ran }) seen
   writes_take (command.Alter words) has due = simple_takes script start old new s n (record { asked = command.Alter words; is = refl; due = due }) (record { outcome = out; grew = grew; skipped = done ∙ ap not (sym ran); still = λ on. ran }) seen
-  writes_take (command.Expire version) has due = simple_takes script start old new s n (record { asked = command.Expire version; is = refl; due = due }) (record { outcome = out; grew = grew; skipped = done ∙ ap not (sym ran); still = λ on. ran }) seen
+  writes_take (command.Expire table version) has due = simple_takes script start old new s n (record { asked = command.Expire table version; is = refl; due = due }) (record { outcome = out; grew = grew; skipped = done ∙ ap not (sym ran); still = λ on. ran }) seen
   writes_take (command.Query words) has due = absurd has
   writes_take (command.Explain words) has due = absurd has
   writes_take (command.Pin asked) has due = absurd has

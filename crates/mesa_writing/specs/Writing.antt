@@ -13,7 +13,7 @@ use Rattle.mesa_model.specs.declared.replies.Reply.{Reply}
 use Rattle.mesa_model.specs.declared.replies.Reply.TheVariants as reply
 use Rattle.mesa_model.specs.Load.{load_batch}
 use Rattle.mesa_model.specs.Tables.{alter_table, change_asked, columns_asked, make_table, make_view}
-use Rattle.mesa_model.specs.Versions.{expire_to}
+use Rattle.mesa_model.specs.Versions.{expire_all, expire_table}
 use Rattle.mesa_model.specs.Warehouse.{Warehouse}
 use Rattle.mesa_history.specs.Run.{Run}
 use Rattle.mesa_history.specs.Turns.{IsDue}
@@ -41,7 +41,7 @@ pub record Does (l : Ledger) (f : Doing) (rep : Reply) : Type 0 where
   pub after : Warehouse
   pub is : f (books_of no_rows l).bare ≡ Ok (after, rep)
 
--- A record does what a command asks, with this reply, where these are the rows that files have later by those that they have now: it makes the table, the view or the change that is asked for; or it publishes the batch whose rows its files bring; or it lets older versions go.
+-- A record does what a command asks, with this reply, where these are the rows that files have later by those that they have now: it makes the table, the view or the change that is asked for; or it publishes the batch whose rows its files bring; or it lets older versions go, of the table that is named or of all.
 abbrev pub HasRecord : Ledger → (Rows → Rows) → Command → Record → Reply → Type 0
 HasRecord l later (command.Table words) r rep = (r ≡ record_of.Table words.table (columns_asked words).keys (columns_asked words).values) × (rep ≡ reply.Table words.table) × Does l (λ w. make_table w words) rep
 HasRecord l later (command.View words) r rep =
@@ -52,7 +52,9 @@ HasRecord l later (command.Alter words) r rep =
 HasRecord l later (command.Load words) r rep =
     (batch : List Placed) × (parts : List Part) × (batch_of (tables_read l.catalogue) words ≡ Ok batch) × ((rows : Rows) → BringsAll (later rows) parts batch 0 l.catalogue.tables)
     × (r ≡ record_of.Publish l.catalogue.next parts) × (rep ≡ reply.Loaded l.catalogue.next (length batch)) × Does l (λ w. load_batch w words) rep
-HasRecord l later (command.Expire version) r rep = (r ≡ record_of.Expire version) × (rep ≡ reply.Expired version) × Does l (λ w. expire_to w version) rep
+HasRecord l later (command.Expire None version) r rep = (r ≡ record_of.Expire version) × (rep ≡ reply.Expired None version) × Does l (λ w. expire_all w version) rep
+HasRecord l later (command.Expire (Some name) version) r rep =
+    (number : ℕ) × (number_of l.catalogue name ≡ Some number) × (r ≡ record_of.ExpireTable number version) × (rep ≡ reply.Expired (Some name) version) × Does l (λ w. expire_table w name version) rep
 HasRecord l later c r rep = ⊥
 
 -- Files are made for a record: they are those that it brings, with their bytes where they are told, and get the next ids; and what files there are keep their rows.

@@ -16,6 +16,7 @@ use mesa_io::Sink;
 use mesa_ledger::Naming;
 use mesa_log::Who;
 use mesa_model::{AlterWords, Kind, Refusal, Reply, TableWords, ViewWords};
+use mesa_schema::Words;
 use std::alloc::Global;
 
 /// The turn that makes a table.
@@ -75,14 +76,15 @@ pub fn alter<N: Naming, M: Made, D: Disk<M>, K: Sink>(
     decide(alloc, engine, who, ruled)
 }
 
-/// The turn that lets the versions below one go.
+/// The turn that lets the versions below one go, of the table that is named or of all.
 pub fn expire<N: Naming, M: Made, D: Disk<M>, K: Sink>(
     alloc: Global,
     engine: &mut Engine<N, M, D, K>,
     who: Who,
+    table: &Option<Words>,
     version: u32,
 ) -> Reply
-    requires due { IsDue N.script (run_at N.script (N.start no_rows) engine.old.shown.history) who.session who.command (command.Expire version) First }
+    requires due { IsDue N.script (run_at N.script (N.start no_rows) engine.old.shown.history) who.session who.command (command.Expire table.now version) First }
     requires room { length engine.old.shown.history < N.room }
     ensures turn { Takes N.script (N.start no_rows) engine.old.shown engine.new.shown who.session who.command kind.Decide Finished }
 {
@@ -90,6 +92,6 @@ pub fn expire<N: Naming, M: Made, D: Disk<M>, K: Sink>(
         engine.skip(who, Kind::Decide);
         return Reply::Refused(Refusal::Memory);
     }
-    let ruled = rule_expire(&engine.metadata, version);
+    let ruled = rule_expire(&engine.metadata, table, version);
     decide(alloc, engine, who, ruled)
 }

@@ -9,6 +9,7 @@ use mesa_log::Failure;
 use mesa_metadata::Metadata;
 use mesa_model::{AlterWords, Refusal, TableWords, ViewWords};
 use mesa_rules::Ruled;
+use mesa_schema::Words;
 use std::alloc::Global;
 
 // Why a turn does nothing, where the rules say why.
@@ -80,14 +81,24 @@ pub(crate) fn rule_alter(
     }
 }
 
-// An expiry of the versions below this one.
-pub(crate) fn rule_expire(metadata: &Metadata, version: u32) -> Result<Ruled, Failure>
-    ensures allowed { IfOk result (IsAllowed metadata.now.ledger (command.Expire version)) }
-    ensures refused { IfErr result (IsRefused metadata.now.ledger (command.Expire version)) }
+// An expiry of the versions below this one, of the table that is named or of all.
+pub(crate) fn rule_expire(
+    metadata: &Metadata,
+    table: &Option<Words>,
+    version: u32,
+) -> Result<Ruled, Failure>
+    ensures allowed { IfOk result (IsAllowed metadata.now.ledger (command.Expire table.now version)) }
+    ensures refused { IfErr result (IsRefused metadata.now.ledger (command.Expire table.now version)) }
 {
     check_open(metadata)?;
-    match mesa_rules::expire(metadata.catalog(), version) {
-        Ok(ruled) => Ok(ruled),
-        Err(refusal) => Err(Failure::Refused(refusal)),
+    match table {
+        None => match mesa_rules::expire(metadata.catalog(), version) {
+            Ok(ruled) => Ok(ruled),
+            Err(refusal) => Err(Failure::Refused(refusal)),
+        },
+        Some(name) => match mesa_rules::expire_table(metadata.catalog(), name.as_slice(), version) {
+            Ok(ruled) => Ok(ruled),
+            Err(why) => Err(told(why)),
+        },
     }
 }

@@ -9,9 +9,9 @@ pub skip-requires-clause-due : goal.skip-requires-clause-due
 skip-requires-clause-due g c κs within w =
     let N = g.N.Naming in
     record {
-      asked = command.Expire c.args.version;
+      asked = command.Expire c.args.table.now c.args.version;
       stage = First;
-      due = due_alike N.script (N.start no_rows) (N.start w) c.args.engine.now.shown.history c.args.who.session c.args.who.command (command.Expire c.args.version) First (N.alike w) refl c.requires.due;
+      due = due_alike N.script (N.start no_rows) (N.start w) c.args.engine.now.shown.history c.args.who.session c.args.who.command (command.Expire c.args.table.now c.args.version) First (N.alike w) refl c.requires.due;
       comes = refl;
     }
 
