@@ -1,6 +1,6 @@
 -- What a load sees stays, while no turn says that a table, a view or columns were made or changed.
-use Rattle.std.proofs.Common.{◌≡◌, ℕ, ◌+◌, ◌-◌, List, [], ◌∷◌, ◌++◌, drop, false, true, true≢false, refl, ap, ◌∙◌, arith, ok_or, nat_le, is_none, Bool}
-use Rattle.std.specs.Prelude.{Result, Ok, Err, IfOk, Option, None, Some, length, map}
+use Rattle.std.proofs.Common.{◌≡◌, ℕ, zero, suc, ◌+◌, List, [], ◌∷◌, ◌++◌, false, true, true≢false, refl, ap, ◌∙◌, arith, ok_or, nat_le, is_none, Bool}
+use Rattle.std.specs.Prelude.{Result, Ok, Err, IfOk, Option, None, Some, length, map, slice_index_or, slice_set}
 use Rattle.mesa_list.specs.Checks.{◌>>◌, refuse_if, refuse_unless, refused_as}
 use Rattle.mesa_schema.specs.Names.{is_name}
 use Rattle.mesa_schema.specs.Schema.{schema_checked}
@@ -25,12 +25,12 @@ use Rattle.mesa_model.specs.declared.replies.Reply.TheVariants as reply
 use Rattle.mesa_model.specs.declared.replies.Refusal.{Refusal}
 use Rattle.mesa_model.specs.declared.replies.Refusal.TheVariants as no
 use Rattle.mesa_model.specs.declared.replies.SchemaFault.TheVariants as fault
-use Rattle.mesa_model.specs.Warehouse.{Table, Warehouse, max_tables, max_versions, max_pins, table_at}
+use Rattle.mesa_model.specs.Warehouse.{Table, Warehouse, max_tables, max_versions, max_pins, no_table, table_at}
 use Rattle.mesa_model.specs.Relations.{table_number, is_taken}
 use Rattle.mesa_model.specs.Refusals.{bad_schema, batch_refusal, change_refusal, no_such_table, refuse_closed, schema_refusal}
 use Rattle.mesa_model.specs.Tables.{columns_asked, names_are_good, make_table, make_view, view_of_table_checked, change_asked, changed_name, alter_table}
 use Rattle.mesa_model.specs.Load.{tables_named, bounds_checked, tables_loaded, load_batch}
-use Rattle.mesa_model.specs.Versions.{version_asked, version_checked, expire_to}
+use Rattle.mesa_model.specs.Versions.{common_oldest, expire_to, table_from, version_asked, version_checked}
 use Rattle.mesa_model.specs.Pins.{make_pin, pin_of, release_pin}
 use Rattle.mesa_model.specs.Query.{Answer, query_answer}
 use Rattle.mesa_model.specs.Step.{step, done_or_refused}
@@ -95,20 +95,31 @@ module _ (w : Warehouse) where
       ok_then (Keeps w) (bounds_checked batch 0 w.store.tables) _ (
       λ none. loaded_known batch 0 w.store.tables))))
 
-  dropped_known : (count : ℕ) (ts : List Table) → map {B = Known} (λ (t : Table). record { name = t.name; lineage = t.lineage }) (map (λ (t : Table). record t { contents = drop count t.contents }) ts) ≡ map {B = Known} (λ (t : Table). record { name = t.name; lineage = t.lineage }) ts
-  dropped_known count [] = refl
-  dropped_known count (t ∷ ts) = ap (λ (more : List Known). record { name = t.name; lineage = t.lineage } ∷ more) (dropped_known count ts)
+  expired_known : (version : ℕ) (ts : List Table) → map {B = Known} (λ (t : Table). record { name = t.name; lineage = t.lineage }) (map (table_from version) ts) ≡ map {B = Known} (λ (t : Table). record { name = t.name; lineage = t.lineage }) ts
+  expired_known version [] = refl
+  expired_known version (t ∷ ts) = ap (λ (more : List Known). record { name = t.name; lineage = t.lineage } ∷ more) (expired_known version ts)
 
-  expire_keeps : (version : ℕ) → IfOk (expire_to w version) (Keeps w)
-  expire_keeps version =
+  -- so it is where versions of one table are let go
+  one_known : (version number : ℕ) (ts : List Table) → map {B = Known} (λ (t : Table). record { name = t.name; lineage = t.lineage }) (slice_set ts number (table_from version (slice_index_or ts number no_table))) ≡ map {B = Known} (λ (t : Table). record { name = t.name; lineage = t.lineage }) ts
+  one_known version number [] = refl
+  one_known version zero (t ∷ ts) = refl
+  one_known version (suc number) (t ∷ ts) = ap (λ (more : List Known). record { name = t.name; lineage = t.lineage } ∷ more) (one_known version number ts)
+
+  expire_keeps : (table : Option (List ℕ)) (version : ℕ) → IfOk (expire_to w table version) (Keeps w)
+  expire_keeps None version =
       ok_then (Keeps w) (refuse_closed w.closed) _ (
-      ok_then (Keeps w) (version_checked w version) _ (
-      λ none. dropped_known (version - w.store.oldest) w.store.tables))
+      ok_then (Keeps w) (version_checked w w.store.floor version) _ (
+      λ none. expired_known version w.store.tables))
+  expire_keeps (Some name) version =
+      ok_then (Keeps w) (refuse_closed w.closed) _ (
+      ok_bind (Keeps w) (ok_or (table_number w.store name) no_such_table) _ (λ number found.
+      ok_then (Keeps w) (version_checked w (table_at w.store number).oldest version) _ (
+      λ none. one_known version number w.store.tables)))
 
   pin_keeps : (session : ℕ) (asked : VersionWord) → IfOk (make_pin w session asked) (Keeps w)
   pin_keeps session asked =
       ok_then (Keeps w) (refuse_closed w.closed) _ (
-      ok_bind (Keeps w) (version_asked w asked) _ (λ version is.
+      ok_bind (Keeps w) (version_asked w (common_oldest w.store) asked) _ (λ version is.
       ok_then (Keeps w) (refuse_if (nat_le max_pins (length w.pins)) (no.PinsFull max_pins)) _ (
       λ none. refl)))
 
@@ -144,7 +155,7 @@ module _ (position : ℕ) (s : State) where
   decides session (command.Load rows) = deciding (step s.warehouse session (command.Load rows)) (done_keeps s.warehouse (load_batch s.warehouse rows) (load_keeps s.warehouse rows))
   decides session (command.Pin asked) = deciding (step s.warehouse session (command.Pin asked)) (done_keeps s.warehouse (make_pin s.warehouse session asked) (pin_keeps s.warehouse session asked))
   decides session (command.Release token) = deciding (step s.warehouse session (command.Release token)) (done_keeps s.warehouse (release_pin s.warehouse session token) (release_keeps s.warehouse session token))
-  decides session (command.Expire version) = deciding (step s.warehouse session (command.Expire version)) (done_keeps s.warehouse (expire_to s.warehouse version) (expire_keeps s.warehouse version))
+  decides session (command.Expire table version) = deciding (step s.warehouse session (command.Expire table version)) (done_keeps s.warehouse (expire_to s.warehouse table version) (expire_keeps s.warehouse table version))
   decides session (command.Work name) = deciding (step s.warehouse session (command.Work name)) (done_keeps s.warehouse _ (nothing_keeps s.warehouse))
 
   granting : (r : Result Claim Reply) → Leaves s (grants position s r)
