@@ -50,5 +50,5 @@ held_ranges t =
 pub record IsHeld (next : ℕ) (t : Table) : Type 0 where
   pub table : IsTable next t
   pub few : next < 2 ^ 32
-  pub oldest : ℕ
-  pub shaped : IsShaped oldest next (stock_of next t)
+  pub floor : ℕ
+  pub shaped : IsShaped floor next (stock_of next t)

@@ -21,7 +21,7 @@ table_fault-requires-after_bounds g c = λ _ _.
     let count = c.tables-number-end.ensures in
     let test = c.stocks-test.true in
     let h : n < length cat.tables = omega (arith, count, test) in
-    (cat.next, record { table = c.table-table.ensures.held; few = c.table-table.ensures.few; oldest = cat.oldest; shaped = subst (IsShaped cat.oldest cat.next) (sym c.table-table.ensures.stock) (stock_found (IsShaped cat.oldest cat.next) cat.tables n h c.requires.tables) })
+    (cat.next, record { table = c.table-table.ensures.held; few = c.table-table.ensures.few; floor = cat.floor; shaped = subst (IsShaped cat.floor cat.next) (sym c.table-table.ensures.stock) (stock_found (IsShaped cat.floor cat.next) cat.tables n h c.requires.tables) })
 
 pub returns-in-Some-clause-first : goal.returns-in-Some-clause-first
 returns-in-Some-clause-first g c = λ i found told are.
@@ -34,7 +34,7 @@ returns-in-Some-clause-first g c = λ i found told are.
     let x = stock_at cat n in
     let is = got_same cat.tables n no_stock h in
     let stock = c.table-table.ensures.stock in
-    let held : IsHeld cat.next c.table-table.result.now = record { table = c.table-table.ensures.held; few = c.table-table.ensures.few; oldest = cat.oldest; shaped = subst (IsShaped cat.oldest cat.next) (sym stock) (stock_found (IsShaped cat.oldest cat.next) cat.tables n h c.requires.tables) } in
+    let held : IsHeld cat.next c.table-table.result.now = record { table = c.table-table.ensures.held; few = c.table-table.ensures.few; floor = cat.floor; shaped = subst (IsShaped cat.floor cat.next) (sym stock) (stock_found (IsShaped cat.floor cat.next) cat.tables n h c.requires.tables) } in
     let mine = all_item (λ (t : Stock). AreFound i found (stock_shelved t)) cat.tables n x h is (all_unflat (λ (y : Shelved). IsFoundAs i y (found y.file.id)) stock_shelved cat.tables are) in
     let first = c.in_ok-shown.ensures.first cat.next i found held (inv.unmoved.told ∙ told) (subst (λ (t : Stock). AreFound i found (stock_shelved t)) (sym stock) mine) in
     flat_first (table_faults found) cat.tables n x _ h is (inv.none i found told are) (ap (λ (t : Stock). slice_get (table_faults found t) 0) (sym stock) ∙ first ∙ ap (option_map (shown_fault (stock_of cat.next c.table-table.result.now))) c.in-Some.is)
@@ -54,7 +54,7 @@ stocks-preserved g c =
     let x = stock_at cat n in
     let is = got_same cat.tables n no_stock h in
     let stock = c.table-table.ensures.stock in
-    let held : IsHeld cat.next c.table-table.result.now = record { table = c.table-table.ensures.held; few = c.table-table.ensures.few; oldest = cat.oldest; shaped = subst (IsShaped cat.oldest cat.next) (sym stock) (stock_found (IsShaped cat.oldest cat.next) cat.tables n h c.requires.tables) } in
+    let held : IsHeld cat.next c.table-table.result.now = record { table = c.table-table.ensures.held; few = c.table-table.ensures.few; floor = cat.floor; shaped = subst (IsShaped cat.floor cat.next) (sym stock) (stock_found (IsShaped cat.floor cat.next) cat.tables n h c.requires.tables) } in
     record {
       unmoved = unmoved_more _ _ _ inv.unmoved c.in_ok-shown.ensures.unmoved;
       counted = counted_more _ _ _ _ inv.counted c.in_ok-shown.ensures.counted;
