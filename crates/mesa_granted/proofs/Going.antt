@@ -1,5 +1,5 @@
 -- How a table goes on through a history.
-use Rattle.std.proofs.Common.{◌≡◌, ◌⊎◌, inl, inr, ℕ, zero, suc, ◌+◌, ◌-◌, ◌<◌, ◌≤◌, List, [], ◌∷◌, ◌++◌, length, map, drop, refl, sym, ap, subst, arith}
+use Rattle.std.proofs.Common.{◌≡◌, ◌⊎◌, inl, inr, ℕ, zero, suc, ◌+◌, ◌<◌, ◌≤◌, List, [], ◌∷◌, ◌++◌, length, map, refl, sym, ap, subst, arith}
 use Rattle.std.specs.Prelude.{slice_index_or, slice_set}
 use Rattle.std.proofs.lemmas.List.{length-append, length-map}
 use Rattle.mesa_batch.specs.Batch.{Placed}
@@ -11,7 +11,7 @@ use Rattle.mesa_model.specs.declared.commands.Script.{Script}
 use Rattle.mesa_model.specs.declared.entries.Entry.{Entry}
 use Rattle.mesa_model.specs.Load.{tables_loaded, with_batch}
 use Rattle.mesa_model.specs.Tables.{columns_asked, new_table, table_changed}
-use Rattle.mesa_model.specs.Versions.{store_from}
+use Rattle.mesa_model.specs.Versions.{store_from, table_from}
 use Rattle.mesa_model.specs.Warehouse.{Store, Table, Warehouse, no_table, table_at, with_table, with_tables}
 use Rattle.mesa_history.specs.Replay.{go, runs}
 use Rattle.mesa_history.specs.Run.{Run}
@@ -93,7 +93,10 @@ module _ (was : Lineage) (number : ℕ) (w : Warehouse) (is : Goes was number w.
         let grown = subst (λ k. HasGrown was (lineage_in w.store k)) same is.grown in
         let rule = (passed_first (rule_checked l c) _ rules).0 in
         (lineage_changed l c lineage (change_default l words.change c asked rule) rules, grown_changed was l c lineage rule grown));
-    expires = λ version ok. alike (store_from w.store version) (omega (arith, length-map w.store.tables (λ (t : Table). record t { contents = drop (version - w.store.oldest) t.contents }))) (kept_get (λ (t : Table). record t { contents = drop (version - w.store.oldest) t.contents }) (λ t. refl) w.store.tables number);
+    expires = λ version ok. alike (store_from w.store version) (omega (arith, length-map w.store.tables (table_from version))) (kept_get (table_from version) (λ t. refl) w.store.tables number);
+    expires_one = λ name n version at ok.
+        replaced n (table_from version (table_at w.store n))
+        (λ same. (subst (λ k. IsLineage (lineage_in w.store k)) same is.lineage, subst (λ k. HasGrown was (lineage_in w.store k)) same is.grown));
   }
 
 -- ---- a history

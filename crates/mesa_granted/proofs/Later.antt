@@ -35,6 +35,7 @@ later_moves n w le = record {
   views = λ words number free at rules. (le, tt);
   alters = λ words number c at asked rules. (le, tt);
   expires = λ version ok. (le, tt);
+  expires_one = λ name number version at ok. (le, tt);
 }
 
 later_accepted : (n : ℕ) (script : Script) (r : Run) (h : List Entry) → n ≤ r.state.warehouse.next → AllByRecursion (λ (a : Accepted). n ≤ a.version) (accepted_in script r h)
