@@ -8,7 +8,7 @@ use Rattle.mesa_span.specs.Work.{next_work}
 use Rattle.mesa_disk.specs.Story.{Story}
 use Rattle.mesa_lease.specs.Book.{is_held, other_holder}
 use Rattle.mesa_model.specs.Refusals.{refuse_closed}
-use Rattle.mesa_model.specs.Warehouse.{Warehouse}
+use Rattle.mesa_model.specs.Warehouse.{Table, Warehouse, no_table, table_at}
 use Rattle.mesa_model.specs.declared.commands.Command.TheVariants as command
 use Rattle.mesa_model.specs.declared.entries.Entry.{Entry}
 use Rattle.mesa_model.specs.declared.replies.Refusal.{Refusal}
@@ -19,10 +19,11 @@ use Rattle.mesa_history.specs.Run.{Place, Renewed}
 use Rattle.mesa_history.specs.Turns.{IsDue}
 use Rattle.mesa_history.proofs.Claiming.{held_is_live}
 use Rattle.mesa_image.specs.Catalog.{no_stock, ranges_of, stock_at}
+use Rattle.mesa_skeleton.specs.Bare.{bare_table}
 use Rattle.mesa_skeleton.specs.Rows.{no_rows}
 use Rattle.mesa_ledger.specs.mesa_walk.Walk.{Outset, run_of}
 use Rattle.mesa_ledger.proofs.mesa_walk.Working.{checked_open}
-use Rattle.mesa_ledger.specs.Ledger.{Ledger, books_of}
+use Rattle.mesa_ledger.specs.Ledger.{Ledger, books_of, skeleton_of}
 use Rattle.mesa_ledger.specs.Vault.{Origin, IsVault}
 use Rattle.mesa_ledger.proofs.Beginning.{vault_claims}
 
@@ -42,7 +43,7 @@ pub record IsDueStill (l : Ledger) (claim : Claim) : Type 0 where
   pub oldest : ℕ
   pub next : ℕ
   pub due : next_work (ranges_of (stock_at l.catalogue claim.table)) oldest (base_before next) ≡ Some claim.work
-  pub later_oldest : oldest ≤ l.catalogue.oldest
+  pub later_oldest : oldest ≤ (stock_at l.catalogue claim.table).oldest
   pub later_next : next ≤ l.catalogue.next
   pub there : claim.table < length l.catalogue.tables
 
@@ -53,7 +54,10 @@ due_still o g l story held h running refused v s number name at claim due checke
     let live : is_live l.leases claim.table claim.lease ≡ true = held_is_live l.leases claim.table claim.lease at (checked_held l at claim checked) in
     let stays = subst (λ (m : Machine). is_live m.leases claim.table claim.lease ≡ true → ranges_at m claim.table ≡ has.was) v.walk.state.machine has.is.stays in
     let within = subst (λ (m : Machine). claim.table < length m.ranges) v.walk.state.machine has.is.there in
-    let oldest = ap (λ (x : Warehouse). x.store.oldest) v.walk.state.skeleton in
+    let oldest =
+    sym (ap (λ (t : Table). t.oldest) (get_or-map bare_table (run_of o h).state.warehouse.store.tables claim.table no_table))
+    ∙ ap (λ (x : Warehouse). (table_at x.store claim.table).oldest) v.walk.state.skeleton
+    ∙ ap (λ (t : Table). t.oldest) (get_or-map skeleton_of l.catalogue.tables claim.table no_stock) in
     let next = ap (λ (x : Warehouse). x.next) v.walk.state.skeleton in
     record {
       oldest = has.oldest;

@@ -44,7 +44,7 @@ pub(crate) fn prepare<M: Made, R: FileReader>(
 ) -> Result<Ready<M>, AllocError>
     requires shaped { IsCatalog metadata.old.ledger.catalogue }
     requires there { task.now.table < length metadata.old.ledger.catalogue.tables }
-    requires due { (oldest next : ℕ) × (next_work (ranges_of (table_in metadata.old.ledger task.now)) oldest (base_before next) ≡ Some task.now.work) × (oldest ≤ metadata.old.ledger.catalogue.oldest) × (next ≤ metadata.old.ledger.catalogue.next) }
+    requires due { (oldest next : ℕ) × (next_work (ranges_of (table_in metadata.old.ledger task.now)) oldest (base_before next) ≡ Some task.now.work) × (oldest ≤ (table_in metadata.old.ledger task.now).oldest) × (next ≤ metadata.old.ledger.catalogue.next) }
     requires finished { (was : Lineage) × IsFinished M.bytes M.id_of R.bytes was (table_in metadata.old.ledger task.now).lineage task.now delta }
     requires given { (id : ℕ) → Among id (named metadata.old.ledger.catalogue) → id < next_id metadata.old.ledger }
     requires room { metadata.old.ledger.adopted + most_files < 2 ^ 40 }
