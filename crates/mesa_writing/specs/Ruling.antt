@@ -14,6 +14,7 @@ use Rattle.mesa_ledger.specs.Ledger.{Ledger, books_of}
 use Rattle.mesa_log.specs.Failure.{cause_in}
 use Rattle.mesa_log.specs.declared.failure.Failure.{Failure}
 use Rattle.mesa_log.specs.declared.failure.Failure.TheVariants as failure
+use Rattle.mesa_metadata.specs.Memory.{Memory}
 use Rattle.mesa_rules.specs.declared.ruled.Ruled.{Ruled}
 use Rattle.mesa_engine.specs.Failing.{HasNotDone, deciding_kind, deciding_stage, is_of_device}
 use Rattle.mesa_writing.specs.Writing.{HasRecord}
@@ -30,14 +31,13 @@ pub record IsRefused (l : Ledger) (c : Command) (why : Failure) : Type 0 where
   pub failed : (position session : ℕ) → HasNotDone (books_of no_rows l) position session c (cause_in why)
   pub quiet : is_of_device (cause_in why) ≡ false
 
--- A session's command is decided in its first turn, and this is what the rules decide of it.
-pub record IsRuling (script : Script) (r : Run) (l : Ledger) (session number : ℕ) (ruled : Result Ruled Failure) : Type 0 where
+-- A session's command is decided in its first turn by a rule: whatever the rule may say over a vault's memory, it allows what the command asks, or refuses it.
+pub record IsRuledBy (script : Script) (r : Run) (session number : ℕ) (says : Memory → Result Ruled Failure → Type 0) : Type 0 where
   pub asked : Command
   pub due : IsDue script r session number asked (deciding_stage asked)
   pub simple : deciding_stage asked ≡ First
   pub decides : kind.Decide ≡ deciding_kind asked
-  pub allowed : IfOk ruled (IsAllowed l asked)
-  pub refused : IfErr ruled (IsRefused l asked)
+  pub rules : (m : Memory) (ruled : Result Ruled Failure) → says m ruled → IfOk ruled (IsAllowed m.ledger asked) × IfErr ruled (IsRefused m.ledger asked)
 
 -- why a turn does nothing, where the rules say why
 abbrev pub told_as : Unruled → Failure

@@ -15,7 +15,7 @@ use mesa_engine::Engine;
 use mesa_io::Sink;
 use mesa_ledger::Naming;
 use mesa_log::Who;
-use mesa_model::{AlterWords, Kind, Refusal, Reply, TableWords, ViewWords};
+use mesa_model::{AlterWords, Reply, TableWords, ViewWords};
 use mesa_schema::Words;
 use std::alloc::Global;
 
@@ -30,12 +30,12 @@ pub fn table<N: Naming, M: Made, D: Disk<M>, K: Sink>(
     requires room { length engine.old.shown.history < N.room }
     ensures turn { Takes N.script (N.start no_rows) engine.old.shown engine.new.shown who.session who.command kind.Decide Finished }
 {
-    if !engine.running() {
-        engine.skip(who, Kind::Decide);
-        return Reply::Refused(Refusal::Memory);
-    }
-    let ruled = rule_table(alloc, &engine.metadata, words);
-    decide(alloc, engine, who, ruled)
+    decide(
+        alloc,
+        engine,
+        who,
+        |metadata| rule_table(alloc, metadata, words),
+    )
 }
 
 /// The turn that makes a view of a table.
@@ -49,12 +49,12 @@ pub fn view<N: Naming, M: Made, D: Disk<M>, K: Sink>(
     requires room { length engine.old.shown.history < N.room }
     ensures turn { Takes N.script (N.start no_rows) engine.old.shown engine.new.shown who.session who.command kind.Decide Finished }
 {
-    if !engine.running() {
-        engine.skip(who, Kind::Decide);
-        return Reply::Refused(Refusal::Memory);
-    }
-    let ruled = rule_view(alloc, &engine.metadata, words);
-    decide(alloc, engine, who, ruled)
+    decide(
+        alloc,
+        engine,
+        who,
+        |metadata| rule_view(alloc, metadata, words),
+    )
 }
 
 /// The turn that changes a table's columns.
@@ -68,12 +68,12 @@ pub fn alter<N: Naming, M: Made, D: Disk<M>, K: Sink>(
     requires room { length engine.old.shown.history < N.room }
     ensures turn { Takes N.script (N.start no_rows) engine.old.shown engine.new.shown who.session who.command kind.Decide Finished }
 {
-    if !engine.running() {
-        engine.skip(who, Kind::Decide);
-        return Reply::Refused(Refusal::Memory);
-    }
-    let ruled = rule_alter(alloc, &engine.metadata, words);
-    decide(alloc, engine, who, ruled)
+    decide(
+        alloc,
+        engine,
+        who,
+        |metadata| rule_alter(alloc, metadata, words),
+    )
 }
 
 /// The turn that lets the versions below one go, of the table that is named or of all.
@@ -88,10 +88,10 @@ pub fn expire<N: Naming, M: Made, D: Disk<M>, K: Sink>(
     requires room { length engine.old.shown.history < N.room }
     ensures turn { Takes N.script (N.start no_rows) engine.old.shown engine.new.shown who.session who.command kind.Decide Finished }
 {
-    if !engine.running() {
-        engine.skip(who, Kind::Decide);
-        return Reply::Refused(Refusal::Memory);
-    }
-    let ruled = rule_expire(&engine.metadata, table, version);
-    decide(alloc, engine, who, ruled)
+    decide(
+        alloc,
+        engine,
+        who,
+        |metadata| rule_expire(metadata, table, version),
+    )
 }

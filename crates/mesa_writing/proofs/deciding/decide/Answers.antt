@@ -1,18 +1,49 @@
-use Rattle.std.proofs.Common.{◌∙◌, ap, subst}
-use Rattle.std.specs.Prelude.{IfOk}
+use Rattle.std.proofs.Common.{◌∙◌, ap, length, refl, subst}
+use Rattle.std.specs.Prelude.{IfErr, IfOk}
+use Rattle.mesa_history.specs.Run.{Finished}
+use Rattle.mesa_skeleton.specs.Rows.{no_rows}
+use Rattle.mesa_ledger.proofs.mesa_walk.Alike.{due_alike}
 use Rattle.mesa_engine.specs.Engine.{Standing}
-use Rattle.mesa_writing.specs.Ruling.{IsAllowed}
-use Rattle.mesa_writing.proofs.Rulings.{allowed_writes}
+use Rattle.mesa_engine.specs.Failing.{deciding_stage}
+use Rattle.mesa_engine.proofs.Undone.{deciding_unanswered}
+use Rattle.mesa_writing.specs.Ruling.{IsAllowed, IsRefused}
+use Rattle.mesa_writing.proofs.Rulings.{allowed_writes, deciding_comes}
 use Rattle.mesa_writing.proofs.deciding.decide.Goals as goal
+
+pub skip-requires-clause-due : goal.skip-requires-clause-due
+skip-requires-clause-due g c κs within w =
+    let N = g.N.Naming in
+    let to = c.requires.ruled in
+    record {
+      asked = to.asked;
+      stage = deciding_stage to.asked;
+      due = due_alike N.script (N.start no_rows) (N.start w) c.args.engine.now.shown.history c.args.who.session c.args.who.command to.asked (deciding_stage to.asked) (N.alike w) (deciding_unanswered to.asked) to.due;
+      comes = deciding_comes to.asked to.decides;
+    }
+
+pub returns-then-not-running : goal.returns-then-not-running
+returns-then-not-running g c = record { turn = c.skip.ensures.turn Finished }
 
 pub write-requires-clause-change : goal.write-requires-clause-change
 write-requires-clause-change g c κs within =
-    let to = c.requires.ruling in
+    let to = c.requires.ruled in
+    let m = c.engine.inside.metadata in
     let l = c.args.engine.now.ledger in
-    let allowed : IsAllowed l to.asked c.in-Ok.field-0 = subst (λ r. IfOk r (IsAllowed l to.asked)) c.in-Ok.is to.allowed in
+    let said = to.rules m c.rule.result (_, c.rule.ensures, refl) in
+    let here : IsAllowed m.ledger to.asked c.in-Ok.field-0 = subst (λ r. IfOk r (IsAllowed m.ledger to.asked)) c.in-Ok.is said.0 in
+    let allowed : IsAllowed l to.asked c.in-Ok.field-0 = subst (λ (s : Standing). IsAllowed s.ledger to.asked c.in-Ok.field-0) c.engine.view_is here in
     record {
       asked = to.asked;
       due = to.due;
       can = allowed_writes g.M.Made.bytes l to.asked c.in-Ok.field-0 c.new.result c.adopted-adopted.result to.simple allowed c.new.ensures.items
           (c.adopted-adopted.ensures.adopted ∙ ap (λ (s : Standing). s.ledger.adopted) c.engine.view_is) c.adopted-adopted.ensures.few;
     }
+
+pub fail-requires-clause-fails : goal.fail-requires-clause-fails
+fail-requires-clause-fails g c κs within =
+    let to = c.requires.ruled in
+    let m = c.engine.inside.metadata in
+    let said = to.rules m c.rule.result (_, c.rule.ensures, refl) in
+    let here : IsRefused m.ledger to.asked c.in-Err.failure = subst (λ r. IfErr r (IsRefused m.ledger to.asked)) c.in-Err.is said.1 in
+    let refused : IsRefused c.args.engine.now.ledger to.asked c.in-Err.failure = subst (λ (s : Standing). IsRefused s.ledger to.asked c.in-Err.failure) c.engine.view_is here in
+    record { asked = to.asked; due = to.due; decides = to.decides; why = refused.failed (length c.args.engine.now.shown.history) c.args.who.session; quiet = refused.quiet }
