@@ -64,10 +64,10 @@ def generated(program, folder, draw):
     """A story that begins with a generated script: an expiry stands behind every twenty-fifth version."""
     versions = draw.randint(1, 50)
     printed([program, "gen", str(draw.randrange(65537)), str(versions)], cwd=folder)
-    facts = Table("facts", *map(list, GENERATED))
+    floor = max(0, versions // 25 * 25 - 11)
+    facts = Table("facts", *map(list, GENERATED), floor)
     facts.views, facts.used = 1, {"clicks", "low"}
-    oldest = max(0, versions // 25 * 25 - 11)
-    return Story(draw, [facts], versions, oldest)
+    return Story(draw, [facts], versions, floor)
 
 
 def make(program, folder, number):
@@ -79,8 +79,8 @@ def make(program, folder, number):
     return draw
 
 
-def some_versions(draw, store):
-    oldest, newest = store.catalogue.oldest, store.newest
+def some_versions(draw, store, table):
+    oldest, newest = table.oldest, store.newest
     return sorted({oldest, newest, *(draw.randint(oldest, newest) for _ in range(3))})
 
 
@@ -88,7 +88,7 @@ def questions(draw, store):
     """Each relation at some versions."""
     for table in store.catalogue.tables:
         for name in (table.name, *(it.name for it in table.views)):
-            for version in some_versions(draw, store):
+            for version in some_versions(draw, store, table):
                 yield name, version
 
 
@@ -108,12 +108,12 @@ def compare(program, folder, store, asked):
 
 def compare_list(program, folder, store):
     """The list's versions against the program's refusals, and its tables against those that they make in an empty store."""
-    path, name = folder + "/mesa-store", store.catalogue.tables[0].name
+    path, catalogue = folder + "/mesa-store", store.catalogue
+    name, oldest, newest = catalogue.tables[0].name, catalogue.tables[0].oldest, store.newest
     if read(path, name) != csv_of(store, name, None):
         stop(f"as a program the reader has {read(path, name)}")
     first, *commands = read(path).decode().splitlines()
-    oldest, newest = store.catalogue.oldest, store.newest
-    if first != f"oldest {oldest}, newest {newest}":
+    if first != f"floor {catalogue.floor}, newest {newest}":
         stop(f"the list begins with {first}")
     wanted = {NO_VERSION: f"future asked={NO_VERSION} newest={newest}"}
     if oldest > 0:
@@ -121,10 +121,11 @@ def compare_list(program, folder, store):
     refused = told(program, folder, [f"query,{name},{it}" for it in wanted], 1)
     if [it.split(" refused ")[1] for it in refused.decode().splitlines()] != list(wanted.values()):
         stop(f"the list begins with {first}, and the program says {refused}")
+    made = [it for it in commands if not it.startswith("expire,")]
     with new_folder() as other:
-        told(program, other, commands)
-        if read(other + "/mesa-store").decode().splitlines()[1:] != commands:
-            stop(f"other tables are made by {commands}")
+        told(program, other, made)
+        if read(other + "/mesa-store").decode().splitlines()[1:] != made:
+            stop(f"other tables are made by {made}")
 
 
 def compare_views(store, version):

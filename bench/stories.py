@@ -1,6 +1,6 @@
 """Scripts of several runs, drawn at random by a seed, whose every command is accepted: tables and views are made, batches
-are loaded into some of them (corrections of the same keys too, and batches of no rows), columns come and go, versions are
-let go, and files are merged; now and then by sessions beside each other."""
+are loaded into some of them (corrections of the same keys too, and batches of no rows), columns come and go, versions of
+one table or of all are let go, and files are merged; now and then by sessions beside each other."""
 import itertools
 
 TEXTS = ("", "a,b", 'say "so"', "two\nlines", "\r", " x ", "é", "漢字", "a" * 40)
@@ -24,15 +24,15 @@ def entries(columns):
 class Table:
     """A table as the story knows it. What views use stays."""
 
-    def __init__(self, name, keys, values):
-        self.name, self.keys, self.values, self.views, self.used = name, keys, values, 0, set()
+    def __init__(self, name, keys, values, oldest):
+        self.name, self.keys, self.values, self.oldest, self.views, self.used = name, keys, values, oldest, 0, set()
 
 
 class Story:
     """What a store has at some place of its story."""
 
-    def __init__(self, draw, tables=(), versions=0, oldest=0):
-        self.draw, self.tables, self.versions, self.oldest = draw, list(tables), versions, oldest
+    def __init__(self, draw, tables=(), versions=0, floor=0):
+        self.draw, self.tables, self.versions, self.floor = draw, list(tables), versions, floor
         self.numbers = itertools.count()
         # one batch of more rows than a block has, in every second story
         self.long_batches = draw.randrange(2)
@@ -48,7 +48,7 @@ class Story:
 
     def table(self):
         keys = [self.key_column() for _ in range(self.draw.randint(1, 3))]
-        made = Table(self.name("t"), keys, [self.value_column() for _ in range(self.draw.randint(1, 4))])
+        made = Table(self.name("t"), keys, [self.value_column() for _ in range(self.draw.randint(1, 4))], self.floor)
         self.tables.append(made)
         yield record("table", made.name, entries(made.keys), entries(made.values))
 
@@ -116,8 +116,16 @@ class Story:
 
     def expire(self):
         if self.versions:
-            self.oldest = self.draw.randint(self.oldest, self.versions - 1)
-            yield record("expire", self.oldest)
+            self.floor = self.draw.randint(self.floor, self.versions - 1)
+            for table in self.tables:
+                table.oldest = max(table.oldest, self.floor)
+            yield record("expire", self.floor)
+
+    def expire_table(self):
+        table = self.draw.choice(self.tables)
+        if self.versions:
+            table.oldest = self.draw.randint(table.oldest, self.versions - 1)
+            yield record("expire", table.name, table.oldest)
 
     def work(self):
         for _ in range(self.draw.randint(1, 3)):
@@ -134,7 +142,7 @@ class Story:
         """The script of one run."""
         if not self.tables:
             yield from self.table()
-        steps = (self.table, self.view, self.view, self.change, self.change, self.expire, self.work, self.work)
+        steps = (self.table, self.view, self.view, self.change, self.change, self.expire, self.expire_table, self.work, self.work)
         for step in self.draw.choices(steps + 8 * (self.loads,), k=self.draw.randint(3, 20)):
             yield from step() if step != self.table or len(self.tables) < 5 else ()
         if self.draw.random() < 0.3:

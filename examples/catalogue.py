@@ -229,10 +229,11 @@ class View(typing.NamedTuple):
 
 
 class Table:
-    """A table: its columns in each epoch, its views by their numbers, and its deltas."""
+    """A table: its oldest version, its columns in each epoch, its views by their numbers, and its deltas."""
 
-    def __init__(self, name, columns, base):
-        self.name, self.epochs, self.changes, self.views = name, [columns], [], []
+    def __init__(self, name, columns, oldest):
+        self.name, self.oldest, self.epochs, self.changes, self.views = name, oldest, [columns], [], []
+        base = Delta(0, oldest - 1, 0, None) if oldest else None
         self.base, self.cumulatives, self.singletons = base, [], {}
 
     @property
@@ -288,16 +289,16 @@ class Catalogue:
     """What the journal's records make of an empty store. What reading rows rests on is tested of each; `check` tests all."""
 
     def __init__(self):
-        self.tables, self.oldest, self.next = [], 0, 0
+        self.tables, self.floor, self.next = [], 0, 0
 
     def apply(self, body, source):
         b = Bytes(body, source)
         kind = b.number(1)
-        readers = (self.run, self.table, self.view, self.alter, self.publish, self.swap, self.expire)
-        if not 1 <= kind <= len(readers):
+        readers = {1: self.run, 2: self.table, 3: self.view, 4: self.alter, 5: self.publish, 6: self.swap, 7: self.expire, 12: self.expire_table}
+        if kind not in readers:
             raise b.fault(f"there is no record of kind {kind}")
         try:
-            readers[kind - 1](b)
+            readers[kind](b)
         except (IndexError, ValueError):
             raise b.fault("the record names a table, a view, an epoch or a column that isn't there") from None
         b.end()
@@ -309,8 +310,7 @@ class Catalogue:
         name = b.name()
         keys = b.many(1, lambda: Column(b.name(), b.one_of(KEY_TYPES)))
         values = b.many(1, lambda: Column(b.name(), b.one_of(AGGREGATIONS)))
-        base = Delta(0, self.oldest - 1, 0, None) if self.oldest else None
-        self.tables.append(Table(name, Columns(keys, values), base))
+        self.tables.append(Table(name, Columns(keys, values), self.floor))
 
     def view(self, b):
         table, view = self.tables[b.number(2)], View.read(b)
@@ -342,7 +342,7 @@ class Catalogue:
         first, last, epoch = b.number(4), b.number(4), b.number(4)
         files = Files.read(b) if b.one_of((False, True)) else None
         delta = self.tested(table, Delta(first, last, epoch, files))
-        if is_base and first == 0 and max(1, table.behind_base) <= last <= self.oldest:
+        if is_base and first == 0 and max(1, table.behind_base) <= last <= table.oldest:
             table.swap_base(delta)
         elif not is_base and (first, last) == (table.behind_base, table.next_cumulative()) and last < self.next:
             table.swap_cumulative(delta)
@@ -357,7 +357,17 @@ class Catalogue:
         return delta
 
     def expire(self, b):
+        self.floor = self.later(b, self.floor)
+        for table in self.tables:
+            table.oldest = max(table.oldest, self.floor)
+
+    def expire_table(self, b):
+        table = self.tables[b.number(2)]
+        table.oldest = self.later(b, table.oldest)
+
+    def later(self, b, oldest):
+        """The version that becomes the oldest one, from this one to the newest."""
         version = b.number(4)
-        if not self.oldest <= version < self.next:
+        if not oldest <= version < self.next:
             raise b.fault(f"the oldest version becomes {version}")
-        self.oldest = version
+        return version

@@ -193,7 +193,7 @@ def legend(deltas, top):
 
 def picture(store, table):
     """The lines of the SVG."""
-    newest, oldest, deltas = store.version(None), store.catalogue.oldest, table.deltas()
+    newest, oldest, deltas = store.version(table, None), table.oldest, table.deltas()
     scale = Scale(newest, -(-(newest + 1) // MOST_COLUMNS))
     read = {(it.first, it.last) for it in table.plan(newest)}
     base = [table.base] if table.base else []

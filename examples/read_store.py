@@ -1,11 +1,11 @@
 #!/usr/bin/env python3
 """Reads a store without the program, as docs/STORE.md and docs/FORMATS.md tell.
 
-    python3 examples/read_store.py STORE                       lists the tables and views, the oldest and the newest version
+    python3 examples/read_store.py STORE                       lists the tables and views, the floor and the newest version
     python3 examples/read_store.py STORE RELATION [VERSION]    prints a table or view at a version (the newest) as csv
 
-STORE is the store's folder. The list has each table and view as the command that would make it with its present columns.
-The csv has all rows, as `query,RELATION,VERSION` prints them: key columns, then value columns, by rising key, no head.
+STORE is the store's folder. The list has each table and view as the command that would make it with its present columns,
+and each table's oldest version above the floor as its expiry. The csv has all rows, as `query,RELATION,VERSION` prints them: key columns, then value columns, by rising key, no head.
 Rows are folded in memory. Nothing is written and no lock is taken, so read a store that no program has open, or a copy.
 What is wrong is told in one line, with status 1: of what is asked for, and by the list of every file's length and tail."""
 import argparse
@@ -106,20 +106,20 @@ class Store:
                 return table, None if name == table.name else names.index(name)
         raise Fault(f"there is no table or view {name}")
 
-    def version(self, asked):
-        """The version that is asked for, the newest where none is."""
-        oldest, newest = self.catalogue.oldest, self.newest
+    def version(self, table, asked):
+        """The version that is asked of a table, the newest where none is."""
+        newest = self.newest
         if newest is None:
             raise Fault("there is no version yet")
         version = newest if asked is None else asked
-        if not oldest <= version <= newest:
-            raise Fault(f"there is no version {version}: the oldest is {oldest}, the newest {newest}")
+        if not table.oldest <= version <= newest:
+            raise Fault(f"{table.name} has no version {version}: its oldest is {table.oldest}, the newest {newest}")
         return version
 
     def rows(self, name, asked=None):
         """The columns of a table or view, and its rows at a version, folded, by rising key. STORE, "From the catalogue to rows"."""
-        version = self.version(asked)
         table, view = self.relation(name)
+        version = self.version(table, asked)
         columns = table.columns if view is None else table.views[view].columns(table.columns)
         rows = itertools.chain.from_iterable(self.delta_rows(table, view, it) for it in table.plan(version))
         return columns, fold(rows, columns)
@@ -189,12 +189,16 @@ def field(key):
 
 
 def print_list(store):
-    print(f"oldest {store.catalogue.oldest}, newest {'none' if store.newest is None else store.newest}")
-    for table in store.catalogue.tables:
+    catalogue = store.catalogue
+    print(f"floor {catalogue.floor}, newest {'none' if store.newest is None else store.newest}")
+    for table in catalogue.tables:
         keys, values = table.columns
         print(f"table,{table.name},{';'.join(map(str, keys))},{';'.join(map(str, values))}")
         for view in table.views:
             print(f"view,{view.name},{table.name},{';'.join(view.keys)},{';'.join(view.values)}")
+    for table in catalogue.tables:
+        if table.oldest > catalogue.floor:
+            print(f"expire,{table.name},{table.oldest}")
 
 
 def run(program):
