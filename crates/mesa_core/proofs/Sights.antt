@@ -13,7 +13,7 @@ use Rattle.mesa_history.specs.Run.{State}
 use Rattle.mesa_image.specs.Catalog.{Catalog, no_stock, stock_at}
 use Rattle.mesa_catalog.proofs.Stocks.{all_at}
 use Rattle.mesa_image.specs.Shape.{IsShaped}
-use Rattle.mesa_ledger.specs.Ledger.{Ledger, skeletons_from}
+use Rattle.mesa_ledger.specs.Ledger.{Ledger, skeletons}
 use Rattle.mesa_ledger.specs.Vault.{Starts, IsVault, IsVaultAt, outset_of}
 use Rattle.mesa_model.specs.declared.commands.Script.{Script}
 use Rattle.mesa_model.specs.declared.entries.Entry.{Entry}
@@ -28,15 +28,15 @@ use Rattle.mesa_walk.specs.Walk.{run_of}
 bare_known : (s : Store) → tables_known (bare_store s) ≡ tables_known s
 bare_known s = map-map _ _ s.tables
 
-skeletons_known : (oldest : ℕ) (c : Catalog) → tables_known (skeletons_from oldest c) ≡ map known_as c.tables
-skeletons_known oldest c = map-map _ _ c.tables
+skeletons_known : (c : Catalog) → tables_known (skeletons c) ≡ map known_as c.tables
+skeletons_known c = map-map _ _ c.tables
 
 pub catalogue_is : (n : Starts) (l : Ledger) (story : Story) (held : Option (List ℕ)) (h : List Entry) (running refused : Bool) → IsVaultAt n l story held h running refused → generation_of l.catalogue ≡ l.generation
     → IsCatalogAfter n.script n.start (n.origin no_rows).generation h l.catalogue
 catalogue_is n l story held h running refused v same = record {
   sight = λ i. record { generation = (same ∙ first.counts.generation) i; tables = tables i };
   next = λ w. sym (ap (λ (x : Warehouse). x.next) (v w false (λ is. absurd cc)).walk.state.skeleton);
-  lineages = λ number there. (all_at (IsShaped l.catalogue.oldest l.catalogue.next) l.catalogue.tables number no_stock first.shaped.tables there).lineage;
+  lineages = λ number there. (all_at (IsShaped l.catalogue.floor l.catalogue.next) l.catalogue.tables number no_stock first.shaped.tables there).lineage;
 }
   where
     first : IsVault (outset_of n no_rows) (n.origin no_rows) false l story held h running refused
@@ -44,7 +44,7 @@ catalogue_is n l story held h running refused v same = record {
 
     tables : map known_as l.catalogue.tables ≡ tables_known (run_of (outset_of n no_rows) h).state.warehouse.store
     tables =
-        sym (skeletons_known l.catalogue.oldest l.catalogue)
+        sym (skeletons_known l.catalogue)
         ∙ ap (λ (w : Warehouse). tables_known w.store) (sym first.walk.state.skeleton)
         ∙ bare_known (run_of (outset_of n no_rows) h).state.warehouse.store
 

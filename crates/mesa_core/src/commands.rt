@@ -32,7 +32,9 @@ impl<'s, N: Naming, M: Made, D: Disk<M>, K: Sink> Vault<'s, N, M, D, K> {
             Some(Command::Explain(words)) => explain(alloc, &mut self.engine, who, words),
             Some(Command::Pin(asked)) => pin(&mut self.engine, who, *asked),
             Some(Command::Release(token)) => release(&mut self.engine, who, *token),
-            Some(Command::Expire(version)) => expire(alloc, &mut self.engine, who, *version),
+            Some(Command::Expire { table, version }) => {
+                expire(alloc, &mut self.engine, who, table, *version)
+            }
             _ => unreachable!(),
         }
     }
