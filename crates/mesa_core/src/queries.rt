@@ -1,8 +1,11 @@
 // The turns of a query.
-ghost use Rattle.std.specs.Prelude.{◌<◌, length};
+ghost use Rattle.std.specs.Prelude.{◌≡◌, ◌<◌, length, IfOk, Some};
+ghost use Rattle.mesa_completing.specs.mesa_asking.Opening.{HasItsFiles};
 ghost use Rattle.mesa_core.specs.Handing.{Tells};
 ghost use Rattle.mesa_history.specs.Legal.{is_query};
-ghost use Rattle.mesa_history.specs.Run.{Finished, First};
+ghost use Rattle.mesa_filter.specs.declared.words.QueryWords.{QueryWords};
+ghost use Rattle.mesa_history.specs.Run.{Finished, First, command_at};
+ghost use Rattle.mesa_model.specs.declared.commands.Command.TheVariants as command;
 ghost use Rattle.mesa_model.specs.declared.entries.Kind.TheVariants as kind;
 ghost use Rattle.mesa_granted.specs.mesa_service.Pins.{HasAnswered, IsOpenQuery, TakesQuery, known_pin};
 ghost use Rattle.mesa_skeleton.specs.Rows.{no_rows};
@@ -27,6 +30,8 @@ impl<'s, N: Naming, M: Made, D: Disk<M>, K: Sink> Vault<'s, N, M, D, K> {
         requires due { Asks N.script (run_at N.script (N.start no_rows) self.old.shown.history) who.session who.command First is_query }
         requires room { length self.old.shown.history < N.room }
         ensures turn { TakesQuery D.Reader.bytes N.script N.start (λ past. Tells N.sound) self.old.shown self.new.shown who.session who.command result }
+        // They are those of the plan at the version asked, by the tables that the query saw before the turn.
+        ensures files { (words : QueryWords) → command_at N.script who.session who.command ≡ Some (command.Query words) → IfOk result (HasItsFiles D.Reader.bytes D.Reader.faults self.old.told self.old.ledger who.session words) }
     {
         let words = words_of(self.script, who);
         pin_query(&mut self.engine, who, words)

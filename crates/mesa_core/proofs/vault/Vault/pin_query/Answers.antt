@@ -1,7 +1,11 @@
-use Rattle.std.proofs.Common.{sym, subst}
+use Rattle.std.proofs.Common.{◌≡◌, ◌∙◌, ap, sym, subst, Some}
+use Rattle.std.specs.Prelude.{IfOk}
+use Rattle.mesa_completing.specs.mesa_asking.Opening.{HasItsFiles}
+use Rattle.mesa_filter.specs.declared.words.QueryWords.{QueryWords}
 use Rattle.mesa_history.specs.Legal.{is_query}
-use Rattle.mesa_history.specs.Run.{First}
+use Rattle.mesa_history.specs.Run.{First, command_at}
 use Rattle.mesa_model.specs.declared.commands.Command.TheVariants as command
+use Rattle.mesa_model.specs.declared.commands.Script.{Script}
 use Rattle.mesa_granted.specs.mesa_service.Pins.{TakesQuery}
 use Rattle.mesa_skeleton.specs.Rows.{no_rows}
 use Rattle.mesa_walk.specs.Turns.{Asks}
@@ -27,10 +31,17 @@ returns g c =
     let N = g.N.Naming in
     let who = c.args.who in
     let bytes = g.D.Reader.FileReader.bytes in
+    let faults = g.D.Reader.FileReader.faults in
     let old = c.self.inside.engine.shown in
     let new = c.pin_query.new.engine.shown in
     let e = c.pin_query.ensures in
     record {
       turn = subst (λ (s : Stand). TakesQuery bytes N.script N.start (λ past. Tells N.sound) s.shown new who.session who.command c.pin_query.result) c.self.view_is
           (takes_query bytes N.script N.start N.sound old new who.session who.command c.words_of-words.result.now c.pin_query.result e.opened e.pinned e.turn e.seen e.ran e.over);
+      files = λ words known.
+          let both : Some (command.Query c.words_of-words.result.now) ≡ Some (command.Query words) =
+          sym c.words_of-words.ensures ∙ ap (λ (script : Script). command_at script who.session who.command) c.self.invariant.script ∙ known in
+          let same : c.words_of-words.result.now ≡ words = cc in
+          subst (λ (s : Stand). IfOk c.pin_query.result (HasItsFiles bytes faults s.told s.ledger who.session words)) c.self.view_is
+          (subst (λ (asked : QueryWords). IfOk c.pin_query.result (HasItsFiles bytes faults c.self.inside.engine.told c.self.inside.engine.ledger who.session asked)) same e.files);
     }
