@@ -8,13 +8,13 @@ use Rattle.mesa_image.specs.Contents.{kept_of, table_of}
 use Rattle.mesa_opening.specs.Opening.{run_record}
 use Rattle.mesa_ending.specs.Start.{start_of}
 
-tables_alike : (rows others : Rows) (oldest next : ℕ) (ts : List Stock) → map bare_table (map (table_of rows oldest next) ts) ≡ map bare_table (map (table_of others oldest next) ts)
-tables_alike rows others oldest next [] = refl
-tables_alike rows others oldest next (t ∷ ts) = λ i. bare_table (table_of rows oldest next t) ∷ tables_alike rows others oldest next ts i
+tables_alike : (rows others : Rows) (next : ℕ) (ts : List Stock) → map bare_table (map (table_of rows next) ts) ≡ map bare_table (map (table_of others next) ts)
+tables_alike rows others next [] = refl
+tables_alike rows others next (t ∷ ts) = λ i. bare_table (table_of rows next t) ∷ tables_alike rows others next ts i
 
 pub start_alike : (script : Script) (c : Catalog) (rows others : Rows) → bare_state (start_of script c rows) ≡ bare_state (start_of script c others)
 unfolding kept_of
-start_alike script c rows others = λ i. record (bare_state (start_of script c rows)) { warehouse = record (bare (start_of script c rows).warehouse) { store = record { tables = tables_alike rows others c.oldest c.next c.tables i; oldest = c.oldest } } }
+start_alike script c rows others = λ i. record (bare_state (start_of script c rows)) { warehouse = record (bare (start_of script c rows).warehouse) { store = record { tables = tables_alike rows others c.next c.tables i; floor = c.floor } } }
 
 -- the record of a run moves no start
 pub start_begun : (script : Script) (c : Catalog) (number : ℕ) (rows : Rows) → start_of script (applied c (run_record number)) rows ≡ start_of script c rows

@@ -19,7 +19,7 @@ use Rattle.mesa_record.specs.declared.error.RecordError.{RecordError}
 use Rattle.mesa_record.specs.Reading.{record_at}
 use Rattle.mesa_record.specs.Rules.{IsNamed, IsTyped, IsTypedChange}
 use Rattle.mesa_record.proofs.RecordsBoth.{record_found}
-use Rattle.mesa_image.specs.Catalog.{Catalog, Delta, Stock, applied, empty_catalog, new_stock, no_stock, part_of, stock_at, stock_changed, stock_loaded, stock_swapped, stocks_loaded, merged_delta}
+use Rattle.mesa_image.specs.Catalog.{Catalog, Delta, Stock, applied, empty_catalog, new_stock, no_stock, part_of, stock_at, stock_changed, stock_from, stock_loaded, stock_swapped, stocks_loaded, merged_delta}
 use Rattle.mesa_image.specs.Contents.{kept_of, table_of}
 use Rattle.mesa_image.specs.Fitting.{applied_if, catalog, catalog_from, fits, read_record, then_bodies, with_body}
 use Rattle.mesa_excerpt.specs.Excerpt.{ArePlainColumns, HasPlainNames, IsPlainColumn, IsPlainTable}
@@ -75,7 +75,8 @@ applied_plain c (record_of.Alter table change) is typed =
 applied_plain c (record_of.Publish version parts) is typed = loaded_plain parts 0 c.tables is
 applied_plain c (record_of.Swap table base from to epoch files) is typed =
     all_set IsPlainStock c.tables table (stock_swapped (stock_at c table) base to (merged_delta epoch files)) (swapped_plain (stock_at c table) base to (merged_delta epoch files) (stock_plain c table is)) is
-applied_plain c (record_of.Expire version) is typed = is
+applied_plain c (record_of.Expire version) is typed = all_map IsPlainStock (stock_from version) c.tables (all_so IsPlainStock (λ t. IsPlainStock (stock_from version t)) c.tables (λ t its. its) is)
+applied_plain c (record_of.ExpireTable table version) is typed = all_set IsPlainStock c.tables table (stock_from version (stock_at c table)) (stock_plain c table is) is
 
 applied_same : (c d : Catalog) (r : Record) (fit : Bool) → applied_if c r fit ≡ Some d → applied c r ≡ d
 applied_same c d r true e = cc
@@ -100,4 +101,4 @@ bodies_plain (body ∷ bodies) c d bytes is e = behind (with_body c body) refl e
 -- a run over such a catalogue starts with such names
 pub start_plain : (script : Script) (c : Catalog) (rows : Rows) (bodies : List (List ℕ)) → AllByRecursion AreBytes bodies → catalog bodies ≡ Some c → HasPlainNames (start_of script c rows).warehouse.store
 unfolding kept_of
-start_plain script c rows bodies bytes e = all_map IsPlainTable (table_of rows c.oldest c.next) c.tables (bodies_plain bodies empty_catalog c bytes tt e)
+start_plain script c rows bodies bytes e = all_map IsPlainTable (table_of rows c.next) c.tables (bodies_plain bodies empty_catalog c bytes tt e)

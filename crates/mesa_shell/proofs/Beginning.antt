@@ -41,14 +41,14 @@ turns_are (x ∷ xs) = let rest = turns_are xs in omega (arith, rest)
 pub few_turns : (script : Script) → IsSmall script → turns_of script.sessions ≤ most_turns
 few_turns script small = let turns = turns_are script.sessions in omega (arith, turns, small.commands)
 
-skeletons : (rows : Rows) (oldest next : ℕ) (ts : List Stock) → map bare_table (map (table_of rows oldest next) ts) ≡ map skeleton_of ts
-skeletons rows oldest next [] = refl
-skeletons rows oldest next (t ∷ ts) = ap (λ (x : List Table). skeleton_of t ∷ x) (skeletons rows oldest next ts)
+bare_tables : (rows : Rows) (next : ℕ) (ts : List Stock) → map bare_table (map (table_of rows next) ts) ≡ map skeleton_of ts
+bare_tables rows next [] = refl
+bare_tables rows next (t ∷ ts) = ap (λ (x : List Table). skeleton_of t ∷ x) (bare_tables rows next ts)
 
 books_are : (script : Script) (c : Catalog) (end : ℕ) (w : Rows) (sound : Bool) → AreBooksOf sound (books_of w (opened_ledger c end script.lease)) (start_of script c w)
 unfolding kept_of
 books_are script c end w sound = record {
-  skeleton = λ i. record (books_of w (opened_ledger c end script.lease)).bare { store = record { tables = skeletons w c.oldest c.next c.tables i; oldest = c.oldest } };
+  skeleton = λ i. record (books_of w (opened_ledger c end script.lease)).bare { store = record { tables = bare_tables w c.next c.tables i; floor = c.floor } };
   machine = refl;
   rows = λ is. refl;
   pins = λ is. refl;
@@ -56,7 +56,7 @@ books_are script c end w sound = record {
 
 has_ranges : (script : Script) (c : Catalog) (w : Rows) → HasRanges (start_of script c w)
 unfolding kept_of
-has_ranges script c w = length-map c.tables ranges_of ∙ sym (length-map c.tables (table_of w c.oldest c.next))
+has_ranges script c w = length-map c.tables ranges_of ∙ sym (length-map c.tables (table_of w c.next))
 
 same_leases : (script : Script) (c : Catalog) (end : ℕ) (w : Rows) → (start_of script c w).machine.leases ≡ (opened_ledger c end script.lease).leases
 unfolding kept_of

@@ -23,7 +23,7 @@ use Rattle.mesa_ending.proofs.Unmoved.{keeps_before, read_before, reason_before,
 use Rattle.mesa_shell.specs.Begun.{HasBegun}
 
 run_shaped : (c : Catalog) (number : ℕ) → IsCatalog c → IsCatalog (applied c (run_record number))
-run_shaped c number is = record { tables = is.tables; names = is.names; oldest = is.oldest; few = is.few; most = is.most }
+run_shaped c number is = record { tables = is.tables; names = is.names; floor = is.floor; few = is.few; most = is.most }
 
 run_owns : (c : Catalog) (number : ℕ) → c.run ≤ number → HasOwnIds c → HasOwnIds (applied c (run_record number))
 run_owns c number le own = record { once = own.once; runs = λ id some. let most = own.runs id some in omega (arith, most, le) }
