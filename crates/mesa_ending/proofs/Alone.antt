@@ -9,7 +9,7 @@ use Rattle.mesa_history.specs.Legal.{IsLegal}
 use Rattle.mesa_history.specs.Run.{State, begins}
 use Rattle.mesa_walk.specs.Printing.{HasAll, IsPrinted}
 
--- Where its sink didn't fail and every turn stands, it is one text.
+-- Where its sink didn't fail and every turn but a look stands, it is one text.
 pub alone_appends : (start : State) (script : Script) (h : List Entry) (failed : Bool) (before now : Option (List ℕ)) → start.warehouse.closed ≡ None → IsLegal start script h failed → IsPrinted script (begins start) h (not failed) before now
     → failed ≡ false → IsAlone script → AllTurnsStand h → Appends before now (output_alone start script)
 alone_appends start script h failed before now none legal printed fine alone stand =

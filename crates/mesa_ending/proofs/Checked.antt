@@ -60,11 +60,11 @@ module _ {K D M B : Type 0} (ports : Ports K D M B) (g : Devices K D B) (done : 
   printed status line prints = ⊎_elim (λ p. p.0) (λ p. absurd (still.sink p.1)) prints
 
   unread : IsUndamaged (ports.story g.disk) → (e : OpenError) → (e ≡ open_error.RunsFull → ⊥) → EndedReading ports g done e → Decides done
-  unread is open_error.Fault other p = absurd (⊎_elim still.disk still.reads p.0)
-  unread is (open_error.Journal area at want found) other p = absurd (⊎_elim (is.whole at want found) (is.fitting at want found) (p.0.1 is.image is.told))
-  unread is (open_error.File d) other p = absurd (is.files d (p.0 is.image is.told))
+  unread is open_error.Fault other p = absurd (⊎_elim still.disk still.reads p.0.reason)
+  unread is (open_error.Journal area at want found) other p = absurd (⊎_elim (is.whole at want found) (is.fitting at want found) (p.0.reason.1 is.image is.told))
+  unread is (open_error.File d) other p = absurd (is.files d (p.0.reason is.image is.told))
   unread is open_error.RunsFull other p = absurd (other refl)
-  unread is open_error.Memory other p = inr (printed _ _ p.2.2)
+  unread is open_error.Memory other p = inr (printed _ _ p.1.2)
 
   check_decides : IsUndamaged (ports.story g.disk) → EndsCheck ports g done → Decides done
   check_decides is ends = elim ends [

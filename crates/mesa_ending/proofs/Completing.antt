@@ -25,7 +25,8 @@ use Rattle.mesa_ending.specs.Ending.{Ended, EndedOpening, Ends, EndsForm, EndsGe
 use Rattle.mesa_ending.specs.Completing.{AllQuiet, AsksFor, Completes, HasRoomToRun, NothingFailed}
 use Rattle.mesa_ending.specs.declared.done.Devices.{Devices}
 use Rattle.mesa_ending.specs.declared.done.Done.{Done}
-use Rattle.mesa_ending.proofs.Quiet.{all_quiet, ends_unskipped, none_skipped, not_risen, sessions_there}
+use Rattle.mesa_alone.proofs.Settled.{ends_unskipped, none_skipped}
+use Rattle.mesa_ending.proofs.Quiet.{all_quiet, not_risen, sessions_there}
 use Rattle.mesa_ending.proofs.Readable.{reads_same, sound_fits, sound_whole}
 use Rattle.mesa_ending.proofs.Small.{scripts_small}
 use Rattle.mesa_ending.proofs.Undamaged.{sound_undamaged}
@@ -59,13 +60,13 @@ module _ {K D M B : Type 0} (ports : Ports K D M B) (g : Devices K D B) (done : 
     same d reads = reads_same (ports.story g.disk) c d rows room.sound.start reads
 
     opening : (e : OpenError) → EndedOpening ports g done e → Completes done
-    opening open_error.Fault p = absurd (⊎_elim nothing.disk nothing.reads p.0)
+    opening open_error.Fault p = absurd (⊎_elim nothing.disk nothing.reads p.0.reason)
     opening (open_error.Journal area at want found) p =
         let s = room.sound.start in
-        absurd (⊎_elim (sound_whole s.image s.bodies c rows at want found s.sound) (sound_fits s.image s.bodies c rows at want found s.sound) (p.0.1 s.image s.told))
-    opening (open_error.File d) p = let s = room.sound.start in absurd (sound_undamaged s.image s.bodies c rows s.sound d (p.0 s.image s.told))
-    opening open_error.RunsFull p = absurd (let is = ap (λ (x : Catalog). x.run) (same p.0.0 p.0.1) in omega (arith, is, room.number, p.0.2))
-    opening open_error.Memory p = printed _ p.2
+        absurd (⊎_elim (sound_whole s.image s.bodies c rows at want found s.sound) (sound_fits s.image s.bodies c rows at want found s.sound) (p.0.reason.1 s.image s.told))
+    opening (open_error.File d) p = let s = room.sound.start in absurd (sound_undamaged s.image s.bodies c rows s.sound d (p.0.reason s.image s.told))
+    opening open_error.RunsFull p = absurd (let is = ap (λ (x : Catalog). x.run) (same p.0.reason.0 p.0.reason.1) in omega (arith, is, room.number, p.0.reason.2))
+    opening open_error.Memory p = printed _ p.1
 
     module _ (script : Script) (small : IsSmall script) (d : Catalog) (ran : Ran ports g done script d false) where
       abbrev from : Run

@@ -9,11 +9,11 @@ use Rattle.mesa_history.specs.Run.{begins}
 use Rattle.mesa_skeleton.specs.Rows.{Rows}
 use Rattle.mesa_image.specs.Catalog.{Catalog}
 use Rattle.mesa_opening.specs.declared.error.OpenError.{OpenError}
-use Rattle.mesa_opening.specs.Opening.{HasReason, Keeps}
 use Rattle.mesa_ending.specs.Ports.{Ports}
 use Rattle.mesa_ending.specs.Exits.{memory_status, memory_line, open_line, open_status}
 use Rattle.mesa_ending.specs.Start.{AreTold, start_of}
 use Rattle.mesa_ending.specs.Run.{Ran}
+use Rattle.mesa_ending.specs.Unopened.{IsUnopened, StaysSound}
 use Rattle.mesa_ending.specs.Ending.{Ended, EndedOpening, EndsScript, LacksMemory}
 use Rattle.mesa_ending.specs.declared.done.Devices.{Devices}
 use Rattle.mesa_ending.specs.declared.done.Done.{Done}
@@ -32,24 +32,20 @@ ended_with ports back g done held faults benches status line ended = (
 
 module _ {K D M B : Type 0} (ports : Ports K D M B) (g : Devices K D B) (done : Done K D B) where
   -- the store wasn't opened
-  pub unopened : (disk : D) (e : OpenError) → done.disk ≡ disk → HasReason (ports.story g.disk) (ports.story disk) e → Keeps (ports.story g.disk) (ports.story disk)
-      → Ended ports g done (open_status e) (open_line e) → EndedOpening ports g done e
-  unopened disk e is reason keeps ended =
-      (subst (λ d. HasReason (ports.story g.disk) (ports.story d) e) (sym is) reason, subst (λ d. Keeps (ports.story g.disk) (ports.story d)) (sym is) keeps, ended)
+  pub unopened : (disk : D) (e : OpenError) → done.disk ≡ disk → IsUnopened (ports.story g.disk) (ports.story disk) e → Ended ports g done (open_status e) (open_line e) → EndedOpening ports g done e
+  unopened disk e is left ended = (subst (λ d. IsUnopened (ports.story g.disk) (ports.story d) e) (sym is) left, ended)
 
   -- no memory was there for the run
-  pub short_of_memory : (disk : D) → done.disk ≡ disk → (AreTold ports.bytes → Keeps (ports.story g.disk) (ports.story disk)) → Ended ports g done memory_status memory_line → LacksMemory ports g done
-  short_of_memory disk is keeps ended = ((λ files. subst (λ d. Keeps (ports.story g.disk) (ports.story d)) (sym is) (keeps files)), ended)
+  pub short_of_memory : (disk : D) → done.disk ≡ disk → (AreTold ports.bytes → StaysSound (ports.story g.disk) (ports.story disk)) → Ended ports g done memory_status memory_line → LacksMemory ports g done
+  short_of_memory disk is keeps ended = ((λ files. subst (λ d. StaysSound (ports.story g.disk) (ports.story d)) (sym is) (keeps files)), ended)
 
 module _ {K D M B : Type 0} (ports : Ports K D M B) (g : Devices K D B) (done : Done K D B) (script : Script) where
   -- the store wasn't opened
-  pub opening_failed : (disk : D) (e : OpenError) → done.disk ≡ disk → HasReason (ports.story g.disk) (ports.story disk) e → Keeps (ports.story g.disk) (ports.story disk)
-      → Ended ports g done (open_status e) (open_line e) → EndsScript ports g done script
-  opening_failed disk e is reason keeps ended =
-      inl (e, unopened ports g done disk e is reason keeps ended)
+  pub opening_failed : (disk : D) (e : OpenError) → done.disk ≡ disk → IsUnopened (ports.story g.disk) (ports.story disk) e → Ended ports g done (open_status e) (open_line e) → EndsScript ports g done script
+  opening_failed disk e is left ended = inl (e, unopened ports g done disk e is left ended)
 
   -- no memory was there for the run
-  pub lacked : (disk : D) → done.disk ≡ disk → (AreTold ports.bytes → Keeps (ports.story g.disk) (ports.story disk)) → Ended ports g done memory_status memory_line → EndsScript ports g done script
+  pub lacked : (disk : D) → done.disk ≡ disk → (AreTold ports.bytes → StaysSound (ports.story g.disk) (ports.story disk)) → Ended ports g done memory_status memory_line → EndsScript ports g done script
   lacked disk is keeps ended = inr (inr (short_of_memory ports g done disk is keeps ended))
 
   -- the script was run, over a store that was begun from what the disk read

@@ -1,7 +1,7 @@
 -- Entries of a run in which nothing failed.
-use Rattle.std.proofs.Common.{◌≡◌, ◌⊎◌, inl, inr, ⊎_elim, ◌≤◌, ◌<◌, ◌+◌, ◌&&◌, ◌==◌, ℕ, zero, suc, List, [], ◌∷◌, length, Bool, true, false, refl, sym, ◌∙◌, ap, subst, arith, Option, Some, None, IsTrue}
+use Rattle.std.proofs.Common.{◌≡◌, ⊎_elim, ◌≤◌, ◌<◌, ◌+◌, ◌&&◌, ◌==◌, ℕ, zero, suc, List, [], ◌∷◌, length, Bool, true, false, refl, sym, ◌∙◌, ap, arith, Option, Some, None, IsTrue}
 use Rattle.std.specs.Prelude.{slice_get, slice_index_or}
-use Rattle.std.proofs.lemmas.Bool.{cases_lt, false≢true}
+use Rattle.std.proofs.lemmas.Bool.{cases_lt}
 use Rattle.std.proofs.Math.Nat.{min-le_left, min-le_right}
 use Rattle.std.specs.List.{AllByRecursion}
 use Rattle.mesa_fault.specs.Causes.{Rose, last}
@@ -11,44 +11,12 @@ use Rattle.mesa_model.specs.declared.entries.Entry.{Entry}
 use Rattle.mesa_model.specs.declared.entries.Outcome.{Outcome}
 use Rattle.mesa_model.specs.declared.entries.Outcome.TheVariants as outcome
 use Rattle.mesa_history.specs.Counting.{count_in, is_disk_fault, is_bench_fault, answers_disk, answers_bench, one_if}
-use Rattle.mesa_history.specs.Legal.{AllFit, ends_well, fits_sink, is_due, is_due_of}
-use Rattle.mesa_history.specs.Replay.{is_skip, is_skipped, last_of, closes, go, runs, turned}
-use Rattle.mesa_history.specs.Run.{Place, Run, Last, Skipped, Told, command_of, numbered, place_of}
-use Rattle.mesa_history.proofs.More.{last_after}
+use Rattle.mesa_history.specs.Legal.{AllFit, is_due, is_due_of}
+use Rattle.mesa_history.specs.Replay.{is_skip, is_skipped, closes, go}
+use Rattle.mesa_history.specs.Run.{Place, Run, command_of, numbered, place_of}
 use Rattle.mesa_history.proofs.Places.{same_is}
 use Rattle.mesa_ending.specs.Completing.{is_quiet, AllQuiet}
 use Rattle.mesa_walk.specs.Undamaged.{is_damaged, NoneDamaged}
-
--- ---- no entry is skipped where the sink didn't fail
-
-skipped_last : (b : Bool) (told : Option Told) → b ≡ true → last_of b told ≡ Skipped
-skipped_last true told is = refl
-skipped_last false told is = absurd (cc is)
-
-skips_on : (l : Last) (b : Bool) → l ≡ Skipped → IsTrue (fits_sink l b) → b ≡ true
-skips_on l b is fits = subst (λ k. IsTrue (fits_sink k b)) is fits
-
-stays_skipped : (script : Script) (r : Run) (h : List Entry) → r.last ≡ Skipped → AllFit script r h → (runs script r h).last ≡ Skipped
-unfolding runs AllFit
-stays_skipped script r [] is fit = is
-stays_skipped script r (e ∷ h) is fit =
-    stays_skipped script (go script r e) h (last_after script r e ∙ skipped_last (is_skipped e) (turned script r e).told (skips_on r.last (is_skipped e) is fit.0.sink)) fit.1
-
-either : (b : Bool) → (b ≡ true) ⊎ (b ≡ false)
-either true = inl refl
-either false = inr refl
-
-pub none_skipped : (script : Script) (r : Run) (h : List Entry) → AllFit script r h → ((runs script r h).last ≡ Skipped → ⊥) → AllByRecursion (λ (e : Entry). is_skipped e ≡ false) h
-unfolding runs AllFit
-none_skipped script r [] fit ends = tt
-none_skipped script r (e ∷ h) fit ends = (
-  ⊎_elim (λ is. absurd (ends (stays_skipped script (go script r e) h (last_after script r e ∙ skipped_last (is_skipped e) (turned script r e).told is) fit.1))) (λ isnt. isnt) (either (is_skipped e)),
-  none_skipped script (go script r e) h fit.1 ends,
-)
-
--- a history that ended well wasn't skipped
-pub ends_unskipped : (script : Script) (r : Run) → IsTrue (ends_well false script r) → r.last ≡ Skipped → ⊥
-ends_unskipped script r ends is = false≢true (subst (λ l. IsTrue (ends_well false script (record r { last = l }))) is ends)
 
 -- ---- each entry is of a session that is there
 

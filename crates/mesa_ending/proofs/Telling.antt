@@ -2,6 +2,7 @@
 use Rattle.std.proofs.Common.{◌≡◌, ◌⊎◌, inl, inr, ◌≤◌, ◌<◌, ℕ, List, length, Bool, true, false, refl, sym, ◌∙◌, subst, arith, Option, Some, None}
 use Rattle.std.specs.Prelude.{◌≢◌, IfSome, Ok, if◌then◌else◌}
 use Rattle.mesa_fault.specs.Causes.{Rose}
+use Rattle.mesa_disk.specs.Story.{Unmoved}
 use Rattle.mesa_model.specs.declared.commands.Script.{Script}
 use Rattle.mesa_history.specs.Refused.{some_refused}
 use Rattle.mesa_history.specs.Run.{begins}
@@ -18,7 +19,8 @@ use Rattle.mesa_ending.specs.Ports.{Ports}
 use Rattle.mesa_ending.specs.Exits.{max_input, memory_line, memory_status, open_status, usage_line, usage_status}
 use Rattle.mesa_ending.specs.Start.{start_of}
 use Rattle.mesa_ending.specs.Ending.{EndedBefore, EndedOpening, Ends, EndsCheck, EndsForm, EndsGenerated, EndsInput, EndsRun, EndsScript, EndsText, HasRun, HasShown, HasVerdict, IsWhole, Prints}
-use Rattle.mesa_ending.specs.Statuses.{IsNoScript, IsUnopened, Tells, WasAsked, WasChecked, WasGenerated, WasRun}
+use Rattle.mesa_ending.specs.Unopened.{HasSameCounts}
+use Rattle.mesa_ending.specs.Statuses.{HasOpeningReason, IsNoScript, IsUntouched, Tells, WasAsked, WasChecked, WasGenerated, WasRun}
 use Rattle.mesa_ending.specs.declared.done.Devices.{Devices}
 use Rattle.mesa_ending.specs.declared.done.Done.{Done}
 use Rattle.mesa_ending.proofs.Checked.{low_verdict, sound_exactly}
@@ -46,12 +48,32 @@ low_early n le (inl is) = omega (arith, le, is)
 low_early n le (inr (inl is)) = omega (arith, le, is)
 low_early n le (inr (inr is)) = omega (arith, le, is)
 
+-- one of two statuses
+abbrev Late : ℕ → Type 0
+Late n = (n ≡ 7) ⊎ (n ≡ 9)
+
+not_late : (n : ℕ) → (n < 7) ⊎ (n ≡ 8) → Late n → ⊥
+not_late n (inl lt) (inl is) = omega (arith, lt, is)
+not_late n (inl lt) (inr is) = omega (arith, lt, is)
+not_late n (inr eight) (inl is) = omega (arith, eight, is)
+not_late n (inr eight) (inr is) = omega (arith, eight, is)
+
+-- a disk that wasn't called is untouched
+pub uncalled : {K D M B : Type 0} (ports : Ports K D M B) (given : Devices K D B) (done : Done K D B) → done.disk ≡ given.disk → IsUntouched ports given done
+uncalled ports given done is = subst (λ d. Unmoved (ports.story given.disk) (ports.story d) × HasSameCounts (ports.story given.disk) (ports.story d)) (sym is) (
+  record { told = refl; len = λ area. refl; moment = refl; may_leave = λ x. ((λ may. may), (λ may. may)); may_have_left = λ t x. ((λ may. may), (λ may. may)) },
+  (refl, refl),
+)
+
 module _ {K D M B : Type 0} (ports : Ports K D M B) (given : Devices K D B) (done : Done K D B) (asked : Option Form) (input : Option (List ℕ)) (before now : ℕ) where
   abbrev Told : Type 0
   Told = Tells ports given done asked input before now
 
   abbrev Unopened : OpenError → Type 0
-  Unopened e = IsUnopened ports given done e
+  Unopened e = HasOpeningReason ports given done e
+
+  abbrev Untouched : Type 0
+  Untouched = IsUntouched ports given done
 
   -- what a status would tell that a call ends with which runs nothing
   record Would (n : ℕ) : Type 0 where
@@ -65,6 +87,7 @@ module _ {K D M B : Type 0} (ports : Ports K D M B) (given : Devices K D B) (don
     damaged : n ≡ 7 → (e : OpenError) × (open_status e ≡ 7) × Unopened e
     full : n ≡ 9 → IfSome input (λ bytes. max_input < length bytes) ⊎ Unopened open_error.RunsFull
     uncalled : Early n → done.disk ≡ given.disk
+    untouched : Late n → Untouched
 
   failed_tells : (done.status ≢ 4 → done.status ≢ 5 → now ≡ before) → done.status ≡ 5 → Rose (ports.sink_faults given.out) (ports.sink_faults done.out) → Told
   failed_tells quiet is rose = record {
@@ -79,6 +102,7 @@ module _ {K D M B : Type 0} (ports : Ports K D M B) (given : Devices K D B) (don
     damaged = λ e. absurd (omega (arith, e, is));
     full = λ e. absurd (omega (arith, e, is));
     uncalled = λ e. absurd (not_early done.status (omega (arith, is)) e);
+    untouched = λ e. absurd (not_late done.status (inl (omega (arith, is))) e);
   }
 
   line_tells : (n : ℕ) (text : List ℕ) → Would n → Prints ports given done n text → Told
@@ -95,14 +119,15 @@ module _ {K D M B : Type 0} (ports : Ports K D M B) (given : Devices K D B) (don
       damaged = λ e. w.damaged (sym p.0 ∙ e);
       full = λ e. w.full (sym p.0 ∙ e);
       uncalled = λ e. w.uncalled (subst Early p.0 e);
+      untouched = λ e. w.untouched (subst Late p.0 e);
     }
     | inr p ↦ failed_tells (λ four other. absurd (other p.0)) p.0 p.1
   ]
 
   -- a status that tells of an opening, or of want of memory
   late : (n : ℕ) → 6 ≤ n → now ≡ before → (n ≡ 6 → Unopened open_error.Fault) → (n ≡ 7 → (e : OpenError) × (open_status e ≡ 7) × Unopened e)
-      → (n ≡ 9 → IfSome input (λ bytes. max_input < length bytes) ⊎ Unopened open_error.RunsFull) → Would n
-  late n le quiet disk damaged full = record {
+      → (n ≡ 9 → IfSome input (λ bytes. max_input < length bytes) ⊎ Unopened open_error.RunsFull) → (Late n → Untouched) → Would n
+  late n le quiet disk damaged full untouched = record {
     two = omega (arith, le);
     five = λ e. omega (arith, e, le);
     usage = λ e. absurd (omega (arith, e, le));
@@ -113,20 +138,24 @@ module _ {K D M B : Type 0} (ports : Ports K D M B) (given : Devices K D B) (don
     damaged = damaged;
     full = full;
     uncalled = λ e. absurd (not_early n (omega (arith, le)) e);
+    untouched = untouched;
   }
 
   memory : now ≡ before → Would 8
-  memory quiet = late 8 (omega arith) quiet (λ e. absurd (omega (arith, e))) (λ e. absurd (omega (arith, e))) (λ e. absurd (omega (arith, e)))
+  memory quiet = late 8 (omega arith) quiet (λ e. absurd (omega (arith, e))) (λ e. absurd (omega (arith, e))) (λ e. absurd (omega (arith, e))) (λ e. absurd (not_late 8 (inr refl) e))
 
-  unopened : now ≡ before → (e : OpenError) → Unopened e → Would (open_status e)
-  unopened quiet open_error.Fault why = late 6 (omega arith) quiet (λ e. why) (λ e. absurd (omega (arith, e))) (λ e. absurd (omega (arith, e)))
-  unopened quiet (open_error.Journal area at want found) why = late 7 (omega arith) quiet (λ e. absurd (omega (arith, e))) (λ e. (open_error.Journal area at want found, refl, why)) (λ e. absurd (omega (arith, e)))
-  unopened quiet (open_error.File d) why = late 7 (omega arith) quiet (λ e. absurd (omega (arith, e))) (λ e. (open_error.File d, refl, why)) (λ e. absurd (omega (arith, e)))
-  unopened quiet open_error.RunsFull why = late 9 (omega arith) quiet (λ e. absurd (omega (arith, e))) (λ e. absurd (omega (arith, e))) (λ e. inr why)
-  unopened quiet open_error.Memory why = memory quiet
+  unopened : now ≡ before → (e : OpenError) → Unopened e → (e ≢ open_error.Fault → e ≢ open_error.Memory → Untouched) → Would (open_status e)
+  unopened quiet open_error.Fault why left = late 6 (omega arith) quiet (λ e. why) (λ e. absurd (omega (arith, e))) (λ e. absurd (omega (arith, e))) (λ e. absurd (not_late 6 (inl (omega arith)) e))
+  unopened quiet (open_error.Journal area at want found) why left =
+      late 7 (omega arith) quiet (λ e. absurd (omega (arith, e))) (λ e. (open_error.Journal area at want found, refl, why)) (λ e. absurd (omega (arith, e))) (λ e. left (λ fault. absurd cc) (λ memory. absurd cc))
+  unopened quiet (open_error.File d) why left =
+      late 7 (omega arith) quiet (λ e. absurd (omega (arith, e))) (λ e. (open_error.File d, refl, why)) (λ e. absurd (omega (arith, e))) (λ e. left (λ fault. absurd cc) (λ memory. absurd cc))
+  unopened quiet open_error.RunsFull why left =
+      late 9 (omega arith) quiet (λ e. absurd (omega (arith, e))) (λ e. absurd (omega (arith, e))) (λ e. inr why) (λ e. left (λ fault. absurd cc) (λ memory. absurd cc))
+  unopened quiet open_error.Memory why left = memory quiet
 
   opening_tells : now ≡ before → (e : OpenError) → EndedOpening ports given done e → Told
-  opening_tells quiet e p = line_tells (open_status e) _ (unopened quiet e p.0) p.2.2
+  opening_tells quiet e p = line_tells (open_status e) _ (unopened quiet e p.0.reason (λ fault memory. (p.0.unmoved fault memory, p.0.quiet fault))) p.1.2
 
   memory_tells : now ≡ before → EndedBefore ports given done memory_status memory_line → Told
   memory_tells quiet p = line_tells 8 _ (memory quiet) p.1.2
@@ -145,6 +174,7 @@ module _ {K D M B : Type 0} (ports : Ports K D M B) (given : Devices K D B) (don
     damaged = λ e. absurd (omega (arith, e, low));
     full = λ e. absurd (omega (arith, e, low));
     uncalled = λ e. absurd (low_early done.status low e);
+    untouched = λ e. absurd (not_late done.status (inl (omega (arith, low))) e);
   }
 
   -- words that have no form
@@ -160,6 +190,7 @@ module _ {K D M B : Type 0} (ports : Ports K D M B) (given : Devices K D B) (don
     damaged = λ e. absurd (omega (arith, e));
     full = λ e. absurd (omega (arith, e));
     uncalled = λ e. p.0;
+    untouched = λ e. absurd (not_late 2 (inl (omega arith)) e);
   }) p.1.2
 
   -- the verdict on a store
@@ -175,13 +206,14 @@ module _ {K D M B : Type 0} (ports : Ports K D M B) (given : Devices K D B) (don
             first = v.first;
             status = q.0;
             sound = sound_exactly (ports.story given.disk) c fault done.status q.0 v.reads v.first;
+            quiet = v.quiet;
           })) q.1
       | inr q ↦ failed_tells (λ four other. quiet) q.0 q.1
     ]
 
     check_tells : now ≡ before → EndsCheck ports given done → Told
     check_tells quiet ends = elim ends [
-      | inl p ↦ line_tells (open_status p.0) _ (unopened quiet p.0 p.2.0) p.2.2.2
+      | inl p ↦ line_tells (open_status p.0) _ (unopened quiet p.0 p.2.0.reason (λ fault memory. (p.2.0.unmoved, p.2.0.quiet fault))) p.2.1.2
       | inr p ↦ verdict_tells quiet p.0 p.1 p.2
     ]
 
@@ -242,6 +274,7 @@ module _ {K D M B : Type 0} (ports : Ports K D M B) (given : Devices K D B) (don
         damaged = λ e. absurd (omega (arith, e));
         full = λ e. absurd (omega (arith, e));
         uncalled = λ e. p.2.0;
+        untouched = λ e. absurd (not_late 3 (inl (omega arith)) e);
       }) p.2.1.2
       | inr rest ↦ elim rest [
         | inl p ↦ script_tells bytes known p.0 p.1 quiet p.2
@@ -251,7 +284,7 @@ module _ {K D M B : Type 0} (ports : Ports K D M B) (given : Devices K D B) (don
 
     input_tells : now ≡ before → EndsInput ports given done input → Told
     input_tells quiet ends = elim ends [
-      | inl p ↦ line_tells 9 _ (late 9 (omega arith) quiet (λ e. absurd (omega (arith, e))) (λ e. absurd (omega (arith, e))) (λ e. inl p.0)) p.1.1.2
+      | inl p ↦ line_tells 9 _ (late 9 (omega arith) quiet (λ e. absurd (omega (arith, e))) (λ e. absurd (omega (arith, e))) (λ e. inl p.0) (λ e. uncalled ports given done p.1.0)) p.1.1.2
       | inr rest ↦ elim rest [
         | inl p ↦ text_tells p.0 p.1 quiet p.3
         | inr p ↦ line_tells 8 _ (memory quiet) p.1.2
@@ -271,6 +304,7 @@ module _ {K D M B : Type 0} (ports : Ports K D M B) (given : Devices K D B) (don
         damaged = λ e. absurd (omega (arith, e));
         full = λ e. absurd (omega (arith, e));
         uncalled = λ e. p.1.0;
+        untouched = λ e. absurd (not_late 4 (inl (omega arith)) e);
       }) p.1.1.2
       | inr p ↦ input_tells p.0 p.1
     ]

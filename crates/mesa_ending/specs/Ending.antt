@@ -15,13 +15,14 @@ use Rattle.mesa_skeleton.specs.Rows.{Rows}
 use Rattle.mesa_image.specs.Catalog.{Catalog}
 use Rattle.mesa_opening.specs.declared.error.OpenError.{OpenError}
 use Rattle.mesa_opening.specs.declared.error.OpenError.TheVariants as open_error
-use Rattle.mesa_opening.specs.Opening.{HasReason, Keeps, ReadsAs}
+use Rattle.mesa_opening.specs.Opening.{ReadsAs}
 use Rattle.mesa_verdict.specs.Faults.{Fault}
 use Rattle.mesa_verdict.specs.Verdict.{IsFirstFault}
 use Rattle.mesa_ending.specs.Ports.{Ports, in_memory}
 use Rattle.mesa_ending.specs.Exits.{gen_line, max_input, status_of, sink_status, usage_status, usage_line, source_status, source_line, length_status, length_line, script_status, script_line, open_status, open_line, verdict_status, verdict_line, memory_status, memory_line}
 use Rattle.mesa_ending.specs.Start.{AreTold, IsSoundStore, start_of}
 use Rattle.mesa_ending.specs.Run.{Ran}
+use Rattle.mesa_ending.specs.Unopened.{HasSameCounts, IsUnopened, IsUnread, StaysSound}
 use Rattle.mesa_ending.specs.declared.done.Devices.{Devices}
 use Rattle.mesa_ending.specs.declared.done.Done.{Done}
 
@@ -48,13 +49,13 @@ module _ {K D M B : Type 0} (ports : Ports K D M B) (given : Devices K D B) (don
   abbrev pub EndedBefore : ℕ → List ℕ → Type 0
   EndedBefore status line = (done.disk ≡ given.disk) × Ended status line
 
-  -- from a sound start the store stands for what it stood for, whatever crash comes
+  -- from a sound start the store stands for what it stood for, whatever crash comes, and is read still
   abbrev pub KeepsStore : Type 0
-  KeepsStore = Keeps (ports.story given.disk) (ports.story done.disk)
+  KeepsStore = StaysSound (ports.story given.disk) (ports.story done.disk)
 
-  -- The store isn't opened, for a reason, and it keeps what it had.
+  -- The store isn't opened, for a reason: it keeps what it had, and where it is damaged, or has had the last run that may be, nothing moved.
   abbrev pub EndedOpening : OpenError → Type 0
-  EndedOpening e = HasReason (ports.story given.disk) (ports.story done.disk) e × KeepsStore × Ended (open_status e) (open_line e)
+  EndedOpening e = IsUnopened (ports.story given.disk) (ports.story done.disk) e × Ended (open_status e) (open_line e)
 
   -- The script was run to its end, the status tells whether some reply is a refusal, and the sink's count stays; or the count rose.
   abbrev pub HasRun : Script → Catalog → Type 0
@@ -121,19 +122,16 @@ module _ {K D M B : Type 0} (ports : Ports K D M B) (given : Devices K D B) (don
 
   -- ---- the verdict on a store
 
-  -- No image moved: neither an area nor a file changed, nor what a crash may leave.
-  abbrev pub LeavesStore : Type 0
-  LeavesStore = Unmoved (ports.story given.disk) (ports.story done.disk)
-
-  -- The store isn't read, for a reason, and nothing moved.
+  -- The store isn't read, for a reason, and nothing moved: neither an area nor a file changed, nor what a crash may leave.
   abbrev pub EndedReading : OpenError → Type 0
-  EndedReading e = HasReason (ports.story given.disk) (ports.story done.disk) e × LeavesStore × Ended (open_status e) (open_line e)
+  EndedReading e = IsUnread (ports.story given.disk) (ports.story done.disk) e × Ended (open_status e) (open_line e)
 
-  -- The store reads as a catalogue, of which this is the first fault, if there is one; nothing moved, and the line of this verdict was due.
+  -- The store reads as a catalogue, of which this is the first fault, if there is one; no count of the disk's faults rose, nothing moved, and the line of this verdict was due.
   pub record HasVerdict (c : Catalog) (fault : Option Fault) : Type 0 where
     pub reads : ReadsAs (ports.story given.disk) c
     pub first : IsFirstFault (ports.story given.disk) c fault
-    pub unmoved : LeavesStore
+    pub quiet : HasSameCounts (ports.story given.disk) (ports.story done.disk)
+    pub unmoved : Unmoved (ports.story given.disk) (ports.story done.disk)
     pub ended : Ended (verdict_status fault) (verdict_line fault)
 
   -- How a call ends whose word is `check`: the disk failed, the journal or a file is damaged, or memory was short, in opening the store or behind it; or the store has a verdict. How many runs it has had is nothing to a check.

@@ -6,6 +6,7 @@ pub mod Exits
 pub mod Scripts
 pub mod Start
 pub mod Counting
+pub mod Unopened
 pub mod Run
 pub mod Ending
 pub mod Statuses

@@ -1,5 +1,5 @@
 -- What a run over a store leaves.
-use Rattle.std.specs.Prelude.{◌≡◌, ℕ, ◌+◌, ◌<◌, ◌≤◌, List, Option, None, Some, Bool, false, not}
+use Rattle.std.specs.Prelude.{◌≡◌, ℕ, ◌+◌, ◌<◌, ◌≤◌, List, length, Option, None, Some, Bool, false, not}
 use Rattle.std.specs.Io.KnownBytes.{Appends}
 use Rattle.std.specs.List.{AllByRecursion}
 use Rattle.mesa_fault.specs.Causes.{last}
@@ -44,10 +44,11 @@ pub record RanSoundly (script : Script) (start : State) (h : List Entry) (failed
   pub undamaged : NoneDamaged h
 
 module _ {K D M B : Type 0} (ports : Ports K D M B) (given : Devices K D B) (done : Done K D B) (script : Script) where
-  -- A run over the catalogue that the disk reads, which isn't the last that may be. Whatever rows its files have: what holds on any store, and no fault of a bench is answered twice. Where the store is sound with these rows: ANSWERS, and what holds on a sound store; and ALONE: where one session alone has commands and every turn stands, the sink was given the one text that a run without a fault prints.
+  -- A run over the catalogue that the disk reads, which isn't the last that may be. As many benches come back as were given. Whatever rows its files have: what holds on any store, and no fault of a bench is answered twice. Where the store is sound with these rows: ANSWERS, and what holds on a sound store; and ALONE: where one session alone has commands and every turn but a look stands, the sink was given the one text that a run without a fault prints.
   pub record Ran (c : Catalog) (failed : Bool) : Type 0 where
     pub reads : ReadsAs (ports.story given.disk) c
     pub number : c.run < most_runs
+    pub returned : length done.benches.items ≡ length given.benches.items
     pub anyhow : (rows : Rows) → RanAnyhow script (start_of script c rows) done.history.items failed (ports.story given.disk).moment ((ports.story given.disk).faults + (ports.story given.disk).read_faults) (ports.story done.disk)
     pub benches : (rows : Rows) → HasBenchCounts ports.bench_faults (ports.story done.disk) script (begins (start_of script c rows)) done.history.items given.benches.items done.benches.items
     pub answers : (rows : Rows) → IsSoundStore ports.bytes (ports.story given.disk) c rows → AnswersFromTheFold script (start_of script c rows) done.history.items

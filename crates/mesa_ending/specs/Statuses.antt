@@ -2,6 +2,7 @@
 use Rattle.std.specs.Prelude.{◌≡◌, ◌≢◌, ◌⊎◌, ◌↔◌, ◌<◌, ◌≤◌, ℕ, List, length, Option, None, Some, IfSome, Ok, Err, false}
 use Rattle.mesa_fault.specs.Causes.{Rose}
 use Rattle.mesa_disk.specs.Image.{Image}
+use Rattle.mesa_disk.specs.Story.{Unmoved}
 use Rattle.mesa_model.specs.declared.commands.Script.{Script}
 use Rattle.mesa_script.specs.declared.script.ScriptError.{ScriptError}
 use Rattle.mesa_script.specs.Generated.{generated}
@@ -20,6 +21,7 @@ use Rattle.mesa_ending.specs.Ports.{Ports}
 use Rattle.mesa_ending.specs.Exits.{max_input, refused_status, usage_status, script_status, source_status, sink_status, length_status, open_status, status_of, verdict_status}
 use Rattle.mesa_ending.specs.Start.{start_of}
 use Rattle.mesa_ending.specs.Run.{Ran}
+use Rattle.mesa_ending.specs.Unopened.{HasSameCounts}
 use Rattle.mesa_ending.specs.Ending.{HasFailed, IsWhole, RanInMemory}
 use Rattle.mesa_ending.specs.declared.done.Devices.{Devices}
 use Rattle.mesa_ending.specs.declared.done.Done.{Done}
@@ -46,7 +48,7 @@ module _ {K D M B : Type 0} (ports : Ports K D M B) (given : Devices K D B) (don
     pub ran : RanInMemory ports given done script catalogue false text
     pub status : (rows : Rows) → done.status ≡ status_of script (start_of script catalogue rows) done.history.items
 
-  -- The store was checked: it reads as a catalogue, of which this is the first fault, if there is one, and the status tells whether there is; it is 0 exactly where what the disk reads is a sound image.
+  -- The store was checked: it reads as a catalogue, of which this is the first fault, if there is one, and the status tells whether there is; it is 0 exactly where what the disk reads is a sound image; and no count of the disk's faults rose.
   pub record WasChecked : Type 0 where
     pub catalogue : Catalog
     pub fault : Option Fault
@@ -54,6 +56,7 @@ module _ {K D M B : Type 0} (ports : Ports K D M B) (given : Devices K D B) (don
     pub first : IsFirstFault (ports.story given.disk) catalogue fault
     pub status : done.status ≡ verdict_status fault
     pub sound : (i : Image) → (ports.story given.disk).told ≡ Some i → (done.status ≡ 0) ↔ IsSound i
+    pub quiet : HasSameCounts (ports.story given.disk) (ports.story done.disk)
 
   -- what words of this form ask for was done: a script was run to its end, or the store was checked
   abbrev pub WasAsked : Option Form → Option (List ℕ) → Type 0
@@ -63,10 +66,14 @@ module _ {K D M B : Type 0} (ports : Ports K D M B) (given : Devices K D B) (don
   WasAsked (Some (form.Gen seed versions)) input = WasGenerated seed versions
 
   -- why the store wasn't opened
-  abbrev pub IsUnopened : OpenError → Type 0
-  IsUnopened e = HasReason (ports.story given.disk) (ports.story done.disk) e
+  abbrev pub HasOpeningReason : OpenError → Type 0
+  HasOpeningReason e = HasReason (ports.story given.disk) (ports.story done.disk) e
 
-  -- What a status tells, by the form of the words: at 0 and 1 the script that they ask for was run to its end, or the store was checked; at 2 they have no form, at 3 the input is no script, at 4 the source's count of faults rose, at 5 the sink's did, at 6 one of the disk's; at 7 the store is damaged; at 9 the input is too long, or the store has had the last run that may be. The sink's count stays at any status but 5, and the source's at any but 4 and 5; and at 2, 3 and 4 the disk wasn't called.
+  -- no image of the store moved, and no count of the disk's faults rose
+  abbrev pub IsUntouched : Type 0
+  IsUntouched = Unmoved (ports.story given.disk) (ports.story done.disk) × HasSameCounts (ports.story given.disk) (ports.story done.disk)
+
+  -- What a status tells, by the form of the words: at 0 and 1 the script that they ask for was run to its end, or the store was checked; at 2 they have no form, at 3 the input is no script, at 4 the source's count of faults rose, at 5 the sink's did, at 6 one of the disk's; at 7 the store is damaged; at 9 the input is too long, or the store has had the last run that may be. The sink's count stays at any status but 5, and the source's at any but 4 and 5; at 2, 3 and 4 the disk wasn't called, and at 7 and 9 the store is untouched, whatever it is.
   pub record Tells (asked : Option Form) (input : Option (List ℕ)) (before now : ℕ) : Type 0 where
     pub ran : done.status ≤ refused_status → WasAsked asked input
     pub usage : done.status ≡ usage_status → asked ≡ None
@@ -75,7 +82,8 @@ module _ {K D M B : Type 0} (ports : Ports K D M B) (given : Devices K D B) (don
     pub source_quiet : done.status ≢ source_status → done.status ≢ sink_status → now ≡ before
     pub sink : done.status ≡ sink_status → HasFailed ports given done
     pub sink_quiet : done.status ≢ sink_status → IsWhole ports given done
-    pub disk : done.status ≡ 6 → IsUnopened open_error.Fault
-    pub damaged : done.status ≡ 7 → (e : OpenError) × (open_status e ≡ 7) × IsUnopened e
-    pub full : done.status ≡ length_status → IfSome input (λ bytes. max_input < length bytes) ⊎ IsUnopened open_error.RunsFull
+    pub disk : done.status ≡ 6 → HasOpeningReason open_error.Fault
+    pub damaged : done.status ≡ 7 → (e : OpenError) × (open_status e ≡ 7) × HasOpeningReason e
+    pub full : done.status ≡ length_status → IfSome input (λ bytes. max_input < length bytes) ⊎ HasOpeningReason open_error.RunsFull
     pub uncalled : (done.status ≡ usage_status) ⊎ (done.status ≡ script_status) ⊎ (done.status ≡ source_status) → done.disk ≡ given.disk
+    pub untouched : (done.status ≡ 7) ⊎ (done.status ≡ length_status) → IsUntouched

@@ -2,6 +2,7 @@
 use Rattle.std.proofs.Common.{◌≡◌, ⊎_elim, ℕ, ◌+◌, ◌<◌, ◌≤◌, [], sym, ◌∙◌, ap, subst, arith, Some, None}
 use Rattle.std.proofs.lemmas.Bool.{cases_lt}
 use Rattle.std.specs.Prelude.{Result, Ok, Err, IfOk, IfErr}
+use Rattle.mesa_fault.specs.Causes.{last}
 use Rattle.mesa_disk.specs.Image.{Image}
 use Rattle.mesa_disk.specs.Story.{Story, Unmoved}
 use Rattle.mesa_disk.specs.declared.area.Area.TheVariants.{Zero}
@@ -19,7 +20,8 @@ use Rattle.mesa_ledger.specs.Vault.{IsRead}
 use Rattle.mesa_catalog.specs.declared.begun.Begun.{Begun}
 use Rattle.mesa_recover.specs.declared.opened.Opened.{Opened}
 use Rattle.mesa_recover.specs.Opened.{IsOpened}
-use Rattle.mesa_ending.proofs.Unmoved.{keeps_before, read_before, reason_before, sound_after}
+use Rattle.mesa_ending.specs.Unopened.{HasSameCounts, IsUnopened}
+use Rattle.mesa_ending.proofs.Unmoved.{keeps_before, keeps_unmoved, read_before, reason_before, sound_after}
 use Rattle.mesa_shell.specs.Begun.{HasBegun}
 
 run_shaped : (c : Catalog) (number : ℕ) → IsCatalog c → IsCatalog (applied c (run_record number))
@@ -75,10 +77,23 @@ module _ {D : Type 0} (story : D → Story) (old : Story) (o : Opened D) (is : I
       (⊎_elim (λ lt. lt) (λ ge. absurd (let few = runs_few is.bodies known is.reads.records in let last : o.last_run ≡ most_runs = omega (arith, ge, few, is.run) in let never : Ok b ≡ Err (open_error.RunsFull, o.disk) = full last in cc never)) (cases_lt o.last_run most_runs))
   has_begun (Err e) run applies free place long held keeps filed told quiet later full = tt
 
-  pub reason_from : (r : Result (Begun D) (OpenError × D)) → IfErr r (λ e. HasReason (story o.disk) (story e.1) e.0) → IfErr r (λ e. HasReason old (story e.1) e.0)
-  reason_from (Ok b) reason = tt
-  reason_from (Err e) reason = reason_before old (story o.disk) still (story e.1) e.0 faults reads reason
+  -- no run begins on a store that was read
+  pub unopened_from : (r : Result (Begun D) (OpenError × D)) → IfErr r (λ e. HasReason (story o.disk) (story e.1) e.0) → IfErr r (λ e. Keeps (story o.disk) (story e.1))
+      → IfErr r (λ e. (i : Image) → (story o.disk).told ≡ Some i → IsRead (story e.1)) → IfErr r (λ e. (e.0 ≡ open_error.Fault → ⊥) → HasSameCounts (story o.disk) (story e.1))
+      → IfErr r (λ e. (e.0 ≡ open_error.Fault → ⊥) → (e.0 ≡ open_error.Memory → ⊥) → e.1 ≡ o.disk) → IfErr r (λ e. IsUnopened old (story e.1) e.0)
+  unopened_from (Ok b) reason keeps told other untouched = tt
+  unopened_from (Err e) reason keeps told other untouched = record {
+    reason = reason_before old (story o.disk) still (story e.1) e.0 faults reads reason;
+    keeps = (keeps_before old (story o.disk) still (story e.1) keeps, λ c rows start below. told start.image (still.told ∙ start.told));
+    quiet = λ fault. let same = other fault in (same.0 ∙ faults, same.1 ∙ reads);
+    unmoved = λ fault memory. subst (λ d. Unmoved old (story d)) (sym (untouched fault memory)) still;
+  }
 
-  pub keeps_from : (r : Result (Begun D) (OpenError × D)) → IfErr r (λ e. Keeps (story o.disk) (story e.1)) → IfErr r (λ e. Keeps old (story e.1))
-  keeps_from (Ok b) keeps = tt
-  keeps_from (Err e) keeps = keeps_before old (story o.disk) still (story e.1) keeps
+-- nor on one that can't be read
+pub unread : (old new : Story) (e : OpenError) → HasReason old new e → Unmoved old new → ((x : Image) → new.moment < last → new.may_have_left new.moment x → new.may_leave x) → ((e ≡ open_error.Fault → ⊥) → HasSameCounts old new) → IsUnopened old new e
+unread old new e reason still only other = record {
+  reason = reason;
+  keeps = (keeps_unmoved old new still only, λ c rows start below. (start.image, still.told ∙ start.told));
+  quiet = other;
+  unmoved = λ fault memory. still;
+}

@@ -1,5 +1,5 @@
 -- What a run under its name leaves, by what its lock and its vault tell of it.
-use Rattle.std.proofs.Common.{◌≡◌, ℕ, ◌+◌, ◌^◌, ◌<◌, ◌≤◌, List, [], ◌∷◌, ◌++◌, length, take, drop, Bool, not, refl, sym, ◌∙◌, ap, subst, arith}
+use Rattle.std.proofs.Common.{◌≡◌, ℕ, ◌+◌, ◌^◌, ◌<◌, ◌≤◌, List, [], ◌∷◌, ◌++◌, length, take, drop, Bool, not, refl, sym, ◌∙◌, ap, subst, arith, None}
 use Rattle.std.proofs.lemmas.List.{append-nil, drop_all, take_all}
 use Rattle.std.specs.List.{AllByRecursion}
 use Rattle.std.specs.Prelude.{◌==◌, ◌&&◌}
@@ -9,7 +9,7 @@ use Rattle.mesa_model.specs.declared.commands.Script.{Script}
 use Rattle.mesa_model.specs.declared.entries.Entry.{Entry}
 use Rattle.mesa_history.specs.Counting.{answers_bench, count_in, is_bench_fault, is_disk_fault, one_if}
 use Rattle.mesa_history.specs.Legal.{IsLegal}
-use Rattle.mesa_history.specs.Replay.{closes, go}
+use Rattle.mesa_history.specs.Replay.{closes, go, runs}
 use Rattle.mesa_history.specs.Run.{Run, State, begins}
 use Rattle.mesa_skeleton.specs.Bare.{bare_run, bare_state}
 use Rattle.mesa_skeleton.proofs.Alike.{go_alike, legal_alike}
@@ -17,6 +17,8 @@ use Rattle.mesa_passes.specs.Answers.{AreTimely, HasCounted, HaveCounted}
 use Rattle.mesa_walk.specs.Walk.{HasCounted as HasCountedFaults}
 use Rattle.mesa_ending.specs.Counting.{HasBenchCounts}
 use Rattle.mesa_ending.specs.Run.{RanAnyhow}
+use Rattle.mesa_ledger.specs.Vault.{IsRead}
+use Rattle.mesa_sessions.specs.mesa_engine.Ending.{ReadsState}
 
 -- ---- moments
 
@@ -75,3 +77,10 @@ ran_anyhow script first start same seen h is running since counted story legal f
   moments = within h since story.moment from to;
   counts = counts;
 }
+
+-- ---- no turn
+
+-- Behind no turn a read gives an image.
+pub read_first : (script : Script) (start : State) (h : List Entry) (story : Story) → h ≡ [] → start.warehouse.closed ≡ None → ReadsState script start h story → IsRead story
+unfolding runs
+read_first script start h story none unclosed reads = let read = subst (λ (x : List Entry). ReadsState script start x story) none reads unclosed in (read.0, read.1)

@@ -23,6 +23,7 @@ use Rattle.mesa_ending.specs.Counting.{HasBenchCounts}
 use Rattle.mesa_ending.specs.Ports.{Ports}
 use Rattle.mesa_ending.specs.Run.{Ran, RanAnyhow, RanSoundly}
 use Rattle.mesa_ending.specs.Start.{AreTold, IsSoundStore, start_of}
+use Rattle.mesa_ending.specs.Unopened.{StaysSound}
 use Rattle.mesa_ending.specs.Ending.{EndsScript}
 use Rattle.mesa_ending.specs.declared.done.Devices.{Devices}
 use Rattle.mesa_ending.specs.declared.done.Done.{Done}
@@ -55,20 +56,32 @@ found_none script c rows t x f = elim f.how [
 ]
 
 module _ {K D M B : Type 0} (ports : Ports K D M B) (given : Devices K D B) (script : Script) (b : Begun D) (has : HasBegun ports.story (ports.story given.disk) b) where
-  -- a store on which no turn was taken keeps what it had
-  pub unrun_keeps : (d : Devices K D B) → HasNotRun ports script b given.out given.benches.items d → AreTold ports.bytes → Keeps (ports.story given.disk) (ports.story d.disk)
+  applied_same : (rows : Rows) → kept_of rows b.catalog.catalogue ≡ kept_of rows has.catalogue
+  applied_same rows = ap (kept_of rows) has.applies ∙ kept_begun rows has.catalogue b.run
+
+  module _ (files : AreTold ports.bytes) (k : Catalog) (rows : Rows) (start : IsSoundStart (ports.story given.disk) k rows) where
+    same : k ≡ has.catalogue
+    same = reads_same (ports.story given.disk) k has.catalogue rows start has.reads
+
+    begun : IsSoundStart (ports.story given.disk) has.catalogue rows
+    begun = subst (λ (y : Catalog). IsSoundStart (ports.story given.disk) y rows) same start
+
+    sound : IsSoundBegun ports.bytes b.since (ports.story b.disk) b.end b.catalog.catalogue rows
+    sound = record {
+      files = files;
+      held = has.held rows begun;
+      read = has.told begun.image begun.told;
+      found = λ below t x from to left. subst (StandsFor x) (sym (applied_same rows)) (has.keeps has.catalogue rows begun below t x (omega (arith, from, has.since)) to left);
+    }
+
+  unrun_keeps : (d : Devices K D B) → HasNotRun ports script b given.out given.benches.items d → AreTold ports.bytes → Keeps (ports.story given.disk) (ports.story d.disk)
   unrun_keeps d unrun files k rows start below t x from to left =
-      let same : k ≡ has.catalogue = reads_same (ports.story given.disk) k has.catalogue rows start has.reads in
-      let begun : IsSoundStart (ports.story given.disk) has.catalogue rows = subst (λ (y : Catalog). IsSoundStart (ports.story given.disk) y rows) same start in
-      let applied_same : kept_of rows b.catalog.catalogue ≡ kept_of rows has.catalogue = ap (kept_of rows) has.applies ∙ kept_begun rows has.catalogue b.run in
-      let sound : IsSoundBegun ports.bytes b.since (ports.story b.disk) b.end b.catalog.catalogue rows = record {
-        files = files;
-        held = has.held rows begun;
-        read = has.told begun.image begun.told;
-        found = λ below' t' x' from' to' left'. subst (StandsFor x') (sym applied_same) (has.keeps has.catalogue rows begun below' t' x' (omega (arith, from', has.since)) to' left');
-      } in
-      let found = found_none script b.catalog.catalogue rows t x (unrun.found rows sound below t x (omega (arith, from, has.since)) to left) in
-      subst (λ (y : Catalog). StandsFor x (kept_of rows y)) (sym same) (subst (StandsFor x) applied_same found)
+      let found = found_none script b.catalog.catalogue rows t x (unrun.found rows (sound files k rows start) below t x (omega (arith, from, has.since)) to left) in
+      subst (λ (y : Catalog). StandsFor x (kept_of rows y)) (sym (same files k rows start)) (subst (StandsFor x) (applied_same rows) found)
+
+  -- a store on which no turn was taken keeps what it had, and is read still
+  pub unrun_sound : (d : Devices K D B) → HasNotRun ports script b given.out given.benches.items d → AreTold ports.bytes → StaysSound (ports.story given.disk) (ports.story d.disk)
+  unrun_sound d unrun files = (unrun_keeps d unrun files, λ k rows start below. unrun.read rows (sound files k rows start))
 
 module _ {K D M B : Type 0} (ports : Ports K D M B) (given : Devices K D B) (script : Script) (b : Begun D) (l : Left K D B) (has : HasBegun ports.story (ports.story given.disk) b)
     (ran : RanFrom ports script b given.out given.benches.items l) where
@@ -132,6 +145,7 @@ module _ {K D M B : Type 0} (ports : Ports K D M B) (given : Devices K D B) (scr
     whole_run = record {
       reads = has.reads;
       number = has.number;
+      returned = ran.returned;
       anyhow = anyhow;
       benches = λ rows. subst (λ s. HasBenchCounts ports.bench_faults (ports.story l.disk) script (begins s) l.history.items given.benches.items l.benches.items) (same_start rows) (ran.counted rows);
       answers = answers;

@@ -37,6 +37,7 @@ module _ {K S D M B : Type 0} (held : K → Option (List ℕ)) (faults : K → �
   in_memory_ran n failed ran = record {
     reads = ran.reads;
     number = ran.number;
+    returned = ran.returned;
     anyhow = ran.anyhow;
     benches = ran.benches;
     answers = ran.answers;

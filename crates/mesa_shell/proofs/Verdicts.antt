@@ -13,6 +13,7 @@ use Rattle.mesa_ending.proofs.mesa_opening.Firsts.{unmoved_twice}
 use Rattle.mesa_ending.specs.Ports.{Ports}
 use Rattle.mesa_ending.specs.Exits.{open_line, open_status, verdict_line, verdict_status}
 use Rattle.mesa_ending.specs.Ending.{Ended, EndsCheck}
+use Rattle.mesa_ending.specs.Unopened.{HasSameCounts, IsUnread}
 use Rattle.mesa_ending.specs.declared.done.Devices.{Devices}
 use Rattle.mesa_ending.specs.declared.done.Done.{Done}
 use Rattle.mesa_ending.proofs.Unmoved.{read_before, reason_before}
@@ -46,16 +47,30 @@ module _ (old mid new : Story) (opened : Unmoved old mid) (checked : Unmoved mid
   pub fault_there : mid.faults ≡ old.faults → mid.read_faults ≡ old.read_faults → HasReason mid new open_error.Fault → HasReason old new open_error.Fault
   fault_there faults reads reason = reason_before old mid opened new open_error.Fault faults reads reason
 
+  pub counts_there : HasSameCounts old mid → HasSameCounts mid new → HasSameCounts old new
+  counts_there first more = (more.0 ∙ first.0, more.1 ∙ first.1)
+
   pub nothing_moved : Unmoved old new
   nothing_moved = unmoved_twice old mid new opened checked
 
 -- ---- the whole
 
 module _ {K D M B : Type 0} (ports : Ports K D M B) (g : Devices K D B) (done : Done K D B) (disk : D) (is : done.disk ≡ disk) (still : Unmoved (ports.story g.disk) (ports.story disk)) where
-  pub check_failed : (e : OpenError) → HasReason (ports.story g.disk) (ports.story disk) e → (e ≡ open_error.RunsFull → ⊥) → Ended ports g done (open_status e) (open_line e) → EndsCheck ports g done
-  check_failed e reason other ended =
-      inl (e, other, (subst (λ d. HasReason (ports.story g.disk) (ports.story d) e) (sym is) reason, subst (λ d. Unmoved (ports.story g.disk) (ports.story d)) (sym is) still, ended))
+  pub check_failed : (e : OpenError) → HasReason (ports.story g.disk) (ports.story disk) e → (e ≡ open_error.RunsFull → ⊥) → ((e ≡ open_error.Fault → ⊥) → HasSameCounts (ports.story g.disk) (ports.story disk))
+      → Ended ports g done (open_status e) (open_line e) → EndsCheck ports g done
+  check_failed e reason other quiet ended =
+      inl (e, other, (subst (λ d. IsUnread (ports.story g.disk) (ports.story d) e) (sym is) (record { reason = reason; quiet = quiet; unmoved = still }), ended))
 
-  pub check_decided : (c : Catalog) (fault : Option Fault) → ReadsAs (ports.story g.disk) c → IsFirstFault (ports.story g.disk) c fault → Ended ports g done (verdict_status fault) (verdict_line fault) → EndsCheck ports g done
-  check_decided c fault reads first ended =
-      inr (c, fault, record { reads = reads; first = first; unmoved = subst (λ d. Unmoved (ports.story g.disk) (ports.story d)) (sym is) still; ended = ended })
+  pub check_decided : HasSameCounts (ports.story g.disk) (ports.story disk) → (c : Catalog) (fault : Option Fault) → ReadsAs (ports.story g.disk) c → IsFirstFault (ports.story g.disk) c fault
+      → Ended ports g done (verdict_status fault) (verdict_line fault) → EndsCheck ports g done
+  check_decided quiet c fault reads first ended = inr (
+    c,
+    fault,
+    record {
+      reads = reads;
+      first = first;
+      quiet = subst (λ d. HasSameCounts (ports.story g.disk) (ports.story d)) (sym is) quiet;
+      unmoved = subst (λ d. Unmoved (ports.story g.disk) (ports.story d)) (sym is) still;
+      ended = ended;
+    },
+  )

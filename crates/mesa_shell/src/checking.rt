@@ -1,11 +1,12 @@
 // Checks of a store.
-ghost use Rattle.std.specs.Prelude.{◌≡◌, ◌≢◌, IfErr, IfOk};
+ghost use Rattle.std.specs.Prelude.{◌≡◌, ◌≢◌, Err, IfErr, IfOk};
 ghost use Rattle.mesa_disk.specs.Story.{Unmoved};
 ghost use Rattle.mesa_ending.specs.Ending as spec;
 ghost use Rattle.mesa_ending.specs.mesa_opening.Opening.{HasReason, ReadsAs};
 ghost use Rattle.mesa_ending.specs.mesa_opening.declared.error.OpenError.TheVariants as open_error;
 ghost use Rattle.mesa_ending.specs.mesa_verdict.Verdict.{IsFirstFault, fault_told};
 ghost use Rattle.mesa_ending.specs.Ports.{ports};
+ghost use Rattle.mesa_ending.specs.Unopened.{HasSameCounts};
 ghost use Rattle.mesa_image.specs.Catalog.{Catalog};
 
 use mesa_check::{CheckError, Verdict, check};
@@ -25,12 +26,13 @@ fn disk_of<D>(opened: Opened<D>) -> D
     disk
 }
 
-// The verdict on a store, or why it can't be read; and its disk, on which nothing moved.
+// The verdict on a store, or why it can't be read; and its disk, on which nothing moved, and on which no count rose but for a fault.
 fn verdict<M: Made, D: Disk<M>>(alloc: Global, disk: D) -> (Result<Verdict, OpenError>, D)
     ensures verdict { IfOk result.0 (λ v. (c : Catalog) × ReadsAs (D.story disk) c × IsFirstFault (D.story disk) c (fault_told v)) }
     ensures reason { IfErr result.0 (HasReason (D.story disk) (D.story result.1)) }
     ensures other { IfErr result.0 (λ e. e ≢ open_error.RunsFull) }
     ensures unmoved { Unmoved (D.story disk) (D.story result.1) }
+    ensures quiet { result.0 ≢ Err open_error.Fault → HasSameCounts (D.story disk) (D.story result.1) }
 {
     let mut opened = match read(alloc, disk) {
         Ok(opened) => opened,

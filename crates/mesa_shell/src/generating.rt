@@ -10,7 +10,7 @@ ghost use Rattle.mesa_script.specs.Generated.{generated as generated_by};
 ghost use Rattle.mesa_script.specs.Script.{script_of};
 
 use crate::opening::open;
-use crate::running::{Left, run_begun, run_status};
+use crate::running::{Left, run_begun};
 use mesa_disk::{Bench, Disk, Made};
 use mesa_ending::{Devices, Done, scripts_are_small};
 use mesa_excerpt::excerpt;
@@ -20,7 +20,7 @@ use mesa_model::{Entry, Script};
 use mesa_parse::parse;
 use mesa_printer::Printer;
 use mesa_sessions::Gate;
-use mesa_telling::{ended_opening, lacks_memory, statuses};
+use mesa_telling::{ended_opening, lacks_memory, run_status, statuses};
 use std::alloc::{AllocError, Global};
 use std::sync::Wait;
 use std::thread::Threads;

@@ -1,6 +1,6 @@
 // Opening a store for a run.
 ghost use Rattle.std.specs.Prelude.{IfErr, IfOk};
-ghost use Rattle.mesa_ending.specs.mesa_opening.Opening.{HasReason, Keeps};
+ghost use Rattle.mesa_ending.specs.Unopened.{IsUnopened};
 ghost use Rattle.mesa_shell.specs.Begun.{HasBegun};
 
 use mesa_disk::{Disk, Made};
@@ -10,8 +10,7 @@ use std::alloc::Global;
 /// Reads a store, and begins a run on it.
 pub(crate) fn open<M: Made, D: Disk<M>>(alloc: Global, disk: D) -> Result<Begun<D>, (OpenError, D)>
     ensures begun { IfOk result (HasBegun D.story (D.story disk)) }
-    ensures reason { IfErr result (λ e. HasReason (D.story disk) (D.story e.1) e.0) }
-    ensures keeps { IfErr result (λ e. Keeps (D.story disk) (D.story e.1)) }
+    ensures unopened { IfErr result (λ e. IsUnopened (D.story disk) (D.story e.1) e.0) }
 {
     match read(alloc, disk) {
         Ok(opened) => begin(alloc, opened),

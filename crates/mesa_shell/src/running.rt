@@ -1,5 +1,5 @@
 // The run of a script over a store on which it has begun.
-ghost use Rattle.std.specs.Prelude.{◌≡◌, ◌+◌, ◌<◌, ◌≤◌, ◌^◌, [], Bool, true, false, None, IfErr, IfOk, IsTrue, length, if◌then◌else◌};
+ghost use Rattle.std.specs.Prelude.{◌≡◌, ◌+◌, ◌<◌, ◌≤◌, ◌^◌, [], Bool, true, false, None, IfErr, IfOk, IsTrue, length};
 ghost use Rattle.mesa_fault.specs.Causes.{last, Rose};
 ghost use Rattle.mesa_sessions.specs.mesa_engine.Beginning.{IsBegun};
 ghost use Rattle.mesa_sessions.specs.mesa_engine.Engine.{most_turns, starts_of};
@@ -10,6 +10,7 @@ ghost use Rattle.mesa_passes.specs.Passes.{turns_of};
 ghost use Rattle.mesa_ending.specs.Counting.{HasBenchCounts};
 ghost use Rattle.mesa_ending.specs.Ports.{ports};
 ghost use Rattle.mesa_walk.specs.Walk.{AllFound};
+ghost use Rattle.mesa_ledger.specs.Vault.{IsRead};
 ghost use Rattle.mesa_ending.specs.Run.{RanAnyhow, RanSoundly, outset_from};
 ghost use Rattle.mesa_ending.specs.Scripts.{IsSmall};
 ghost use Rattle.mesa_ending.specs.Start.{AreTold};
@@ -23,7 +24,6 @@ use mesa_ledger::Naming;
 use mesa_model::{Entry, Script};
 use mesa_recover::Begun;
 use mesa_sessions::{Gate, Vault, serve, turns_of};
-use mesa_telling::statuses;
 use std::alloc::{AllocError, Global};
 use std::marker::Brand;
 use std::sync::Wait;
@@ -83,8 +83,10 @@ fn run_named<
     // Want of memory, before any turn.
     ensures memory { IfErr result (λ d. (K.held d.out ≡ K.held out) × (K.faults d.out ≡ K.faults out) × (d.benches.items ≡ benches.items)) }
     ensures kept { IfErr result (λ d. (w : Rows) → N.sound w → AllFound (outset_from N.script (N.start w) N.since N.counted N.at_start) [] (D.story d.disk)) }
+    ensures read { IfErr result (λ d. (w : Rows) → N.sound w → IsRead (D.story d.disk)) }
 
     ensures anyhow { IfOk result (λ l. (w : Rows) → RanAnyhow N.script (N.start w) l.history.items l.failed N.since N.counted (D.story l.disk)) }
+    ensures returned { IfOk result (λ l. length l.benches.items ≡ length benches.items) }
     ensures benches { IfOk result (λ l. (w : Rows) → HasBenchCounts B.faults (D.story l.disk) N.script (begins (N.start w)) l.history.items benches.items l.benches.items) }
     ensures refused { IfOk result (λ l. (w : Rows) → l.refused ≡ some_refused N.script (begins (N.start w)) l.history.items) }
     ensures failed { IfOk result (λ l. l.failed ≡ true → Rose (K.faults out) (K.faults l.out)) }
@@ -147,17 +149,4 @@ pub(crate) fn run_begun<
     ensures ran { IfOk result (RanFrom (ports K.held K.faults D.story M.bytes B.faults) script.now begun out benches.items) }
 {
     run_named::<Brand, M, D, K, B, R, G>(rt, alloc, script, begun, out, benches, gate)
-}
-
-/// The status of a script that was run.
-pub(crate) fn run_status(failed: bool, refused: bool) -> u8
-    ensures { result ≡ (if failed then 5 else (if refused then 1 else 0)) }
-{
-    if failed {
-        statuses::SINK_FAULT
-    } else if refused {
-        statuses::REFUSED
-    } else {
-        statuses::ANSWERED
-    }
 }

@@ -92,6 +92,19 @@ pub fn ended_refused<M: Made, D: Disk<M>, K: Sink, B: Bench<M>>(
     without_run(alloc, printer, disk, benches, statuses::BAD_SCRIPT)
 }
 
+/// The status of a script that was run: whether the sink failed, and whether some reply is a refusal.
+pub fn run_status(failed: bool, refused: bool) -> u8
+    ensures { result ≡ (if failed then 5 else (if refused then 1 else 0)) }
+{
+    if failed {
+        statuses::SINK_FAULT
+    } else if refused {
+        statuses::REFUSED
+    } else {
+        statuses::ANSWERED
+    }
+}
+
 // The status of a store that isn't opened.
 fn status_of(error: &OpenError) -> u8
     ensures { result ≡ open_status error.now }

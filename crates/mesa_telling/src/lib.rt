@@ -1,4 +1,4 @@
-//! What a call of the program tells that runs nothing: its line, and how it ends.
+//! What a call of the program tells: its status, and its line where it runs nothing.
 #![tactic(auto)]
 
 mod ending;
@@ -6,4 +6,4 @@ mod lines;
 pub mod statuses;
 mod verdict;
 
-pub use ending::{ended, ended_checked, ended_opening, ended_refused, lacks_memory};
+pub use ending::{ended, ended_checked, ended_opening, ended_refused, lacks_memory, run_status};

@@ -1,11 +1,12 @@
-use Rattle.std.proofs.Common.{◌≡◌, Err, true, ap, subst, sym}
+use Rattle.std.proofs.Common.{◌≡◌, Err, true, false, refl, ap, subst, sym}
 use Rattle.mesa_disk.specs.Story.{Unmoved}
 use Rattle.mesa_examine.specs.Examined.{is_read_failure}
 use Rattle.mesa_ending.specs.mesa_opening.Opening.{HasReason}
 use Rattle.mesa_ending.specs.mesa_opening.declared.error.OpenError.TheVariants as open_error
 use Rattle.mesa_ending.specs.mesa_verdict.Verdict.{fault_told}
 use Rattle.mesa_ending.specs.mesa_verdict.declared.verdict.Verdict.{Verdict}
-use Rattle.mesa_shell.proofs.Verdicts.{fault_there, nothing_moved, one_rose, verdict_there}
+use Rattle.mesa_ending.specs.Unopened.{HasSameCounts}
+use Rattle.mesa_shell.proofs.Verdicts.{counts_there, fault_there, nothing_moved, one_rose, verdict_there}
 use Rattle.mesa_shell.proofs.checking.verdict.Goals as goal
 
 pub returns-in-Ok-check : goal.returns-in-Ok-check
@@ -21,6 +22,7 @@ returns-in-Ok-check g c =
       reason = tt;
       other = tt;
       unmoved = subst (λ d. Unmoved old (g.D.Disk.story d)) (sym c.disk_of.ensures) (nothing_moved old mid new r.unmoved k.unmoved);
+      quiet = λ other. subst (λ d. HasSameCounts old (g.D.Disk.story d)) (sym c.disk_of.ensures) (counts_there old mid new r.unmoved k.unmoved r.quiet (k.counted.quiet refl));
     }
 
 pub returns-in-Err-Read : goal.returns-in-Err-Read
@@ -38,14 +40,22 @@ returns-in-Err-Read g c =
       reason = subst (λ d. HasReason old (g.D.Disk.story d) open_error.Fault) back (fault_there old mid new r.unmoved k.unmoved r.quiet.0 r.quiet.1 rose);
       other = λ no. absurd cc;
       unmoved = subst (λ d. Unmoved old (g.D.Disk.story d)) back (nothing_moved old mid new r.unmoved k.unmoved);
+      quiet = λ other. absurd (other refl);
     }
 
 pub returns-in-Err-Memory : goal.returns-in-Err-Memory
 returns-in-Err-Memory g c =
     let old = g.D.Disk.story c.args.disk in
+    let mid = g.D.Disk.story c.in-Ok.opened.disk in
+    let new = g.D.Disk.story c.check.new.opened.disk in
+    let r = c.in-Ok.ensures in
+    let k = c.in-Err-Memory.ensures in
+    let back = sym c.disk_of-in-Err-Memory.ensures in
+    let is : is_read_failure {T = Verdict} (Err c.in-Err-Memory.field-0) ≡ false = ap (λ e. is_read_failure {T = Verdict} (Err e)) c.in-Err-Memory.field-0-is in
     record {
       verdict = tt;
       reason = tt;
       other = λ no. absurd cc;
-      unmoved = subst (λ d. Unmoved old (g.D.Disk.story d)) (sym c.disk_of-in-Err-Memory.ensures) (nothing_moved old (g.D.Disk.story c.in-Ok.opened.disk) (g.D.Disk.story c.check.new.opened.disk) c.in-Ok.ensures.unmoved c.in-Err-Memory.ensures.unmoved);
+      unmoved = subst (λ d. Unmoved old (g.D.Disk.story d)) back (nothing_moved old mid new r.unmoved k.unmoved);
+      quiet = λ other. subst (λ d. HasSameCounts old (g.D.Disk.story d)) back (counts_there old mid new r.unmoved k.unmoved r.quiet (k.counted.quiet is));
     }

@@ -5,7 +5,7 @@ use Rattle.mesa_ending.specs.Ports.{ports}
 use Rattle.mesa_ending.specs.Ending.{EndsShown}
 use Rattle.mesa_ending.specs.declared.done.Devices.{Devices}
 use Rattle.mesa_ending.proofs.Ends.{ended_with, short_of_memory, unopened}
-use Rattle.mesa_shell.proofs.Ran.{refused_told, unrun_keeps, whole_run}
+use Rattle.mesa_shell.proofs.Ran.{refused_told, unrun_sound, whole_run}
 use Rattle.mesa_shell.proofs.Showing.{shown_ended}
 use Rattle.mesa_shell.proofs.generating.run_in_memory.Goals as goal
 
@@ -13,7 +13,7 @@ pub returns-in-Err : goal.returns-in-Err
 returns-in-Err g c =
     let p = ports g.K.Sink.held g.K.Sink.faults g.D.Disk.story g.M.Made.bytes g.B.Bench.faults in
     let e = c.ended_opening.ensures in
-    inl (c.in-Err.error, unopened p c.args.given c.ended_opening.result c.in-Err.disk c.in-Err.error e.disk c.in-Err.ensures.reason c.in-Err.ensures.keeps e.ended)
+    inl (c.in-Err.error, unopened p c.args.given c.ended_opening.result c.in-Err.disk c.in-Err.error e.disk c.in-Err.ensures.unopened e.ended)
 
 pub returns-in-Ok-run_begun : goal.returns-in-Ok-run_begun
 returns-in-Ok-run_begun g c =
@@ -41,5 +41,5 @@ returns-in-Err-run_begun g c =
     let back = c.in-Err-run_begun.ensures.memory in
     let unrun = c.in-Err-run_begun.unrun in
     let e = c.lacks_memory.ensures in
-    inr (inr (short_of_memory p c.args.given c.lacks_memory.result unrun.disk e.disk (unrun_keeps m given c.args.script.now c.in-Ok.begun c.in-Ok.ensures.begun unrun back)
+    inr (inr (short_of_memory p c.args.given c.lacks_memory.result unrun.disk e.disk (unrun_sound m given c.args.script.now c.in-Ok.begun c.in-Ok.ensures.begun unrun back)
     (ended_with p (record { out = c.args.given.out; disk = unrun.disk; benches = unrun.benches }) c.args.given c.lacks_memory.result refl refl back.same _ _ e.ended)))

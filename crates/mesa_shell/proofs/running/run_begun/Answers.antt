@@ -12,9 +12,9 @@ run_named-requires-clause-few g c lives bounds = few_turns c.args.script.now c.r
 pub returns-clause-memory : goal.returns-clause-memory
 returns-clause-memory g c =
     let e = c.run_named.ensures in
-    has_not_run (ports g.K.Sink.held g.K.Sink.faults g.D.Disk.story g.M.Made.bytes g.B.Bench.faults) c.args.script.now c.args.begun c.args.out c.args.benches.items c.run_named.result e.memory e.kept
+    has_not_run (ports g.K.Sink.held g.K.Sink.faults g.D.Disk.story g.M.Made.bytes g.B.Bench.faults) c.args.script.now c.args.begun c.args.out c.args.benches.items c.run_named.result e.memory e.kept e.read
 
 pub returns-clause-ran : goal.returns-clause-ran
 returns-clause-ran g c =
     let e = c.run_named.ensures in
-    ran_from (ports g.K.Sink.held g.K.Sink.faults g.D.Disk.story g.M.Made.bytes g.B.Bench.faults) c.args.script.now c.args.begun c.args.out c.args.benches.items c.run_named.result e.anyhow e.benches e.refused e.failed e.whole e.soundly
+    ran_from (ports g.K.Sink.held g.K.Sink.faults g.D.Disk.story g.M.Made.bytes g.B.Bench.faults) c.args.script.now c.args.begun c.args.out c.args.benches.items c.run_named.result e.anyhow e.returned e.benches e.refused e.failed e.whole e.soundly

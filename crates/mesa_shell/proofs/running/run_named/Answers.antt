@@ -1,6 +1,7 @@
 use Rattle.std.proofs.Common.{◌≡◌, [], length, true, false, not, refl, sym, ◌∙◌, ap, subst, arith, Bool}
 use Rattle.mesa_fault.specs.Causes.{Rose}
 use Rattle.mesa_model.specs.declared.commands.Script.{Script}
+use Rattle.mesa_model.specs.Warehouse.{Warehouse}
 use Rattle.mesa_passes.specs.Passes.{turns_of}
 use Rattle.mesa_skeleton.specs.Rows.{no_rows}
 use Rattle.mesa_sessions.specs.mesa_core.Vault.{Stand}
@@ -9,9 +10,10 @@ use Rattle.mesa_history.specs.Run.{begins}
 use Rattle.mesa_walk.specs.Printing.{IsPrinted}
 use Rattle.mesa_walk.specs.Walk.{AllFound}
 use Rattle.mesa_catalog.specs.declared.begun.Begun.{Begun}
+use Rattle.mesa_ledger.specs.Vault.{IsRead}
 use Rattle.mesa_ending.specs.Run.{RanAnyhow, RanSoundly, outset_from}
 use Rattle.mesa_ending.proofs.Small.{session_small}
-use Rattle.mesa_shell.proofs.Parts.{benches_counted, fits_room, ran_anyhow, refilled}
+use Rattle.mesa_shell.proofs.Parts.{benches_counted, fits_room, ran_anyhow, read_first, refilled}
 use Rattle.mesa_shell.proofs.running.run_named.Goals as goal
 
 -- ---- the vault is made, and put into its lock
@@ -65,6 +67,11 @@ returns-in-Err-clause-kept g c w sound =
     let same : c.disk_of-disk.result ≡ c.args.begun.disk = c.disk_of-disk.ensures ∙ ap (λ (b : Begun _). b.disk) c.in-Err.ensures.given_back.0 in
     subst (λ d. AllFound (outset_from N.script (N.start w) N.since N.counted N.at_start) [] (g.D.Disk.story d)) (sym same) ((c.requires.begun w true (λ is. sound)).found refl)
 
+pub returns-in-Err-clause-read : goal.returns-in-Err-clause-read
+returns-in-Err-clause-read g c w sound =
+    let same : c.disk_of-disk.result ≡ c.args.begun.disk = c.disk_of-disk.ensures ∙ ap (λ (b : Begun _). b.disk) c.in-Err.ensures.given_back.0 in
+    subst (λ d. IsRead (g.D.Disk.story d)) (sym same) ((c.requires.begun w true (λ is. sound)).read refl)
+
 pub returns-in-Err-serve-clause-memory : goal.returns-in-Err-serve-clause-memory
 returns-in-Err-serve-clause-memory g c =
     let s = c.stop-disk-in-Err-serve.ensures in
@@ -84,6 +91,14 @@ returns-in-Err-serve-clause-kept g c w sound =
     let none = s.history ∙ ap (λ (s : Stand). s.shown.history) (c.in-Err-serve.ensures.none ∙ c.in-Ok.ensures.started) in
     subst (λ h. AllFound (outset_from N.script (N.start w) N.since N.counted N.at_start) h (g.D.Disk.story c.stop-disk-in-Err-serve.result.0)) none (s.found w sound)
 
+pub returns-in-Err-serve-clause-read : goal.returns-in-Err-serve-clause-read
+returns-in-Err-serve-clause-read g c w sound =
+    let N = g.N.Naming in
+    let s = c.stop-disk-in-Err-serve.ensures in
+    let none = s.history ∙ ap (λ (s : Stand). s.shown.history) (c.in-Err-serve.ensures.none ∙ c.in-Ok.ensures.started) in
+    let unclosed = ap (λ (x : Warehouse). x.closed) (c.requires.begun w true (λ is. sound)).state.skeleton in
+    read_first N.script (N.start w) c.stop-disk-in-Err-serve.result.2.items (g.D.Disk.story c.stop-disk-in-Err-serve.result.0) none unclosed (s.reads w sound)
+
 -- ---- the run
 
 pub returns-in-Ok-serve-clause-anyhow : goal.returns-in-Ok-serve-clause-anyhow
@@ -95,6 +110,12 @@ returns-in-Ok-serve-clause-anyhow g c w =
     let story = g.D.Disk.story c.stop-disk.result.0 in
     subst (λ (running : Bool). RanAnyhow N.script (N.start w) h (not running) N.since N.counted story) (sym c.running-failed.ensures.running)
     (ran_anyhow N.script (N.start no_rows) (N.start w) (N.alike w) v.history h s.history v.running N.since N.counted story c.in-Ok-serve.ensures.legal s.since s.until (s.counts w))
+
+pub returns-in-Ok-serve-clause-returned : goal.returns-in-Ok-serve-clause-returned
+returns-in-Ok-serve-clause-returned g c =
+    let lent = c.deref_mut.ensures.value in
+    let long = c.serve.auto.benches ∙ ap length lent in
+    ap length (refilled c.args.benches.len c.args.benches.items c.serve.new.benches c.args.benches.ok.0 long) ∙ long
 
 pub returns-in-Ok-serve-clause-benches : goal.returns-in-Ok-serve-clause-benches
 returns-in-Ok-serve-clause-benches g c w =
