@@ -13,3 +13,6 @@ pub mod Checked
 pub mod Telling
 pub mod Named
 pub mod Alone
+pub mod Closed
+pub mod Next
+pub mod Life

@@ -11,3 +11,5 @@ pub mod Run
 pub mod Ending
 pub mod Statuses
 pub mod Completing
+pub mod Next
+pub mod Life

@@ -1,8 +1,13 @@
 // Laws of scripts, and of stores that a run starts from.
-ghost use Rattle.std.specs.Prelude.{◌≡◌, ℕ, List, [], Ok};
+ghost use Rattle.std.specs.Prelude.{◌≡◌, ℕ, List, [], Ok, Option};
 ghost use Rattle.mesa_disk.specs.Image.{Image as AnyImage};
+ghost use Rattle.mesa_ending.specs.Life.{LifeLaw};
+ghost use Rattle.mesa_ending.specs.Next.{CrashLeavesFront, OpensSound, RestLeavesSound, RunLeavesSound};
+ghost use Rattle.mesa_ending.specs.Ports.{ports};
 ghost use Rattle.mesa_ending.specs.Scripts.{IsSmall};
 ghost use Rattle.mesa_ending.specs.Start.{start_of};
+ghost use Rattle.mesa_ending.specs.declared.done.Devices.{Devices};
+ghost use Rattle.mesa_ending.specs.declared.done.Done.{Done};
 ghost use Rattle.mesa_history.specs.Run.{nothing_there};
 ghost use Rattle.mesa_image.specs.Catalog.{Catalog, empty_catalog};
 ghost use Rattle.mesa_image.specs.Shape.{IsCatalog};
@@ -12,6 +17,9 @@ ghost use Rattle.mesa_model.specs.declared.commands.Script.{Script};
 ghost use Rattle.mesa_script.specs.Script.{script_of};
 ghost use Rattle.mesa_skeleton.specs.Bare.{bare_state};
 ghost use Rattle.mesa_skeleton.specs.Rows.{Rows, no_rows};
+ghost use Rattle.mesa_words.specs.declared.forms.Form.{Form as AnyForm};
+
+use mesa_disk::{Disk, Made};
 
 /// Whatever rows a store's files have, a run starts from one skeleton.
 pub fn stores_start_alike()
@@ -32,4 +40,24 @@ pub fn empty_stores_are_sound()
 /// Every script that bytes spell has a prologue, and not too many sessions and commands.
 pub fn scripts_are_small()
     ensures { (bytes : List ℕ) (script : Script) → script_of bytes ≡ Ok script → IsSmall script }
+{}
+
+/// Run after run: a call over a sound store leaves a sound one, unless a fault closed it, while the disk's
+/// clock goes on. It keeps what it kept with all the turns of the call, so the next run starts from there; a
+/// call that took no turn leaves what there was. A crash at any moment leaves what the store kept with a front
+/// of the turns; and so it is kept by a disk that is opened from that image.
+pub fn calls_leave_sound_stores<M: Made, D: Disk<M>, K, B>()
+    ensures run { (held : K → Option (List ℕ)) (sink_faults : K → ℕ) (bench_faults : B → ℕ) (given : Devices K D B) (done : Done K D B) (asked : Option AnyForm) (input : Option (List ℕ)) (before now : ℕ)
+        → RunLeavesSound (ports held sink_faults D.story M.bytes bench_faults) given done asked input before now }
+    ensures rest { (held : K → Option (List ℕ)) (sink_faults : K → ℕ) (bench_faults : B → ℕ) (given : Devices K D B) (done : Done K D B) (asked : Option AnyForm) (input : Option (List ℕ)) (before now : ℕ)
+        → RestLeavesSound (ports held sink_faults D.story M.bytes bench_faults) given done asked input before now }
+    ensures crash { (held : K → Option (List ℕ)) (sink_faults : K → ℕ) (bench_faults : B → ℕ) (given : Devices K D B) (done : Done K D B) (asked : Option AnyForm) (input : Option (List ℕ)) (before now : ℕ)
+        → CrashLeavesFront (ports held sink_faults D.story M.bytes bench_faults) given done asked input before now }
+    ensures opened { (disk : D) → OpensSound M.bytes (D.story disk) }
+{}
+
+/// From an empty store, after any runs and whatever crashes came between them, each content at a version that
+/// can be queried is the fold of all batches that were accepted through it.
+pub fn contents_are_folds_of_all_batches()
+    ensures { LifeLaw }
 {}
