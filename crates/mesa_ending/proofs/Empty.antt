@@ -7,7 +7,8 @@ use Rattle.mesa_skeleton.specs.Rows.{no_rows}
 use Rattle.mesa_image.specs.Catalog.{empty_catalog}
 use Rattle.mesa_image.specs.Contents.{kept_of}
 use Rattle.mesa_image.specs.Fitting.{catalog_from}
-use Rattle.mesa_image.specs.Sound.{IsSoundAs}
+use Rattle.mesa_image.specs.Sound.{IsSoundAs, StandsFor}
+use Rattle.mesa_ending.specs.Life.{kept_at_first}
 use Rattle.mesa_ending.specs.Start.{start_of}
 
 pub empty_start : (script : Script) → start_of script empty_catalog no_rows ≡ nothing_there script
@@ -22,3 +23,7 @@ empty_sound image none = record {
   files = tt;
   rows_are = tt;
 }
+
+pub empty_stands : (image : Image) → image.zero ≡ [] → StandsFor image kept_at_first
+unfolding kept_of
+empty_stands image none = record { bodies = []; catalogue = empty_catalog; rows = no_rows; is = empty_sound image none; same = refl }

@@ -1,7 +1,7 @@
 // Laws of scripts, and of stores that a run starts from.
 ghost use Rattle.std.specs.Prelude.{◌≡◌, ℕ, List, [], Ok, Option};
 ghost use Rattle.mesa_disk.specs.Image.{Image as AnyImage};
-ghost use Rattle.mesa_ending.specs.Life.{LifeLaw};
+ghost use Rattle.mesa_ending.specs.Life.{LifeLaw, kept_at_first};
 ghost use Rattle.mesa_ending.specs.Next.{CrashLeavesFront, OpensSound, RestLeavesSound, RunLeavesSound};
 ghost use Rattle.mesa_ending.specs.Ports.{ports};
 ghost use Rattle.mesa_ending.specs.Scripts.{IsSmall};
@@ -11,7 +11,7 @@ ghost use Rattle.mesa_ending.specs.declared.done.Done.{Done};
 ghost use Rattle.mesa_history.specs.Run.{nothing_there};
 ghost use Rattle.mesa_image.specs.Catalog.{Catalog, empty_catalog};
 ghost use Rattle.mesa_image.specs.Shape.{IsCatalog};
-ghost use Rattle.mesa_image.specs.Sound.{AreStocked, IsSoundAs};
+ghost use Rattle.mesa_image.specs.Sound.{AreStocked, IsSoundAs, StandsFor};
 ghost use Rattle.mesa_model.specs.WellFormed.{IsWellFormed};
 ghost use Rattle.mesa_model.specs.declared.commands.Script.{Script};
 ghost use Rattle.mesa_script.specs.Script.{script_of};
@@ -31,9 +31,11 @@ pub fn stores_start_well_formed()
     ensures { (script : Script) (c : Catalog) (rows : Rows) → IsCatalog c → AreStocked rows c → IsWellFormed (start_of script c rows).warehouse }
 {}
 
-/// A store in which nothing was written is sound, and a run starts from nothing there.
+/// A store in which nothing was written is sound, it stands for what an empty store keeps, and a run starts
+/// from nothing there.
 pub fn empty_stores_are_sound()
     ensures sound { (image : AnyImage) → image.zero ≡ [] → IsSoundAs image [] empty_catalog no_rows }
+    ensures stands { (image : AnyImage) → image.zero ≡ [] → StandsFor image kept_at_first }
     ensures start { (script : Script) → start_of script empty_catalog no_rows ≡ nothing_there script }
 {}
 
