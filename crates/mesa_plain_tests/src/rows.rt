@@ -1,7 +1,7 @@
 // Worked rows.
 use crate::trial::{Case, expect_all};
 
-static CASES: [Case; 4] = [
+static CASES: [Case; 6] = [
     ("an empty script", "", ""),
     (
         "one row",
@@ -56,6 +56,94 @@ static CASES: [Case; 4] = [
          2,US,40,20\n\
          0.7@0 expired oldest=1\n\
          0.8@0 refused stale asked=0 oldest=1\n",
+    ),
+    // The row of this name, up to its works.
+    (
+        "expiry per table",
+        "table,t,k int,v sum\n\
+         table,u,k int,v sum\n\
+         row,t,1,5\n\
+         row,u,1,7\n\
+         commit\n\
+         row,t,1,1\n\
+         commit\n\
+         expire,t,1\n\
+         query,t,0\n\
+         query,u,0\n\
+         pin,0\n\
+         expire,0\n\
+         expire,t,0\n",
+        "0.1@0 table t\n\
+         0.2@0 table u\n\
+         0.3@0 loaded version=0 rows=2\n\
+         0.4@0 loaded version=1 rows=1\n\
+         0.5@0 expired t oldest=1\n\
+         0.6@0 refused stale asked=0 oldest=1\n\
+         0.7@0 rows 1 version=0\n\
+         1,7\n\
+         0.8@0 refused stale asked=0 oldest=1\n\
+         0.9@0 expired oldest=0\n\
+         0.10@0 refused stale asked=0 oldest=1\n",
+    ),
+    // A table that is made later begins at the floor. A pin outlives an expiry of its table, and what was let go
+    // of one table is there of another until the floor passes it.
+    (
+        "expiries of one table and of all",
+        "expire,t,0\n\
+         table,t,k int,v sum\n\
+         view,w,t,k,v\n\
+         table,u,k int,v sum\n\
+         expire,t,0\n\
+         row,t,1,5\n\
+         row,u,1,7\n\
+         commit\n\
+         row,t,1,1\n\
+         commit\n\
+         row,u,1,1\n\
+         commit\n\
+         pin,0\n\
+         expire,t,2\n\
+         query,w,1\n\
+         query,u,1\n\
+         query,t,pin:1\n\
+         expire,w,2\n\
+         expire,t,3\n\
+         expire,t,1\n\
+         expire,3\n\
+         expire,1\n\
+         table,x,k int,v sum\n\
+         query,x,1\n\
+         query,t,1\n\
+         query,u,0\n\
+         expire,0\n\
+         query,t\n",
+        "0.1@0 refused no_table\n\
+         0.2@0 table t\n\
+         0.3@0 view w\n\
+         0.4@0 table u\n\
+         0.5@0 refused future asked=0 newest=none\n\
+         0.6@0 loaded version=0 rows=2\n\
+         0.7@0 loaded version=1 rows=1\n\
+         0.8@0 loaded version=2 rows=1\n\
+         0.9@0 pinned token=1 version=0\n\
+         0.10@0 expired t oldest=2\n\
+         0.11@0 refused stale asked=1 oldest=2\n\
+         0.12@0 rows 1 version=1\n\
+         1,7\n\
+         0.13@0 rows 1 version=0\n\
+         1,5\n\
+         0.14@0 refused no_table\n\
+         0.15@0 refused future asked=3 newest=2\n\
+         0.16@0 refused stale asked=1 oldest=2\n\
+         0.17@0 refused future asked=3 newest=2\n\
+         0.18@0 expired oldest=1\n\
+         0.19@0 table x\n\
+         0.20@0 rows 0 version=1\n\
+         0.21@0 refused stale asked=1 oldest=2\n\
+         0.22@0 refused stale asked=0 oldest=1\n\
+         0.23@0 refused stale asked=0 oldest=1\n\
+         0.24@0 rows 1 version=2\n\
+         1,6\n",
     ),
 ];
 

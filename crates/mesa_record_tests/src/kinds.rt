@@ -18,7 +18,7 @@ fn spelled_again(alloc: Global, digits: &[u8]) -> Result<Vec<u8>, Fail> {
 
 #[test]
 fn each_kind_is_read_and_written(rt: HostRuntime) -> Result<(), Fail> {
-    let kinds: [&[u8]; 14] = [
+    let kinds: [&[u8]; 15] = [
         // a run
         b"0100000001",
         // a table of an int and a sum
@@ -47,6 +47,8 @@ fn each_kind_is_read_and_written(rt: HostRuntime) -> Result<(), Fail> {
         b"06000001000000000000000300000002010000010000000000000000000000006700000000000000010000000100088000000000000001000880000000000000010100000000000000050123456789abcdef0123456789abcdef0123456789abcdef0123456789abcdef01010000010000000000000000000000006700000000000000010000000100088000000000000001000880000000000000010100000000000000050123456789abcdef0123456789abcdef0123456789abcdef0123456789abcdef",
         // an expiry
         b"0700000002",
+        // an expiry of the fourth table
+        b"0c000300000002",
     ];
     for digits in &kinds {
         let again = spelled_again(rt.alloc(), digits)?;

@@ -12,17 +12,25 @@ fn fault_of(alloc: Global, digits: &[u8]) -> Option<RecordError> {
 
 #[test]
 fn each_refusal_names_its_place(rt: HostRuntime) {
-    let refusals: [(&[u8], RecordError); 22] = [
+    let refusals: [(&[u8], RecordError); 28] = [
         // nothing
         (b"", RecordError::Truncated { at: 0 }),
         // no kind
         (b"00", RecordError::BadKind { at: 0 }),
         // no kind yet
         (b"08000000", RecordError::BadKind { at: 0 }),
+        (b"09", RecordError::BadKind { at: 0 }),
         // a number of three bytes
         (b"01000000", RecordError::Truncated { at: 1 }),
         // a byte behind a record
         (b"010000000109", RecordError::Trailing { at: 5 }),
+        (b"0100000001ff", RecordError::Trailing { at: 5 }),
+        // a table's number cut short, a version behind it, and a byte behind an expiry of a table
+        (b"0c00", RecordError::Truncated { at: 1 }),
+        (b"0c0003000000", RecordError::Truncated { at: 3 }),
+        (b"0c00030000000200", RecordError::Trailing { at: 7 }),
+        // a byte behind an expiry of all
+        (b"070000000200", RecordError::Trailing { at: 5 }),
         // a name cut short
         (b"0203", RecordError::Truncated { at: 1 }),
         // a capital letter in a name

@@ -64,7 +64,13 @@ fn replies() -> [Line; 9] {
             "0.5@8 pinned token=0 version=2\n",
         ),
         (Reply::Released { token: 7 }, "0.5@8 released token=7\n"),
-        (Reply::Expired { oldest: 1 }, "0.5@8 expired oldest=1\n"),
+        (
+            Reply::Expired {
+                table: None,
+                oldest: 1,
+            },
+            "0.5@8 expired oldest=1\n",
+        ),
         (Reply::Swapped { from: 0, to: 1 }, "0.5@8 swapped 0 1\n"),
         (Reply::Idle, "0.5@8 idle\n"),
         (Reply::Busy { lease: 2 }, "0.5@8 busy lease=2\n"),
@@ -84,23 +90,29 @@ fn prints_spans(rt: HostRuntime) {
 }
 
 // Replies that name a table or a view, by their names.
-fn named(table: Name, view: Name, altered: Name) -> [Line; 3] {
+fn named(table: Name, view: Name, altered: Name, expired: Name) -> [Line; 4] {
     let altered = Reply::Altered {
         table: altered,
         epoch: 1,
+    };
+    let expired = Reply::Expired {
+        table: Some(expired),
+        oldest: 4_294_967_294,
     };
     [
         (Reply::Table { name: table }, "0.5@8 table a\n"),
         (Reply::View { name: view }, "0.5@8 view c\n"),
         (altered, "0.5@8 altered a epoch=1\n"),
+        (expired, "0.5@8 expired d oldest=4294967294\n"),
     ]
 }
 
-fn named_replies(rt: &impl Abort, alloc: Global) -> [Line; 3] {
+fn named_replies(rt: &impl Abort, alloc: Global) -> [Line; 4] {
     let table = name(rt, alloc, "a");
     let view = name(rt, alloc, "c");
     let altered = name(rt, alloc, "a");
-    named(table, view, altered)
+    let expired = name(rt, alloc, "d");
+    named(table, view, altered, expired)
 }
 
 #[test]

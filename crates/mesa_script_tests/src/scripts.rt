@@ -113,6 +113,14 @@ fn push_named(out: &mut Vec<u8>, what: &[u8], name: &Words) -> Result<(), AllocE
     out.extend_from_slice(name.as_slice())
 }
 
+fn push_expiry(out: &mut Vec<u8>, table: &Option<Words>, version: u32) -> Result<(), AllocError> {
+    match table {
+        Some(name) => push_named(out, b"expire", name)?,
+        None => out.extend_from_slice(b"expire")?,
+    }
+    push_number(out, version)
+}
+
 fn push_command(out: &mut Vec<u8>, command: &Command) -> Result<(), AllocError> {
     match command {
         Command::Table(words) => push_table(out, words),
@@ -132,18 +140,15 @@ fn push_command(out: &mut Vec<u8>, command: &Command) -> Result<(), AllocError> 
             out.extend_from_slice(b"release")?;
             push_number(out, *token)
         }
-        Command::Expire(version) => {
-            out.extend_from_slice(b"expire")?;
-            push_number(out, *version)
-        }
+        Command::Expire { table, version } => push_expiry(out, table, *version),
         Command::Work(table) => push_named(out, b"work", table),
     }
 }
 
 static TEXT: &str =
-    "lease,007\ntable,a,day int;country text,clicks sum;low min\nrow,a,1,US,10,2\nrow,b,2,\"U,K\",-3\ncommit\ncommit\nview,c,a,country,clicks\nquery,c,007,country=US,-,clicks\nquery,c\nexpire,1\nsession\nalter,a,add_value,high max,-5\nalter,a,drop_value,low\nalter,a,add_key,hour int,x\nquery,c,pin:07,,,,10000,c/0/1/country/555300\nquery,c,latest,,,,01\nexplain,c\nexplain,a,3\npin\npin,4294967295\nrelease,0\nwork,a\n";
+    "lease,007\ntable,a,day int;country text,clicks sum;low min\nrow,a,1,US,10,2\nrow,b,2,\"U,K\",-3\ncommit\ncommit\nview,c,a,country,clicks\nquery,c,007,country=US,-,clicks\nquery,c\nexpire,1\nsession\nalter,a,add_value,high max,-5\nalter,a,drop_value,low\nalter,a,add_key,hour int,x\nquery,c,pin:07,,,,10000,c/0/1/country/555300\nquery,c,latest,,,,01\nexplain,c\nexplain,a,3\npin\npin,4294967295\nrelease,0\nexpire,a,007\nexpire,,0\nwork,a\n";
 
-static OUTLINES: [&str; 18] = [
+static OUTLINES: [&str; 20] = [
     "table a day country:clicks:low",
     "load a,1,US,10,2 b,2,U,K,-3",
     "load",
@@ -161,6 +166,8 @@ static OUTLINES: [&str; 18] = [
     "pin latest",
     "pin 4294967295",
     "release 0",
+    "expire a 7",
+    "expire  0",
     "work a",
 ];
 
@@ -195,7 +202,7 @@ fn reads_a_script(rt: HostRuntime) {
 }
 
 // A script, its first bad record, and what is wrong with it.
-static BAD: [(&str, u64, Reason); 34] = [
+static BAD: [(&str, u64, Reason); 39] = [
     ("tabel,t\npin,pin:1\n", 1, Reason::Unknown),
     ("\u{feff}tabel,t\n", 1, Reason::Unknown),
     ("table,t,k int\n", 1, Reason::Fields),
@@ -230,6 +237,11 @@ static BAD: [(&str, u64, Reason); 34] = [
     ("lease,0\n", 1, Reason::Number),
     ("release,\n", 1, Reason::Number),
     ("expire,4294967295\nexpire,+1\n", 2, Reason::Number),
+    ("expire\n", 1, Reason::Fields),
+    ("expire,t,0\nexpire,t,0,0\n", 2, Reason::Fields),
+    ("expire,t,\n", 1, Reason::Number),
+    ("expire,0,t\n", 1, Reason::Number),
+    ("expire,t,4294967296\n", 1, Reason::Number),
 ];
 
 // Stops the test of a script that is taken, or refused otherwise.

@@ -29,7 +29,7 @@ const ONE_ROW_AREA: &str =
 const ONE_ROW_FILE: &str =
     "0000018000000000000001000000000000000580000000000000010000000000000000000000000000000000000013cb43fefe3754e6c6547db5d4ef40d734649323eb54dab57d202f18edb41a1efe000000000000000000010000000101014d455341444c5431";
 
-static CASES: [Case; 13] = [
+static CASES: [Case; 14] = [
     Case {
         name: "a record cut short behind a shut gate",
         area: "0100000005010000000102000000050100",
@@ -71,6 +71,13 @@ static CASES: [Case; 13] = [
         file: "",
         told: "Some(Journal { area: 0, at: 10, want: Fits, found: Misfit(0) })",
         after: "010000000501000000010100000005070000000000",
+    },
+    Case {
+        name: "an oldest version of no table",
+        area: "0100000005010000000101000000070c00000000000000",
+        file: "",
+        told: "Some(Journal { area: 0, at: 10, want: Fits, found: Misfit(0) })",
+        after: "0100000005010000000101000000070c00000000000000",
     },
     Case {
         name: "a record cut short behind one that does not fit",

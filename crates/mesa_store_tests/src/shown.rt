@@ -10,18 +10,19 @@ use std::test::Fail;
 
 // The versions, and how often tables, views and columns were made or changed.
 fn put_versions(alloc: Global, out: &mut String, catalog: &Catalog) -> Result<(), AllocError> {
-    let oldest = catalog.oldest();
+    let floor = catalog.floor();
     let newest = catalog.newest();
     let generation = catalog.generation();
-    let part = format!(in alloc; "oldest={oldest} newest={newest:?} generation={generation}")?;
+    let part = format!(in alloc; "floor={floor} newest={newest:?} generation={generation}")?;
     out.push_str(part.as_str())
 }
 
-// A table, whose deltas have these ranges.
+// A table with its oldest version, whose deltas have these ranges.
 fn put_stock(
     alloc: Global,
     out: &mut String,
     evolving: &Evolving,
+    oldest: u32,
     totals: &[u64],
     ranges: &Ranges,
 ) -> Result<(), AllocError> {
@@ -30,7 +31,7 @@ fn put_stock(
     let base = ranges.base_to;
     let cumulatives = ranges.cumulatives.as_slice();
     let part = format!(in alloc;
-        "; views={views} epoch={epoch} totals={totals:?} base={base:?} cumulatives={cumulatives:?}"
+        "; views={views} epoch={epoch} oldest={oldest} totals={totals:?} base={base:?} cumulatives={cumulatives:?}"
     )?;
     out.push_str(part.as_str())
 }
@@ -45,7 +46,8 @@ fn put_table(
     assert!(rt; table < catalog.tables());
     let ranges = catalog.ranges(table)?;
     let totals = catalog.totals(table).as_slice();
-    put_stock(alloc, out, catalog.evolving(table), totals, &ranges)
+    let oldest = catalog.oldest(table);
+    put_stock(alloc, out, catalog.evolving(table), oldest, totals, &ranges)
 }
 
 fn put_number(alloc: Global, out: &mut String, number: u64) -> Result<(), AllocError> {
