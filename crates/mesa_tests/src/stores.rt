@@ -1,7 +1,11 @@
 // Stores that were left by earlier runs, that are damaged or unsound, or of whose devices calls fail.
 mod crashes;
 mod damage;
+mod failed_loads;
+mod failing;
 mod faults;
+mod fronts;
+mod older;
 mod reopening;
 pub mod shown;
 mod unsound;

@@ -10,7 +10,7 @@ const REFUSED: Case<'static> = Case {
     ..PLAIN
 };
 
-static BAD: [Case<'static>; 19] = [
+static BAD: [Case<'static>; 22] = [
     Case {
         script: b"tabel,t\n",
         text: "mesa: script place=1 reason=unknown\n",
@@ -85,6 +85,21 @@ static BAD: [Case<'static>; 19] = [
     Case {
         script: b"commit\nexpire,one\n",
         text: "mesa: script place=2 reason=number\n",
+        ..REFUSED
+    },
+    Case {
+        script: b"expire,t,0\nexpire,t,0,0\n",
+        text: "mesa: script place=2 reason=fields\n",
+        ..REFUSED
+    },
+    Case {
+        script: b"expire,t,\n",
+        text: "mesa: script place=1 reason=number\n",
+        ..REFUSED
+    },
+    Case {
+        script: b"expire,0,t\n",
+        text: "mesa: script place=1 reason=number\n",
         ..REFUSED
     },
     Case {

@@ -1,20 +1,21 @@
 // How calls end that run nothing, or whose streams fail.
 use crate::call::{Case, PLAIN, call_over, empty_disk, script_run};
 use crate::cases::{expect_cases, expect_text};
-use crate::expected::expect_that;
+use crate::expected::expect_same;
 use std::alloc::Global;
 use std::process::Abort;
-use std::str;
 use std::sync::Wait;
 use std::thread::Threads;
 
 const ONE_ROW: &[u8] = b"table,t,k int,v sum\nrow,t,1,5\ncommit\ncommit\nquery,t\n";
 
-static ONE_ROW_TEXT: &str = "0.1@0 table t\n\
-     0.2@2 loaded version=0 rows=1\n\
-     0.3@4 loaded version=1 rows=0\n\
-     0.4@5 rows 1 version=1\n\
-     1,5\n";
+// The blocks that it prints.
+static ONE_ROW_BLOCKS: [&str; 4] = [
+    "0.1@0 table t\n",
+    "0.2@2 loaded version=0 rows=1\n",
+    "0.3@4 loaded version=1 rows=0\n",
+    "0.4@5 rows 1 version=1\n1,5\n",
+];
 
 const USAGE: &str = "mesa: usage: mesa run | mesa check | mesa gen SEED VERSIONS\n";
 
@@ -80,53 +81,34 @@ fn calls_that_end_early(rt: HostRuntime) {
     expect_cases(&rt, rt.alloc(), &ENDINGS);
 }
 
-const SHUT: Case<'static> = Case {
-    name: "a sink of which a later call fails",
-    script: ONE_ROW,
-    status: 5,
-    ..PLAIN
-};
-
-// Each of the four blocks takes one call or more, and none takes forty.
-static SINKS: [Case<'static>; 5] = [
-    Case {
-        sink_fails: &[0],
-        ..SHUT
-    },
-    Case {
-        sink_fails: &[1],
-        ..SHUT
-    },
-    Case {
-        sink_fails: &[2],
-        ..SHUT
-    },
-    Case {
-        sink_fails: &[3],
-        ..SHUT
-    },
-    Case {
-        sink_fails: &[160],
-        status: 0,
-        ..SHUT
-    },
-];
-
-// Stops the test where a call prints no front of the blocks, or not all of them though it doesn't fail.
-fn expect_front<R: Abort + Threads + Wait + Sync>(rt: &R, alloc: Global, case: &Case<'_>) {
-    let left = call_over(rt, alloc, empty_disk(alloc), case);
-    let is_front = ONE_ROW_TEXT.as_bytes().starts_with(&left.text);
-    let is_whole = left.text.len() == ONE_ROW_TEXT.len();
-    let is_right = is_front && left.status == case.status && is_whole == (case.status == 0);
-    let found = (left.status, str::from_utf8(&left.text));
-    expect_that(rt, is_right, &found, &(case.name, case.sink_fails));
+// Stops the test where a call whose sink fails at this put prints another text than the blocks before it, or ends
+// with another status; tells whether there was such a put.
+fn fails_at<R: Abort + Threads + Wait + Sync>(rt: &R, alloc: Global, put: usize) -> bool {
+    let case = Case {
+        name: "a sink that fails at a later call",
+        script: ONE_ROW,
+        sink_fails: &[put as u64],
+        ..PLAIN
+    };
+    let mut text = String::new(alloc);
+    for block in ONE_ROW_BLOCKS.iter().take(put) {
+        text.push_str(block).expect(rt, "memory");
+    }
+    let left = call_over(rt, alloc, empty_disk(alloc), &case);
+    let fails = left.status != 0;
+    let status = if fails { 5 } else { 0 };
+    expect_text(rt, case.name, &left, status, text.as_str());
+    fails
 }
 
+// Each put fails, one in each run, up to the first run in which none does: a block takes one.
 #[test]
 fn calls_of_the_sink_failing(rt: HostRuntime) {
-    for case in &SINKS {
-        expect_front(&rt, rt.alloc(), case);
+    let mut put = 0usize;
+    while put < 100 && fails_at(&rt, rt.alloc(), put) {
+        put = put.wrapping_add(1);
     }
+    expect_same(&rt, &put, &ONE_ROW_BLOCKS.len(), &"the puts of a run");
 }
 
 #[test]

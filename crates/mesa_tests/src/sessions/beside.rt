@@ -29,7 +29,7 @@ static RECORDS: [(&str, u32); 16] = [
     ("work,t\n", 1),
     ("explain,t\nwork,t\n", 2),
     ("work,u\n", 1),
-    ("expire,{3}\n", 1),
+    ("expire,t,{3}\nexpire,{4}\n", 2),
     ("pin\nquery,t,pin:{4}\n", 2),
     ("release,{4}\n", 1),
 ];

@@ -130,7 +130,23 @@ fn push_head(rt: &impl Abort, block: &Block, reply: &Reply, text: &mut Vec<u8>) 
     text.extend_from_slice(&line[..length]).expect(rt, "memory");
 }
 
-// Does a command after so many others, and adds the head of its block.
+// Does a command after so many others.
+fn reply_to(
+    rt: &impl Abort,
+    warehouse: &mut PlainWarehouse,
+    done: u32,
+    session: u16,
+    command: &Command,
+) -> Reply
+    requires few { GaveAtMost done warehouse.old }
+    requires room { done + 1 < 2 ^ 32 }
+    requires plain { IsTrue (is_plain command.now) }
+    ensures { GaveAtMost (done + 1) warehouse.new }
+{
+    warehouse.apply(session, command).expect(rt, "memory")
+}
+
+// The same, and adds the head of its block.
 fn apply(
     rt: &impl Abort,
     warehouse: &mut PlainWarehouse,
@@ -144,9 +160,7 @@ fn apply(
     requires plain { IsTrue (is_plain command.now) }
     ensures { GaveAtMost (done + 1) warehouse.new }
 {
-    let reply = warehouse
-        .apply(session_of(block), command)
-        .expect(rt, "memory");
+    let reply = reply_to(rt, warehouse, done, session_of(block), command);
     push_head(rt, block, &reply, text);
 }
 
@@ -186,23 +200,27 @@ fn expect_work(rt: &impl Abort, printed: &[u8]) {
         || reply.starts_with("idle\n")
         || reply.starts_with("busy lease=")
         || reply.starts_with("refused lost lease=")
+        || reply.starts_with("refused no_table\n")
+        || reply.starts_with("refused stale asked=")
+        || reply.starts_with("refused future asked=")
         || reply.starts_with("spans ");
     expect_that(rt, is_one, &reply, &"the reply to a work or an explain");
 }
 
-// Does the commands of blocks one after the other.
+// Does the commands of blocks one after the other, after so many others.
 fn expect_blocks(
     rt: &impl Abort,
     alloc: Global,
     warehouse: &mut PlainWarehouse,
+    before: u32,
     script: &Script,
     blocks: &[Block],
     all: &[u8],
     text: &mut Vec<u8>,
 )
-    requires { GaveAtMost 0 warehouse.old }
+    requires { GaveAtMost before warehouse.old }
 {
-    let mut done = 0u32;
+    let mut done = before;
     'commands: for block in blocks {
         let command = command_of(script, block).expect(rt, "a command");
         let printed = all.get(block.from..block.to).expect(rt, "a text");
@@ -216,22 +234,72 @@ fn expect_blocks(
     }
 }
 
-fn expect_script(rt: &impl Abort, alloc: Global, script: &Script, blocks: &[Block], all: &[u8]) {
-    expect_order(rt, script, blocks);
-    let mut warehouse = PlainWarehouse::new(alloc);
-    let mut text = Vec::new(alloc);
-    expect_blocks(rt, alloc, &mut warehouse, script, blocks, all, &mut text);
+// Whether what a command does is there in the next run too.
+fn is_kept(command: &Command) -> bool {
+    matches!(
+        command,
+        Command::Table(_)
+            | Command::View(_)
+            | Command::Alter(_)
+            | Command::Load(_)
+            | Command::Expire { .. }
+    )
+}
+
+// Does what the next run finds of the first session's commands; how many they are.
+fn do_kept(rt: &impl Abort, warehouse: &mut PlainWarehouse, script: &Script) -> u32
+    requires { GaveAtMost 0 warehouse.old }
+    ensures { GaveAtMost result warehouse.new }
+{
+    let mut done = 0u32;
+    let commands = script.sessions.as_slice().first().expect(rt, "a session");
+    'commands: for command in commands.as_slice() {
+        if is_done(command) && is_kept(command) {
+            assert!(rt; done < u32::MAX, "too many commands");
+            let _reply = reply_to(rt, warehouse, done, 0, command);
+            done += 1;
+        }
+    }
+    done
+}
+
+fn script_of(rt: &impl Abort, alloc: Global, script: &str) -> Script {
+    let bytes = script.as_bytes().to_vec(alloc).expect(rt, "memory");
+    parse(alloc, bytes).ok().expect(rt, "a script")
 }
 
 /// Stops the test where the plain warehouse, given a script's commands in the order of the printed positions,
 /// prints another block than the run did. Of a work and of an explain it is tested that it is one of their replies.
 pub fn expect_replayed(rt: &impl Abort, alloc: Global, script: &str, printed: &[u8]) {
+    expect_replayed_behind(rt, alloc, "", script, printed);
+}
+
+/// The same of a run behind another one, of one session, which did all of its script's commands.
+pub fn expect_replayed_behind(
+    rt: &impl Abort,
+    alloc: Global,
+    before: &str,
+    script: &str,
+    printed: &[u8],
+) {
     let text = str::from_utf8(printed).expect(rt, "a text");
     let mut blocks = blocks(rt, alloc, text);
     blocks
         .sort_by_key(|block| block.position)
         .expect(rt, "memory");
-    let bytes = script.as_bytes().to_vec(alloc).expect(rt, "memory");
-    let script = parse(alloc, bytes).ok().expect(rt, "a script");
-    expect_script(rt, alloc, &script, &blocks, printed);
+    let script = script_of(rt, alloc, script);
+    expect_order(rt, &script, &blocks);
+    let mut warehouse = PlainWarehouse::new(alloc);
+    let done = do_kept(rt, &mut warehouse, &script_of(rt, alloc, before));
+    let mut text = Vec::new(alloc);
+    expect_blocks(
+        rt,
+        alloc,
+        &mut warehouse,
+        done,
+        &script,
+        &blocks,
+        printed,
+        &mut text,
+    );
 }

@@ -1,5 +1,6 @@
 // A run that is stopped at any moment leaves a front of what it did, with every command that it had acknowledged.
 use crate::call::{Case, Left, PLAIN, call_over, run};
+use crate::cases::expect_text;
 use crate::expected::{expect_same, expect_that};
 use mesa_disk::{Disk, MemDisk};
 use mesa_model::{Entry, Kind};
@@ -194,6 +195,12 @@ static FRONTS: [&str; 11] = [
      0.7@10 loaded version=3 rows=0\n",
 ];
 
+// What a check says of each image.
+static CHECKED: Case<'static> = Case {
+    words: &["check"],
+    ..PLAIN
+};
+
 // How many commands a history has acknowledged by a moment: up to the last whose last turn was over by then.
 fn acknowledged(history: &[Entry], moment: u64) -> usize {
     let mut count = 0;
@@ -206,19 +213,26 @@ fn acknowledged(history: &[Entry], moment: u64) -> usize {
     count
 }
 
+/// A run that is stopped: what each image is asked, and the answers behind so many of the run's commands.
+#[derive(Clone, Copy)]
+pub struct Stopped<'a> {
+    pub asked: &'a Case<'a>,
+    pub fronts: &'a [&'a str],
+}
+
 // Whether these are the answers behind so many commands.
-fn is_front(commands: usize, answers: &str) -> bool {
-    match FRONTS.get(commands) {
+fn is_front(fronts: &[&str], commands: usize, answers: &str) -> bool {
+    match fronts.get(commands) {
         Some(front) => *front == answers,
         None => false,
     }
 }
 
 // Stops the test where an image answered neither as before the command that was on its way nor as behind it.
-fn expect_answers(rt: &impl Abort, left: &Left, moment: u64, commands: usize) {
+fn expect_answers(rt: &impl Abort, fronts: &[&str], left: &Left, moment: u64, commands: usize) {
     let answers = str::from_utf8(&left.text).unwrap_or("no text");
     let next = commands.wrapping_add(1);
-    let is_either = is_front(commands, answers) || is_front(next, answers);
+    let is_either = is_front(fronts, commands, answers) || is_front(fronts, next, answers);
     let case = ("the moment and the commands before it", moment, commands);
     expect_that(rt, is_either, &answers, &case);
 }
@@ -227,22 +241,30 @@ fn expect_answers(rt: &impl Abort, left: &Left, moment: u64, commands: usize) {
 fn expect_moment<R: Abort + Threads + Wait + Sync>(
     rt: &R,
     alloc: Global,
+    stopped: Stopped<'_>,
     disk: &MemDisk,
     moment: u64,
     commands: usize,
 ) {
     for pick in 0..3u8 {
         let image = disk.image(moment, pick).expect(rt, "memory");
-        let left = call_over(rt, alloc, image, &ASKED);
-        expect_answers(rt, &left, moment, commands);
+        let checked = call_over(rt, alloc, image, &CHECKED);
+        expect_text(rt, "the check of an image", &checked, 0, "sound\n");
+        let left = call_over(rt, alloc, checked.disk, stopped.asked);
+        expect_answers(rt, stopped.fronts, &left, moment, commands);
     }
 }
 
-// The same of each moment of a run.
-fn expect_moments<R: Abort + Threads + Wait + Sync>(rt: &R, alloc: Global, left: &Left) {
+/// The same of each moment of the run that left this.
+pub fn expect_moments<R: Abort + Threads + Wait + Sync>(
+    rt: &R,
+    alloc: Global,
+    stopped: Stopped<'_>,
+    left: &Left,
+) {
     for moment in 0..=left.disk.clock() {
         let commands = acknowledged(&left.history, moment);
-        expect_moment(rt, alloc, &left.disk, moment, commands);
+        expect_moment(rt, alloc, stopped, &left.disk, moment, commands);
     }
 }
 
@@ -250,5 +272,9 @@ fn expect_moments<R: Abort + Threads + Wait + Sync>(rt: &R, alloc: Global, left:
 fn a_run_stopped_at_each_moment(rt: HostRuntime) {
     let left = run(&rt, rt.alloc(), SCRIPT);
     expect_same(&rt, &left.status, &0, &"the run that is stopped");
-    expect_moments(&rt, rt.alloc(), &left);
+    let stopped = Stopped {
+        asked: &ASKED,
+        fronts: &FRONTS,
+    };
+    expect_moments(&rt, rt.alloc(), stopped, &left);
 }
