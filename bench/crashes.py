@@ -5,10 +5,11 @@
 
 PROGRAM is the built program, by default crates/mesa/out/mesa, which `rt run` leaves there. It is run over one store
 again and again, and killed by SIGKILL up to a second later, KILLS times, by default 200; and as often over a second store.
-In the first one's runs a session works alone: it loads a table with a view, lets versions go and merges the table's files.
-In the second one's seven sessions work beside each other: five load a table with a view, one of them into a second table
-by the same batches; one of the five lets versions go and merges the table's files, and another one merges those of the
-other tables; one adds a column to a third table, loads, drops it, and loads; one asks and pins, once there is a version.
+In the first one's runs a session works alone: it loads a table with a view, lets versions go, of all tables and of
+this one by turns, and merges the table's files. In the second one's seven sessions work beside each other: five load a
+table with a view, one of them into a second table by the same batches; one of the five lets versions go and merges the
+table's files, and another one merges those of the other tables; one adds a column to a third table, loads, drops it,
+and loads; one asks and pins, once there is a version.
 
 The next run has to find of each session as many batches, in its order, as were told, or one more, which was on its way;
 each batch whole, in both tables and the view; as many batches as the newest version says; and the column where one of the
@@ -79,7 +80,7 @@ def asking():
 def commands(before, works):
     """A run's script over the store that was found: each work is a session's."""
     behind = {
-        EXPIRES: lambda i: [f"expire,{before.newest + 1 + i}", "work,t", "work,t"],
+        EXPIRES: lambda i: [f"expire,{'t,' if i % 2 else ''}{before.newest + 1 + i}", "work,t", "work,t"],
         MERGES: lambda i: ["work,u", "work,w"],
     }
     for session, work in enumerate(works):
