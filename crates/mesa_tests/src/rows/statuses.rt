@@ -104,11 +104,14 @@ fn fails_at<R: Abort + Threads + Wait + Sync>(rt: &R, alloc: Global, put: usize)
 // Each put fails, one in each run, up to the first run in which none does: a block takes one.
 #[test]
 fn calls_of_the_sink_failing(rt: HostRuntime) {
-    let mut put = 0usize;
-    while put < 100 && fails_at(&rt, rt.alloc(), put) {
-        put = put.wrapping_add(1);
+    let mut puts = 0usize;
+    for put in 0..100 {
+        puts = put;
+        if !fails_at(&rt, rt.alloc(), put) {
+            break;
+        }
     }
-    expect_same(&rt, &put, &ONE_ROW_BLOCKS.len(), &"the puts of a run");
+    expect_same(&rt, &puts, &ONE_ROW_BLOCKS.len(), &"the puts of a run");
 }
 
 #[test]
