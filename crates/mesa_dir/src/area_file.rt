@@ -1,59 +1,42 @@
 // The file of a journal area.
-use std::alloc::Global;
-use std::fs::{File, OpenOptions};
+ghost use Rattle.std.specs.Prelude.{◌≡◌, true};
+ghost use Rattle.mesa_dir.specs.Calls.{is_durable};
+
+use crate::System;
+use crate::again::write_again;
 use std::io;
-use std::os::unix::fs::FileExt;
-use std::rt::Files;
 
 // How many bytes are written again at once.
 const PIECE: usize = 65_536;
 
 /// An area's file, and whether the device has all that was written to it.
 #[derive(Drop)]
-pub(crate) struct AreaFile {
-    file: File,
+pub(crate) struct AreaFile<S: System> {
+    system: S,
+    file: S::Handle,
     is_synced: bool,
+    ghost settled: { is_synced ≡ true → is_durable (S.calls file) ≡ true },
 }
 
-/// The file of an area, made where it is missing.
-pub(crate) fn open_area<F: Files<File = File>>(files: &F, path: &str) -> io::Result<File> {
-    OpenOptions::new()
-        .read(true)
-        .write(true)
-        .create(true)
-        .open(files, path)
-}
+impl<S: System> AreaFile<S> {
+    ghost use Rattle.std.specs.Prelude.{◌⊎◌, IfOk, OnOk, is_ok};
+    ghost use Rattle.mesa_dir.specs.Calls.{Read, SyncedBytes, WroteAt, with_call};
+    ghost use Rattle.mesa_dir.specs.Folders.{area_calls};
+    ghost use Rattle.mesa_dir.specs.Opening.{IsSettled};
 
-// Writes bytes of a file over themselves, from this place on, as many as the buffer takes of those left.
-fn write_piece_again(file: &File, at: u64, left: u64, buffer: &mut [u8]) -> io::Result<()> {
-    let count = match usize::try_from(left) {
-        Ok(left) => left.min(buffer.len()),
-        Err(_) => buffer.len(),
-    };
-    let piece = &mut buffer[..count];
-    file.read_exact_at(piece, at)?;
-    file.write_all_at(piece, at)
-}
-
-// Writes a file's bytes over themselves.
-fn write_again(alloc: Global, file: &File, len: u64) -> io::Result<()> {
-    let mut buffer = vec![in alloc; 0u8; PIECE]?;
-    for at in (0..len).step_by(PIECE) {
-        write_piece_again(file, at, len - at, &mut buffer)?;
-    }
-    Ok(())
-}
-
-impl AreaFile {
     /// An area and its length. A run that was killed may have left bytes that the device doesn't have yet,
     /// and after a sync that failed the system may hold bytes that it never wrote and doesn't take for
     /// unwritten: so all are written again, and synced, before any is read.
-    pub(crate) fn settle(alloc: Global, file: File) -> io::Result<(AreaFile, u64)> {
-        let len = file.metadata()?.len();
-        write_again(alloc, &file, len)?;
-        file.sync_all()?;
+    pub(crate) fn settle(system: S, mut file: S::Handle) -> io::Result<(AreaFile<S>, u64)>
+        ensures { IfOk result (λ r. IsSettled (S.calls file) r.1 (area_calls r.0)) }
+    {
+        let len = system.len(&mut file)?;
+        let mut buffer = vec![in system.memory(); 0u8; PIECE]?;
+        write_again(system, &mut file, len, &mut buffer)?;
+        system.sync(&mut file)?;
         Ok((
             AreaFile {
+                system,
                 file,
                 is_synced: true,
             },
@@ -62,21 +45,28 @@ impl AreaFile {
     }
 
     /// Fills the buffer from this place on.
-    pub(crate) fn read(&self, at: u64, buf: &mut [u8]) -> io::Result<()> {
-        self.file.read_exact_at(buf, at)
+    pub(crate) fn read(&mut self, at: u64, buf: &mut [u8]) -> io::Result<()>
+        ensures { area_calls self.new ≡ with_call (Read at buf.new (is_ok result)) (area_calls self.old) }
+    {
+        self.system.read_at(&mut self.file, at, buf)
     }
 
     /// Writes bytes from this place on.
-    pub(crate) fn write(&mut self, at: u64, bytes: &[u8]) -> io::Result<()> {
+    pub(crate) fn write(&mut self, at: u64, bytes: &[u8]) -> io::Result<()>
+        ensures { area_calls self.new ≡ with_call (WroteAt at bytes.now (is_ok result)) (area_calls self.old) }
+    {
         self.is_synced = false;
-        self.file.write_all_at(bytes, at)
+        self.system.write_at(&mut self.file, at, bytes)
     }
 
     /// Syncs the bytes, where some may not be on the device, and with them the length, which is all of the
     /// file's own data that reading needs.
-    pub(crate) fn sync(&mut self) -> io::Result<()> {
+    pub(crate) fn sync(&mut self) -> io::Result<()>
+        ensures synced { OnOk result (is_durable (area_calls self.new) ≡ true) }
+        ensures calls { (area_calls self.new ≡ area_calls self.old) ⊎ (area_calls self.new ≡ with_call (SyncedBytes (is_ok result)) (area_calls self.old)) }
+    {
         if !self.is_synced {
-            self.file.sync_data()?;
+            self.system.sync_bytes(&mut self.file)?;
             self.is_synced = true;
         }
         Ok(())

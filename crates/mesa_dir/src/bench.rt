@@ -3,56 +3,79 @@ ghost use Rattle.std.specs.Prelude.{◌≡◌, IfOk};
 
 use crate::draft::Unadopted;
 use crate::names::draft_path;
-use crate::{DirDraft, DirMade};
+use crate::{DirDraft, DirMade, System};
 use mesa_disk::{Bench, DraftError, FileId};
 use mesa_fault::FaultCount;
 use std::alloc::AllocError;
-use std::fs::{File, OpenOptions};
 use std::io::{self, ErrorKind};
-use std::rt::Files;
 
 /// Makes drafts in a folder, each a file of its own with the digits of its id and `.draft` for its name.
 /// Where the folder isn't open, each call fails.
 #[derive(Drop)]
-pub struct DirBench<F: Files<File = File> + Copy> {
-    files: F,
+pub struct DirBench<S: System> {
+    system: S,
     folder: String,
     is_open: bool,
     faults: FaultCount,
 }
 
-impl<F: Files<File = File> + AllocGlobal + Copy> DirBench<F> {
+impl<S: System> DirBench<S> {
+    ghost use Rattle.std.specs.Prelude.{string_bytes};
+    ghost use Rattle.mesa_dir.specs.Calls.{IsCreated};
+    ghost use Rattle.mesa_dir.specs.Drafts.{bench_faults, bench_folder};
+
     /// A bench in the folder of this path.
-    pub(crate) fn new(files: F, folder: &str, is_open: bool) -> Result<DirBench<F>, AllocError>
-        ensures { IfOk result (λ b. b.faults ≡ 0) }
+    pub(crate) fn new(system: S, folder: &str, is_open: bool) -> Result<DirBench<S>, AllocError>
+        ensures faults { IfOk result (λ b. bench_faults b ≡ 0) }
+        ensures folder { IfOk result (λ b. bench_folder b ≡ folder.now) }
     {
         Ok(DirBench {
-            files,
-            folder: String::from_str(files.alloc(), folder)?,
+            system,
+            folder: String::from_str(system.memory(), folder)?,
             is_open,
             faults: FaultCount::new(),
         })
     }
 
-    // A new file. Nothing is written over: where the name is there, it fails.
-    fn make(&self, path: &str) -> io::Result<File> {
+    // A new file, where the folder is open.
+    fn make(&self, path: &str) -> io::Result<S::Handle>
+        ensures { IfOk result (λ h. IsCreated path.now (S.calls h)) }
+    {
         if !self.is_open {
             return Err(ErrorKind::NotFound.into());
         }
-        OpenOptions::new()
-            .write(true)
-            .create_new(true)
-            .open(&self.files, path)
+        self.system.create(path)
     }
 }
 
-impl<F: Files<File = File> + AllocGlobal + Copy + Send> Bench<DirMade<F>> for DirBench<F> {
-    type Draft = DirDraft<F>;
+impl<S: System + Send> Bench<DirMade<S>> for DirBench<S>
+where
+    S::Handle: Send,
+    S::Closed: Send,
+{
+    ghost use Rattle.std.specs.Prelude.{◌≤◌, ◌<◌, ℕ, List, [], Some};
+    ghost use Rattle.mesa_fault.specs.Causes.{Rose, HasFaultCause};
+    ghost use Rattle.mesa_disk.specs.declared.failures.DraftError.TheVariants.{Failed};
+    ghost use Rattle.mesa_dir.specs.Calls.{IsCreated};
+    ghost use Rattle.mesa_dir.specs.Paths.{draft_path_of};
+    ghost use Rattle.mesa_dir.specs.Drafts.{bench_faults, bench_folder, draft_bytes, draft_calls, draft_faults, draft_id, path_of_draft};
+
+    type Draft = DirDraft<S>;
 
     ghost faults = { λ b. b.faults };
 
-    fn draft(&mut self, id: FileId) -> Result<DirDraft<F>, DraftError> {
-        let Ok(path) = draft_path(self.files.alloc(), self.folder.as_str(), id) else {
+    fn draft(&mut self, id: FileId) -> Result<DirDraft<S>, DraftError>
+        ensures id { IfOk result (λ d. draft_id d ≡ id) }
+        ensures empty { IfOk result (λ d. (b : List ℕ) → draft_bytes d ≡ Some b → b ≡ []) }
+        ensures fresh { IfOk result (λ d. draft_faults d ≡ 0) }
+        ensures cause { HasFaultCause (λ e. e ≡ Failed) (bench_faults self.old) (bench_faults self.new) result }
+
+        // The file was made under the name of its id's draft, and not found there.
+        ensures created { IfOk result (λ d. IsCreated (draft_path_of (bench_folder self.old) id) (draft_calls d)) }
+        ensures path { IfOk result (λ d. path_of_draft d ≡ draft_path_of (bench_folder self.old) id) }
+        ensures folder { bench_folder self.new ≡ bench_folder self.old }
+    {
+        let Ok(path) = draft_path(self.system.memory(), self.folder.as_str(), id) else {
             return Err(DraftError::Memory);
         };
         let Ok(file) = self.make(path.as_str()) else {
@@ -61,7 +84,7 @@ impl<F: Files<File = File> + AllocGlobal + Copy + Send> Bench<DirMade<F>> for Di
         };
         Ok(DirDraft {
             name: Unadopted {
-                files: self.files,
+                system: self.system,
                 path,
             },
             file,
@@ -71,7 +94,7 @@ impl<F: Files<File = File> + AllocGlobal + Copy + Send> Bench<DirMade<F>> for Di
         })
     }
 
-    fn spoil(&mut self, failed: DirDraft<F>) {
+    fn spoil(&mut self, failed: DirDraft<S>) {
         if failed.faults.get() > 0 {
             self.faults.rise();
         }

@@ -3,21 +3,19 @@ ghost use Rattle.std.specs.Prelude.{◌<◌, ◌≤◌, ◌^◌};
 ghost use Rattle.mesa_fault.specs.Causes.{last};
 
 use crate::store::{Opened, Store};
-use crate::{DirBench, DirMade, DirReader};
+use crate::{DirBench, DirMade, DirReader, System};
 use mesa_disk::{Area, Disk, DiskFailed, FileId, ListFault, OpenFault};
 use mesa_fault::FaultCount;
 use std::alloc::AllocError;
-use std::fs::File;
 use std::io::ErrorKind;
-use std::rt::Files;
 
 /// A disk over a folder: the journal areas are its files `journal0` and `journal1`, and an adopted
 /// file has the digits of its id and `.mesa` for its name. Names of any other form are left alone. Over a
 /// folder that can't be made or opened, or that another process has open, each area is told as 2 bytes long,
 /// so that it is read, and each call that can fail fails.
 #[derive(Drop)]
-pub struct DirDisk<F: Files<File = File> + Copy> {
-    store: Store<F>,
+pub struct DirDisk<S: System> {
+    store: Store<S>,
     zero_len: u64,
     one_len: u64,
     clock: u64,
@@ -27,21 +25,30 @@ pub struct DirDisk<F: Files<File = File> + Copy> {
     ghost ticking: { clock ≤ last },
 }
 
-impl<F: Files<File = File> + AllocGlobal + Copy> DirDisk<F> {
+impl<S: System> DirDisk<S> {
     ghost use Rattle.std.specs.Prelude.{◌≡◌, IfOk};
+    ghost use Rattle.mesa_dir.specs.Asked.{IsFoundOrUnasked};
+    ghost use Rattle.mesa_dir.specs.Disks.{disk_asked, disk_path, story_of};
+    ghost use Rattle.mesa_dir.specs.Drafts.{bench_faults, bench_folder};
+    ghost use Rattle.mesa_disk.specs.declared.area.Area.TheVariants.{Zero, One};
 
     /// The disk over the folder of this name within the current one. The folder and its areas are made where
     /// they are missing.
-    pub fn open(files: F, name: &str) -> Result<DirDisk<F>, AllocError>
-        ensures clock { IfOk result (λ d. d.clock ≡ 0) }
-        ensures faults { IfOk result (λ d. d.faults ≡ 0) }
-        ensures read_faults { IfOk result (λ d. d.read_faults ≡ 0) }
+    pub fn open(system: S, name: &str) -> Result<DirDisk<S>, AllocError>
+        ensures clock { IfOk result (λ d. (story_of d).moment ≡ 0) }
+        ensures faults { IfOk result (λ d. (story_of d).faults ≡ 0) }
+        ensures read_faults { IfOk result (λ d. (story_of d).read_faults ≡ 0) }
+        ensures path { IfOk result (λ d. disk_path d ≡ name.now) }
+
+        // Area 0 was locked before anything was written or removed, drafts alone were removed, and all that
+        // was found in the areas was written again and synced. Over a folder that isn't open no call is told.
+        ensures opened { IfOk result (λ d. IsFoundOrUnasked name.now ((story_of d).len Zero) ((story_of d).len One) (disk_asked d)) }
     {
         let Opened {
             store,
             zero_len,
             one_len,
-        } = Store::open(files, name)?;
+        } = Store::open(system, name)?;
         Ok(DirDisk {
             store,
             zero_len,
@@ -53,19 +60,36 @@ impl<F: Files<File = File> + AllocGlobal + Copy> DirDisk<F> {
     }
 
     /// A bench in the same folder.
-    pub fn bench(&self) -> Result<DirBench<F>, AllocError>
-        ensures { IfOk result (λ b. b.faults ≡ 0) }
+    pub fn bench(&self) -> Result<DirBench<S>, AllocError>
+        ensures faults { IfOk result (λ b. bench_faults b ≡ 0) }
+        ensures folder { IfOk result (λ b. bench_folder b ≡ disk_path self.now) }
     {
         self.store.bench()
     }
 }
 
-impl<F: Files<File = File> + AllocGlobal + Copy + Send> Disk<DirMade<F>> for DirDisk<F> {
-    ghost use Rattle.mesa_disk.specs.Untold.{untold_story, small_of, told_never};
+impl<S: System + Send> Disk<DirMade<S>> for DirDisk<S>
+where
+    S::Handle: Send,
+    S::Closed: Send,
+{
+    ghost use Rattle.std.specs.Prelude.{◌≡◌, ◌+◌, ℕ, List, max, true, length, take, drop, IfOk, IfErr, OnOk, None, Some};
+    ghost use Rattle.std.specs.FinMap.{keys};
+    ghost use Rattle.mesa_disk.specs.Image.{Image, area_of, file_of, Overwrites, Tears, Adopts, Loses, May};
+    ghost use Rattle.mesa_disk.specs.Story.{Steps, Follows, Elapses, Unmoved};
+    ghost use Rattle.mesa_disk.specs.Untold.{small_of, told_never};
+    ghost use Rattle.mesa_disk.specs.declared.failures.OpenFault.TheVariants.{Failed as OpenFailed, Absent};
+    ghost use Rattle.mesa_fault.specs.Causes.{Rose, HasCause, HasFaultCause};
+    ghost use Rattle.mesa_dir.specs.Asked.{AllSynced, IsAdopted, IsGone, IsTrusted, asked_of};
+    ghost use Rattle.mesa_dir.specs.Calls.{IsMeasured, Read, WroteAt, with_call};
+    ghost use Rattle.mesa_dir.specs.Disks.{disk_asked, disk_path, story_of};
+    ghost use Rattle.mesa_dir.specs.Drafts.{made_bytes, path_of_made};
+    ghost use Rattle.mesa_dir.specs.Paths.{adopted_path_of};
+    ghost use Rattle.mesa_dir.specs.Readers.{reader_calls, reader_faults, reader_len};
 
-    type Reader = DirReader;
+    type Reader = DirReader<S>;
 
-    ghost story = { λ d. untold_story d.zero_len d.one_len d.clock d.faults d.read_faults };
+    ghost story = { λ d. story_of d };
 
     ghost read_is_left = { λ d i is. told_never i is };
 
@@ -92,7 +116,16 @@ impl<F: Files<File = File> + AllocGlobal + Copy + Send> Disk<DirMade<F>> for Dir
         }
     }
 
-    fn journal_read(&mut self, area: Area, at: u64, buf: &mut [u8]) -> Result<(), DiskFailed> {
+    fn journal_read(&mut self, area: Area, at: u64, buf: &mut [u8]) -> Result<(), DiskFailed>
+        ensures read { OnOk result ((i : Image) → (story_of self.old).told ≡ Some i → buf.new ≡ take (length buf.old) (drop at (area_of area i))) }
+        ensures unmoved { Unmoved (story_of self.old) (story_of self.new) }
+        ensures cause { HasCause (story_of self.old).faults (story_of self.new).faults result }
+        ensures read_cause { (story_of self.new).read_faults ≡ (story_of self.old).read_faults }
+
+        // The bytes are those that one call gave, from this place on.
+        ensures asked { OnOk result (asked_of area (disk_asked self.new) ≡ with_call (Read at buf.new true) (asked_of area (disk_asked self.old))) }
+        ensures path { disk_path self.new ≡ disk_path self.old }
+    {
         if self.store.read(area, at, buf).is_ok() {
             return Ok(());
         }
@@ -100,7 +133,25 @@ impl<F: Files<File = File> + AllocGlobal + Copy + Send> Disk<DirMade<F>> for Dir
         Err(DiskFailed)
     }
 
-    fn journal_write(&mut self, area: Area, at: u64, bytes: &[u8]) -> Result<(), DiskFailed> {
+    fn journal_write(&mut self, area: Area, at: u64, bytes: &[u8]) -> Result<(), DiskFailed>
+        ensures written { OnOk result (Steps (Overwrites area at bytes.now) (story_of self.old).told (story_of self.new).told) }
+        ensures torn { Steps (Tears area at (length bytes.now)) (story_of self.old).told (story_of self.new).told }
+        ensures crash { Follows (Tears area at (length bytes.now)) (story_of self.old).may_leave (story_of self.new).may_leave }
+
+        ensures len { OnOk result ((story_of self.new).len area ≡ max ((story_of self.old).len area) (at + length bytes.now)) }
+        ensures fits { OnOk result (at + length bytes.now < 2 ^ 64) }
+        ensures longer { (story_of self.old).len area ≤ (story_of self.new).len area }
+        ensures other { (a : Area) → (a ≡ area → ⊥) → (story_of self.new).len a ≡ (story_of self.old).len a }
+
+        ensures time { Elapses (story_of self.new).may_leave (story_of self.old) (story_of self.new) }
+        ensures clock { Rose (story_of self.old).moment (story_of self.new).moment }
+        ensures cause { HasCause (story_of self.old).faults (story_of self.new).faults result }
+        ensures read_cause { (story_of self.new).read_faults ≡ (story_of self.old).read_faults }
+
+        // All the bytes were written by one call, from this place on.
+        ensures asked { OnOk result (asked_of area (disk_asked self.new) ≡ with_call (WroteAt at bytes.now true) (asked_of area (disk_asked self.old))) }
+        ensures path { disk_path self.new ≡ disk_path self.old }
+    {
         self.clock = self.clock.saturating_add(1);
         let Some(end) = at.checked_add(bytes.len() as u64) else {
             self.faults.rise();
@@ -117,7 +168,24 @@ impl<F: Files<File = File> + AllocGlobal + Copy + Send> Disk<DirMade<F>> for Dir
         Ok(())
     }
 
-    fn journal_sync(&mut self) -> Result<(), DiskFailed> {
+    fn journal_sync(&mut self) -> Result<(), DiskFailed>
+        ensures durable { OnOk result ((c : Image) → (story_of self.new).may_leave c → (story_of self.new).told ≡ Some c) }
+        ensures told { (story_of self.new).told ≡ (story_of self.old).told }
+        ensures crash { (c : Image) → (story_of self.new).may_leave c → (story_of self.old).may_leave c }
+
+        ensures len { (a : Area) → (story_of self.new).len a ≡ (story_of self.old).len a }
+        ensures time { Elapses (story_of self.new).may_leave (story_of self.old) (story_of self.new) }
+        ensures clock { Rose (story_of self.old).moment (story_of self.new).moment }
+        ensures cause { HasCause (story_of self.old).faults (story_of self.new).faults result }
+        ensures read_cause { (story_of self.new).read_faults ≡ (story_of self.old).read_faults }
+
+        // Each area was synced behind its last write, and the names behind their last change. No sync ever
+        // failed; once one has, no call is made.
+        ensures synced { OnOk result (AllSynced (disk_asked self.new)) }
+        ensures trusted { OnOk result (IsTrusted (disk_asked self.new)) }
+        ensures untried { (IsTrusted (disk_asked self.old) → ⊥) → disk_asked self.new ≡ disk_asked self.old }
+        ensures path { disk_path self.new ≡ disk_path self.old }
+    {
         self.clock = self.clock.saturating_add(1);
         if self.store.sync().is_ok() {
             return Ok(());
@@ -126,7 +194,25 @@ impl<F: Files<File = File> + AllocGlobal + Copy + Send> Disk<DirMade<F>> for Dir
         Err(DiskFailed)
     }
 
-    fn adopt(&mut self, made: DirMade<F>, id: FileId) -> Result<(), DiskFailed> {
+    fn adopt(&mut self, made: DirMade<S>, id: FileId) -> Result<(), DiskFailed>
+        ensures adopted { OnOk result (Steps (Adopts (id, made_bytes made)) (story_of self.old).told (story_of self.new).told) }
+        ensures whole { Steps (May Adopts (id, made_bytes made)) (story_of self.old).told (story_of self.new).told }
+        ensures stays { OnOk result (Follows (Adopts (id, made_bytes made)) (story_of self.old).may_leave (story_of self.new).may_leave) }
+        ensures crash { Follows (May Adopts (id, made_bytes made)) (story_of self.old).may_leave (story_of self.new).may_leave }
+
+        ensures len { (a : Area) → (story_of self.new).len a ≡ (story_of self.old).len a }
+        ensures time { Elapses (story_of self.new).may_leave (story_of self.old) (story_of self.new) }
+        ensures clock { Rose (story_of self.old).moment (story_of self.new).moment }
+        ensures cause { HasCause (story_of self.old).faults (story_of self.new).faults result }
+        ensures read_cause { (story_of self.new).read_faults ≡ (story_of self.old).read_faults }
+
+        // This file got the name of this id, and then the names were synced. No sync ever failed; once one
+        // has, no call is made.
+        ensures named { OnOk result (IsAdopted (path_of_made made) (adopted_path_of (disk_path self.old) id) (disk_asked self.old).names (disk_asked self.new).names) }
+        ensures trusted { OnOk result (IsTrusted (disk_asked self.new)) }
+        ensures untried { (IsTrusted (disk_asked self.old) → ⊥) → disk_asked self.new ≡ disk_asked self.old }
+        ensures path { disk_path self.new ≡ disk_path self.old }
+    {
         self.clock = self.clock.saturating_add(1);
         if self.store.adopt(made, id).is_ok() {
             return Ok(());
@@ -135,7 +221,21 @@ impl<F: Files<File = File> + AllocGlobal + Copy + Send> Disk<DirMade<F>> for Dir
         Err(DiskFailed)
     }
 
-    fn remove(&mut self, id: FileId) -> Result<(), DiskFailed> {
+    fn remove(&mut self, id: FileId) -> Result<(), DiskFailed>
+        ensures removed { OnOk result (Steps (Loses id) (story_of self.old).told (story_of self.new).told) }
+        ensures whole { Steps (May Loses id) (story_of self.old).told (story_of self.new).told }
+        ensures crash { Follows (May Loses id) (story_of self.old).may_leave (story_of self.new).may_leave }
+
+        ensures len { (a : Area) → (story_of self.new).len a ≡ (story_of self.old).len a }
+        ensures time { Elapses (story_of self.new).may_leave (story_of self.old) (story_of self.new) }
+        ensures clock { Rose (story_of self.old).moment (story_of self.new).moment }
+        ensures cause { HasCause (story_of self.old).faults (story_of self.new).faults result }
+        ensures read_cause { (story_of self.new).read_faults ≡ (story_of self.old).read_faults }
+
+        // One call took the name of this id away, or found that it wasn't there.
+        ensures gone { OnOk result (IsGone (adopted_path_of (disk_path self.old) id) (disk_asked self.old).names (disk_asked self.new).names) }
+        ensures path { disk_path self.new ≡ disk_path self.old }
+    {
         self.clock = self.clock.saturating_add(1);
         if self.store.remove(id).is_ok() {
             return Ok(());
@@ -144,9 +244,22 @@ impl<F: Files<File = File> + AllocGlobal + Copy + Send> Disk<DirMade<F>> for Dir
         Err(DiskFailed)
     }
 
-    fn reader(&mut self, id: FileId) -> Result<DirReader, OpenFault> {
-        match self.store.file(id) {
-            Ok((file, len)) => Ok(DirReader::new(file, len)),
+    fn reader(&mut self, id: FileId) -> Result<DirReader<S>, OpenFault>
+        ensures opened { IfOk result (λ r. (i : Image) → (story_of self.old).told ≡ Some i
+            → (b : List ℕ) × (file_of i id ≡ Some b) × (None ≡ Some b)) }
+        ensures fresh { IfOk result (λ r. reader_faults r ≡ 0) }
+        ensures absent { IfErr result (λ e. e ≡ Absent → (i : Image) → (story_of self.old).told ≡ Some i → file_of i id ≡ None) }
+        ensures unmoved { Unmoved (story_of self.old) (story_of self.new) }
+        ensures cause { HasFaultCause (λ e. e ≡ OpenFailed) (story_of self.old).faults (story_of self.new).faults result }
+        ensures read_cause { (story_of self.new).read_faults ≡ (story_of self.old).read_faults }
+
+        // The file of this id's name was opened, and as many bytes were found in it as the reader tells.
+        ensures found { IfOk result (λ r. IsMeasured (adopted_path_of (disk_path self.old) id) (reader_len r) (reader_calls S.calls r)) }
+        ensures path { disk_path self.new ≡ disk_path self.old }
+        ensures asked { disk_asked self.new ≡ disk_asked self.old }
+    {
+        match self.store.reader(id) {
+            Ok(reader) => Ok(reader),
             Err(error) if error.kind() == ErrorKind::NotFound => Err(OpenFault::Absent),
             Err(error) if error.kind() == ErrorKind::OutOfMemory => Err(OpenFault::Memory),
             Err(_) => {
@@ -156,7 +269,7 @@ impl<F: Files<File = File> + AllocGlobal + Copy + Send> Disk<DirMade<F>> for Dir
         }
     }
 
-    fn retire(&mut self, reader: DirReader) {
+    fn retire(&mut self, reader: DirReader<S>) {
         if reader.faults.get() > 0 {
             self.read_faults.rise();
         }

@@ -1,21 +1,29 @@
 //! A disk and benches over a real folder. They tell no bytes: a contract knows their lengths, their clock and
-//! their counts of faults, and not what the system does with what it is asked.
+//! their counts of faults, and which calls of the system each of theirs made and how they were answered. What
+//! a device then keeps, no contract can say.
 //!
 //! Every acknowledged byte is on the device as far as the system's syncs go: a file before it is adopted, its
 //! name before `adopt` answers, and the journal by its own syncs.
 #![tactic(auto)]
 
+mod again;
 mod area_file;
 mod bench;
 mod disk;
 mod draft;
 mod folder;
+mod host;
+mod listing;
 mod names;
+mod opening;
 mod reader;
 mod store;
 mod streams;
+mod system;
 
 pub use bench::DirBench;
 pub use disk::DirDisk;
 pub use draft::{DirDraft, DirMade};
+pub use host::ClosedFile;
 pub use reader::DirReader;
+pub use system::System;

@@ -1,36 +1,34 @@
 // The places of the standard streams.
-use std::alloc::Global;
-use std::fs::{self, File};
-use std::io;
-use std::os::fd::AsRawFd;
-use std::rt::Files;
+ghost use Rattle.std.specs.Prelude.{IfOk};
+ghost use Rattle.mesa_dir.specs.Calls.{IsOpened};
 
-// The last descriptor of a standard stream.
-const LAST_STREAM: i32 = 2;
+use crate::System;
+use std::io;
+
+// How many standard streams there are.
+const STREAMS: i32 = 3;
 
 /// A folder that was opened, and what holds the places of the standard streams that were closed when the
 /// program began. As long as it is there, no file that is opened takes such a place, so nothing that is
 /// printed gets into a file. What holds a place can't be written.
 #[derive(Drop)]
-pub(crate) struct OpenedFolder {
-    pub folder: File,
-    pub places: Vec<File>,
+pub(crate) struct OpenedFolder<S: System> {
+    pub folder: S::Handle,
+    pub places: Vec<S::Handle>,
 }
 
 /// Opens a folder, behind the places of the standard streams.
-pub(crate) fn open_behind_streams<F: Files<File = File>>(
-    alloc: Global,
-    files: &F,
-    path: &str,
-) -> io::Result<OpenedFolder> {
-    let mut places = Vec::new(alloc);
-    let mut folder = fs::open(files, path)?;
-    for _ in 0..=LAST_STREAM {
-        if folder.as_raw_fd() > LAST_STREAM {
+pub(crate) fn open_behind_streams<S: System>(system: S, path: &str) -> io::Result<OpenedFolder<S>>
+    ensures { IfOk result (λ o. IsOpened path.now (S.calls o.folder)) }
+{
+    let mut places = Vec::new(system.memory());
+    let mut folder = system.open(path)?;
+    'streams: for _ in 0..STREAMS {
+        if !system.is_stream(&folder) {
             break;
         }
         places.push(folder)?;
-        folder = fs::open(files, path)?;
+        folder = system.open(path)?;
     }
     Ok(OpenedFolder { folder, places })
 }

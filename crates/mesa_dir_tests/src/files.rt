@@ -50,7 +50,7 @@ fn remove_twice(rt: &impl Abort, disk: &mut DirDisk<HostRuntime>) {
 }
 
 // Stops the test of a reader that doesn't read the file.
-fn expect_read(rt: &impl Abort, reader: &mut DirReader) {
+fn expect_read(rt: &impl Abort, reader: &mut DirReader<HostRuntime>) {
     assert_eq!(rt; reader.len(), 8);
     let mut five = [0u8; 5];
     assert!(rt; reader.read_at(3, &mut five).is_ok());
@@ -149,7 +149,7 @@ fn other_names_are_left_alone(rt: HostRuntime) {
 static CUT: &str = "mesa_dir_cut/0000000000000005.mesa";
 
 // Stops the test of a reader that reads a file of four bytes which is shorter meanwhile.
-fn expect_fault(rt: &impl Abort, reader: &mut DirReader) {
+fn expect_fault(rt: &impl Abort, reader: &mut DirReader<HostRuntime>) {
     let mut four = [0u8; 4];
     assert_eq!(rt; reader.len(), 4);
     assert!(rt; reader.read_at(0, &mut four).is_err());

@@ -1,0 +1,59 @@
+-- The calls of an open folder.
+use Rattle.std.specs.Prelude.{◌≡◌, ◌⊎◌, ℕ, true, List, [], Option, None, Some}
+use Rattle.mesa_disk.specs.declared.area.Area.{Area}
+use Rattle.mesa_disk.specs.declared.area.Area.TheVariants.{Zero, One}
+use Rattle.std.specs.declared.io.ErrorKind.{ErrorKind}
+use Rattle.std.specs.declared.io.ErrorKind.TheVariants.{NotFound}
+use Rattle.mesa_dir.specs.Calls.{Call, Removed, Renamed, Synced, is_named, is_durable, is_trusted, with_call}
+use Rattle.mesa_dir.specs.Opening.{NamesSettled, OneSettled, ZeroSettled}
+
+-- The calls on an open folder and its names, and on the files of its two areas; each the newest first, where they are told.
+pub record Asked : Type 0 where
+  pub names : Option (List Call)
+  pub zero : Option (List Call)
+  pub one : Option (List Call)
+
+-- the calls on an area's file
+abbrev pub asked_of : Area → Asked → Option (List Call)
+asked_of Zero all = all.zero
+asked_of One all = all.one
+
+-- Nothing is left that isn't on the device.
+pub record AllSynced (all : Asked) : Type 0 where
+  pub names : is_named all.names ≡ true
+  pub zero : is_durable all.zero ≡ true
+  pub one : is_durable all.one ≡ true
+
+-- No sync ever failed.
+pub record IsTrusted (all : Asked) : Type 0 where
+  pub names : is_trusted all.names ≡ true
+  pub zero : is_trusted all.zero ≡ true
+  pub one : is_trusted all.one ≡ true
+
+-- these calls
+abbrev pub asked : Option (List Call) → Option (List Call) → Option (List Call) → Asked
+asked names zero one = record { names = names; zero = zero; one = one }
+
+-- the calls of a folder that isn't open: none
+abbrev pub unasked : Asked
+unasked = asked (Some []) (Some []) (Some [])
+
+-- A folder that was opened: the calls on its names and on both areas, of which each has so many bytes.
+pub record IsFound (folder : List ℕ) (zero_len one_len : ℕ) (all : Asked) : Type 0 where
+  pub names : NamesSettled folder all.names
+  pub zero : ZeroSettled folder zero_len all.zero
+  pub one : OneSettled folder one_len all.one
+
+-- A folder that was opened, or one that couldn't be.
+abbrev pub IsFoundOrUnasked : List ℕ → ℕ → ℕ → Asked → Type 0
+IsFoundOrUnasked folder zero_len one_len all = (all ≡ unasked) ⊎ IsFound folder zero_len one_len all
+
+-- One call took this name away, or found that it wasn't there.
+pub record IsGone (path : List ℕ) (old new : Option (List Call)) : Type 0 where
+  pub answer : Option ErrorKind
+  pub gone : (answer ≡ None) ⊎ (answer ≡ Some NotFound)
+  pub removed : new ≡ with_call (Removed path answer) old
+
+-- The file of the first path got the second, and then the names were synced; no other call was made.
+abbrev pub IsAdopted : List ℕ → List ℕ → Option (List Call) → Option (List Call) → Type 0
+IsAdopted from to old new = new ≡ with_call (Synced true) (with_call (Renamed from to true) old)

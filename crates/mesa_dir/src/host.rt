@@ -1,0 +1,113 @@
+// The system itself. No contract sees what these lines do, so each hands one call on.
+ghost use Rattle.std.specs.Prelude.{None};
+
+use crate::System;
+use std::alloc::Global;
+use std::fs::{self, File, OpenOptions};
+use std::io::{self, ErrorKind, Write};
+use std::os::fd::AsRawFd;
+use std::os::unix::fs::FileExt;
+
+// The last descriptor of a standard stream.
+const LAST_STREAM: i32 = 2;
+
+/// What is left of a file that the system closed.
+#[derive(Drop)]
+pub struct ClosedFile;
+
+impl System for HostRuntime {
+    type Handle = File;
+
+    type Closed = ClosedFile;
+
+    ghost calls = { λ h. None };
+
+    ghost closed_calls = { λ c. None };
+
+    fn memory(&self) -> Global {
+        self.alloc()
+    }
+
+    fn make_folder(&self, path: &str) -> io::Result<()> {
+        fs::create_dir(self, path)
+    }
+
+    fn open(&self, path: &str) -> io::Result<File> {
+        fs::open(self, path)
+    }
+
+    fn open_within(&self, _folder: &mut File, path: &str) -> io::Result<File> {
+        OpenOptions::new()
+            .read(true)
+            .write(true)
+            .create(true)
+            .open(self, path)
+    }
+
+    fn create(&self, path: &str) -> io::Result<File> {
+        OpenOptions::new()
+            .write(true)
+            .create_new(true)
+            .open(self, path)
+    }
+
+    fn lock(&self, _folder: &mut File, file: &mut File) -> io::Result<()> {
+        Ok(file.try_lock()?)
+    }
+
+    fn is_stream(&self, handle: &File) -> bool {
+        handle.as_raw_fd() <= LAST_STREAM
+    }
+
+    fn len(&self, file: &mut File) -> io::Result<u64> {
+        Ok(file.metadata()?.len())
+    }
+
+    fn read_at(&self, file: &mut File, at: u64, buf: &mut [u8]) -> io::Result<()> {
+        file.read_exact_at(buf, at)
+    }
+
+    fn write(&self, file: &mut File, bytes: &[u8]) -> io::Result<()> {
+        file.write_all(bytes)
+    }
+
+    fn write_at(&self, file: &mut File, at: u64, bytes: &[u8]) -> io::Result<()> {
+        file.write_all_at(bytes, at)
+    }
+
+    fn sync(&self, handle: &mut File) -> io::Result<()> {
+        handle.sync_all()
+    }
+
+    fn sync_bytes(&self, file: &mut File) -> io::Result<()> {
+        file.sync_data()
+    }
+
+    fn close(&self, _file: File) -> ClosedFile {
+        ClosedFile
+    }
+
+    fn rename(&self, _folder: &mut File, from: &str, to: &str) -> io::Result<()> {
+        fs::rename(self, from, to)
+    }
+
+    fn remove(&self, _folder: &mut File, path: &str) -> io::Result<()> {
+        fs::remove_file(self, path)
+    }
+
+    fn discard(&self, path: &str) {
+        let _ = fs::remove_file(self, path);
+    }
+
+    fn names(&self, path: &str) -> io::Result<Vec<String>> {
+        let mut names = Vec::new(self.alloc());
+        for entry in fs::read_dir(self, path)? {
+            match entry {
+                Ok(entry) => names.push(String::from_str(self.alloc(), entry.file_name())?)?,
+                Err(error) if error.kind() == ErrorKind::InvalidFilename => {}
+                Err(error) => return Err(error),
+            }
+        }
+        Ok(names)
+    }
+}
