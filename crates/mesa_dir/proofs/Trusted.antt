@@ -1,9 +1,8 @@
 -- No sync has failed in what is done while a folder is opened.
-use Rattle.std.specs.Prelude.{◌≡◌, ℕ, true, List, [], ◌∷◌, Option, None, Some, refl}
-use Rattle.std.proofs.Common.{ap, sym, ◌∙◌}
+use Rattle.std.specs.Prelude.{◌≡◌, ℕ, true, List, Option, None, Some, refl}
+use Rattle.std.proofs.Common.{ap, ◌∙◌}
 use Rattle.std.specs.declared.io.ErrorKind.{ErrorKind}
-use Rattle.mesa_dir.specs.Asked.{IsTrusted, asked}
-use Rattle.mesa_dir.specs.Calls.{Call, IsOpened, Locked, Measured, OpenedWithin, Read, Removed, Synced, WroteAt, is_trusted, no_sync_failed, with_call}
+use Rattle.mesa_dir.specs.Calls.{Call, IsOpened, Locked, Measured, Read, Removed, Synced, WroteAt, is_named, is_trusted, no_sync_failed, with_call}
 use Rattle.mesa_dir.specs.Opening.{DraftsRemoved, IsAreaLocked, IsSettled, NamesCleared, WrittenAgain, areas_opened, more, none, nothing, piece}
 use Rattle.mesa_dir.specs.Paths.{within}
 
@@ -57,3 +56,8 @@ cleared_trusted folder told cleared = removed_trusted folder (areas_opened folde
 
 pub synced_trusted : (told : Option (List Call)) → is_trusted told ≡ true → is_trusted (with_call (Synced true) told) ≡ true
 synced_trusted told trusted = with_synced told ∙ trusted
+
+-- The names are on the device where they were synced just now.
+pub synced_named : (told : Option (List Call)) → is_named (with_call (Synced true) told) ≡ true
+synced_named None = refl
+synced_named (Some calls) = refl

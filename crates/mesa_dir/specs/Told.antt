@@ -1,5 +1,5 @@
 -- What a file's calls say of its bytes.
-use Rattle.std.specs.Prelude.{◌≡◌, ℕ, Bool, true, false, List, [], ◌∷◌, ◌++◌, length, if◌then◌else◌, Option, None, Some, option_map, refl}
+use Rattle.std.specs.Prelude.{◌≡◌, ℕ, List, [], ◌∷◌, ◌++◌, length, if◌then◌else◌, Option, None, Some, option_map}
 use Rattle.std.proofs.Common.{ap, sym, ◌∙◌}
 use Rattle.mesa_dir.specs.Calls.{Call, Wrote}
 

@@ -119,8 +119,10 @@ impl<S: System> Folder<S> {
         Ok(())
     }
 
+    // Syncs what changed, in a folder that is taken for lost until all of it was synced.
     fn sync_changes(&mut self) -> io::Result<()>
-        requires { IsTrusted (folder_asked self.old) }
+        requires lost { self.old.has_lost ≡ true }
+        requires trusted { IsTrusted (folder_asked self.old) }
         ensures synced { OnOk result (AllSynced (folder_asked self.new)) }
         ensures trusted { OnOk result (IsTrusted (folder_asked self.new)) }
     {
@@ -132,7 +134,11 @@ impl<S: System> Folder<S> {
         Ok(())
     }
 
-    fn sync_names(&mut self) -> io::Result<()> {
+    fn sync_names(&mut self) -> io::Result<()>
+        ensures names { (folder_asked self.new).names ≡ with_call (Synced (is_ok result)) (folder_asked self.old).names }
+        ensures zero { (folder_asked self.new).zero ≡ (folder_asked self.old).zero }
+        ensures one { (folder_asked self.new).one ≡ (folder_asked self.old).one }
+    {
         let synced = self.system.sync(&mut self.opened.folder);
         self.has_all_names = synced.is_ok();
         self.has_lost = self.has_lost || synced.is_err();

@@ -4,7 +4,7 @@ ghost use Rattle.std.specs.Prelude.{None};
 use crate::System;
 use std::alloc::Global;
 use std::fs::{self, File, OpenOptions};
-use std::io::{self, ErrorKind, Write};
+use std::io::{self, Write};
 use std::os::fd::AsRawFd;
 use std::os::unix::fs::FileExt;
 
@@ -99,14 +99,13 @@ impl System for HostRuntime {
         let _ = fs::remove_file(self, path);
     }
 
-    fn names(&self, path: &str) -> io::Result<Vec<String>> {
+    fn names(&self, path: &str) -> io::Result<Vec<io::Result<String>>> {
         let mut names = Vec::new(self.alloc());
         for entry in fs::read_dir(self, path)? {
-            match entry {
-                Ok(entry) => names.push(String::from_str(self.alloc(), entry.file_name())?)?,
-                Err(error) if error.kind() == ErrorKind::InvalidFilename => {}
-                Err(error) => return Err(error),
-            }
+            names.push(match entry {
+                Ok(entry) => Ok(String::from_str(self.alloc(), entry.file_name())?),
+                Err(error) => Err(error),
+            })?;
         }
         Ok(names)
     }

@@ -22,15 +22,17 @@ fn make_folder<S: System>(system: S, path: &str) -> io::Result<()> {
 }
 
 // Removes drafts that a killed run left. One that can't be removed does no harm: no other draft gets its id.
+// Nor does one whose name can't be told.
 #[tactic(auto, using(crate::proofs::Steps::removed_more))]
 fn remove_drafts<S: System>(system: S, folder: &mut S::Handle, path: &str) -> io::Result<()>
     ensures { OnOk result (DraftsRemoved path.now (S.calls folder.old) (S.calls folder.new)) }
 {
-    let names = system.names(path)?;
-    'names: for name in &names {
-        if is_draft(name.as_str()) {
-            let draft = format!(in system.memory(); "{path}/{name}")?;
-            let _ = system.remove(folder, draft.as_str());
+    'names: for entry in system.names(path)? {
+        if let Ok(name) = entry {
+            if is_draft(name.as_str()) {
+                let draft = format!(in system.memory(); "{path}/{name}")?;
+                let _ = system.remove(folder, draft.as_str());
+            }
         }
     }
     Ok(())

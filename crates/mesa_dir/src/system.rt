@@ -88,6 +88,6 @@ pub trait System: Copy {
     /// Takes a name away, if that can be done.
     fn discard(&self, path: &str);
 
-    /// The names in a folder, but for those that are no text.
-    fn names(&self, path: &str) -> io::Result<Vec<String>>;
+    /// The names in a folder, with an error for each that can't be told.
+    fn names(&self, path: &str) -> io::Result<Vec<io::Result<String>>>;
 }
