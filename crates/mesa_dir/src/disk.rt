@@ -73,15 +73,16 @@ where
     S::Handle: Send,
     S::Closed: Send,
 {
-    ghost use Rattle.std.specs.Prelude.{◌≡◌, ◌+◌, ℕ, List, max, true, length, take, drop, IfOk, IfErr, OnOk, None, Some};
+    ghost use Rattle.std.specs.Prelude.{◌≡◌, ◌⊎◌, ◌+◌, ℕ, List, max, true, false, length, take, drop, IfOk, IfErr, OnOk, OnErr, Option, None, Some};
     ghost use Rattle.std.specs.FinMap.{keys};
     ghost use Rattle.mesa_disk.specs.Image.{Image, area_of, file_of, Overwrites, Tears, Adopts, Loses, May};
     ghost use Rattle.mesa_disk.specs.Story.{Steps, Follows, Elapses, Unmoved};
     ghost use Rattle.mesa_disk.specs.Untold.{small_of, told_never};
     ghost use Rattle.mesa_disk.specs.declared.failures.OpenFault.TheVariants.{Failed as OpenFailed, Absent};
     ghost use Rattle.mesa_fault.specs.Causes.{Rose, HasCause, HasFaultCause};
-    ghost use Rattle.mesa_dir.specs.Asked.{AllSynced, IsAdopted, IsGone, IsTrusted, asked_of};
-    ghost use Rattle.mesa_dir.specs.Calls.{IsMeasured, Read, WroteAt, with_call};
+    ghost use Rattle.mesa_dir.specs.Asked.{AllSynced, IsAdopted, IsGone, IsTrusted, IsUnadopted, OnlySynced, with_asked, with_named};
+    ghost use Rattle.mesa_dir.specs.Calls.{IsMeasured, Read, Removed, WroteAt};
+    ghost use Rattle.std.specs.declared.io.ErrorKind.{ErrorKind};
     ghost use Rattle.mesa_dir.specs.Disks.{disk_asked, disk_path, story_of};
     ghost use Rattle.mesa_dir.specs.Drafts.{made_bytes, path_of_made};
     ghost use Rattle.mesa_dir.specs.Paths.{adopted_path_of};
@@ -122,8 +123,8 @@ where
         ensures cause { HasCause (story_of self.old).faults (story_of self.new).faults result }
         ensures read_cause { (story_of self.new).read_faults ≡ (story_of self.old).read_faults }
 
-        // The bytes are those that one call gave, from this place on.
-        ensures asked { OnOk result (asked_of area (disk_asked self.new) ≡ with_call (Read at buf.new true) (asked_of area (disk_asked self.old))) }
+        // The bytes are those that one call gave, from this place on; no other was made.
+        ensures asked { OnOk result (disk_asked self.new ≡ with_asked area (Read at buf.new true) (disk_asked self.old)) }
         ensures path { disk_path self.new ≡ disk_path self.old }
     {
         if self.store.read(area, at, buf).is_ok() {
@@ -148,8 +149,10 @@ where
         ensures cause { HasCause (story_of self.old).faults (story_of self.new).faults result }
         ensures read_cause { (story_of self.new).read_faults ≡ (story_of self.old).read_faults }
 
-        // All the bytes were written by one call, from this place on.
-        ensures asked { OnOk result (asked_of area (disk_asked self.new) ≡ with_call (WroteAt at bytes.now true) (asked_of area (disk_asked self.old))) }
+        // All the bytes were written by one call, from this place on; no other was made, and one that failed
+        // isn't tried again.
+        ensures asked { OnOk result (disk_asked self.new ≡ with_asked area (WroteAt at bytes.now true) (disk_asked self.old)) }
+        ensures failed { OnErr result ((disk_asked self.new ≡ disk_asked self.old) ⊎ (disk_asked self.new ≡ with_asked area (WroteAt at bytes.now false) (disk_asked self.old))) }
         ensures path { disk_path self.new ≡ disk_path self.old }
     {
         self.clock = self.clock.saturating_add(1);
@@ -180,10 +183,11 @@ where
         ensures read_cause { (story_of self.new).read_faults ≡ (story_of self.old).read_faults }
 
         // Each area was synced behind its last write, and the names behind their last change. No sync ever
-        // failed; once one has, no call is made.
+        // failed; once one has, no call is made. Nor is any but a sync.
         ensures synced { OnOk result (AllSynced (disk_asked self.new)) }
         ensures trusted { OnOk result (IsTrusted (disk_asked self.new)) }
         ensures untried { (IsTrusted (disk_asked self.old) → ⊥) → disk_asked self.new ≡ disk_asked self.old }
+        ensures only { OnlySynced (disk_asked self.old) (disk_asked self.new) }
         ensures path { disk_path self.new ≡ disk_path self.old }
     {
         self.clock = self.clock.saturating_add(1);
@@ -207,10 +211,11 @@ where
         ensures read_cause { (story_of self.new).read_faults ≡ (story_of self.old).read_faults }
 
         // This file got the name of this id, and then the names were synced. No sync ever failed; once one
-        // has, no call is made.
-        ensures named { OnOk result (IsAdopted (path_of_made made) (adopted_path_of (disk_path self.old) id) (disk_asked self.old).names (disk_asked self.new).names) }
+        // has, no call is made. What failed isn't tried again.
+        ensures named { OnOk result (IsAdopted (path_of_made made) (adopted_path_of (disk_path self.old) id) (disk_asked self.old) (disk_asked self.new)) }
         ensures trusted { OnOk result (IsTrusted (disk_asked self.new)) }
         ensures untried { (IsTrusted (disk_asked self.old) → ⊥) → disk_asked self.new ≡ disk_asked self.old }
+        ensures failed { OnErr result (IsUnadopted (path_of_made made) (adopted_path_of (disk_path self.old) id) (disk_asked self.old) (disk_asked self.new)) }
         ensures path { disk_path self.new ≡ disk_path self.old }
     {
         self.clock = self.clock.saturating_add(1);
@@ -232,8 +237,9 @@ where
         ensures cause { HasCause (story_of self.old).faults (story_of self.new).faults result }
         ensures read_cause { (story_of self.new).read_faults ≡ (story_of self.old).read_faults }
 
-        // One call took the name of this id away, or found that it wasn't there.
-        ensures gone { OnOk result (IsGone (adopted_path_of (disk_path self.old) id) (disk_asked self.old).names (disk_asked self.new).names) }
+        // One call took the name of this id away, or found that it wasn't there. What failed isn't tried again.
+        ensures gone { OnOk result (IsGone (adopted_path_of (disk_path self.old) id) (disk_asked self.old) (disk_asked self.new)) }
+        ensures failed { OnErr result ((disk_asked self.new ≡ disk_asked self.old) ⊎ ((answer : Option ErrorKind) × (disk_asked self.new ≡ with_named (Removed (adopted_path_of (disk_path self.old) id) answer) (disk_asked self.old)))) }
         ensures path { disk_path self.new ≡ disk_path self.old }
     {
         self.clock = self.clock.saturating_add(1);

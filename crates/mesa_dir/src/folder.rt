@@ -38,9 +38,10 @@ fn lost() -> io::Error {
 }
 
 impl<S: System> Folder<S> {
-    ghost use Rattle.std.specs.Prelude.{IfOk, OnOk, is_ok};
-    ghost use Rattle.mesa_dir.specs.Asked.{AllSynced, IsAdopted, IsFound, IsGone, asked_of};
-    ghost use Rattle.mesa_dir.specs.Calls.{Read, Synced, WroteAt, with_call};
+    ghost use Rattle.std.specs.Prelude.{IfOk, OnOk, OnErr, Option, is_ok};
+    ghost use Rattle.mesa_dir.specs.Asked.{AllSynced, IsAdopted, IsFound, IsGone, IsUnadopted, OnlySynced, with_asked, with_named};
+    ghost use Rattle.mesa_dir.specs.Calls.{Read, Removed, Synced, WroteAt, with_call};
+    ghost use Rattle.std.specs.declared.io.ErrorKind.{ErrorKind};
     ghost use Rattle.mesa_dir.specs.Drafts.{path_of_made};
     ghost use Rattle.mesa_dir.specs.Folders.{folder_asked};
     ghost use Rattle.mesa_dir.specs.Opening.{IsSettled};
@@ -85,7 +86,7 @@ impl<S: System> Folder<S> {
 
     /// Fills the buffer with an area's bytes.
     pub(crate) fn read(&mut self, area: Area, at: u64, buf: &mut [u8]) -> io::Result<()>
-        ensures { asked_of area (folder_asked self.new) ≡ with_call (Read at buf.new (is_ok result)) (asked_of area (folder_asked self.old)) }
+        ensures { folder_asked self.new ≡ with_asked area (Read at buf.new (is_ok result)) (folder_asked self.old) }
     {
         match area {
             Area::Zero => self.zero.read(at, buf),
@@ -95,7 +96,7 @@ impl<S: System> Folder<S> {
 
     /// Writes into an area.
     pub(crate) fn write(&mut self, area: Area, at: u64, bytes: &[u8]) -> io::Result<()>
-        ensures { asked_of area (folder_asked self.new) ≡ with_call (WroteAt at bytes.now (is_ok result)) (asked_of area (folder_asked self.old)) }
+        ensures { folder_asked self.new ≡ with_asked area (WroteAt at bytes.now (is_ok result)) (folder_asked self.old) }
     {
         match area {
             Area::Zero => self.zero.write(at, bytes),
@@ -109,6 +110,7 @@ impl<S: System> Folder<S> {
         ensures synced { OnOk result (AllSynced (folder_asked self.new)) }
         ensures trusted { OnOk result (IsTrusted (folder_asked self.new)) }
         ensures untried { (IsTrusted (folder_asked self.old) → ⊥) → folder_asked self.new ≡ folder_asked self.old }
+        ensures only { OnlySynced (folder_asked self.old) (folder_asked self.new) }
     {
         if self.has_lost {
             return Err(lost());
@@ -125,6 +127,7 @@ impl<S: System> Folder<S> {
         requires trusted { IsTrusted (folder_asked self.old) }
         ensures synced { OnOk result (AllSynced (folder_asked self.new)) }
         ensures trusted { OnOk result (IsTrusted (folder_asked self.new)) }
+        ensures only { OnlySynced (folder_asked self.old) (folder_asked self.new) }
     {
         self.zero.sync()?;
         self.one.sync()?;
@@ -135,9 +138,7 @@ impl<S: System> Folder<S> {
     }
 
     fn sync_names(&mut self) -> io::Result<()>
-        ensures names { (folder_asked self.new).names ≡ with_call (Synced (is_ok result)) (folder_asked self.old).names }
-        ensures zero { (folder_asked self.new).zero ≡ (folder_asked self.old).zero }
-        ensures one { (folder_asked self.new).one ≡ (folder_asked self.old).one }
+        ensures { folder_asked self.new ≡ with_named (Synced (is_ok result)) (folder_asked self.old) }
     {
         let synced = self.system.sync(&mut self.opened.folder);
         self.has_all_names = synced.is_ok();
@@ -147,9 +148,10 @@ impl<S: System> Folder<S> {
 
     /// Gives a written file its name, for good.
     pub(crate) fn adopt(&mut self, made: DirMade<S>, path: &str) -> io::Result<()>
-        ensures adopted { OnOk result (IsAdopted (path_of_made made) path.now (folder_asked self.old).names (folder_asked self.new).names) }
+        ensures adopted { OnOk result (IsAdopted (path_of_made made) path.now (folder_asked self.old) (folder_asked self.new)) }
         ensures trusted { OnOk result (IsTrusted (folder_asked self.new)) }
         ensures untried { (IsTrusted (folder_asked self.old) → ⊥) → folder_asked self.new ≡ folder_asked self.old }
+        ensures failed { OnErr result (IsUnadopted (path_of_made made) path.now (folder_asked self.old) (folder_asked self.new)) }
     {
         if self.has_lost {
             return Err(lost());
@@ -161,7 +163,8 @@ impl<S: System> Folder<S> {
 
     /// Takes a name away, if it is there. The next sync makes that last.
     pub(crate) fn remove(&mut self, path: &str) -> io::Result<()>
-        ensures { OnOk result (IsGone path.now (folder_asked self.old).names (folder_asked self.new).names) }
+        ensures gone { OnOk result (IsGone path.now (folder_asked self.old) (folder_asked self.new)) }
+        ensures failed { OnErr result ((answer : Option ErrorKind) × (folder_asked self.new ≡ with_named (Removed path.now answer) (folder_asked self.old))) }
     {
         self.has_all_names = false;
         match self.system.remove(&mut self.opened.folder, path) {

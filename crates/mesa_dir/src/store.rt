@@ -42,9 +42,10 @@ fn unopened() -> io::Error {
 }
 
 impl<S: System> Store<S> {
-    ghost use Rattle.std.specs.Prelude.{◌≡◌, IfOk, OnOk, true};
-    ghost use Rattle.mesa_dir.specs.Asked.{AllSynced, IsAdopted, IsFoundOrUnasked, IsGone, IsTrusted, asked_of};
-    ghost use Rattle.mesa_dir.specs.Calls.{Measured, IsMeasured, Read, WroteAt, with_call};
+    ghost use Rattle.std.specs.Prelude.{◌≡◌, ◌⊎◌, IfOk, OnOk, OnErr, Option, true, false};
+    ghost use Rattle.mesa_dir.specs.Asked.{AllSynced, IsAdopted, IsFoundOrUnasked, IsGone, IsTrusted, IsUnadopted, OnlySynced, with_asked, with_named};
+    ghost use Rattle.mesa_dir.specs.Calls.{IsMeasured, Read, Removed, WroteAt};
+    ghost use Rattle.std.specs.declared.io.ErrorKind.{ErrorKind};
     ghost use Rattle.mesa_dir.specs.Disks.{store_asked, store_path};
     ghost use Rattle.mesa_dir.specs.Drafts.{bench_faults, bench_folder, path_of_made};
     ghost use Rattle.mesa_dir.specs.Paths.{adopted_path_of};
@@ -91,7 +92,7 @@ impl<S: System> Store<S> {
     }
 
     pub(crate) fn read(&mut self, area: Area, at: u64, buf: &mut [u8]) -> io::Result<()>
-        ensures asked { OnOk result (asked_of area (store_asked self.new) ≡ with_call (Read at buf.new true) (asked_of area (store_asked self.old))) }
+        ensures asked { OnOk result (store_asked self.new ≡ with_asked area (Read at buf.new true) (store_asked self.old)) }
         ensures path { store_path self.new ≡ store_path self.old }
     {
         match &mut self.folder {
@@ -101,7 +102,8 @@ impl<S: System> Store<S> {
     }
 
     pub(crate) fn write(&mut self, area: Area, at: u64, bytes: &[u8]) -> io::Result<()>
-        ensures asked { OnOk result (asked_of area (store_asked self.new) ≡ with_call (WroteAt at bytes.now true) (asked_of area (store_asked self.old))) }
+        ensures asked { OnOk result (store_asked self.new ≡ with_asked area (WroteAt at bytes.now true) (store_asked self.old)) }
+        ensures failed { OnErr result ((store_asked self.new ≡ store_asked self.old) ⊎ (store_asked self.new ≡ with_asked area (WroteAt at bytes.now false) (store_asked self.old))) }
         ensures path { store_path self.new ≡ store_path self.old }
     {
         match &mut self.folder {
@@ -114,6 +116,7 @@ impl<S: System> Store<S> {
         ensures synced { OnOk result (AllSynced (store_asked self.new)) }
         ensures trusted { OnOk result (IsTrusted (store_asked self.new)) }
         ensures untried { (IsTrusted (store_asked self.old) → ⊥) → store_asked self.new ≡ store_asked self.old }
+        ensures only { OnlySynced (store_asked self.old) (store_asked self.new) }
         ensures path { store_path self.new ≡ store_path self.old }
     {
         match &mut self.folder {
@@ -123,9 +126,10 @@ impl<S: System> Store<S> {
     }
 
     pub(crate) fn adopt(&mut self, made: DirMade<S>, id: FileId) -> io::Result<()>
-        ensures adopted { OnOk result (IsAdopted (path_of_made made) (adopted_path_of (store_path self.old) id) (store_asked self.old).names (store_asked self.new).names) }
+        ensures adopted { OnOk result (IsAdopted (path_of_made made) (adopted_path_of (store_path self.old) id) (store_asked self.old) (store_asked self.new)) }
         ensures trusted { OnOk result (IsTrusted (store_asked self.new)) }
         ensures untried { (IsTrusted (store_asked self.old) → ⊥) → store_asked self.new ≡ store_asked self.old }
+        ensures failed { OnErr result (IsUnadopted (path_of_made made) (adopted_path_of (store_path self.old) id) (store_asked self.old) (store_asked self.new)) }
         ensures path { store_path self.new ≡ store_path self.old }
     {
         let path = adopted_path(self.system.memory(), self.path.as_str(), id)?;
@@ -136,7 +140,8 @@ impl<S: System> Store<S> {
     }
 
     pub(crate) fn remove(&mut self, id: FileId) -> io::Result<()>
-        ensures removed { OnOk result (IsGone (adopted_path_of (store_path self.old) id) (store_asked self.old).names (store_asked self.new).names) }
+        ensures removed { OnOk result (IsGone (adopted_path_of (store_path self.old) id) (store_asked self.old) (store_asked self.new)) }
+        ensures failed { OnErr result ((store_asked self.new ≡ store_asked self.old) ⊎ ((answer : Option ErrorKind) × (store_asked self.new ≡ with_named (Removed (adopted_path_of (store_path self.old) id) answer) (store_asked self.old)))) }
         ensures path { store_path self.new ≡ store_path self.old }
     {
         let path = adopted_path(self.system.memory(), self.path.as_str(), id)?;
