@@ -14,7 +14,7 @@ use Rattle.mesa_schema.specs.Columns.{Columns, aggs_of, chosen}
 use Rattle.mesa_schema.specs.Folded.{folded, grouped, regrouped}
 use Rattle.mesa_schema.specs.Laws.{AreFull}
 use Rattle.mesa_schema.specs.Rows.{AreRowsOf}
-use Rattle.mesa_model.specs.mesa_batch.Totals.{abs_total}
+use Rattle.mesa_model.specs.mesa_batch.Totals.{abs_total, sum_bound}
 use Rattle.mesa_fold.specs.Bound.{KeepsBound}
 use Rattle.mesa_fold.proofs.Merged.{folds_totals}
 use Rattle.mesa_filter.specs.Query.{are_places}
@@ -64,7 +64,7 @@ pub bound_regrouped : (s : Columns) (columns values : List ℕ) (rows : List Row
     → KeepsBound (chosen values (aggs_of s)) [] (map (regrouped s columns values) rows)
 bound_regrouped s columns values rows there all keeps c p =
     let from = picked values (aggs_of s) c Sum there p in
-    subst (λ n. 0 + n < 2 ^ 63) (sym (total_regrouped s columns values c Sum from rows all)) (subst (λ n. n < 2 ^ 63) (sym (zero-add (abs_total from.place rows))) (keeps from.place from.there))
+    subst (λ n. 0 + n < sum_bound) (sym (total_regrouped s columns values c Sum from rows all)) (subst (λ n. n < sum_bound) (sym (zero-add (abs_total from.place rows))) (keeps from.place from.there))
 
 places_of_aggs : (s : Columns) (values : List ℕ) → are_places s.values values ≡ true → are_places (aggs_of s) values ≡ true
 places_of_aggs s values h = ap (λ n. list_all (λ place. nat_lt place n) values) (length-map s.values (λ (c : ValueColumn). c.agg)) ∙ h
@@ -92,7 +92,7 @@ first_bound w rows row there form part keeps c p =
     let f : Row → Row = regrouped w.schema w.columns w.values in
     let weigh : Row → ℕ = λ (r : Row). nat_abs (get_or r.values c (pos 0)) in
     let groups : List Row = grouped w.schema w.columns w.values rows in
-    let all : 0 + sum_by weigh (map f (rows ++ row ∷ [])) < 2 ^ 63 = bound_regrouped w.schema w.columns w.values (rows ++ row ∷ []) (places_of_aggs w.schema w.values there) form keeps c p in
+    let all : 0 + sum_by weigh (map f (rows ++ row ∷ [])) < sum_bound = bound_regrouped w.schema w.columns w.values (rows ++ row ∷ []) (places_of_aggs w.schema w.values there) form keeps c p in
     let parts : sum_by weigh (map f (rows ++ row ∷ [])) ≡ sum_by weigh (map f rows) + sum_by weigh (f row ∷ []) = ap (sum_by weigh) (map-append f rows (row ∷ [])) ∙ sum_by-append weigh (map f rows) (f row ∷ []) in
     let put : sum_by weigh groups ≤ sum_by weigh (map f rows) = total_grouped w.schema w.columns w.values rows c p part in
     omega (arith, all, parts, put, fewer_after weigh w.resume groups, fewer_taken weigh w.most (rows_after w.resume groups))
@@ -108,13 +108,13 @@ front weigh (suc i) (x ∷ xs) row lt is = omega (arith, front weigh i xs row (o
 pub sums_filtered : (s : Columns) (test : Row → Bool) (i : ℕ) (rows : List Row) (row : Row) → i < length rows → row ≡ get_or rows i row → KeepsSums s rows → KeepsSums s (filter test (take i rows) ++ row ∷ [])
 sums_filtered s test i rows row lt is keeps c p =
     let weigh : Row → ℕ = λ (r : Row). nat_abs (get_or r.values c (pos 0)) in
-    let all : sum_by weigh rows < 2 ^ 63 = keeps c p in
+    let all : sum_by weigh rows < sum_bound = keeps c p in
     let one : sum_by weigh (filter test (take i rows) ++ row ∷ []) ≡ sum_by weigh (filter test (take i rows)) + sum_by weigh (row ∷ []) = sum_by-append weigh (filter test (take i rows)) (row ∷ []) in
     omega (arith, all, one, sum_by-cons weigh row [], front weigh i rows row lt is, fewer weigh test (take i rows))
 
 pub sums_taken : (s : Columns) (i : ℕ) (rows : List Row) (row : Row) → i < length rows → row ≡ get_or rows i row → KeepsSums s rows → KeepsSums s (take i rows ++ row ∷ [])
 sums_taken s i rows row lt is keeps c p =
     let weigh : Row → ℕ = λ (r : Row). nat_abs (get_or r.values c (pos 0)) in
-    let all : sum_by weigh rows < 2 ^ 63 = keeps c p in
+    let all : sum_by weigh rows < sum_bound = keeps c p in
     let one : sum_by weigh (take i rows ++ row ∷ []) ≡ sum_by weigh (take i rows) + sum_by weigh (row ∷ []) = sum_by-append weigh (take i rows) (row ∷ []) in
     omega (arith, all, one, sum_by-cons weigh row [], front weigh i rows row lt is)

@@ -5,14 +5,14 @@ use Rattle.mesa_schema.specs.declared.rows.Row.{Row}
 use Rattle.mesa_schema.specs.Columns.{Columns, aggs_of, chosen}
 use Rattle.mesa_schema.specs.Folded.{folded, grouped, rows_of}
 use Rattle.mesa_schema.specs.Rows.{AreRowsOf}
-use Rattle.mesa_model.specs.mesa_batch.Totals.{abs_total}
+use Rattle.mesa_model.specs.mesa_batch.Totals.{abs_total, sum_bound}
 use Rattle.mesa_filter.specs.Filter.{filtered}
 use Rattle.mesa_filter.specs.Query.{BuiltQuery, IsQueryOf}
 use Rattle.mesa_model.specs.Query.{answer_rows}
 
 -- In each sum column the absolute values of the rows add up to at most 2^63 - 1, so that whichever of them are added up, the sum is an amount.
 abbrev pub KeepsSums : Columns → List Row → Type 0
-KeepsSums s rows = (c : ℕ) → slice_get (aggs_of s) c ≡ Some Sum → abs_total c rows < 2 ^ 63
+KeepsSums s rows = (c : ℕ) → slice_get (aggs_of s) c ≡ Some Sum → abs_total c rows < sum_bound
 
 -- The columns of rows that are grouped by the key columns at these places, with the value columns at those.
 abbrev pub grouped_columns : Columns → List ℕ → List ℕ → Columns

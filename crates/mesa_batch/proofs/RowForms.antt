@@ -16,8 +16,9 @@ use Rattle.mesa_key.specs.Spelling.{IsKey, IsValue, is_key_text, key_of, key_spe
 use Rattle.mesa_schema.specs.declared.rows.Row.{Row}
 use Rattle.mesa_schema.specs.Columns.{Columns, aggs_of, kinds_of, place_of}
 use Rattle.mesa_schema.specs.Numbers.{any_signed, is_i64, key_value_of, signed_of}
-use Rattle.mesa_schema.specs.Rows.{AreRowsOf, IsRowOf}
+use Rattle.mesa_schema.specs.Rows.{AreOf, AreRowsOf, IsRowOf}
 use Rattle.mesa_schema.proofs.Forms.{folded_form}
+use Rattle.mesa_schema.proofs.Ranges.{of_narrow}
 use Rattle.mesa_key.proofs.Keys.{key_again}
 use Rattle.mesa_schema.proofs.NumberWords.{is_i64-fits}
 use Rattle.mesa_batch.specs.declared.words.RowWords.{RowWords}
@@ -50,7 +51,7 @@ tested : {A : Type 0} (b : Bool) (x a : A) → then_some b x ≡ Some a → (b �
 tested true x a e = (refl, (cc))
 tested false x a e = absurd (cc)
 
-then_fits : (o : Option ℤ) (z : ℤ) → option_and_then (λ z. then_some (is_i64 z) z) o ≡ Some z → FitsSigned w64 z
+pub then_fits : (o : Option ℤ) (z : ℤ) → option_and_then (λ z. then_some (is_i64 z) z) o ≡ Some z → FitsSigned w64 z
 then_fits (Some x) z e = let t = tested (is_i64 x) x z e in subst (FitsSigned w64) t.1 (is_i64-fits x t.0)
 then_fits None z e = absurd (cc)
 
@@ -86,6 +87,17 @@ are_values c (a ∷ aggs) (field ∷ fields) values e =
     let whole : value.0 ∷ rest.0 ≡ values = same_ok (value.0 ∷ rest.0) values rest.2 in
     ap length (sym whole) ∙ ap (λ n. suc n) (are_values (c + 1) aggs fields rest.0 rest.1)
 
+-- each of them a value of its column
+are_ranges : (c : ℕ) (aggs : List Agg) (fields : List (List ℕ)) (values : List ℤ) → values_from c aggs fields ≡ Ok values → AreOf aggs values
+are_ranges c [] fields values e = tt
+are_ranges c (a ∷ aggs) [] values e = absurd (cc)
+are_ranges c (a ∷ aggs) (field ∷ fields) values e =
+    let value = bound (ok_or (signed_of field) c) (λ value. values_from (c + 1) aggs fields >>= (λ values. Ok (value ∷ values))) values e in
+    let rest = bound (values_from (c + 1) aggs fields) (λ values. Ok (value.0 ∷ values)) values value.2 in
+    let whole : value.0 ∷ rest.0 ≡ values = same_ok (value.0 ∷ rest.0) values rest.2 in
+    let read : signed_of field ≡ Some value.0 = from_some (signed_of field) c value.0 value.1 in
+    subst (AreOf (a ∷ aggs)) whole (of_narrow a value.0 (then_fits (any_signed field) value.0 read), are_ranges (c + 1) aggs fields rest.0 rest.1)
+
 -- A row that fields make has the form of its columns.
 pub is_row : (s : Columns) (fields : List (List ℕ)) (row : Row) → row_of s fields ≡ Ok row → IsRowOf s row
 is_row s fields row e =
@@ -93,7 +105,7 @@ is_row s fields row e =
     let values = bound (values_from (length s.keys + 1) (aggs_of s) (drop (length s.keys) fields)) (λ values. Ok (record { key = key_spelling key.0; values = values })) row key.2 in
     let good : IsKey (kinds_of s) key.0 = is_key 1 (kinds_of s) fields key.0 key.1 in
     let read : key_of (kinds_of s) (key_spelling key.0) ≡ key.0 = ap (key_of (kinds_of s)) (sym (append-nil (key_spelling key.0))) ∙ key_again (kinds_of s) key.0 [] good in
-    let made : IsRowOf s (record { key = key_spelling key.0; values = values.0 }) = record { key = subst (IsKey (kinds_of s)) (sym read) good; spelled = ap key_spelling read; values = are_values _ (aggs_of s) _ values.0 values.1 ∙ length-map s.values _ } in
+    let made : IsRowOf s (record { key = key_spelling key.0; values = values.0 }) = record { key = subst (IsKey (kinds_of s)) (sym read) good; spelled = ap key_spelling read; values = are_values _ (aggs_of s) _ values.0 values.1 ∙ length-map s.values _; ranges = are_ranges _ (aggs_of s) _ values.0 values.1 } in
     subst (IsRowOf s) (same_ok (record { key = key_spelling key.0; values = values.0 }) row values.2) made
 
 -- ---- rows of a batch

@@ -1,5 +1,6 @@
 -- Absolute totals: what keeps every sum within its type.
 use Rattle.std.specs.Prelude.{ℕ, ◌+◌, ◌^◌, ◌≤◌, min, pos, nat_abs, List, [], ◌∷◌, ◌++◌, map, zip, sum_by, slice_index_or, take, drop, length, nat_le, Bool, true, false, if◌then◌else◌, Option, position, unwrap_or, ⊤}
+pub use Rattle.mesa_value.specs.Agg.{sum_bound}
 use Rattle.mesa_value.specs.declared.Agg.{Agg}
 use Rattle.mesa_value.specs.declared.Agg.TheVariants as agg
 use Rattle.mesa_schema.specs.declared.rows.Row.{Row}
@@ -35,11 +36,11 @@ totals_with totals more = map (λ (p : ℕ × ℕ). p.0 + p.1) (zip totals more)
 
 -- The first sum column whose total would pass 2^63 - 1.
 abbrev pub over_bound : List ℕ → List ℕ → Option ℕ
-over_bound totals more = position (λ total. nat_le (2 ^ 63) total) (totals_with totals more)
+over_bound totals more = position (λ total. nat_le sum_bound total) (totals_with totals more)
 
 -- the totals, in which one above 2^63 - 1 stands as 2^63
 abbrev pub capped : List ℕ → List ℕ
-capped totals = map (λ total. min (2 ^ 63) total) totals
+capped totals = map (λ total. min sum_bound total) totals
 
 -- how many sum columns there are
 abbrev pub sums_in : List Agg → ℕ

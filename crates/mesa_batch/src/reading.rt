@@ -7,7 +7,7 @@ ghost use Rattle.mesa_schema.specs.Numbers.{key_value_of};
 ghost use Rattle.mesa_batch.specs.Batch.{key_from, row_of, values_from};
 ghost use Rattle.mesa_batch.specs.Reading.{IsRefusal, spelled};
 
-use mesa_key::{KeyText, KeyType, Values, encode_int, encode_text};
+use mesa_key::{Amount, KeyText, KeyType, Values, encode_int, encode_text};
 use mesa_list::FieldsView;
 use mesa_schema::{KeyColumn, Schema, ValueColumn, signed};
 use std::alloc::{AllocError, Global};
@@ -121,7 +121,7 @@ fn read_values(
         let Some(value) = signed(field) else {
             return Err(FieldError::Bad(number));
         };
-        values.push(value)?;
+        values.push(Amount::from(value))?;
     }
     if fields.len() > columns.len() {
         return Err(FieldError::Bad(first + columns.len() as u16));

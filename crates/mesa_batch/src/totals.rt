@@ -1,14 +1,14 @@
 // Absolute totals of batches, and the bound on them.
 ghost use Rattle.std.specs.Prelude.{◌≡◌, ◌≤◌, ◌+◌, ◌^◌, ℕ, min, nat_le, nat_abs, pos, length, map, position, slice_index_or, zip, IfOk, IfSome, OnOk, ◌<◌, [], ◌∷◌, ◌++◌, cond};
 ghost use Rattle.std.specs.Result.{result_err};
-ghost use Rattle.mesa_batch.specs.Totals.{abs_total, abs_totals, capped, is_sum, over_bound};
+ghost use Rattle.mesa_batch.specs.Totals.{abs_total, abs_totals, capped, is_sum, over_bound, sum_bound};
 
 use mesa_schema::{Row, Schema, Totals};
 use mesa_value::Agg;
 use std::alloc::{AllocError, Global};
 
 /// A total above 2^63 - 1, the bound of each sum, stands as this.
-pub const OVER_BOUND: u64 = 1 << 63;
+pub const OVER_BOUND: u128 = 1 << 63;
 
 /// Whether totals and more of them keep the bound of 2^63 - 1 in each sum column, or the first column that doesn't.
 pub fn fits(totals: &Totals, more: &Totals) -> Result<(), u16>
@@ -23,16 +23,16 @@ pub fn fits(totals: &Totals, more: &Totals) -> Result<(), u16>
 }
 
 #[tactic(auto, using(mesa_schema::proofs::Maps::position_map))]
-fn first_over(totals: &[u64], more: &[u64]) -> Option<usize>
+fn first_over(totals: &[u128], more: &[u128]) -> Option<usize>
     ensures within { IfSome result (λ i. i < length totals.now) }
     ensures column { result ≡ over_bound totals.now more.now }
 {
     first_pair_over(totals, more)
 }
 
-fn first_pair_over(totals: &[u64], more: &[u64]) -> Option<usize>
+fn first_pair_over(totals: &[u128], more: &[u128]) -> Option<usize>
     ensures within { IfSome result (λ i. i < length totals.now) }
-    ensures column { result ≡ position (λ (p : ℕ × ℕ). nat_le (2 ^ 63) (p.0 + p.1)) (zip totals.now more.now) }
+    ensures column { result ≡ position (λ (p : ℕ × ℕ). nat_le sum_bound (p.0 + p.1)) (zip totals.now more.now) }
 {
     totals
         .iter()
@@ -66,19 +66,19 @@ fn push_total(totals: &mut Totals, place: usize, agg: Agg, rows: &[Row]) -> Resu
 }
 
 // The absolute values of a column, added up as far as the bound.
-fn absolute_total(column: usize, rows: &[Row]) -> u64
-    ensures { result ≡ min (2 ^ 63) (abs_total column rows.now) }
+fn absolute_total(column: usize, rows: &[Row]) -> u128
+    ensures { result ≡ min sum_bound (abs_total column rows.now) }
 {
-    let mut total = 0u64;
+    let mut total = 0u128;
     'rows: for row in rows {
         total = OVER_BOUND.min(total.saturating_add(absolute_value(column, row)));
     }
     total
 }
 
-fn absolute_value(column: usize, row: &Row) -> u64
+fn absolute_value(column: usize, row: &Row) -> u128
     ensures value { result ≡ nat_abs (slice_index_or row.now.values column (pos 0)) }
-    ensures small { result ≤ 2 ^ 63 }
+    ensures small { result ≤ 2 ^ 127 }
 {
     match row.values.as_slice().get(column) {
         Some(value) => value.unsigned_abs(),

@@ -14,10 +14,13 @@ use Rattle.mesa_key.specs.declared.KeyValue.TheVariants as value
 use Rattle.mesa_key.specs.Spelling.{IsKey, IsValue, key_of, key_spelling, value_spelling}
 use Rattle.mesa_schema.specs.declared.columns.KeyColumn.{KeyColumn}
 use Rattle.mesa_schema.specs.declared.rows.Row.{Row}
+use Rattle.mesa_schema.specs.declared.columns.ValueColumn.{ValueColumn}
 use Rattle.mesa_schema.specs.Columns.{Columns, kinds_of}
+use Rattle.mesa_block.specs.Layout.{Layout, width_of, widths_of}
 use Rattle.mesa_schema.specs.Schema.{is_schema, max_columns}
 use Rattle.mesa_block.specs.Fill.{fit}
 use Rattle.mesa_block.specs.Rows.{IsRow}
+use Rattle.mesa_block.proofs.Cells.{sizes_none, values_most}
 use Rattle.mesa_block.proofs.Forms.{Passes, is_read}
 use Rattle.mesa_block.proofs.Sizes.{block_length, fits_so}
 
@@ -50,18 +53,20 @@ neither true b h = absurd cc
 neither false b h = (refl, h)
 
 -- a schema has at most 16 columns of each sort
-few_columns : (s : Columns) → IsTrue (is_schema s) → (length s.keys ≤ 16) × (length s.values ≤ 16)
+pub few_columns : (s : Columns) → IsTrue (is_schema s) → (length s.keys ≤ 16) × (length s.values ≤ 16)
 few_columns s h =
     let keys = check_passed (length s.keys == 0) _ _ h in
     let values = check_passed (length s.values == 0) _ _ keys.1 in
     let both = neither (nat_lt max_columns (length s.keys)) (nat_lt max_columns (length s.values)) (check_passed _ _ _ values.1).0 in
     (ltb-false max_columns (length s.keys) both.0, ltb-false max_columns (length s.values) both.1)
 
-pub row_alone : Passes → (s : Columns) (row : Row) → IsTrue (is_schema s) → IsRow s row → fit s (row ∷ []) ≡ true
+pub row_alone : Passes → (s : Layout) (row : Row) → IsTrue (is_schema s.columns) → IsRow s row → fit s (row ∷ []) ≡ true
 row_alone passes s row schema h =
-    let few = few_columns s schema in
-    let key = key_small (kinds_of s) (key_of (kinds_of s) row.key) h.form.key in
-    let kinds = length-map s.keys (λ (c : KeyColumn). c.kind) in
+    let few = few_columns s.columns schema in
+    let key = key_small (kinds_of s.columns) (key_of (kinds_of s.columns) row.key) h.form.key in
+    let kinds = length-map s.columns.keys (λ (c : KeyColumn). c.kind) in
+    let widths = length-map s.columns.values (λ (c : ValueColumn). width_of s.format c.agg) in
+    let most = values_most (widths_of s) in
     let spelled = ap length h.form.spelled in
     let empty = block_length s [] tt in
-    sym (fits_so s [] row tt (is_read passes s row h) (omega arith) (omega (arith, few.0, few.1, key, kinds, spelled, empty)))
+    sym (fits_so s [] row tt (is_read passes s row h) (omega arith) (omega (arith, few.0, few.1, key, kinds, widths, most, spelled, empty, sizes_none (widths_of s))))

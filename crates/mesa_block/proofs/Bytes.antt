@@ -7,6 +7,7 @@ use Rattle.mesa_key.specs.declared.KeyType.TheVariants as kind
 use Rattle.mesa_block.specs.Spelling.{column}
 use Rattle.mesa_block.specs.Reading.{key_at, sealed}
 use Rattle.mesa_block.proofs.Found.{AreRead}
+use Rattle.mesa_block.proofs.FoundValues.{cells_laid}
 use Rattle.mesa_block.proofs.Takes.{laid}
 
 cells_bytes : (cells : List (List ℕ)) → AllByRecursion IsByte (concat cells) → AllByRecursion (AllByRecursion IsByte) cells
@@ -23,6 +24,11 @@ laid_bytes r [] [] are all = tt
 laid_bytes r [] (c ∷ cs) are all = absurd are
 laid_bytes r (k ∷ kinds) [] are all = absurd are
 laid_bytes r (k ∷ kinds) (c ∷ cs) are all = let p = each_split IsByte (column k c) (laid kinds cs) all in (column_bytes k c p.0, laid_bytes r kinds cs are.1.1 p.1)
+
+-- all bytes of value columns laid one after the other
+pub values_bytes : (cs : List (List (List ℕ))) → AllByRecursion IsByte (cells_laid cs) → AllByRecursion (AllByRecursion (AllByRecursion IsByte)) cs
+values_bytes [] all = tt
+values_bytes (c ∷ cs) all = let p = each_split IsByte (concat c) (cells_laid cs) all in (cells_bytes c p.0, values_bytes cs p.1)
 
 pub cell_bytes : (c : List (List ℕ)) (i : ℕ) → AllByRecursion (AllByRecursion IsByte) c → AllByRecursion IsByte (get_or c i [])
 cell_bytes [] i all = tt

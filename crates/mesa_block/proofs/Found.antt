@@ -74,9 +74,9 @@ head_same x y xs ys e = cc
 tail_same : (x y : ℕ) (xs ys : List ℕ) → x ∷ xs ≡ y ∷ ys → xs ≡ ys
 tail_same x y xs ys e = cc
 
-pub all_eight : (cells : List (List ℕ)) → map length cells ≡ replicate (length cells) 8 → AllByRecursion (λ (cell : List ℕ). length cell ≡ 8) cells
-all_eight [] e = tt
-all_eight (c ∷ cells) e = (head_same (length c) 8 (map length cells) (replicate (length cells) 8) e, all_eight cells (tail_same (length c) 8 (map length cells) (replicate (length cells) 8) e))
+pub all_of_size : (n : ℕ) (cells : List (List ℕ)) → map length cells ≡ replicate (length cells) n → AllByRecursion (λ (cell : List ℕ). length cell ≡ n) cells
+all_of_size n [] e = tt
+all_of_size n (c ∷ cells) e = (head_same (length c) n (map length cells) (replicate (length cells) n) e, all_of_size n cells (tail_same (length c) n (map length cells) (replicate (length cells) n) e))
 
 pub either : (b : Bool) → (b ≡ true) ⊎ (b ≡ false)
 either true = inl refl
@@ -97,7 +97,7 @@ twice true e = refl
 twice false e = absurd cc
 
 pub all_good : (k : KeyType) (c : List (List ℕ)) → AreCells k c → bad_column k c ≡ None → AllByRecursion (Good k) c
-all_good kind.Int c are none = all_eight c are
+all_good kind.Int c are none = all_of_size 8 c are
 all_good kind.Text c are none =
     each_so (λ (cell : List ℕ). not (not (is_key_text cell)) ≡ true) (Good kind.Text) c (λ cell t. twice (is_key_text cell) t)
     (passed (λ cell. not (not (is_key_text cell))) c (nowhere (λ cell. not (is_key_text cell)) c none))

@@ -1,3 +1,4 @@
+pub mod Cells
 pub mod Forms
 pub mod Vectors
 pub mod Zeros
@@ -21,3 +22,6 @@ pub mod OnlyBlock
 pub mod Alone
 pub mod Held
 pub mod Putting
+pub mod Pieces
+pub mod Made
+pub mod Texts

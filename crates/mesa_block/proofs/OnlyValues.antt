@@ -1,51 +1,61 @@
 -- The values that are made of the cells of values are these values.
-use Rattle.std.proofs.Common.{◌≡◌, Ok, ℕ, zero, suc, ◌+◌, ◌<◌, ◌^◌, List, [], ◌∷◌, ◌++◌, length, map, get_or, refl, ap, subst, ◌∙◌, append_assoc, arith}
-use Rattle.std.specs.Prelude.{ℤ, FitsSigned, flat_map, pos, replicate}
-use Rattle.std.specs.Int.{w64, from_be_bytes, cast_signed, cast_unsigned}
-use Rattle.std.specs.List.{concat, range_with_len}
-use Rattle.std.proofs.lemmas.Int.{to_z-of_z}
-use Rattle.std.proofs.Math.Facts.{Fits-of_z}
-use Rattle.std.proofs.lemmas.Nat.{from_be_bytes-to_be_bytes_8}
-use Rattle.std.proofs.lemmas.List.{length-map}
+use Rattle.std.proofs.Common.{◌≡◌, Ok, ℕ, ◌+◌, ◌<◌, List, [], ◌∷◌, ◌++◌, length, map, drop, get_or, refl, sym, ap, subst, ◌∙◌, append_assoc, arith}
+use Rattle.std.specs.Prelude.{pos, replicate}
+use Rattle.std.specs.List.{concat}
+use Rattle.std.proofs.lemmas.List.{drop_more, drop_all, length-map}
 use Rattle.std.proofs.lemmas.List.Concat.{flat_map-cons}
-use Rattle.mesa_key.specs.declared.KeyType.TheVariants as kind
 use Rattle.mesa_schema.specs.declared.rows.Row.{Row}
-use Rattle.mesa_block.specs.Spelling.{value, value_column}
-use Rattle.mesa_block.specs.Reading.{columns_at, column_at, many}
-use Rattle.mesa_block.proofs.Takes.{column_again}
-
--- a number is read again from its spelling
-pub number_again : (z : ℤ) → FitsSigned w64 z → cast_signed w64 (from_be_bytes w64 (value z)) ≡ z
-number_again z fits =
-    let small : cast_unsigned w64 z < 2 ^ 64 = omega (arith, Fits-of_z {w = w64} {z = z} fits) in
-    ap (cast_signed w64) (from_be_bytes-to_be_bytes_8 (cast_unsigned w64 z) small) ∙ to_z-of_z w64 z fits
+use Rattle.mesa_block.specs.declared.layout.Width.{Width}
+use Rattle.mesa_block.specs.Layout.{FitCells, number, size_of, value}
+use Rattle.mesa_block.specs.Spelling.{value_column, value_columns}
+use Rattle.mesa_block.specs.Reading.{cells_at, many, piece_at, value_columns_at, values_at}
+use Rattle.mesa_block.proofs.Cells.{number_again, value_length}
+use Rattle.mesa_block.proofs.FoundValues.{at_map}
+use Rattle.mesa_block.proofs.Takes.{pieces_again}
 
 -- the cells of a value column
-abbrev pub value_cells : List Row → ℕ → List (List ℕ)
-value_cells rows j = map (λ (row : Row). value (get_or row.values j (pos 0))) rows
+abbrev pub value_cells : Width → List Row → ℕ → List (List ℕ)
+value_cells w rows j = map (λ (row : Row). value w (get_or row.values j (pos 0))) rows
 
-cells_laid : (rows : List Row) (j : ℕ) → value_column rows j ≡ concat (value_cells rows j)
-cells_laid [] j = refl
-cells_laid (row ∷ rows) j = rw flat_map-cons (ap (λ (l : List ℕ). value (get_or row.values j (pos 0)) ++ l) (cells_laid rows j))
+-- the cells of the value columns from a place on
+abbrev pub values_cells : List Width → List Row → ℕ → List (List (List ℕ))
+values_cells [] rows j = []
+values_cells (w ∷ ws) rows j = value_cells w rows j ∷ values_cells ws rows (j + 1)
 
-eight_each : (rows : List Row) (j : ℕ) → map length (value_cells rows j) ≡ replicate (length (value_cells rows j)) 8
-eight_each [] j = refl
-eight_each (row ∷ rows) j = ap (λ (l : List ℕ). 8 ∷ l) (eight_each rows j)
+cells_laid : (w : Width) (rows : List Row) (j : ℕ) → value_column w rows j ≡ concat (value_cells w rows j)
+cells_laid w [] j = refl
+cells_laid w (row ∷ rows) j = rw flat_map-cons (ap (λ (l : List ℕ). value w (get_or row.values j (pos 0)) ++ l) (cells_laid w rows j))
 
-laid_on : (rows : List Row) (from n : ℕ) → flat_map (value_column rows) (range_with_len from (suc n)) ≡ value_column rows from ++ flat_map (value_column rows) (range_with_len (from + 1) n)
-laid_on rows from n = rw flat_map-cons refl
+one_size : (w : Width) (rows : List Row) (j : ℕ) → map length (value_cells w rows j) ≡ replicate (length (value_cells w rows j)) (size_of w)
+one_size w [] j = refl
+one_size w (row ∷ rows) j = λ i. value_length w (get_or row.values j (pos 0)) i ∷ one_size w rows j i
+
+-- cells of one size are read again
+cells_again : (w : Width) (cells : List (List ℕ)) (r : ℕ) (more : List ℕ) → length cells ≡ r → map length cells ≡ replicate (length cells) (size_of w) → cells_at w r (concat cells ++ more) ≡ Ok (cells, more)
+cells_again w cells r more len are =
+    ap (λ (n : ℕ). many piece_at (replicate n (size_of w)) (concat cells ++ more)) (sym len)
+    ∙ ap (λ (ls : List ℕ). many piece_at ls (concat cells ++ more)) (sym are) ∙ pieces_again cells more
 
 -- the value columns from one place on are read again
-pub values_again : (rows : List Row) (r from n : ℕ) (more : List ℕ) → length rows ≡ r
-    → columns_at (replicate n kind.Int) r (flat_map (value_column rows) (range_with_len from n) ++ more) ≡ Ok (map (value_cells rows) (range_with_len from n), more)
+pub values_again : (ws : List Width) (rows : List Row) (r j : ℕ) (more : List ℕ) → length rows ≡ r → value_columns_at ws r (value_columns ws rows j ++ more) ≡ Ok (values_cells ws rows j, more)
 unfolding many
-values_again rows r from zero more len = refl
-values_again rows r from (suc n) more len =
-    let cells = value_cells rows from in
-    let others = flat_map (value_column rows) (range_with_len (from + 1) n) in
-    let count : length cells ≡ r = length-map rows (λ (row : Row). value (get_or row.values from (pos 0))) ∙ len in
-    let first : column_at kind.Int r (concat cells ++ (others ++ more)) ≡ Ok (cells, others ++ more) =
-    subst (λ m. column_at kind.Int m (concat cells ++ (others ++ more)) ≡ Ok (cells, others ++ more)) count (column_again kind.Int cells (others ++ more) (eight_each rows from)) in
-    let regrouped : flat_map (value_column rows) (range_with_len from (suc n)) ++ more ≡ concat cells ++ (others ++ more) =
-    ap (λ (l : List ℕ). l ++ more) (laid_on rows from n ∙ ap (λ (l : List ℕ). l ++ others) (cells_laid rows from)) ∙ append_assoc (concat cells) others more in
-    ap (columns_at (replicate (suc n) kind.Int) r) regrouped ∙ rw (first, values_again rows r (from + 1) n more len) refl
+values_again [] rows r j more len = refl
+values_again (w ∷ ws) rows r j more len =
+    let cells = value_cells w rows j in
+    let others = value_columns ws rows (j + 1) in
+    let count : length cells ≡ r = length-map rows (λ (row : Row). value w (get_or row.values j (pos 0))) ∙ len in
+    let first : cells_at w r (concat cells ++ (others ++ more)) ≡ Ok (cells, others ++ more) = cells_again w cells r (others ++ more) count (one_size w rows j) in
+    let regrouped : value_columns (w ∷ ws) rows j ++ more ≡ concat cells ++ (others ++ more) = ap (λ (l : List ℕ). (l ++ others) ++ more) (cells_laid w rows j) ∙ append_assoc (concat cells) others more in
+    ap (value_columns_at (w ∷ ws) r) regrouped ∙ rw (first, values_again ws rows r (j + 1) more len) refl
+
+-- the values of a row from a place on are read again
+pub row_values : (ws : List Width) (rows : List Row) (i j : ℕ) (row : Row) → i < length rows → get_or rows i row ≡ row → length row.values ≡ j + length ws → FitCells ws (drop j row.values)
+    → values_at ws (values_cells ws rows j) i ≡ drop j row.values
+row_values [] rows i j row lt at len fit = sym (drop_all j row.values (omega (arith, len)))
+row_values (w ∷ ws) rows i j row lt at len fit =
+    let here : drop j row.values ≡ get_or row.values j (pos 0) ∷ drop (j + 1) row.values = drop_more row.values j (pos 0) (omega (arith, len)) in
+    let fits = subst (FitCells (w ∷ ws)) here fit in
+    let cell : get_or (value_cells w rows j) i [] ≡ value w (get_or row.values j (pos 0)) =
+    at_map (λ (r : Row). value w (get_or r.values j (pos 0))) rows i [] row lt ∙ ap (λ (r : Row). value w (get_or r.values j (pos 0))) at in
+    let one : number w (get_or (value_cells w rows j) i []) ≡ get_or row.values j (pos 0) = ap (number w) cell ∙ number_again w (get_or row.values j (pos 0)) fits.0 in
+    (λ k. one k ∷ row_values ws rows i (j + 1) row lt at (omega (arith, len)) fits.1 k) ∙ sym here

@@ -10,7 +10,7 @@ use Rattle.mesa_key.specs.declared.KeyType.TheVariants as kind
 use Rattle.mesa_block.specs.declared.error.BlockError.{BlockError}
 use Rattle.mesa_block.specs.declared.error.BlockError.TheVariants.{Truncated}
 use Rattle.mesa_block.specs.Spelling.{column}
-use Rattle.mesa_block.specs.Reading.{many, piece_at, column_at, columns_at}
+use Rattle.mesa_block.specs.Reading.{many, piece_at, pieces_at, column_at, columns_at}
 
 -- the value of a step that did not fail
 pub bind_ok : {A B : Type 0} (r : Result A BlockError) (f : A → Result B BlockError) (y : B) → (r >>= f) ≡ Ok y → (x : A) × (r ≡ Ok x) × (f x ≡ Ok y)
@@ -101,6 +101,18 @@ columns_take (k ∷ kinds) r bytes x e =
     let made : List (List (List ℕ)) × List ℕ = (a.0.0 ∷ b.0.0, b.0.1) in
     subst (λ (y : List (List (List ℕ)) × List ℕ). bytes ≡ laid (k ∷ kinds) y.0 ++ y.1) (ok_is made x b.2)
     (first.parts ∙ ap (λ (t : List ℕ). column k a.0.0 ++ t) second ∙ sym (append_assoc (column k a.0.0) (laid kinds b.0.0) b.0.1))
+
+-- cells that were read, of one size
+pub record AreCut (n r : ℕ) (bytes : List ℕ) (cells : List (List ℕ)) (rest : List ℕ) : Type 0 where
+  pub parts : bytes ≡ concat cells ++ rest
+  pub count : length cells ≡ r
+  pub sizes : map length cells ≡ replicate (length cells) n
+
+pub cells_take : (n r : ℕ) (bytes : List ℕ) (x : List (List ℕ) × List ℕ) → pieces_at (replicate r n) bytes ≡ Ok x → AreCut n r bytes x.0 x.1
+cells_take n r bytes x e =
+    let p = pieces_take (replicate r n) bytes x e in
+    let count : length x.0 ≡ r = sym (length-map x.0 length) ∙ ap length p.lens ∙ length-replicate r n in
+    record { parts = p.parts; count = count; sizes = p.lens ∙ ap (λ m. replicate m n) (sym count) }
 
 -- ---- what is spelled so is read
 

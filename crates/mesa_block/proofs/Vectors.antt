@@ -6,11 +6,15 @@ use Rattle.mesa_key.specs.declared.KeyType.TheVariants as kind
 use Rattle.mesa_value.specs.declared.Agg.TheVariants.{Sum}
 use Rattle.mesa_key.specs.Spelling.{key_spelling, before_zero}
 use Rattle.mesa_schema.specs.declared.rows.Row.{Row}
-use Rattle.mesa_schema.specs.Columns.{Columns}
+use Rattle.mesa_key.specs.declared.Format.TheVariants as format
+use Rattle.mesa_block.specs.Layout.{Layout}
 use Rattle.mesa_block.specs.Spelling.{block}
 
-abbrev pub one_schema : Columns
-one_schema = record { keys = record { name = codes "k"; kind = kind.Int } ∷ []; values = record { name = codes "v"; agg = Sum } ∷ [] }
+abbrev pub one_schema : Layout
+one_schema = record { format = format.One; columns = record { keys = record { name = codes "k"; kind = kind.Int } ∷ []; values = record { name = codes "v"; agg = Sum } ∷ [] } }
+
+abbrev pub wide_schema : Layout
+wide_schema = record one_schema { format = format.Two }
 
 abbrev pub one_row : List Row
 one_row = record { key = key_spelling (Int (pos 1) ∷ []); values = pos 5 ∷ [] } ∷ []
@@ -25,8 +29,18 @@ one = refl
 one_long : length one_block ≡ 19
 one_long = refl
 
-abbrev two_schema : Columns
-two_schema = record { keys = record { name = codes "t"; kind = kind.Text } ∷ record { name = codes "u"; kind = kind.Text } ∷ []; values = record { name = codes "v"; agg = Sum } ∷ [] }
+abbrev pub wide_block : List ℕ
+wide_block = 0 ∷ 0 ∷ 1 ∷ 0x80 ∷ 0 ∷ 0 ∷ 0 ∷ 0 ∷ 0 ∷ 0 ∷ 1 ∷ 0 ∷ 0 ∷ 0 ∷ 0 ∷ 0 ∷ 0 ∷ 0 ∷ 0 ∷ 0 ∷ 0 ∷ 0 ∷ 0 ∷ 0 ∷ 0 ∷ 0 ∷ 5 ∷ []
+
+pub wide : block wide_schema one_row ≡ wide_block
+unfolding block
+wide = refl
+
+wide_long : length wide_block ≡ 27
+wide_long = refl
+
+abbrev two_schema : Layout
+two_schema = record { format = format.One; columns = record { keys = record { name = codes "t"; kind = kind.Text } ∷ record { name = codes "u"; kind = kind.Text } ∷ []; values = record { name = codes "v"; agg = Sum } ∷ [] } }
 
 abbrev two_rows : List Row
 two_rows = record { key = key_spelling (Text (codes "ab") ∷ Text (codes "x") ∷ []); values = negsuc 0 ∷ [] } ∷ record { key = key_spelling (Text (codes "b") ∷ Text [] ∷ []); values = pos 2 ∷ [] } ∷ []

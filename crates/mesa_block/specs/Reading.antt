@@ -1,6 +1,6 @@
 -- Reading a block: what is refused, and in which order.
 use Rattle.std.specs.Prelude.{◌≡◌, ◌≢◌, ℕ, ◌+◌, ℤ, List, [], ◌∷◌, ◌++◌, length, map, take, drop, replicate, get_or, Bool, true, false, not, ◌==◌, nat_lt, if◌then◌else◌, Result, Ok, Err, Option, Some, None, position, ⊤}
-use Rattle.std.specs.Int.{w16, w64, from_be_bytes, cast_signed}
+use Rattle.std.specs.Int.{w16, from_be_bytes}
 use Rattle.std.specs.List.{range_with_len}
 use Rattle.std.specs.declared.cmp.Ordering.{Ordering}
 use Rattle.std.specs.declared.cmp.Ordering.TheVariants.{Less, Equal, Greater}
@@ -10,9 +10,11 @@ use Rattle.mesa_key.specs.declared.KeyType.TheVariants as kind
 use Rattle.mesa_key.specs.Spelling.{is_key_text}
 use Rattle.mesa_key.specs.Order.{byte_cmp}
 use Rattle.mesa_schema.specs.declared.rows.Row.{Row}
-use Rattle.mesa_schema.specs.Columns.{Columns, kinds_of}
+use Rattle.mesa_schema.specs.Columns.{kinds_of}
 use Rattle.mesa_block.specs.declared.error.BlockError.{BlockError}
 use Rattle.mesa_block.specs.declared.error.BlockError.TheVariants as fault
+use Rattle.mesa_block.specs.declared.layout.Width.{Width}
+use Rattle.mesa_block.specs.Layout.{Layout, number, size_of, widths_of}
 use Rattle.mesa_block.specs.Rows.{most_rows, most_bytes}
 
 -- What a function returned, seen by view, is what reading gives, unless memory ran out.
@@ -51,6 +53,14 @@ column_at kind.Text r bytes = do
 abbrev pub columns_at : List KeyType → ℕ → List ℕ → Result (List (List (List ℕ)) × List ℕ) BlockError
 columns_at kinds r bytes = many (λ kind. column_at kind r) kinds bytes
 
+-- a value column of r rows
+abbrev pub cells_at : Width → ℕ → List ℕ → Result (List (List ℕ) × List ℕ) BlockError
+cells_at w r bytes = pieces_at (replicate r (size_of w)) bytes
+
+-- value columns of r rows
+abbrev pub value_columns_at : List Width → ℕ → List ℕ → Result (List (List (List ℕ)) × List ℕ) BlockError
+value_columns_at ws r bytes = many (λ w. cells_at w r) ws bytes
+
 -- the first bad text, column by column
 abbrev pub or_else : Option ℕ → Option ℕ → Option ℕ
 or_else (Some i) other = Some i
@@ -77,14 +87,16 @@ key_at (kind ∷ kinds) [] i = []
 key_at (kind ∷ kinds) (column ∷ columns) i = sealed kind (get_or column i []) ++ key_at kinds columns i
 
 -- the values of the row i
-abbrev pub values_at : List (List (List ℕ)) → ℕ → List ℤ
-values_at columns i = map (λ column. cast_signed w64 (from_be_bytes w64 (get_or column i []))) columns
+abbrev pub values_at : List Width → List (List (List ℕ)) → ℕ → List ℤ
+values_at [] columns i = []
+values_at (w ∷ ws) [] i = []
+values_at (w ∷ ws) (column ∷ columns) i = number w (get_or column i []) ∷ values_at ws columns i
 
-abbrev pub row_at : List KeyType → List (List (List ℕ)) → List (List (List ℕ)) → ℕ → Row
-row_at kinds keys values i = record { key = key_at kinds keys i; values = values_at values i }
+abbrev pub row_at : List KeyType → List Width → List (List (List ℕ)) → List (List (List ℕ)) → ℕ → Row
+row_at kinds widths keys values i = record { key = key_at kinds keys i; values = values_at widths values i }
 
-abbrev pub rows_of : List KeyType → List (List (List ℕ)) → List (List (List ℕ)) → ℕ → List Row
-rows_of kinds keys values r = map (row_at kinds keys values) (range_with_len 0 r)
+abbrev pub rows_of : List KeyType → List Width → List (List (List ℕ)) → List (List (List ℕ)) → ℕ → List Row
+rows_of kinds widths keys values r = map (row_at kinds widths keys values) (range_with_len 0 r)
 
 abbrev pub is_less : Ordering → Bool
 is_less Less = true
@@ -102,26 +114,26 @@ refused_at f None = Ok tt
 refused_at f (Some i) = Err (f i)
 
 -- the rows of columns that were read, with these bytes left
-unfoldable pub checked : List KeyType → List (List (List ℕ)) → List (List (List ℕ)) → ℕ → List ℕ → Result (List Row) BlockError
-checked kinds keys values r left = do
+unfoldable pub checked : List KeyType → List Width → List (List (List ℕ)) → List (List (List ℕ)) → ℕ → List ℕ → Result (List Row) BlockError
+checked kinds widths keys values r left = do
   refused_at fault.BadText (bad_text kinds keys)
-  refused_at fault.OutOfOrder (out_of_order (rows_of kinds keys values r) 0)
+  refused_at fault.OutOfOrder (out_of_order (rows_of kinds widths keys values r) 0)
   refuse_unless (length left == 0) fault.Trailing
-  Ok (rows_of kinds keys values r)
+  Ok (rows_of kinds widths keys values r)
 
 -- the rows of a block's columns
-unfoldable pub rows_at : Columns → ℕ → List ℕ → Result (List Row) BlockError
+unfoldable pub rows_at : Layout → ℕ → List ℕ → Result (List Row) BlockError
 rows_at s r bytes = do
-  keys ← columns_at (kinds_of s) r bytes
-  values ← columns_at (replicate (length s.values) kind.Int) r keys.1
-  checked (kinds_of s) keys.0 values.0 r values.1
+  keys ← columns_at (kinds_of s.columns) r bytes
+  values ← value_columns_at (widths_of s) r keys.1
+  checked (kinds_of s.columns) (widths_of s) keys.0 values.0 r values.1
 
 -- the row count of a block
 abbrev pub count_of : List ℕ → ℕ
 count_of bytes = from_be_bytes w16 (get_or bytes 1 0 ∷ get_or bytes 2 0 ∷ [])
 
 -- The rows of a block's bytes, or the first fault.
-unfoldable pub block_at : Columns → List ℕ → Result (List Row) BlockError
+unfoldable pub block_at : Layout → List ℕ → Result (List Row) BlockError
 block_at s bytes = do
   refuse_if (nat_lt (length bytes) 3) fault.Truncated
   refuse_unless (get_or bytes 0 0 == 0) fault.Compressed

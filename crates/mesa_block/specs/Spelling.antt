@@ -1,12 +1,14 @@
 -- The bytes of a block of rows: each list of rows that makes a block has one spelling.
-use Rattle.std.specs.Prelude.{ℕ, ◌+◌, ◌-◌, ℤ, pos, List, [], ◌∷◌, ◌++◌, length, map, take, drop, flat_map, get_or}
-use Rattle.std.specs.Int.{w16, w64, to_be_bytes, cast_unsigned}
-use Rattle.std.specs.List.{concat, range_with_len}
+use Rattle.std.specs.Prelude.{ℕ, ◌+◌, ◌-◌, pos, List, [], ◌∷◌, ◌++◌, length, map, take, drop, flat_map, get_or}
+use Rattle.std.specs.Int.{w16, to_be_bytes}
+use Rattle.std.specs.List.{concat}
 use Rattle.mesa_key.specs.declared.KeyType.{KeyType}
 use Rattle.mesa_key.specs.declared.KeyType.TheVariants as kind
 use Rattle.mesa_key.specs.Spelling.{before_zero}
 use Rattle.mesa_schema.specs.declared.rows.Row.{Row}
-use Rattle.mesa_schema.specs.Columns.{Columns, kinds_of}
+use Rattle.mesa_schema.specs.Columns.{kinds_of}
+use Rattle.mesa_block.specs.declared.layout.Width.{Width}
+use Rattle.mesa_block.specs.Layout.{Layout, value, widths_of}
 
 -- The bytes of a key's first column, a text's without its zero byte.
 abbrev pub front : KeyType → List ℕ → List ℕ
@@ -38,17 +40,18 @@ abbrev pub columns : List KeyType → List (List ℕ) → List ℕ
 columns [] keys = []
 columns (kind ∷ kinds) keys = column kind (map (front kind) keys) ++ columns kinds (map (rest kind) keys)
 
--- A value is eight bytes, its two's complement, the highest first.
-abbrev pub value : ℤ → List ℕ
-value z = to_be_bytes w64 (cast_unsigned w64 z)
-
 abbrev pub key_of : Row → List ℕ
 key_of row = row.key
 
 -- A value column of all rows is their values one after the other.
-abbrev pub value_column : List Row → ℕ → List ℕ
-value_column rows j = flat_map (λ (row : Row). value (get_or row.values j (pos 0))) rows
+abbrev pub value_column : Width → List Row → ℕ → List ℕ
+value_column w rows j = flat_map (λ (row : Row). value w (get_or row.values j (pos 0))) rows
+
+-- The value columns of all rows from a place on, one after the other.
+abbrev pub value_columns : List Width → List Row → ℕ → List ℕ
+value_columns [] rows j = []
+value_columns (w ∷ ws) rows j = value_column w rows j ++ value_columns ws rows (j + 1)
 
 -- A block is the flag 0, the row count in two bytes, the key columns, the value columns.
-unfoldable pub block : Columns → List Row → List ℕ
-block s rows = 0 ∷ (to_be_bytes w16 (length rows) ++ (columns (kinds_of s) (map key_of rows) ++ flat_map (value_column rows) (range_with_len 0 (length s.values))))
+unfoldable pub block : Layout → List Row → List ℕ
+block s rows = 0 ∷ (to_be_bytes w16 (length rows) ++ (columns (kinds_of s.columns) (map key_of rows) ++ value_columns (widths_of s) rows 0))

@@ -4,9 +4,10 @@ ghost use Rattle.mesa_block.specs.Spelling.{block, key_of};
 ghost use Rattle.mesa_block.specs.Rows.{AreRows, IsRow, Rise};
 ghost use Rattle.mesa_block.specs.Fill.{after, fit};
 
-use crate::is_full;
+use crate::layout::{row_size, widths};
 use crate::writing::{kinds, put_head, put_keys, put_values};
-use mesa_key::{KeyType, reads_back};
+use crate::{Width, is_full, lend};
+use mesa_key::{Format, KeyType, reads_back};
 use mesa_list::{Fields, TryCopy};
 use mesa_schema::{Row, Schema};
 use mesa_value::Amount;
@@ -21,8 +22,12 @@ const HEAD: usize = 3;
 /// The keys stand one behind the other in one buffer, and so do the values, row by row. The buffers stay for the next block.
 pub struct BlockBuilder {
     alloc: Global,
+    format: Format,
     schema: Schema,
     kinds: Vec<KeyType>,
+    widths: Vec<Width>,
+    // How many bytes a row's values take.
+    size: usize,
     keys: Fields,
     values: Vec<Amount>,
     len: usize,
@@ -35,9 +40,9 @@ impl Model for BlockBuilder {
 
     ghost Value = { Built };
 
-    ghost view = { λ b. record { columns = b.schema; rows = rows_over (length b.schema.values) b.keys b.values.items } };
+    ghost view = { λ b. record { layout = record { format = b.format; columns = b.schema }; rows = rows_over (length b.schema.values) b.keys b.values.items } };
 
-    ghost invariant = { λ b. IsHeld b.schema b.kinds.items b.keys b.values.items b.len };
+    ghost invariant = { λ b. IsHeld (record { format = b.format; columns = b.schema }) b.kinds.items b.widths.items b.size b.keys b.values.items b.len };
 }
 
 // Each exit calls this, in place of letting go of each part itself.
@@ -45,8 +50,11 @@ impl Drop for BlockBuilder {
     fn drop(self) {
         let BlockBuilder {
             alloc: _,
+            format: _,
             schema: _,
             kinds: _,
+            widths: _,
+            size: _,
             keys: _,
             values: _,
             len: _,
@@ -56,14 +64,17 @@ impl Drop for BlockBuilder {
 }
 
 impl BlockBuilder {
-    /// An empty block for rows of the schema.
-    pub fn new(alloc: Global, schema: &Schema) -> Result<Self, AllocError>
-        ensures { IfOk result (λ b. b ≡ record { columns = schema.now; rows = [] }) }
+    /// An empty block of the format for rows of the schema.
+    pub fn new(alloc: Global, format: Format, schema: &Schema) -> Result<Self, AllocError>
+        ensures { IfOk result (λ b. b ≡ record { layout = record { format = format; columns = schema.now }; rows = [] }) }
     {
         Ok(BlockBuilder {
             alloc,
+            format,
             schema: schema.copy()?,
             kinds: kinds(alloc, schema)?,
+            widths: widths(alloc, format, schema)?,
+            size: row_size(format, schema),
             keys: Fields::new(alloc),
             values: Vec::new(alloc),
             len: HEAD,
@@ -73,15 +84,15 @@ impl BlockBuilder {
 
     /// Whether the row fits, and then the row is in the block.
     pub fn push(&mut self, row: &Row) -> Result<bool, AllocError>
-        requires form { IsRow self.old.columns row.now }
+        requires form { IsRow self.old.layout row.now }
         requires greater { Rise (map key_of (self.old.rows ++ row.now ∷ [])) }
-        ensures fits { IfOk result (λ b. b ≡ fit self.old.columns (self.old.rows ++ row.now ∷ [])) }
+        ensures fits { IfOk result (λ b. b ≡ fit self.old.layout (self.old.rows ++ row.now ∷ [])) }
         ensures ok { IfOk result (λ b. self.new ≡ after b self.old row.now) }
         ensures err { OnErr result (self.new ≡ self.old) }
     {
         reads_back();
         let rows = self.keys.len();
-        if is_full(&self.schema, rows, self.len, row) {
+        if is_full(self.size, rows, self.len, lend(row)) {
             return Ok(false);
         }
         self.keys.push(row.key.as_slice())?;
@@ -89,15 +100,15 @@ impl BlockBuilder {
             self.keys.truncate(rows);
             return Err(error);
         }
-        self.len += row.key.len() + 8 * self.schema.values().len();
+        self.len += row.key.len() + self.size;
         Ok(true)
     }
 
     /// Puts the bytes of the block into the buffer, in place of what is there, and the next block is empty.
     pub fn take(&mut self, out: &mut Vec<u8>) -> Result<(), AllocError>
         requires { 0 < length self.old.rows }
-        ensures spelled { OnOk result (out.new.items ≡ block self.old.columns self.old.rows) }
-        ensures rows { OnOk result (AreRows self.old.columns self.old.rows) }
+        ensures spelled { OnOk result (out.new.items ≡ block self.old.layout self.old.rows) }
+        ensures rows { OnOk result (AreRows self.old.layout self.old.rows) }
         ensures empty { OnOk result (self.new ≡ record self.old { rows = [] }) }
         ensures err { OnErr result (self.new ≡ self.old) }
     {
@@ -105,7 +116,7 @@ impl BlockBuilder {
         out.clear();
         put_head(out, self.keys.len())?;
         put_keys(self.alloc, out, &mut self.cells, &self.kinds, &self.keys)?;
-        put_values(out, &self.values, self.schema.values().len())?;
+        put_values(out, &self.values, &self.widths)?;
         self.clear();
         Ok(())
     }

@@ -3,8 +3,11 @@
 
 mod builder;
 mod checking;
+mod column;
 mod error;
+mod flat;
 mod laws;
+mod layout;
 mod reading;
 mod room;
 mod writing;
@@ -12,8 +15,10 @@ mod writing;
 pub use builder::BlockBuilder;
 pub use checking::rises;
 pub use error::BlockError;
+pub use flat::{Block, LentRow, lend};
 pub use laws::{fits_alone, grows_by_rows, reads_blocks};
-pub use reading::{Block, read_block};
+pub use layout::{Width, row_size};
+pub use reading::read_block;
 pub use room::is_full;
 
 /// How many rows a block has at most.

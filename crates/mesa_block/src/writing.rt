@@ -1,13 +1,15 @@
 // Writing a block.
-ghost use Rattle.std.specs.Prelude.{◌≡◌, IsTrue, ◌<◌, ℕ, ◌++◌, ◌^◌, [], ◌∷◌, IfOk, OnOk, List, length, map, flat_map, get_or, pos};
-ghost use Rattle.std.specs.Int.{w16, to_be_bytes};
-ghost use Rattle.std.specs.List.{AllByRecursion, range_with_len};
+ghost use Rattle.std.specs.Prelude.{◌≡◌, IsTrue, ◌<◌, ℕ, ◌++◌, ◌^◌, [], ◌∷◌, IfOk, OnOk, List, drop, length, map, get_or, pos};
+ghost use Rattle.std.specs.Int.{w16, w128, cast_unsigned, to_be_bytes};
+ghost use Rattle.std.specs.List.{AllByRecursion};
 ghost use Rattle.mesa_key.specs.declared.KeyType.{KeyType as AnyType};
 ghost use Rattle.mesa_key.specs.Spelling.{is_spelling};
 ghost use Rattle.mesa_schema.specs.Columns.{kinds_of};
 ghost use Rattle.mesa_block.specs.Fill.{AreOver, rows_over};
-ghost use Rattle.mesa_block.specs.Spelling.{cell, front, lengths, rest, column, columns, value, value_column};
+ghost use Rattle.mesa_block.specs.Layout.{value};
+ghost use Rattle.mesa_block.specs.Spelling.{cell, front, lengths, rest, column, columns, value_column, value_columns};
 
+use crate::Width;
 use mesa_key::{Column, ColumnValue, KeyColumns, KeyType};
 use mesa_list::Fields;
 use mesa_schema::Schema;
@@ -133,13 +135,13 @@ fn put_length(out: &mut Vec<u8>, kind: KeyType, cell: &[u8]) -> Result<(), Alloc
     }
 }
 
-/// Appends the value columns of all rows, each of which has so many values. The values stand row by row.
-pub fn put_values(out: &mut Vec<u8>, values: &[Amount], count: usize) -> Result<(), AllocError>
-    ensures { OnOk result ((keys : List (List ℕ)) → AreOver count keys values.now
-        → out.new.items ≡ out.old.items ++ flat_map (value_column (rows_over count keys values.now)) (range_with_len 0 count)) }
+/// Appends the value columns of all rows, each of which has a value for each width. The values stand row by row.
+pub fn put_values(out: &mut Vec<u8>, values: &[Amount], widths: &[Width]) -> Result<(), AllocError>
+    ensures { OnOk result ((keys : List (List ℕ)) → AreOver (length widths.now) keys values.now
+        → out.new.items ≡ out.old.items ++ value_columns widths.now (rows_over (length widths.now) keys values.now) 0) }
 {
-    for j in 0..count {
-        put_value_column(out, values, count, j)?;
+    for j in 0..widths.len() {
+        put_value_column(out, values, widths.len(), widths[j], j)?;
     }
     Ok(())
 }
@@ -149,23 +151,29 @@ fn put_value_column(
     out: &mut Vec<u8>,
     values: &[Amount],
     count: usize,
+    width: Width,
     j: usize,
 ) -> Result<(), AllocError>
     requires { j < count }
-    ensures { OnOk result ((keys : List (List ℕ)) → AreOver count keys values.now → out.new.items ≡ out.old.items ++ value_column (rows_over count keys values.now) j) }
+    ensures { OnOk result ((keys : List (List ℕ)) → AreOver count keys values.now → out.new.items ≡ out.old.items ++ value_column width (rows_over count keys values.now) j) }
 {
     let mut left = values;
     while left.len() >= count {
         let (row, others) = left.split_at(count);
-        out.extend_from_slice(&value_bytes(row, j))?;
+        put_value(out, width, row[j])?;
         left = others;
     }
     Ok(())
 }
 
-fn value_bytes(values: &[Amount], j: usize) -> [u8; 8]
-    requires { j < length values.now }
-    ensures { result ≡ value (get_or values.now j (pos 0)) }
+// Appends a value.
+fn put_value(out: &mut Vec<u8>, width: Width, amount: Amount) -> Result<(), AllocError>
+    ensures { OnOk result (out.new.items ≡ out.old.items ++ value width amount) }
 {
-    values[j].to_be_bytes()
+    let bytes = amount.to_be_bytes();
+    match width {
+        Width::Eight => out.extend_from_slice(&bytes[8..])?,
+        Width::Sixteen => out.extend_from_slice(&bytes)?,
+    }
+    Ok(())
 }

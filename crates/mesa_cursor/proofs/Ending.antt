@@ -3,7 +3,7 @@ use Rattle.std.proofs.Common.{◌≡◌, ℕ, ◌≤◌, List, [], ◌++◌, sym
 use Rattle.std.proofs.lemmas.List.{append-nil, take_all}
 use Rattle.std.specs.Prelude.{Option}
 use Rattle.mesa_schema.specs.declared.rows.Row.{Row}
-use Rattle.mesa_schema.specs.Columns.{Columns}
+use Rattle.mesa_delta.specs.mesa_block.Layout.{Layout}
 use Rattle.mesa_schema.specs.Folded.{rows_of}
 use Rattle.mesa_delta.specs.Reading.{index_of}
 use Rattle.mesa_delta.specs.Spread.{blocks_of, spread}
@@ -14,12 +14,12 @@ use Rattle.mesa_cursor.specs.Cursors.{HasGiven, IsAllOf, IsReady, at_hand}
 use Rattle.mesa_cursor.proofs.Lifted.{rows_push}
 
 -- the blocks of a file have its rows
-blocks_rows : (s : Columns) (rows : List Row) → rows_of (blocks_of s rows) ≡ rows
+blocks_rows : (s : Layout) (rows : List Row) → rows_of (blocks_of s rows) ≡ rows
 blocks_rows s rows = rows_push (spread s rows).done (spread s rows).last ∙ spread_rows s rows
 
 pub all_given : {R : Type 0} (bytes : R → Option (List ℕ)) (i : Input R) (c : Cursor) (given : List Row) → HasGiven bytes i c given → IsReady i c → at_hand c ≡ [] → IsAllOf bytes i given
 all_given bytes i c given h ready none =
-    let s : Columns = (index_of i.reader).columns in
+    let s : Layout = (index_of i.reader).layout in
     let count : length h.parts ≡ length (index_of i.reader).entries = omega (arith, h.within, h.next, ready none) in
     record {
       rows = rows_of h.parts;

@@ -45,7 +45,7 @@ pub record IsMore {R : Type 0} (bytes : R → Option (List ℕ)) (old new : Inpu
   pub next : (parts : List (List Row)) → HasRead bytes old.reader parts → at ≡ length parts → HasRead bytes new.reader (parts ++ block ∷ [])
   pub whole : (parts : List (List Row)) → HasRead bytes new.reader parts → length parts ≡ length (index_of new.reader).entries
       → IsReaderOf bytes (reader_in new) (index_of new.reader) → IsWhole (index_of new.reader) (rows_of parts) (bytes (reader_in new))
-  pub again : (b : List ℕ) (all : List Row) → bytes (reader_in old) ≡ Some b → IsIndexed (index_of old.reader) all b → block ≡ get_or (blocks_of (index_of old.reader).columns all) at []
+  pub again : (b : List ℕ) (all : List Row) → bytes (reader_in old) ≡ Some b → IsIndexed (index_of old.reader) all b → block ≡ get_or (blocks_of (index_of old.reader).layout all) at []
   pub input : IsInput bytes old → IsInput bytes new
   pub same : IsSameInput bytes old new
 
@@ -74,7 +74,7 @@ pub input_more : {R : Type 0} (bytes : R → Option (List ℕ)) (old new : Input
     → IsInput bytes old → IsInput bytes new
 input_more bytes old new at block same first next other input = record {
   epoch = subst (λ e. e ≤ epoch_of new.evolving.value) (sym same.epoch) (subst (λ l. old.epoch ≤ epoch_of l.value) (sym same.evolving) input.epoch);
-  columns = ap (λ x. x.columns) same.index ∙ input.columns ∙ (λ i. columns_at (sym same.evolving i).value (sym same.epoch i));
+  columns = ap (λ x. x.layout.columns) same.index ∙ input.columns ∙ (λ i. columns_at (sym same.evolving i).value (sym same.epoch i));
   over = λ b told. subst (λ x. IsOver x b) (sym same.index) (input.over b (sym same.told ∙ told));
   read = read_more bytes old new at block input.read.0 input.read.1 first next other;
 }
@@ -111,9 +111,9 @@ given_more bytes old new was now block given m h none lt number lift hand =
       again = λ b all told indexed.
           let was_indexed : IsIndexed (index_of old.reader) all b = subst (λ x. IsIndexed x all b) m.same.index indexed in
           let was_told : bytes (reader_in old) ≡ Some b = sym m.same.told ∙ told in
-          let blocks : List (List Row) = blocks_of (index_of old.reader).columns all in
+          let blocks : List (List Row) = blocks_of (index_of old.reader).layout all in
           let back : suc (length h.parts) ≡ length more = omega (arith, count) in
           let there : length h.parts < length blocks = rw was_indexed.blocks (omega (arith, lt, h.next)) in
           let one : block ≡ get_or blocks (length h.parts) [] = m.again b all was_told was_indexed ∙ ap (λ n. get_or blocks n []) h.next in
-          (λ i. h.again b all was_told was_indexed i ++ one i ∷ []) ∙ take_more [] blocks (length h.parts) there ∙ (λ i. take (back i) (blocks_of (sym m.same.index i).columns all));
+          (λ i. h.again b all was_told was_indexed i ++ one i ∷ []) ∙ take_more [] blocks (length h.parts) there ∙ (λ i. take (back i) (blocks_of (sym m.same.index i).layout all));
     }

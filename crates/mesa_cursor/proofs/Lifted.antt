@@ -8,6 +8,7 @@ use Rattle.mesa_schema.specs.declared.rows.Row.{Row}
 use Rattle.mesa_schema.specs.declared.lifting.Lift.{Lift}
 use Rattle.mesa_schema.specs.Changes.{Lineage, columns_at, epoch_of, lifted}
 use Rattle.mesa_schema.specs.Columns.{Columns}
+use Rattle.mesa_delta.specs.mesa_block.Layout.{Layout}
 use Rattle.mesa_schema.specs.Folded.{rows_of}
 use Rattle.mesa_schema.specs.Lifting.{Lifts, lifted_with}
 use Rattle.mesa_schema.specs.Rows.{AreRowsOf}
@@ -18,7 +19,7 @@ pub lifts_all : (lift : Lift) (l : Lineage) (epoch : ℕ) (rows : List Row) → 
 lifts_all lift l epoch [] lifts all = refl
 lifts_all lift l epoch (row ∷ rows) lifts all = λ i. lifts row all.0.values i ∷ lifts_all lift l epoch rows lifts all.1 i
 
-forms : (s : Columns) (rows : List Row) → AllByRecursion (IsRow s) rows → AreRowsOf s rows
+forms : (s : Layout) (rows : List Row) → AllByRecursion (IsRow s) rows → AreRowsOf s.columns rows
 forms s [] all = tt
 forms s (row ∷ rows) all = (all.0.form, forms s rows all.1)
 
@@ -27,13 +28,13 @@ forms_append s [] ys p q = q
 forms_append s (x ∷ xs) ys p q = (p.0, forms_append s xs ys p.1 q)
 
 -- the rows of a block have the form of its columns
-pub block_forms : (s : Columns) (rows : List Row) → AreRows s rows → AreRowsOf s rows
+pub block_forms : (s : Layout) (rows : List Row) → AreRows s rows → AreRowsOf s.columns rows
 block_forms s rows block = forms s rows block.good
 
 -- and those of many blocks
-pub all_forms : (s : Columns) (parts : List (List Row)) → AllByRecursion (AreRows s) parts → AreRowsOf s (rows_of parts)
+pub all_forms : (s : Layout) (parts : List (List Row)) → AllByRecursion (AreRows s) parts → AreRowsOf s.columns (rows_of parts)
 all_forms s [] all = tt
-all_forms s (part ∷ parts) all = forms_append s part (rows_of parts) (block_forms s part all.0) (all_forms s parts all.1)
+all_forms s (part ∷ parts) all = forms_append s.columns part (rows_of parts) (block_forms s part all.0) (all_forms s parts all.1)
 
 -- the rows of one block more
 pub rows_push : (parts : List (List Row)) (part : List Row) → rows_of (parts ++ part ∷ []) ≡ rows_of parts ++ part

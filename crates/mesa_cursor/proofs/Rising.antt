@@ -61,11 +61,11 @@ lifted_forms law l epoch (row ∷ rows) lineage all = (law l epoch row lineage a
 
 -- blocks that were read, as none was
 read_rows : {R : Type 0} (bytes : R → Option (List ℕ)) (i : Input R) (parts : List (List Row)) → (0 < length parts → HasRead bytes i.reader parts)
-    → AreRowsOf i.reader.index.columns (rows_of parts) × (keys_rise (rows_of parts) ≡ true)
+    → AreRowsOf i.reader.index.layout.columns (rows_of parts) × (keys_rise (rows_of parts) ≡ true)
 read_rows bytes i [] read = (tt, refl)
 read_rows bytes i (part ∷ parts) read =
     let run = (read (omega arith)).run in
-    (all_forms i.reader.index.columns (part ∷ parts) run.each, rising (rows_of (part ∷ parts)) run.rise)
+    (all_forms i.reader.index.layout (part ∷ parts) run.each, rising (rows_of (part ∷ parts)) run.rise)
 
 epoch_forms : {R : Type 0} (bytes : R → Option (List ℕ)) (i : Input R) (c : Cursor) (given : List Row) (h : HasGiven bytes i c given) → AreRowsOf (columns_at i.evolving.value i.epoch) (rows_of h.parts)
 epoch_forms bytes i c given h = subst (λ (s : Columns). AreRowsOf s (rows_of h.parts)) h.input.columns (read_rows bytes i h.parts h.read).0

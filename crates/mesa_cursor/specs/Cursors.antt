@@ -22,7 +22,7 @@ lift_by i row = lifted i.evolving.value i.epoch (epoch_of i.evolving.value) row
 -- An input's epoch is one that its table had, and its file has that epoch's columns; where its reader tells bytes, the index is of them, and it knows which blocks it has read one after the other, as none.
 pub record IsInput {R : Type 0} (bytes : R → Option (List ℕ)) (i : Input R) : Type 0 where
   pub epoch : i.epoch ≤ epoch_of i.evolving.value
-  pub columns : (index_of i.reader).columns ≡ columns_at i.evolving.value i.epoch
+  pub columns : (index_of i.reader).layout.columns ≡ columns_at i.evolving.value i.epoch
   pub over : IsReaderOf bytes (reader_in i) (index_of i.reader)
   pub read : (parts : List (List Row)) × HasRead bytes i.reader parts
 
@@ -60,7 +60,7 @@ pub record HasGiven {R : Type 0} (bytes : R → Option (List ℕ)) (i : Input R)
   pub few : length (at_hand c) ≤ most_rows
   pub rows : given ++ at_hand c ≡ map (lift_by i) (rows_of parts)
   pub whole : length parts ≡ length (index_of i.reader).entries → IsWhole (index_of i.reader) (rows_of parts) (bytes (reader_in i))
-  pub again : (b : List ℕ) (all : List Row) → bytes (reader_in i) ≡ Some b → IsIndexed (index_of i.reader) all b → parts ≡ take (length parts) (blocks_of (index_of i.reader).columns all)
+  pub again : (b : List ℕ) (all : List Row) → bytes (reader_in i) ≡ Some b → IsIndexed (index_of i.reader) all b → parts ≡ take (length parts) (blocks_of (index_of i.reader).layout all)
 
 -- These are all rows of an input, lifted: the rows are a file whose tail the index tells, and where the bytes are told, that file.
 pub record IsAllOf {R : Type 0} (bytes : R → Option (List ℕ)) (i : Input R) (given : List Row) : Type 0 where

@@ -9,7 +9,7 @@ use Rattle.mesa_disk.specs.mesa_file.declared.damage.Damage.{Damage}
 use Rattle.mesa_disk.specs.mesa_file.declared.file_ref.FileRef.{FileRef}
 use Rattle.mesa_key.specs.Order.{byte_cmp, short_key}
 use Rattle.mesa_schema.specs.declared.rows.Row.{Row}
-use Rattle.mesa_schema.specs.Columns.{Columns}
+use Rattle.mesa_block.specs.Layout.{Layout}
 use Rattle.mesa_schema.specs.Schema.{is_schema}
 use Rattle.mesa_schema.specs.Folded.{rows_of}
 use Rattle.mesa_block.specs.Rows.{AreRows, Rise}
@@ -29,14 +29,14 @@ use Rattle.mesa_delta.proofs.Packing.{FitsAlone, blocks_rows}
 use Rattle.mesa_delta.proofs.Placed.{laid, tail_is, tail_of_file}
 use Rattle.mesa_delta.proofs.Steps.{Reads, blocks_once}
 
-pub tail_accepts : FitsAlone → (content : Option (List ℕ)) (size : ℕ) (s : Columns) (file : FileRef) (d : Damage) (b : List ℕ) (rows : List Row) → IsTrue (is_schema s) → file.len < 2 ^ 64 → content ≡ Some b → length b ≡ size → IsFile s rows b → IsReferenceOf s file.id rows file
+pub tail_accepts : FitsAlone → (content : Option (List ℕ)) (size : ℕ) (s : Layout) (file : FileRef) (d : Damage) (b : List ℕ) (rows : List Row) → IsTrue (is_schema s.columns) → file.len < 2 ^ 64 → content ≡ Some b → length b ≡ size → IsFile s rows b → IsReferenceOf s file.id rows file
     → IsTailDamage content size s file d → ⊥
 tail_accepts law content size s file d b rows schema fits at sized h ref (inl wrong) = wrong.1 (sym sized ∙ ap length h.spelled ∙ sym ref.len)
 tail_accepts law content size s file d b rows schema fits at sized h ref (inr (piece, read, why)) =
     let len : length b ≡ file.len = ap length h.spelled ∙ sym ref.len in
     let t = tail_of_file law s rows b schema h (omega (arith, len, fits)) in
     let parts = blocks_of s rows in
-    let long : tail_length s (length parts) ≡ tail_length s file.blocks = ap (tail_length s) (sym ref.blocks) in
+    let long : tail_length s.columns (length parts) ≡ tail_length s.columns file.blocks = ap (tail_length s.columns) (sym ref.blocks) in
     let place : length (laid s parts) ≡ tail_place s file = omega (arith, t.place, len, long) in
     let rest : take (file.len - tail_place s file) (drop (tail_place s file) b) ≡ drop (tail_place s file) b = take_all (file.len - tail_place s file) (drop (tail_place s file) b) (omega (arith, length-drop (tail_place s file) b, len)) in
     let is : piece ≡ drop (tail_place s file) b = read.told b at ∙ rest in
@@ -59,28 +59,28 @@ block_accepts law bytes r size i parts d b rows index lt at sized f h (inr (piec
     ]
 
 -- what was written is read again
-pub read_again : FitsAlone → Reads → (x : Indexed) (i : ℕ) (part rows : List Row) (b : List ℕ) → IsIndex x → i < length x.entries → IsBlock x i part → IsIndexed x rows b → piece_of x i b ≡ block x.columns part → part ≡ get_or (blocks_of x.columns rows) i []
+pub read_again : FitsAlone → Reads → (x : Indexed) (i : ℕ) (part rows : List Row) (b : List ℕ) → IsIndex x → i < length x.entries → IsBlock x i part → IsIndexed x rows b → piece_of x i b ≡ block x.layout part → part ≡ get_or (blocks_of x.layout rows) i []
 read_again law reads x i part rows b index lt is f piece =
     let here = is_at law x rows b i index f lt in
-    blocks_once reads x.columns part (get_or (blocks_of x.columns rows) i []) is.rows here.good (sym piece ∙ here.piece)
+    blocks_once reads x.layout part (get_or (blocks_of x.layout rows) i []) is.rows here.good (sym piece ∙ here.piece)
 
-shorts_are : (s : Columns) (at : ℕ) (parts : List (List Row)) → shorts_of (places s at parts) ≡ map first_short parts
+shorts_are : (s : Layout) (at : ℕ) (parts : List (List Row)) → shorts_of (places s at parts) ≡ map first_short parts
 shorts_are s at [] = refl
 shorts_are s at (p ∷ parts) = ap (λ (l : List (List ℕ)). first_short p ∷ l) (shorts_are s (at + length (block s p)) parts)
 
-some_all : (s : Columns) (parts : List (List Row)) → AllByRecursion (AreRows s) parts → AllByRecursion IsSome parts
+some_all : (s : Layout) (parts : List (List Row)) → AllByRecursion (AreRows s) parts → AllByRecursion IsSome parts
 some_all s [] all = tt
 some_all s (p ∷ parts) all = (all.0.some, some_all s parts all.1)
 
-parts_behind : (s : Columns) (before : List (List Row)) (part : List Row) (behind : List (List Row)) → AllByRecursion (AreRows s) (before ++ part ∷ behind) → AllByRecursion IsSome behind
+parts_behind : (s : Layout) (before : List (List Row)) (part : List Row) (behind : List (List Row)) → AllByRecursion (AreRows s) (before ++ part ∷ behind) → AllByRecursion IsSome behind
 parts_behind s [] part behind all = some_all s behind all.1
 parts_behind s (p ∷ before) part behind all = parts_behind s before part behind all.1
 
 -- a search begins at or before the first block that holds a key at least the one looked for
 pub begins_so : FitsAlone → BeginsBefore → (x : Indexed) (key : List ℕ) (rows : List Row) (b : List ℕ) (before : List (List Row)) (front : List Row) (row : Row) (back : List Row) (behind : List (List Row)) → IsIndex x → IsIndexed x rows b
-    → blocks_of x.columns rows ≡ before ++ (front ++ row ∷ back) ∷ behind → is_le (byte_cmp key row.key) ≡ true → seek_in (short_key key) (shorts_of x.entries) ≤ length before
+    → blocks_of x.layout rows ≡ before ++ (front ++ row ∷ back) ∷ behind → is_le (byte_cmp key row.key) ≡ true → seek_in (short_key key) (shorts_of x.entries) ≤ length before
 begins_so law begins x key rows b before front row back behind index f is le =
-    let s = x.columns in
+    let s = x.layout in
     let same = is_same law x rows b index f in
     let shorts : shorts_of x.entries ≡ map first_short (before ++ (front ++ row ∷ back) ∷ behind) = ap shorts_of same.entries ∙ shorts_are s 0 (blocks_of s rows) ∙ ap (map first_short) is in
     let rise = subst (λ (l : List Row). Rise (map key_of l)) (sym (blocks_rows s rows) ∙ ap rows_of is) f.file.rise in

@@ -8,7 +8,7 @@ use Rattle.std.proofs.lemmas.Cmp.{nat_list_cmp_total}
 use Rattle.std.proofs.lemmas.List.{map-append}
 use Rattle.mesa_key.specs.Order.{byte_cmp, short_key}
 use Rattle.mesa_schema.specs.declared.rows.Row.{Row}
-use Rattle.mesa_schema.specs.Columns.{Columns}
+use Rattle.mesa_block.specs.Layout.{Layout}
 use Rattle.mesa_schema.specs.Folded.{rows_of}
 use Rattle.mesa_block.specs.Rows.{AreRows, Rise}
 use Rattle.mesa_block.specs.Spelling.{key_of}
@@ -84,7 +84,7 @@ parts_between (part ∷ parts) last (suc i) some rise le =
     let split = all_split (λ (row : Row). is_le (byte_cmp row.key last) ≡ true) part (rows_of parts) le in
     parts_between parts last i some.1 (rise_behind (map key_of part) (map key_of (rows_of parts)) apart) split.1
 
-each_some : (s : Columns) (parts : List (List Row)) → AllByRecursion (AreRows s) parts → AllByRecursion IsSome parts
+each_some : (s : Layout) (parts : List (List Row)) → AllByRecursion (AreRows s) parts → AllByRecursion IsSome parts
 each_some s [] all = tt
 each_some s (part ∷ parts) all = (all.0.some, each_some s parts all.1)
 

@@ -23,12 +23,12 @@ weaker told size x i parts d (inr (piece, read, inl wrong)) = inr (piece, read, 
 weaker told size x i parts d (inr (piece, read, inr misfit)) = inr (piece, read, inr (misfit.0, λ rows b f begins is. misfit.1 rows b f is))
 
 -- damage of a block that doesn't follow
-pub unfollowed : FitsAlone → Reads → (told : Option (List ℕ)) (size : ℕ) (x : Indexed) (run : Run) (kept parts : List (List Row)) (part rows : List Row) (i : ℕ) (d : Damage) → IsIndex x → i < length x.entries → i ≡ length kept → IsRun x.columns run kept
-    → take (length kept) x.entries ≡ places x.columns 0 kept → rows ≡ part → IsBlock x i part → ((b : List ℕ) → told ≡ Some b → piece_of x i b ≡ block x.columns part)
+pub unfollowed : FitsAlone → Reads → (told : Option (List ℕ)) (size : ℕ) (x : Indexed) (run : Run) (kept parts : List (List Row)) (part rows : List Row) (i : ℕ) (d : Damage) → IsIndex x → i < length x.entries → i ≡ length kept → IsRun x.layout run kept
+    → take (length kept) x.entries ≡ places x.layout 0 kept → rows ≡ part → IsBlock x i part → ((b : List ℕ) → told ≡ Some b → piece_of x i b ≡ block x.layout part)
     → d ≡ record { file = x.file; place = (entry_of x.entries run.next).offset; want = seen.Fits; found = seen.Misfit 0 } → IsNeverNext x run rows
-    → ((b : List ℕ) → take (length (laid x.columns parts)) b ≡ laid x.columns parts → take (length (laid x.columns kept)) b ≡ laid x.columns kept) → IsBlockDamage told size x i parts d
+    → ((b : List ℕ) → take (length (laid x.layout parts)) b ≡ laid x.layout parts → take (length (laid x.layout kept)) b ≡ laid x.layout kept) → IsBlockDamage told size x i parts d
 unfollowed law reads told size x run kept parts part rows i d index lt at h before same b piece is never begins =
-    let s = x.columns in
+    let s = x.layout in
     let e = entry_of x.entries i in
     let place : run.next ≡ i = h.next ∙ sym at in
     let damage : d ≡ record { file = x.file; place = e.offset; want = seen.Fits; found = seen.Misfit 0 } = is ∙ ap (λ (n : ℕ). record { file = x.file; place = (entry_of x.entries n).offset; want = seen.Fits; found = seen.Misfit 0 }) place in
@@ -42,17 +42,17 @@ unfollowed law reads told size x run kept parts part rows i d index lt at h befo
 
 -- a block that follows
 pub followed : {R : Type 0} (bytes : R → Option (List ℕ)) (old new : DeltaReader R) (run : Run) (kept : List (List Row)) (part rows : List Row) (i : ℕ) → IsIndex old.index → new.index ≡ old.index → bytes new.reader ≡ bytes old.reader → i < length old.index.entries → i ≡ length kept
-    → IsRun old.index.columns run kept → take (length kept) old.index.entries ≡ places old.index.columns 0 kept → ((b : List ℕ) → bytes old.reader ≡ Some b → take (length (laid old.index.columns kept)) b ≡ laid old.index.columns kept)
-    → rows ≡ part → IsBlock old.index i part → ((b : List ℕ) → bytes old.reader ≡ Some b → piece_of old.index i b ≡ block old.index.columns part)
-    → ((parts : List (List Row)) → IsRun old.index.columns run parts → IsBlock old.index run.next rows → IsRun old.index.columns new.run (parts ++ rows ∷ [])) → (new.run.next ≡ length old.index.entries → new.run.rows ≡ old.index.rows)
+    → IsRun old.index.layout run kept → take (length kept) old.index.entries ≡ places old.index.layout 0 kept → ((b : List ℕ) → bytes old.reader ≡ Some b → take (length (laid old.index.layout kept)) b ≡ laid old.index.layout kept)
+    → rows ≡ part → IsBlock old.index i part → ((b : List ℕ) → bytes old.reader ≡ Some b → piece_of old.index i b ≡ block old.index.layout part)
+    → ((parts : List (List Row)) → IsRun old.index.layout run parts → IsBlock old.index run.next rows → IsRun old.index.layout new.run (parts ++ rows ∷ [])) → (new.run.next ≡ length old.index.entries → new.run.rows ≡ old.index.rows)
     → HasRead bytes new (kept ++ part ∷ [])
 followed bytes old new run kept part rows i index same reader lt at h before told is b piece more counted =
     let x = old.index in
     let place : i ≡ run.next = at ∙ sym h.next in
     let here = subst (λ (n : ℕ). IsBlock x n part) at b in
     let there = subst (λ (n : ℕ). IsBlock x n rows) place (subst (IsBlock x i) (sym is) b) in
-    let after = subst (λ (l : List Row). IsRun x.columns new.run (kept ++ l ∷ [])) is (more kept h there) in
-    one_read bytes old new kept part index same reader (subst (λ (n : ℕ). n < length x.entries) at lt) here after counted (λ c told_so. subst (λ (n : ℕ). piece_of x n c ≡ block x.columns part) at (piece c told_so)) before told
+    let after = subst (λ (l : List Row). IsRun x.layout new.run (kept ++ l ∷ [])) is (more kept h there) in
+    one_read bytes old new kept part index same reader (subst (λ (n : ℕ). n < length x.entries) at lt) here after counted (λ c told_so. subst (λ (n : ℕ). piece_of x n c ≡ block x.layout part) at (piece c told_so)) before told
 
 pub none_left : (parts : List (List Row)) → 0 ≡ length parts → parts ≡ []
 none_left [] e = refl

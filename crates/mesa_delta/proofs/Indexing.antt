@@ -5,7 +5,7 @@ use Rattle.std.specs.List.{AllByRecursion}
 use Rattle.std.proofs.lemmas.List.{take_at, drop_at, drop-drop}
 use Rattle.std.proofs.lemmas.Nat.{from_be_bytes-to_be_bytes_8}
 use Rattle.mesa_schema.specs.declared.rows.Row.{Row}
-use Rattle.mesa_schema.specs.Columns.{Columns}
+use Rattle.mesa_block.specs.Layout.{Layout}
 use Rattle.mesa_block.specs.Rows.{AreRows}
 use Rattle.mesa_block.specs.Spelling.{block}
 use Rattle.mesa_delta.specs.declared.place.Entry.{Entry}
@@ -19,23 +19,23 @@ use Rattle.mesa_delta.proofs.Tailing.{tails_once, foot_rows}
 
 -- An index has the entries and the rows of the file's blocks.
 pub record IsSame (x : Indexed) (written : List Row) (bytes : List ℕ) : Type 0 where
-  pub of_file : IsTailOf x.columns written bytes
-  pub entries : x.entries ≡ places x.columns 0 (blocks_of x.columns written)
+  pub of_file : IsTailOf x.layout written bytes
+  pub entries : x.entries ≡ places x.layout 0 (blocks_of x.layout written)
   pub rows : x.rows ≡ length written
-  pub tail : x.tail ≡ length (laid x.columns (blocks_of x.columns written))
+  pub tail : x.tail ≡ length (laid x.layout (blocks_of x.layout written))
 
 pub is_same : FitsAlone → (x : Indexed) (rows : List Row) (bytes : List ℕ) → IsIndex x → IsIndexed x rows bytes → IsSame x rows bytes
 is_same law x rows bytes index h =
-    let s = x.columns in
+    let s = x.layout in
     let t = tail_of_file law s rows bytes index.schema h.file (omega (arith, h.over.len, index.fits)) in
     let parts = blocks_of s rows in
-    let long : tail_length s (length parts) ≡ tail_length s (length x.entries) = ap (tail_length s) h.blocks in
+    let long : tail_length s.columns (length parts) ≡ tail_length s.columns (length x.entries) = ap (tail_length s.columns) h.blocks in
     let tail : x.tail ≡ length (laid s parts) = omega (arith, index.whole, t.place, h.over.len, long) in
     let spelled : tail_spelled s x.rows x.entries ≡ tail_spelled s (length rows) (places s 0 parts) = sym h.over.tail ∙ ap (λ (n : ℕ). drop n bytes) tail ∙ t.behind in
     let once = tails_once s x.rows (length rows) x.entries (places s 0 parts) index.tail.widths t.tail.widths (sym h.blocks ∙ sym (places_long s 0 parts)) spelled in
     let few : length rows < 2 ^ 64 = omega (arith, t.few, h.blocks, index.few) in
     let word : to_be_bytes w64 x.rows ≡ to_be_bytes w64 (length rows) =
-    sym (foot_rows s x.rows (length x.entries)) ∙ ap (λ (l : List ℕ). take 8 (drop (length s.keys + length s.values) l)) once.1 ∙ foot_rows s (length rows) (length (places s 0 parts)) in
+    sym (foot_rows s x.rows (length x.entries)) ∙ ap (λ (l : List ℕ). take 8 (drop (length s.columns.keys + length s.columns.values) l)) once.1 ∙ foot_rows s (length rows) (length (places s 0 parts)) in
     record {
       of_file = t;
       entries = once.0;
@@ -44,7 +44,7 @@ is_same law x rows bytes index h =
     }
 
 -- a block's bytes among those of all
-pub piece_at : (s : Columns) (parts : List (List Row)) (rest : List ℕ) (i : ℕ) → i < length parts
+pub piece_at : (s : Layout) (parts : List (List Row)) (rest : List ℕ) (i : ℕ) → i < length parts
     → take (length (block s (get_or parts i []))) (drop (length (laid s (take i parts))) (laid s parts ++ rest)) ≡ block s (get_or parts i [])
 piece_at s [] rest i lt = absurd (omega arith)
 piece_at s (p ∷ parts) rest zero lt = ap (λ (l : List ℕ). take (length (block s p)) l) (append_assoc (block s p) (laid s parts) rest) ∙ take_at (block s p) (laid s parts ++ rest) (length (block s p)) refl
@@ -57,7 +57,7 @@ piece_at s (p ∷ parts) rest (suc i) lt =
     ∙ ap (λ (l : List ℕ). drop (length ahead) l) (drop_at (block s p) (laid s parts ++ rest) (length (block s p)) refl))
     ∙ piece_at s parts rest i (omega arith)
 
-pub entry_at : (s : Columns) (at : ℕ) (parts : List (List Row)) (i : ℕ) → i < length parts → entry_of (places s at parts) i ≡ place_of s (at + length (laid s (take i parts))) (get_or parts i [])
+pub entry_at : (s : Layout) (at : ℕ) (parts : List (List Row)) (i : ℕ) → i < length parts → entry_of (places s at parts) i ≡ place_of s (at + length (laid s (take i parts))) (get_or parts i [])
 entry_at s at [] i lt = absurd (omega arith)
 entry_at s at (p ∷ parts) zero lt = ap (λ (n : ℕ). place_of s n p) (omega arith)
 entry_at s at (p ∷ parts) (suc i) lt =
@@ -70,13 +70,13 @@ at_each P (x ∷ xs) (suc i) d lt all = at_each P xs i d (omega arith) all.1
 
 -- What a block of an indexed file is: its entry, its bytes and its rows.
 pub record IsAt (x : Indexed) (rows : List Row) (bytes : List ℕ) (i : ℕ) : Type 0 where
-  pub entry : entry_of x.entries i ≡ place_of x.columns (length (laid x.columns (take i (blocks_of x.columns rows)))) (get_or (blocks_of x.columns rows) i [])
-  pub piece : piece_of x i bytes ≡ block x.columns (get_or (blocks_of x.columns rows) i [])
-  pub good : AreRows x.columns (get_or (blocks_of x.columns rows) i [])
+  pub entry : entry_of x.entries i ≡ place_of x.layout (length (laid x.layout (take i (blocks_of x.layout rows)))) (get_or (blocks_of x.layout rows) i [])
+  pub piece : piece_of x i bytes ≡ block x.layout (get_or (blocks_of x.layout rows) i [])
+  pub good : AreRows x.layout (get_or (blocks_of x.layout rows) i [])
 
 pub is_at : FitsAlone → (x : Indexed) (rows : List Row) (bytes : List ℕ) (i : ℕ) → IsIndex x → IsIndexed x rows bytes → i < length x.entries → IsAt x rows bytes i
 is_at law x rows bytes i index h lt =
-    let s = x.columns in
+    let s = x.layout in
     let parts = blocks_of s rows in
     let same = is_same law x rows bytes index h in
     let inside : i < length parts = omega (arith, h.blocks) in
@@ -90,7 +90,7 @@ is_at law x rows bytes i index h lt =
     }
 
 -- a piece that spells no block of its entry's short key is no block of a file
-pub no_block : FitsAlone → (x : Indexed) (i : ℕ) (piece : List ℕ) → IsIndex x → i < length x.entries → IsNoneIn x.columns (entry_of x.entries i).short piece → IsNoBlock x i piece
+pub no_block : FitsAlone → (x : Indexed) (i : ℕ) (piece : List ℕ) → IsIndex x → i < length x.entries → IsNoneIn x.layout (entry_of x.entries i).short piece → IsNoBlock x i piece
 no_block law x i piece index lt none = λ rows bytes h is.
     let at = is_at law x rows bytes i index h lt in
-    none (get_or (blocks_of x.columns rows) i []) at.good (sym at.piece ∙ is) (sym (ap short_of at.entry))
+    none (get_or (blocks_of x.layout rows) i []) at.good (sym at.piece ∙ is) (sym (ap short_of at.entry))

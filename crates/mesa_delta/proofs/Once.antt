@@ -3,7 +3,7 @@ use Rattle.std.proofs.Common.{◌≡◌, ℕ, ◌+◌, ◌^◌, ◌<◌, List, [
 use Rattle.std.specs.List.{AllByRecursion}
 use Rattle.std.specs.Prelude.{IsTrue}
 use Rattle.mesa_schema.specs.declared.rows.Row.{Row}
-use Rattle.mesa_schema.specs.Columns.{Columns}
+use Rattle.mesa_block.specs.Layout.{Layout}
 use Rattle.mesa_schema.specs.Folded.{rows_of}
 use Rattle.mesa_schema.specs.Schema.{is_schema}
 use Rattle.mesa_block.specs.Rows.{AreRows}
@@ -22,7 +22,7 @@ head_same : (d e : Entry) (ds es : List Entry) → d ∷ ds ≡ e ∷ es → (d 
 head_same d e ds es is = (cc, cc)
 
 -- blocks with the same entries and the same bytes are the same
-parts_once : Reads → (s : Columns) (at : ℕ) (ps qs : List (List Row)) → AllByRecursion (AreRows s) ps → AllByRecursion (AreRows s) qs → length ps ≡ length qs → places s at ps ≡ places s at qs → laid s ps ≡ laid s qs → ps ≡ qs
+parts_once : Reads → (s : Layout) (at : ℕ) (ps qs : List (List Row)) → AllByRecursion (AreRows s) ps → AllByRecursion (AreRows s) qs → length ps ≡ length qs → places s at ps ≡ places s at qs → laid s ps ≡ laid s qs → ps ≡ qs
 parts_once reads s at [] [] h k len entries is = refl
 parts_once reads s at [] (q ∷ qs) h k len entries is = absurd (omega arith)
 parts_once reads s at (p ∷ ps) [] h k len entries is = absurd (omega arith)
@@ -35,13 +35,13 @@ parts_once reads s at (p ∷ ps) (q ∷ qs) h k len entries is =
     let others : ps ≡ qs = parts_once reads s (at + length (block s p)) ps qs h.1 k.1 (omega arith) later both.1 in
     cc
 
-pub rows_once : FitsAlone → Reads → (s : Columns) (rows others : List Row) (bytes : List ℕ) → IsTrue (is_schema s) → length bytes < 2 ^ 64 → IsFile s rows bytes → IsFile s others bytes → length (blocks_of s rows) ≡ length (blocks_of s others) → rows ≡ others
+pub rows_once : FitsAlone → Reads → (s : Layout) (rows others : List Row) (bytes : List ℕ) → IsTrue (is_schema s.columns) → length bytes < 2 ^ 64 → IsFile s rows bytes → IsFile s others bytes → length (blocks_of s rows) ≡ length (blocks_of s others) → rows ≡ others
 rows_once law reads s rows others bytes schema fits h k count =
     let t = tail_of_file law s rows bytes schema h fits in
     let u = tail_of_file law s others bytes schema k fits in
     let ps = blocks_of s rows in
     let qs = blocks_of s others in
-    let tails : tail_length s (length ps) ≡ tail_length s (length qs) = ap (tail_length s) count in
+    let tails : tail_length s.columns (length ps) ≡ tail_length s.columns (length qs) = ap (tail_length s.columns) count in
     let place : length (laid s ps) ≡ length (laid s qs) = omega (arith, t.place, u.place, tails) in
     let entries = tails_once s (length rows) (length others) (places s 0 ps) (places s 0 qs) t.tail.widths u.tail.widths (places_long s 0 ps ∙ count ∙ sym (places_long s 0 qs)) (sym t.behind ∙ ap (λ (n : ℕ). drop n bytes) place ∙ u.behind) in
     let bytes_are : laid s ps ≡ laid s qs = sym t.blocks ∙ ap (λ (n : ℕ). take n bytes) place ∙ u.blocks in

@@ -3,7 +3,7 @@ use Rattle.std.proofs.Common.{◌≡◌, ℕ, ◌+◌, ◌-◌, ◌^◌, ◌<◌
 use Rattle.std.specs.Prelude.{IsTrue}
 use Rattle.std.proofs.lemmas.List.{length-drop, take_all}
 use Rattle.mesa_disk.specs.mesa_file.declared.file_ref.FileRef.{FileRef}
-use Rattle.mesa_schema.specs.Columns.{Columns}
+use Rattle.mesa_block.specs.Layout.{Layout}
 use Rattle.mesa_schema.specs.Schema.{is_schema}
 use Rattle.mesa_delta.specs.declared.place.Entry.{Entry}
 use Rattle.mesa_delta.specs.Indexed.{Indexed, IsIndexOf, tail_length}
@@ -13,9 +13,9 @@ use Rattle.mesa_delta.specs.Spread.{blocks_of}
 use Rattle.mesa_delta.proofs.Packing.{FitsAlone}
 use Rattle.mesa_delta.proofs.Placed.{tail_of_file, places_long, laid}
 
-pub over_is : (file : FileRef) (s : Columns) (piece b : List ℕ) (x : Indexed) (place : ℕ) → IsIndexOf file s piece x → length b ≡ file.len → place ≡ file.len - tail_length s file.blocks → piece ≡ take (file.len - place) (drop place b) → IsOver x b
+pub over_is : (file : FileRef) (s : Layout) (piece b : List ℕ) (x : Indexed) (place : ℕ) → IsIndexOf file s piece x → length b ≡ file.len → place ≡ file.len - tail_length s.columns file.blocks → piece ≡ take (file.len - place) (drop place b) → IsOver x b
 over_is file s piece b x place h len at is =
-    let long : tail_length x.columns (length x.entries) ≡ tail_length s file.blocks = ap (λ (c : Columns). tail_length c (length x.entries)) h.columns ∙ ap (tail_length s) h.blocks in
+    let long : tail_length x.layout.columns (length x.entries) ≡ tail_length s.columns file.blocks = ap (λ (c : Layout). tail_length c.columns (length x.entries)) h.layout ∙ ap (tail_length s.columns) h.blocks in
     let same : x.tail ≡ place = omega (arith, h.index.whole, h.len, at, long) in
     let rest : take (file.len - place) (drop place b) ≡ drop place b = take_all (file.len - place) (drop place b) (omega (arith, length-drop place b, len)) in
     record {
@@ -24,16 +24,16 @@ over_is file s piece b x place h len at is =
     }
 
 -- no index is read from a piece
-abbrev pub HasNone : FileRef → Columns → List ℕ → Type 0
+abbrev pub HasNone : FileRef → Layout → List ℕ → Type 0
 HasNone file s piece = (rows : ℕ) (es : List Entry) → rows < 2 ^ 64 → length es ≡ file.blocks → piece ≡ tail_spelled s rows es → (place : ℕ) → place + length piece ≡ file.len → IsTail s place rows es → ⊥
 
 -- where no index was read from the piece, it is the tail of no such file
-pub no_tail : FitsAlone → (file : FileRef) (s : Columns) (piece : List ℕ) → IsTrue (is_schema s) → file.len < 2 ^ 64 → file.blocks < 2 ^ 32
+pub no_tail : FitsAlone → (file : FileRef) (s : Layout) (piece : List ℕ) → IsTrue (is_schema s.columns) → file.len < 2 ^ 64 → file.blocks < 2 ^ 32
     → HasNone file s piece → IsNoTail s file piece
 no_tail law file s piece schema fits few none = λ rows bytes h len blocks is.
     let t = tail_of_file law s rows bytes schema h (omega (arith, len)) in
     let parts = blocks_of s rows in
-    let long : tail_length s (length parts) ≡ tail_length s file.blocks = ap (tail_length s) blocks in
+    let long : tail_length s.columns (length parts) ≡ tail_length s.columns file.blocks = ap (tail_length s.columns) blocks in
     let place : length (laid s parts) ≡ tail_place s file = omega (arith, t.place, len, long) in
     let at : piece ≡ tail_spelled s (length rows) (places s 0 parts) = sym is ∙ ap (λ (n : ℕ). drop n bytes) (sym place) ∙ t.behind in
     none (length rows) (places s 0 parts) (omega (arith, t.few, blocks, few)) (places_long s 0 parts ∙ blocks) at (length (laid s parts))

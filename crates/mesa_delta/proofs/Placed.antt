@@ -9,7 +9,7 @@ use Rattle.std.proofs.lemmas.Cmp.{nat_list_cmp_total}
 use Rattle.sha2.proofs.Facts256.{length-sha256}
 use Rattle.mesa_key.specs.Order.{byte_cmp, short_key}
 use Rattle.mesa_schema.specs.declared.rows.Row.{Row}
-use Rattle.mesa_schema.specs.Columns.{Columns}
+use Rattle.mesa_block.specs.Layout.{Layout}
 use Rattle.mesa_schema.specs.Schema.{is_schema}
 use Rattle.mesa_schema.specs.Folded.{rows_of}
 use Rattle.mesa_block.specs.Rows.{AreRows, Rise, most_rows}
@@ -25,30 +25,30 @@ use Rattle.mesa_delta.proofs.Shorts.{short_le}
 use Rattle.mesa_delta.proofs.Spreading.{rise_behind}
 use Rattle.mesa_delta.proofs.Tailing.{tail_long}
 
-pub places_long : (s : Columns) (at : ℕ) (parts : List (List Row)) → length (places s at parts) ≡ length parts
+pub places_long : (s : Layout) (at : ℕ) (parts : List (List Row)) → length (places s at parts) ≡ length parts
 places_long s at [] = refl
 places_long s at (part ∷ parts) = omega (arith, places_long s (at + length (block s part)) parts)
 
-entries_spelled : (s : Columns) (at : ℕ) (parts : List (List Row)) → entries s at parts ≡ flat_map spelled (places s at parts)
+entries_spelled : (s : Layout) (at : ℕ) (parts : List (List Row)) → entries s at parts ≡ flat_map spelled (places s at parts)
 entries_spelled s at [] = refl
 entries_spelled s at (part ∷ parts) = ap (λ (l : List ℕ). spelled (place_of s at part) ++ l) (entries_spelled s (at + length (block s part)) parts)
 
 -- a tail by blocks and one by their entries are spelled alike
-pub tail_is : (s : Columns) (rows : ℕ) (parts : List (List Row)) → tail_of s rows parts ≡ tail_spelled s rows (places s 0 parts)
+pub tail_is : (s : Layout) (rows : ℕ) (parts : List (List Row)) → tail_of s rows parts ≡ tail_spelled s rows (places s 0 parts)
 tail_is s rows parts =
     ap (λ (l : List ℕ). l ++ foot s rows (length parts)) (entries_spelled s 0 parts) ∙ ap (λ (n : ℕ). flat_map spelled (places s 0 parts) ++ foot s rows n) (sym (places_long s 0 parts))
 
-pub block_some : (s : Columns) (rows : List Row) → 0 < length (block s rows)
+pub block_some : (s : Layout) (rows : List Row) → 0 < length (block s rows)
 unfolding block
 block_some s rows = omega arith
 
-abbrev pub laid : Columns → List (List Row) → List ℕ
+abbrev pub laid : Layout → List (List Row) → List ℕ
 laid s parts = flat_map (block s) parts
 
-pub laid_long : (s : Columns) (part : List Row) (parts : List (List Row)) → length (laid s (part ∷ parts)) ≡ length (block s part) + length (laid s parts)
+pub laid_long : (s : Layout) (part : List Row) (parts : List (List Row)) → length (laid s (part ∷ parts)) ≡ length (block s part) + length (laid s parts)
 laid_long s part parts = length-append (block s part) (laid s parts)
 
-places_follow : (s : Columns) (at end : ℕ) (parts : List (List Row)) → AllByRecursion (AreRows s) parts → at + length (laid s parts) ≡ end → Follow at (places s at parts) end
+places_follow : (s : Layout) (at end : ℕ) (parts : List (List Row)) → AllByRecursion (AreRows s) parts → at + length (laid s parts) ≡ end → Follow at (places s at parts) end
 places_follow s at end [] all sum = omega (arith, sum)
 places_follow s at end (part ∷ parts) all sum =
     (refl, block_some s part, all.0.short, places_follow s (at + length (block s part)) end parts all.1 (omega (arith, sum, laid_long s part parts)))
@@ -56,7 +56,7 @@ places_follow s at end (part ∷ parts) all sum =
 short_long : (key : List ℕ) → length (short_key key) ≡ 16
 short_long key = length-take-le 16 (key ++ replicate 16 0) (omega (arith, length-append key (replicate 16 0)))
 
-places_widths : (s : Columns) (at : ℕ) (parts : List (List Row)) → AllByRecursion (AreRows s) parts → at + length (laid s parts) < 2 ^ 64 → AllByRecursion HasWidths (places s at parts)
+places_widths : (s : Layout) (at : ℕ) (parts : List (List Row)) → AllByRecursion (AreRows s) parts → at + length (laid s parts) < 2 ^ 64 → AllByRecursion HasWidths (places s at parts)
 places_widths s at [] all fits = tt
 places_widths s at (part ∷ parts) all fits = (
   (short_long (first_key part), length-sha256 (block s part), omega (arith, fits), omega (arith, all.0.short)),
@@ -71,7 +71,7 @@ first_less : (rows : List Row) (next : Row) (more : List Row) → 0 < length row
 first_less [] next more some h = absurd (omega arith)
 first_less (a ∷ rows) next more some h = less_all a rows next more h
 
-places_fall : (s : Columns) (at : ℕ) (parts : List (List Row)) → AllByRecursion (AreRows s) parts → Rise (map key_of (rows_of parts)) → NeverFall (shorts_of (places s at parts))
+places_fall : (s : Layout) (at : ℕ) (parts : List (List Row)) → AllByRecursion (AreRows s) parts → Rise (map key_of (rows_of parts)) → NeverFall (shorts_of (places s at parts))
 places_fall s at [] all rise = tt
 places_fall s at (part ∷ []) all rise = tt
 places_fall s at (part ∷ [] ∷ parts) all rise = absurd (omega (arith, all.1.0.some))
@@ -81,24 +81,24 @@ places_fall s at (part ∷ (next ∷ more) ∷ parts) all rise =
       places_fall s (at + length (block s part)) ((next ∷ more) ∷ parts) all.1 (rise_behind (map key_of part) (map key_of ((next ∷ more) ++ rows_of parts)) (subst Rise (map-append key_of part ((next ∷ more) ++ rows_of parts)) rise)),
     )
 
-few_rows : (s : Columns) (parts : List (List Row)) → AllByRecursion (AreRows s) parts → length (rows_of parts) ≤ most_rows * length parts
+few_rows : (s : Layout) (parts : List (List Row)) → AllByRecursion (AreRows s) parts → length (rows_of parts) ≤ most_rows * length parts
 few_rows s [] all = omega arith
 few_rows s (part ∷ parts) all = omega (arith, all.0.few, few_rows s parts all.1, length-append part (rows_of parts))
 
 -- What the bytes of a file are, by its entries.
-pub record IsTailOf (s : Columns) (rows : List Row) (bytes : List ℕ) : Type 0 where
+pub record IsTailOf (s : Layout) (rows : List Row) (bytes : List ℕ) : Type 0 where
   pub each : AllByRecursion (AreRows s) (blocks_of s rows)
-  pub place : length (laid s (blocks_of s rows)) + tail_length s (length (blocks_of s rows)) ≡ length bytes
+  pub place : length (laid s (blocks_of s rows)) + tail_length s.columns (length (blocks_of s rows)) ≡ length bytes
   pub whole : bytes ≡ laid s (blocks_of s rows) ++ tail_spelled s (length rows) (places s 0 (blocks_of s rows))
   pub blocks : take (length (laid s (blocks_of s rows))) bytes ≡ laid s (blocks_of s rows)
   pub behind : drop (length (laid s (blocks_of s rows))) bytes ≡ tail_spelled s (length rows) (places s 0 (blocks_of s rows))
   pub tail : IsTail s (length (laid s (blocks_of s rows))) (length rows) (places s 0 (blocks_of s rows))
   pub few : length rows ≤ most_rows * length (blocks_of s rows)
 
-blocks_some : (s : Columns) (rows : List Row) → 0 < length (blocks_of s rows)
+blocks_some : (s : Layout) (rows : List Row) → 0 < length (blocks_of s rows)
 blocks_some s rows = omega (arith, length-append (spread s rows).done ((spread s rows).last ∷ []))
 
-pub tail_of_file : FitsAlone → (s : Columns) (rows : List Row) (bytes : List ℕ) → IsTrue (is_schema s) → IsFile s rows bytes → length bytes < 2 ^ 64 → IsTailOf s rows bytes
+pub tail_of_file : FitsAlone → (s : Layout) (rows : List Row) (bytes : List ℕ) → IsTrue (is_schema s.columns) → IsFile s rows bytes → length bytes < 2 ^ 64 → IsTailOf s rows bytes
 tail_of_file law s rows bytes schema h fits =
     let parts = blocks_of s rows in
     let each = blocks_good law s rows schema h.some h.good h.rise in

@@ -6,7 +6,7 @@ use Rattle.std.proofs.lemmas.List.Concat.{flat_map-cons}
 use Rattle.std.proofs.lemmas.Grind.{flat_map-append}
 use Rattle.mesa_key.specs.Order.{short_key}
 use Rattle.mesa_schema.specs.declared.rows.Row.{Row}
-use Rattle.mesa_schema.specs.Columns.{Columns}
+use Rattle.mesa_block.specs.Layout.{Layout}
 use Rattle.mesa_block.specs.Fill.{Built, after, fit}
 use Rattle.mesa_block.specs.Spelling.{block}
 use Rattle.mesa_delta.specs.Begun.{begun}
@@ -33,7 +33,7 @@ begun_is : (rows : List Row) (short : List ℕ) → begun rows ≡ Some short �
 begun_is [] short e = absurd cc
 begun_is (row ∷ rows) short e = cc
 
-pub entries_more : (s : Columns) (offset : ℕ) (blocks : List (List Row)) (rows : List Row)
+pub entries_more : (s : Layout) (offset : ℕ) (blocks : List (List Row)) (rows : List Row)
     → entries s offset (blocks ++ rows ∷ []) ≡ entries s offset blocks ++ entry (short_key (first_key rows)) (offset + length (flat_map (block s) blocks)) (block s rows)
 entries_more s offset [] rows = append-nil _ ∙ ap (λ (o : ℕ). entry (short_key (first_key rows)) o (block s rows)) (omega arith)
 entries_more s offset (b ∷ blocks) rows =
@@ -46,18 +46,18 @@ longer : (o : Option (List ℕ)) (piece t : List ℕ) → option_map (λ b. b ++
 longer None piece t e = absurd cc
 longer (Some before) piece t e = (before, refl, cc)
 
-flat_more : (s : Columns) (done : List (List Row)) (last : List Row) → flat_map (block s) (done ++ last ∷ []) ≡ flat_map (block s) done ++ block s last
+flat_more : (s : Layout) (done : List (List Row)) (last : List Row) → flat_map (block s) (done ++ last ∷ []) ≡ flat_map (block s) done ++ block s last
 flat_more s done last = flat_map-append (block s) done (last ∷ []) ∙ ap (λ (l : List ℕ). flat_map (block s) done ++ l) (append-nil (block s last))
 
-pub closed : {M T : Type 0} (bytes : T → Option (List ℕ)) (s : Columns) (old new : BlockWriter M T) (f : Filling) (short piece : List ℕ)
-    → old.short ≡ Some short → piece ≡ block old.builder.columns old.builder.rows
+pub closed : {M T : Type 0} (bytes : T → Option (List ℕ)) (s : Layout) (old new : BlockWriter M T) (f : Filling) (short piece : List ℕ)
+    → old.short ≡ Some short → piece ≡ block old.builder.layout old.builder.rows
     → bytes new.draft ≡ option_map (λ b. b ++ piece) (bytes old.draft)
     → new.entries.items ≡ old.entries.items ++ entry short old.offset piece
     → new.offset ≡ old.offset + length piece → new.blocks ≡ old.blocks + 1
     → new.builder ≡ record old.builder { rows = [] } → new.short ≡ None
     → Lays bytes s old f → Lays bytes s new (record { done = f.done ++ f.last ∷ []; last = [] })
 closed bytes s old new f short piece short_is piece_is put entries_are offset_is blocks_are built none h =
-    let piece_of : piece ≡ block s f.last = piece_is ∙ ap (λ (b : Built). block b.columns b.rows) h.built in
+    let piece_of : piece ≡ block s f.last = piece_is ∙ ap (λ (b : Built). block b.layout b.rows) h.built in
     let short_of : short ≡ short_key (first_key f.last) = begun_is f.last short (sym h.short ∙ short_is) in
     record {
       told = λ t at.
@@ -73,7 +73,7 @@ closed bytes s old new f short piece short_is piece_is put entries_are offset_is
       short = none;
     }
 
-pub unchanged : {M T : Type 0} (bytes : T → Option (List ℕ)) (s : Columns) (old new : BlockWriter M T) (f : Filling)
+pub unchanged : {M T : Type 0} (bytes : T → Option (List ℕ)) (s : Layout) (old new : BlockWriter M T) (f : Filling)
     → new ≡ record old { builder = new.builder; short = new.short } → new.builder ≡ old.builder → new.short ≡ begun new.builder.rows
     → Lays bytes s old f → Lays bytes s new f
 unchanged {M = M} {T = T} bytes s old new f same built short h = record {
@@ -85,12 +85,12 @@ unchanged {M = M} {T = T} bytes s old new f same built short h = record {
   short = short ∙ ap (λ (b : Built). begun b.rows) (built ∙ h.built);
 }
 
-pub placed_on : {M T : Type 0} (bytes : T → Option (List ℕ)) (s : Columns) (old new : BlockWriter M T) (f : Filling) (row : Row)
+pub placed_on : {M T : Type 0} (bytes : T → Option (List ℕ)) (s : Layout) (old new : BlockWriter M T) (f : Filling) (row : Row)
     → new ≡ record old { builder = new.builder; short = new.short } → new.builder ≡ after true old.builder row → new.short ≡ begun new.builder.rows
     → true ≡ fit s (f.last ++ row ∷ [])
     → Lays bytes s old f → Lays bytes s new (with_more s f row)
 placed_on {M = M} {T = T} bytes s old new f row same built short fits h =
-    let is : new.builder ≡ record { columns = s; rows = f.last ++ row ∷ [] } = built ∙ ap (λ (b : Built). after true b row) h.built in
+    let is : new.builder ≡ record { layout = s; rows = f.last ++ row ∷ [] } = built ∙ ap (λ (b : Built). after true b row) h.built in
     subst (λ (t : Bool). Lays bytes s new (placed t f row)) fits (record {
       told = λ t at. h.told t (ap (λ (w : BlockWriter M T). bytes w.draft) (sym same) ∙ at);
       entries = ap (λ (w : BlockWriter M T). w.entries.items) same ∙ h.entries;
@@ -100,12 +100,12 @@ placed_on {M = M} {T = T} bytes s old new f row same built short fits h =
       short = short ∙ ap (λ (b : Built). begun b.rows) is;
     })
 
-pub fits_in : {M T : Type 0} (bytes : T → Option (List ℕ)) (s : Columns) (old : BlockWriter M T) (f : Filling) (row : Row) (t : Bool)
-    → t ≡ fit old.builder.columns (old.builder.rows ++ row ∷ []) → Lays bytes s old f → t ≡ fit s (f.last ++ row ∷ [])
-fits_in bytes s old f row t is h = is ∙ ap (λ (b : Built). fit b.columns (b.rows ++ row ∷ [])) h.built
+pub fits_in : {M T : Type 0} (bytes : T → Option (List ℕ)) (s : Layout) (old : BlockWriter M T) (f : Filling) (row : Row) (t : Bool)
+    → t ≡ fit old.builder.layout (old.builder.rows ++ row ∷ []) → Lays bytes s old f → t ≡ fit s (f.last ++ row ∷ [])
+fits_in bytes s old f row t is h = is ∙ ap (λ (b : Built). fit b.layout (b.rows ++ row ∷ [])) h.built
 
 -- a row that doesn't fit begins the next block
-pub next_begun : {M T : Type 0} (bytes : T → Option (List ℕ)) (s : Columns) (new : BlockWriter M T) (f : Filling) (row : Row)
+pub next_begun : {M T : Type 0} (bytes : T → Option (List ℕ)) (s : Layout) (new : BlockWriter M T) (f : Filling) (row : Row)
     → false ≡ fit s (f.last ++ row ∷ []) → true ≡ fit s (row ∷ [])
     → Lays bytes s new (with_more s (record { done = f.done ++ f.last ∷ []; last = [] }) row) → Lays bytes s new (with_more s f row)
 next_begun bytes s new f row not_in alone h =

@@ -7,14 +7,14 @@ use Rattle.std.proofs.lemmas.Grind.{flat_map-append}
 use Rattle.std.specs.declared.cmp.Ordering.TheVariants.{Less}
 use Rattle.mesa_key.specs.Order.{byte_cmp}
 use Rattle.mesa_schema.specs.declared.rows.Row.{Row}
-use Rattle.mesa_schema.specs.Columns.{Columns}
+use Rattle.mesa_block.specs.Layout.{Layout}
 use Rattle.mesa_block.specs.Fill.{fit}
 use Rattle.mesa_block.specs.Rows.{Rise}
 use Rattle.mesa_block.specs.Spelling.{key_of}
 use Rattle.mesa_delta.specs.Spread.{Filling, filled, with_more, placed, spread, nothing_filled}
 use Rattle.mesa_delta.specs.Summary.{last_key}
 
-pub filled_more : (s : Columns) (b : Filling) (rows : List Row) (row : Row) → filled s b (rows ++ row ∷ []) ≡ with_more s (filled s b rows) row
+pub filled_more : (s : Layout) (b : Filling) (rows : List Row) (row : Row) → filled s b (rows ++ row ∷ []) ≡ with_more s (filled s b rows) row
 filled_more s b [] row = refl
 filled_more s b (r ∷ rows) row = filled_more s (with_more s b r) rows row
 
@@ -29,26 +29,26 @@ placed_rows : (t : Bool) (b : Filling) (row : Row) → rows_in (placed t b row) 
 placed_rows true b row = sym (append_assoc (all_of b.done) b.last (row ∷ []))
 placed_rows false b row = ap (λ (l : List Row). l ++ row ∷ []) (flat_map-append (λ (part : List Row). part) b.done (b.last ∷ []) ∙ ap (λ (l : List Row). all_of b.done ++ l) (append-nil b.last))
 
-pub filled_rows : (s : Columns) (b : Filling) (rows : List Row) → rows_in (filled s b rows) ≡ rows_in b ++ rows
+pub filled_rows : (s : Layout) (b : Filling) (rows : List Row) → rows_in (filled s b rows) ≡ rows_in b ++ rows
 filled_rows s b [] = sym (append-nil (rows_in b))
 filled_rows s b (row ∷ rows) =
     filled_rows s (with_more s b row) rows
     ∙ ap (λ (l : List Row). l ++ rows) (placed_rows (fit s (b.last ++ row ∷ [])) b row)
     ∙ append_assoc (rows_in b) (row ∷ []) rows
 
-pub spread_rows : (s : Columns) (rows : List Row) → rows_in (spread s rows) ≡ rows
+pub spread_rows : (s : Layout) (rows : List Row) → rows_in (spread s rows) ≡ rows
 spread_rows s rows = filled_rows s nothing_filled rows
 
 placed_some : (t : Bool) (b : Filling) (row : Row) → 0 < length (placed t b row).last
 placed_some true b row = omega (arith, length-append b.last (row ∷ []))
 placed_some false b row = omega arith
 
-filled_some : (s : Columns) (b : Filling) (rows : List Row) → 0 < length b.last → 0 < length (filled s b rows).last
+filled_some : (s : Layout) (b : Filling) (rows : List Row) → 0 < length b.last → 0 < length (filled s b rows).last
 filled_some s b [] h = h
 filled_some s b (row ∷ rows) h = filled_some s (with_more s b row) rows (placed_some (fit s (b.last ++ row ∷ [])) b row)
 
 -- the open block of some rows has rows
-pub spread_some : (s : Columns) (rows : List Row) → 0 < length rows → 0 < length (spread s rows).last
+pub spread_some : (s : Layout) (rows : List Row) → 0 < length rows → 0 < length (spread s rows).last
 spread_some s [] h = absurd (omega arith)
 spread_some s (row ∷ rows) h = filled_some s (with_more s nothing_filled row) rows (placed_some (fit s (row ∷ [])) nothing_filled row)
 
@@ -61,7 +61,7 @@ rise_behind [] bs h = h
 rise_behind (a ∷ front) bs h = rise_behind front bs (rise_tail a (front ++ bs) h)
 
 -- the keys of the open block rise
-pub open_rise : (s : Columns) (rows : List Row) (row : Row) → Rise (map key_of (rows ++ row ∷ [])) → Rise (map key_of ((spread s rows).last ++ row ∷ []))
+pub open_rise : (s : Layout) (rows : List Row) (row : Row) → Rise (map key_of (rows ++ row ∷ [])) → Rise (map key_of ((spread s rows).last ++ row ∷ []))
 open_rise s rows row h =
     let done = all_of (spread s rows).done in
     let last = (spread s rows).last in

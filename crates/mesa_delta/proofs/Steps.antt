@@ -4,7 +4,7 @@ use Rattle.std.specs.List.{AllByRecursion}
 use Rattle.std.proofs.lemmas.List.{append-nil, length-append, take_at, take_all, take_more, take-append-drop, drop_at, drop_more}
 use Rattle.std.proofs.lemmas.Grind.{flat_map-append}
 use Rattle.mesa_schema.specs.declared.rows.Row.{Row}
-use Rattle.mesa_schema.specs.Columns.{Columns}
+use Rattle.mesa_block.specs.Layout.{Layout}
 use Rattle.mesa_schema.specs.Folded.{rows_of}
 use Rattle.mesa_block.specs.Reading.{block_at}
 use Rattle.mesa_block.specs.Rows.{AreRows, IsRow}
@@ -26,19 +26,19 @@ use Rattle.mesa_delta.proofs.Tailing.{split_same}
 
 -- what the crate below says: a block is read again
 abbrev pub Reads : Type 0
-Reads = (s : Columns) (rows : List Row) → AreRows s rows → block_at s (block s rows) ≡ Ok rows
+Reads = (s : Layout) (rows : List Row) → AreRows s rows → block_at s (block s rows) ≡ Ok rows
 
-pub blocks_once : Reads → (s : Columns) (p q : List Row) → AreRows s p → AreRows s q → block s p ≡ block s q → p ≡ q
+pub blocks_once : Reads → (s : Layout) (p q : List Row) → AreRows s p → AreRows s q → block s p ≡ block s q → p ≡ q
 blocks_once reads s p q h k e =
     let a : block_at s (block s p) ≡ Ok p = reads s p h in
     let b : block_at s (block s q) ≡ Ok q = reads s q k in
     let c : block_at s (block s p) ≡ block_at s (block s q) = ap (block_at s) e in
     cc
 
-pub start_run : (s : Columns) (run : Run) → run.next ≡ 0 → run.rows ≡ 0 → run.last ≡ [] → run.count ≡ 0 → IsRun s run []
+pub start_run : (s : Layout) (run : Run) → run.next ≡ 0 → run.rows ≡ 0 → run.last ≡ [] → run.count ≡ 0 → IsRun s run []
 start_run s run next rows last count = record { each = tt; rise = tt; packed = tt; next = next; rows = rows; last = last; count = count; len = λ some. absurd (omega arith) }
 
-pub none_read : {R : Type 0} (bytes : R → Option (List ℕ)) (r : DeltaReader R) → IsIndex r.index → IsRun r.index.columns r.run [] → HasRead bytes r []
+pub none_read : {R : Type 0} (bytes : R → Option (List ℕ)) (r : DeltaReader R) → IsIndex r.index → IsRun r.index.layout r.run [] → HasRead bytes r []
 none_read bytes r index run = record {
   run = run;
   places = refl;
@@ -46,7 +46,7 @@ none_read bytes r index run = record {
   told = λ b at. refl;
 }
 
-offset_at : (s : Columns) (at end : ℕ) (es : List Entry) (parts : List (List Row)) → Follow at es end → take (length parts) es ≡ places s at parts → length parts < length es → (entry_of es (length parts)).offset ≡ at + length (laid s parts)
+offset_at : (s : Layout) (at end : ℕ) (es : List Entry) (parts : List (List Row)) → Follow at es end → take (length parts) es ≡ places s at parts → length parts < length es → (entry_of es (length parts)).offset ≡ at + length (laid s parts)
 offset_at s at end [] parts h is lt = absurd (omega arith)
 offset_at s at end (e ∷ es) [] h is lt = omega (arith, h.0)
 offset_at s at end (e ∷ es) (p ∷ parts) h is lt =
@@ -56,29 +56,29 @@ offset_at s at end (e ∷ es) (p ∷ parts) h is lt =
     let tail = subst (λ (n : ℕ). Follow (at + n) es end) len h.3 in
     omega (arith, offset_at s (at + length (block s p)) end es parts tail rest (omega arith), laid_long s p parts)
 
-places_push : (s : Columns) (at : ℕ) (parts : List (List Row)) (part : List Row) → places s at (parts ++ part ∷ []) ≡ places s at parts ++ place_of s (at + length (laid s parts)) part ∷ []
+places_push : (s : Layout) (at : ℕ) (parts : List (List Row)) (part : List Row) → places s at (parts ++ part ∷ []) ≡ places s at parts ++ place_of s (at + length (laid s parts)) part ∷ []
 places_push s at [] part = ap (λ (n : ℕ). place_of s n part ∷ []) (omega arith)
 places_push s at (p ∷ parts) part =
     ap (λ (l : List Entry). place_of s at p ∷ l) (places_push s (at + length (block s p)) parts part ∙ ap (λ (n : ℕ). places s (at + length (block s p)) parts ++ place_of s n part ∷ []) (omega (arith, laid_long s p parts)))
 
-laid_push : (s : Columns) (parts : List (List Row)) (part : List Row) → laid s (parts ++ part ∷ []) ≡ laid s parts ++ block s part
+laid_push : (s : Layout) (parts : List (List Row)) (part : List Row) → laid s (parts ++ part ∷ []) ≡ laid s parts ++ block s part
 laid_push s parts part = flat_map-append (block s) parts (part ∷ []) ∙ ap (λ (l : List ℕ). laid s parts ++ l) (append-nil (block s part))
 
-pub placed_at : (x : Indexed) (parts : List (List Row)) (part : List Row) → IsIndex x → IsBlock x (length parts) part → take (length parts) x.entries ≡ places x.columns 0 parts → length parts < length x.entries
-    → entry_of x.entries (length parts) ≡ place_of x.columns (length (laid x.columns parts)) part
+pub placed_at : (x : Indexed) (parts : List (List Row)) (part : List Row) → IsIndex x → IsBlock x (length parts) part → take (length parts) x.entries ≡ places x.layout 0 parts → length parts < length x.entries
+    → entry_of x.entries (length parts) ≡ place_of x.layout (length (laid x.layout parts)) part
 placed_at x parts part index b is lt =
-    b.entry ∙ ap (λ (n : ℕ). place_of x.columns n part) (offset_at x.columns 0 x.tail x.entries parts index.tail.follow is lt ∙ (omega arith))
+    b.entry ∙ ap (λ (n : ℕ). place_of x.layout n part) (offset_at x.layout 0 x.tail x.entries parts index.tail.follow is lt ∙ (omega arith))
 
 -- one block more
 pub one_read : {R : Type 0} (bytes : R → Option (List ℕ)) (old new : DeltaReader R) (parts : List (List Row)) (part : List Row) → IsIndex old.index → new.index ≡ old.index → bytes new.reader ≡ bytes old.reader → length parts < length old.index.entries
-    → IsBlock old.index (length parts) part → IsRun old.index.columns new.run (parts ++ part ∷ []) → (new.run.next ≡ length old.index.entries → new.run.rows ≡ old.index.rows)
-    → ((b : List ℕ) → bytes old.reader ≡ Some b → piece_of old.index (length parts) b ≡ block old.index.columns part)
-    → take (length parts) old.index.entries ≡ places old.index.columns 0 parts
-    → ((b : List ℕ) → bytes old.reader ≡ Some b → take (length (laid old.index.columns parts)) b ≡ laid old.index.columns parts)
+    → IsBlock old.index (length parts) part → IsRun old.index.layout new.run (parts ++ part ∷ []) → (new.run.next ≡ length old.index.entries → new.run.rows ≡ old.index.rows)
+    → ((b : List ℕ) → bytes old.reader ≡ Some b → piece_of old.index (length parts) b ≡ block old.index.layout part)
+    → take (length parts) old.index.entries ≡ places old.index.layout 0 parts
+    → ((b : List ℕ) → bytes old.reader ≡ Some b → take (length (laid old.index.layout parts)) b ≡ laid old.index.layout parts)
     → HasRead bytes new (parts ++ part ∷ [])
 one_read bytes old new parts part index same reader lt b run counted piece before told =
     let x = old.index in
-    let s = x.columns in
+    let s = x.layout in
     let entry = placed_at x parts part index b before lt in
     let count : length (parts ++ part ∷ []) ≡ length parts + 1 = length-append parts (part ∷ []) in
     let lay = laid_push s parts part in
@@ -91,34 +91,34 @@ one_read bytes old new parts part index same reader lt b run counted piece befor
     ∙ ap (λ (l : List ℕ). l ++ take (length (block s part)) (drop (length (laid s parts)) c)) (told c at)
     ∙ ap (λ (l : List ℕ). laid s parts ++ l) (ap (λ (e : Entry). take e.len (drop e.offset c)) (sym entry) ∙ piece c at) ∙ sym lay in
     record {
-      run = subst (λ (i : Indexed). IsRun i.columns new.run (parts ++ part ∷ [])) (sym same) run;
-      places = subst (λ (i : Indexed). take (length (parts ++ part ∷ [])) i.entries ≡ places i.columns 0 (parts ++ part ∷ [])) (sym same) (over 0);
+      run = subst (λ (i : Indexed). IsRun i.layout new.run (parts ++ part ∷ [])) (sym same) run;
+      places = subst (λ (i : Indexed). take (length (parts ++ part ∷ [])) i.entries ≡ places i.layout 0 (parts ++ part ∷ [])) (sym same) (over 0);
       counted = subst (λ (i : Indexed). length (parts ++ part ∷ []) ≡ length i.entries → length (rows_of (parts ++ part ∷ [])) ≡ i.rows) (sym same) (λ all. sym run.rows ∙ counted (run.next ∙ all));
-      told = λ c at. subst (λ (i : Indexed). take (length (laid i.columns (parts ++ part ∷ []))) c ≡ laid i.columns (parts ++ part ∷ [])) (sym same) (reads c (sym reader ∙ at));
+      told = λ c at. subst (λ (i : Indexed). take (length (laid i.layout (parts ++ part ∷ []))) c ≡ laid i.layout (parts ++ part ∷ [])) (sym same) (reads c (sym reader ∙ at));
     }
 
 -- another reader with the same bytes, and the same kept
 pub still_read : {R : Type 0} (bytes : R → Option (List ℕ)) (old new : DeltaReader R) (parts : List (List Row)) → new.index ≡ old.index → new.run ≡ old.run → bytes new.reader ≡ bytes old.reader → HasRead bytes old parts → HasRead bytes new parts
 still_read bytes old new parts index run reader h = record {
-  run = subst (λ (i : Indexed). IsRun i.columns new.run parts) (sym index) (subst (λ (k : Run). IsRun old.index.columns k parts) (sym run) h.run);
-  places = subst (λ (i : Indexed). take (length parts) i.entries ≡ places i.columns 0 parts) (sym index) h.places;
+  run = subst (λ (i : Indexed). IsRun i.layout new.run parts) (sym index) (subst (λ (k : Run). IsRun old.index.layout k parts) (sym run) h.run);
+  places = subst (λ (i : Indexed). take (length parts) i.entries ≡ places i.layout 0 parts) (sym index) h.places;
   counted = subst (λ (i : Indexed). length parts ≡ length i.entries → length (rows_of parts) ≡ i.rows) (sym index) h.counted;
-  told = λ c at. subst (λ (i : Indexed). take (length (laid i.columns parts)) c ≡ laid i.columns parts) (sym index) (h.told c (sym reader ∙ at));
+  told = λ c at. subst (λ (i : Indexed). take (length (laid i.layout parts)) c ≡ laid i.layout parts) (sym index) (h.told c (sym reader ∙ at));
 }
 
 all_join : {X : Type 0} (P : X → Type 0) (xs ys : List X) → AllByRecursion P xs → AllByRecursion P ys → AllByRecursion P (xs ++ ys)
 all_join P [] ys h k = k
 all_join P (x ∷ xs) ys h k = (h.0, all_join P xs ys h.1 k)
 
-all_rows : (s : Columns) (parts : List (List Row)) → AllByRecursion (AreRows s) parts → AllByRecursion (IsRow s) (rows_of parts)
+all_rows : (s : Layout) (parts : List (List Row)) → AllByRecursion (AreRows s) parts → AllByRecursion (IsRow s) (rows_of parts)
 all_rows s [] all = tt
 all_rows s (p ∷ parts) all = all_join (IsRow s) p (rows_of parts) all.0.good (all_rows s parts all.1)
 
-some_rows : (s : Columns) (parts : List (List Row)) → AllByRecursion (AreRows s) parts → 0 < length parts → 0 < length (rows_of parts)
+some_rows : (s : Layout) (parts : List (List Row)) → AllByRecursion (AreRows s) parts → 0 < length parts → 0 < length (rows_of parts)
 some_rows s [] all some = absurd (omega arith)
 some_rows s (p ∷ parts) all some = omega (arith, all.0.some, length-append p (rows_of parts))
 
-follow_end : (s : Columns) (at end : ℕ) (parts : List (List Row)) → Follow at (places s at parts) end → end ≡ at + length (laid s parts)
+follow_end : (s : Layout) (at end : ℕ) (parts : List (List Row)) → Follow at (places s at parts) end → end ≡ at + length (laid s parts)
 follow_end s at end [] h = omega (arith, h)
 follow_end s at end (p ∷ parts) h = omega (arith, follow_end s (at + length (block s p)) end parts h.3, laid_long s p parts)
 
@@ -127,7 +127,7 @@ pub whole_file : FitsAlone → Grows → {R : Type 0} (bytes : R → Option (Lis
     → IsWhole r.index (rows_of parts) (bytes r.reader)
 whole_file law grows bytes r parts index h all over =
     let x = r.index in
-    let s = x.columns in
+    let s = x.layout in
     let rows = rows_of parts in
     let some : 0 < length parts = omega (arith, all, index.tail.some) in
     let entries : x.entries ≡ places s 0 parts = sym (take_all (length parts) x.entries (omega (arith, all))) ∙ h.places in
@@ -151,7 +151,7 @@ whole_file law grows bytes r parts index h all over =
     }
 
 -- the blocks of a file that begins with blocks' bytes begin with these
-begins_so : Reads → (s : Columns) (at : ℕ) (parts blocks : List (List Row)) (rest : List ℕ) → AllByRecursion (AreRows s) parts → AllByRecursion (AreRows s) blocks → take (length parts) (places s at blocks) ≡ places s at parts
+begins_so : Reads → (s : Layout) (at : ℕ) (parts blocks : List (List Row)) (rest : List ℕ) → AllByRecursion (AreRows s) parts → AllByRecursion (AreRows s) blocks → take (length parts) (places s at blocks) ≡ places s at parts
     → take (length (laid s parts)) (laid s blocks ++ rest) ≡ laid s parts → take (length parts) blocks ≡ parts
 begins_so reads s at [] blocks rest h k is e = refl
 begins_so reads s at (p ∷ parts) [] rest h k is e = absurd cc
@@ -172,10 +172,10 @@ begins_so reads s at (p ∷ parts) (q ∷ blocks) rest h k is e =
     cc
 
 -- a block that never comes next isn't next
-pub not_next : FitsAlone → Reads → (x : Indexed) (run : Run) (parts : List (List Row)) (part : List Row) → IsIndex x → IsRun x.columns run parts → take (length parts) x.entries ≡ places x.columns 0 parts → length parts < length x.entries
-    → AreRows x.columns part → IsNeverNext x run part → IsNotNext x (length parts) parts (block x.columns part)
+pub not_next : FitsAlone → Reads → (x : Indexed) (run : Run) (parts : List (List Row)) (part : List Row) → IsIndex x → IsRun x.layout run parts → take (length parts) x.entries ≡ places x.layout 0 parts → length parts < length x.entries
+    → AreRows x.layout part → IsNeverNext x run part → IsNotNext x (length parts) parts (block x.layout part)
 not_next law reads x run parts part index h before lt good never = λ rows bytes f begins is.
-    let s = x.columns in
+    let s = x.layout in
     let blocks = blocks_of s rows in
     let same = is_same law x rows bytes index f in
     let at = is_at law x rows bytes (length parts) index f lt in

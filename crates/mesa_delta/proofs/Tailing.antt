@@ -8,7 +8,8 @@ use Rattle.std.proofs.lemmas.List.Concat.{flat_map-cons}
 use Rattle.std.proofs.lemmas.Nat.{from_be_bytes-to_be_bytes_4, from_be_bytes-to_be_bytes_8}
 use Rattle.mesa_schema.specs.Schema.{is_schema}
 use Rattle.mesa_key.specs.Order.{short_key}
-use Rattle.mesa_schema.specs.Columns.{Columns, kinds_of, aggs_of}
+use Rattle.mesa_schema.specs.Columns.{kinds_of, aggs_of}
+use Rattle.mesa_block.specs.Layout.{Layout}
 use Rattle.mesa_delta.specs.declared.place.Entry.{Entry}
 use Rattle.mesa_disk.specs.mesa_file.declared.file_ref.FileRef.{FileRef}
 use Rattle.mesa_delta.specs.Indexed.{IsIndexOf, tail_length}
@@ -34,43 +35,43 @@ pub flat_long : (es : List Entry) → AllByRecursion HasWidths es → length (fl
 flat_long [] all = refl
 flat_long (e ∷ es) all = rw flat_map-cons (omega (arith, length-append (spelled e) (flat_map spelled es), spelled_long e all.0, flat_long es all.1))
 
-abbrev ending : Columns → ℕ → ℕ → List ℕ
-ending s rows blocks = to_be_bytes w64 rows ++ (to_be_bytes w32 blocks ++ (length s.keys ∷ length s.values ∷ magic))
+abbrev ending : Layout → ℕ → ℕ → List ℕ
+ending s rows blocks = to_be_bytes w64 rows ++ (to_be_bytes w32 blocks ++ (length s.columns.keys ∷ length s.columns.values ∷ magic s.format))
 
-pub foot_long : (s : Columns) (rows blocks : ℕ) → length (foot s rows blocks) ≡ length s.keys + length s.values + 22
+pub foot_long : (s : Layout) (rows blocks : ℕ) → length (foot s rows blocks) ≡ length s.columns.keys + length s.columns.values + 22
 foot_long s rows blocks =
-    let kinds = map kind_byte (kinds_of s) in
-    let aggs = map agg_byte (aggs_of s) in
+    let kinds = map kind_byte (kinds_of s.columns) in
+    let aggs = map agg_byte (aggs_of s.columns) in
     omega (
       arith,
       length-append kinds (aggs ++ ending s rows blocks),
       length-append aggs (ending s rows blocks),
-      length-append (to_be_bytes w64 rows) (to_be_bytes w32 blocks ++ (length s.keys ∷ length s.values ∷ magic)),
-      length-append (to_be_bytes w32 blocks) (length s.keys ∷ length s.values ∷ magic),
-      length-map (kinds_of s) kind_byte,
-      length-map (aggs_of s) agg_byte,
-      length-map s.keys kind_of,
-      length-map s.values agg_of,
+      length-append (to_be_bytes w64 rows) (to_be_bytes w32 blocks ++ (length s.columns.keys ∷ length s.columns.values ∷ magic s.format)),
+      length-append (to_be_bytes w32 blocks) (length s.columns.keys ∷ length s.columns.values ∷ magic s.format),
+      length-map (kinds_of s.columns) kind_byte,
+      length-map (aggs_of s.columns) agg_byte,
+      length-map s.columns.keys kind_of,
+      length-map s.columns.values agg_of,
     )
 
-pub tail_long : (s : Columns) (rows : ℕ) (es : List Entry) → AllByRecursion HasWidths es → length (tail_spelled s rows es) ≡ tail_length s (length es)
+pub tail_long : (s : Layout) (rows : ℕ) (es : List Entry) → AllByRecursion HasWidths es → length (tail_spelled s rows es) ≡ tail_length s.columns (length es)
 tail_long s rows es all = omega (arith, length-append (flat_map spelled es) (foot s rows (length es)), flat_long es all, foot_long s rows (length es))
 
 -- the count of rows stands behind the columns
-pub foot_rows : (s : Columns) (rows blocks : ℕ) → take 8 (drop (length s.keys + length s.values) (foot s rows blocks)) ≡ to_be_bytes w64 rows
+pub foot_rows : (s : Layout) (rows blocks : ℕ) → take 8 (drop (length s.columns.keys + length s.columns.values) (foot s rows blocks)) ≡ to_be_bytes w64 rows
 foot_rows s rows blocks =
-    let kinds = map kind_byte (kinds_of s) in
-    let aggs = map agg_byte (aggs_of s) in
-    let a : length kinds ≡ length s.keys = length-map (kinds_of s) kind_byte ∙ length-map s.keys kind_of in
-    let b : length aggs ≡ length s.values = length-map (aggs_of s) agg_byte ∙ length-map s.values agg_of in
-    let e : drop (length s.keys + length s.values) (foot s rows blocks) ≡ ending s rows blocks =
-    sym (drop-drop (length s.values) (length s.keys) (foot s rows blocks)) ∙ ap (λ (l : List ℕ). drop (length s.values) l) (drop_at kinds (aggs ++ ending s rows blocks) (length s.keys) a)
-    ∙ drop_at aggs (ending s rows blocks) (length s.values) b in
-    ap (λ (l : List ℕ). take 8 l) e ∙ take_at (to_be_bytes w64 rows) (to_be_bytes w32 blocks ++ (length s.keys ∷ length s.values ∷ magic)) 8 refl
+    let kinds = map kind_byte (kinds_of s.columns) in
+    let aggs = map agg_byte (aggs_of s.columns) in
+    let a : length kinds ≡ length s.columns.keys = length-map (kinds_of s.columns) kind_byte ∙ length-map s.columns.keys kind_of in
+    let b : length aggs ≡ length s.columns.values = length-map (aggs_of s.columns) agg_byte ∙ length-map s.columns.values agg_of in
+    let e : drop (length s.columns.keys + length s.columns.values) (foot s rows blocks) ≡ ending s rows blocks =
+    sym (drop-drop (length s.columns.values) (length s.columns.keys) (foot s rows blocks)) ∙ ap (λ (l : List ℕ). drop (length s.columns.values) l) (drop_at kinds (aggs ++ ending s rows blocks) (length s.columns.keys) a)
+    ∙ drop_at aggs (ending s rows blocks) (length s.columns.values) b in
+    ap (λ (l : List ℕ). take 8 l) e ∙ take_at (to_be_bytes w64 rows) (to_be_bytes w32 blocks ++ (length s.columns.keys ∷ length s.columns.values ∷ magic s.format)) 8 refl
 
-pub read_rows : (s : Columns) (rows blocks found : ℕ) (bytes : List ℕ) → rows < 2 ^ 64 → bytes ≡ foot s rows blocks → found ≡ from_be_bytes w64 (take 8 (drop (length s.keys + length s.values) bytes)) → found ≡ rows
+pub read_rows : (s : Layout) (rows blocks found : ℕ) (bytes : List ℕ) → rows < 2 ^ 64 → bytes ≡ foot s rows blocks → found ≡ from_be_bytes w64 (take 8 (drop (length s.columns.keys + length s.columns.values) bytes)) → found ≡ rows
 read_rows s rows blocks found bytes fits is at =
-    at ∙ ap (λ (l : List ℕ). from_be_bytes w64 (take 8 (drop (length s.keys + length s.values) l))) is ∙ ap (from_be_bytes w64) (foot_rows s rows blocks) ∙ from_be_bytes-to_be_bytes_8 rows fits
+    at ∙ ap (λ (l : List ℕ). from_be_bytes w64 (take 8 (drop (length s.columns.keys + length s.columns.values) l))) is ∙ ap (from_be_bytes w64) (foot_rows s rows blocks) ∙ from_be_bytes-to_be_bytes_8 rows fits
 
 pub split_same : (a b x y : List ℕ) → length a ≡ length b → a ++ x ≡ b ++ y → (a ≡ b) × (x ≡ y)
 split_same [] [] x y len e = (refl, e)
@@ -119,7 +120,7 @@ entries_once (d ∷ ds) (e ∷ es) h k len is =
     cc
 
 -- so are two tails' entries and counts of rows
-pub tails_once : (s : Columns) (rows found : ℕ) (ds es : List Entry) → AllByRecursion HasWidths ds → AllByRecursion HasWidths es → length ds ≡ length es → tail_spelled s rows ds ≡ tail_spelled s found es → (ds ≡ es) × (foot s rows (length ds) ≡ foot s found (length es))
+pub tails_once : (s : Layout) (rows found : ℕ) (ds es : List Entry) → AllByRecursion HasWidths ds → AllByRecursion HasWidths es → length ds ≡ length es → tail_spelled s rows ds ≡ tail_spelled s found es → (ds ≡ es) × (foot s rows (length ds) ≡ foot s found (length es))
 tails_once s rows found ds es h k len is =
     let one = split_same (flat_map spelled ds) (flat_map spelled es) (foot s rows (length ds)) (foot s found (length es)) (flat_long ds h ∙ ap (λ (n : ℕ). 60 * n) len ∙ sym (flat_long es k)) is in
     (entries_once ds es h k len one.0, one.1)
@@ -129,32 +130,32 @@ within_follow at [] end i d h lt = absurd (omega arith)
 within_follow at (e ∷ es) end zero d h lt = omega (arith, h.0, follow_le (at + e.len) es end h.3)
 within_follow at (e ∷ es) end (suc i) d h lt = within_follow (at + e.len) es end i d h.3 (omega arith)
 
-pub foot_is : (s : Columns) (rows found blocks : ℕ) (bytes back : List ℕ) (es : List Entry) → rows < 2 ^ 64 → length es ≡ blocks → bytes ≡ tail_spelled s rows es → AllByRecursion HasWidths es
-    → back ≡ drop (60 * blocks) bytes → found ≡ from_be_bytes w64 (take 8 (drop (length s.keys + length s.values) back)) → back ≡ foot s found blocks
+pub foot_is : (s : Layout) (rows found blocks : ℕ) (bytes back : List ℕ) (es : List Entry) → rows < 2 ^ 64 → length es ≡ blocks → bytes ≡ tail_spelled s rows es → AllByRecursion HasWidths es
+    → back ≡ drop (60 * blocks) bytes → found ≡ from_be_bytes w64 (take 8 (drop (length s.columns.keys + length s.columns.values) back)) → back ≡ foot s found blocks
 foot_is s rows found blocks bytes back es fits len is h at read =
     let behind : back ≡ foot s rows blocks = at ∙ ap (λ (l : List ℕ). drop (60 * blocks) l) is ∙ drop_at (flat_map spelled es) (foot s rows (length es)) (60 * blocks) (flat_long es h ∙ ap (λ (n : ℕ). 60 * n) len) ∙ ap (λ (n : ℕ). foot s rows n) len in
     behind ∙ ap (λ (n : ℕ). foot s n blocks) (sym (read_rows s rows blocks found back fits behind read))
 
-pub found_is : (s : Columns) (rows blocks : ℕ) (bytes front : List ℕ) (ds es : List Entry) → AllByRecursion HasWidths ds → AllByRecursion HasWidths es → length ds ≡ blocks → length es ≡ blocks
+pub found_is : (s : Layout) (rows blocks : ℕ) (bytes front : List ℕ) (ds es : List Entry) → AllByRecursion HasWidths ds → AllByRecursion HasWidths es → length ds ≡ blocks → length es ≡ blocks
     → bytes ≡ tail_spelled s rows es → front ≡ take (60 * blocks) bytes → flat_map spelled ds ≡ front → ds ≡ es
 found_is s rows blocks bytes front ds es h k len size is at read =
     entries_once ds es h k (len ∙ sym size)
     (read ∙ at ∙ ap (λ (l : List ℕ). take (60 * blocks) l) is ∙ take_at (flat_map spelled es) (foot s rows (length es)) (60 * blocks) (flat_long es k ∙ ap (λ (n : ℕ). 60 * n) size))
 
-pub spelled_so : (s : Columns) (rows blocks : ℕ) (bytes front back : List ℕ) (es : List Entry) → length es ≡ blocks → front ≡ take (60 * blocks) bytes → back ≡ drop (60 * blocks) bytes
+pub spelled_so : (s : Layout) (rows blocks : ℕ) (bytes front back : List ℕ) (es : List Entry) → length es ≡ blocks → front ≡ take (60 * blocks) bytes → back ≡ drop (60 * blocks) bytes
     → flat_map spelled es ≡ front → back ≡ foot s rows blocks → bytes ≡ tail_spelled s rows es
 spelled_so s rows blocks bytes front back es len f b at is =
     sym (take-append-drop (60 * blocks) bytes) ∙ ap (λ (l : List ℕ). l ++ drop (60 * blocks) bytes) (sym f ∙ sym at) ∙ ap (λ (l : List ℕ). flat_map spelled es ++ l) (sym b ∙ is ∙ ap (λ (n : ℕ). foot s rows n) (sym len))
 
-pub index_of : (file : FileRef) (s columns : Columns) (bytes : List ℕ) (place rows : ℕ) (es entries : List Entry) (last : List ℕ) → last ≡ short_key file.last → columns ≡ s → entries ≡ es → length es ≡ file.blocks → 0 < file.blocks → place + length bytes ≡ file.len → file.blocks < 2 ^ 32 → file.len < 2 ^ 64 → rows < 2 ^ 64 → IsTrue (is_schema s)
+pub index_of : (file : FileRef) (s columns : Layout) (bytes : List ℕ) (place rows : ℕ) (es entries : List Entry) (last : List ℕ) → last ≡ short_key file.last → columns ≡ s → entries ≡ es → length es ≡ file.blocks → 0 < file.blocks → place + length bytes ≡ file.len → file.blocks < 2 ^ 32 → file.len < 2 ^ 64 → rows < 2 ^ 64 → IsTrue (is_schema s.columns)
     → bytes ≡ tail_spelled s rows es → Follow 0 es place → NeverFall (shorts_of es) → AllByRecursion HasWidths es
-    → IsIndexOf file s bytes (record { file = file.id; columns = columns; len = file.len; tail = place; rows = rows; entries = entries; last = last })
+    → IsIndexOf file s bytes (record { file = file.id; layout = columns; len = file.len; tail = place; rows = rows; entries = entries; last = last })
 index_of file s columns bytes place rows es entries last short same found len some sum few fits counted schema spelled follow fall widths =
-    subst (λ (x : Columns). IsIndexOf file s bytes (record { file = file.id; columns = x; len = file.len; tail = place; rows = rows; entries = entries; last = last })) (sym same)
-    (subst (λ (x : List Entry). IsIndexOf file s bytes (record { file = file.id; columns = s; len = file.len; tail = place; rows = rows; entries = x; last = last })) (sym found)
+    subst (λ (x : Layout). IsIndexOf file s bytes (record { file = file.id; layout = x; len = file.len; tail = place; rows = rows; entries = entries; last = last })) (sym same)
+    (subst (λ (x : List Entry). IsIndexOf file s bytes (record { file = file.id; layout = s; len = file.len; tail = place; rows = rows; entries = x; last = last })) (sym found)
     record {
       id = refl;
-      columns = refl;
+      layout = refl;
       len = refl;
       blocks = len;
       spelled = spelled;

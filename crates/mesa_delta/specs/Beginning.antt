@@ -4,7 +4,7 @@ use Rattle.std.specs.List.{AllByRecursion}
 use Rattle.std.specs.Ordering.{is_le}
 use Rattle.mesa_key.specs.Order.{byte_cmp, short_key}
 use Rattle.mesa_schema.specs.declared.rows.Row.{Row}
-use Rattle.mesa_schema.specs.Columns.{Columns}
+use Rattle.mesa_block.specs.Layout.{Layout}
 use Rattle.mesa_schema.specs.Folded.{rows_of}
 use Rattle.mesa_schema.specs.Schema.{is_schema}
 use Rattle.mesa_block.specs.Rows.{IsRow, Rise}
@@ -28,7 +28,7 @@ BeginsBefore = (key : List ℕ) (before : List (List Row)) (front : List Row) (r
     → seek_in (short_key key) (map first_short (before ++ (front ++ row ∷ back) ∷ behind)) ≤ length before
 
 -- The short keys between which the blocks of a file lie: those of the blocks' first keys, and behind them that of the last key of all.
-abbrev pub bounds_of : Columns → List Row → List (List ℕ)
+abbrev pub bounds_of : Layout → List Row → List (List ℕ)
 bounds_of s rows = map first_short (blocks_of s rows) ++ short_key (last_key rows) ∷ []
 
 -- A row's short key lies between two others, and may be one of them.
@@ -37,5 +37,5 @@ LiesBetween low high row = (is_le (byte_cmp low (short_key row.key)) ≡ true) �
 
 -- In a file the short key of each row of a block lies between that of the block's first key and that of the next block's, or of the last key of all.
 abbrev pub KeysBetween : Type 0
-KeysBetween = (s : Columns) (rows : List Row) (i : ℕ) → IsTrue (is_schema s) → 0 < length rows → AllByRecursion (IsRow s) rows → Rise (map key_of rows)
+KeysBetween = (s : Layout) (rows : List Row) (i : ℕ) → IsTrue (is_schema s.columns) → 0 < length rows → AllByRecursion (IsRow s) rows → Rise (map key_of rows)
     → AllByRecursion (LiesBetween (get_or (bounds_of s rows) i []) (get_or (bounds_of s rows) (i + 1) [])) (get_or (blocks_of s rows) i [])

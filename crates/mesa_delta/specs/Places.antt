@@ -5,7 +5,7 @@ use Rattle.std.specs.List.{AllByRecursion}
 use Rattle.sha2.specs.Sha256.{sha256}
 use Rattle.mesa_key.specs.Order.{short_key}
 use Rattle.mesa_schema.specs.declared.rows.Row.{Row}
-use Rattle.mesa_schema.specs.Columns.{Columns}
+use Rattle.mesa_block.specs.Layout.{Layout}
 use Rattle.mesa_block.specs.Rows.{most_bytes}
 use Rattle.mesa_block.specs.Spelling.{block}
 use Rattle.mesa_delta.specs.declared.place.Entry.{Entry}
@@ -17,11 +17,11 @@ abbrev pub spelled : Entry → List ℕ
 spelled e = e.short ++ (to_be_bytes w64 e.offset ++ (to_be_bytes w32 e.len ++ e.digest))
 
 -- the entry of a block that begins at an offset
-abbrev pub place_of : Columns → ℕ → List Row → Entry
+abbrev pub place_of : Layout → ℕ → List Row → Entry
 place_of s offset rows = record { short = short_key (first_key rows); offset = offset; len = length (block s rows); digest = sha256 (block s rows) }
 
 -- The entries of blocks that stand one after the other from an offset on.
-abbrev pub places : Columns → ℕ → List (List Row) → List Entry
+abbrev pub places : Layout → ℕ → List (List Row) → List Entry
 places s offset [] = []
 places s offset (rows ∷ blocks) = place_of s offset rows ∷ places s (offset + length (block s rows)) blocks
 
@@ -46,11 +46,11 @@ abbrev pub HasWidths : Entry → Type 0
 HasWidths e = (length e.short ≡ 16) × (length e.digest ≡ 32) × (e.offset < 2 ^ 64) × (e.len < 2 ^ 32)
 
 -- The bytes of a tail with these entries and this count of rows.
-abbrev pub tail_spelled : Columns → ℕ → List Entry → List ℕ
+abbrev pub tail_spelled : Layout → ℕ → List Entry → List ℕ
 tail_spelled s rows es = flat_map spelled es ++ foot s rows (length es)
 
 -- A tail at this place has these entries and this count of rows: there is a block, the blocks fill all that stands before the tail, and their short keys never fall.
-pub record IsTail (s : Columns) (place rows : ℕ) (es : List Entry) : Type 0 where
+pub record IsTail (s : Layout) (place rows : ℕ) (es : List Entry) : Type 0 where
   pub some : 0 < length es
   pub follow : Follow 0 es place
   pub fall : NeverFall (shorts_of es)

@@ -4,7 +4,7 @@ use Rattle.std.specs.List.{AllByRecursion}
 use Rattle.std.specs.declared.alloc.Global.{Global}
 use Rattle.mesa_key.specs.Order.{short_key}
 use Rattle.mesa_schema.specs.declared.rows.Row.{Row}
-use Rattle.mesa_schema.specs.Columns.{Columns}
+use Rattle.mesa_block.specs.Layout.{Layout}
 use Rattle.mesa_schema.specs.Folded.{rows_of}
 use Rattle.mesa_block.specs.Rows.{AreRows, Rise}
 use Rattle.mesa_block.specs.Spelling.{block, key_of}
@@ -35,27 +35,27 @@ buffer_of r = r.bytes
 -- Bytes end with the tail of this index.
 pub record IsOver (x : Indexed) (bytes : List ℕ) : Type 0 where
   pub len : length bytes ≡ x.len
-  pub tail : drop x.tail bytes ≡ tail_spelled x.columns x.rows x.entries
+  pub tail : drop x.tail bytes ≡ tail_spelled x.layout x.rows x.entries
 
 -- An index is of the file of these rows.
 pub record IsIndexed (x : Indexed) (rows : List Row) (bytes : List ℕ) : Type 0 where
-  pub file : IsFile x.columns rows bytes
+  pub file : IsFile x.layout rows bytes
   pub over : IsOver x bytes
-  pub blocks : length (blocks_of x.columns rows) ≡ length x.entries
+  pub blocks : length (blocks_of x.layout rows) ≡ length x.entries
   pub last : x.last ≡ short_key (last_key rows)
 
 -- where the tail of a file of this reference begins
-abbrev pub tail_place : Columns → FileRef → ℕ
-tail_place s file = file.len - tail_length s file.blocks
+abbrev pub tail_place : Layout → FileRef → ℕ
+tail_place s file = file.len - tail_length s.columns file.blocks
 
 -- A piece is the tail of no file of as many bytes and blocks.
-abbrev pub IsNoTail : Columns → FileRef → List ℕ → Type 0
+abbrev pub IsNoTail : Layout → FileRef → List ℕ → Type 0
 IsNoTail s file piece = (rows : List Row) (bytes : List ℕ) → IsFile s rows bytes → length bytes ≡ file.len → length (blocks_of s rows) ≡ file.blocks → drop (tail_place s file) bytes ≢ piece
 
 -- The block of this number has these rows, by its entry.
 pub record IsBlock (x : Indexed) (i : ℕ) (part : List Row) : Type 0 where
-  pub rows : AreRows x.columns part
-  pub entry : entry_of x.entries i ≡ place_of x.columns (entry_of x.entries i).offset part
+  pub rows : AreRows x.layout part
+  pub entry : entry_of x.entries i ≡ place_of x.layout (entry_of x.entries i).offset part
 
 -- the piece of a file that an entry tells
 abbrev pub piece_of : Indexed → ℕ → List ℕ → List ℕ
@@ -66,7 +66,7 @@ abbrev pub IsNoBlock : Indexed → ℕ → List ℕ → Type 0
 IsNoBlock x i piece = (rows : List Row) (bytes : List ℕ) → IsIndexed x rows bytes → piece_of x i bytes ≢ piece
 
 -- What is kept is of these blocks: each is one, their keys rise, and they are as full as they can be.
-pub record IsRun (s : Columns) (run : Run) (parts : List (List Row)) : Type 0 where
+pub record IsRun (s : Layout) (run : Run) (parts : List (List Row)) : Type 0 where
   pub each : AllByRecursion (AreRows s) parts
   pub rise : Rise (map key_of (rows_of parts))
   pub packed : Packed s parts
@@ -78,10 +78,10 @@ pub record IsRun (s : Columns) (run : Run) (parts : List (List Row)) : Type 0 wh
 
 -- A reader has read just these blocks one after the other, from the first on, since it last read the first one.
 pub record HasRead {R : Type 0} (bytes : R → Option (List ℕ)) (r : DeltaReader R) (parts : List (List Row)) : Type 0 where
-  pub run : IsRun r.index.columns r.run parts
-  pub places : take (length parts) r.index.entries ≡ places r.index.columns 0 parts
+  pub run : IsRun r.index.layout r.run parts
+  pub places : take (length parts) r.index.entries ≡ places r.index.layout 0 parts
   pub counted : length parts ≡ length r.index.entries → length (rows_of parts) ≡ r.index.rows
-  pub told : (b : List ℕ) → bytes r.reader ≡ Some b → take (length (flat_map (block r.index.columns) parts)) b ≡ flat_map (block r.index.columns) parts
+  pub told : (b : List ℕ) → bytes r.reader ≡ Some b → take (length (flat_map (block r.index.layout) parts)) b ≡ flat_map (block r.index.layout) parts
 
 -- A reader tells bytes that the index is of, where it tells any.
 abbrev pub IsReaderOf : {R : Type 0} → (R → Option (List ℕ)) → R → Indexed → Type 0
@@ -89,21 +89,21 @@ IsReaderOf bytes reader x = (b : List ℕ) → bytes reader ≡ Some b → IsOve
 
 -- Rows that were read are a file's: the index's tail is theirs, and what is told of the bytes is that file.
 pub record IsWhole (x : Indexed) (rows : List Row) (content : Option (List ℕ)) : Type 0 where
-  pub file : IsFile x.columns rows (file_bytes x.columns rows)
-  pub tail : file_tail x.columns rows ≡ tail_spelled x.columns x.rows x.entries
-  pub told : (b : List ℕ) → content ≡ Some b → IsFile x.columns rows b
+  pub file : IsFile x.layout rows (file_bytes x.layout rows)
+  pub tail : file_tail x.layout rows ≡ tail_spelled x.layout x.rows x.entries
+  pub told : (b : List ℕ) → content ≡ Some b → IsFile x.layout rows b
 
 -- A piece can't be the block of this number of a file with this index that begins with these blocks.
 abbrev pub IsNotNext : Indexed → ℕ → List (List Row) → List ℕ → Type 0
-IsNotNext x i parts piece = (rows : List Row) (bytes : List ℕ) → IsIndexed x rows bytes → take (length (flat_map (block x.columns) parts)) bytes ≡ flat_map (block x.columns) parts → piece_of x i bytes ≢ piece
+IsNotNext x i parts piece = (rows : List Row) (bytes : List ℕ) → IsIndexed x rows bytes → take (length (flat_map (block x.layout) parts)) bytes ≡ flat_map (block x.layout) parts → piece_of x i bytes ≢ piece
 
 -- Bytes spell no block that begins with a key of this short key.
-abbrev pub IsNoneIn : Columns → List ℕ → List ℕ → Type 0
+abbrev pub IsNoneIn : Layout → List ℕ → List ℕ → Type 0
 IsNoneIn s short bytes = (rows : List Row) → AreRows s rows → block s rows ≡ bytes → short_key (first_key rows) ≢ short
 
 -- In no file with this index such a block comes behind these.
 abbrev pub IsNeverNext : Indexed → Run → List Row → Type 0
-IsNeverNext x run part = (parts more : List (List Row)) (rows : List Row) (bytes : List ℕ) → IsRun x.columns run parts → IsIndexed x rows bytes → blocks_of x.columns rows ≢ parts ++ part ∷ more
+IsNeverNext x run part = (parts more : List (List Row)) (rows : List Row) (bytes : List ℕ) → IsRun x.layout run parts → IsIndexed x rows bytes → blocks_of x.layout rows ≢ parts ++ part ∷ more
 
 -- What damage is told of a block, after these were read: the file's length or the block's digest isn't the recorded one, or a piece of this digest can't be the block of a file with this index that begins with these.
 abbrev pub IsBlockDamage : Option (List ℕ) → ℕ → Indexed → ℕ → List (List Row) → Damage → Type 0
@@ -111,6 +111,6 @@ IsBlockDamage told size x i parts d =
     IsWrongLength x.file x.len size d ⊎ IsPieceDamage told x.file (entry_of x.entries i).offset (entry_of x.entries i).len (entry_of x.entries i).digest (IsNotNext x i parts) d
 
 -- What damage is told of a tail: the file's length or the tail's digest isn't the recorded one, or a piece of this digest is the tail of no file of the recorded length and count of blocks.
-abbrev pub IsTailDamage : Option (List ℕ) → ℕ → Columns → FileRef → Damage → Type 0
+abbrev pub IsTailDamage : Option (List ℕ) → ℕ → Layout → FileRef → Damage → Type 0
 IsTailDamage told size s file d =
     IsWrongLength file.id file.len size d ⊎ IsPieceDamage told file.id (tail_place s file) (file.len - tail_place s file) file.digest (IsNoTail s file) d

@@ -1,7 +1,7 @@
 -- How the rows of a file are spread over its blocks.
 use Rattle.std.specs.Prelude.{List, [], ◌∷◌, ◌++◌, Bool, true, false}
 use Rattle.mesa_schema.specs.declared.rows.Row.{Row}
-use Rattle.mesa_schema.specs.Columns.{Columns}
+use Rattle.mesa_block.specs.Layout.{Layout}
 use Rattle.mesa_block.specs.Fill.{fit}
 
 -- The rows of the blocks that are full, and those of the open block.
@@ -18,17 +18,17 @@ placed true b row = record b { last = b.last ++ row ∷ [] }
 placed false b row = record { done = b.done ++ b.last ∷ []; last = row ∷ [] }
 
 -- One row more: it goes into the open block where it fits there, and else it begins the next one.
-abbrev pub with_more : Columns → Filling → Row → Filling
+abbrev pub with_more : Layout → Filling → Row → Filling
 with_more s b row = placed (fit s (b.last ++ row ∷ [])) b row
 
-abbrev pub filled : Columns → Filling → List Row → Filling
+abbrev pub filled : Layout → Filling → List Row → Filling
 filled s b [] = b
 filled s b (row ∷ rows) = filled s (with_more s b row) rows
 
 -- Rows fill block after block.
-abbrev pub spread : Columns → List Row → Filling
+abbrev pub spread : Layout → List Row → Filling
 spread s rows = filled s nothing_filled rows
 
 -- The rows of each block of a file of at least one row.
-abbrev pub blocks_of : Columns → List Row → List (List Row)
+abbrev pub blocks_of : Layout → List Row → List (List Row)
 blocks_of s rows = (spread s rows).done ++ (spread s rows).last ∷ []

@@ -5,7 +5,8 @@ use Rattle.mesa_value.specs.declared.Agg.{Agg}
 use Rattle.mesa_value.specs.declared.Agg.TheVariants.{Sum, Min, Max, Replace}
 use Rattle.mesa_value.specs.Agg.{Combines}
 use Rattle.mesa_schema.specs.declared.rows.Row.{Row}
-use Rattle.mesa_schema.specs.Columns.{Columns, aggs_of}
+use Rattle.mesa_schema.specs.Columns.{aggs_of}
+use Rattle.mesa_block.specs.Layout.{Layout}
 use Rattle.mesa_schema.specs.Folded.{all_combined}
 use Rattle.mesa_disk.specs.mesa_file.declared.file_ref.FileRef.{FileRef}
 use Rattle.mesa_delta.specs.Spread.{blocks_of}
@@ -45,12 +46,13 @@ AllCombine (agg ∷ aggs) (a ∷ old) [] = ⊤
 AllCombine (agg ∷ aggs) (a ∷ old) (b ∷ new) = Combines agg a b × AllCombine aggs old new
 
 -- A reference is true of the file of these rows, adopted under this id.
-pub record IsReferenceOf (s : Columns) (number : ℕ) (written : List Row) (file : FileRef) : Type 0 where
+pub record IsReferenceOf (s : Layout) (number : ℕ) (written : List Row) (file : FileRef) : Type 0 where
+  pub format : file.format ≡ s.format
   pub id : file.id ≡ number
   pub len : file.len ≡ length (file_bytes s written)
   pub rows : file.rows ≡ length written
   pub blocks : file.blocks ≡ length (blocks_of s written)
   pub first : file.first ≡ first_key written
   pub last : file.last ≡ last_key written
-  pub aggregates : file.aggregates ≡ aggregates (aggs_of s) written
+  pub aggregates : file.aggregates ≡ aggregates (aggs_of s.columns) written
   pub digest : file.digest ≡ sha256 (file_tail s written)

@@ -2,10 +2,13 @@
 use Rattle.std.specs.Prelude.{ℕ, ◌+◌, List, [], ◌∷◌, ◌++◌, length, map}
 use Rattle.std.specs.Int.{w32, w64, to_be_bytes}
 use Rattle.sha2.specs.Sha256.{sha256}
+use Rattle.mesa_key.specs.declared.Format.{Format}
+use Rattle.mesa_key.specs.declared.Format.TheVariants.{One, Two}
 use Rattle.mesa_key.specs.Order.{short_key}
 use Rattle.mesa_schema.specs.declared.rows.Row.{Row}
 use Rattle.mesa_schema.specs.Codes.{agg_byte, kind_byte}
-use Rattle.mesa_schema.specs.Columns.{Columns, kinds_of, aggs_of}
+use Rattle.mesa_schema.specs.Columns.{kinds_of, aggs_of}
+use Rattle.mesa_block.specs.Layout.{Layout}
 use Rattle.mesa_block.specs.Spelling.{block}
 
 -- the key of the first of the rows
@@ -18,18 +21,22 @@ abbrev pub entry : List ℕ → ℕ → List ℕ → List ℕ
 entry short offset bytes = short ++ (to_be_bytes w64 offset ++ (to_be_bytes w32 (length bytes) ++ sha256 bytes))
 
 -- The entries of blocks that stand one after the other from an offset on.
-abbrev pub entries : Columns → ℕ → List (List Row) → List ℕ
+abbrev pub entries : Layout → ℕ → List (List Row) → List ℕ
 entries s offset [] = []
 entries s offset (rows ∷ blocks) = entry (short_key (first_key rows)) offset (block s rows) ++ entries s (offset + length (block s rows)) blocks
 
--- The last eight bytes of a file are `MESADLT1`.
-abbrev pub magic : List ℕ
-magic = 0x4d ∷ 0x45 ∷ 0x53 ∷ 0x41 ∷ 0x44 ∷ 0x4c ∷ 0x54 ∷ 0x31 ∷ []
+abbrev pub format_digit : Format → ℕ
+format_digit One = 0x31
+format_digit Two = 0x32
+
+-- The last eight bytes of a file are `MESADLT1` or `MESADLT2`.
+abbrev pub magic : Format → List ℕ
+magic format = 0x4d ∷ 0x45 ∷ 0x53 ∷ 0x41 ∷ 0x44 ∷ 0x4c ∷ 0x54 ∷ format_digit format ∷ []
 
 -- A tail ends with a byte for each column, the counts of rows, blocks, key columns and value columns, and the magic.
-abbrev pub foot : Columns → ℕ → ℕ → List ℕ
-foot s rows blocks = map kind_byte (kinds_of s) ++ (map agg_byte (aggs_of s) ++ (to_be_bytes w64 rows ++ (to_be_bytes w32 blocks ++ (length s.keys ∷ length s.values ∷ magic))))
+abbrev pub foot : Layout → ℕ → ℕ → List ℕ
+foot s rows blocks = map kind_byte (kinds_of s.columns) ++ (map agg_byte (aggs_of s.columns) ++ (to_be_bytes w64 rows ++ (to_be_bytes w32 blocks ++ (length s.columns.keys ∷ length s.columns.values ∷ magic s.format))))
 
 -- The tail of a file of these blocks and as many rows.
-abbrev pub tail_of : Columns → ℕ → List (List Row) → List ℕ
+abbrev pub tail_of : Layout → ℕ → List (List Row) → List ℕ
 tail_of s rows blocks = entries s 0 blocks ++ foot s rows (length blocks)

@@ -4,6 +4,8 @@ use Rattle.std.specs.List.{AllByRecursion}
 use Rattle.mesa_schema.specs.declared.rows.Row.{Row}
 use Rattle.mesa_schema.specs.Columns.{Columns, aggs_of}
 use Rattle.mesa_schema.specs.Rows.{IsRowOf}
+use Rattle.mesa_key.specs.declared.Format.TheVariants as format
+use Rattle.mesa_block.specs.Layout.{Layout}
 use Rattle.mesa_block.specs.Rows.{IsRow, Rise}
 use Rattle.mesa_block.specs.Spelling.{key_of}
 use Rattle.mesa_delta.specs.Spread.{spread}
@@ -16,13 +18,17 @@ use Rattle.mesa_delta.specs.declared.writer.DeltaWriter.{DeltaWriter}
 abbrev pub columns_of : {M T : Type 0} → DeltaWriter M T → Columns
 columns_of w = w.schema
 
+-- files are written in format 2
+abbrev pub layout_of : {M T : Type 0} → DeltaWriter M T → Layout
+layout_of w = record { format = format.Two; columns = w.schema }
+
 abbrev pub id_of : {M T : Type 0} → DeltaWriter M T → ℕ
 id_of w = w.id
 
 abbrev pub draft_of : {M T : Type 0} → DeltaWriter M T → T
 draft_of w = w.blocks.draft
 
--- A row may follow others: it has the columns' form, its key is greater than theirs, and each sum over all of them is a number of 64 bits.
+-- A row may follow others: it has the columns' form, its key is greater than theirs, and each sum over all of them keeps its bound.
 pub record MayFollow (s : Columns) (rows : List Row) (row : Row) : Type 0 where
   pub form : IsRowOf s row
   pub greater : Rise (map key_of (rows ++ row ∷ []))
@@ -30,9 +36,9 @@ pub record MayFollow (s : Columns) (rows : List Row) (row : Row) : Type 0 where
 
 -- A writer has taken just these rows.
 pub record HasTaken {M T : Type 0} (bytes : T → Option (List ℕ)) (w : DeltaWriter M T) (rows : List Row) : Type 0 where
-  pub laid : Lays bytes w.schema w.blocks (spread w.schema rows)
+  pub laid : Lays bytes (layout_of w) w.blocks (spread (layout_of w) rows)
   pub tallied : Tallies w.schema w.tally rows
-  pub good : AllByRecursion (IsRow w.schema) rows
+  pub good : AllByRecursion (IsRow (layout_of w)) rows
   pub rise : Rise (map key_of rows)
 
 -- A row may be given to a writer: it has taken rows that the row may follow.

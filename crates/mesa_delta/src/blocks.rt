@@ -1,7 +1,7 @@
 // Blocks that are written through a draft.
 ghost use Rattle.std.specs.Prelude.{◌≡◌, IsTrue, ◌<◌, ◌≤◌, ◌^◌, ℕ, List, [], ◌∷◌, ◌++◌, length, map, IfOk, OnOk, IfErr, None};
 ghost use Rattle.mesa_disk.specs.mesa_fault.Causes.{HasFaultCause};
-ghost use Rattle.mesa_schema.specs.Columns.{Columns};
+ghost use Rattle.mesa_block.specs.Layout.{Layout};
 ghost use Rattle.mesa_block.specs.Fill.{after, fit};
 ghost use Rattle.mesa_block.specs.Rows.{IsRow, Rise};
 ghost use Rattle.mesa_block.specs.Spelling.{key_of};
@@ -14,7 +14,7 @@ use crate::WriteError;
 use crate::tail::{put_entry, put_foot};
 use mesa_block::{BlockBuilder, fits_alone};
 use mesa_disk::{Draft, Made};
-use mesa_key::short;
+use mesa_key::{Format, short};
 use mesa_schema::{Row, Schema};
 use sha2::{Digest, Sha256};
 use std::alloc::AllocError;
@@ -48,11 +48,11 @@ pub struct BlockWriter<M, T> {
 impl<M: Made, T: Draft<M>> BlockWriter<M, T> {
     /// One row more, in the open block where it fits there, else in the next one.
     pub fn push(&mut self, schema: &Schema, row: &Row) -> Result<(), WriteError>
-        requires columns { self.old.builder.columns ≡ schema.now }
-        requires form { IsRow schema.now row.now }
+        requires columns { self.old.builder.layout ≡ record { format = Format.Two; columns = schema.now } }
+        requires form { IsRow (record { format = Format.Two; columns = schema.now }) row.now }
         requires greater { Rise (map key_of (self.old.builder.rows ++ row.now ∷ [])) }
         requires short { self.old.short ≡ begun self.old.builder.rows }
-        ensures laid { OnOk result ((f : Filling) → Lays T.bytes schema.now self.old f → Lays T.bytes schema.now self.new (with_more schema.now f row.now)) }
+        ensures laid { OnOk result ((f : Filling) → Lays T.bytes (record { format = Format.Two; columns = schema.now }) self.old f → Lays T.bytes (record { format = Format.Two; columns = schema.now }) self.new (with_more (record { format = Format.Two; columns = schema.now }) f row.now)) }
         ensures id { T.id_of self.new.draft ≡ T.id_of self.old.draft }
         ensures cause { HasFaultCause (λ e. e ≡ DraftFault) (T.faults self.old.draft) (T.faults self.new.draft) result }
     {
@@ -85,10 +85,10 @@ impl<M: Made, T: Draft<M>> BlockWriter<M, T> {
 
     // Whether the row fits in the open block, and then it is there.
     fn offer(&mut self, row: &Row) -> Result<bool, AllocError>
-        requires form { IsRow self.old.builder.columns row.now }
+        requires form { IsRow self.old.builder.layout row.now }
         requires greater { Rise (map key_of (self.old.builder.rows ++ row.now ∷ [])) }
         requires short { self.old.short ≡ begun self.old.builder.rows }
-        ensures fits { IfOk result (λ b. b ≡ fit self.old.builder.columns (self.old.builder.rows ++ row.now ∷ [])) }
+        ensures fits { IfOk result (λ b. b ≡ fit self.old.builder.layout (self.old.builder.rows ++ row.now ∷ [])) }
         ensures ok { IfOk result (λ b. self.new.builder ≡ after b self.old.builder row.now) }
         ensures short { OnOk result (self.new.short ≡ begun self.new.builder.rows) }
         ensures same { self.new ≡ record self.old { builder = self.new.builder; short = self.new.short } }
@@ -104,7 +104,7 @@ impl<M: Made, T: Draft<M>> BlockWriter<M, T> {
     pub fn close(&mut self) -> Result<(), WriteError>
         requires some { 0 < length self.old.builder.rows }
         requires short { self.old.short ≡ begun self.old.builder.rows }
-        ensures laid { OnOk result ((s : Columns) (f : Filling) → Lays T.bytes s self.old f → Lays T.bytes s self.new (record { done = f.done ++ f.last ∷ []; last = [] })) }
+        ensures laid { OnOk result ((s : Layout) (f : Filling) → Lays T.bytes s self.old f → Lays T.bytes s self.new (record { done = f.done ++ f.last ∷ []; last = [] })) }
         ensures empty { OnOk result (self.new.builder ≡ record self.old.builder { rows = [] }) }
         ensures short { OnOk result (self.new.short ≡ None) }
         ensures id { T.id_of self.new.draft ≡ T.id_of self.old.draft }
@@ -132,12 +132,12 @@ impl<M: Made, T: Draft<M>> BlockWriter<M, T> {
     pub fn seal(&mut self, schema: &Schema, rows: u64) -> Result<Sealed, WriteError>
         requires some { 0 < length self.old.builder.rows }
         requires short { self.old.short ≡ begun self.old.builder.rows }
-        ensures sealed { IfOk result (λ x. (f : Filling) → Lays T.bytes schema.now self.old f → IsSealed T.bytes schema.now self.new.draft rows (f.done ++ f.last ∷ []) x) }
+        ensures sealed { IfOk result (λ x. (f : Filling) → Lays T.bytes (record { format = Format.Two; columns = schema.now }) self.old f → IsSealed T.bytes (record { format = Format.Two; columns = schema.now }) self.new.draft rows (f.done ++ f.last ∷ []) x) }
         ensures id { T.id_of self.new.draft ≡ T.id_of self.old.draft }
         ensures cause { HasFaultCause (λ e. e ≡ DraftFault) (T.faults self.old.draft) (T.faults self.new.draft) result }
     {
         self.close()?;
-        put_foot(&mut self.entries, schema, rows, self.blocks)?;
+        put_foot(&mut self.entries, Format::Two, schema, rows, self.blocks)?;
         let Some(len) = self.offset.checked_add(self.entries.len() as u64) else {
             return Err(WriteError::Memory);
         };

@@ -13,7 +13,7 @@ use crate::seeking::seek;
 use crate::tail::put_foot;
 use byteorder::{BigEndian, ByteOrder};
 use mesa_disk::{FileId, FileRef};
-use mesa_key::short;
+use mesa_key::{Format, short};
 use mesa_list::{Items, TryCopy};
 use mesa_schema::Schema;
 use std::alloc::{AllocError, Global};
@@ -23,6 +23,7 @@ use std::marker::Model;
 #[derive(Drop)]
 pub struct Index {
     file: FileId,
+    format: Format,
     schema: Schema,
     len: u64,
     tail: u64,
@@ -36,9 +37,9 @@ impl Model for Index {
 
     ghost Value = { Indexed };
 
-    ghost view = { λ x. record { file = x.file; columns = x.schema; len = x.len; tail = x.tail; rows = x.rows; entries = x.entries; last = x.last } };
+    ghost view = { λ x. record { file = x.file; layout = record { format = x.format; columns = x.schema }; len = x.len; tail = x.tail; rows = x.rows; entries = x.entries; last = x.last } };
 
-    ghost invariant = { λ x. IsIndex (record { file = x.file; columns = x.schema; len = x.len; tail = x.tail; rows = x.rows; entries = x.entries; last = x.last }) };
+    ghost invariant = { λ x. IsIndex (record { file = x.file; layout = record { format = x.format; columns = x.schema }; len = x.len; tail = x.tail; rows = x.rows; entries = x.entries; last = x.last }) };
 }
 
 impl Index {
@@ -50,9 +51,9 @@ impl Index {
         bytes: &[u8],
     ) -> Result<Option<Self>, AllocError>
         requires { length bytes.now ≤ file.now.len }
-        ensures found { IfOk result (λ o. IfSome o (λ x. IsIndexOf file.now schema.now bytes.now x)) }
-        ensures none { IfOk result (λ o. IfNone o ((rows : ℕ) (es : List AnyEntry) → rows < 2 ^ 64 → length es ≡ file.now.blocks → bytes.now ≡ tail_spelled schema.now rows es
-            → (place : ℕ) → place + length bytes.now ≡ file.now.len → IsTail schema.now place rows es → ⊥)) }
+        ensures found { IfOk result (λ o. IfSome o (λ x. IsIndexOf file.now (record { format = file.now.format; columns = schema.now }) bytes.now x)) }
+        ensures none { IfOk result (λ o. IfNone o ((rows : ℕ) (es : List AnyEntry) → rows < 2 ^ 64 → length es ≡ file.now.blocks → bytes.now ≡ tail_spelled (record { format = file.now.format; columns = schema.now }) rows es
+            → (place : ℕ) → place + length bytes.now ≡ file.now.len → IsTail (record { format = file.now.format; columns = schema.now }) place rows es → ⊥)) }
     {
         let count = file.blocks as usize;
         let columns = schema.keys().len() + schema.values().len();
@@ -65,7 +66,7 @@ impl Index {
         }
         let (places, foot) = bytes.split_at(places);
         let rows = rows_at(foot, columns);
-        if !is_foot(alloc, foot, schema, rows, file.blocks)? {
+        if !is_foot(alloc, foot, file.format, schema, rows, file.blocks)? {
             return Ok(None);
         }
         let entries = read_entries(alloc, places, count)?;
@@ -78,6 +79,7 @@ impl Index {
         }
         Ok(Some(Index {
             file: file.id,
+            format: file.format,
             schema: schema.copy()?,
             len: file.len,
             tail,
@@ -94,9 +96,16 @@ impl Index {
         self.file
     }
 
+    /// How the file's blocks spell values.
+    pub fn format(&self) -> Format
+        ensures { result ≡ self.now.layout.format }
+    {
+        self.format
+    }
+
     /// The columns of the file's rows.
     pub fn schema(&self) -> &Schema
-        ensures { result.now ≡ self.now.columns }
+        ensures { result.now ≡ self.now.layout.columns }
     {
         &self.schema
     }
@@ -173,13 +182,14 @@ fn rows_at(bytes: &[u8], at: usize) -> u64
 fn is_foot(
     alloc: Global,
     bytes: &[u8],
+    format: Format,
     schema: &Schema,
     rows: u64,
     blocks: u32,
 ) -> Result<bool, AllocError>
-    ensures { IfOk result (λ b. IsTrue b ↔ (bytes.now ≡ foot schema.now rows blocks)) }
+    ensures { IfOk result (λ b. IsTrue b ↔ (bytes.now ≡ foot (record { format = format; columns = schema.now }) rows blocks)) }
 {
     let mut foot = Vec::new(alloc);
-    put_foot(&mut foot, schema, rows, blocks)?;
+    put_foot(&mut foot, format, schema, rows, blocks)?;
     Ok(foot.as_slice() == bytes)
 }

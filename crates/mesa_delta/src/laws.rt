@@ -4,7 +4,7 @@ ghost use Rattle.std.specs.declared.cmp.Ordering.TheVariants.{Less};
 ghost use Rattle.mesa_value.specs.declared.Agg.{Agg as AnyAgg};
 ghost use Rattle.mesa_key.specs.Order.{byte_cmp};
 ghost use Rattle.mesa_schema.specs.declared.rows.Row.{Row as AnyRow};
-ghost use Rattle.mesa_schema.specs.Columns.{Columns};
+ghost use Rattle.mesa_block.specs.Layout.{Layout};
 ghost use Rattle.mesa_schema.specs.Folded.{all_combined, row_combined};
 ghost use Rattle.mesa_schema.specs.Schema.{is_schema};
 ghost use Rattle.mesa_block.specs.Rows.{Rise};
@@ -30,7 +30,7 @@ pub fn keys_between()
 
 /// Two files of as many blocks with the same bytes have the same rows.
 pub fn one_file()
-    ensures { (s : Columns) (rows others : List AnyRow) (bytes : List ℕ) → IsTrue (is_schema s) → length bytes < 2 ^ 64 → IsFile s rows bytes → IsFile s others bytes
+    ensures { (s : Layout) (rows others : List AnyRow) (bytes : List ℕ) → IsTrue (is_schema s.columns) → length bytes < 2 ^ 64 → IsFile s rows bytes → IsFile s others bytes
         → length (blocks_of s rows) ≡ length (blocks_of s others) → rows ≡ others }
 {
     fits_alone();

@@ -25,8 +25,8 @@ use crate::run::Run;
 use crate::{FileError, Index, begins_before};
 use mesa_block::{Block, BlockError, fits_alone, grows_by_rows, read_block, reads_blocks};
 use mesa_disk::{Damage, FileId, FileReader, FileRef, Seen};
-use mesa_key::short;
-use mesa_schema::{Row, Schema};
+use mesa_key::{Format, short};
+use mesa_schema::Schema;
 use std::alloc::{AllocError, Global};
 
 /// A file that is read block by block. The tail was read once, and a block is read by one read.
@@ -84,13 +84,13 @@ fn read_index<R: FileReader>(
     schema: &Schema,
     bytes: &mut Vec<u8>,
 ) -> Result<Index, FileError>
-    ensures index { IfOk result (λ x. (bytes : List ℕ) × IsIndexOf file.now schema.now bytes x × (sha256 bytes ≡ file.now.digest)) }
+    ensures index { IfOk result (λ x. (bytes : List ℕ) × IsIndexOf file.now (record { format = file.now.format; columns = schema.now }) bytes x × (sha256 bytes ≡ file.now.digest)) }
     ensures over { IfOk result (λ x. (b : List ℕ) → R.bytes reader.old ≡ Some b → IsOver x b) }
     ensures bytes { R.bytes reader.new ≡ R.bytes reader.old }
     ensures size { R.size reader.new ≡ R.size reader.old }
     ensures reads { R.reads reader.new ≤ R.reads reader.old + 1 }
     ensures cause { HasFaultCause (λ e. e ≡ file_error.Read) (R.faults reader.old) (R.faults reader.new) result }
-    ensures damaged { IfErr result (λ e. (d : AnyDamage) → e ≡ file_error.Damaged d → IsTailDamage (R.bytes reader.old) (R.size reader.old) schema.now file.now d) }
+    ensures damaged { IfErr result (λ e. (d : AnyDamage) → e ≡ file_error.Damaged d → IsTailDamage (R.bytes reader.old) (R.size reader.old) (record { format = file.now.format; columns = schema.now }) file.now d) }
 {
     fits_alone();
     let _columns = schema.keys();
@@ -111,17 +111,18 @@ fn read_index<R: FileReader>(
 // The block that these bytes spell, if it begins with a key of this short key.
 fn block_in(
     alloc: Global,
+    format: Format,
     schema: &Schema,
     short: &[u8; 16],
     bytes: &[u8],
 ) -> Result<Option<Block>, AllocError>
-    ensures found { IfOk result (λ o. IfSome o (λ rows. AreRows schema.now rows × (block schema.now rows ≡ bytes.now) × (short_key (first_key rows) ≡ short.now))) }
-    ensures none { IfOk result (λ o. IfNone o (IsNoneIn schema.now short.now bytes.now)) }
+    ensures found { IfOk result (λ o. IfSome o (λ rows. AreRows (record { format = format; columns = schema.now }) rows × (block (record { format = format; columns = schema.now }) rows ≡ bytes.now) × (short_key (first_key rows) ≡ short.now))) }
+    ensures none { IfOk result (λ o. IfNone o (IsNoneIn (record { format = format; columns = schema.now }) short.now bytes.now)) }
 {
     reads_blocks();
-    match read_block(alloc, schema, bytes) {
+    match read_block(alloc, format, schema, bytes) {
         Ok(block) => {
-            if begins(block.rows(), short) {
+            if begins(&block, short) {
                 Ok(Some(block))
             } else {
                 Ok(None)
@@ -138,11 +139,11 @@ fn block_in(
 }
 
 // Whether the first row's key has this short key.
-fn begins(rows: &[Row], wanted: &[u8; 16]) -> bool
+fn begins(rows: &Block, wanted: &[u8; 16]) -> bool
     requires { 0 < length rows.now }
     ensures { IsTrue result ↔ (short_key (first_key rows.now) ≡ wanted.now) }
 {
-    short(rows[0].key.as_slice()) == *wanted
+    short(rows.row(0).key) == *wanted
 }
 
 // A block, tested by itself, by one read.
@@ -155,7 +156,7 @@ fn fetch<R: FileReader>(
 ) -> Result<Block, FileError>
     requires { i < length index.now.entries }
     ensures block { IfOk result (λ rows. IsBlock index.now i rows) }
-    ensures told { IfOk result (λ rows. (b : List ℕ) → R.bytes reader.old ≡ Some b → piece_of index.now i b ≡ block index.now.columns rows) }
+    ensures told { IfOk result (λ rows. (b : List ℕ) → R.bytes reader.old ≡ Some b → piece_of index.now i b ≡ block index.now.layout rows) }
     ensures bytes { R.bytes reader.new ≡ R.bytes reader.old }
     ensures size { R.size reader.new ≡ R.size reader.old }
     ensures reads { R.reads reader.new ≤ R.reads reader.old + 1 }
@@ -172,17 +173,17 @@ fn fetch<R: FileReader>(
     if let Err(damage) = check_digest(index.file(), entry.offset, &entry.digest, bytes) {
         return Err(FileError::Damaged(damage));
     }
-    match block_in(alloc, index.schema(), &entry.short, bytes)? {
+    match block_in(alloc, index.format(), index.schema(), &entry.short, bytes)? {
         Some(block) => Ok(block),
         None => Err(FileError::Damaged(misfit(index.file(), entry.offset))),
     }
 }
 
 // What is kept of the blocks that were read, with one more.
-fn go_on(index: &Index, run: &Run, rows: &[Row]) -> Result<Run, FileError>
+fn go_on(index: &Index, run: &Run, rows: &Block) -> Result<Run, FileError>
     requires some { 0 < length rows.now }
     requires place { run.now.next < length index.now.entries }
-    ensures more { IfOk result (λ after. (parts : List (List AnyRow)) → IsRun index.now.columns run.now parts → IsBlock index.now run.now.next rows.now → IsRun index.now.columns after (parts ++ rows.now ∷ [])) }
+    ensures more { IfOk result (λ after. (parts : List (List AnyRow)) → IsRun index.now.layout run.now parts → IsBlock index.now run.now.next rows.now → IsRun index.now.layout after (parts ++ rows.now ∷ [])) }
     ensures counted { IfOk result (λ after. after.next ≡ length index.now.entries → after.rows ≡ index.now.rows) }
     ensures next { IfOk result (λ after. after.next ≡ run.now.next + 1) }
     ensures err { IfErr result (λ e. (d : AnyDamage) → e ≡ file_error.Damaged d
@@ -193,7 +194,7 @@ fn go_on(index: &Index, run: &Run, rows: &[Row]) -> Result<Run, FileError>
     fits_alone();
     grows_by_rows();
     let entry = index.entry(run.next);
-    if !run.allows(index.schema(), &rows[0]) {
+    if !run.allows(index.format(), index.schema(), rows.row(0)) {
         return Err(FileError::Damaged(misfit(index.file(), entry.offset)));
     }
     let after = run.after(rows, entry.len)?;
@@ -214,7 +215,7 @@ impl<R: FileReader> DeltaReader<R> {
         schema: &Schema,
     ) -> Result<Self, (FileError, R)>
         // The index is what the tail tells.
-        ensures index { IfOk result (λ r. (bytes : List ℕ) × IsIndexOf file.now schema.now bytes (index_of r) × (sha256 bytes ≡ file.now.digest)) }
+        ensures index { IfOk result (λ r. (bytes : List ℕ) × IsIndexOf file.now (record { format = file.now.format; columns = schema.now }) bytes (index_of r) × (sha256 bytes ≡ file.now.digest)) }
         ensures over { IfOk result (λ r. IsReaderOf R.bytes (reader_of r) (index_of r)) }
         ensures read { IfOk result (λ r. HasRead R.bytes r []) }
 
@@ -229,9 +230,9 @@ impl<R: FileReader> DeltaReader<R> {
         ensures cause { IfErr result (λ e. (R.faults reader ≤ R.faults e.1) × (e.0 ≡ file_error.Read → Rose (R.faults reader) (R.faults e.1))) }
         ensures quiet { IfOk result (λ r. R.faults (reader_of r) ≡ R.faults reader) }
         ensures other { IfErr result (λ e. e.0 ≢ file_error.Read → R.faults e.1 ≡ R.faults reader) }
-        ensures damaged { IfErr result (λ e. (d : AnyDamage) → e.0 ≡ file_error.Damaged d → IsTailDamage (R.bytes reader) (R.size reader) schema.now file.now d) }
-        ensures accepts { IfErr result (λ e. (d : AnyDamage) → e.0 ≡ file_error.Damaged d → (b : List ℕ) (rows : List AnyRow) → R.bytes reader ≡ Some b → IsFile schema.now rows b
-            → IsReferenceOf schema.now file.now.id rows file.now → ⊥) }
+        ensures damaged { IfErr result (λ e. (d : AnyDamage) → e.0 ≡ file_error.Damaged d → IsTailDamage (R.bytes reader) (R.size reader) (record { format = file.now.format; columns = schema.now }) file.now d) }
+        ensures accepts { IfErr result (λ e. (d : AnyDamage) → e.0 ≡ file_error.Damaged d → (b : List ℕ) (rows : List AnyRow) → R.bytes reader ≡ Some b → IsFile (record { format = file.now.format; columns = schema.now }) rows b
+            → IsReferenceOf (record { format = file.now.format; columns = schema.now }) file.now.id rows file.now → ⊥) }
     {
         told_sizes(&reader);
         told_length(file);
@@ -273,11 +274,11 @@ impl<R: FileReader> DeltaReader<R> {
 
         // The block is the one that the entry tells, read from the bytes at its place.
         ensures block { IfOk result (λ rows. IsBlock (index_of self.old) i rows) }
-        ensures told { IfOk result (λ rows. (b : List ℕ) → R.bytes (reader_of self.old) ≡ Some b → piece_of (index_of self.old) i b ≡ block (index_of self.old).columns rows) }
+        ensures told { IfOk result (λ rows. (b : List ℕ) → R.bytes (reader_of self.old) ≡ Some b → piece_of (index_of self.old) i b ≡ block (index_of self.old).layout rows) }
 
         // What was written is read again.
         ensures again { IfOk result (λ rows. (b : List ℕ) (all : List AnyRow) → R.bytes (reader_of self.old) ≡ Some b → IsIndexed (index_of self.old) all b
-            → rows ≡ get_or (blocks_of (index_of self.old).columns all) i []) }
+            → rows ≡ get_or (blocks_of (index_of self.old).layout all) i []) }
 
         // Which blocks were read one after the other from the first on.
         ensures first { IfOk result (λ rows. i ≡ 0 → HasRead R.bytes self.new (rows ∷ [])) }
@@ -311,14 +312,14 @@ impl<R: FileReader> DeltaReader<R> {
         };
         if i == 0 {
             let start = Run::start(alloc);
-            match go_on(&self.index, &start, block.rows()) {
+            match go_on(&self.index, &start, &block) {
                 Ok(run) => self.run = run,
                 Err(error) => return Err(error),
             }
             return Ok(block);
         }
         if i == self.run.next {
-            match go_on(&self.index, &self.run, block.rows()) {
+            match go_on(&self.index, &self.run, &block) {
                 Ok(run) => self.run = run,
                 Err(error) => return Err(error),
             }
@@ -332,7 +333,7 @@ impl<R: FileReader> DeltaReader<R> {
     pub fn seek(&self, key: &[u8]) -> u32
         ensures seek { result ≡ seek_in (short_key key.now) (shorts_of (index_of self.now).entries) }
         ensures begins { (rows : List AnyRow) (bytes : List ℕ) → IsIndexed (index_of self.now) rows bytes → (before : List (List AnyRow)) (front : List AnyRow) (row : AnyRow) (back : List AnyRow) (behind : List (List AnyRow))
-            → blocks_of (index_of self.now).columns rows ≡ before ++ (front ++ row ∷ back) ∷ behind → is_le (byte_cmp key.now row.key) ≡ true → result ≤ length before }
+            → blocks_of (index_of self.now).layout rows ≡ before ++ (front ++ row ∷ back) ∷ behind → is_le (byte_cmp key.now row.key) ≡ true → result ≤ length before }
     {
         fits_alone();
         begins_before();

@@ -1,12 +1,13 @@
 // Blocks that are read one after the other, from the first on.
 ghost use Rattle.std.specs.Prelude.{◌≡◌, ◌<◌, ◌+◌, [], length, IfOk};
+ghost use Rattle.mesa_block.specs.Lent.{lent};
 ghost use Rattle.mesa_delta.specs.Packing.{goes_on};
 ghost use Rattle.mesa_delta.specs.Summary.{last_key};
 
-use mesa_block::{is_full, rises};
-use mesa_key::KeyBytes;
-use mesa_list::{Items, TryCopy};
-use mesa_schema::{Row, Schema};
+use mesa_block::{Block, LentRow, is_full, rises, row_size};
+use mesa_key::{Format, KeyBytes};
+use mesa_list::Items;
+use mesa_schema::Schema;
 use std::alloc::{AllocError, Global};
 
 /// What is kept of the blocks that were read one after the other, so that the next one can be tested against them.
@@ -42,18 +43,18 @@ impl Run {
     }
 
     /// Whether a block that begins with this row may come next.
-    pub fn allows(&self, schema: &Schema, row: &Row) -> bool
-        ensures { result ≡ goes_on schema.now self.now row.now }
+    pub fn allows(&self, format: Format, schema: &Schema, row: LentRow) -> bool
+        ensures { result ≡ goes_on (record { format = format; columns = schema.now }) self.now (lent row.entry) }
     {
         if self.next == 0 {
             return true;
         }
-        rises(self.last.as_slice(), row.key.as_slice())
-            && is_full(schema, self.count, self.len as usize, row)
+        rises(self.last.as_slice(), row.key)
+            && is_full(row_size(format, schema), self.count, self.len as usize, row)
     }
 
     /// With a block of these rows more, of this many bytes. More rows than can be counted are answered as want of memory.
-    pub fn after(&self, rows: &[Row], len: u32) -> Result<Run, AllocError>
+    pub fn after(&self, rows: &Block, len: u32) -> Result<Run, AllocError>
         requires some { 0 < length rows.now }
         ensures next { IfOk result (λ run. run.next ≡ self.now.next + 1) }
         ensures rows { IfOk result (λ run. run.rows ≡ self.now.rows + length rows.now) }
@@ -70,7 +71,7 @@ impl Run {
         Ok(Run {
             next,
             rows: sum,
-            last: rows[rows.len() - 1].key.copy()?,
+            last: Items::from_bytes(self.last.allocator(), rows.row(rows.len() - 1).key)?,
             count: rows.len(),
             len,
         })

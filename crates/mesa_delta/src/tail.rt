@@ -2,9 +2,10 @@
 ghost use Rattle.std.specs.Prelude.{◌≡◌, ◌<◌, ◌^◌, ◌++◌, length, map, OnOk};
 ghost use Rattle.std.specs.Int.{w32, w64, to_be_bytes};
 ghost use Rattle.mesa_schema.specs.Codes.{agg_byte as byte_of_agg, kind_byte as byte_of_kind};
-ghost use Rattle.mesa_delta.specs.Tail.{entry, foot};
+ghost use Rattle.mesa_delta.specs.Tail.{entry, foot, magic as magic_of};
 
 use byteorder::{BigEndian, ByteOrder};
+use mesa_key::Format;
 use mesa_schema::{KeyColumn, Schema, ValueColumn, agg_byte, kind_byte};
 use sha2::{Digest, Sha256};
 use std::alloc::AllocError;
@@ -69,11 +70,12 @@ fn put_aggs(out: &mut Vec<u8>, columns: &[ValueColumn]) -> Result<(), AllocError
 /// Appends the end of a tail, behind the entries.
 pub fn put_foot(
     out: &mut Vec<u8>,
+    format: Format,
     schema: &Schema,
     rows: u64,
     blocks: u32,
 ) -> Result<(), AllocError>
-    ensures { OnOk result (out.new.items ≡ out.old.items ++ foot schema.now rows blocks) }
+    ensures { OnOk result (out.new.items ≡ out.old.items ++ foot (record { format = format; columns = schema.now }) rows blocks) }
 {
     put_kinds(out, schema.keys())?;
     put_aggs(out, schema.values())?;
@@ -81,6 +83,16 @@ pub fn put_foot(
     put_u32(out, blocks)?;
     out.push(schema.keys().len() as u8)?;
     out.push(schema.values().len() as u8)?;
-    out.extend_from_slice(b"MESADLT1")?;
+    out.extend_from_slice(&magic(format))?;
     Ok(())
+}
+
+// The last bytes of a file.
+fn magic(format: Format) -> [u8; 8]
+    ensures { result ≡ magic_of format }
+{
+    match format {
+        Format::One => *b"MESADLT1",
+        Format::Two => *b"MESADLT2",
+    }
 }

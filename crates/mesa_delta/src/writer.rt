@@ -10,13 +10,14 @@ ghost use Rattle.mesa_block.specs.Spelling.{key_of};
 ghost use Rattle.mesa_delta.specs.declared.error.WriteError.TheVariants.{Draft as DraftFault};
 ghost use Rattle.mesa_delta.specs.File.{IsFile};
 ghost use Rattle.mesa_delta.specs.Summary.{AllCombine, IsReferenceOf, aggregates};
-ghost use Rattle.mesa_delta.specs.Writing.{HasTaken, IsNext, columns_of, id_of, draft_of};
+ghost use Rattle.mesa_delta.specs.Writing.{HasTaken, IsNext, columns_of, id_of, draft_of, layout_of};
 
 use crate::WriteError;
 use crate::blocks::{BlockWriter, Sealed};
 use crate::tally::Tally;
 use mesa_block::BlockBuilder;
 use mesa_disk::{Draft, FileId, FileRef, Made};
+use mesa_key::Format;
 use mesa_list::{Items, TryCopy};
 use mesa_schema::{Row, Schema};
 use mesa_value::Amount;
@@ -51,7 +52,7 @@ impl<M: Made, T: Draft<M>> DeltaWriter<M, T> {
         let Ok(copy) = schema.copy() else {
             return Err((AllocError, draft));
         };
-        let Ok(builder) = BlockBuilder::new(alloc, schema) else {
+        let Ok(builder) = BlockBuilder::new(alloc, Format::Two, schema) else {
             return Err((AllocError, draft));
         };
         let blocks = BlockWriter {
@@ -72,7 +73,7 @@ impl<M: Made, T: Draft<M>> DeltaWriter<M, T> {
         })
     }
 
-    /// Whether the sums over the rows so far and the row are numbers of 64 bits.
+    /// Whether the sums over the rows so far and the row keep their bound.
     pub fn allows(&self, row: &Row) -> bool
         ensures { (rows : List AnyRow) → HasTaken T.bytes self.now rows
             → IsTrue result ↔ (0 < length rows → AllCombine (aggs_of (columns_of self.now)) (aggregates (aggs_of (columns_of self.now)) rows) row.now.values) }
@@ -82,7 +83,7 @@ impl<M: Made, T: Draft<M>> DeltaWriter<M, T> {
 
     /// The rows so far have the columns' form, and their keys rise.
     pub fn held(&self)
-        ensures { (rows : List AnyRow) → HasTaken T.bytes self.now rows → AllByRecursion (IsRow (columns_of self.now)) rows × Rise (map key_of rows) }
+        ensures { (rows : List AnyRow) → HasTaken T.bytes self.now rows → AllByRecursion (IsRow (layout_of self.now)) rows × Rise (map key_of rows) }
     {}
 
     /// One row more.
@@ -103,8 +104,8 @@ impl<M: Made, T: Draft<M>> DeltaWriter<M, T> {
     /// The finished file, and the reference that is true of it.
     pub fn finish(self) -> Result<(M, FileRef), (WriteError, T)>
         requires { (rows : List AnyRow) × (0 < length rows) × HasTaken T.bytes self rows }
-        ensures file { IfOk result (λ x. (rows : List AnyRow) → HasTaken T.bytes self rows → (bytes : List ℕ) → M.bytes x.0 ≡ Some bytes → IsFile (columns_of self) rows bytes) }
-        ensures reference { IfOk result (λ x. (rows : List AnyRow) → HasTaken T.bytes self rows → IsReferenceOf (columns_of self) (id_of self) rows x.1) }
+        ensures file { IfOk result (λ x. (rows : List AnyRow) → HasTaken T.bytes self rows → (bytes : List ℕ) → M.bytes x.0 ≡ Some bytes → IsFile (layout_of self) rows bytes) }
+        ensures reference { IfOk result (λ x. (rows : List AnyRow) → HasTaken T.bytes self rows → IsReferenceOf (layout_of self) (id_of self) rows x.1) }
         ensures id { IfOk result (λ x. M.id_of x.0 ≡ T.id_of (draft_of self)) }
         ensures given_back { IfErr result (λ e. T.id_of e.1 ≡ T.id_of (draft_of self)) }
         ensures cause { IfErr result (λ e. (T.faults (draft_of self) ≤ T.faults e.1) × (e.0 ≡ DraftFault → Rose (T.faults (draft_of self)) (T.faults e.1))) }
@@ -141,7 +142,7 @@ impl<M: Made, T: Draft<M>> DeltaWriter<M, T> {
     }
 }
 
-// What a row has as values are numbers of 64 bits: each that is read is one.
+// What a row has as values are amounts: each that is read is one.
 fn are_amounts(values: &[Amount])
     ensures { AllByRecursion IsAmount values.now }
 {
@@ -152,6 +153,7 @@ fn are_amounts(values: &[Amount])
 
 // The reference of a file with these rows.
 fn reference(id: FileId, sealed: &Sealed, tally: Tally) -> FileRef
+    ensures format { result.format ≡ Format.Two }
     ensures id { result.id ≡ id }
     ensures len { result.len ≡ sealed.now.len }
     ensures rows { result.rows ≡ tally.rows }
@@ -162,6 +164,7 @@ fn reference(id: FileId, sealed: &Sealed, tally: Tally) -> FileRef
     ensures digest { result.digest ≡ sealed.now.digest }
 {
     FileRef {
+        format: Format::Two,
         id,
         len: sealed.len,
         rows: tally.rows,

@@ -3,7 +3,7 @@ use crate::expected::expect_same;
 use crate::files::{attach, count_bytes, open_file, reference, schema};
 use mesa_delta::DeltaReader;
 use mesa_disk::{FileRef, MemReader};
-use mesa_key::KeyType;
+use mesa_key::{Format, KeyType};
 use sha2::{Digest, Sha256};
 use std::alloc::{AllocError, Global};
 use std::process::Abort;
@@ -87,7 +87,7 @@ fn file(rt: &impl Abort, alloc: Global) -> Vec<u8> {
 }
 
 fn file_reference(alloc: Global) -> FileRef {
-    reference(alloc, 29_875, 1025, 2, TAIL_DIGEST)
+    reference(alloc, Format::One, 29_875, 1025, 2, TAIL_DIGEST)
 }
 
 #[test]

@@ -1,14 +1,14 @@
 // Files that were written by hand, and how they are read.
 use mesa_delta::{DeltaReader, FileError};
 use mesa_disk::{ByteList, Disk, FileId, FileRef, MemDisk, MemReader};
-use mesa_key::KeyType;
+use mesa_key::{Format, KeyType};
 use mesa_list::Items;
 use mesa_schema::{KeyColumn, Name, Schema, ValueColumn};
 use mesa_value::Agg;
 use std::alloc::Global;
 use std::process::Abort;
 
-/// The file of the row with key 1 and value 5.
+/// The file of the row with key 1 and value 5, of format 1.
 pub const ONE_FILE: [u8; 103] = [
     0, 0, 1, 128, 0, 0, 0, 0, 0, 0, 1, 0, 0, 0, 0, 0, 0, 0, 5, 128, 0, 0, 0, 0, 0, 0, 1, 0, 0, 0,
     0, 0, 0, 0, 0, 0, 0, 0, 0, 0, 0, 0, 0, 0, 0, 0, 19, 203, 67, 254, 254, 55, 84, 230, 198, 84,
@@ -22,7 +22,22 @@ pub const ONE_DIGEST: [u8; 32] = [
     215, 95, 173, 114, 0, 217, 81, 254, 18, 104, 211, 147,
 ];
 
-/// Its id.
+/// The same row's file of format 2.
+pub const TWO_FILE: [u8; 111] = [
+    0, 0, 1, 128, 0, 0, 0, 0, 0, 0, 1, 0, 0, 0, 0, 0, 0, 0, 0, 0, 0, 0, 0, 0, 0, 0, 5, 128, 0, 0,
+    0, 0, 0, 0, 1, 0, 0, 0, 0, 0, 0, 0, 0, 0, 0, 0, 0, 0, 0, 0, 0, 0, 0, 0, 27, 59, 103, 161, 157,
+    110, 16, 159, 86, 153, 69, 92, 123, 135, 158, 42, 172, 156, 35, 155, 197, 100, 162, 148, 215,
+    52, 23, 77, 174, 190, 32, 202, 148, 0, 0, 0, 0, 0, 0, 0, 0, 0, 1, 0, 0, 0, 1, 1, 1, 77, 69, 83,
+    65, 68, 76, 84, 50,
+];
+
+/// The SHA-256 of its tail.
+pub const TWO_DIGEST: [u8; 32] = [
+    200, 28, 41, 111, 15, 110, 218, 207, 96, 57, 150, 61, 93, 239, 42, 45, 186, 5, 44, 252, 221,
+    128, 37, 57, 2, 58, 191, 60, 134, 28, 199, 54,
+];
+
+/// Their id.
 pub const ONE_ID: u64 = 1 << 40;
 
 fn name(rt: &impl Abort, alloc: Global, text: &str) -> Name {
@@ -48,8 +63,16 @@ pub fn schema(rt: &impl Abort, alloc: Global, kind: KeyType) -> Schema {
 }
 
 /// A reference with no keys and no aggregates, which no reader looks at.
-pub fn reference(alloc: Global, len: u64, rows: u64, blocks: u32, digest: [u8; 32]) -> FileRef {
+pub fn reference(
+    alloc: Global,
+    format: Format,
+    len: u64,
+    rows: u64,
+    blocks: u32,
+    digest: [u8; 32],
+) -> FileRef {
     FileRef {
+        format,
         id: FileId::of(ONE_ID),
         len,
         rows,
@@ -116,7 +139,7 @@ fn count_blocks(reader: &mut DeltaReader<MemReader>) -> Result<usize, FileError>
     for i in 0..4 {
         if i < reader.blocks() {
             match reader.block(i) {
-                Ok(block) => rows = rows.saturating_add(block.rows().len()),
+                Ok(block) => rows = rows.saturating_add(block.len()),
                 Err(error) => return Err(error),
             }
         }

@@ -2,10 +2,10 @@
 ghost use Rattle.std.specs.Prelude.{◌<◌};
 
 use crate::expected::expect_same;
-use crate::files::{ONE_DIGEST, ONE_FILE, ONE_ID, count_bytes, reference};
+use crate::files::{ONE_DIGEST, ONE_FILE, ONE_ID, TWO_DIGEST, TWO_FILE, count_bytes, reference};
 use mesa_delta::FileError;
 use mesa_disk::{Damage, FileId, Seen};
-use mesa_key::KeyType;
+use mesa_key::{Format, KeyType};
 use sha2::{Digest, Sha256};
 use std::alloc::Global;
 use std::process::Abort;
@@ -19,7 +19,7 @@ fn read_by(
     digest: [u8; 32],
 ) -> Result<usize, FileError> {
     let bytes = Vec::from_slice(alloc, bytes).expect(rt, "memory");
-    let file = reference(alloc, 103, 1, 1, digest);
+    let file = reference(alloc, Format::One, 103, 1, 1, digest);
     count_bytes(rt, alloc, bytes, fails, &file, KeyType::Int)
 }
 
@@ -98,6 +98,31 @@ fn tells_bytes_that_are_no_tail(rt: HostRuntime) {
         &rt,
         &counted,
         &damage(19, Seen::Fits, Seen::Misfit(0)),
+        &"how many rows are counted",
+    );
+}
+
+// How many rows the file of format 2 has, read by a reference of this format.
+fn count_two(rt: &impl Abort, alloc: Global, format: Format) -> Result<usize, FileError> {
+    let bytes = Vec::from_slice(alloc, &TWO_FILE).expect(rt, "memory");
+    let file = reference(alloc, format, 111, 1, 1, TWO_DIGEST);
+    count_bytes(rt, alloc, bytes, None, &file, KeyType::Int)
+}
+
+#[test]
+fn reads_the_second_format(rt: HostRuntime) {
+    let counted = count_two(&rt, rt.alloc(), Format::Two);
+    expect_same(&rt, &counted, &Ok(1), &"how many rows are counted");
+}
+
+// The tail tells another format than the reference.
+#[test]
+fn tells_another_format(rt: HostRuntime) {
+    let counted = count_two(&rt, rt.alloc(), Format::One);
+    expect_same(
+        &rt,
+        &counted,
+        &damage(27, Seen::Fits, Seen::Misfit(0)),
         &"how many rows are counted",
     );
 }

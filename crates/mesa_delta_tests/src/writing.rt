@@ -1,20 +1,22 @@
 // The file of one row is written, and read again.
-ghost use Rattle.std.specs.Prelude.{◌<◌, [], ◌∷◌, length};
+ghost use Rattle.std.specs.Prelude.{◌≡◌, [], ◌∷◌, IfOk};
 ghost use Rattle.mesa_delta.specs.Writing.{HasTaken};
-ghost use Rattle.std.specs.List.{AllByRecursion};
+ghost use Rattle.mesa_block.specs.Lent.{lent};
 ghost use Rattle.mesa_block.specs.Rows.{IsRow};
+ghost use Rattle.mesa_key.specs.declared.Format.TheVariants.{Two};
 
 use crate::expected::expect_same;
-use crate::files::{ONE_DIGEST, ONE_FILE, ONE_ID, count_rows, schema};
-use mesa_block::read_block;
+use crate::files::{ONE_ID, TWO_DIGEST, TWO_FILE, count_rows, schema};
+use mesa_block::{LentRow, read_block};
 use mesa_delta::{DeltaWriter, WriteError};
 use mesa_disk::{
     Bench, Disk, Draft, FileId, FileReader, FileRef, Made, MemBench, MemDisk, MemMade, MemReader,
     OpenFault,
 };
-use mesa_key::KeyType;
+use mesa_key::{Format, KeyType};
+use mesa_list::Items;
 use mesa_schema::{Row, Schema};
-use std::alloc::Global;
+use std::alloc::{AllocError, Global};
 use std::process::Abort;
 
 type Written = Result<(MemMade, FileRef), WriteError>;
@@ -30,27 +32,36 @@ fn finish_row<M: Made, T: Draft<M>>(
     writer.finish()
 }
 
-// Writes a file of the first row, through a draft of which these calls fail.
-fn write_first(
+// A lent row by itself.
+fn kept(alloc: Global, row: LentRow) -> Result<Row, AllocError>
+    ensures { IfOk result (λ own. own ≡ lent row.entry) }
+{
+    Ok(Row {
+        key: Items::from_bytes(alloc, row.key)?,
+        values: Items::from_vec(row.values.to_vec(alloc)?),
+    })
+}
+
+// Writes a file of the row, through a draft of which these calls fail.
+fn write_row(
     rt: &impl Abort,
     alloc: Global,
     schema: &Schema,
-    rows: &[Row],
+    row: &Row,
     calls: Vec<(u64, u64)>,
 ) -> Written
-    requires some { 0 < length rows.now }
-    requires rows { AllByRecursion (IsRow schema.now) rows.now }
+    requires { IsRow (record { format = Two; columns = schema.now }) row.now }
 {
     let mut bench = MemBench::new(alloc, calls);
     let draft = bench.draft(FileId::of(7)).expect(rt, "a draft");
     let Ok(mut writer) = DeltaWriter::new(alloc, draft, FileId::of(ONE_ID), schema) else {
         panic!(rt; "no writer");
     };
-    if let Err(error) = writer.push(&rows[0]) {
+    if let Err(error) = writer.push(row) {
         let _ = writer.abandon();
         return Err(error);
     }
-    match finish_row(writer, &rows[0]) {
+    match finish_row(writer, row) {
         Ok(written) => Ok(written),
         Err((error, _)) => Err(error),
     }
@@ -60,8 +71,11 @@ fn write_first(
 fn write_one(rt: &impl Abort, alloc: Global, fails: &[(u64, u64)]) -> Written {
     let calls = fails.to_vec(alloc).expect(rt, "memory");
     let schema = schema(rt, alloc, KeyType::Int);
-    match read_block(alloc, &schema, &ONE_FILE[..19]) {
-        Ok(block) => write_first(rt, alloc, &schema, block.rows(), calls),
+    match read_block(alloc, Format::Two, &schema, &TWO_FILE[..27]) {
+        Ok(block) => {
+            let row = kept(alloc, block.row(0)).expect(rt, "memory");
+            write_row(rt, alloc, &schema, &row, calls)
+        }
         Err(_) => panic!(rt; "no block"),
     }
 }
@@ -91,13 +105,13 @@ fn adopted(rt: &impl Abort, alloc: Global, made: MemMade) -> MemReader {
 fn expect_bytes(rt: &impl Abort, alloc: Global, reader: &mut MemReader) {
     let mut bytes = vec![in alloc; 0u8; reader.len() as usize].expect(rt, "memory");
     reader.read_at(0, &mut bytes).expect(rt, "a file");
-    expect_same(rt, &bytes.as_slice(), &ONE_FILE.as_slice(), &"the bytes");
+    expect_same(rt, &bytes.as_slice(), &TWO_FILE.as_slice(), &"the bytes");
 }
 
 fn expect_file(rt: &impl Abort, file: &FileRef) {
     let counts = (file.len, file.rows, file.blocks);
-    expect_same(rt, &counts, &(103, 1, 1), &"bytes, rows and blocks");
-    expect_same(rt, &file.digest, &ONE_DIGEST, &"the digest");
+    expect_same(rt, &counts, &(111, 1, 1), &"bytes, rows and blocks");
+    expect_same(rt, &file.digest, &TWO_DIGEST, &"the digest");
 }
 
 #[test]

@@ -1,11 +1,12 @@
 use crate::FileId;
-use mesa_key::{KeyBytes, Values};
+use mesa_key::{Format, KeyBytes, Values};
 use mesa_list::TryCopy;
 use std::alloc::AllocError;
 
 /// All that is kept of a file of rows, to find it again and to tell whether it is whole.
 #[derive(Drop)]
 pub struct FileRef {
+    pub format: Format,
     pub id: FileId,
     /// In bytes.
     pub len: u64,
@@ -26,6 +27,7 @@ pub struct FileRef {
 impl TryCopy for FileRef {
     fn copy(&self) -> Result<Self, AllocError> {
         Ok(FileRef {
+            format: self.format,
             id: self.id,
             len: self.len,
             rows: self.rows,

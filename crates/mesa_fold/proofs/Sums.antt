@@ -13,22 +13,22 @@ use Rattle.mesa_schema.specs.mesa_key.Order.{byte_cmp}
 use Rattle.mesa_schema.specs.declared.rows.Row.{Row}
 use Rattle.mesa_schema.specs.Folded.{AllCombine, row_combined}
 use Rattle.mesa_schema.specs.Laws.{AreFull}
-use Rattle.mesa_batch.specs.Totals.{abs_total}
+use Rattle.mesa_batch.specs.Totals.{abs_total, sum_bound}
 use Rattle.mesa_schema.specs.Put.{put_row}
 
-sum-fits : (o n : ℤ) → nat_abs o + nat_abs n < 2 ^ 63 → Combines Sum o n
+sum-fits : (o n : ℤ) → nat_abs o + nat_abs n < sum_bound → Combines Sum o n
 sum-fits (pos a) (pos b) h = omega (arith, ints)
 sum-fits (pos a) (negsuc b) h = omega (arith, ints)
 sum-fits (negsuc a) (pos b) h = omega (arith, ints)
 sum-fits (negsuc a) (negsuc b) h = omega (arith, ints)
 
-combines-one : (agg : Agg) (o n : ℤ) → (agg ≡ Sum → nat_abs o + nat_abs n < 2 ^ 63) → Combines agg o n
+combines-one : (agg : Agg) (o n : ℤ) → (agg ≡ Sum → nat_abs o + nat_abs n < sum_bound) → Combines agg o n
 combines-one Sum o n h = sum-fits o n (h refl)
 combines-one Min o n h = tt
 combines-one Max o n h = tt
 combines-one Replace o n h = tt
 
-AllCombine-from : (aggs : List Agg) (os ns : List ℤ) → ((c : ℕ) → slice_get aggs c ≡ Some Sum → nat_abs (get_or os c (pos 0)) + nat_abs (get_or ns c (pos 0)) < 2 ^ 63) → AllCombine aggs os ns
+AllCombine-from : (aggs : List Agg) (os ns : List ℤ) → ((c : ℕ) → slice_get aggs c ≡ Some Sum → nat_abs (get_or os c (pos 0)) + nat_abs (get_or ns c (pos 0)) < sum_bound) → AllCombine aggs os ns
 AllCombine-from [] os ns h = tt
 AllCombine-from (g ∷ aggs) [] ns h = tt
 AllCombine-from (g ∷ aggs) (o ∷ os) [] h = tt
@@ -97,7 +97,7 @@ abs_total-at c (x ∷ xs) zero d lt = omega (arith, abs_total-next c x xs)
 abs_total-at c (x ∷ xs) (suc i) d lt = omega (arith, abs_total-next c x xs, abs_total-at c xs i d (omega arith))
 
 -- the values of a row and of one among rows that keep the bound have values together
-pub AllCombine-at : (aggs : List Agg) (rows : List Row) (row : Row) (i : ℕ) (d : Row) → i < length rows → ((c : ℕ) → slice_get aggs c ≡ Some Sum → abs_total c rows + abs_total c (row ∷ []) < 2 ^ 63)
+pub AllCombine-at : (aggs : List Agg) (rows : List Row) (row : Row) (i : ℕ) (d : Row) → i < length rows → ((c : ℕ) → slice_get aggs c ≡ Some Sum → abs_total c rows + abs_total c (row ∷ []) < sum_bound)
     → AllCombine aggs (get_or rows i d).values row.values
 AllCombine-at aggs rows row i d lt bounded = AllCombine-from aggs _ _ (λ c p. omega (arith, bounded c p, abs_total-at c rows i d lt, abs_total-next c row []))
 

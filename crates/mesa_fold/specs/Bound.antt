@@ -5,11 +5,11 @@ use Rattle.mesa_value.specs.declared.Agg.TheVariants.{Sum}
 use Rattle.mesa_schema.specs.declared.rows.Row.{Row}
 use Rattle.mesa_schema.specs.Folded.{folded, rows_of}
 use Rattle.mesa_schema.specs.Laws.{AreFull}
-use Rattle.mesa_batch.specs.Totals.{abs_total}
+use Rattle.mesa_batch.specs.Totals.{abs_total, sum_bound}
 
 -- in each sum column the absolute values of both add up to at most 2^63 - 1
 abbrev pub KeepsBound : List Agg → List Row → List Row → Type 0
-KeepsBound aggs content rows = (c : ℕ) → slice_get aggs c ≡ Some Sum → abs_total c content + abs_total c rows < 2 ^ 63
+KeepsBound aggs content rows = (c : ℕ) → slice_get aggs c ≡ Some Sum → abs_total c content + abs_total c rows < sum_bound
 
 -- in each sum column the absolute values add up to at most those of both
 abbrev pub AddsAtMost : List Agg → List Row → List Row → List Row → Type 0

@@ -29,6 +29,15 @@ pub enum KeyType {
     Text,
 }
 
+/// How the blocks of a file spell values.
+#[derive(Clone, Copy, Debug, PartialEq, Eq)]
+pub enum Format {
+    /// Each value takes eight bytes.
+    One,
+    /// A sum takes sixteen bytes, and each other value eight.
+    Two,
+}
+
 /// The bytes of a key: the spellings of its columns, one after the other.
 pub type KeyBytes = Items<u8>;
 

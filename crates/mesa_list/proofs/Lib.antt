@@ -2,3 +2,4 @@ pub mod Lists
 pub mod Pieces
 pub mod Splits
 pub mod Whole
+pub mod WideBytes

@@ -76,7 +76,17 @@ impl TryCopy for (u32, u32) {
     }
 }
 
-impl TryCopy for i64 {
+impl TryCopy for u128 {
+    fn copy(&self) -> Result<Self, AllocError> {
+        Ok(*self)
+    }
+
+    fn copy_all(alloc: Global, values: &[Self]) -> Result<Vec<Self>, AllocError> {
+        Vec::from_slice(alloc, values)
+    }
+}
+
+impl TryCopy for i128 {
     fn copy(&self) -> Result<Self, AllocError> {
         Ok(*self)
     }

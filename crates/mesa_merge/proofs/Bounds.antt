@@ -9,7 +9,7 @@ use Rattle.mesa_schema.specs.Columns.{Columns, aggs_of}
 use Rattle.mesa_schema.specs.Folded.{AllCombine, folded, rows_of}
 use Rattle.mesa_schema.specs.Laws.{AreFull}
 use Rattle.mesa_schema.specs.Rows.{AreRowsOf}
-use Rattle.mesa_batch.specs.Totals.{abs_total}
+use Rattle.mesa_batch.specs.Totals.{abs_total, sum_bound}
 use Rattle.mesa_fold.specs.Bound.{FoldsTotals, KeepsBound}
 use Rattle.mesa_fold.proofs.Sums.{AllCombine-at}
 use Rattle.mesa_merge.proofs.Ending.{AreFronts}
@@ -58,7 +58,7 @@ pub sum_stays : FoldsTotals → (s : Columns) (gs parts : List (List Row)) (fron
 sum_stays law s gs parts front row more i e formed is lt fronts bound =
     let count : length (front ++ row ∷ []) ≡ length front + 1 = length-append front (row ∷ []) in
     let within : length front < length (front ++ row ∷ []) = omega (arith, count) in
-    let keeps : (c : ℕ) → slice_get (aggs_of s) c ≡ Some Sum → abs_total c (front ++ row ∷ []) + abs_total c (more ∷ []) < 2 ^ 63 = λ c sum.
+    let keeps : (c : ℕ) → slice_get (aggs_of s) c ≡ Some Sum → abs_total c (front ++ row ∷ []) + abs_total c (more ∷ []) < sum_bound = λ c sum.
     let less : abs_total c (front ++ row ∷ []) ≤ abs_total c (rows_of gs) = subst (λ rows. abs_total c rows ≤ abs_total c (rows_of gs)) is (law (aggs_of s) gs c sum (full_all s gs formed e)) in
     omega (arith, less, abs_set c gs i more lt, abs_fronts c _ parts fronts, bound c sum) in
     subst (λ (r : Row). AllCombine (aggs_of s) r.values more.values) (last_of front row) (AllCombine-at (aggs_of s) (front ++ row ∷ []) more (length front) row within keeps)

@@ -9,6 +9,7 @@ use Rattle.mesa_schema.specs.Folded.{folded, row_combined}
 use Rattle.mesa_schema.specs.Laws.{AreUnder, PutsGiven}
 use Rattle.mesa_schema.specs.Rows.{AreRowsOf, IsRowOf}
 use Rattle.mesa_schema.proofs.Lifts.{row_combined-length}
+use Rattle.mesa_schema.proofs.Ranges.{ranges_combined}
 use Rattle.mesa_delta.specs.declared.input.Input.{Input}
 use Rattle.mesa_cursor.specs.declared.cursor.Cursor.{Cursor}
 use Rattle.mesa_merge.specs.Hands.{IsAhead, IsFrom, IsLeastAt, IsLeastOf, hands_of}
@@ -43,6 +44,7 @@ combined_form s row more next f g made = subst (IsRowOf s) (sym made) (record {
   key = f.key;
   spelled = f.spelled;
   values = row_combined-length (aggs_of s) row.values more.values (f.values ∙ sym (aggs_count s)) (g.values ∙ sym (aggs_count s)) ∙ aggs_count s;
+  ranges = ranges_combined (aggs_of s) row.values more.values f.ranges g.ranges;
 })
 
 -- What taking a row from an input makes of the inputs: the promises of `advance`.

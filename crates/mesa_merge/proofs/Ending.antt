@@ -3,7 +3,7 @@ use Rattle.std.proofs.Common.{◌≡◌, ℕ, suc, List, [], ◌∷◌, ◌++◌
 use Rattle.std.proofs.lemmas.List.{append-nil, map-append, take-append-drop}
 use Rattle.std.specs.Prelude.{Option, map}
 use Rattle.mesa_schema.specs.declared.rows.Row.{Row}
-use Rattle.mesa_schema.specs.Columns.{Columns}
+use Rattle.mesa_delta.specs.mesa_block.Layout.{Layout}
 use Rattle.mesa_schema.specs.Folded.{rows_of}
 use Rattle.mesa_schema.proofs.Folds.{rows_of-append}
 use Rattle.mesa_delta.specs.Reading.{index_of}
@@ -46,13 +46,13 @@ abbrev pub IsFront : List Row → List Row → Type 0
 IsFront given all = (rest : List Row) × (all ≡ given ++ rest)
 
 -- the blocks of a file have its rows
-blocks_rows : (s : Columns) (rows : List Row) → rows_of (blocks_of s rows) ≡ rows
+blocks_rows : (s : Layout) (rows : List Row) → rows_of (blocks_of s rows) ≡ rows
 blocks_rows s rows = rows_of-append (spread s rows).done ((spread s rows).last ∷ []) ∙ ap (λ more. rows_of (spread s rows).done ++ more) (append-nil (spread s rows).last) ∙ spread_rows s rows
 
 -- what an input has given is the first of its file's rows, lifted
 pub given_front : {R : Type 0} (bytes : R → Option (List ℕ)) (i : Input R) (c : Cursor) (given rows : List Row) → HasGiven bytes i c given → IsTold (known_of bytes i) rows → IsFront given (map (lifted_in (known_of bytes i)) rows)
 given_front bytes i c given rows h told =
-    let s : Columns = (index_of i.reader).columns in
+    let s : Layout = (index_of i.reader).layout in
     let blocks : List (List Row) = blocks_of s rows in
     let n : ℕ = length h.parts in
     let f : Row → Row = lift_by i in

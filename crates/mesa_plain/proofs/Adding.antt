@@ -9,7 +9,7 @@ use Rattle.mesa_value.specs.declared.Agg.TheVariants as agg
 use Rattle.mesa_schema.specs.Columns.{Columns, aggs_of}
 use Rattle.mesa_schema.specs.Changes.{columns_of}
 use Rattle.mesa_batch.specs.Glance.{Known}
-use Rattle.mesa_batch.specs.Totals.{is_sum, sums_in}
+use Rattle.mesa_batch.specs.Totals.{is_sum, sum_bound, sums_in}
 use Rattle.mesa_model.specs.Warehouse.{max_tables}
 use Rattle.mesa_plain.specs.Kept.{Contents, From, contents_in, oldest_in, shared, tables_in}
 use Rattle.mesa_plain.specs.Sound.{AreKept, HasTotals, IsHeld, IsOldest}
@@ -54,7 +54,7 @@ get-last : {X : Type 0} (xs : List X) (x : X) → slice_get (xs ++ x ∷ []) (le
 get-last [] x = refl
 get-last (y ∷ ys) x = get-last ys x
 
-zeros_below : (n : ℕ) → AllByRecursion (λ total. total < 2 ^ 63) (replicate n 0)
+zeros_below : (n : ℕ) → AllByRecursion (λ total. total < sum_bound) (replicate n 0)
 zeros_below zero = tt
 zeros_below (suc n) = (omega arith, zeros_below n)
 

@@ -13,7 +13,7 @@ use Rattle.mesa_schema.specs.Columns.{Columns, aggs_of}
 use Rattle.mesa_schema.specs.declared.columns.ValueColumn.{ValueColumn}
 use Rattle.mesa_schema.specs.Schema.{is_schema}
 use Rattle.mesa_schema.proofs.Passing.{passed_if}
-use Rattle.mesa_batch.specs.Totals.{AreAtMost, abs_total, capped, over_bound, sum_places, totals_with}
+use Rattle.mesa_batch.specs.Totals.{AreAtMost, abs_total, capped, over_bound, sum_bound, sum_places, totals_with}
 
 -- what holds of each sum column holds of each of their places
 pub all_sums : (P : ℕ → Type 0) (aggs : List Agg) (i : ℕ) → ((c : ℕ) → slice_get aggs c ≡ Some agg.Sum → P (i + c)) → AllByRecursion P (sum_places i aggs)
@@ -44,35 +44,35 @@ none_passes p i (x ∷ xs) e = elim (p x) as (λ b. p x ≡ b → cond b (Some i
   | false ↦ λ t f. (t, none_passes p (i + 1) xs f)
 ] refl e
 
-below_bound : (n : ℕ) → nat_le (2 ^ 63) n ≡ false → n < 2 ^ 63
-below_bound n e = grind (arith, le-leb (2 ^ 63) n)
+below_bound : (n : ℕ) → nat_le sum_bound n ≡ false → n < sum_bound
+below_bound n e = grind (arith, le-leb sum_bound n)
 
-all_below : (totals : List ℕ) → AllByRecursion (λ total. nat_le (2 ^ 63) total ≡ false) totals → AllByRecursion (λ total. total < 2 ^ 63) totals
+all_below : (totals : List ℕ) → AllByRecursion (λ total. nat_le sum_bound total ≡ false) totals → AllByRecursion (λ total. total < sum_bound) totals
 all_below [] all = tt
 all_below (total ∷ totals) all = (below_bound total all.0, all_below totals all.1)
 
 -- so the totals are within it
-pub with_bound : (totals more : List ℕ) → over_bound totals more ≡ None → AllByRecursion (λ total. total < 2 ^ 63) (totals_with totals more)
-with_bound totals more e = all_below (totals_with totals more) (none_passes (nat_le (2 ^ 63)) 0 (totals_with totals more) (sym (position_from-zero (nat_le (2 ^ 63)) (totals_with totals more)) ∙ e))
+pub with_bound : (totals more : List ℕ) → over_bound totals more ≡ None → AllByRecursion (λ total. total < sum_bound) (totals_with totals more)
+with_bound totals more e = all_below (totals_with totals more) (none_passes (nat_le sum_bound) 0 (totals_with totals more) (sym (position_from-zero (nat_le sum_bound) (totals_with totals more)) ∙ e))
 
-capped_over : (t m : ℕ) → nat_le (2 ^ 63) (t + min (2 ^ 63) m) ≡ nat_le (2 ^ 63) (t + m)
+capped_over : (t m : ℕ) → nat_le sum_bound (t + min sum_bound m) ≡ nat_le sum_bound (t + m)
 capped_over t m = grind (arith, le-leb, leb-true)
 
-capped_from : (i : ℕ) (totals more : List ℕ) → position_from (nat_le (2 ^ 63)) i (totals_with totals (capped more)) ≡ position_from (nat_le (2 ^ 63)) i (totals_with totals more)
+capped_from : (i : ℕ) (totals more : List ℕ) → position_from (nat_le sum_bound) i (totals_with totals (capped more)) ≡ position_from (nat_le sum_bound) i (totals_with totals more)
 capped_from i [] more = refl
 capped_from i (t ∷ totals) [] = refl
 capped_from i (t ∷ totals) (m ∷ more) = λ j. cond (capped_over t m j) (Some i) (capped_from (i + 1) totals more j)
 
 -- capped totals pass the bound where the totals do
 pub over-capped : (totals more : List ℕ) → over_bound totals (capped more) ≡ over_bound totals more
-over-capped totals more = position_from-zero (nat_le (2 ^ 63)) (totals_with totals (capped more)) ∙ capped_from 0 totals more ∙ sym (position_from-zero (nat_le (2 ^ 63)) (totals_with totals more))
+over-capped totals more = position_from-zero (nat_le sum_bound) (totals_with totals (capped more)) ∙ capped_from 0 totals more ∙ sym (position_from-zero (nat_le sum_bound) (totals_with totals more))
 
-small_capped : (totals more : List ℕ) → length totals ≡ length more → AllByRecursion (λ total. total < 2 ^ 63) (totals_with totals more) → capped more ≡ more
+small_capped : (totals more : List ℕ) → length totals ≡ length more → AllByRecursion (λ total. total < sum_bound) (totals_with totals more) → capped more ≡ more
 small_capped [] [] len all = refl
 small_capped [] (m ∷ more) len all = absurd (omega arith)
 small_capped (t ∷ totals) [] len all = refl
 small_capped (t ∷ totals) (m ∷ more) len all =
-    let same : min (2 ^ 63) m ≡ m = omega (arith, all.0) in
+    let same : min sum_bound m ≡ m = omega (arith, all.0) in
     λ j. same j ∷ small_capped totals more (omega arith) all.1 j
 
 -- and where none does they are the same
@@ -96,12 +96,12 @@ at_most-folded f g h (c ∷ places) [] most all = absurd most
 at_most-folded f g h (c ∷ places) (t ∷ totals) most all = (omega (arith, most.0, all.0), at_most-folded f g h places totals most.1 all.1)
 
 -- no sum of a content's values and a batch's leaves its type
-pub sums_below : (f g : ℕ → ℕ) (places totals : List ℕ) → AreAtMost (map f places) totals → AllByRecursion (λ total. total < 2 ^ 63) (totals_with totals (map g places)) → AllByRecursion (λ c. f c + g c < 2 ^ 63) places
+pub sums_below : (f g : ℕ → ℕ) (places totals : List ℕ) → AreAtMost (map f places) totals → AllByRecursion (λ total. total < sum_bound) (totals_with totals (map g places)) → AllByRecursion (λ c. f c + g c < sum_bound) places
 sums_below f g [] totals most all = tt
 sums_below f g (c ∷ places) [] most all = absurd most
 sums_below f g (c ∷ places) (t ∷ totals) most all = (omega (arith, most.0, all.0), sums_below f g places totals most.1 all.1)
 
-pub sums_below_alone : (f : ℕ → ℕ) (places totals : List ℕ) → AreAtMost (map f places) totals → AllByRecursion (λ total. total < 2 ^ 63) totals → AllByRecursion (λ c. f c < 2 ^ 63) places
+pub sums_below_alone : (f : ℕ → ℕ) (places totals : List ℕ) → AreAtMost (map f places) totals → AllByRecursion (λ total. total < sum_bound) totals → AllByRecursion (λ c. f c < sum_bound) places
 sums_below_alone f [] totals most all = tt
 sums_below_alone f (c ∷ places) [] most all = absurd most
 sums_below_alone f (c ∷ places) (t ∷ totals) most all = (omega (arith, most.0, all.0), sums_below_alone f places totals most.1 all.1)
@@ -113,22 +113,22 @@ with_nothing [] (t ∷ totals) len = absurd (omega arith)
 with_nothing (c ∷ places) [] len = absurd (omega arith)
 with_nothing (c ∷ places) (t ∷ totals) len = λ j. add-zero t j ∷ with_nothing places totals (omega arith) j
 
-bound-from : (i : ℕ) (totals : List ℕ) → AllByRecursion (λ total. total < 2 ^ 63) totals → position_from (nat_le (2 ^ 63)) i totals ≡ None
+bound-from : (i : ℕ) (totals : List ℕ) → AllByRecursion (λ total. total < sum_bound) totals → position_from (nat_le sum_bound) i totals ≡ None
 bound-from i [] all = refl
 bound-from i (t ∷ totals) all =
-    let no : nat_le (2 ^ 63) t ≡ false = grind (arith, leb-true (2 ^ 63) t, all.0) in
-    ap (λ b. cond b (Some i) (position_from (nat_le (2 ^ 63)) (i + 1) totals)) no ∙ bound-from (i + 1) totals all.1
+    let no : nat_le sum_bound t ≡ false = grind (arith, leb-true sum_bound t, all.0) in
+    ap (λ b. cond b (Some i) (position_from (nat_le sum_bound) (i + 1) totals)) no ∙ bound-from (i + 1) totals all.1
 
-pub within_bound : (totals more : List ℕ) → AllByRecursion (λ total. total < 2 ^ 63) (totals_with totals more) → over_bound totals more ≡ None
-within_bound totals more all = position_from-zero (nat_le (2 ^ 63)) (totals_with totals more) ∙ bound-from 0 (totals_with totals more) all
+pub within_bound : (totals more : List ℕ) → AllByRecursion (λ total. total < sum_bound) (totals_with totals more) → over_bound totals more ≡ None
+within_bound totals more all = position_from-zero (nat_le sum_bound) (totals_with totals more) ∙ bound-from 0 (totals_with totals more) all
 
 -- ---- sums as far as their type goes
 
-pub sums-far : (totals more : List ℕ) → AllByRecursion (λ total. total < 2 ^ 63) (totals_with totals more) → map (λ (p : ℕ × ℕ). min (p.0 + p.1) (2 ^ 64 - 1)) (zip totals more) ≡ totals_with totals more
+pub sums-far : (totals more : List ℕ) → AllByRecursion (λ total. total < sum_bound) (totals_with totals more) → map (λ (p : ℕ × ℕ). min (p.0 + p.1) (2 ^ 128 - 1)) (zip totals more) ≡ totals_with totals more
 sums-far [] more all = refl
 sums-far (t ∷ totals) [] all = refl
 sums-far (t ∷ totals) (m ∷ more) all =
-    let same : min (t + m) (2 ^ 64 - 1) ≡ t + m = omega (arith, all.0) in
+    let same : min (t + m) (2 ^ 128 - 1) ≡ t + m = omega (arith, all.0) in
     λ j. same j ∷ sums-far totals more all.1 j
 
 -- ---- how many there are
@@ -158,7 +158,7 @@ few_totals s totals h count = omega (arith, few_values s h, few_sums 0 (aggs_of 
 -- the place of a total over the bound
 pub over_within : (totals more : List ℕ) (place : ℕ) → over_bound totals more ≡ Some place → place < length totals
 over_within totals more place e =
-    let found = position-Some (nat_le (2 ^ 63)) (totals_with totals more) place 0 e in
+    let found = position-Some (nat_le sum_bound) (totals_with totals more) place 0 e in
     omega (arith, found.0, length-map (zip totals more) (λ (p : ℕ × ℕ). p.0 + p.1), length-zip totals more)
 
 -- there may be one version more

@@ -19,7 +19,7 @@ use Rattle.mesa_schema.specs.Rows.{AreRowsOf}
 use Rattle.mesa_schema.proofs.Forms.{lifts_folded}
 use Rattle.mesa_schema.proofs.PresentRows.{columns_more, forms_more, lifted_more, lifted_now}
 use Rattle.mesa_batch.specs.Glance.{Known}
-use Rattle.mesa_batch.specs.Totals.{AreAtMost, abs_total, abs_totals, is_sum, sum_places, sums_in, totals_after}
+use Rattle.mesa_batch.specs.Totals.{AreAtMost, abs_total, abs_totals, is_sum, sum_bound, sum_places, sums_in, totals_after}
 use Rattle.mesa_batch.proofs.LastTotals.{totals_last}
 use Rattle.mesa_model.specs.Tables.{table_changed}
 use Rattle.mesa_plain.specs.Found.{known_at, no_known}
@@ -61,23 +61,23 @@ as_many [] (y ∷ ys) most = absurd most
 as_many (x ∷ xs) [] most = absurd most
 as_many (x ∷ xs) (y ∷ ys) most = ap suc (as_many xs ys most.1)
 
-below_both : (xs ys : List ℕ) → AllByRecursion (λ total. total < 2 ^ 63) xs → AllByRecursion (λ total. total < 2 ^ 63) ys → AllByRecursion (λ total. total < 2 ^ 63) (xs ++ ys)
+below_both : (xs ys : List ℕ) → AllByRecursion (λ total. total < sum_bound) xs → AllByRecursion (λ total. total < sum_bound) ys → AllByRecursion (λ total. total < sum_bound) (xs ++ ys)
 below_both [] ys a b = b
 below_both (x ∷ xs) ys a b = (a.0, below_both xs ys a.1 b)
 
-below_take : (n : ℕ) (xs : List ℕ) → AllByRecursion (λ total. total < 2 ^ 63) xs → AllByRecursion (λ total. total < 2 ^ 63) (take n xs)
+below_take : (n : ℕ) (xs : List ℕ) → AllByRecursion (λ total. total < sum_bound) xs → AllByRecursion (λ total. total < sum_bound) (take n xs)
 below_take zero xs a = tt
 below_take (suc n) [] a = tt
 below_take (suc n) (x ∷ xs) a = (a.0, below_take n xs a.1)
 
-below_drop : (n : ℕ) (xs : List ℕ) → AllByRecursion (λ total. total < 2 ^ 63) xs → AllByRecursion (λ total. total < 2 ^ 63) (drop n xs)
+below_drop : (n : ℕ) (xs : List ℕ) → AllByRecursion (λ total. total < sum_bound) xs → AllByRecursion (λ total. total < sum_bound) (drop n xs)
 below_drop zero xs a = a
 below_drop (suc n) [] a = tt
 below_drop (suc n) (x ∷ xs) a = below_drop n xs a.1
 
-below_after : (s : Columns) (c : Change) (totals : List ℕ) → AllByRecursion (λ total. total < 2 ^ 63) totals → AllByRecursion (λ total. total < 2 ^ 63) (totals_after s c totals)
+below_after : (s : Columns) (c : Change) (totals : List ℕ) → AllByRecursion (λ total. total < sum_bound) totals → AllByRecursion (λ total. total < sum_bound) (totals_after s c totals)
 below_after s (change.AddValue column default) totals a =
-    elim (is_sum column.agg) as (λ b. AllByRecursion (λ total. total < 2 ^ 63) (cond b (totals ++ 0 ∷ []) totals)) [ true ↦ below_both totals (0 ∷ []) a (omega arith, tt) | false ↦ a ]
+    elim (is_sum column.agg) as (λ b. AllByRecursion (λ total. total < sum_bound) (cond b (totals ++ 0 ∷ []) totals)) [ true ↦ below_both totals (0 ∷ []) a (omega arith, tt) | false ↦ a ]
 below_after s (change.DropValue name) totals a =
     let place = unwrap_or (place_of name (value_names s)) (length s.values) in
     below_both (take (sums_in (take place (aggs_of s))) totals) (drop (sums_in (take (place + 1) (aggs_of s))) totals) (below_take (sums_in (take place (aggs_of s))) totals a) (below_drop (sums_in (take (place + 1) (aggs_of s))) totals a)

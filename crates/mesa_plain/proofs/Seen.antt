@@ -7,7 +7,7 @@ use Rattle.mesa_schema.specs.declared.rows.Row.{Row}
 use Rattle.mesa_schema.specs.Columns.{Columns, aggs_of}
 use Rattle.mesa_schema.specs.Changes.{Lineage, columns_of}
 use Rattle.mesa_batch.specs.Glance.{Known}
-use Rattle.mesa_batch.specs.Totals.{abs_total, sum_places}
+use Rattle.mesa_batch.specs.Totals.{abs_total, sum_bound, sum_places}
 use Rattle.mesa_answer.specs.Answering.{KeepsSums}
 use Rattle.mesa_model.specs.Warehouse.{Table, no_table, table_at}
 use Rattle.mesa_plain.specs.declared.names.Place.{Place}
@@ -43,7 +43,7 @@ held_at tables totals versions i place have held lt =
 
 pub keeps_sums : (s : Columns) (totals : List ℕ) (rows : List Row) → HasTotals s totals → IsHeld s totals rows → KeepsSums s rows
 keeps_sums s totals rows has is c sum =
-    subst (λ n. abs_total n rows < 2 ^ 63) (omega arith) (sum_at (λ n. abs_total n rows < 2 ^ 63) (aggs_of s) 0 c (sums_below_alone (λ n. abs_total n rows) (sum_places 0 (aggs_of s)) totals is.sums has.bound) sum)
+    subst (λ n. abs_total n rows < sum_bound) (omega arith) (sum_at (λ n. abs_total n rows < sum_bound) (aggs_of s) 0 c (sums_below_alone (λ n. abs_total n rows) (sum_places 0 (aggs_of s)) totals is.sums has.bound) sum)
 
 -- ---- places
 

@@ -16,7 +16,7 @@ use Rattle.mesa_schema.proofs.Refolds.{refolded}
 use Rattle.mesa_batch.specs.Batch.{Placed, rows_for}
 use Rattle.mesa_batch.specs.Gathered.{Batched, rows_at}
 use Rattle.mesa_batch.specs.Glance.{Known}
-use Rattle.mesa_batch.specs.Totals.{AreAtMost, abs_total, abs_totals, over_bound, sum_places, totals_with}
+use Rattle.mesa_batch.specs.Totals.{AreAtMost, abs_total, abs_totals, over_bound, sum_bound, sum_places, totals_with}
 use Rattle.mesa_fold.specs.Bound.{KeepsBound}
 use Rattle.mesa_schema.proofs.Folds.{folded-folded}
 use Rattle.mesa_fold.proofs.Kept.{put_rows-fold}
@@ -135,7 +135,7 @@ newest-held tables totals versions have held n k e = newest_held (columns_of k.l
 keeps_bound : (s : Columns) (totals : List ℕ) (content rows : List Row) → AreAtMost (abs_totals s content) totals → over_bound totals (abs_totals s rows) ≡ None → KeepsBound (aggs_of s) content rows
 keeps_bound s totals content rows most none c p =
     let below = sums_below (λ n. abs_total n content) (λ n. abs_total n rows) (sum_places 0 (aggs_of s)) totals most (with_bound totals (abs_totals s rows) none) in
-    subst (λ n. abs_total n content + abs_total n rows < 2 ^ 63) (zero-add c) (sum_at (λ n. abs_total n content + abs_total n rows < 2 ^ 63) (aggs_of s) 0 c below p)
+    subst (λ n. abs_total n content + abs_total n rows < sum_bound) (zero-add c) (sum_at (λ n. abs_total n content + abs_total n rows < sum_bound) (aggs_of s) 0 c below p)
 
 pub can_take : (tables : List Known) (totals after : List (List ℕ)) (versions : List Contents) (batch : Batched) → HaveTotals tables totals → AreHeld tables totals versions → AreTotalsWith tables totals batch after → CanTake tables versions batch
 can_take tables totals after versions batch have held with = record {

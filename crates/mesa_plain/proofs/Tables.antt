@@ -11,7 +11,7 @@ use Rattle.mesa_schema.specs.Changes.{columns_of}
 use Rattle.mesa_batch.specs.Batch.{Placed, rows_for}
 use Rattle.mesa_batch.specs.Gathered.{Batched, columns_for, rows_at}
 use Rattle.mesa_batch.specs.Glance.{Known}
-use Rattle.mesa_batch.specs.Totals.{abs_total, abs_totals, capped, over_bound, sum_places, totals_with}
+use Rattle.mesa_batch.specs.Totals.{abs_total, abs_totals, capped, over_bound, sum_bound, sum_places, totals_with}
 use Rattle.mesa_model.specs.declared.replies.Refusal.{Refusal}
 use Rattle.mesa_model.specs.declared.replies.Refusal.TheVariants as no
 use Rattle.mesa_model.specs.Load.{bound_checked, bounds_checked, sum_name}
@@ -75,7 +75,7 @@ pub no_more : (s : Columns) (totals : List ℕ) (rows : List Row) → HasTotals 
 no_more s totals rows has none = ap (λ rs. totals_with totals (abs_totals s rs)) none ∙ with_nothing (sum_places 0 (aggs_of s)) totals has.count
 
 pub no_more-bound : (s : Columns) (totals : List ℕ) (rows : List Row) → HasTotals s totals → rows ≡ [] → over_bound totals (abs_totals s rows) ≡ None
-no_more-bound s totals rows has none = within_bound totals (abs_totals s rows) (subst (AllByRecursion (λ total. total < 2 ^ 63)) (sym (no_more s totals rows has none)) has.bound)
+no_more-bound s totals rows has none = within_bound totals (abs_totals s rows) (subst (AllByRecursion (λ total. total < sum_bound)) (sym (no_more s totals rows has none)) has.bound)
 
 pub as_many : (s : Columns) (totals : List ℕ) (rows : List Row) → HasTotals s totals → length totals ≡ length (abs_totals s rows)
 as_many s totals rows has = has.count ∙ sym (length-map (sum_places 0 (aggs_of s)) (λ column. abs_total column rows))

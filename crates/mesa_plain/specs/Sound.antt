@@ -6,7 +6,7 @@ use Rattle.mesa_schema.specs.Columns.{Columns, aggs_of}
 use Rattle.mesa_schema.specs.Rows.{AreRowsOf}
 use Rattle.mesa_schema.specs.Changes.{columns_of}
 use Rattle.mesa_batch.specs.Glance.{Known}
-use Rattle.mesa_batch.specs.Totals.{AreAtMost, abs_totals, sums_in}
+use Rattle.mesa_batch.specs.Totals.{AreAtMost, abs_totals, sum_bound, sums_in}
 use Rattle.mesa_fold.specs.Put.{IsFold}
 use Rattle.mesa_model.specs.Warehouse.{max_tables, max_versions}
 use Rattle.mesa_plain.specs.Kept.{Contents, From, contents_in, totals_in}
@@ -20,7 +20,7 @@ pub record IsHeld (s : Columns) (totals : List ℕ) (rows : List Row) : Type 0 w
 -- A table has a total for each sum column, at most 2^63 - 1.
 pub record HasTotals (s : Columns) (totals : List ℕ) : Type 0 where
   pub count : length totals ≡ sums_in (aggs_of s)
-  pub bound : AllByRecursion (λ total. total < 2 ^ 63) totals
+  pub bound : AllByRecursion (λ total. total < sum_bound) totals
 
 -- each table has
 abbrev pub HaveTotals : List Known → List (List ℕ) → Type 0

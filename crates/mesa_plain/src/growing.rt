@@ -9,7 +9,7 @@ ghost use Rattle.mesa_schema.specs.Rows.{AreRowsOf};
 ghost use Rattle.mesa_batch.specs.Batch.{Placed as PlacedRow};
 ghost use Rattle.mesa_batch.specs.Gathered.{columns_for, rows_at};
 ghost use Rattle.mesa_batch.specs.Numbers.{known_of};
-ghost use Rattle.mesa_batch.specs.Totals.{abs_totals, over_bound, sum_places, totals_with, sums_in};
+ghost use Rattle.mesa_batch.specs.Totals.{abs_totals, over_bound, sum_bound, sum_places, sums_in, totals_with};
 ghost use Rattle.mesa_batch.specs.Totals.{is_sum as adds};
 ghost use Rattle.mesa_fold.specs.Bound.{KeepsBound};
 ghost use Rattle.mesa_fold.specs.Put.{IsFold};
@@ -83,16 +83,16 @@ fn table_totals(
 }
 
 // The sums of two numbers at each place, none of which leaves its type.
-fn sums(alloc: Global, totals: &[u64], more: &[u64]) -> Result<Totals, AllocError>
-    requires { AllByRecursion (λ total. total < 2 ^ 63) (totals_with totals.now more.now) }
+fn sums(alloc: Global, totals: &[u128], more: &[u128]) -> Result<Totals, AllocError>
+    requires { AllByRecursion (λ total. total < sum_bound) (totals_with totals.now more.now) }
     ensures { IfOk result (λ after. after ≡ totals_with totals.now more.now) }
 {
     let after = sums_as_far(alloc, totals, more)?;
     Ok(Items::from_vec(after))
 }
 
-fn sums_as_far(alloc: Global, totals: &[u64], more: &[u64]) -> Result<Vec<u64>, AllocError>
-    ensures { IfOk result (λ after. after.items ≡ map (λ (p : ℕ × ℕ). min (p.0 + p.1) (2 ^ 64 - 1)) (zip totals.now more.now)) }
+fn sums_as_far(alloc: Global, totals: &[u128], more: &[u128]) -> Result<Vec<u128>, AllocError>
+    ensures { IfOk result (λ after. after.items ≡ map (λ (p : ℕ × ℕ). min (p.0 + p.1) (2 ^ 128 - 1)) (zip totals.now more.now)) }
 {
     totals
         .iter()

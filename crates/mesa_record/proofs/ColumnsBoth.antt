@@ -6,7 +6,7 @@ use Rattle.std.proofs.lemmas.Bool.{eqb-true}
 use Rattle.mesa_list.specs.Checks.{◌>>=◌}
 use Rattle.mesa_value.specs.declared.Agg.{Agg}
 use Rattle.mesa_value.specs.declared.Agg.TheVariants as agg
-use Rattle.mesa_value.specs.Agg.{IsAmount}
+use Rattle.mesa_value.specs.Agg.{IsNarrow}
 use Rattle.mesa_key.specs.declared.KeyType.{KeyType}
 use Rattle.mesa_key.specs.declared.KeyType.TheVariants as kind
 use Rattle.mesa_key.specs.declared.KeyValue.{KeyValue}
@@ -83,7 +83,7 @@ agg_again agg.Max = refl
 agg_again agg.Replace = refl
 
 -- the first of two tests that gives something
-first_of_two : {A : Type 0} (test : Bool) (x y : A) (others : Option A) → if◌then◌else◌ {A = Option A} test (Some x) others ≡ Some y → ((test ≡ true) × (x ≡ y)) ⊎ (others ≡ Some y)
+pub first_of_two : {A : Type 0} (test : Bool) (x y : A) (others : Option A) → if◌then◌else◌ {A = Option A} test (Some x) others ≡ Some y → ((test ≡ true) × (x ≡ y)) ⊎ (others ≡ Some y)
 first_of_two true x y others h = inl (refl, cc)
 first_of_two false x y others h = inr h
 
@@ -147,7 +147,7 @@ key_default_again kind.Text (value.Int z) of fits = absurd cc
 key_default_again kind.Text (value.Text t) of fits = made_again (ruled is_key_text text_at) value.Text (text t) t (ruled_again is_key_text text_at (text t) t fits (text_again t))
 
 pub key_default_found : (k : KeyType) → Found (key_default_at k) key_default (λ v. IsTrue (is_of_kind k v) × IsKeyValue v)
-key_default_found kind.Int = made_found amount_at value.Int IsAmount (λ v. IsTrue (is_of_kind kind.Int v) × IsKeyValue v) amount key_default amount_found (λ z fits. ((refl, fits), refl))
+key_default_found kind.Int = made_found amount_at value.Int IsNarrow (λ v. IsTrue (is_of_kind kind.Int v) × IsKeyValue v) amount key_default amount_found (λ z fits. ((refl, fits), refl))
 key_default_found kind.Text = made_found (ruled is_key_text text_at) value.Text (λ t. Unit {0} × IsTrue (is_key_text t)) (λ v. IsTrue (is_of_kind kind.Text v) × IsKeyValue v) text key_default
     (ruled_found is_key_text text_at text (λ t. Unit {0}) text_found) (λ t is. ((refl, is.1), refl))
 
@@ -176,7 +176,7 @@ abbrev IsNumbered : ℕ → Change → Type 0
 IsNumbered number c = IsChange c × (change_number c ≡ number)
 
 add_value_found : Found add_value_at change_fields (IsNumbered 1)
-add_value_found = two_found value_column_at (λ c. amount_at) AddValue (λ (c : ValueColumn). IsNamed c.name) (λ c z. IsAmount z) (IsNumbered 1) value_column amount change_fields
+add_value_found = two_found value_column_at (λ c. amount_at) AddValue (λ (c : ValueColumn). IsNamed c.name) (λ c z. IsNarrow z) (IsNumbered 1) value_column amount change_fields
     value_column_found (λ c. amount_found) (λ c z named fits. ((((named, fits), refl), refl), refl))
 
 drop_value_found : Found drop_value_at change_fields (IsNumbered 2)

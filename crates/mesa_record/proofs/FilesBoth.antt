@@ -1,30 +1,104 @@
 -- References to files, and the files of deltas, both ways.
-use Rattle.std.proofs.Common.{◌≡◌, ℕ, ◌+◌, ◌<◌, ◌^◌, List, ◌++◌, length, refl, sym, ap, subst, ◌∙◌, append_assoc, Bool, true, false, Ok, Option, Some, None}
+use Rattle.std.proofs.Common.{◌≡◌, inl, inr, arith, [], ◌∷◌, ℕ, ◌+◌, ◌<◌, ◌^◌, List, ◌++◌, length, refl, sym, ap, subst, ◌∙◌, append_assoc, Bool, true, false, Ok, Option, Some, None}
 use Rattle.std.specs.Prelude.{IsTrue, ◌&&◌, flat_map, nat_le}
 use Rattle.std.proofs.lemmas.Bool.{ltb-true, lt-ltb}
 use Rattle.mesa_list.specs.Checks.{◌>>=◌}
 use Rattle.mesa_list.proofs.Whole.{both}
+use Rattle.std.specs.Prelude.{ℤ, ◌==◌}
+use Rattle.std.specs.List.{AllByRecursion}
+use Rattle.std.proofs.lemmas.Bool.{eqb-true}
 use Rattle.mesa_value.specs.Agg.{IsAmount}
+use Rattle.mesa_key.specs.declared.Format.{Format}
+use Rattle.mesa_key.specs.declared.Format.TheVariants as format
+use Rattle.mesa_record.specs.declared.edition.Edition.{Edition}
+use Rattle.mesa_record.specs.declared.edition.Edition.TheVariants.{First, Second}
 use Rattle.mesa_file.specs.declared.file_ref.FileRef.{FileRef}
 use Rattle.mesa_record.specs.declared.record.ViewRef.{ViewRef}
 use Rattle.mesa_record.specs.declared.record.Files.{Files}
 use Rattle.mesa_record.specs.declared.record.Part.{Part}
-use Rattle.mesa_record.specs.Reading.{Left, Read, aggregates_at, amount_at, byte_at, count_at, file_ref_at, files_at, files_if, files_if_any_at, flag_of, half_at, key_at, long_at, meaning, not_zero, part_at, piece_at, ruled, totals_at, view_number, view_ref_at, view_refs_at, word_at}
-use Rattle.mesa_record.specs.Rules.{IsHalf, IsLong, IsTypedRef, IsWord, is_count_of_columns, is_file_ref, is_key_length}
-use Rattle.mesa_record.specs.Spelling.{amount, counted, file_keys, file_ref, file_sizes, files, files_if_any, flag, half, key, long, part, view_ref, word}
+use Rattle.mesa_record.specs.Reading.{Left, Read, aggregate_at, aggregates_at, byte_at, format_at, format_of, total_at, count_at, file_ref_at, files_at, files_if, files_if_any_at, flag_of, half_at, key_at, long_at, meaning, not_zero, part_at, piece_at, ruled, totals_at, view_number, view_ref_at, view_refs_at, word_at}
+use Rattle.mesa_record.specs.Rules.{FitsFiles, FitsFilesIfAny, FitsPart, FitsRef, FitsTotals, FitsView, IsHalf, IsLong, IsTotal, IsTypedRef, IsWord, is_count_of_columns, is_file_ref, is_key_length}
+use Rattle.mesa_record.specs.Spelling.{aggregate, counted, format_byte, format_field, total, file_keys, file_ref, file_sizes, files, files_if_any, flag, half, key, long, part, view_ref, word}
 use Rattle.mesa_record.proofs.Both.{Again, Begins, Found, InOrder, begins_two, here, list_again, list_found, of_ok, ok_is, step_of}
-use Rattle.mesa_record.proofs.Numbers.{amount_again, amount_found, byte_again, byte_found, half_again, half_found, long_again, long_found, one, piece_again, piece_found, word_again, word_found}
+use Rattle.mesa_record.proofs.Numbers.{IsAggregate, IsTotalIn, aggregate_again, aggregate_found, total_again, total_found, byte_again, byte_found, half_again, half_found, long_again, long_found, one, piece_again, piece_found, word_again, word_found}
 use Rattle.mesa_record.proofs.Texts.{key_again, key_found, meaning_again, meaning_found, ruled_again, ruled_found}
-use Rattle.mesa_record.proofs.ColumnsBoth.{IsCounted, counted_again, counted_found, flag_of_byte, made_again, two_again, two_found}
+use Rattle.mesa_record.proofs.ColumnsBoth.{IsCounted, first_of_two, counted_again, counted_found, flag_of_byte, made_again, two_again, two_found}
 
 pub all_true : (a b : Bool) → IsTrue a → IsTrue b → IsTrue (a && b)
 all_true true b x y = y
 all_true false b x y = absurd cc
 
--- a reference within its types that keeps the rules
-pub record IsRef (f : FileRef) : Type 0 where
+-- ---- what an edition has room for
+
+-- a number that an edition has room for is an amount
+wider : (e : Edition) (z : ℤ) → IsAggregate e z → IsAmount z
+wider First z h = omega (arith, h)
+wider Second z h = h
+
+pub all_wider : (e : Edition) (zs : List ℤ) → AllByRecursion (IsAggregate e) zs → AllByRecursion IsAmount zs
+all_wider e [] all = tt
+all_wider e (z ∷ zs) all = (wider e z all.0, all_wider e zs all.1)
+
+wider_total : (e : Edition) (n : ℕ) → IsTotalIn e n → IsTotal n
+wider_total First n h = omega (arith, h)
+wider_total Second n h = h
+
+pub totals_wider : (e : Edition) (ns : List ℕ) → AllByRecursion (IsTotalIn e) ns → AllByRecursion IsTotal ns
+totals_wider e [] all = tt
+totals_wider e (n ∷ ns) all = (wider_total e n all.0, totals_wider e ns all.1)
+
+pub totals_fit : (e : Edition) (ns : List ℕ) → AllByRecursion (IsTotalIn e) ns → FitsTotals e ns
+totals_fit First ns all = all
+totals_fit Second ns all = tt
+
+pub totals_in : (e : Edition) (ns : List ℕ) → AllByRecursion IsTotal ns → FitsTotals e ns → AllByRecursion (IsTotalIn e) ns
+totals_in First ns all fits = fits
+totals_in Second ns all fits = all
+
+aggregates_in : (e : Edition) (f : FileRef) → IsTypedRef f → FitsRef e f → AllByRecursion (IsAggregate e) f.aggregates
+aggregates_in First f typed fits = fits.1
+aggregates_in Second f typed fits = typed.aggregates
+
+-- the format that an edition tells
+abbrev TellsFormat : Edition → Format → Type 0
+TellsFormat First f = f ≡ format.One
+TellsFormat Second f = Unit {0}
+
+format_in : (e : Edition) (f : FileRef) → FitsRef e f → TellsFormat e f.format
+format_in First f fits = fits.0
+format_in Second f fits = tt
+
+ref_fits : (e : Edition) (f : FileRef) → TellsFormat e f.format → AllByRecursion (IsAggregate e) f.aggregates → FitsRef e f
+ref_fits First f is all = (is, all)
+ref_fits Second f is all = tt
+
+format_meant : (f : Format) → format_of (format_byte f) ≡ Some f
+format_meant format.One = refl
+format_meant format.Two = refl
+
+format_of_byte : (b : ℕ) (f : Format) → format_of b ≡ Some f → format_byte f ≡ b
+format_of_byte b f h = elim (first_of_two (b == 1) format.One f _ h) [
+  | inl is ↦ ap format_byte (sym is.1) ∙ sym (eqb-true b 1 is.0)
+  | inr h1 ↦ elim (first_of_two (b == 2) format.Two f _ h1) [
+    | inl is ↦ ap format_byte (sym is.1) ∙ sym (eqb-true b 2 is.0)
+    | inr h2 ↦ absurd cc
+  ]
+]
+
+format_again : (e : Edition) (f : Format) → TellsFormat e f → Again (format_at e) (format_field e f) f
+format_again First f is at more = (at, ap (λ (x : Format). Ok (x, here at more)) (sym is))
+format_again Second f is at more = meaning_again format_of (format_byte f) f (format_meant f) at more
+
+format_found : (e : Edition) → Found (format_at e) (format_field e) (TellsFormat e)
+format_found First l after f bytes h =
+    subst (λ (z : Format × Left). (z.0 ≡ format.One) × Begins l [] z.1) (ok_is (format.One, l) (f, after) h) (refl, record { split = refl; rest = bytes })
+format_found Second l after f bytes h = let g = meaning_found format_of format_byte format_of_byte l after f bytes h in (tt, g.1)
+
+-- a reference within its types that keeps the rules, and that an edition has room for
+pub record IsRef (e : Edition) (f : FileRef) : Type 0 where
   pub typed : IsTypedRef f
   pub rules : IsTrue (is_file_ref f)
+  pub fits : FitsRef e f
 
 -- the rules of a reference, each by itself
 record RefRules (f : FileRef) : Type 0 where
@@ -42,11 +116,11 @@ ref_rules f h =
     let first = both (not_zero f.rows) (not_zero f.blocks) two.0 in
     record { rows = first.0; blocks = first.1; first = ltb-true _ _ two.1; last = ltb-true _ _ three.1; aggregates = four.1 }
 
-pub file_ref_again : (f : FileRef) → IsRef f → Again file_ref_at (file_ref f) f
+pub file_ref_again : (e : Edition) (f : FileRef) → IsRef e f → Again (file_ref_at e) (file_ref e f) f
 unfolding file_ref_at file_ref file_sizes file_keys
-file_ref_again f is at more =
+file_ref_again e f is at more =
     let rules = ref_rules f is.rules in
-    let sums = counted amount f.aggregates in
+    let sums = counted (aggregate e) f.aggregates in
     let b7 = f.digest ++ more in
     let b6 = sums ++ b7 in
     let b5 = key f.last ++ b6 in
@@ -54,16 +128,18 @@ file_ref_again f is at more =
     let b3 = word f.blocks ++ b4 in
     let b2 = long f.rows ++ b3 in
     let b1 = long f.len ++ b2 in
-    let id = long_again f.id is.typed.id at b1 in
+    let b0 = long f.id ++ b1 in
+    let form = format_again e f.format (format_in e f is.fits) at b0 in
+    let id = long_again f.id is.typed.id form.0 b1 in
     let len = long_again f.len is.typed.len id.0 b2 in
     let rows = ruled_again not_zero long_at (long f.rows) f.rows rules.rows (long_again f.rows is.typed.rows) len.0 b3 in
     let blocks = ruled_again not_zero word_at (word f.blocks) f.blocks rules.blocks (word_again f.blocks is.typed.blocks) rows.0 b4 in
     let first = key_again f.first rules.first blocks.0 b5 in
     let last = key_again f.last rules.last first.0 b6 in
-    let aggregates = counted_again is_count_of_columns amount_at amount IsAmount amount_again f.aggregates is.typed.aggregates rules.aggregates last.0 b7 in
+    let aggregates = counted_again is_count_of_columns (aggregate_at e) (aggregate e) (IsAggregate e) (aggregate_again e) f.aggregates (aggregates_in e f is.typed is.fits) rules.aggregates last.0 b7 in
     let digest = piece_again f.digest 32 aggregates.0 more is.typed.digest in
-    let flat : file_ref f ++ more ≡ long f.id ++ b1 = simp append_assoc refl in
-    (aggregates.0 + 32, ap (λ bytes. file_ref_at (here at bytes)) flat ∙ rw (id.1, len.1, rows.1, blocks.1, first.1, last.1, aggregates.1, digest) refl)
+    let flat : file_ref e f ++ more ≡ format_field e f.format ++ b0 = simp append_assoc refl in
+    (aggregates.0 + 32, ap (λ bytes. file_ref_at e (here at bytes)) flat ∙ rw (form.1, id.1, len.1, rows.1, blocks.1, first.1, last.1, aggregates.1, digest) refl)
 
 ref_bool : (f : FileRef) → RefRules f → IsTrue (is_file_ref f)
 ref_bool f r =
@@ -81,40 +157,42 @@ record AreSizes (id len rows blocks : ℕ) : Type 0 where
   pub blocks_fit : IsWord blocks × IsTrue (not_zero blocks)
 
 -- what is read of a reference behind its sizes
-abbrev behind_sizes : (id len rows blocks : ℕ) → Left → Read FileRef
-behind_sizes id len rows blocks l = do
+abbrev behind_sizes : Edition → Format → (id len rows blocks : ℕ) → Left → Read FileRef
+behind_sizes e form id len rows blocks l = do
   first ← key_at l
   last ← key_at first.1
-  aggregates ← aggregates_at last.1
+  aggregates ← aggregates_at e last.1
   digest ← piece_at 32 aggregates.1
-  Ok (record { id = id; len = len; rows = rows; blocks = blocks; first = first.0; last = last.0; aggregates = aggregates.0; digest = digest.0 }, digest.1)
+  Ok (record { format = form; id = id; len = len; rows = rows; blocks = blocks; first = first.0; last = last.0; aggregates = aggregates.0; digest = digest.0 }, digest.1)
 
 -- By itself, so that no step of these stands in the types of those before it.
-behind_sizes_found : (id len rows blocks : ℕ) → AreSizes id len rows blocks → (l mid after : Left) (f : FileRef) → Begins l (long id ++ (long len ++ (long rows ++ word blocks))) mid → behind_sizes id len rows blocks mid ≡ Ok (f, after)
-    → IsRef f × Begins l (file_ref f) after
+behind_sizes_found : (e : Edition) (form : Format) (id len rows blocks : ℕ) → TellsFormat e form → AreSizes id len rows blocks → (l start mid after : Left) (f : FileRef) → Begins l (format_field e form) start
+    → Begins start (long id ++ (long len ++ (long rows ++ word blocks))) mid → behind_sizes e form id len rows blocks mid ≡ Ok (f, after) → IsRef e f × Begins l (file_ref e f) after
 unfolding file_ref file_sizes file_keys
-behind_sizes_found id len rows blocks are l mid after f sizes h =
+behind_sizes_found e form id len rows blocks tells are l start mid after f first_field sizes h =
     let s1 = step_of (key_at mid) _ _ h in
     let f1 = key_found mid s1.0.1 s1.0.0 sizes.rest s1.1 in
     let s2 = step_of (key_at s1.0.1) _ _ s1.2 in
     let f2 = key_found s1.0.1 s2.0.1 s2.0.0 f1.1.rest s2.1 in
-    let s3 = step_of (aggregates_at s2.0.1) _ _ s2.2 in
-    let f3 = counted_found is_count_of_columns amount_at amount IsAmount amount_found s2.0.1 s3.0.1 s3.0.0 f2.1.rest s3.1 in
+    let s3 = step_of (aggregates_at e s2.0.1) _ _ s2.2 in
+    let f3 = counted_found is_count_of_columns (aggregate_at e) (aggregate e) (IsAggregate e) (aggregate_found e) s2.0.1 s3.0.1 s3.0.0 f2.1.rest s3.1 in
     let s4 = step_of (piece_at 32 s3.0.1) _ _ s3.2 in
     let f4 = piece_found 32 s3.0.1 s4.0.1 s4.0.0 f3.1.rest s4.1 in
-    let file : FileRef = record { id = id; len = len; rows = rows; blocks = blocks; first = s1.0.0; last = s2.0.0; aggregates = s3.0.0; digest = s4.0.0 } in
+    let file : FileRef = record { format = form; id = id; len = len; rows = rows; blocks = blocks; first = s1.0.0; last = s2.0.0; aggregates = s3.0.0; digest = s4.0.0 } in
     let keys : Begins mid (file_keys file) s2.0.1 = begins_two mid s1.0.1 s2.0.1 _ _ f1.1 f2.1 in
-    let rest : Begins s2.0.1 (counted amount file.aggregates ++ file.digest) s4.0.1 = begins_two s2.0.1 s3.0.1 s4.0.1 _ _ f3.1 f4.begins in
+    let rest : Begins s2.0.1 (counted (aggregate e) file.aggregates ++ file.digest) s4.0.1 = begins_two s2.0.1 s3.0.1 s4.0.1 _ _ f3.1 f4.begins in
     let rules : RefRules file = record { rows = are.rows_fit.1; blocks = are.blocks_fit.1; first = f1.0; last = f2.0; aggregates = f3.0.count } in
-    let typed : IsTypedRef file = record { id = are.id_fits; len = are.len_fits; rows = are.rows_fit.0; blocks = are.blocks_fit.0; aggregates = f3.0.all; digest = f4.len } in
-    subst (λ (z : FileRef × Left). IsRef z.0 × Begins l (file_ref z.0) z.1) (ok_is (file, s4.0.1) (f, after) s4.2)
-    (record { typed = typed; rules = ref_bool file rules }, begins_two l mid s4.0.1 _ _ sizes (begins_two mid s2.0.1 s4.0.1 _ _ keys rest))
+    let typed : IsTypedRef file = record { id = are.id_fits; len = are.len_fits; rows = are.rows_fit.0; blocks = are.blocks_fit.0; aggregates = all_wider e file.aggregates f3.0.all; digest = f4.len } in
+    subst (λ (z : FileRef × Left). IsRef e z.0 × Begins l (file_ref e z.0) z.1) (ok_is (file, s4.0.1) (f, after) s4.2)
+    (record { typed = typed; rules = ref_bool file rules; fits = ref_fits e file tells f3.0.all }, begins_two l start s4.0.1 _ _ first_field (begins_two start mid s4.0.1 _ _ sizes (begins_two mid s2.0.1 s4.0.1 _ _ keys rest)))
 
-pub file_ref_found : Found file_ref_at file_ref IsRef
+pub file_ref_found : (e : Edition) → Found (file_ref_at e) (file_ref e) (IsRef e)
 unfolding file_ref_at
-file_ref_found l after f bytes h =
-    let s1 = step_of (long_at l) _ _ h in
-    let f1 = long_found l s1.0.1 s1.0.0 bytes s1.1 in
+file_ref_found e l after f bytes h =
+    let s0 = step_of (format_at e l) _ _ h in
+    let f0 = format_found e l s0.0.1 s0.0.0 bytes s0.1 in
+    let s1 = step_of (long_at s0.0.1) _ _ s0.2 in
+    let f1 = long_found s0.0.1 s1.0.1 s1.0.0 f0.1.rest s1.1 in
     let s2 = step_of (long_at s1.0.1) _ _ s1.2 in
     let f2 = long_found s1.0.1 s2.0.1 s2.0.0 f1.1.rest s2.1 in
     let s3 = step_of (ruled not_zero long_at s2.0.1) _ _ s2.2 in
@@ -122,118 +200,118 @@ file_ref_found l after f bytes h =
     let s4 = step_of (ruled not_zero word_at s3.0.1) _ _ s3.2 in
     let f4 = ruled_found not_zero word_at word IsWord word_found s3.0.1 s4.0.1 s4.0.0 f3.1.rest s4.1 in
     let are : AreSizes s1.0.0 s2.0.0 s3.0.0 s4.0.0 = record { id_fits = f1.0; len_fits = f2.0; rows_fit = f3.0; blocks_fit = f4.0 } in
-    let sizes = begins_two l s1.0.1 s4.0.1 _ _ f1.1 (begins_two s1.0.1 s2.0.1 s4.0.1 _ _ f2.1 (begins_two s2.0.1 s3.0.1 s4.0.1 _ _ f3.1 f4.1)) in
-    behind_sizes_found s1.0.0 s2.0.0 s3.0.0 s4.0.0 are l s4.0.1 after f sizes s4.2
+    let sizes = begins_two s0.0.1 s1.0.1 s4.0.1 _ _ f1.1 (begins_two s1.0.1 s2.0.1 s4.0.1 _ _ f2.1 (begins_two s2.0.1 s3.0.1 s4.0.1 _ _ f3.1 f4.1)) in
+    behind_sizes_found e s0.0.0 s1.0.0 s2.0.0 s3.0.0 s4.0.0 f0.0 are l s0.0.1 s4.0.1 after f f0.1 sizes s4.2
 
 -- ---- views' files
 
 -- a view's file whose number is at least this one
-pub record IsView (least : ℕ) (v : ViewRef) : Type 0 where
+pub record IsView (e : Edition) (least : ℕ) (v : ViewRef) : Type 0 where
   pub number : IsTrue (nat_le least v.view)
   pub small : v.view < 2 ^ 8
-  pub file : IsRef v.file
+  pub file : IsRef e v.file
 
-view_ref_again : (least : ℕ) (v : ViewRef) → IsView least v → Again (view_ref_at least) (view_ref v) v
-view_ref_again least v is = two_again (ruled (nat_le least) byte_at) (λ view. file_ref_at) (λ view f. record { view = view; file = f }) (one v.view) (file_ref v.file) v.view v.file
-    (ruled_again (nat_le least) byte_at (one v.view) v.view is.number (λ at more. (at + 1, byte_again v.view at more))) (file_ref_again v.file is.file)
+view_ref_again : (e : Edition) (least : ℕ) (v : ViewRef) → IsView e least v → Again (view_ref_at e least) (view_ref e v) v
+view_ref_again e least v is = two_again (ruled (nat_le least) byte_at) (λ view. file_ref_at e) (λ view f. record { view = view; file = f }) (one v.view) (file_ref e v.file) v.view v.file
+    (ruled_again (nat_le least) byte_at (one v.view) v.view is.number (λ at more. (at + 1, byte_again v.view at more))) (file_ref_again e v.file is.file)
 
-view_ref_found : (least : ℕ) → Found (view_ref_at least) view_ref (IsView least)
-view_ref_found least = two_found (ruled (nat_le least) byte_at) (λ view. file_ref_at) (λ view f. record { view = view; file = f }) (λ view. (view < 2 ^ 8) × IsTrue (nat_le least view)) (λ view f. IsRef f) (IsView least)
-    one file_ref view_ref
-    (ruled_found (nat_le least) byte_at one (λ b. b < 2 ^ 8) byte_found) (λ view. file_ref_found) (λ view f number file. (record { number = number.1; small = number.0; file = file }, refl))
+view_ref_found : (e : Edition) (least : ℕ) → Found (view_ref_at e least) (view_ref e) (IsView e least)
+view_ref_found e least = two_found (ruled (nat_le least) byte_at) (λ view. file_ref_at e) (λ view f. record { view = view; file = f }) (λ view. (view < 2 ^ 8) × IsTrue (nat_le least view)) (λ view f. IsRef e f) (IsView e least)
+    one (file_ref e) (view_ref e)
+    (ruled_found (nat_le least) byte_at one (λ b. b < 2 ^ 8) byte_found) (λ view. file_ref_found e) (λ view f number file. (record { number = number.1; small = number.0; file = file }, refl))
 
-abbrev pub AreViews : List ViewRef → Type 0
-AreViews views = InOrder IsView view_number 0 views × IsTrue (nat_le (length views) 8)
+abbrev pub AreViews : Edition → List ViewRef → Type 0
+AreViews e views = InOrder (IsView e) view_number 0 views × IsTrue (nat_le (length views) 8)
 
-views_again : (views : List ViewRef) → AreViews views → Again view_refs_at (counted view_ref views) views
-views_again views are at more =
-    let count = ruled_again (λ n. nat_le n 8) byte_at (one (length views)) (length views) are.1 (λ at more. (at + 1, byte_again (length views) at more)) at (flat_map view_ref views ++ more) in
-    let fields = list_again view_number view_ref_at view_ref IsView view_ref_again 0 views are.0 count.0 more in
+views_again : (e : Edition) (views : List ViewRef) → AreViews e views → Again (view_refs_at e) (counted (view_ref e) views) views
+views_again e views are at more =
+    let count = ruled_again (λ n. nat_le n 8) byte_at (one (length views)) (length views) are.1 (λ at more. (at + 1, byte_again (length views) at more)) at (flat_map (view_ref e) views ++ more) in
+    let fields = list_again view_number (view_ref_at e) (view_ref e) (IsView e) (view_ref_again e) 0 views are.0 count.0 more in
     (fields.0, rw count.1 fields.1)
 
-views_found : Found view_refs_at (counted view_ref) AreViews
-views_found l after views bytes h =
+views_found : (e : Edition) → Found (view_refs_at e) (counted (view_ref e)) (AreViews e)
+views_found e l after views bytes h =
     let s = step_of (count_at 8 l) _ _ h in
     let f = ruled_found (λ n. nat_le n 8) byte_at one (λ b. b < 2 ^ 8) byte_found l s.0.1 s.0.0 bytes s.1 in
-    let g = list_found view_number view_ref_at view_ref IsView view_ref_found 0 s.0.0 s.0.1 after views f.1.rest s.2 in
-    ((g.order, subst (λ n. IsTrue (nat_le n 8)) (sym g.count) f.0.1), subst (λ n. Begins l (one n ++ flat_map view_ref views) after) (sym g.count) (begins_two l s.0.1 after (one s.0.0) (flat_map view_ref views) f.1 g.begins))
+    let g = list_found view_number (view_ref_at e) (view_ref e) (IsView e) (view_ref_found e) 0 s.0.0 s.0.1 after views f.1.rest s.2 in
+    ((g.order, subst (λ n. IsTrue (nat_le n 8)) (sym g.count) f.0.1), subst (λ n. Begins l (one n ++ flat_map (view_ref e) views) after) (sym g.count) (begins_two l s.0.1 after (one s.0.0) (flat_map (view_ref e) views) f.1 g.begins))
 
 -- ---- the files of a delta
 
-pub record AreFiles (f : Files) : Type 0 where
-  pub file : IsRef f.file
-  pub views : AreViews f.views
+pub record AreFiles (e : Edition) (f : Files) : Type 0 where
+  pub file : IsRef e f.file
+  pub views : AreViews e f.views
 
-pub files_again : (f : Files) → AreFiles f → Again files_at (files f) f
+pub files_again : (e : Edition) (f : Files) → AreFiles e f → Again (files_at e) (files e f) f
 unfolding files_at files
-files_again f are = two_again file_ref_at (λ file. view_refs_at) (λ file views. record { file = file; views = views }) (file_ref f.file) (counted view_ref f.views) f.file f.views (file_ref_again f.file are.file) (views_again f.views are.views)
+files_again e f are = two_again (file_ref_at e) (λ file. view_refs_at e) (λ file views. record { file = file; views = views }) (file_ref e f.file) (counted (view_ref e) f.views) f.file f.views (file_ref_again e f.file are.file) (views_again e f.views are.views)
 
-pub files_found : Found files_at files AreFiles
+pub files_found : (e : Edition) → Found (files_at e) (files e) (AreFiles e)
 unfolding files_at files
-files_found = two_found file_ref_at (λ file. view_refs_at) (λ file views. record { file = file; views = views }) IsRef (λ file views. AreViews views) AreFiles file_ref (counted view_ref) files
-    file_ref_found (λ file. views_found) (λ file views a b. (record { file = a; views = b }, refl))
+files_found e = two_found (file_ref_at e) (λ file. view_refs_at e) (λ file views. record { file = file; views = views }) (IsRef e) (λ file views. AreViews e views) (AreFiles e) (file_ref e) (counted (view_ref e)) (files e)
+    (file_ref_found e) (λ file. views_found e) (λ file views a b. (record { file = a; views = b }, refl))
 
-abbrev pub AreFilesIfAny : Option Files → Type 0
-AreFilesIfAny None = Unit {0}
-AreFilesIfAny (Some f) = AreFiles f
+abbrev pub AreFilesIfAny : Edition → Option Files → Type 0
+AreFilesIfAny e None = Unit {0}
+AreFilesIfAny e (Some f) = AreFiles e f
 
-pub files_if_any_again : (f : Option Files) → AreFilesIfAny f → Again files_if_any_at (files_if_any f) f
-files_if_any_again None are at more = let some = meaning_again flag_of 0 false refl at more in (some.0, rw some.1 refl)
-files_if_any_again (Some f) are at more =
-    let some = meaning_again flag_of 1 true refl at (files f ++ more) in
-    let all = made_again files_at Some (files f) f (files_again f are) some.0 more in
+pub files_if_any_again : (e : Edition) (f : Option Files) → AreFilesIfAny e f → Again (files_if_any_at e) (files_if_any e f) f
+files_if_any_again e None are at more = let some = meaning_again flag_of 0 false refl at more in (some.0, rw some.1 refl)
+files_if_any_again e (Some f) are at more =
+    let some = meaning_again flag_of 1 true refl at (files e f ++ more) in
+    let all = made_again (files_at e) Some (files e f) f (files_again e f are) some.0 more in
     (all.0, rw some.1 all.1)
 
 -- the files behind the flag
-files_if_found : (some : Bool) (l mid after : Left) (f : Option Files) → Begins l (one (flag some)) mid → files_if some mid ≡ Ok (f, after) → AreFilesIfAny f × Begins l (files_if_any f) after
-files_if_found false l mid after f first h =
-    subst (λ (z : Option Files × Left). AreFilesIfAny z.0 × Begins l (files_if_any z.0) z.1) (of_ok _ (None, mid) (f, after) refl h) (tt, first)
-files_if_found true l mid after f first h =
-    let s = step_of (files_at mid) _ _ h in
-    let g = files_found mid s.0.1 s.0.0 first.rest s.1 in
-    subst (λ (z : Option Files × Left). AreFilesIfAny z.0 × Begins l (files_if_any z.0) z.1) (of_ok _ (Some s.0.0, s.0.1) (f, after) refl s.2)
-    (g.0, begins_two l mid s.0.1 (one 1) (files s.0.0) first g.1)
+files_if_found : (e : Edition) (some : Bool) (l mid after : Left) (f : Option Files) → Begins l (one (flag some)) mid → files_if e some mid ≡ Ok (f, after) → AreFilesIfAny e f × Begins l (files_if_any e f) after
+files_if_found e false l mid after f first h =
+    subst (λ (z : Option Files × Left). AreFilesIfAny e z.0 × Begins l (files_if_any e z.0) z.1) (of_ok _ (None, mid) (f, after) refl h) (tt, first)
+files_if_found e true l mid after f first h =
+    let s = step_of (files_at e mid) _ _ h in
+    let g = files_found e mid s.0.1 s.0.0 first.rest s.1 in
+    subst (λ (z : Option Files × Left). AreFilesIfAny e z.0 × Begins l (files_if_any e z.0) z.1) (of_ok _ (Some s.0.0, s.0.1) (f, after) refl s.2)
+    (g.0, begins_two l mid s.0.1 (one 1) (files e s.0.0) first g.1)
 
-pub files_if_any_found : Found files_if_any_at files_if_any AreFilesIfAny
-files_if_any_found l after f bytes h =
+pub files_if_any_found : (e : Edition) → Found (files_if_any_at e) (files_if_any e) (AreFilesIfAny e)
+files_if_any_found e l after f bytes h =
     let s = step_of (meaning flag_of l) _ _ h in
     let g = meaning_found flag_of flag flag_of_byte l s.0.1 s.0.0 bytes s.1 in
-    files_if_found s.0.0 l s.0.1 after f g.1 s.2
+    files_if_found e s.0.0 l s.0.1 after f g.1 s.2
 
 -- ---- parts
 
-pub record IsPart (least : ℕ) (p : Part) : Type 0 where
+pub record IsPart (e : Edition) (least : ℕ) (p : Part) : Type 0 where
   pub number : IsTrue (nat_le least p.table)
   pub table : IsHalf p.table
   pub epoch : IsWord p.epoch
-  pub files : AreFiles p.files
-  pub totals : IsCounted (λ n. nat_le n 16) IsLong p.totals
+  pub files : AreFiles e p.files
+  pub totals : IsCounted (λ n. nat_le n 16) (IsTotalIn e) p.totals
 
-pub part_again : (least : ℕ) (p : Part) → IsPart least p → Again (part_at least) (part p) p
-part_again least p is at more =
-    let totals_bytes = counted long p.totals in
+pub part_again : (e : Edition) (least : ℕ) (p : Part) → IsPart e least p → Again (part_at e least) (part e p) p
+part_again e least p is at more =
+    let totals_bytes = counted (total e) p.totals in
     let b3 = totals_bytes ++ more in
-    let b2 = files p.files ++ b3 in
+    let b2 = files e p.files ++ b3 in
     let b1 = word p.epoch ++ b2 in
     let table = ruled_again (nat_le least) half_at (half p.table) p.table is.number (half_again p.table is.table) at b1 in
     let epoch = word_again p.epoch is.epoch table.0 b2 in
-    let all = files_again p.files is.files epoch.0 b3 in
-    let totals = counted_again (λ n. nat_le n 16) long_at long IsLong long_again p.totals is.totals.all is.totals.count all.0 more in
-    let flat : part p ++ more ≡ half p.table ++ b1 = simp append_assoc refl in
-    (totals.0, ap (λ bytes. part_at least (here at bytes)) flat ∙ rw (table.1, epoch.1, all.1, totals.1) refl)
+    let all = files_again e p.files is.files epoch.0 b3 in
+    let totals = counted_again (λ n. nat_le n 16) (total_at e) (total e) (IsTotalIn e) (total_again e) p.totals is.totals.all is.totals.count all.0 more in
+    let flat : part e p ++ more ≡ half p.table ++ b1 = simp append_assoc refl in
+    (totals.0, ap (λ bytes. part_at e least (here at bytes)) flat ∙ rw (table.1, epoch.1, all.1, totals.1) refl)
 
-pub part_found : (least : ℕ) → Found (part_at least) part (IsPart least)
-part_found least l after p bytes h =
+pub part_found : (e : Edition) (least : ℕ) → Found (part_at e least) (part e) (IsPart e least)
+part_found e least l after p bytes h =
     let s1 = step_of (ruled (nat_le least) half_at l) _ _ h in
     let f1 = ruled_found (nat_le least) half_at half IsHalf half_found l s1.0.1 s1.0.0 bytes s1.1 in
     let s2 = step_of (word_at s1.0.1) _ _ s1.2 in
     let f2 = word_found s1.0.1 s2.0.1 s2.0.0 f1.1.rest s2.1 in
-    let s3 = step_of (files_at s2.0.1) _ _ s2.2 in
-    let f3 = files_found s2.0.1 s3.0.1 s3.0.0 f2.1.rest s3.1 in
-    let s4 = step_of (totals_at s3.0.1) _ _ s3.2 in
-    let f4 = counted_found (λ n. nat_le n 16) long_at long IsLong long_found s3.0.1 s4.0.1 s4.0.0 f3.1.rest s4.1 in
+    let s3 = step_of (files_at e s2.0.1) _ _ s2.2 in
+    let f3 = files_found e s2.0.1 s3.0.1 s3.0.0 f2.1.rest s3.1 in
+    let s4 = step_of (totals_at e s3.0.1) _ _ s3.2 in
+    let f4 = counted_found (λ n. nat_le n 16) (total_at e) (total e) (IsTotalIn e) (total_found e) s3.0.1 s4.0.1 s4.0.0 f3.1.rest s4.1 in
     let made : Part = record { table = s1.0.0; epoch = s2.0.0; files = s3.0.0; totals = s4.0.0 } in
-    subst (λ (z : Part × Left). IsPart least z.0 × Begins l (part z.0) z.1) (ok_is (made, s4.0.1) (p, after) s4.2) (
+    subst (λ (z : Part × Left). IsPart e least z.0 × Begins l (part e z.0) z.1) (ok_is (made, s4.0.1) (p, after) s4.2) (
       record { number = f1.0.1; table = f1.0.0; epoch = f2.0; files = f3.0; totals = f4.0 },
       begins_two l s1.0.1 s4.0.1 _ _ f1.1 (begins_two s1.0.1 s2.0.1 s4.0.1 _ _ f2.1 (begins_two s2.0.1 s3.0.1 s4.0.1 _ _ f3.1 f4.1)),
     )

@@ -1,18 +1,21 @@
 -- Numbers and bytes, both ways.
 use Rattle.std.proofs.Common.{◌≡◌, ℕ, ◌+◌, ◌<◌, ◌^◌, List, [], ◌∷◌, ◌++◌, length, get_or, refl, sym, ap, subst, ◌∙◌, arith, Bool, true, false, Ok, Err}
 use Rattle.std.specs.Prelude.{ℤ, take, nat_lt, if◌then◌else◌}
-use Rattle.std.specs.Int.{w16, w32, w64, from_be_bytes, to_be_bytes, cast_signed, cast_unsigned}
+use Rattle.std.specs.Int.{w16, w32, w64, w128, from_be_bytes, to_be_bytes, cast_signed, cast_unsigned}
 use Rattle.std.proofs.Math.Facts.{Fits-of_z, sfits_to_z}
 use Rattle.std.proofs.Math.Seq.{drop-append_seam, take-append_seam}
 use Rattle.std.proofs.lemmas.Bool.{le-ltb, ltb-false}
 use Rattle.std.proofs.lemmas.Int.{of_z-to_z, to_z-of_z}
 use Rattle.std.proofs.lemmas.List.{length-append, length-take-le, take-append-drop}
 use Rattle.std.proofs.lemmas.Nat.{be_bytes_2, be_bytes_4, be_bytes_8, from_be_bytes-to_be_bytes_2, from_be_bytes-to_be_bytes_4, from_be_bytes-to_be_bytes_8}
-use Rattle.mesa_value.specs.Agg.{IsAmount}
+use Rattle.mesa_list.proofs.WideBytes.{be_bytes_16, from_be_bytes-to_be_bytes_16}
+use Rattle.mesa_value.specs.Agg.{IsAmount, IsNarrow}
+use Rattle.mesa_record.specs.declared.edition.Edition.{Edition}
+use Rattle.mesa_record.specs.declared.edition.Edition.TheVariants.{First, Second}
 use Rattle.mesa_record.specs.declared.error.RecordError.TheVariants as fault
-use Rattle.mesa_record.specs.Reading.{Left, Read, amount_at, behind, byte_at, half_at, long_at, piece_at, word_at}
-use Rattle.mesa_record.specs.Rules.{IsHalf, IsLong, IsWord}
-use Rattle.mesa_record.specs.Spelling.{amount, half, long, word}
+use Rattle.mesa_record.specs.Reading.{Left, Read, aggregate_at, amount_at, total_at, wide_amount_at, wide_at, behind, byte_at, half_at, long_at, piece_at, word_at}
+use Rattle.mesa_record.specs.Rules.{IsHalf, IsLong, IsTotal, IsWord}
+use Rattle.mesa_record.specs.Spelling.{aggregate, amount, half, long, total, wide, word}
 use Rattle.mesa_record.proofs.Both.{Again, Begins, Bytes, Found, byte_in, here, of_ok, step_of, taken}
 
 -- ---- pieces
@@ -113,18 +116,77 @@ long_found l after n bytes h =
 
 -- ---- amounts
 
-pub amount_again : (z : ℤ) → IsAmount z → Again amount_at (amount z) z
+pub amount_again : (z : ℤ) → IsNarrow z → Again amount_at (amount z) z
 unfolding long
 amount_again z fits at more =
     let small : cast_unsigned w64 z < 2 ^ 64 = omega (arith, Fits-of_z {w = w64} {z = z} fits) in
     (at + 8, rw (piece_again (to_be_bytes w64 (cast_unsigned w64 z)) 8 at more refl, from_be_bytes-to_be_bytes_8 (cast_unsigned w64 z) small, to_z-of_z w64 z fits) refl)
 
-amount_of : (p : List ℕ) → length p ≡ 8 → Bytes p → IsAmount (cast_signed w64 (from_be_bytes w64 p)) × (amount (cast_signed w64 (from_be_bytes w64 p)) ≡ p)
+amount_of : (p : List ℕ) → length p ≡ 8 → Bytes p → IsNarrow (cast_signed w64 (from_be_bytes w64 p)) × (amount (cast_signed w64 (from_be_bytes w64 p)) ≡ p)
 amount_of p len bytes =
     let is = long_of p len bytes in
     (sfits_to_z {w = w64} {n = from_be_bytes w64 p} (omega (arith, is.0)), ap long (of_z-to_z w64 (from_be_bytes w64 p) is.0) ∙ is.1)
 
-pub amount_found : Found amount_at amount IsAmount
+pub amount_found : Found amount_at amount IsNarrow
 amount_found l after z bytes h =
     let s = step_of (piece_at 8 l) _ _ h in
-    number_found 8 (λ p. cast_signed w64 (from_be_bytes w64 p)) amount IsAmount amount_of l after z bytes s.0 s.1 (of_ok _ _ _ refl s.2)
+    number_found 8 (λ p. cast_signed w64 (from_be_bytes w64 p)) amount IsNarrow amount_of l after z bytes s.0 s.1 (of_ok _ _ _ refl s.2)
+
+-- ---- numbers of sixteen bytes
+
+pub wide_again : (n : ℕ) → IsTotal n → Again wide_at (wide n) n
+unfolding wide
+wide_again n small at more = (at + 16, rw (piece_again (to_be_bytes w128 n) 16 at more refl, from_be_bytes-to_be_bytes_16 n small) refl)
+
+wide_of : (p : List ℕ) → length p ≡ 16 → Bytes p → IsTotal (from_be_bytes w128 p) × (wide (from_be_bytes w128 p) ≡ p)
+unfolding wide
+wide_of p len bytes =
+    let b = byte_in p bytes in
+    (omega (arith, b 0, b 1, b 2, b 3, b 4, b 5, b 6, b 7, b 8, b 9, b 10, b 11, b 12, b 13, b 14, b 15), be_bytes_16 p (from_be_bytes w128 p) len b refl)
+
+pub wide_found : Found wide_at wide IsTotal
+wide_found l after n bytes h =
+    let s = step_of (piece_at 16 l) _ _ h in
+    number_found 16 (from_be_bytes w128) wide IsTotal wide_of l after n bytes s.0 s.1 (of_ok _ _ _ refl s.2)
+
+wide_amount_again : (z : ℤ) → IsAmount z → Again wide_amount_at (aggregate Second z) z
+unfolding wide
+wide_amount_again z fits at more =
+    let small : cast_unsigned w128 z < 2 ^ 128 = omega (arith, Fits-of_z {w = w128} {z = z} fits) in
+    (at + 16, rw (piece_again (to_be_bytes w128 (cast_unsigned w128 z)) 16 at more refl, from_be_bytes-to_be_bytes_16 (cast_unsigned w128 z) small, to_z-of_z w128 z fits) refl)
+
+wide_amount_of : (p : List ℕ) → length p ≡ 16 → Bytes p → IsAmount (cast_signed w128 (from_be_bytes w128 p)) × (aggregate Second (cast_signed w128 (from_be_bytes w128 p)) ≡ p)
+wide_amount_of p len bytes =
+    let is = wide_of p len bytes in
+    (sfits_to_z {w = w128} {n = from_be_bytes w128 p} (omega (arith, is.0)), ap wide (of_z-to_z w128 (from_be_bytes w128 p) is.0) ∙ is.1)
+
+wide_amount_found : Found wide_amount_at (aggregate Second) IsAmount
+wide_amount_found l after z bytes h =
+    let s = step_of (piece_at 16 l) _ _ h in
+    number_found 16 (λ p. cast_signed w128 (from_be_bytes w128 p)) (aggregate Second) IsAmount wide_amount_of l after z bytes s.0 s.1 (of_ok _ _ _ refl s.2)
+
+-- ---- aggregates and totals of an edition
+
+abbrev pub IsAggregate : Edition → ℤ → Type 0
+IsAggregate First z = IsNarrow z
+IsAggregate Second z = IsAmount z
+
+pub aggregate_again : (e : Edition) (z : ℤ) → IsAggregate e z → Again (aggregate_at e) (aggregate e z) z
+aggregate_again First = amount_again
+aggregate_again Second = wide_amount_again
+
+pub aggregate_found : (e : Edition) → Found (aggregate_at e) (aggregate e) (IsAggregate e)
+aggregate_found First = amount_found
+aggregate_found Second = wide_amount_found
+
+abbrev pub IsTotalIn : Edition → ℕ → Type 0
+IsTotalIn First n = IsLong n
+IsTotalIn Second n = IsTotal n
+
+pub total_again : (e : Edition) (n : ℕ) → IsTotalIn e n → Again (total_at e) (total e n) n
+total_again First = long_again
+total_again Second = wide_again
+
+pub total_found : (e : Edition) → Found (total_at e) (total e) (IsTotalIn e)
+total_found First = long_found
+total_found Second = wide_found

@@ -7,125 +7,133 @@ use Rattle.mesa_list.proofs.Whole.{both}
 use Rattle.mesa_key.specs.Spelling.{AreBytes}
 use Rattle.mesa_schema.specs.declared.columns.KeyColumn.{KeyColumn}
 use Rattle.mesa_schema.specs.declared.columns.ValueColumn.{ValueColumn}
+use Rattle.mesa_record.specs.declared.edition.Edition.{Edition}
+use Rattle.mesa_record.specs.declared.edition.Edition.TheVariants.{First, Second}
 use Rattle.mesa_record.specs.declared.error.RecordError.{RecordError}
 use Rattle.mesa_record.specs.declared.record.Record.{Record}
 use Rattle.mesa_record.specs.declared.record.Record.TheVariants as record_of
 use Rattle.mesa_record.specs.declared.record.ViewRef.{ViewRef}
 use Rattle.mesa_record.specs.declared.record.Files.{Files}
 use Rattle.mesa_record.specs.declared.record.Part.{Part}
+use Rattle.mesa_record.specs.Editions.{IsSpelled}
 use Rattle.mesa_record.specs.Reading.{Left, Read, alter_at, byte_at, change_at, ended, expire_at, expire_table_at, fields_of, files_if_any_at, flag_of, half_at, key_column_at, key_columns_at, meaning, name_at, names_at, part_at, part_number, publish_at, record_at, rising, run_at, swap_at, table_at, value_column_at, value_columns_at, view_at, view_number, word_at}
-use Rattle.mesa_record.specs.Rules.{AreTypedFiles, IsHalf, IsNamed, IsRecord, IsTypedFiles, IsTypedPart, IsTypedView, IsWord, are_files, are_files_if_any, are_view_refs, is_count_of_columns, is_file_ref, is_part, rise_from}
-use Rattle.mesa_record.specs.Spelling.{change, counted, files_if_any, flag, half, key_column, part, spelled, text, value_column, word}
+use Rattle.mesa_record.specs.Rules.{AreTypedFiles, FitsFiles, FitsFilesIfAny, FitsIn, FitsPart, FitsView, IsHalf, IsNamed, IsRecord, IsTypedFiles, IsTypedPart, IsTypedView, IsWord, are_files, are_files_if_any, are_view_refs, is_count_of_columns, is_file_ref, is_part, rise_from}
+use Rattle.mesa_record.specs.Spelling.{change, counted, files_if_any, flag, half, key_column, part, publish_kind, spelled_in, swap_kind, text, value_column, word}
 use Rattle.mesa_record.proofs.Both.{Again, Begins, Bytes, Found, InOrder, all_bytes, begins_two, here, list_again, list_found, ok_is, step_of}
 use Rattle.mesa_record.proofs.Numbers.{byte_again, byte_found, half_again, half_found, one, word_again, word_found}
 use Rattle.mesa_record.proofs.Texts.{meaning_again, meaning_found}
 use Rattle.mesa_record.proofs.ColumnsBoth.{IsChange, IsCounted, change_again, change_found, counted_again, counted_found, either_way, flag_again, flag_of_byte, key_column_again, key_column_found, made_again, made_found, name_again, name_found, two_again, two_found, value_column_again, value_column_found}
-use Rattle.mesa_record.proofs.FilesBoth.{AreFiles, AreFilesIfAny, IsPart, IsView, all_true, files_if_any_again, files_if_any_found, part_again, part_found}
+use Rattle.mesa_record.proofs.FilesBoth.{AreFiles, AreFilesIfAny, IsPart, IsView, all_true, files_if_any_again, files_if_any_found, part_again, part_found, totals_fit, totals_in, totals_wider}
 
 -- ---- what the rules say, list by list
 
-views_in_order : (least : ℕ) (views : List ViewRef) → IsTrue (rise_from least (map (λ (v : ViewRef). v.view) views)) → IsTrue (list_all (λ (v : ViewRef). is_file_ref v.file) views) → AllByRecursion IsTypedView views → InOrder IsView view_number least views
-views_in_order least [] rise good typed = tt
-views_in_order least (v ∷ views) rise good typed =
+views_in_order : (e : Edition) (least : ℕ) (views : List ViewRef) → IsTrue (rise_from least (map (λ (v : ViewRef). v.view) views)) → IsTrue (list_all (λ (v : ViewRef). is_file_ref v.file) views) → AllByRecursion IsTypedView views → AllByRecursion (FitsView e) views → InOrder (IsView e) view_number least views
+views_in_order e least [] rise good typed fits = tt
+views_in_order e least (v ∷ views) rise good typed fits =
     let r = both (nat_le least v.view) (rise_from (v.view + 1) (map (λ (v : ViewRef). v.view) views)) rise in
     let g = both (is_file_ref v.file) (list_all (λ (v : ViewRef). is_file_ref v.file) views) good in
-    (record { number = r.0; small = typed.0.view; file = record { typed = typed.0.file; rules = g.0 } }, views_in_order (v.view + 1) views r.1 g.1 typed.1)
+    (record { number = r.0; small = typed.0.view; file = record { typed = typed.0.file; rules = g.0; fits = fits.0 } }, views_in_order e (v.view + 1) views r.1 g.1 typed.1 fits.1)
 
-record ViewsKeep (least : ℕ) (views : List ViewRef) : Type 0 where
+record ViewsKeep (e : Edition) (least : ℕ) (views : List ViewRef) : Type 0 where
   pub rise : IsTrue (rise_from least (map (λ (v : ViewRef). v.view) views))
   pub good : IsTrue (list_all (λ (v : ViewRef). is_file_ref v.file) views)
   pub typed : AllByRecursion IsTypedView views
+  pub fits : AllByRecursion (FitsView e) views
 
-views_keep : (least : ℕ) (views : List ViewRef) → InOrder IsView view_number least views → ViewsKeep least views
-views_keep least [] all = record { rise = refl; good = refl; typed = tt }
-views_keep least (v ∷ views) all =
-    let rest = views_keep (v.view + 1) views all.1 in
+views_keep : (e : Edition) (least : ℕ) (views : List ViewRef) → InOrder (IsView e) view_number least views → ViewsKeep e least views
+views_keep e least [] all = record { rise = refl; good = refl; typed = tt; fits = tt }
+views_keep e least (v ∷ views) all =
+    let rest = views_keep e (v.view + 1) views all.1 in
     record {
       rise = all_true (nat_le least v.view) _ all.0.number rest.rise;
       good = all_true (is_file_ref v.file) _ all.0.file.rules rest.good;
       typed = (record { view = all.0.small; file = all.0.file.typed }, rest.typed);
+      fits = (all.0.file.fits, rest.fits);
     }
 
-files_of : (f : Files) → IsTypedFiles f → IsTrue (are_files f) → AreFiles f
-files_of f typed h =
+files_of : (e : Edition) (f : Files) → IsTypedFiles f → FitsFiles e f → IsTrue (are_files f) → AreFiles e f
+files_of e f typed fits h =
     let two = both (is_file_ref f.file) (are_view_refs f.views) h in
     let views = both (nat_le (length f.views) 8 && rise_from 0 (map (λ (v : ViewRef). v.view) f.views)) (list_all (λ (v : ViewRef). is_file_ref v.file) f.views) two.1 in
     let few = both (nat_le (length f.views) 8) (rise_from 0 (map (λ (v : ViewRef). v.view) f.views)) views.0 in
-    record { file = record { typed = typed.file; rules = two.0 }; views = (views_in_order 0 f.views few.1 views.1 typed.views, few.0) }
+    record { file = record { typed = typed.file; rules = two.0; fits = fits.file }; views = (views_in_order e 0 f.views few.1 views.1 typed.views fits.views, few.0) }
 
-files_keep : (f : Files) → AreFiles f → IsTypedFiles f × IsTrue (are_files f)
-files_keep f are =
-    let views = views_keep 0 f.views are.views.0 in
+files_keep : (e : Edition) (f : Files) → AreFiles e f → IsTypedFiles f × FitsFiles e f × IsTrue (are_files f)
+files_keep e f are =
+    let views = views_keep e 0 f.views are.views.0 in
     let few = all_true (nat_le (length f.views) 8) (rise_from 0 (map (λ (v : ViewRef). v.view) f.views)) are.views.1 views.rise in (
       record { file = are.file.typed; views = views.typed },
+      record { file = are.file.fits; views = views.fits },
       all_true (is_file_ref f.file) (are_view_refs f.views) are.file.rules (all_true (nat_le (length f.views) 8 && rise_from 0 (map (λ (v : ViewRef). v.view) f.views)) (list_all (λ (v : ViewRef). is_file_ref v.file) f.views) few views.good),
     )
 
-files_if_any_of : (f : Option Files) → AreTypedFiles f → IsTrue (are_files_if_any f) → AreFilesIfAny f
-files_if_any_of None typed h = tt
-files_if_any_of (Some f) typed h = files_of f typed h
+files_if_any_of : (e : Edition) (f : Option Files) → AreTypedFiles f → FitsFilesIfAny e f → IsTrue (are_files_if_any f) → AreFilesIfAny e f
+files_if_any_of e None typed fits h = tt
+files_if_any_of e (Some f) typed fits h = files_of e f typed fits h
 
-files_if_any_keep : (f : Option Files) → AreFilesIfAny f → AreTypedFiles f × IsTrue (are_files_if_any f)
-files_if_any_keep None are = (tt, refl)
-files_if_any_keep (Some f) are = files_keep f are
+files_if_any_keep : (e : Edition) (f : Option Files) → AreFilesIfAny e f → AreTypedFiles f × FitsFilesIfAny e f × IsTrue (are_files_if_any f)
+files_if_any_keep e None are = (tt, tt, refl)
+files_if_any_keep e (Some f) are = files_keep e f are
 
-parts_in_order : (least : ℕ) (parts : List Part) → IsTrue (rise_from least (map (λ (p : Part). p.table) parts)) → IsTrue (list_all is_part parts) → AllByRecursion IsTypedPart parts → InOrder IsPart part_number least parts
-parts_in_order least [] rise good typed = tt
-parts_in_order least (p ∷ parts) rise good typed =
+parts_in_order : (e : Edition) (least : ℕ) (parts : List Part) → IsTrue (rise_from least (map (λ (p : Part). p.table) parts)) → IsTrue (list_all is_part parts) → AllByRecursion IsTypedPart parts → AllByRecursion (FitsPart e) parts → InOrder (IsPart e) part_number least parts
+parts_in_order e least [] rise good typed fits = tt
+parts_in_order e least (p ∷ parts) rise good typed fits =
     let r = both (nat_le least p.table) (rise_from (p.table + 1) (map (λ (p : Part). p.table) parts)) rise in
     let g = both (is_part p) (list_all is_part parts) good in
     let h = both (are_files p.files) (nat_le (length p.totals) 16) g.0 in
-    (record { number = r.0; table = typed.0.table; epoch = typed.0.epoch; files = files_of p.files typed.0.files h.0; totals = record { all = typed.0.totals; count = h.1 } }, parts_in_order (p.table + 1) parts r.1 g.1 typed.1)
+    (record { number = r.0; table = typed.0.table; epoch = typed.0.epoch; files = files_of e p.files typed.0.files fits.0.files h.0; totals = record { all = totals_in e p.totals typed.0.totals fits.0.totals; count = h.1 } }, parts_in_order e (p.table + 1) parts r.1 g.1 typed.1 fits.1)
 
-record PartsKeep (least : ℕ) (parts : List Part) : Type 0 where
+record PartsKeep (e : Edition) (least : ℕ) (parts : List Part) : Type 0 where
   pub rise : IsTrue (rise_from least (map (λ (p : Part). p.table) parts))
   pub good : IsTrue (list_all is_part parts)
   pub typed : AllByRecursion IsTypedPart parts
+  pub fits : AllByRecursion (FitsPart e) parts
 
-parts_keep : (least : ℕ) (parts : List Part) → InOrder IsPart part_number least parts → PartsKeep least parts
-parts_keep least [] all = record { rise = refl; good = refl; typed = tt }
-parts_keep least (p ∷ parts) all =
-    let rest = parts_keep (p.table + 1) parts all.1 in
-    let files = files_keep p.files all.0.files in
+parts_keep : (e : Edition) (least : ℕ) (parts : List Part) → InOrder (IsPart e) part_number least parts → PartsKeep e least parts
+parts_keep e least [] all = record { rise = refl; good = refl; typed = tt; fits = tt }
+parts_keep e least (p ∷ parts) all =
+    let rest = parts_keep e (p.table + 1) parts all.1 in
+    let files = files_keep e p.files all.0.files in
     record {
       rise = all_true (nat_le least p.table) _ all.0.number rest.rise;
-      good = all_true (is_part p) _ (all_true (are_files p.files) (nat_le (length p.totals) 16) files.1 all.0.totals.count) rest.good;
-      typed = (record { table = all.0.table; epoch = all.0.epoch; files = files.0; totals = all.0.totals.all }, rest.typed);
+      good = all_true (is_part p) _ (all_true (are_files p.files) (nat_le (length p.totals) 16) files.2 all.0.totals.count) rest.good;
+      typed = (record { table = all.0.table; epoch = all.0.epoch; files = files.0; totals = totals_wider e p.totals all.0.totals.all }, rest.typed);
+      fits = (record { files = files.1; totals = totals_fit e p.totals all.0.totals.all }, rest.fits);
     }
 
 -- ---- the fields of each kind
 
-abbrev kind_number : Record → ℕ
-kind_number (record_of.Run number) = 1
-kind_number (record_of.Table name keys values) = 2
-kind_number (record_of.View table name keys values) = 3
-kind_number (record_of.Alter table c) = 4
-kind_number (record_of.Publish version parts) = 5
-kind_number (record_of.Swap table base from to epoch f) = 6
-kind_number (record_of.Expire version) = 7
-kind_number (record_of.ExpireTable table version) = 12
+abbrev kind_number : Edition → Record → ℕ
+kind_number e (record_of.Run number) = 1
+kind_number e (record_of.Table name keys values) = 2
+kind_number e (record_of.View table name keys values) = 3
+kind_number e (record_of.Alter table c) = 4
+kind_number e (record_of.Publish version parts) = publish_kind e
+kind_number e (record_of.Swap table base from to epoch f) = swap_kind e
+kind_number e (record_of.Expire version) = 7
+kind_number e (record_of.ExpireTable table version) = 12
 
 -- a record's bytes behind its kind
-abbrev fields : Record → List ℕ
-fields (record_of.Run number) = word number
-fields (record_of.Table name keys values) = text name ++ (counted key_column keys ++ counted value_column values)
-fields (record_of.View table name keys values) = half table ++ (text name ++ (counted text keys ++ counted text values))
-fields (record_of.Alter table c) = half table ++ change c
-fields (record_of.Publish version parts) = word version ++ (half (length parts) ++ flat_map part parts)
-fields (record_of.Swap table base from to epoch f) = half table ++ (flag base ∷ (word from ++ (word to ++ (word epoch ++ files_if_any f))))
-fields (record_of.Expire version) = word version
-fields (record_of.ExpireTable table version) = half table ++ word version
+abbrev fields : Edition → Record → List ℕ
+fields e (record_of.Run number) = word number
+fields e (record_of.Table name keys values) = text name ++ (counted key_column keys ++ counted value_column values)
+fields e (record_of.View table name keys values) = half table ++ (text name ++ (counted text keys ++ counted text values))
+fields e (record_of.Alter table c) = half table ++ change c
+fields e (record_of.Publish version parts) = word version ++ (half (length parts) ++ flat_map (part e) parts)
+fields e (record_of.Swap table base from to epoch f) = half table ++ (flag base ∷ (word from ++ (word to ++ (word epoch ++ files_if_any e f))))
+fields e (record_of.Expire version) = word version
+fields e (record_of.ExpireTable table version) = half table ++ word version
 
-spelled_so : (r : Record) → spelled r ≡ one (kind_number r) ++ fields r
-unfolding spelled
-spelled_so (record_of.Run number) = refl
-spelled_so (record_of.Table name keys values) = refl
-spelled_so (record_of.View table name keys values) = refl
-spelled_so (record_of.Alter table c) = refl
-spelled_so (record_of.Publish version parts) = refl
-spelled_so (record_of.Swap table base from to epoch f) = refl
-spelled_so (record_of.Expire version) = refl
-spelled_so (record_of.ExpireTable table version) = refl
+spelled_so : (e : Edition) (r : Record) → spelled_in e r ≡ one (kind_number e r) ++ fields e r
+unfolding spelled_in
+spelled_so e (record_of.Run number) = refl
+spelled_so e (record_of.Table name keys values) = refl
+spelled_so e (record_of.View table name keys values) = refl
+spelled_so e (record_of.Alter table c) = refl
+spelled_so e (record_of.Publish version parts) = refl
+spelled_so e (record_of.Swap table base from to epoch f) = refl
+spelled_so e (record_of.Expire version) = refl
+spelled_so e (record_of.ExpireTable table version) = refl
 
 abbrev HasKeys : List KeyColumn → Type 0
 HasKeys keys = IsCounted is_count_of_columns (λ (c : KeyColumn). IsNamed c.name) keys
@@ -136,20 +144,20 @@ HasValues values = IsCounted is_count_of_columns (λ (c : ValueColumn). IsNamed 
 abbrev HasNames : List (List ℕ) → Type 0
 HasNames names = IsCounted is_count_of_columns IsNamed names
 
-table_again : (name : List ℕ) (keys : List KeyColumn) (values : List ValueColumn) → IsNamed name → HasKeys keys → HasValues values → Again table_at (fields (record_of.Table name keys values)) (record_of.Table name keys values)
+table_again : (name : List ℕ) (keys : List KeyColumn) (values : List ValueColumn) → IsNamed name → HasKeys keys → HasValues values → Again table_at (fields Second (record_of.Table name keys values)) (record_of.Table name keys values)
 table_again name keys values named k v at more =
     let b2 = counted value_column values ++ more in
     let b1 = counted key_column keys ++ b2 in
     let r1 = name_again name named at b1 in
     let r2 = counted_again is_count_of_columns key_column_at key_column (λ (c : KeyColumn). IsNamed c.name) key_column_again keys k.all k.count r1.0 b2 in
     let r3 = counted_again is_count_of_columns value_column_at value_column (λ (c : ValueColumn). IsNamed c.name) value_column_again values v.all v.count r2.0 more in
-    let flat : fields (record_of.Table name keys values) ++ more ≡ text name ++ b1 = simp append_assoc refl in
+    let flat : fields Second (record_of.Table name keys values) ++ more ≡ text name ++ b1 = simp append_assoc refl in
     (r3.0, ap (λ bytes. table_at (here at bytes)) flat ∙ rw (r1.1, r2.1, r3.1) refl)
 
 names_again : (names : List (List ℕ)) → HasNames names → Again names_at (counted text names) names
 names_again names has = counted_again is_count_of_columns name_at text IsNamed name_again names has.all has.count
 
-view_again : (table : ℕ) (name : List ℕ) (keys values : List (List ℕ)) → IsHalf table → IsNamed name → HasNames keys → HasNames values → Again view_at (fields (record_of.View table name keys values)) (record_of.View table name keys values)
+view_again : (table : ℕ) (name : List ℕ) (keys values : List (List ℕ)) → IsHalf table → IsNamed name → HasNames keys → HasNames values → Again view_at (fields Second (record_of.View table name keys values)) (record_of.View table name keys values)
 view_again table name keys values small named k v at more =
     let b3 = counted text values ++ more in
     let b2 = counted text keys ++ b3 in
@@ -158,22 +166,22 @@ view_again table name keys values small named k v at more =
     let r1 = name_again name named r0.0 b2 in
     let r2 = names_again keys k r1.0 b3 in
     let r3 = names_again values v r2.0 more in
-    let flat : fields (record_of.View table name keys values) ++ more ≡ half table ++ b1 = simp append_assoc refl in
+    let flat : fields Second (record_of.View table name keys values) ++ more ≡ half table ++ b1 = simp append_assoc refl in
     (r3.0, ap (λ bytes. view_at (here at bytes)) flat ∙ rw (r0.1, r1.1, r2.1, r3.1) refl)
 
-publish_again : (version : ℕ) (parts : List Part) → IsWord version → IsHalf (length parts) → InOrder IsPart part_number 0 parts → Again publish_at (fields (record_of.Publish version parts)) (record_of.Publish version parts)
-publish_again version parts small few order at more =
-    let b2 = flat_map part parts ++ more in
+publish_again : (e : Edition) (version : ℕ) (parts : List Part) → IsWord version → IsHalf (length parts) → InOrder (IsPart e) part_number 0 parts → Again (publish_at e) (fields e (record_of.Publish version parts)) (record_of.Publish version parts)
+publish_again e version parts small few order at more =
+    let b2 = flat_map (part e) parts ++ more in
     let b1 = half (length parts) ++ b2 in
     let r1 = word_again version small at b1 in
     let r2 = half_again (length parts) few r1.0 b2 in
-    let r3 = list_again part_number part_at part IsPart part_again 0 parts order r2.0 more in
-    let flat : fields (record_of.Publish version parts) ++ more ≡ word version ++ b1 = simp append_assoc refl in
-    (r3.0, ap (λ bytes. publish_at (here at bytes)) flat ∙ rw (r1.1, r2.1, r3.1) refl)
+    let r3 = list_again part_number (part_at e) (part e) (IsPart e) (part_again e) 0 parts order r2.0 more in
+    let flat : fields e (record_of.Publish version parts) ++ more ≡ word version ++ b1 = simp append_assoc refl in
+    (r3.0, ap (λ bytes. publish_at e (here at bytes)) flat ∙ rw (r1.1, r2.1, r3.1) refl)
 
-swap_again : (table : ℕ) (base : Bool) (from to epoch : ℕ) (f : Option Files) → IsHalf table → IsWord from → IsWord to → IsWord epoch → AreFilesIfAny f → Again swap_at (fields (record_of.Swap table base from to epoch f)) (record_of.Swap table base from to epoch f)
-swap_again table base from to epoch f h a b e are at more =
-    let b5 = files_if_any f ++ more in
+swap_again : (e : Edition) (table : ℕ) (base : Bool) (from to epoch : ℕ) (f : Option Files) → IsHalf table → IsWord from → IsWord to → IsWord epoch → AreFilesIfAny e f → Again (swap_at e) (fields e (record_of.Swap table base from to epoch f)) (record_of.Swap table base from to epoch f)
+swap_again e table base from to epoch f h a b ep are at more =
+    let b5 = files_if_any e f ++ more in
     let b4 = word epoch ++ b5 in
     let b3 = word to ++ b4 in
     let b2 = word from ++ b3 in
@@ -182,66 +190,74 @@ swap_again table base from to epoch f h a b e are at more =
     let r1 = meaning_again flag_of (flag base) base (flag_again base) r0.0 b2 in
     let r2 = word_again from a r1.0 b3 in
     let r3 = word_again to b r2.0 b4 in
-    let r4 = word_again epoch e r3.0 b5 in
-    let r5 = files_if_any_again f are r4.0 more in
-    let flat : fields (record_of.Swap table base from to epoch f) ++ more ≡ half table ++ b1 = simp append_assoc refl in
-    (r5.0, ap (λ bytes. swap_at (here at bytes)) flat ∙ rw (r0.1, r1.1, r2.1, r3.1, r4.1, r5.1) refl)
+    let r4 = word_again epoch ep r3.0 b5 in
+    let r5 = files_if_any_again e f are r4.0 more in
+    let flat : fields e (record_of.Swap table base from to epoch f) ++ more ≡ half table ++ b1 = simp append_assoc refl in
+    (r5.0, ap (λ bytes. swap_at e (here at bytes)) flat ∙ rw (r0.1, r1.1, r2.1, r3.1, r4.1, r5.1) refl)
 
--- the fields of a record are read again
-fields_again : (r : Record) → IsRecord r → (place : ℕ) → Again (fields_of place (kind_number r)) (fields r) r
-unfolding fields_of
-fields_again (record_of.Run number) is place = made_again word_at record_of.Run (word number) number (word_again number is.typed)
-fields_again (record_of.Table name keys values) is place =
-    let counts = both (is_count_of_columns (length keys)) (is_count_of_columns (length values)) is.rules in
-    table_again name keys values is.typed.0 (record { all = is.typed.1; count = counts.0 }) (record { all = is.typed.2; count = counts.1 })
-fields_again (record_of.View table name keys values) is place =
-    let counts = both (is_count_of_columns (length keys)) (is_count_of_columns (length values)) is.rules in
-    view_again table name keys values is.typed.0 is.typed.1 (record { all = is.typed.2; count = counts.0 }) (record { all = is.typed.3; count = counts.1 })
-fields_again (record_of.Alter table c) is place =
-    two_again half_at (λ table. change_at) record_of.Alter (half table) (change c) table c (half_again table is.typed.0) (change_again c (is.typed.1, is.rules))
-fields_again (record_of.Publish version parts) is place =
+-- the parts of a batch, by the rules
+publish_fields : (e : Edition) (version : ℕ) (parts : List Part) → IsRecord (record_of.Publish version parts) → AllByRecursion (FitsPart e) parts → Again (publish_at e) (fields e (record_of.Publish version parts)) (record_of.Publish version parts)
+publish_fields e version parts is fits =
     let two = both (nat_lt (length parts) (2 ^ 16) && rise_from 0 (map (λ (p : Part). p.table) parts)) (list_all is_part parts) is.rules in
     let few = both (nat_lt (length parts) (2 ^ 16)) (rise_from 0 (map (λ (p : Part). p.table) parts)) two.0 in
-    publish_again version parts is.typed.0 (ltb-true _ _ few.0) (parts_in_order 0 parts few.1 two.1 is.typed.1)
-fields_again (record_of.Swap table base from to epoch f) is place =
-    swap_again table base from to epoch f is.typed.0 is.typed.1 is.typed.2 is.typed.3 (files_if_any_of f is.typed.4 is.rules)
-fields_again (record_of.Expire version) is place = made_again word_at record_of.Expire (word version) version (word_again version is.typed)
-fields_again (record_of.ExpireTable table version) is place =
+    publish_again e version parts is.typed.0 (ltb-true _ _ few.0) (parts_in_order e 0 parts few.1 two.1 is.typed.1 fits)
+
+-- the fields of a record are read again
+fields_again : (e : Edition) (r : Record) → IsRecord r → FitsIn e r → (place : ℕ) → Again (fields_of place (kind_number e r)) (fields e r) r
+unfolding fields_of
+fields_again e (record_of.Run number) is fits place = made_again word_at record_of.Run (word number) number (word_again number is.typed)
+fields_again e (record_of.Table name keys values) is fits place =
+    let counts = both (is_count_of_columns (length keys)) (is_count_of_columns (length values)) is.rules in
+    table_again name keys values is.typed.0 (record { all = is.typed.1; count = counts.0 }) (record { all = is.typed.2; count = counts.1 })
+fields_again e (record_of.View table name keys values) is fits place =
+    let counts = both (is_count_of_columns (length keys)) (is_count_of_columns (length values)) is.rules in
+    view_again table name keys values is.typed.0 is.typed.1 (record { all = is.typed.2; count = counts.0 }) (record { all = is.typed.3; count = counts.1 })
+fields_again e (record_of.Alter table c) is fits place =
+    two_again half_at (λ table. change_at) record_of.Alter (half table) (change c) table c (half_again table is.typed.0) (change_again c (is.typed.1, is.rules))
+fields_again First (record_of.Publish version parts) is fits place = publish_fields First version parts is fits
+fields_again Second (record_of.Publish version parts) is fits place = publish_fields Second version parts is fits
+fields_again First (record_of.Swap table base from to epoch f) is fits place =
+    swap_again First table base from to epoch f is.typed.0 is.typed.1 is.typed.2 is.typed.3 (files_if_any_of First f is.typed.4 fits is.rules)
+fields_again Second (record_of.Swap table base from to epoch f) is fits place =
+    swap_again Second table base from to epoch f is.typed.0 is.typed.1 is.typed.2 is.typed.3 (files_if_any_of Second f is.typed.4 fits is.rules)
+fields_again e (record_of.Expire version) is fits place = made_again word_at record_of.Expire (word version) version (word_again version is.typed)
+fields_again e (record_of.ExpireTable table version) is fits place =
     two_again half_at (λ table. word_at) record_of.ExpireTable (half table) (word version) table version (half_again table is.typed.0) (word_again version is.typed.1)
 
 -- a record is read again from its spelling
-pub record_again : (r : Record) → IsRecord r → record_at (spelled r) ≡ Ok r
-record_again r is =
-    let all = fields_again r is 0 1 [] in
-    ap record_at (spelled_so r ∙ ap (λ bs. one (kind_number r) ++ bs) (sym (append-nil (fields r))))
-    ∙ rw (byte_again (kind_number r) 0 (fields r ++ []), all.1) refl
+pub record_again : (e : Edition) (r : Record) → IsRecord r → FitsIn e r → record_at (spelled_in e r) ≡ Ok r
+record_again e r is fits =
+    let all = fields_again e r is fits 0 1 [] in
+    ap record_at (spelled_so e r ∙ ap (λ bs. one (kind_number e r) ++ bs) (sym (append-nil (fields e r))))
+    ∙ rw (byte_again (kind_number e r) 0 (fields e r ++ []), all.1) refl
 
 -- ---- what is read of each kind
 
 -- a record of the kind of this number
-pub record IsOfKind (number : ℕ) (r : Record) : Type 0 where
+pub record IsOfKind (e : Edition) (number : ℕ) (r : Record) : Type 0 where
   pub «record» : IsRecord r
-  pub kind : kind_number r ≡ number
+  pub fits : FitsIn e r
+  pub kind : kind_number e r ≡ number
 
 -- what behind a record's kind was spelled so
-abbrev FoundFields : ℕ → (Left → Read Record) → Type 0
-FoundFields number read = Found read fields (IsOfKind number)
+abbrev FoundFields : Edition → ℕ → (Left → Read Record) → Type 0
+FoundFields e number read = Found read (fields e) (IsOfKind e number)
 
-run_found : FoundFields 1 run_at
-run_found = made_found word_at record_of.Run IsWord (IsOfKind 1) word fields word_found (λ number small. (record { «record» = record { typed = small; rules = refl }; kind = refl }, refl))
+run_found : FoundFields Second 1 run_at
+run_found = made_found word_at record_of.Run IsWord (IsOfKind Second 1) word (fields Second) word_found (λ number small. (record { «record» = record { typed = small; rules = refl }; fits = tt; kind = refl }, refl))
 
-expire_found : FoundFields 7 expire_at
-expire_found = made_found word_at record_of.Expire IsWord (IsOfKind 7) word fields word_found (λ version small. (record { «record» = record { typed = small; rules = refl }; kind = refl }, refl))
+expire_found : FoundFields Second 7 expire_at
+expire_found = made_found word_at record_of.Expire IsWord (IsOfKind Second 7) word (fields Second) word_found (λ version small. (record { «record» = record { typed = small; rules = refl }; fits = tt; kind = refl }, refl))
 
-expire_table_found : FoundFields 12 expire_table_at
-expire_table_found = two_found half_at (λ table. word_at) record_of.ExpireTable IsHalf (λ table version. IsWord version) (IsOfKind 12) half word fields half_found (λ table. word_found)
-    (λ table version small is. (record { «record» = record { typed = (small, is); rules = refl }; kind = refl }, refl))
+expire_table_found : FoundFields Second 12 expire_table_at
+expire_table_found = two_found half_at (λ table. word_at) record_of.ExpireTable IsHalf (λ table version. IsWord version) (IsOfKind Second 12) half word (fields Second) half_found (λ table. word_found)
+    (λ table version small is. (record { «record» = record { typed = (small, is); rules = refl }; fits = tt; kind = refl }, refl))
 
-alter_found : FoundFields 4 alter_at
-alter_found = two_found half_at (λ table. change_at) record_of.Alter IsHalf (λ table c. IsChange c) (IsOfKind 4) half change fields half_found (λ table. change_found)
-    (λ table c small is. (record { «record» = record { typed = (small, is.0); rules = is.1 }; kind = refl }, refl))
+alter_found : FoundFields Second 4 alter_at
+alter_found = two_found half_at (λ table. change_at) record_of.Alter IsHalf (λ table c. IsChange c) (IsOfKind Second 4) half change (fields Second) half_found (λ table. change_found)
+    (λ table c small is. (record { «record» = record { typed = (small, is.0); rules = is.1 }; fits = tt; kind = refl }, refl))
 
-table_found : FoundFields 2 table_at
+table_found : FoundFields Second 2 table_at
 table_found l after r bytes h =
     let s1 = step_of (name_at l) _ _ h in
     let f1 = name_found l s1.0.1 s1.0.0 bytes s1.1 in
@@ -251,15 +267,15 @@ table_found l after r bytes h =
     let f3 = counted_found is_count_of_columns value_column_at value_column (λ (c : ValueColumn). IsNamed c.name) value_column_found s2.0.1 s3.0.1 s3.0.0 f2.1.rest s3.1 in
     let made = record_of.Table s1.0.0 s2.0.0 s3.0.0 in
     let rules = all_true (is_count_of_columns (length s2.0.0)) (is_count_of_columns (length s3.0.0)) f2.0.count f3.0.count in
-    subst (λ (z : Record × Left). IsOfKind 2 z.0 × Begins l (fields z.0) z.1) (ok_is (made, s3.0.1) (r, after) s3.2) (
-      record { «record» = record { typed = (f1.0, f2.0.all, f3.0.all); rules = rules }; kind = refl },
+    subst (λ (z : Record × Left). IsOfKind Second 2 z.0 × Begins l (fields Second z.0) z.1) (ok_is (made, s3.0.1) (r, after) s3.2) (
+      record { «record» = record { typed = (f1.0, f2.0.all, f3.0.all); rules = rules }; fits = tt; kind = refl },
       begins_two l s1.0.1 s3.0.1 _ _ f1.1 (begins_two s1.0.1 s2.0.1 s3.0.1 _ _ f2.1 f3.1),
     )
 
 names_found : Found names_at (counted text) HasNames
 names_found = counted_found is_count_of_columns name_at text IsNamed name_found
 
-view_found : FoundFields 3 view_at
+view_found : FoundFields Second 3 view_at
 view_found l after r bytes h =
     let s0 = step_of (half_at l) _ _ h in
     let f0 = half_found l s0.0.1 s0.0.0 bytes s0.1 in
@@ -271,32 +287,32 @@ view_found l after r bytes h =
     let f3 = names_found s2.0.1 s3.0.1 s3.0.0 f2.1.rest s3.1 in
     let made = record_of.View s0.0.0 s1.0.0 s2.0.0 s3.0.0 in
     let rules = all_true (is_count_of_columns (length s2.0.0)) (is_count_of_columns (length s3.0.0)) f2.0.count f3.0.count in
-    subst (λ (z : Record × Left). IsOfKind 3 z.0 × Begins l (fields z.0) z.1) (ok_is (made, s3.0.1) (r, after) s3.2) (
-      record { «record» = record { typed = (f0.0, f1.0, f2.0.all, f3.0.all); rules = rules }; kind = refl },
+    subst (λ (z : Record × Left). IsOfKind Second 3 z.0 × Begins l (fields Second z.0) z.1) (ok_is (made, s3.0.1) (r, after) s3.2) (
+      record { «record» = record { typed = (f0.0, f1.0, f2.0.all, f3.0.all); rules = rules }; fits = tt; kind = refl },
       begins_two l s0.0.1 s3.0.1 _ _ f0.1 (begins_two s0.0.1 s1.0.1 s3.0.1 _ _ f1.1 (begins_two s1.0.1 s2.0.1 s3.0.1 _ _ f2.1 f3.1)),
     )
 
-publish_found : FoundFields 5 publish_at
-publish_found l after r bytes h =
+publish_found : (e : Edition) → FoundFields e (publish_kind e) (publish_at e)
+publish_found e l after r bytes h =
     let s1 = step_of (word_at l) _ _ h in
     let f1 = word_found l s1.0.1 s1.0.0 bytes s1.1 in
     let s2 = step_of (half_at s1.0.1) _ _ s1.2 in
     let f2 = half_found s1.0.1 s2.0.1 s2.0.0 f1.1.rest s2.1 in
-    let s3 = step_of (rising part_number part_at 0 s2.0.0 s2.0.1) _ _ s2.2 in
-    let f3 = list_found part_number part_at part IsPart part_found 0 s2.0.0 s2.0.1 s3.0.1 s3.0.0 f2.1.rest s3.1 in
+    let s3 = step_of (rising part_number (part_at e) 0 s2.0.0 s2.0.1) _ _ s2.2 in
+    let f3 = list_found part_number (part_at e) (part e) (IsPart e) (part_found e) 0 s2.0.0 s2.0.1 s3.0.1 s3.0.0 f2.1.rest s3.1 in
     let made = record_of.Publish s1.0.0 s3.0.0 in
-    let keep = parts_keep 0 s3.0.0 f3.order in
+    let keep = parts_keep e 0 s3.0.0 f3.order in
     let few : length s3.0.0 < 2 ^ 16 = rw f3.count f2.0 in
     let rules = all_true (nat_lt (length s3.0.0) (2 ^ 16) && rise_from 0 (map (λ (p : Part). p.table) s3.0.0)) (list_all is_part s3.0.0)
     (all_true (nat_lt (length s3.0.0) (2 ^ 16)) (rise_from 0 (map (λ (p : Part). p.table) s3.0.0)) (lt-ltb _ _ few) keep.rise) keep.good in
     let count : Begins s1.0.1 (half (length s3.0.0)) s2.0.1 = subst (λ n. Begins s1.0.1 (half n) s2.0.1) (sym f3.count) f2.1 in
-    subst (λ (z : Record × Left). IsOfKind 5 z.0 × Begins l (fields z.0) z.1) (ok_is (made, s3.0.1) (r, after) s3.2) (
-      record { «record» = record { typed = (f1.0, keep.typed); rules = rules }; kind = refl },
+    subst (λ (z : Record × Left). IsOfKind e (publish_kind e) z.0 × Begins l (fields e z.0) z.1) (ok_is (made, s3.0.1) (r, after) s3.2) (
+      record { «record» = record { typed = (f1.0, keep.typed); rules = rules }; fits = keep.fits; kind = refl },
       begins_two l s1.0.1 s3.0.1 _ _ f1.1 (begins_two s1.0.1 s2.0.1 s3.0.1 _ _ count f3.begins),
     )
 
-swap_found : FoundFields 6 swap_at
-swap_found l after r bytes h =
+swap_found : (e : Edition) → FoundFields e (swap_kind e) (swap_at e)
+swap_found e l after r bytes h =
     let s0 = step_of (half_at l) _ _ h in
     let f0 = half_found l s0.0.1 s0.0.0 bytes s0.1 in
     let s1 = step_of (meaning flag_of s0.0.1) _ _ s0.2 in
@@ -307,41 +323,50 @@ swap_found l after r bytes h =
     let f3 = word_found s2.0.1 s3.0.1 s3.0.0 f2.1.rest s3.1 in
     let s4 = step_of (word_at s3.0.1) _ _ s3.2 in
     let f4 = word_found s3.0.1 s4.0.1 s4.0.0 f3.1.rest s4.1 in
-    let s5 = step_of (files_if_any_at s4.0.1) _ _ s4.2 in
-    let f5 = files_if_any_found s4.0.1 s5.0.1 s5.0.0 f4.1.rest s5.1 in
-    let keep = files_if_any_keep s5.0.0 f5.0 in
+    let s5 = step_of (files_if_any_at e s4.0.1) _ _ s4.2 in
+    let f5 = files_if_any_found e s4.0.1 s5.0.1 s5.0.0 f4.1.rest s5.1 in
+    let keep = files_if_any_keep e s5.0.0 f5.0 in
     let made = record_of.Swap s0.0.0 s1.0.0 s2.0.0 s3.0.0 s4.0.0 s5.0.0 in
-    subst (λ (z : Record × Left). IsOfKind 6 z.0 × Begins l (fields z.0) z.1) (ok_is (made, s5.0.1) (r, after) s5.2) (
-      record { «record» = record { typed = (f0.0, f2.0, f3.0, f4.0, keep.0); rules = keep.1 }; kind = refl },
+    subst (λ (z : Record × Left). IsOfKind e (swap_kind e) z.0 × Begins l (fields e z.0) z.1) (ok_is (made, s5.0.1) (r, after) s5.2) (
+      record { «record» = record { typed = (f0.0, f2.0, f3.0, f4.0, keep.0); rules = keep.2 }; fits = keep.1; kind = refl },
       begins_two l s0.0.1 s5.0.1 _ _ f0.1 (begins_two s0.0.1 s1.0.1 s5.0.1 _ _ f1.1 (begins_two s1.0.1 s2.0.1 s5.0.1 _ _ f2.1 (begins_two s2.0.1 s3.0.1 s5.0.1 _ _ f3.1 (begins_two s3.0.1 s4.0.1 s5.0.1 _ _ f4.1 f5.1)))),
     )
 
--- what was read behind a kind is a record of it
-abbrev Behind : ℕ → Left → Left → Record → Type 0
-Behind b l after r = IsOfKind b r × Begins l (fields r) after
+-- what was read behind a kind is a record of it, in an edition
+abbrev BehindIn : Edition → ℕ → Left → Left → Record → Type 0
+BehindIn e b l after r = IsOfKind e b r × Begins l (fields e r) after
 
-of_number : (number b : ℕ) (l after : Left) (r : Record) → (b == number) ≡ true → Behind number l after r → Behind b l after r
-of_number number b l after r is f = (record { «record» = f.0.«record»; kind = f.0.kind ∙ sym (eqb-true b number is) }, f.1)
+abbrev Behind : ℕ → Left → Left → Record → Type 0
+Behind b l after r = (e : Edition) × BehindIn e b l after r
+
+of_number : (e : Edition) (number b : ℕ) (l after : Left) (r : Record) → (b == number) ≡ true → BehindIn e number l after r → Behind b l after r
+of_number e number b l after r is f = (e, (record { «record» = f.0.«record»; fits = f.0.fits; kind = f.0.kind ∙ sym (eqb-true b number is) }, f.1))
 
 fields_found : (place b : ℕ) (l after : Left) (r : Record) → Bytes l.bytes → fields_of place b l ≡ Ok (r, after) → Behind b l after r
 unfolding fields_of
 fields_found place b l after r bytes h = elim (either_way (b == 1) (run_at l) _ (r, after) h) [
-  | inl is ↦ of_number 1 b l after r is.0 (run_found l after r bytes is.1)
+  | inl is ↦ of_number Second 1 b l after r is.0 (run_found l after r bytes is.1)
   | inr h1 ↦ elim (either_way (b == 2) (table_at l) _ (r, after) h1) [
-    | inl is ↦ of_number 2 b l after r is.0 (table_found l after r bytes is.1)
+    | inl is ↦ of_number Second 2 b l after r is.0 (table_found l after r bytes is.1)
     | inr h2 ↦ elim (either_way (b == 3) (view_at l) _ (r, after) h2) [
-      | inl is ↦ of_number 3 b l after r is.0 (view_found l after r bytes is.1)
+      | inl is ↦ of_number Second 3 b l after r is.0 (view_found l after r bytes is.1)
       | inr h3 ↦ elim (either_way (b == 4) (alter_at l) _ (r, after) h3) [
-        | inl is ↦ of_number 4 b l after r is.0 (alter_found l after r bytes is.1)
-        | inr h4 ↦ elim (either_way (b == 5) (publish_at l) _ (r, after) h4) [
-          | inl is ↦ of_number 5 b l after r is.0 (publish_found l after r bytes is.1)
-          | inr h5 ↦ elim (either_way (b == 6) (swap_at l) _ (r, after) h5) [
-            | inl is ↦ of_number 6 b l after r is.0 (swap_found l after r bytes is.1)
+        | inl is ↦ of_number Second 4 b l after r is.0 (alter_found l after r bytes is.1)
+        | inr h4 ↦ elim (either_way (b == 5) (publish_at First l) _ (r, after) h4) [
+          | inl is ↦ of_number First 5 b l after r is.0 (publish_found First l after r bytes is.1)
+          | inr h5 ↦ elim (either_way (b == 6) (swap_at First l) _ (r, after) h5) [
+            | inl is ↦ of_number First 6 b l after r is.0 (swap_found First l after r bytes is.1)
             | inr h6 ↦ elim (either_way (b == 7) (expire_at l) _ (r, after) h6) [
-              | inl is ↦ of_number 7 b l after r is.0 (expire_found l after r bytes is.1)
-              | inr h7 ↦ elim (either_way (b == 12) (expire_table_at l) _ (r, after) h7) [
-                | inl is ↦ of_number 12 b l after r is.0 (expire_table_found l after r bytes is.1)
-                | inr h12 ↦ absurd cc
+              | inl is ↦ of_number Second 7 b l after r is.0 (expire_found l after r bytes is.1)
+              | inr h7 ↦ elim (either_way (b == 9) (publish_at Second l) _ (r, after) h7) [
+                | inl is ↦ of_number Second 9 b l after r is.0 (publish_found Second l after r bytes is.1)
+                | inr h9 ↦ elim (either_way (b == 10) (swap_at Second l) _ (r, after) h9) [
+                  | inl is ↦ of_number Second 10 b l after r is.0 (swap_found Second l after r bytes is.1)
+                  | inr h10 ↦ elim (either_way (b == 12) (expire_table_at l) _ (r, after) h10) [
+                    | inl is ↦ of_number Second 12 b l after r is.0 (expire_table_found l after r bytes is.1)
+                    | inr h12 ↦ absurd cc
+                  ]
+                ]
               ]
             ]
           ]
@@ -360,17 +385,19 @@ record_ends : (none : Bool) (bytes : List ℕ) (x r : Record) (e : RecordError) 
 record_ends true bytes x r e is h = (empty bytes (eqb-true _ 0 is), ok_is x r h)
 record_ends false bytes x r e is h = absurd cc
 
--- what was read is a record, and was spelled so
-pub record_found : (bytes : List ℕ) (r : Record) → AreBytes bytes → record_at bytes ≡ Ok r → IsRecord r × (spelled r ≡ bytes)
+-- what was read is a record, and was spelled so in an edition
+pub record_found : (bytes : List ℕ) (r : Record) → AreBytes bytes → record_at bytes ≡ Ok r → IsRecord r × IsSpelled r bytes
 record_found bytes r are h =
     let all = all_bytes bytes are in
     let l = here 0 bytes in
     let s = step_of (byte_at l) _ _ h in
     let f = byte_found l s.0.1 s.0.0 all s.1 in
     let t = step_of (fields_of 0 s.0.0 s.0.1) ended _ s.2 in
-    let g = fields_found 0 s.0.0 s.0.1 t.0.1 t.0.0 f.1.rest t.1 in
+    let some = fields_found 0 s.0.0 s.0.1 t.0.1 t.0.0 f.1.rest t.1 in
+    let e = some.0 in
+    let g = some.1 in
     let ends = record_ends (length t.0.1.bytes == 0) t.0.1.bytes t.0.0 r _ refl t.2 in
-    let kind : one (kind_number t.0.0) ≡ one s.0.0 = ap one g.0.kind in
-    let split : bytes ≡ (one s.0.0 ++ fields t.0.0) ++ t.0.1.bytes = (begins_two l s.0.1 t.0.1 (one s.0.0) (fields t.0.0) f.1 g.1).split in
-    let whole : spelled t.0.0 ≡ bytes = spelled_so t.0.0 ∙ ap (λ k. k ++ fields t.0.0) kind ∙ sym (append-nil (one s.0.0 ++ fields t.0.0)) ∙ ap (λ rest. (one s.0.0 ++ fields t.0.0) ++ rest) (sym ends.0) ∙ sym split in
-    subst (λ x. IsRecord x × (spelled x ≡ bytes)) ends.1 (g.0.«record», whole)
+    let kind : one (kind_number e t.0.0) ≡ one s.0.0 = ap one g.0.kind in
+    let split : bytes ≡ (one s.0.0 ++ fields e t.0.0) ++ t.0.1.bytes = (begins_two l s.0.1 t.0.1 (one s.0.0) (fields e t.0.0) f.1 g.1).split in
+    let whole : spelled_in e t.0.0 ≡ bytes = spelled_so e t.0.0 ∙ ap (λ k. k ++ fields e t.0.0) kind ∙ sym (append-nil (one s.0.0 ++ fields e t.0.0)) ∙ ap (λ rest. (one s.0.0 ++ fields e t.0.0) ++ rest) (sym ends.0) ∙ sym split in
+    subst (λ (x : Record). IsRecord x × IsSpelled x bytes) ends.1 (g.0.«record», record { edition = e; fits = g.0.fits; spelled = whole })

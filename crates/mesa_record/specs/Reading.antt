@@ -1,7 +1,9 @@
 -- Reading a record: its fields from the left, each first for being whole and then for its meaning.
 use Rattle.std.specs.Prelude.{◌≡◌, ◌≢◌, ℕ, zero, suc, ◌+◌, ℤ, List, [], ◌∷◌, ◌++◌, length, take, drop, get_or, Bool, true, false, ◌==◌, nat_le, nat_lt, if◌then◌else◌, Option, None, Some, Result, Ok, Err}
-use Rattle.std.specs.Int.{w16, w32, w64, from_be_bytes, cast_signed}
+use Rattle.std.specs.Int.{w16, w32, w64, w128, from_be_bytes, cast_signed}
 use Rattle.mesa_list.specs.Checks.{◌>>=◌}
+use Rattle.mesa_key.specs.declared.Format.{Format}
+use Rattle.mesa_key.specs.declared.Format.TheVariants as format
 use Rattle.mesa_key.specs.declared.KeyType.{KeyType}
 use Rattle.mesa_key.specs.declared.KeyType.TheVariants as kind
 use Rattle.mesa_key.specs.declared.KeyValue.{KeyValue}
@@ -14,6 +16,8 @@ use Rattle.mesa_schema.specs.declared.changes.Change.{Change}
 use Rattle.mesa_schema.specs.declared.changes.Change.TheVariants.{AddValue, DropValue, AddKey}
 use Rattle.mesa_schema.specs.Names.{is_name}
 use Rattle.mesa_file.specs.declared.file_ref.FileRef.{FileRef}
+use Rattle.mesa_record.specs.declared.edition.Edition.{Edition}
+use Rattle.mesa_record.specs.declared.edition.Edition.TheVariants.{First, Second}
 use Rattle.mesa_record.specs.declared.error.RecordError.{RecordError}
 use Rattle.mesa_record.specs.declared.error.RecordError.TheVariants as fault
 use Rattle.mesa_record.specs.declared.record.Record.{Record}
@@ -63,6 +67,12 @@ word_at l = piece_at 4 l >>= λ x. Ok (from_be_bytes w32 x.0, x.1)
 
 abbrev pub long_at : Left → Read ℕ
 long_at l = piece_at 8 l >>= λ x. Ok (from_be_bytes w64 x.0, x.1)
+
+abbrev pub wide_at : Left → Read ℕ
+wide_at l = piece_at 16 l >>= λ x. Ok (from_be_bytes w128 x.0, x.1)
+
+abbrev pub wide_amount_at : Left → Read ℤ
+wide_amount_at l = piece_at 16 l >>= λ x. Ok (cast_signed w128 (from_be_bytes w128 x.0), x.1)
 
 abbrev pub amount_at : Left → Read ℤ
 amount_at l = piece_at 8 l >>= λ x. Ok (cast_signed w64 (from_be_bytes w64 x.0), x.1)
@@ -149,58 +159,75 @@ change_at l = byte_at l >>= λ b. change_of l.at b.0 b.1
 abbrev pub not_zero : ℕ → Bool
 not_zero n = nat_le 1 n
 
-abbrev pub aggregates_at : Left → Read (List ℤ)
-aggregates_at l = columns_at l >>= λ n. many amount_at n.0 n.1
+abbrev pub aggregate_at : Edition → Left → Read ℤ
+aggregate_at First = amount_at
+aggregate_at Second = wide_amount_at
+
+abbrev pub total_at : Edition → Left → Read ℕ
+total_at First = long_at
+total_at Second = wide_at
+
+abbrev pub format_of : ℕ → Option Format
+format_of b = if b == 1 then Some format.One else if b == 2 then Some format.Two else None
+
+-- the format of a file: the first edition has no field for it
+abbrev pub format_at : Edition → Left → Read Format
+format_at First l = Ok (format.One, l)
+format_at Second l = meaning format_of l
+
+abbrev pub aggregates_at : Edition → Left → Read (List ℤ)
+aggregates_at e l = columns_at l >>= λ n. many (aggregate_at e) n.0 n.1
 
 -- a reference to a file
-unfoldable pub file_ref_at : Left → Read FileRef
-file_ref_at l = do
-  id ← long_at l
+unfoldable pub file_ref_at : Edition → Left → Read FileRef
+file_ref_at e l = do
+  form ← format_at e l
+  id ← long_at form.1
   len ← long_at id.1
   rows ← ruled not_zero long_at len.1
   blocks ← ruled not_zero word_at rows.1
   first ← key_at blocks.1
   last ← key_at first.1
-  aggregates ← aggregates_at last.1
+  aggregates ← aggregates_at e last.1
   digest ← piece_at 32 aggregates.1
-  Ok (record { id = id.0; len = len.0; rows = rows.0; blocks = blocks.0; first = first.0; last = last.0; aggregates = aggregates.0; digest = digest.0 }, digest.1)
+  Ok (record { format = form.0; id = id.0; len = len.0; rows = rows.0; blocks = blocks.0; first = first.0; last = last.0; aggregates = aggregates.0; digest = digest.0 }, digest.1)
 
 -- a view's file, its number at least this one
-abbrev pub view_ref_at : ℕ → Left → Read ViewRef
-view_ref_at least l = ruled (nat_le least) byte_at l >>= λ view. file_ref_at view.1 >>= λ f. Ok (record { view = view.0; file = f.0 }, f.1)
+abbrev pub view_ref_at : Edition → ℕ → Left → Read ViewRef
+view_ref_at e least l = ruled (nat_le least) byte_at l >>= λ view. file_ref_at e view.1 >>= λ f. Ok (record { view = view.0; file = f.0 }, f.1)
 
 abbrev pub view_number : ViewRef → ℕ
 view_number v = v.view
 
-abbrev pub view_refs_at : Left → Read (List ViewRef)
-view_refs_at l = count_at 8 l >>= λ n. rising view_number view_ref_at 0 n.0 n.1
+abbrev pub view_refs_at : Edition → Left → Read (List ViewRef)
+view_refs_at e l = count_at 8 l >>= λ n. rising view_number (view_ref_at e) 0 n.0 n.1
 
 -- a table's file, and those of its views
-unfoldable pub files_at : Left → Read Files
-files_at l = file_ref_at l >>= λ f. view_refs_at f.1 >>= λ views. Ok (record { file = f.0; views = views.0 }, views.1)
+unfoldable pub files_at : Edition → Left → Read Files
+files_at e l = file_ref_at e l >>= λ f. view_refs_at e f.1 >>= λ views. Ok (record { file = f.0; views = views.0 }, views.1)
 
-abbrev pub totals_at : Left → Read (List ℕ)
-totals_at l = count_at 16 l >>= λ n. many long_at n.0 n.1
+abbrev pub totals_at : Edition → Left → Read (List ℕ)
+totals_at e l = count_at 16 l >>= λ n. many (total_at e) n.0 n.1
 
 -- what a table has of a batch, its number at least this one
-abbrev pub part_at : ℕ → Left → Read Part
-part_at least l = do
+abbrev pub part_at : Edition → ℕ → Left → Read Part
+part_at e least l = do
   table ← ruled (nat_le least) half_at l
   epoch ← word_at table.1
-  files ← files_at epoch.1
-  totals ← totals_at files.1
+  files ← files_at e epoch.1
+  totals ← totals_at e files.1
   Ok (record { table = table.0; epoch = epoch.0; files = files.0; totals = totals.0 }, totals.1)
 
 abbrev pub part_number : Part → ℕ
 part_number p = p.table
 
 -- files, if there are any
-abbrev pub files_if : Bool → Left → Read (Option Files)
-files_if false l = Ok (None, l)
-files_if true l = files_at l >>= λ f. Ok (Some f.0, f.1)
+abbrev pub files_if : Edition → Bool → Left → Read (Option Files)
+files_if e false l = Ok (None, l)
+files_if e true l = files_at e l >>= λ f. Ok (Some f.0, f.1)
 
-abbrev pub files_if_any_at : Left → Read (Option Files)
-files_if_any_at l = meaning flag_of l >>= λ some. files_if some.0 some.1
+abbrev pub files_if_any_at : Edition → Left → Read (Option Files)
+files_if_any_at e l = meaning flag_of l >>= λ some. files_if e some.0 some.1
 
 -- ---- records
 
@@ -234,21 +261,21 @@ view_at l = do
 abbrev pub alter_at : Left → Read Record
 alter_at l = half_at l >>= λ table. change_at table.1 >>= λ c. Ok (record_of.Alter table.0 c.0, c.1)
 
-abbrev pub publish_at : Left → Read Record
-publish_at l = do
+abbrev pub publish_at : Edition → Left → Read Record
+publish_at e l = do
   version ← word_at l
   count ← half_at version.1
-  parts ← rising part_number part_at 0 count.0 count.1
+  parts ← rising part_number (part_at e) 0 count.0 count.1
   Ok (record_of.Publish version.0 parts.0, parts.1)
 
-abbrev pub swap_at : Left → Read Record
-swap_at l = do
+abbrev pub swap_at : Edition → Left → Read Record
+swap_at e l = do
   table ← half_at l
   base ← meaning flag_of table.1
   from ← word_at base.1
   to ← word_at from.1
   epoch ← word_at to.1
-  files ← files_if_any_at epoch.1
+  files ← files_if_any_at e epoch.1
   Ok (record_of.Swap table.0 base.0 from.0 to.0 epoch.0 files.0, files.1)
 
 abbrev pub expire_at : Left → Read Record
@@ -264,9 +291,11 @@ fields_of at b l =
     else if b == 2 then table_at l
     else if b == 3 then view_at l
     else if b == 4 then alter_at l
-    else if b == 5 then publish_at l
-    else if b == 6 then swap_at l
+    else if b == 5 then publish_at First l
+    else if b == 6 then swap_at First l
     else if b == 7 then expire_at l
+    else if b == 9 then publish_at Second l
+    else if b == 10 then swap_at Second l
     else if b == 12 then expire_table_at l
     else Err (fault.BadKind at)
 

@@ -1,7 +1,7 @@
 -- Which records there are.
 use Rattle.std.specs.Prelude.{◌≡◌, ℕ, ◌+◌, ◌^◌, ◌<◌, List, [], ◌∷◌, length, map, IsTrue, Bool, true, ◌&&◌, nat_le, nat_lt, Option, None, Some}
 use Rattle.std.specs.List.{AllByRecursion, list_all}
-use Rattle.mesa_value.specs.Agg.{IsAmount}
+use Rattle.mesa_value.specs.Agg.{IsAmount, IsNarrow}
 use Rattle.mesa_key.specs.declared.KeyValue.{KeyValue}
 use Rattle.mesa_key.specs.declared.KeyValue.TheVariants as value
 use Rattle.mesa_key.specs.Text.{is_key_text}
@@ -12,6 +12,9 @@ use Rattle.mesa_schema.specs.declared.changes.Change.TheVariants.{AddValue, Drop
 use Rattle.mesa_schema.specs.Changes.{is_of_kind}
 use Rattle.mesa_schema.specs.Names.{is_name}
 use Rattle.mesa_file.specs.declared.file_ref.FileRef.{FileRef}
+use Rattle.mesa_key.specs.declared.Format.TheVariants as format
+use Rattle.mesa_record.specs.declared.edition.Edition.{Edition}
+use Rattle.mesa_record.specs.declared.edition.Edition.TheVariants.{First, Second}
 use Rattle.mesa_record.specs.declared.record.Record.{Record}
 use Rattle.mesa_record.specs.declared.record.Record.TheVariants as record_of
 use Rattle.mesa_record.specs.declared.record.ViewRef.{ViewRef}
@@ -82,15 +85,18 @@ IsWord n = n < 2 ^ 32
 abbrev pub IsLong : ℕ → Type 0
 IsLong n = n < 2 ^ 64
 
+abbrev pub IsTotal : ℕ → Type 0
+IsTotal n = n < 2 ^ 128
+
 abbrev pub IsNamed : List ℕ → Type 0
 IsNamed name = IsTrue (is_name name)
 
 abbrev pub IsKeyValue : KeyValue → Type 0
-IsKeyValue (value.Int z) = IsAmount z
+IsKeyValue (value.Int z) = IsNarrow z
 IsKeyValue (value.Text bytes) = IsTrue (is_key_text bytes)
 
 abbrev pub IsTypedChange : Change → Type 0
-IsTypedChange (AddValue column default) = IsNamed column.name × IsAmount default
+IsTypedChange (AddValue column default) = IsNamed column.name × IsNarrow default
 IsTypedChange (DropValue name) = IsNamed name
 IsTypedChange (AddKey column default) = IsNamed column.name × IsKeyValue default
 
@@ -114,7 +120,7 @@ pub record IsTypedPart (p : Part) : Type 0 where
   pub table : IsHalf p.table
   pub epoch : IsWord p.epoch
   pub files : IsTypedFiles p.files
-  pub totals : AllByRecursion IsLong p.totals
+  pub totals : AllByRecursion IsTotal p.totals
 
 abbrev pub AreTypedFiles : Option Files → Type 0
 AreTypedFiles None = Unit {0}
@@ -130,6 +136,42 @@ IsTyped (record_of.Publish version parts) = IsWord version × AllByRecursion IsT
 IsTyped (record_of.Swap table base from to epoch f) = IsHalf table × IsWord from × IsWord to × IsWord epoch × AreTypedFiles f
 IsTyped (record_of.Expire version) = IsWord version
 IsTyped (record_of.ExpireTable table version) = IsHalf table × IsWord version
+
+-- ---- what has room in an edition
+
+abbrev pub FitsRef : Edition → FileRef → Type 0
+FitsRef First f = (f.format ≡ format.One) × AllByRecursion IsNarrow f.aggregates
+FitsRef Second f = Unit {0}
+
+abbrev pub FitsView : Edition → ViewRef → Type 0
+FitsView e v = FitsRef e v.file
+
+pub record FitsFiles (e : Edition) (f : Files) : Type 0 where
+  pub file : FitsRef e f.file
+  pub views : AllByRecursion (FitsView e) f.views
+
+abbrev pub FitsTotals : Edition → List ℕ → Type 0
+FitsTotals First totals = AllByRecursion IsLong totals
+FitsTotals Second totals = Unit {0}
+
+pub record FitsPart (e : Edition) (p : Part) : Type 0 where
+  pub files : FitsFiles e p.files
+  pub totals : FitsTotals e p.totals
+
+abbrev pub FitsFilesIfAny : Edition → Option Files → Type 0
+FitsFilesIfAny e None = Unit {0}
+FitsFilesIfAny e (Some f) = FitsFiles e f
+
+-- In the first edition files are of format 1, and aggregates and totals are numbers of 64 bits.
+abbrev pub FitsIn : Edition → Record → Type 0
+FitsIn e (record_of.Run number) = Unit {0}
+FitsIn e (record_of.Table name keys values) = Unit {0}
+FitsIn e (record_of.View table name keys values) = Unit {0}
+FitsIn e (record_of.Alter table c) = Unit {0}
+FitsIn e (record_of.Publish version parts) = AllByRecursion (FitsPart e) parts
+FitsIn e (record_of.Swap table base from to epoch f) = FitsFilesIfAny e f
+FitsIn e (record_of.Expire version) = Unit {0}
+FitsIn e (record_of.ExpireTable table version) = Unit {0}
 
 -- A record: its fields are within their types and keep the rules.
 pub record IsRecord (r : Record) : Type 0 where

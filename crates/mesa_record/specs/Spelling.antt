@@ -1,6 +1,8 @@
 -- The bytes of a record: each record has one spelling.
 use Rattle.std.specs.Prelude.{ℕ, ℤ, List, [], ◌∷◌, ◌++◌, length, flat_map, Bool, true, false, Option, None, Some}
-use Rattle.std.specs.Int.{w16, w32, w64, to_be_bytes, cast_unsigned}
+use Rattle.std.specs.Int.{w16, w32, w64, w128, to_be_bytes, cast_unsigned}
+use Rattle.mesa_key.specs.declared.Format.{Format}
+use Rattle.mesa_key.specs.declared.Format.TheVariants as format
 use Rattle.mesa_key.specs.declared.KeyValue.{KeyValue}
 use Rattle.mesa_key.specs.declared.KeyValue.TheVariants as value
 use Rattle.mesa_schema.specs.declared.columns.KeyColumn.{KeyColumn}
@@ -9,6 +11,8 @@ use Rattle.mesa_schema.specs.Codes.{agg_byte, kind_byte}
 use Rattle.mesa_schema.specs.declared.changes.Change.{Change}
 use Rattle.mesa_schema.specs.declared.changes.Change.TheVariants.{AddValue, DropValue, AddKey}
 use Rattle.mesa_file.specs.declared.file_ref.FileRef.{FileRef}
+use Rattle.mesa_record.specs.declared.edition.Edition.{Edition}
+use Rattle.mesa_record.specs.declared.edition.Edition.TheVariants.{First, Second}
 use Rattle.mesa_record.specs.declared.record.Record.{Record}
 use Rattle.mesa_record.specs.declared.record.Record.TheVariants as record_of
 use Rattle.mesa_record.specs.declared.record.ViewRef.{ViewRef}
@@ -26,7 +30,10 @@ word n = to_be_bytes w32 n
 unfoldable pub long : ℕ → List ℕ
 long n = to_be_bytes w64 n
 
--- an amount is its two's complement
+unfoldable pub wide : ℕ → List ℕ
+wide n = to_be_bytes w128 n
+
+-- a number of 64 bits is its two's complement
 abbrev pub amount : ℤ → List ℕ
 amount z = long (cast_unsigned w64 z)
 
@@ -65,31 +72,49 @@ change (AddKey column default) = 3 ∷ (key_column column ++ key_default default
 
 -- ---- files
 
--- a reference to a file: its id, length, rows and blocks; its first and its last key; the aggregates and the digest
+-- an aggregate, and a total of absolute values
+abbrev pub aggregate : Edition → ℤ → List ℕ
+aggregate First z = amount z
+aggregate Second z = wide (cast_unsigned w128 z)
+
+abbrev pub total : Edition → ℕ → List ℕ
+total First n = long n
+total Second n = wide n
+
+abbrev pub format_byte : Format → ℕ
+format_byte format.One = 1
+format_byte format.Two = 2
+
+-- the format of a file, which the first edition doesn't tell
+abbrev pub format_field : Edition → Format → List ℕ
+format_field First format = []
+format_field Second format = format_byte format ∷ []
+
+-- a reference to a file: its format, id, length, rows and blocks; its first and its last key; the aggregates and the digest
 unfoldable pub file_sizes : FileRef → List ℕ
 file_sizes f = long f.id ++ (long f.len ++ (long f.rows ++ word f.blocks))
 
 unfoldable pub file_keys : FileRef → List ℕ
 file_keys f = key f.first ++ key f.last
 
-unfoldable pub file_ref : FileRef → List ℕ
-file_ref f = file_sizes f ++ (file_keys f ++ (counted amount f.aggregates ++ f.digest))
+unfoldable pub file_ref : Edition → FileRef → List ℕ
+file_ref e f = format_field e f.format ++ (file_sizes f ++ (file_keys f ++ (counted (aggregate e) f.aggregates ++ f.digest)))
 
-abbrev pub view_ref : ViewRef → List ℕ
-view_ref v = v.view ∷ file_ref v.file
+abbrev pub view_ref : Edition → ViewRef → List ℕ
+view_ref e v = v.view ∷ file_ref e v.file
 
 -- a table's file, and those of its views
-unfoldable pub files : Files → List ℕ
-files f = file_ref f.file ++ counted view_ref f.views
+unfoldable pub files : Edition → Files → List ℕ
+files e f = file_ref e f.file ++ counted (view_ref e) f.views
 
 -- what a table has of a batch
-abbrev pub part : Part → List ℕ
-part p = half p.table ++ (word p.epoch ++ (files p.files ++ counted long p.totals))
+abbrev pub part : Edition → Part → List ℕ
+part e p = half p.table ++ (word p.epoch ++ (files e p.files ++ counted (total e) p.totals))
 
 -- files, if there are any
-abbrev pub files_if_any : Option Files → List ℕ
-files_if_any None = 0 ∷ []
-files_if_any (Some f) = 1 ∷ files f
+abbrev pub files_if_any : Edition → Option Files → List ℕ
+files_if_any e None = 0 ∷ []
+files_if_any e (Some f) = 1 ∷ files e f
 
 abbrev pub flag : Bool → ℕ
 flag false = 0
@@ -106,16 +131,29 @@ abbrev pub view_fields : List ℕ → List (List ℕ) → List (List ℕ) → Li
 view_fields name keys values = text name ++ (counted text keys ++ counted text values)
 
 -- the parts of a batch, behind their number in two bytes
-abbrev pub parts_fields : List Part → List ℕ
-parts_fields parts = half (length parts) ++ flat_map part parts
+abbrev pub parts_fields : Edition → List Part → List ℕ
+parts_fields e parts = half (length parts) ++ flat_map (part e) parts
 
--- A record is its kind, then its fields.
-unfoldable pub spelled : Record → List ℕ
-spelled (record_of.Run number) = 1 ∷ word number
-spelled (record_of.Table name keys values) = 2 ∷ table_fields name keys values
-spelled (record_of.View table name keys values) = 3 ∷ (half table ++ view_fields name keys values)
-spelled (record_of.Alter table c) = 4 ∷ (half table ++ change c)
-spelled (record_of.Publish version parts) = 5 ∷ (word version ++ parts_fields parts)
-spelled (record_of.Swap table base from to epoch f) = 6 ∷ (half table ++ (flag base ∷ (word from ++ (word to ++ (word epoch ++ files_if_any f)))))
-spelled (record_of.Expire version) = 7 ∷ word version
-spelled (record_of.ExpireTable table version) = 12 ∷ (half table ++ word version)
+-- what stands for a batch and for a merged range
+abbrev pub publish_kind : Edition → ℕ
+publish_kind First = 5
+publish_kind Second = 9
+
+abbrev pub swap_kind : Edition → ℕ
+swap_kind First = 6
+swap_kind Second = 10
+
+-- A record of an edition is its kind, then its fields.
+unfoldable pub spelled_in : Edition → Record → List ℕ
+spelled_in e (record_of.Run number) = 1 ∷ word number
+spelled_in e (record_of.Table name keys values) = 2 ∷ table_fields name keys values
+spelled_in e (record_of.View table name keys values) = 3 ∷ (half table ++ view_fields name keys values)
+spelled_in e (record_of.Alter table c) = 4 ∷ (half table ++ change c)
+spelled_in e (record_of.Publish version parts) = publish_kind e ∷ (word version ++ parts_fields e parts)
+spelled_in e (record_of.Swap table base from to epoch f) = swap_kind e ∷ (half table ++ (flag base ∷ (word from ++ (word to ++ (word epoch ++ files_if_any e f)))))
+spelled_in e (record_of.Expire version) = 7 ∷ word version
+spelled_in e (record_of.ExpireTable table version) = 12 ∷ (half table ++ word version)
+
+-- A record is written in the second edition.
+abbrev pub spelled : Record → List ℕ
+spelled r = spelled_in Second r

@@ -1,10 +1,10 @@
 // The bytes of a record, read field by field.
 ghost use Rattle.std.specs.Prelude.{◌≡◌, IfOk, length};
-ghost use Rattle.mesa_record.specs.Reading.{Gives, GivesAs, piece_at, byte_at, half_at, word_at, long_at, amount_at, text_at, name_at, key_at, columns_at, count_at, meaning, flag_of};
+ghost use Rattle.mesa_record.specs.Reading.{Gives, GivesAs, piece_at, byte_at, half_at, word_at, long_at, wide_at, wide_amount_at, amount_at, format_at, format_of, text_at, name_at, key_at, columns_at, count_at, meaning, flag_of};
 ghost use Rattle.mesa_schema.specs.Codes.{agg_of, kind_of};
 
-use crate::RecordError;
-use mesa_key::{KeyBytes, KeyType};
+use crate::{Edition, RecordError};
+use mesa_key::{Amount, Format, KeyBytes, KeyType};
 use mesa_list::Items;
 use mesa_schema::{Name, NameError, agg_of_byte, kind_of_byte};
 use mesa_value::Agg;
@@ -89,6 +89,47 @@ impl<'a> Cursor<'a> {
     {
         let p = self.piece(8)?;
         Ok(u64::from_be_bytes([p[0], p[1], p[2], p[3], p[4], p[5], p[6], p[7]]))
+    }
+
+    pub(crate) fn wide(&mut self) -> Result<u128, RecordError>
+        ensures { Gives result self.new (wide_at self.old) }
+    {
+        let p = self.piece(16)?;
+        Ok(u128::from_be_bytes([
+            p[0], p[1], p[2], p[3], p[4], p[5], p[6], p[7], p[8], p[9], p[10], p[11], p[12], p[13],
+            p[14], p[15],
+        ]))
+    }
+
+    pub(crate) fn wide_amount(&mut self) -> Result<Amount, RecordError>
+        ensures { Gives result self.new (wide_amount_at self.old) }
+    {
+        let p = self.piece(16)?;
+        Ok(Amount::from_be_bytes([
+            p[0], p[1], p[2], p[3], p[4], p[5], p[6], p[7], p[8], p[9], p[10], p[11], p[12], p[13],
+            p[14], p[15],
+        ]))
+    }
+
+    // A file's format, for which the first edition has no field.
+    pub(crate) fn format(&mut self, edition: Edition) -> Result<Format, RecordError>
+        ensures { Gives result self.new (format_at edition self.old) }
+    {
+        match edition {
+            Edition::First => Ok(Format::One),
+            Edition::Second => self.told_format(),
+        }
+    }
+
+    fn told_format(&mut self) -> Result<Format, RecordError>
+        ensures { Gives result self.new (meaning format_of self.old) }
+    {
+        let at = self.at();
+        match self.byte()? {
+            1 => Ok(Format::One),
+            2 => Ok(Format::Two),
+            _ => Err(RecordError::BadKind { at }),
+        }
     }
 
     pub(crate) fn amount(&mut self) -> Result<i64, RecordError>

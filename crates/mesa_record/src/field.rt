@@ -1,17 +1,19 @@
 // Fields that stand in lists: how each is read and written.
 ghost use Rattle.std.specs.Prelude.{◌≡◌, ◌++◌, ◌≤◌, List, ℕ, flat_map, length, OnOk};
-ghost use Rattle.mesa_record.specs.Reading.{Gives, amount_at, key_column_at, long_at, many, name_at, value_column_at};
-ghost use Rattle.mesa_record.specs.Spelling.{amount, counted, key_column, half, long, text, value_column, word};
+ghost use Rattle.mesa_record.specs.declared.edition.Edition.TheVariants.{Second as AsSecond};
+ghost use Rattle.mesa_record.specs.Reading.{Gives, wide_at, wide_amount_at, amount_at, key_column_at, long_at, many, name_at, value_column_at};
+ghost use Rattle.mesa_record.specs.Spelling.{aggregate, total, wide as wide_bytes, amount, counted, key_column, half, long, text, value_column, word};
 ghost use Rattle.std.specs.List.{AllByRecursion};
-ghost use Rattle.mesa_value.specs.Agg.{IsAmount};
+ghost use Rattle.mesa_value.specs.Agg.{IsAmount, IsNarrow};
 ghost use Rattle.mesa_schema.specs.declared.columns.KeyColumn.{KeyColumn as Column};
 ghost use Rattle.mesa_schema.specs.declared.columns.ValueColumn.{ValueColumn as Measure};
-ghost use Rattle.mesa_record.specs.Rules.{IsHalf, IsLong, IsNamed, IsWord};
+ghost use Rattle.mesa_record.specs.Rules.{IsHalf, IsLong, IsNamed, IsTotal, IsWord};
 
 use crate::RecordError;
 use crate::cursor::Cursor;
 use mesa_list::Items;
 use mesa_schema::{KeyColumn, Name, ValueColumn, agg_byte, kind_byte};
+use mesa_value::Amount;
 use std::alloc::{AllocError, Global};
 
 /// A field that stands in lists.
@@ -143,12 +145,45 @@ impl Field for u64 {
     }
 }
 
+impl Field for u128 {
+    ghost read_at = { wide_at };
+
+    ghost spelling = { total AsSecond };
+
+    ghost Is = { IsTotal };
+
+    fn read(_: Global, cursor: &mut Cursor<'_>) -> Result<Self, RecordError> {
+        cursor.wide()
+    }
+
+    #[tactic(auto, unfolding(crate::specs::Spelling::wide))]
+    fn write(&self, out: &mut Vec<u8>) -> Result<(), AllocError> {
+        out.extend_from_slice(&self.to_be_bytes())
+    }
+}
+
+impl Field for i128 {
+    ghost read_at = { wide_amount_at };
+
+    ghost spelling = { aggregate AsSecond };
+
+    ghost Is = { IsAmount };
+
+    fn read(_: Global, cursor: &mut Cursor<'_>) -> Result<Self, RecordError> {
+        cursor.wide_amount()
+    }
+
+    fn write(&self, out: &mut Vec<u8>) -> Result<(), AllocError> {
+        put_aggregate(*self, out)
+    }
+}
+
 impl Field for i64 {
     ghost read_at = { amount_at };
 
     ghost spelling = { amount };
 
-    ghost Is = { IsAmount };
+    ghost Is = { IsNarrow };
 
     fn read(_: Global, cursor: &mut Cursor<'_>) -> Result<Self, RecordError> {
         cursor.amount()
@@ -185,4 +220,13 @@ pub(crate) fn put_long(number: u64, out: &mut Vec<u8>) -> Result<(), AllocError>
     ensures typed { IsLong number }
 {
     out.extend_from_slice(&number.to_be_bytes())
+}
+
+// Appends an aggregate: its two's complement in sixteen bytes.
+pub(crate) fn put_aggregate(amount: Amount, out: &mut Vec<u8>) -> Result<(), AllocError>
+    ensures bytes { OnOk result (out.new.items ≡ out.old.items ++ aggregate AsSecond amount) }
+    ensures typed { IsAmount amount }
+{
+    out.extend_from_slice(&amount.to_be_bytes())?;
+    Ok(())
 }

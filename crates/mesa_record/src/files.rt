@@ -1,15 +1,16 @@
 // References to files, as fields.
-ghost use Rattle.std.specs.Prelude.{◌≡◌, ◌++◌, ◌<◌, ◌^◌, IsTrue, OnOk, length};
+ghost use Rattle.std.specs.Prelude.{◌≡◌, ◌++◌, ◌<◌, ◌^◌, IfOk, IsTrue, OnOk, length};
+ghost use Rattle.mesa_record.specs.declared.edition.Edition.TheVariants.{Second};
 ghost use Rattle.mesa_record.specs.Reading.{Gives, aggregates_at, file_ref_at, files_at, files_if_any_at, not_zero, part_at, part_number, piece_at, ruled, totals_at, view_number, view_ref_at, view_refs_at, word_at, long_at};
 ghost use Rattle.mesa_record.specs.Rules.{AreTypedFiles, IsLong, IsTypedFiles, IsTypedPart, IsTypedRef, IsTypedView, IsWord, are_files, are_files_if_any, is_file_ref, is_part};
-ghost use Rattle.mesa_record.specs.Spelling.{file_keys, file_ref, file_sizes, files, files_if_any, key, part, view_ref};
+ghost use Rattle.mesa_record.specs.Spelling.{format_byte as byte_of, file_keys, file_ref, file_sizes, files, files_if_any, key, part, view_ref};
 
 use crate::cursor::Cursor;
 use crate::field::{put_half, put_long, put_word, read_fields, write_counted};
 use crate::numbered::{Numbered, read_rising, write_rising};
-use crate::{Files, Part, RecordError, ViewRef};
+use crate::{Edition, Files, Part, RecordError, ViewRef};
 use mesa_file::{FileId, FileRef};
-use mesa_key::Values;
+use mesa_key::{Format, Values};
 use mesa_list::Items;
 use mesa_schema::Totals;
 use std::alloc::{AllocError, Global};
@@ -17,17 +18,22 @@ use std::alloc::{AllocError, Global};
 // ---- reading
 
 #[tactic(auto, unfolding(crate::specs::Reading::file_ref_at))]
-pub(crate) fn read_file(alloc: Global, cursor: &mut Cursor<'_>) -> Result<FileRef, RecordError>
-    ensures { Gives result cursor.new (file_ref_at cursor.old) }
+pub(crate) fn read_file(
+    alloc: Global,
+    cursor: &mut Cursor<'_>,
+    edition: Edition,
+) -> Result<FileRef, RecordError>
+    ensures { Gives result cursor.new (file_ref_at edition cursor.old) }
 {
     Ok(FileRef {
+        format: cursor.format(edition)?,
         id: FileId::of(cursor.long()?),
         len: cursor.long()?,
         rows: row_count(cursor)?,
         blocks: block_count(cursor)?,
         first: cursor.key(alloc)?,
         last: cursor.key(alloc)?,
-        aggregates: aggregates(alloc, cursor)?,
+        aggregates: aggregates(alloc, cursor, edition)?,
         digest: digest(cursor)?,
     })
 }
@@ -52,11 +58,31 @@ fn block_count(cursor: &mut Cursor<'_>) -> Result<u32, RecordError>
     }
 }
 
-fn aggregates(alloc: Global, cursor: &mut Cursor<'_>) -> Result<Values, RecordError>
-    ensures { Gives result cursor.new (aggregates_at cursor.old) }
+fn aggregates(
+    alloc: Global,
+    cursor: &mut Cursor<'_>,
+    edition: Edition,
+) -> Result<Values, RecordError>
+    ensures { Gives result cursor.new (aggregates_at edition cursor.old) }
 {
     let count = cursor.columns()?;
-    read_fields(alloc, cursor, count)
+    match edition {
+        Edition::First => {
+            let narrow: Items<i64> = read_fields(alloc, cursor, count)?;
+            Ok(widened_amounts(alloc, narrow.as_slice())?)
+        }
+        Edition::Second => read_fields(alloc, cursor, count),
+    }
+}
+
+fn widened_amounts(alloc: Global, narrow: &[i64]) -> Result<Values, AllocError>
+    ensures { IfOk result (λ wide. wide ≡ narrow.now) }
+{
+    let mut wide = Items::new(alloc);
+    for number in narrow {
+        wide.push(i128::from(*number))?;
+    }
+    Ok(wide)
 }
 
 fn digest(cursor: &mut Cursor<'_>) -> Result<[u8; 32], RecordError>
@@ -68,38 +94,67 @@ fn digest(cursor: &mut Cursor<'_>) -> Result<[u8; 32], RecordError>
 }
 
 #[tactic(auto, unfolding(crate::specs::Reading::files_at))]
-pub(crate) fn read_files(alloc: Global, cursor: &mut Cursor<'_>) -> Result<Files, RecordError>
-    ensures { Gives result cursor.new (files_at cursor.old) }
+pub(crate) fn read_files(
+    alloc: Global,
+    cursor: &mut Cursor<'_>,
+    edition: Edition,
+) -> Result<Files, RecordError>
+    ensures { Gives result cursor.new (files_at edition cursor.old) }
 {
-    let file = read_file(alloc, cursor)?;
-    let views = read_views(alloc, cursor)?;
+    let file = read_file(alloc, cursor, edition)?;
+    let views = read_views(alloc, cursor, edition)?;
     Ok(Files { file, views })
 }
 
-fn read_views(alloc: Global, cursor: &mut Cursor<'_>) -> Result<Items<ViewRef>, RecordError>
-    ensures { Gives result cursor.new (view_refs_at cursor.old) }
+fn read_views(
+    alloc: Global,
+    cursor: &mut Cursor<'_>,
+    edition: Edition,
+) -> Result<Items<ViewRef>, RecordError>
+    ensures { Gives result cursor.new (view_refs_at edition cursor.old) }
 {
     let count = cursor.count(8)?;
-    read_rising(alloc, cursor, count as u16)
+    read_rising(alloc, cursor, edition, count as u16)
 }
 
 pub(crate) fn read_files_if_any(
     alloc: Global,
     cursor: &mut Cursor<'_>,
+    edition: Edition,
 ) -> Result<Option<Files>, RecordError>
-    ensures { Gives result cursor.new (files_if_any_at cursor.old) }
+    ensures { Gives result cursor.new (files_if_any_at edition cursor.old) }
 {
     if cursor.flag()? {
-        return Ok(Some(read_files(alloc, cursor)?));
+        return Ok(Some(read_files(alloc, cursor, edition)?));
     }
     Ok(None)
 }
 
-fn read_totals(alloc: Global, cursor: &mut Cursor<'_>) -> Result<Totals, RecordError>
-    ensures { Gives result cursor.new (totals_at cursor.old) }
+fn read_totals(
+    alloc: Global,
+    cursor: &mut Cursor<'_>,
+    edition: Edition,
+) -> Result<Totals, RecordError>
+    ensures { Gives result cursor.new (totals_at edition cursor.old) }
 {
     let count = cursor.count(16)?;
-    read_fields(alloc, cursor, count)
+    match edition {
+        Edition::First => {
+            let narrow: Items<u64> = read_fields(alloc, cursor, count)?;
+            Ok(widened_totals(alloc, narrow.as_slice())?)
+        }
+        Edition::Second => read_fields(alloc, cursor, count),
+    }
+}
+
+fn widened_totals(alloc: Global, narrow: &[u64]) -> Result<Totals, AllocError>
+    ensures { IfOk result (λ wide. wide ≡ narrow.now) }
+{
+    let mut wide = Items::new(alloc);
+    for number in narrow {
+        wide.push(u128::from(*number))?;
+    }
+    Ok(wide)
 }
 
 impl Numbered for ViewRef {
@@ -107,7 +162,7 @@ impl Numbered for ViewRef {
 
     ghost read_at = { view_ref_at };
 
-    ghost spelling = { view_ref };
+    ghost spelling = { view_ref Second };
 
     ghost Is = { IsTypedView };
 
@@ -117,13 +172,18 @@ impl Numbered for ViewRef {
         self.view as u16
     }
 
-    fn read(alloc: Global, cursor: &mut Cursor<'_>, least: u32) -> Result<Self, RecordError> {
+    fn read(
+        alloc: Global,
+        cursor: &mut Cursor<'_>,
+        edition: Edition,
+        least: u32,
+    ) -> Result<Self, RecordError> {
         let at = cursor.at();
         let view = cursor.byte()?;
         if (view as u32) < least {
             return Err(RecordError::BadField { at });
         }
-        let file = read_file(alloc, cursor)?;
+        let file = read_file(alloc, cursor, edition)?;
         Ok(ViewRef { view, file })
     }
 
@@ -138,7 +198,7 @@ impl Numbered for Part {
 
     ghost read_at = { part_at };
 
-    ghost spelling = { part };
+    ghost spelling = { part Second };
 
     ghost Is = { IsTypedPart };
 
@@ -148,15 +208,20 @@ impl Numbered for Part {
         self.table
     }
 
-    fn read(alloc: Global, cursor: &mut Cursor<'_>, least: u32) -> Result<Self, RecordError> {
+    fn read(
+        alloc: Global,
+        cursor: &mut Cursor<'_>,
+        edition: Edition,
+        least: u32,
+    ) -> Result<Self, RecordError> {
         let at = cursor.at();
         let table = cursor.half()?;
         if (table as u32) < least {
             return Err(RecordError::BadField { at });
         }
         let epoch = cursor.word()?;
-        let files = read_files(alloc, cursor)?;
-        let totals = read_totals(alloc, cursor)?;
+        let files = read_files(alloc, cursor, edition)?;
+        let totals = read_totals(alloc, cursor, edition)?;
         Ok(Part {
             table,
             epoch,
@@ -178,13 +243,23 @@ impl Numbered for Part {
 #[tactic(auto, unfolding(crate::specs::Spelling::file_ref))]
 pub(crate) fn write_file(file: &FileRef, out: &mut Vec<u8>) -> Result<(), AllocError>
     requires { IsTrue (is_file_ref file.now) }
-    ensures bytes { OnOk result (out.new.items ≡ out.old.items ++ file_ref file.now) }
+    ensures bytes { OnOk result (out.new.items ≡ out.old.items ++ file_ref Edition.Second file.now) }
     ensures typed { OnOk result (IsTypedRef file.now) }
 {
+    out.push(format_byte(file.format))?;
     write_sizes(file, out)?;
     write_keys(file, out)?;
     write_counted(file.aggregates.as_slice(), out)?;
     write_digest(&file.digest, out)
+}
+
+fn format_byte(format: Format) -> u8
+    ensures { result ≡ byte_of format }
+{
+    match format {
+        Format::One => 1,
+        Format::Two => 2,
+    }
 }
 
 fn write_digest(digest: &[u8; 32], out: &mut Vec<u8>) -> Result<(), AllocError>
@@ -225,7 +300,7 @@ fn write_key(bytes: &[u8], out: &mut Vec<u8>) -> Result<(), AllocError>
 #[tactic(auto, unfolding(crate::specs::Spelling::files))]
 pub(crate) fn write_files(all: &Files, out: &mut Vec<u8>) -> Result<(), AllocError>
     requires { IsTrue (are_files all.now) }
-    ensures bytes { OnOk result (out.new.items ≡ out.old.items ++ files all.now) }
+    ensures bytes { OnOk result (out.new.items ≡ out.old.items ++ files Edition.Second all.now) }
     ensures typed { OnOk result (IsTypedFiles all.now) }
 {
     write_file(&all.file, out)?;
@@ -235,7 +310,7 @@ pub(crate) fn write_files(all: &Files, out: &mut Vec<u8>) -> Result<(), AllocErr
 
 pub(crate) fn write_files_if_any(all: &Option<Files>, out: &mut Vec<u8>) -> Result<(), AllocError>
     requires { IsTrue (are_files_if_any all.now) }
-    ensures bytes { OnOk result (out.new.items ≡ out.old.items ++ files_if_any all.now) }
+    ensures bytes { OnOk result (out.new.items ≡ out.old.items ++ files_if_any Edition.Second all.now) }
     ensures typed { OnOk result (AreTypedFiles all.now) }
 {
     match all {

@@ -3,6 +3,7 @@
 
 mod copies;
 mod cursor;
+mod edition;
 mod error;
 mod field;
 mod files;
@@ -12,6 +13,7 @@ mod reading;
 mod record;
 mod writing;
 
+pub use edition::Edition;
 pub use error::RecordError;
 pub use laws::{reads_records, spells_records};
 pub use reading::decode;

@@ -3,19 +3,20 @@ ghost use Rattle.std.specs.Prelude.{◌≡◌, ◌++◌, flat_map, IsTrue, OnOk}
 ghost use Rattle.std.specs.List.{AllByRecursion, list_all};
 ghost use Rattle.mesa_record.specs.Reading.{Gives, rising};
 
-use crate::RecordError;
 use crate::cursor::Cursor;
+use crate::{Edition, RecordError};
 use mesa_list::Items;
 use std::alloc::{AllocError, Global};
 
 /// A field that stands in lists in which numbers rise.
 pub(crate) trait Numbered: Sized + Drop {
     ghost use Rattle.std.specs.Prelude.{Bool, List, ℕ};
+    ghost use Rattle.mesa_record.specs.declared.edition.Edition.{Edition as AnyEdition};
     ghost use Rattle.mesa_record.specs.Reading.{Left, Read};
 
     ghost number_of: { Self → ℕ };
 
-    ghost read_at: { ℕ → Left → Read Self };
+    ghost read_at: { AnyEdition → ℕ → Left → Read Self };
 
     ghost spelling: { Self → List ℕ };
 
@@ -29,8 +30,13 @@ pub(crate) trait Numbered: Sized + Drop {
         ensures { result ≡ number_of self.now };
 
     /// The field, whose number has to be at least this one.
-    fn read(alloc: Global, cursor: &mut Cursor<'_>, least: u32) -> Result<Self, RecordError>
-        ensures { Gives result cursor.new (read_at least cursor.old) };
+    fn read(
+        alloc: Global,
+        cursor: &mut Cursor<'_>,
+        edition: Edition,
+        least: u32,
+    ) -> Result<Self, RecordError>
+        ensures { Gives result cursor.new (read_at edition least cursor.old) };
 
     fn write(&self, out: &mut Vec<u8>) -> Result<(), AllocError>
         requires { IsTrue (is_sound self.now) }
@@ -42,14 +48,15 @@ pub(crate) trait Numbered: Sized + Drop {
 pub(crate) fn read_rising<T: Numbered>(
     alloc: Global,
     cursor: &mut Cursor<'_>,
+    edition: Edition,
     count: u16,
 ) -> Result<Items<T>, RecordError>
-    ensures { Gives result cursor.new (rising T.number_of T.read_at 0 count cursor.old) }
+    ensures { Gives result cursor.new (rising T.number_of (T.read_at edition) 0 count cursor.old) }
 {
     let mut fields = Items::new(alloc);
     let mut least = 0;
     for _ in 0..count {
-        let field = T::read(alloc, cursor, least)?;
+        let field = T::read(alloc, cursor, edition, least)?;
         least = field.number() as u32 + 1;
         fields.push(field)?;
     }

@@ -1,15 +1,17 @@
 // Reading records.
 ghost use Rattle.std.specs.Prelude.{◌≡◌, ◌≢◌, Ok, Err, IfOk, IfErr};
+ghost use Rattle.mesa_record.specs.Editions.{IsSpelled};
 ghost use Rattle.mesa_record.specs.Reading.{Gives, alter_at, change_at, expire_table_at, fields_of, add_key_at, add_value_at, key_columns_at, key_default_at, names_at, publish_at, record_at, swap_at, table_at, value_columns_at, view_at};
 ghost use Rattle.mesa_record.specs.declared.record.Record.{Record as AnyRecord};
-ghost use Rattle.mesa_record.specs.Rules.{IsRecord};
-ghost use Rattle.mesa_record.specs.Spelling.{spelled};
+ghost use Rattle.mesa_record.specs.Rules.{FitsIn, IsRecord};
+ghost use Rattle.mesa_record.specs.declared.edition.Edition.{Edition as AnyEdition};
+ghost use Rattle.mesa_record.specs.Spelling.{spelled_in};
 
 use crate::cursor::Cursor;
 use crate::field::{Field, read_fields};
 use crate::files::read_files_if_any;
 use crate::numbered::read_rising;
-use crate::{Record, RecordError, reads_records, spells_records};
+use crate::{Edition, Record, RecordError, reads_records, spells_records};
 use mesa_key::{KeyText, KeyType, KeyValue};
 use mesa_list::Items;
 use mesa_schema::{Change, KeyColumn, Name, ValueColumn};
@@ -20,12 +22,12 @@ pub fn decode(alloc: Global, bytes: &[u8]) -> Result<Record, RecordError>
     ensures read { IfOk result (λ r. record_at bytes.now ≡ Ok r) }
     ensures fault { IfErr result (λ e. e ≢ RecordError.Memory → record_at bytes.now ≡ Err e) }
 
-    // What is read is a record, and spelled so.
+    // What is read is a record, and spelled so in one of the editions.
     ensures sound { IfOk result IsRecord }
-    ensures spelled { IfOk result (λ r. spelled r ≡ bytes.now) }
+    ensures spelled { IfOk result (λ r. IsSpelled r bytes.now) }
 
     // What is refused spells no record.
-    ensures refused { IfErr result (λ e. e ≢ RecordError.Memory → (r : AnyRecord) → IsRecord r → bytes.now ≢ spelled r) }
+    ensures refused { IfErr result (λ e. e ≢ RecordError.Memory → (edition : AnyEdition) (r : AnyRecord) → IsRecord r → FitsIn edition r → bytes.now ≢ spelled_in edition r) }
 {
     reads_records();
     spells_records();
@@ -58,11 +60,13 @@ fn fields(alloc: Global, kind: u8, at: u64, cursor: &mut Cursor<'_>) -> Result<R
         2 => table(alloc, cursor),
         3 => view(alloc, cursor),
         4 => alter(alloc, cursor),
-        5 => publish(alloc, cursor),
-        6 => swap(alloc, cursor),
+        5 => publish(alloc, cursor, Edition::First),
+        6 => swap(alloc, cursor, Edition::First),
         7 => Ok(Record::Expire {
             version: cursor.word()?,
         }),
+        9 => publish(alloc, cursor, Edition::Second),
+        10 => swap(alloc, cursor, Edition::Second),
         12 => expire_table(cursor),
         _ => Err(RecordError::BadKind { at }),
     }
@@ -182,24 +186,24 @@ fn key_default(
     }
 }
 
-fn publish(alloc: Global, cursor: &mut Cursor<'_>) -> Result<Record, RecordError>
-    ensures { Gives result cursor.new (publish_at cursor.old) }
+fn publish(alloc: Global, cursor: &mut Cursor<'_>, edition: Edition) -> Result<Record, RecordError>
+    ensures { Gives result cursor.new (publish_at edition cursor.old) }
 {
     let version = cursor.word()?;
     let count = cursor.half()?;
-    let parts = read_rising(alloc, cursor, count)?;
+    let parts = read_rising(alloc, cursor, edition, count)?;
     Ok(Record::Publish { version, parts })
 }
 
-fn swap(alloc: Global, cursor: &mut Cursor<'_>) -> Result<Record, RecordError>
-    ensures { Gives result cursor.new (swap_at cursor.old) }
+fn swap(alloc: Global, cursor: &mut Cursor<'_>, edition: Edition) -> Result<Record, RecordError>
+    ensures { Gives result cursor.new (swap_at edition cursor.old) }
 {
     let table = cursor.half()?;
     let base = cursor.flag()?;
     let from = cursor.word()?;
     let to = cursor.word()?;
     let epoch = cursor.word()?;
-    let files = read_files_if_any(alloc, cursor)?;
+    let files = read_files_if_any(alloc, cursor, edition)?;
     Ok(Record::Swap {
         table,
         base,

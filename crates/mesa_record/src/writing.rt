@@ -9,7 +9,7 @@ ghost use Rattle.mesa_record.specs.Spelling.{change as change_bytes, flag, half,
 use crate::field::{Field, put_half, put_word, write_counted};
 use crate::files::write_files_if_any;
 use crate::numbered::write_rising;
-use crate::{Part, Record, reads_records};
+use crate::{Edition, Part, Record, reads_records};
 use mesa_key::KeyValue;
 use mesa_schema::{Change, KeyColumn, Name, ValueColumn};
 use std::alloc::{AllocError, Global};
@@ -29,7 +29,7 @@ pub fn encode(alloc: Global, record: &Record) -> Result<Vec<u8>, AllocError>
 }
 
 // Appends the bytes of a record.
-#[tactic(auto, unfolding(crate::specs::Spelling::spelled))]
+#[tactic(auto, unfolding(crate::specs::Spelling::spelled_in))]
 fn write(record: &Record, out: &mut Vec<u8>) -> Result<(), AllocError>
     requires { IsTrue (keeps_rules «record».now) }
     ensures bytes { OnOk result (out.new.items ≡ out.old.items ++ spelled «record».now) }
@@ -94,20 +94,20 @@ fn write_alter(table: u16, change: &Change, out: &mut Vec<u8>) -> Result<(), All
 
 fn write_publish(version: u32, parts: &[Part], out: &mut Vec<u8>) -> Result<(), AllocError>
     requires { IsTrue (are_parts parts.now) }
-    ensures bytes { OnOk result (out.new.items ≡ out.old.items ++ 5 ∷ (word version ++ parts_fields parts.now)) }
+    ensures bytes { OnOk result (out.new.items ≡ out.old.items ++ 9 ∷ (word version ++ parts_fields Edition.Second parts.now)) }
     ensures typed { OnOk result (IsWord version × AllByRecursion IsTypedPart parts.now) }
 {
-    out.push(5)?;
+    out.push(9)?;
     put_word(version, out)?;
     write_parts(parts, out)
 }
 
 // Appends the kind of a swap, its table, and whether it makes a base.
 fn write_swap(table: u16, base: bool, out: &mut Vec<u8>) -> Result<(), AllocError>
-    ensures bytes { OnOk result (out.new.items ≡ out.old.items ++ 6 ∷ (half table ++ flag base ∷ [])) }
+    ensures bytes { OnOk result (out.new.items ≡ out.old.items ++ 10 ∷ (half table ++ flag base ∷ [])) }
     ensures typed { OnOk result (IsHalf table) }
 {
-    out.push(6)?;
+    out.push(10)?;
     put_half(table, out)?;
     out.push(base as u8)?;
     Ok(())
@@ -149,7 +149,7 @@ fn write_view(
 
 fn write_parts(parts: &[Part], out: &mut Vec<u8>) -> Result<(), AllocError>
     requires { IsTrue (are_parts parts.now) }
-    ensures bytes { OnOk result (out.new.items ≡ out.old.items ++ parts_fields parts.now) }
+    ensures bytes { OnOk result (out.new.items ≡ out.old.items ++ parts_fields Edition.Second parts.now) }
     ensures typed { OnOk result (AllByRecursion IsTypedPart parts.now) }
 {
     put_half(parts.len() as u16, out)?;

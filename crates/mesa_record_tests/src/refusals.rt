@@ -19,7 +19,6 @@ fn each_refusal_names_its_place(rt: HostRuntime) {
         (b"00", RecordError::BadKind { at: 0 }),
         // no kind yet
         (b"08000000", RecordError::BadKind { at: 0 }),
-        (b"09", RecordError::BadKind { at: 0 }),
         // a number of three bytes
         (b"01000000", RecordError::Truncated { at: 1 }),
         // a byte behind a record
@@ -73,6 +72,11 @@ fn each_refusal_names_its_place(rt: HostRuntime) {
         (
             b"050000000300010000000000000000010000000000000000000000006700000000000000010000000100088000000000000001000880000000000000010100000000000000050123456789abcdef0123456789abcdef0123456789abcdef0123456789abcdef0011",
             RecordError::BadField { at: 103 },
+        ),
+        // no format
+        (
+            b"0900000003000100000000000003",
+            RecordError::BadKind { at: 13 },
         ),
         // no flag
         (b"06000002", RecordError::BadKind { at: 3 }),

@@ -63,10 +63,10 @@ take_more d (x ∷ xs) zero lt = refl
 take_more d (x ∷ xs) (suc n) lt = ap (λ ys. x ∷ ys) (take_more d xs n (omega arith))
 
 -- the matching rows of one block more
-pub matching_more : {R : Type 0} (i : Input R) (f : KeyFilter) (all : List Row) (n : ℕ) → n < length (blocks_of (index_of i.reader).columns all)
-    → matching i f all (n + 1) ≡ matching i f all n ++ filtered (columns_of i.evolving.value) f.terms (map (lift_by i) (get_or (blocks_of (index_of i.reader).columns all) n []))
+pub matching_more : {R : Type 0} (i : Input R) (f : KeyFilter) (all : List Row) (n : ℕ) → n < length (blocks_of (index_of i.reader).layout all)
+    → matching i f all (n + 1) ≡ matching i f all n ++ filtered (columns_of i.evolving.value) f.terms (map (lift_by i) (get_or (blocks_of (index_of i.reader).layout all) n []))
 matching_more i f all n lt =
-    let blocks : List (List Row) = blocks_of (index_of i.reader).columns all in
+    let blocks : List (List Row) = blocks_of (index_of i.reader).layout all in
     let test : Row → Bool = λ (row : Row). meets (key_of (kinds_of (columns_of i.evolving.value)) row.key) f.terms in
     let lift : Row → Row = lift_by i in
     let block : List Row = get_or blocks n [] in

@@ -2,7 +2,7 @@
 use Rattle.std.proofs.Common.{◌≡◌, ℕ, zero, suc, ◌+◌, ◌<◌, ◌≤◌, List, [], ◌∷◌, ◌++◌, length, get_or, refl, ◌∙◌, ap, arith, Bool, true, false, add-one}
 use Rattle.std.specs.Prelude.{map, if◌then◌else◌}
 use Rattle.mesa_schema.specs.declared.rows.Row.{Row}
-use Rattle.mesa_schema.specs.Columns.{Columns}
+use Rattle.mesa_block.specs.Layout.{Layout}
 use Rattle.mesa_block.specs.Spelling.{block}
 use Rattle.mesa_delta.specs.declared.place.Entry.{Entry}
 use Rattle.mesa_delta.specs.Beginning.{bounds_of, first_short}
@@ -28,14 +28,14 @@ behind_last [] last (suc n) e = absurd (omega (arith, e))
 behind_last (e ∷ es) last zero eq = absurd (omega (arith, eq))
 behind_last (e ∷ es) last (suc n) eq = behind_last es last n (omega (arith, eq))
 
-shorts_are : (s : Columns) (at : ℕ) (parts : List (List Row)) → map short_of (places s at parts) ≡ map first_short parts
+shorts_are : (s : Layout) (at : ℕ) (parts : List (List Row)) → map short_of (places s at parts) ≡ map first_short parts
 shorts_are s at [] = refl
 shorts_are s at (p ∷ parts) = ap (λ (l : List (List ℕ)). first_short p ∷ l) (shorts_are s (at + length (block s p)) parts)
 
 -- where an index is true of a file, these are the file's
-pub bounds_told : FitsAlone → (x : Indexed) (all : List Row) (b : List ℕ) → IsIndex x → IsIndexed x all b → bounds_in x ≡ bounds_of x.columns all
+pub bounds_told : FitsAlone → (x : Indexed) (all : List Row) (b : List ℕ) → IsIndex x → IsIndexed x all b → bounds_in x ≡ bounds_of x.layout all
 bounds_told law x all b index h =
-    let shorts : map short_of x.entries ≡ map first_short (blocks_of x.columns all) = ap (map short_of) (is_same law x all b index h).entries ∙ shorts_are x.columns 0 (blocks_of x.columns all) in
+    let shorts : map short_of x.entries ≡ map first_short (blocks_of x.layout all) = ap (map short_of) (is_same law x all b index h).entries ∙ shorts_are x.layout 0 (blocks_of x.layout all) in
     λ i. shorts i ++ h.last i ∷ []
 
 one_or_none : (b : Bool) → (if b then 1 else 0) ≤ 1

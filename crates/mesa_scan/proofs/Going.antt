@@ -87,7 +87,7 @@ onward_skipped fits keys forms own bytes i was now given lineage index h lt on r
       counted = read ∙ h.counted ∙ omega (arith, allowed_more f (keys_in i) x n false shut) ∙ (λ k. allowed_among (sym on.filter k) (keys_in i) x (sym on.next k));
       form = subst (AreRowsOf (columns_of i.evolving.value)) (sym same) h.form;
       told = λ b all told indexed.
-          let there : n < length (blocks_of x.columns all) = omega (arith, lt, indexed.blocks) in
+          let there : n < length (blocks_of x.layout all) = omega (arith, lt, indexed.blocks) in
           same ∙ h.told b all told indexed ∙ sym (append-nil (matching i f all n))
           ∙ ap (λ rows. matching i f all n ++ rows) (sym (skipped fits keys forms own i f all b n h.input.columns lineage h.filter index indexed there misses))
           ∙ sym (matching_more i f all n there) ∙ (λ k. matching i (sym on.filter k) all (sym on.next k));
@@ -104,7 +104,7 @@ seen i f lift block of lifts good =
 pub onward_read : LiftedForms → {R : Type 0} (bytes : R → Option (List ℕ)) (old new : Input R) (was now : Scan) (given block : List Row) → IsLineage old.evolving.value → IsSameInput bytes old new → IsInput bytes new
     → HasScanned bytes old was given → next_of was < length (index_of old.reader).entries → IsOnward was now → read_of now ≡ read_of was + 1
     → true ≡ allows_block (filter_of was) was.columns (index_of old.reader) (next_of was) → IsBlock (index_of old.reader) (next_of was) block
-    → ((b : List ℕ) (all : List Row) → bytes (reader_in old) ≡ Some b → IsIndexed (index_of old.reader) all b → block ≡ get_or (blocks_of (index_of old.reader).columns all) (next_of was) [])
+    → ((b : List ℕ) (all : List Row) → bytes (reader_in old) ≡ Some b → IsIndexed (index_of old.reader) all b → block ≡ get_or (blocks_of (index_of old.reader).layout all) (next_of was) [])
     → HasScanned bytes new now (given ++ matching_rows (filter_of was) (map (lifted_with was.lift) block))
 onward_read forms bytes old new was now given block lineage same input h lt on read opened is again =
     let x : Indexed = index_of old.reader in
@@ -130,7 +130,7 @@ onward_read forms bytes old new was now given block lineage same input h lt on r
       told = λ b all told indexed.
           let was_indexed : IsIndexed x all b = subst (λ (y : Indexed). IsIndexed y all b) same.index indexed in
           let was_told = sym same.told ∙ told in
-          let there : n < length (blocks_of x.columns all) = omega (arith, lt, was_indexed.blocks) in
+          let there : n < length (blocks_of x.layout all) = omega (arith, lt, was_indexed.blocks) in
           (λ k. h.told b all was_told was_indexed k ++ more k)
           ∙ ap (λ (rows : List Row). matching old f all n ++ filtered s f.terms (map lift rows)) (again b all was_told was_indexed)
           ∙ sym (matching_more old f all n there)

@@ -46,8 +46,8 @@ damaged_before bytes size start now d same long h = record {
 pub all_matching : {R : Type 0} (i : Input R) (f : KeyFilter) (all : List Row) (b : List ℕ) (n : ℕ) → IsIndexed (index_of i.reader) all b → length (index_of i.reader).entries ≤ n
     → matching i f all n ≡ filtered (columns_of i.evolving.value) f.terms (map (lift_by i) all)
 all_matching i f all b n indexed le =
-    let blocks : List (List Row) = blocks_of (index_of i.reader).columns all in
-    ap (λ rows. filtered (columns_of i.evolving.value) f.terms (map (lift_by i) rows)) (ap rows_of (take_all n blocks (omega (arith, le, indexed.blocks))) ∙ blocks_rows (index_of i.reader).columns all)
+    let blocks : List (List Row) = blocks_of (index_of i.reader).layout all in
+    ap (λ rows. filtered (columns_of i.evolving.value) f.terms (map (lift_by i) rows)) (ap rows_of (take_all n blocks (omega (arith, le, indexed.blocks))) ∙ blocks_rows (index_of i.reader).layout all)
 
 -- so once every block was looked at these are the input's matching rows
 pub scanned_all : {R : Type 0} (bytes : R → Option (List ℕ)) (size_of faults_of reads_of : R → ℕ) (start now : Input R) (f : KeyFilter) (s : Scan) (old new : List Row) → AreScanned bytes size_of faults_of reads_of start now f s old new

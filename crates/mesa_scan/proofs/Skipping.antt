@@ -62,18 +62,18 @@ all_at P (part ∷ parts) (suc n) lt all = all_at P parts n (omega arith) all.1
 
 -- A block that is left out has no matching row.
 pub skipped : FitsAlone → KeysBetween → LiftedForms → LiftedKeys → {R : Type 0} (i : Input R) (f : KeyFilter) (all : List Row) (b : List ℕ) (n : ℕ)
-    → (index_of i.reader).columns ≡ columns_at i.evolving.value i.epoch → IsLineage i.evolving.value → IsFilterOf i f → IsIndex (index_of i.reader) → IsIndexed (index_of i.reader) all b → n < length (blocks_of (index_of i.reader).columns all)
+    → (index_of i.reader).layout.columns ≡ columns_at i.evolving.value i.epoch → IsLineage i.evolving.value → IsFilterOf i f → IsIndex (index_of i.reader) → IsIndexed (index_of i.reader) all b → n < length (blocks_of (index_of i.reader).layout all)
     → NoneMeets f.kinds (keys_in i) f.terms (get_or (bounds_in (index_of i.reader)) n []) (get_or (bounds_in (index_of i.reader)) (n + 1) [])
-    → filtered (columns_of i.evolving.value) f.terms (map (lift_by i) (get_or (blocks_of (index_of i.reader).columns all) n [])) ≡ []
+    → filtered (columns_of i.evolving.value) f.terms (map (lift_by i) (get_or (blocks_of (index_of i.reader).layout all) n [])) ≡ []
 skipped fits keys forms own i f all b n columns lineage of index h lt none =
     let x = index_of i.reader in
     let l : Lineage = i.evolving.value in
-    let block : List Row = get_or (blocks_of x.columns all) n [] in
-    let each : AreRows x.columns block = all_at (AreRows x.columns) (blocks_of x.columns all) n lt (blocks_good fits x.columns all index.schema h.file.some h.file.good h.file.rise) in
-    let good : AreRowsOf (columns_at l i.epoch) block = subst (λ (s : Columns). AreRowsOf s block) columns (block_forms x.columns block each) in
-    let bounds : bounds_of x.columns all ≡ bounds_in x = sym (bounds_told fits x all b index h) in
+    let block : List Row = get_or (blocks_of x.layout all) n [] in
+    let each : AreRows x.layout block = all_at (AreRows x.layout) (blocks_of x.layout all) n lt (blocks_good fits x.layout all index.schema h.file.some h.file.good h.file.rise) in
+    let good : AreRowsOf (columns_at l i.epoch) block = subst (λ (s : Columns). AreRowsOf s block) columns (block_forms x.layout block each) in
+    let bounds : bounds_of x.layout all ≡ bounds_in x = sym (bounds_told fits x all b index h) in
     let lie : AllByRecursion (LiesBetween (get_or (bounds_in x) n []) (get_or (bounds_in x) (n + 1) [])) block =
-    subst (λ (bs : List (List ℕ)). AllByRecursion (LiesBetween (get_or bs n []) (get_or bs (n + 1) [])) block) bounds (keys x.columns all n index.schema h.file.some h.file.good h.file.rise) in
+    subst (λ (bs : List (List ℕ)). AllByRecursion (LiesBetween (get_or bs n []) (get_or bs (n + 1) [])) block) bounds (keys x.layout all n index.schema h.file.some h.file.good h.file.rise) in
     let misses : NoneMeets (kinds_of (columns_of l)) (keys_in i) f.terms (get_or (bounds_in x) n []) (get_or (bounds_in x) (n + 1) []) =
     subst (λ kinds. NoneMeets kinds (keys_in i) f.terms (get_or (bounds_in x) n []) (get_or (bounds_in x) (n + 1) [])) of none in
     none_match own l i.epoch f.terms (get_or (bounds_in x) n []) (get_or (bounds_in x) (n + 1) []) block misses good (lifted_forms forms l i.epoch block lineage good) lie

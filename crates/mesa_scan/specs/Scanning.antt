@@ -36,7 +36,7 @@ keys_in i = length (columns_at i.evolving.value i.epoch).keys
 
 -- the rows of a file's first blocks, lifted, that meet a filter
 abbrev pub matching : {R : Type 0} → Input R → KeyFilter → List Row → ℕ → List Row
-matching i f all n = filtered (columns_of i.evolving.value) f.terms (map (lift_by i) (rows_of (take n (blocks_of (index_of i.reader).columns all))))
+matching i f all n = filtered (columns_of i.evolving.value) f.terms (map (lift_by i) (rows_of (take n (blocks_of (index_of i.reader).layout all))))
 
 -- A scan has given just these rows of an input: they have the present columns' form, and where the file is told and its index is true of it, they are the matching rows of the blocks before the one at which it goes on. It has read those of these blocks that may have one.
 pub record HasScanned {R : Type 0} (bytes : R → Option (List ℕ)) (i : Input R) (s : Scan) (given : List Row) : Type 0 where

@@ -24,15 +24,16 @@ use Rattle.mesa_schema.specs.declared.rows.Row.{Row}
 use Rattle.mesa_schema.specs.declared.changes.Change.{Change}
 use Rattle.mesa_schema.specs.declared.changes.Change.TheVariants.{AddKey, AddValue, DropValue}
 use Rattle.mesa_schema.specs.Columns.{Columns, aggs_of, kinds_of, place_of, value_names}
-use Rattle.mesa_schema.specs.Changes.{changed, columns_after, lifted_by, lifted_once}
+use Rattle.mesa_schema.specs.Changes.{changed, columns_after, lifted_by, lifted_once, without}
 use Rattle.mesa_schema.specs.Lineages.{HasDefault}
-use Rattle.mesa_schema.specs.Rows.{AreRowsOf, IsRowOf}
+use Rattle.mesa_schema.specs.Rows.{AreOf, AreRowsOf, IsRowOf}
 use Rattle.mesa_schema.specs.Folded.{all_combined, combined_from, folded, folded_at, keys_of, row_combined, rows_of, values_at}
 use Rattle.mesa_schema.proofs.Drops.{dropped-folded, without-length, without-map}
 use Rattle.mesa_schema.proofs.Folds.{has-keys_of, keys, values_at_some}
 use Rattle.mesa_schema.proofs.KeyLifts.{Spells, keys_of-all, longer-folded}
 use Rattle.mesa_schema.proofs.Keys.{has}
 use Rattle.mesa_schema.proofs.Lifts.{Each, appended-folded, row_combined-length}
+use Rattle.mesa_schema.proofs.Ranges.{of_default, ranges_folded, ranges_more, ranges_without}
 
 -- ---- the form of rows
 
@@ -48,16 +49,25 @@ key-more [] (x ∷ key) kind value h v = absurd h
 key-more (t ∷ types) [] kind value h v = absurd h
 key-more (t ∷ types) (x ∷ key) kind value h v = (h.0, key-more types key kind value h.1 v)
 
+pub row-full : (s : Columns) (row : Row) → IsRowOf s row → length row.values ≡ length (aggs_of s)
+row-full s row h = h.values ∙ sym (length-map s.values (λ (c : ValueColumn). c.agg))
+
 one_form : (s : Columns) (change : Change) (row : Row) → HasDefault change → IsRowOf s row → IsRowOf (changed s change) (lifted_once s change row)
 one_form s (AddValue column d) row f h = record {
   key = h.key;
   spelled = h.spelled;
   values = length-append row.values (d ∷ []) ∙ ap (λ n. n + 1) h.values ∙ sym (length-append s.values (column ∷ []));
+  ranges =
+      subst (λ (gs : List Agg). AreOf gs (row.values ++ d ∷ [])) (sym (map-append (λ (c : ValueColumn). c.agg) s.values (column ∷ [])))
+      (ranges_more (aggs_of s) row.values column.agg d (row-full s row h) h.ranges (of_default column.agg d f));
 }
 one_form s (DropValue name) row f h = record {
   key = h.key;
   spelled = h.spelled;
   values = without-length (unwrap_or (place_of name (value_names s)) (length s.values)) row.values s.values h.values;
+  ranges =
+      let i : ℕ = unwrap_or (place_of name (value_names s)) (length s.values) in
+      subst (λ (gs : List Agg). AreOf gs (without i row.values)) (sym (without-map (λ (c : ValueColumn). c.agg) i s.values)) (ranges_without i (aggs_of s) row.values (row-full s row h) h.ranges);
 }
 one_form s (AddKey column d) row f h =
     let key : List KeyValue = key_of (kinds_of s) row.key in
@@ -65,7 +75,7 @@ one_form s (AddKey column d) row f h =
     let bytes : row.key ++ value_spelling d ≡ key_spelling (key ++ d ∷ []) =
     ap (λ xs. xs ++ value_spelling d) (sym h.spelled) ∙ ap (λ xs. key_spelling key ++ xs) (sym (append-nil (value_spelling d))) ∙ sym (flat_map-append value_spelling key (d ∷ [])) in
     let spells = spells_key (kinds_of (changed s (AddKey column d))) (key ++ d ∷ []) (row.key ++ value_spelling d) (subst (λ ts. IsKey ts (key ++ d ∷ [])) types (key-more (kinds_of s) key column.kind d h.key f)) bytes in
-    record { key = spells.key; spelled = spells.spelled; values = h.values }
+    record { key = spells.key; spelled = spells.spelled; values = h.values; ranges = h.ranges }
 
 -- A lifted row has the form of the later columns.
 pub lifted_form : (s : Columns) (changes : List Change) (row : Row) → AllByRecursion HasDefault changes → IsRowOf s row → IsRowOf (columns_after s changes) (lifted_by s changes row)
@@ -73,9 +83,6 @@ lifted_form s [] row f h = h
 lifted_form s (change ∷ changes) row f h = lifted_form (changed s change) changes (lifted_once s change row) f.1 (one_form s change row f.0 h)
 
 -- ---- folds of rows of one form
-
-row-full : (s : Columns) (row : Row) → IsRowOf s row → length row.values ≡ length (aggs_of s)
-row-full s row h = h.values ∙ sym (length-map s.values (λ (c : ValueColumn). c.agg))
 
 pub rows-full : (s : Columns) (rows : List Row) → AreRowsOf s rows → Each (λ vs. length vs ≡ length (aggs_of s)) rows
 rows-full s [] h = tt
@@ -112,6 +119,7 @@ forms_at s rows (k ∷ ks) all spell there =
         key = spell.0.key;
         spelled = spell.0.spelled;
         values = all-full (aggs_of s) (values_at k rows) some.0 some.1 some.2 (values-full (aggs_of s) k rows (rows-full s rows all)) ∙ length-map s.values (λ (c : ValueColumn). c.agg);
+        ranges = ranges_folded s rows k all;
       },
       forms_at s rows ks all spell.1 (λ q h. there q (or-true (eq_by_cmp byte_cmp q k) (has q ks) h)),
     )

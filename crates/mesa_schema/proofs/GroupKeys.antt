@@ -2,6 +2,7 @@
 use Rattle.std.proofs.Common.{◌≡◌, ℕ, zero, suc, List, [], ◌∷◌, ◌++◌, map, length, arith, true, is_some, refl, sym, ◌∙◌, ap, subst, ◌⊎◌, inl, inr, Option, Some, None, slice_get}
 use Rattle.std.specs.Prelude.{option_map}
 use Rattle.std.specs.List.{AllByRecursion, concat, cons_option}
+use Rattle.mesa_value.specs.declared.Agg.{Agg}
 use Rattle.mesa_key.specs.declared.KeyType.{KeyType}
 use Rattle.mesa_key.specs.declared.KeyValue.{KeyValue}
 use Rattle.mesa_key.specs.Spelling.{IsKey, IsValue, columns_of, key_of, key_spelling, value_spelling}
@@ -11,8 +12,9 @@ use Rattle.mesa_schema.specs.declared.columns.ValueColumn.{ValueColumn}
 use Rattle.mesa_schema.specs.declared.rows.Row.{Row}
 use Rattle.mesa_schema.specs.Columns.{Columns, aggs_of, chosen, kinds_of}
 use Rattle.mesa_schema.specs.Folded.{folded, folded_at, grouped, keys_of, regrouped, rows_of}
-use Rattle.mesa_schema.specs.Rows.{AreRowsOf, IsRowOf, keys_rise}
-use Rattle.mesa_schema.proofs.Forms.{folded_form, spells_key}
+use Rattle.mesa_schema.specs.Rows.{AreOf, AreRowsOf, IsRowOf, keys_rise}
+use Rattle.mesa_schema.proofs.Forms.{folded_form, row-full, spells_key}
+use Rattle.mesa_schema.proofs.Ranges.{ranges_chosen}
 use Rattle.mesa_schema.proofs.KeyLifts.{Spells, keys_of-all}
 use Rattle.mesa_schema.proofs.RisingRows.{folded_rise}
 use Rattle.mesa_schema.proofs.Lists.{all_append, all_map, all_so}
@@ -132,7 +134,12 @@ groups_form s columns values rows all =
     let aggs : chosen values (aggs_of s) ≡ aggs_of wide = chosen_mapped (λ (c : ValueColumn). c.agg) values s.values in
     let one : (row : Row) → IsRowOf s row → IsRowOf wide (regrouped s columns values row) = λ row form.
     let spells = subst (λ (types : List KeyType). Spells types (regrouped s columns values row).key) kinds (regrouped_spells s columns values row (record { key = form.key; spelled = form.spelled })) in
-    record { key = spells.key; spelled = spells.spelled; values = chosen_count values row.values s.values form.values } in
+    record {
+      key = spells.key;
+      spelled = spells.spelled;
+      values = chosen_count values row.values s.values form.values;
+      ranges = subst (λ (gs : List Agg). AreOf gs (chosen values row.values)) aggs (ranges_chosen values (aggs_of s) row.values (row-full s row form) form.ranges);
+    } in
     let parts : AreRowsOf wide (rows_of (map (regrouped s columns values) rows ∷ [])) =
     all_append (IsRowOf wide) (map (regrouped s columns values) rows) [] (all_map (IsRowOf wide) (regrouped s columns values) rows (all_so (IsRowOf s) (λ (row : Row). IsRowOf wide (regrouped s columns values row)) rows one all)) tt in
     subst (λ gs. AreRowsOf wide (folded gs (map (regrouped s columns values) rows ∷ []))) (sym aggs) (folded_form wide (map (regrouped s columns values) rows ∷ []) parts)

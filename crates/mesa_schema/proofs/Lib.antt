@@ -25,6 +25,7 @@ pub mod Passing
 pub mod Picks
 pub mod Places
 pub mod PresentRows
+pub mod Ranges
 pub mod Refolds
 pub mod Repeats
 pub mod RisingRows

@@ -7,7 +7,7 @@ use Rattle.std.proofs.lemmas.Int.{ints}
 use Rattle.std.proofs.lemmas.List.{take-append-le, take_all}
 use Rattle.mesa_value.specs.declared.Agg.{Agg}
 use Rattle.mesa_value.specs.declared.Agg.TheVariants.{Sum, Min, Max, Replace}
-use Rattle.mesa_value.specs.Agg.{IsDefault}
+use Rattle.mesa_value.specs.Agg.{IsDefault, IsNarrow}
 use Rattle.mesa_schema.specs.declared.views.View.{View}
 use Rattle.mesa_schema.specs.declared.changes.Change.{Change}
 use Rattle.mesa_schema.specs.Columns.{Columns}
@@ -22,12 +22,12 @@ use Rattle.mesa_schema.proofs.Passing.{passed_first, passed_last}
 use Rattle.mesa_schema.proofs.SchemaChanges.{rules_schema, schema_changed, schema_rules}
 use Rattle.mesa_schema.proofs.ViewChanges.{views_changed}
 
--- A default that passes its test stays when it is combined with itself.
-pub default_fits : (agg : Agg) (z : ℤ) → is_default agg z ≡ true → IsDefault agg z
-default_fits Sum z h = omega (arith, ints, eqb-true (nat_abs z) 0 h)
-default_fits Min z h = tt
-default_fits Max z h = tt
-default_fits Replace z h = tt
+-- A number of 64 bits that passes the test of a default is one of its column.
+pub default_fits : (agg : Agg) (z : ℤ) → IsNarrow z → is_default agg z ≡ true → IsDefault agg z
+default_fits Sum z narrow h = omega (arith, ints, eqb-true (nat_abs z) 0 h)
+default_fits Min z narrow h = narrow
+default_fits Max z narrow h = narrow
+default_fits Replace z narrow h = narrow
 
 few_epochs : (l : Lineage) (c : Change) → is_ok (change_checked l c) ≡ true → epoch_of l < 1000
 few_epochs l c h = leb-false max_changes (epoch_of l) (passed_last (nat_le max_changes (epoch_of l)) _ (passed_first (rule_checked l c) _ h).1)

@@ -1,17 +1,26 @@
 -- Rows of a table or a view.
-use Rattle.std.specs.Prelude.{◌≡◌, List, [], ◌∷◌, length, Bool, true, ◌&&◌}
+use Rattle.std.specs.Prelude.{◌≡◌, ℤ, List, [], ◌∷◌, length, Bool, true, ◌&&◌, ⊤}
 use Rattle.std.specs.Ordering.{is_lt}
 use Rattle.std.specs.List.{AllByRecursion}
+use Rattle.mesa_value.specs.declared.Agg.{Agg}
+use Rattle.mesa_value.specs.Agg.{IsOf}
 use Rattle.mesa_key.specs.Order.{byte_cmp}
 use Rattle.mesa_key.specs.Spelling.{IsKey, key_of, key_spelling}
 use Rattle.mesa_schema.specs.declared.rows.Row.{Row}
-use Rattle.mesa_schema.specs.Columns.{Columns, kinds_of}
+use Rattle.mesa_schema.specs.Columns.{Columns, aggs_of, kinds_of}
 
--- A row has the form of these columns: its key spells a key of their types, and it has one value for each value column.
+-- column by column, the values are ones of these columns
+abbrev pub AreOf : List Agg → List ℤ → Type 0
+AreOf [] values = ⊤
+AreOf (agg ∷ aggs) [] = ⊤
+AreOf (agg ∷ aggs) (value ∷ values) = IsOf agg value × AreOf aggs values
+
+-- A row has the form of these columns: its key spells a key of their types, and it has one value for each value column, which is one of the column.
 pub record IsRowOf (s : Columns) (row : Row) : Type 0 where
   pub key : IsKey (kinds_of s) (key_of (kinds_of s) row.key)
   pub spelled : key_spelling (key_of (kinds_of s) row.key) ≡ row.key
   pub values : length row.values ≡ length s.values
+  pub ranges : AreOf (aggs_of s) row.values
 
 -- each of the rows has
 abbrev pub AreRowsOf : Columns → List Row → Type 0

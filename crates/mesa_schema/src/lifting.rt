@@ -7,7 +7,7 @@ ghost use Rattle.mesa_schema.specs.Lifting.{lifted_with, moved, value_from};
 
 use crate::epochs::change_columns;
 use crate::{Change, KeyColumn, Row, ValueColumn, place_of};
-use mesa_key::{KeyBytes, KeyValue, Values, encode_int, encode_text};
+use mesa_key::{Amount, KeyBytes, KeyValue, Values, encode_int, encode_text};
 use mesa_list::Items;
 use std::alloc::{AllocError, Global};
 
@@ -139,11 +139,11 @@ fn moved_values(values: &Values, sources: &[Source]) -> Result<Values, AllocErro
     Ok(Items::from_vec(found))
 }
 
-fn value_of(source: Source, values: &[i64]) -> i64
+fn value_of(source: Source, values: &[Amount]) -> Amount
     ensures { result ≡ value_from values.now source }
 {
     match source {
         Source::Kept(place) => values.get(place).copied().unwrap_or(0),
-        Source::Default(value) => value,
+        Source::Default(value) => Amount::from(value),
     }
 }

@@ -9,7 +9,7 @@ pub type Words = Items<u8>;
 pub type Fields = Items<Words>;
 
 /// For each sum column the absolute values of its rows, added up.
-pub type Totals = Items<u64>;
+pub type Totals = Items<u128>;
 
 /// A list of rows.
 pub type RowList = Items<Row>;

@@ -8,7 +8,7 @@ ghost use Rattle.mesa_value.specs.Agg.{Combines, IsDefault, IsOrderless, combine
 use mesa_list::Items;
 
 /// A value of a column.
-pub type Amount = i64;
+pub type Amount = i128;
 
 /// The values of a row, one for each value column.
 pub type Values = Items<Amount>;
@@ -39,12 +39,15 @@ pub fn combine(agg: Agg, old: Amount, new: Amount) -> Amount
     }
 }
 
-/// Whether the two values have one together: a sum may leave its type.
+/// Whether the two values have one together: a sum may leave its bound.
 pub fn combines(agg: Agg, old: Amount, new: Amount) -> bool
     ensures { IsTrue result ↔ Combines agg old new }
 {
     match agg {
-        Agg::Sum => old.checked_add(new).is_some(),
+        Agg::Sum => match old.checked_add(new) {
+            Some(sum) => i64::try_from(sum).is_ok(),
+            None => false,
+        },
         _ => true,
     }
 }

@@ -4,6 +4,7 @@ use Rattle.std.specs.Prelude.{pos, nat_abs, sum_by, map, filter}
 use Rattle.std.proofs.lemmas.List.{map-append, take-append-drop}
 use Rattle.std.proofs.lemmas.List.Elements.{filter-append}
 use Rattle.std.proofs.lemmas.List.Sums.{sum_by-append}
+use Rattle.mesa_schema.specs.mesa_value.Agg.{sum_bound}
 use Rattle.mesa_key.specs.Spelling.{key_of}
 use Rattle.mesa_schema.specs.declared.rows.Row.{Row}
 use Rattle.mesa_schema.specs.Changes.{columns_of}
@@ -23,7 +24,7 @@ use Rattle.mesa_answer.proofs.Passing.{one_more_row}
 pub sums_front : (s : Columns) (xs ys : List Row) → KeepsSums s (xs ++ ys) → KeepsSums s xs
 sums_front s xs ys keeps c p =
     let weigh : Row → ℕ = λ (row : Row). nat_abs (get_or row.values c (pos 0)) in
-    let all : sum_by weigh (xs ++ ys) < 2 ^ 63 = keeps c p in
+    let all : sum_by weigh (xs ++ ys) < sum_bound = keeps c p in
     omega (arith, all, sum_by-append weigh xs ys)
 
 -- rows that are put in one by one
@@ -37,12 +38,12 @@ sums_so_far s given rows i row lt is keeps =
 
 -- the matching rows of a file's first blocks are the first of all
 matching_split : {R : Type 0} (i : Input R) (f : KeyFilter) (all : List Row) (n : ℕ)
-    → filtered (columns_of i.evolving.value) f.terms (map (lift_by i) all) ≡ matching i f all n ++ filtered (columns_of i.evolving.value) f.terms (map (lift_by i) (rows_of (drop n (blocks_of (index_of i.reader).columns all))))
+    → filtered (columns_of i.evolving.value) f.terms (map (lift_by i) all) ≡ matching i f all n ++ filtered (columns_of i.evolving.value) f.terms (map (lift_by i) (rows_of (drop n (blocks_of (index_of i.reader).layout all))))
 matching_split i f all n =
-    let blocks : List (List Row) = blocks_of (index_of i.reader).columns all in
+    let blocks : List (List Row) = blocks_of (index_of i.reader).layout all in
     let test = λ (row : Row). meets (key_of (kinds_of (columns_of i.evolving.value)) row.key) f.terms in
     let lift : Row → Row = lift_by i in
-    ap (λ (rows : List Row). filter test (map lift rows)) (sym (blocks_rows (index_of i.reader).columns all) ∙ ap rows_of (sym (take-append-drop n blocks)) ∙ rows_of-append (take n blocks) (drop n blocks))
+    ap (λ (rows : List Row). filter test (map lift rows)) (sym (blocks_rows (index_of i.reader).layout all) ∙ ap rows_of (sym (take-append-drop n blocks)) ∙ rows_of-append (take n blocks) (drop n blocks))
     ∙ ap (filter test) (map-append lift (rows_of (take n blocks)) (rows_of (drop n blocks)))
     ∙ filter-append test (map lift (rows_of (take n blocks))) (map lift (rows_of (drop n blocks)))
 
@@ -51,5 +52,5 @@ pub sums_scanned : {R : Type 0} (i : Input R) (f : KeyFilter) (all before : List
     → KeepsSums (columns_of i.evolving.value) (before ++ matching i f all n)
 sums_scanned i f all before n keeps =
     let s : Columns = columns_of i.evolving.value in
-    let left : List Row = filtered s f.terms (map (lift_by i) (rows_of (drop n (blocks_of (index_of i.reader).columns all)))) in
+    let left : List Row = filtered s f.terms (map (lift_by i) (rows_of (drop n (blocks_of (index_of i.reader).layout all)))) in
     sums_front s (before ++ matching i f all n) left (subst (KeepsSums s) (ap (λ (rows : List Row). before ++ rows) (matching_split i f all n) ∙ sym (append_assoc before (matching i f all n) left)) keeps)

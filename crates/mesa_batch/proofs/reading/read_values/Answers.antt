@@ -1,6 +1,6 @@
-use Rattle.std.proofs.Common.{◌+◌, arith, subst, sym, ◌∙◌, rules}
+use Rattle.std.proofs.Common.{◌≡◌, ◌+◌, ◌++◌, [], ◌∷◌, ℤ, ap, arith, subst, sym, ◌∙◌, rules}
 use mir.Val.{SFits}
-use mir.Syntax.{w64}
+use mir.Syntax.{w64, w128}
 use Rattle.std.proofs.lemmas.Int.{to_z-of_z}
 use Rattle.mesa_batch.proofs.LoadedRows.{none_at, some_at}
 use Rattle.mesa_batch.proofs.Fields.{AreRead, value_missing, value_bad, value_next, values_left, values_done}
@@ -19,7 +19,9 @@ pub columns-preserved : goal.columns-preserved
 columns-preserved c =
     let found = some_at c.args.fields.now c.columns.place c.in-Some.field.now c.in-Some.ensures in
     let value : SFits w64 c.in-Some-signed.value = search rules in
-    let pushed = simp to_z-of_z at c.in_ok-push.ensures.ok in
+    let given : c.from.result ≡ c.in-Some-signed.value = simp to_z-of_z at c.from.ensures in
+    let wide : SFits w128 c.from.result = search rules in
+    let pushed = c.in_ok-push.ensures.ok ∙ ap (λ (z : ℤ). c.columns.values ++ z ∷ []) (to_z-of_z w128 c.from.result wide ∙ given) in
     subst (AreRead c.args.columns.now c.args.fields.now c.args.first (c.columns.place + 1)) (sym pushed) (
     value_next c.args.columns.now c.args.fields.now c.args.first c.columns.place c.in-Some.field.now c.columns.values c.in-Some-signed.value c.columns-test.true
     found.0 found.1 (sym c.signed.ensures ∙ c.in-Some-signed.is) c.columns.invariant)

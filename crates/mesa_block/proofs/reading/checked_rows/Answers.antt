@@ -8,5 +8,5 @@ overflow_cast-result c = omega (arith, c.requires.few, bad_text_small c.args.kin
 
 pub overflow_cast-result-in-Some-disordered : goal.overflow_cast-result-in-Some-disordered
 overflow_cast-result-in-Some-disordered c =
-    let many : length c.in_ok-rows.rows.items ≡ c.args.r = ap length c.in_ok-rows.ensures ∙ length-map-range_with_len _ 0 c.args.r in
-    omega (arith, c.requires.few, many, ap length c.deref.ensures.value, order_small c.deref.result.now 0 c.in-Some-disordered.row c.in-Some-disordered.ensures)
+    let many : length c.in_ok-rows.rows ≡ c.args.r = ap length c.in_ok-rows.ensures ∙ length-map-range_with_len _ 0 c.args.r in
+    omega (arith, c.requires.few, many, order_small c.in_ok-rows.rows 0 c.in-Some-disordered.row c.in-Some-disordered.ensures)

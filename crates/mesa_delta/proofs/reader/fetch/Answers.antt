@@ -1,7 +1,7 @@
 use Rattle.std.proofs.Common.{◌≡◌, ◌∙◌, List, ℕ, inr, rules, sym, ap, subst}
 use Rattle.std.specs.Prelude.{IfNone}
 use Rattle.sha2.specs.Sha256.{sha256}
-use Rattle.mesa_schema.specs.Columns.{Columns}
+use Rattle.mesa_block.specs.Layout.{Layout}
 use Rattle.mesa_disk.specs.mesa_file.declared.damage.Seen.TheVariants.{Fits, Misfit}
 use Rattle.mesa_delta.specs.declared.place.Entry.{Entry}
 use Rattle.mesa_delta.specs.Damages.{IsPiece, IsMisfit}
@@ -18,8 +18,10 @@ returns-in-None-clause-damaged g c = λ d is.
     let at = c.entry-entry.ensures.entry in
     let content = g.R.FileReader.bytes c.args.reader.now in
     let same : c.misfit.result ≡ d = cc in
-    let none : IsNoneIn c.schema.result.now c.entry-entry.result.short c.deref-2.result.now = subst (λ o. IfNone o (IsNoneIn c.schema.result.now c.entry-entry.result.short c.deref-2.result.now)) c.in-None.is c.in_ok-block.ensures.none in
-    let here : IsNoneIn x.columns e.short piece = subst (λ (l : List ℕ). IsNoneIn x.columns e.short l) c.deref-2.ensures.value (subst (λ (k : Entry). IsNoneIn x.columns k.short c.deref-2.result.now) at (subst (λ (s : Columns). IsNoneIn s c.entry-entry.result.short c.deref-2.result.now) c.schema.ensures none)) in
+    let s : Layout = record { format = c.format.result; columns = c.schema.result.now } in
+    let layout : s ≡ x.layout = λ i. record { format = c.format.ensures i; columns = c.schema.ensures i } in
+    let none : IsNoneIn s c.entry-entry.result.short c.deref-2.result.now = subst (λ o. IfNone o (IsNoneIn s c.entry-entry.result.short c.deref-2.result.now)) c.in-None.is c.in_ok-block.ensures.none in
+    let here : IsNoneIn x.layout e.short piece = subst (λ (l : List ℕ). IsNoneIn x.layout e.short l) c.deref-2.ensures.value (subst (λ (k : Entry). IsNoneIn x.layout k.short c.deref-2.result.now) at (subst (λ (s : Layout). IsNoneIn s c.entry-entry.result.short c.deref-2.result.now) layout none)) in
     let never = no_block c.fits_alone.ensures x c.args.i piece c.entry-entry.ensures.index c.requires here in
     let read : IsPiece content e.offset e.len piece = subst (λ (k : Entry). IsPiece content k.offset k.len piece) at c.in_ok-read_piece.ensures.piece in
     let found : sha256 piece ≡ c.entry-entry.result.digest = search rules in

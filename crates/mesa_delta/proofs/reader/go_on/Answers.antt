@@ -1,5 +1,8 @@
 use Rattle.std.proofs.Common.{◌≡◌, ◌∙◌, rules, sym, ap, true, false}
-use Rattle.mesa_schema.specs.Columns.{Columns}
+use Rattle.std.proofs.lemmas.Option.{get_or_from_slice_get}
+use Rattle.mesa_schema.specs.declared.rows.Row.{Row}
+use Rattle.mesa_block.specs.Layout.{Layout}
+use Rattle.mesa_block.specs.Lent.{lent}
 use Rattle.mesa_delta.specs.declared.place.Entry.{Entry}
 use Rattle.mesa_delta.specs.Packing.{goes_on}
 use Rattle.mesa_delta.proofs.Going.{never_allowed, never_counted, one_more_of}
@@ -8,8 +11,12 @@ use Rattle.mesa_delta.proofs.reader.go_on.Goals as goal
 pub returns-then-not-allows-clause-never : goal.returns-then-not-allows-clause-never
 returns-then-not-allows-clause-never c = λ d is.
     let x = c.args.index.now in
-    let off : goes_on x.columns c.args.run.now c.index-rows-0.result ≡ false = ap (λ (s : Columns). goes_on s c.args.run.now c.index-rows-0.result) (sym c.schema.ensures) ∙ sym c.allows.ensures ∙ c.if-not-allows.true in
-    never_allowed c.fits_alone.ensures c.grows_by_rows.ensures x c.args.run.now c.args.rows.now c.index-rows-0.result c.entry-entry.ensures.index c.requires.some c.index-rows-0.is off
+    let row : Row = lent c.row.result in
+    let at = sym (get_or_from_slice_get c.args.rows.now 0 row row c.row.ensures) in
+    let s : Layout = record { format = c.format.result; columns = c.schema.result.now } in
+    let layout : s ≡ x.layout = λ i. record { format = c.format.ensures i; columns = c.schema.ensures i } in
+    let off : goes_on x.layout c.args.run.now row ≡ false = sym (ap (λ (s : Layout). goes_on s c.args.run.now row) layout) ∙ sym c.allows.ensures ∙ c.if-not-allows.true in
+    never_allowed c.fits_alone.ensures c.grows_by_rows.ensures x c.args.run.now c.args.rows.now row c.entry-entry.ensures.index c.requires.some at off
 
 pub returns-then-after-rows-clause-never : goal.returns-then-after-rows-clause-never
 returns-then-after-rows-clause-never c = λ d is.
@@ -20,6 +27,10 @@ pub returns-clause-more : goal.returns-clause-more
 returns-clause-more c = λ parts h b.
     let x = c.args.index.now in
     let after = c.in_ok-after.after in
-    let e : goes_on x.columns c.args.run.now c.index-rows-0.result ≡ true = ap (λ (s : Columns). goes_on s c.args.run.now c.index-rows-0.result) (sym c.schema.ensures) ∙ sym c.allows.ensures ∙ c.if-not-allows.false in
+    let row : Row = lent c.row.result in
+    let at = sym (get_or_from_slice_get c.args.rows.now 0 row row c.row.ensures) in
+    let s : Layout = record { format = c.format.result; columns = c.schema.result.now } in
+    let layout : s ≡ x.layout = λ i. record { format = c.format.ensures i; columns = c.schema.ensures i } in
+    let e : goes_on x.layout c.args.run.now row ≡ true = sym (ap (λ (s : Layout). goes_on s c.args.run.now row) layout) ∙ sym c.allows.ensures ∙ c.if-not-allows.false in
     let p = c.in_ok-after.ensures in
-    one_more_of c.grows_by_rows.ensures x c.args.run.now after parts c.args.rows.now c.index-rows-0.result h b c.index-rows-0.is e p.next p.rows p.last p.count (p.len ∙ ap (λ (e : Entry). e.len) c.entry-entry.ensures.entry)
+    one_more_of c.grows_by_rows.ensures x c.args.run.now after parts c.args.rows.now row h b at e p.next p.rows p.last p.count (p.len ∙ ap (λ (e : Entry). e.len) c.entry-entry.ensures.entry)

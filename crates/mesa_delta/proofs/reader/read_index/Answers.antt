@@ -1,5 +1,6 @@
 use Rattle.std.proofs.Common.{◌≡◌, ◌-◌, ◌∙◌, length, inr, rules, sym, ap, subst}
 use Rattle.sha2.specs.Sha256.{sha256}
+use Rattle.mesa_block.specs.Layout.{Layout}
 use Rattle.mesa_delta.specs.Indexed.{IsIndexOf, tail_length}
 use Rattle.mesa_delta.specs.Reading.{tail_place}
 use Rattle.mesa_delta.specs.Damages.{IsPiece, IsMisfit}
@@ -11,18 +12,18 @@ use Rattle.mesa_delta.proofs.reader.read_index.Goals as goal
 pub returns-in-Some-clause-over : goal.returns-in-Some-clause-over
 returns-in-Some-clause-over g c = λ b told.
     let file = c.args.file.now in
-    let s = c.args.schema.now in
+    let s : Layout = record { format = c.args.file.now.format; columns = c.args.schema.now } in
     let piece = c.read_piece.new.bytes.items in
     let place = c.saturating_sub-place.result in
     let found : IsIndexOf file s piece c.in-Some.index = search rules in
     let len : length b ≡ file.len = c.check_length.ensures.told b told ∙ c.in_default.ensures.ok in
-    let at : place ≡ file.len - tail_length s file.blocks = c.saturating_sub-place.ensures ∙ ap (λ n. file.len - n) c.tail_len.ensures in
+    let at : place ≡ file.len - tail_length s.columns file.blocks = c.saturating_sub-place.ensures ∙ ap (λ n. file.len - n) c.tail_len.ensures in
     over_is file s piece b c.in-Some.index place found len at (c.in_ok-read_piece.ensures.piece.told b told)
 
 pub returns-in-None-clause-damaged : goal.returns-in-None-clause-damaged
 returns-in-None-clause-damaged g c = λ d is.
     let file = c.args.file.now in
-    let s = c.args.schema.now in
+    let s : Layout = record { format = c.args.file.now.format; columns = c.args.schema.now } in
     let piece = c.read_piece.new.bytes.items in
     let place = c.saturating_sub-place.result in
     let at : place ≡ tail_place s file = c.saturating_sub-place.ensures ∙ ap (λ n. file.len - n) c.tail_len.ensures in

@@ -1,5 +1,8 @@
-use Rattle.std.proofs.Common.{◌≡◌, ◌∙◌, ◌++◌, ◌∷◌, List, ℕ, ℤ, length, arith, ap, sym, subst}
+use Rattle.std.proofs.Common.{◌≡◌, ◌∙◌, ◌++◌, ◌∷◌, List, ℕ, length, arith, ap, subst}
 use Rattle.std.specs.Int.{w16, to_be_bytes}
+use Rattle.std.proofs.lemmas.List.{length-map}
+use Rattle.mesa_schema.specs.declared.columns.ValueColumn.{ValueColumn}
+use Rattle.mesa_block.specs.Layout.{width_of}
 use Rattle.mesa_block.specs.Fill.{AreOver, Built}
 use Rattle.mesa_block.specs.Spelling.{block}
 use Rattle.mesa_block.proofs.Held.{block_held, count_over, keys_held}
@@ -13,7 +16,7 @@ put_head-requires c =
 pub put_keys-requires : goal.put_keys-requires
 put_keys-requires c =
     let b = c.self.inside in
-    rw c.deref.ensures.value (keys_held c.reads_back.ensures.passes b.schema b.kinds.items b.keys b.values.items b.len c.self.invariant)
+    rw c.deref.ensures.value (keys_held c.reads_back.ensures.passes (record { format = b.format; columns = b.schema }) b.kinds.items b.widths.items b.size b.keys b.values.items b.len c.self.invariant)
 
 pub returns-clause-spelled : goal.returns-clause-spelled
 returns-clause-spelled c =
@@ -21,7 +24,8 @@ returns-clause-spelled c =
     let h = c.self.invariant in
     let head : c.put_head.new.out.items ≡ 0 ∷ to_be_bytes w16 c.len.result = c.in_ok-put_head.ensures ∙ ap (λ (l : List ℕ). l ++ 0 ∷ to_be_bytes w16 c.len.result) c.clear.ensures.items in
     let keys = rw c.deref.ensures.value at c.in_ok-put_keys.ensures in
-    let over = subst (λ (values : List ℤ). AreOver (length c.values.result.now) b.keys values) (sym c.deref-2.ensures.value) (rw c.values.ensures.same h.over) in
-    let values = rw (c.deref-2.ensures.value, c.values.ensures.same) at (c.in_ok-put_values.ensures b.keys over) in
-    subst (λ (x : Built). c.put_values.new.out.items ≡ block x.columns x.rows) c.self.view_is
-    (block_held b.schema b.kinds.items b.keys b.values.items b.len c.len.result c.put_head.new.out.items c.put_keys.new.out.items c.put_values.new.out.items h c.len.ensures head keys values)
+    let count : length b.widths.items ≡ length b.schema.values = ap length h.widths ∙ length-map b.schema.values (λ (c : ValueColumn). width_of b.format c.agg) in
+    let over : AreOver (length c.deref-3.result.now) b.keys c.deref-2.result.now = rw (c.deref-2.ensures.value, c.deref-3.ensures.value, count) h.over in
+    let values = rw (c.deref-2.ensures.value, c.deref-3.ensures.value, count) at (c.in_ok-put_values.ensures b.keys over) in
+    subst (λ (x : Built). c.put_values.new.out.items ≡ block x.layout x.rows) c.self.view_is
+    (block_held (record { format = b.format; columns = b.schema }) b.kinds.items b.widths.items b.size b.keys b.values.items b.len c.len.result c.put_head.new.out.items c.put_keys.new.out.items c.put_values.new.out.items h c.len.ensures head keys values)

@@ -1,5 +1,7 @@
 use Rattle.std.proofs.Common.{◌≡◌, ◌<◌, ◌-◌, ◌+◌, ◌∙◌, ℕ, List, [], ◌∷◌, length, get_or, arith, refl, ap, sym, add-one}
 use Rattle.mesa_schema.specs.declared.rows.Row.{Row}
+use Rattle.mesa_block.specs.Lent.{lent}
+use Rattle.std.proofs.lemmas.Option.{get_or_from_slice_get}
 use Rattle.mesa_delta.specs.Summary.{last_key}
 use Rattle.mesa_delta.proofs.run.Run.after.Goals as goal
 
@@ -15,4 +17,8 @@ last_at (a ∷ b ∷ rows) d some =
     ap (λ (n : ℕ). (get_or (a ∷ b ∷ rows) n d).key) i ∙ at_next a (b ∷ rows) d (length rows) ∙ ap (λ (n : ℕ). (get_or (b ∷ rows) n d).key) (sym j) ∙ last_at (b ∷ rows) d (omega arith)
 
 pub returns-clause-last : goal.returns-clause-last
-returns-clause-last c = c.in_ok-copy.ensures ∙ last_at c.args.rows.now _ c.requires.some
+returns-clause-last c =
+    let rows = c.args.rows.now in
+    let row : Row = lent c.row.result in
+    let there = rw c.len-2.ensures at c.row.ensures in
+    c.in_ok-from_bytes.ensures ∙ sym (ap (λ (r : Row). r.key) (get_or_from_slice_get rows (length rows - 1) row row there)) ∙ last_at rows row c.requires.some

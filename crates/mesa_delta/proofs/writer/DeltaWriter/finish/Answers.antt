@@ -13,4 +13,4 @@ returns-in-Ok-finish-clause-file g c = λ rows h bytes at.
 pub returns-in-Ok-finish-clause-reference : goal.returns-in-Ok-finish-clause-reference
 returns-in-Ok-finish-clause-reference g c = λ rows h.
     let r = c.reference-file.ensures in
-    reference_of g.T.Draft.bytes c.args.self c.seal.new.self.draft c.in-Ok.sealed c.reference-file.result rows h c.in-Ok.ensures.sealed r.id r.len r.rows (search rules) r.first r.last r.aggregates r.digest
+    reference_of g.T.Draft.bytes c.args.self c.seal.new.self.draft c.in-Ok.sealed c.reference-file.result rows h c.in-Ok.ensures.sealed r.format r.id r.len r.rows (search rules) r.first r.last r.aggregates r.digest

@@ -1,0 +1,12 @@
+use Rattle.std.proofs.lemmas.Result.{err_from_is_err_and}
+use Rattle.mesa_block.specs.Layout.{size_of}
+use Rattle.mesa_block.proofs.Pieces.{cells_fault, cells_read}
+use Rattle.mesa_block.proofs.reading.numbers_of.Goals as goal
+
+pub returns-in_err-cells : goal.returns-in_err-cells
+returns-in_err-cells c =
+    let p = err_from_is_err_and c.from_residual.result c.from_residual.ensures.1 in
+    rw (p.1, p.2) (λ other. cells_fault (size_of c.args.width) c.args.r c.args.bytes.now _ (rw c.size.ensures at (c.in_err-cells.ensures other)))
+
+pub returns : goal.returns
+returns c = rw c.new.ensures (cells_read (size_of c.args.width) c.args.r c.args.bytes.now c.in_ok-cells.cells.now c.in_ok-cells.rest.now (rw c.size.ensures at c.in_ok-cells.ensures))

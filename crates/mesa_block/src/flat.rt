@@ -1,0 +1,256 @@
+// The rows of a block, held flat.
+ghost use Rattle.std.specs.Prelude.{◌≡◌, ◌<◌, ◌≤◌, ◌+◌, ◌*◌, ℕ, ◌++◌, [], List, length, map, take, drop, get_or, slice_get, Some, IfOk, OnOk};
+ghost use Rattle.mesa_block.specs.Layout.{number};
+ghost use Rattle.mesa_block.specs.Lent.{lent};
+ghost use Rattle.mesa_block.specs.Spelling.{key_of};
+ghost use Rattle.mesa_block.specs.Reading.{key_at, values_at, rows_of, sealed};
+
+use crate::Width;
+use crate::column::{Column, Numbers};
+use mesa_key::KeyType;
+use mesa_list::Fields;
+use mesa_schema::Row;
+use mesa_value::Amount;
+use std::alloc::{AllocError, Global};
+use std::marker::Model;
+
+/// A row that is lent.
+#[derive(Clone, Copy)]
+pub struct LentRow<'a> {
+    pub key: &'a [u8],
+    pub values: &'a [Amount],
+}
+
+/// A row, lent.
+pub fn lend(row: &Row) -> LentRow<'_>
+    ensures { lent result ≡ row.now }
+{
+    LentRow {
+        key: row.key.as_slice(),
+        values: row.values.as_slice(),
+    }
+}
+
+/// The rows of a block, as they were read: their keys stand in one buffer, and their values, row by row, in another.
+#[derive(Drop)]
+pub struct Block {
+    keys: Fields,
+    values: Vec<Amount>,
+    // How many values a row has.
+    count: usize,
+}
+
+impl Model for Block {
+    ghost use Rattle.std.specs.Prelude.{List};
+    ghost use Rattle.mesa_schema.specs.declared.rows.Row.{Row};
+    ghost use Rattle.mesa_block.specs.Fill.{AreOver, rows_over};
+
+    ghost Value = { List Row };
+
+    ghost view = { λ b. rows_over b.count b.keys b.values.items };
+
+    ghost invariant = { λ b. AreOver b.count b.keys b.values.items };
+}
+
+impl Block {
+    /// How many rows there are.
+    pub fn len(&self) -> usize
+        ensures { result ≡ length self.now }
+    {
+        self.keys.len()
+    }
+
+    /// The keys, one behind the other.
+    pub(crate) fn keys(&self) -> &Fields
+        ensures { result.now ≡ map key_of self.now }
+    {
+        &self.keys
+    }
+
+    /// The row at a place, counted from 0.
+    pub fn row(&self, i: usize) -> LentRow<'_>
+        requires { i < length self.now }
+        ensures { slice_get self.now i ≡ Some (lent result) }
+    {
+        match self.keys.get(i) {
+            Some(key) => LentRow {
+                key,
+                values: values_at_row(&self.values, self.count, i),
+            },
+            None => unreachable!(),
+        }
+    }
+}
+
+// The values of a row, where each row has so many.
+fn values_at_row(values: &[Amount], count: usize, i: usize) -> &[Amount]
+    requires { i * count + count ≤ length values.now }
+    ensures { result.now ≡ take count (drop (i * count) values.now) }
+{
+    let begin = i * count;
+    &values[begin..begin + count]
+}
+
+// The number that a value's cell spells.
+fn number_of(width: Width, cell: &[u8]) -> Amount
+    ensures { result ≡ number width cell.now }
+{
+    match width {
+        Width::Eight => Amount::from(narrow_number(cell)),
+        Width::Sixteen => wide_number(cell),
+    }
+}
+
+// The number that eight bytes spell.
+fn narrow_number(cell: &[u8]) -> i64
+    ensures { result ≡ number Width.Eight cell.now }
+{
+    match cell {
+        [a, b, c, d, e, f, g, h] => i64::from_be_bytes([*a, *b, *c, *d, *e, *f, *g, *h]),
+        _ => narrow_in(cell),
+    }
+}
+
+// The number of any bytes, the first eight of them.
+fn narrow_in(cell: &[u8]) -> i64
+    ensures { result ≡ number Width.Eight cell.now }
+{
+    i64::from_be_bytes([
+        byte_of(cell, 0),
+        byte_of(cell, 1),
+        byte_of(cell, 2),
+        byte_of(cell, 3),
+        byte_of(cell, 4),
+        byte_of(cell, 5),
+        byte_of(cell, 6),
+        byte_of(cell, 7),
+    ])
+}
+
+// The number that sixteen bytes spell.
+fn wide_number(cell: &[u8]) -> Amount
+    ensures { result ≡ number Width.Sixteen cell.now }
+{
+    match cell {
+        [a, b, c, d, e, f, g, h, i, j, k, l, m, n, o, p] => Amount::from_be_bytes([
+            *a, *b, *c, *d, *e, *f, *g, *h, *i, *j, *k, *l, *m, *n, *o, *p,
+        ]),
+        _ => wide_in(cell),
+    }
+}
+
+// The number of any bytes, the first sixteen of them.
+fn wide_in(cell: &[u8]) -> Amount
+    ensures { result ≡ number Width.Sixteen cell.now }
+{
+    Amount::from_be_bytes([
+        byte_of(cell, 0),
+        byte_of(cell, 1),
+        byte_of(cell, 2),
+        byte_of(cell, 3),
+        byte_of(cell, 4),
+        byte_of(cell, 5),
+        byte_of(cell, 6),
+        byte_of(cell, 7),
+        byte_of(cell, 8),
+        byte_of(cell, 9),
+        byte_of(cell, 10),
+        byte_of(cell, 11),
+        byte_of(cell, 12),
+        byte_of(cell, 13),
+        byte_of(cell, 14),
+        byte_of(cell, 15),
+    ])
+}
+
+fn byte_of(cell: &[u8], k: usize) -> u8
+    ensures { result ≡ get_or cell.now k 0 }
+{
+    if k < cell.len() { cell[k] } else { 0 }
+}
+
+fn put_sealed(key: &mut Vec<u8>, kind: KeyType, cell: &[u8]) -> Result<(), AllocError>
+    ensures { OnOk result (key.new.items ≡ key.old.items ++ sealed kind cell.now) }
+{
+    key.extend_from_slice(cell)?;
+    match kind {
+        KeyType::Int => {}
+        KeyType::Text => key.push(0)?,
+    }
+    Ok(())
+}
+
+// Puts the key of the row i into the buffer, in place of what is there.
+fn put_key(
+    key: &mut Vec<u8>,
+    kinds: &[KeyType],
+    columns: &[Column],
+    i: usize,
+) -> Result<(), AllocError>
+    ensures { OnOk result (key.new.items ≡ key_at kinds.now columns.now i) }
+{
+    key.clear();
+    for j in 0..kinds.len() {
+        if j >= columns.len() {
+            return Ok(());
+        }
+        put_sealed(key, kinds[j], columns[j].cell(i))?;
+    }
+    Ok(())
+}
+
+// Adds the values of the row i behind those that are there.
+fn put_values(
+    found: &mut Vec<Amount>,
+    widths: &[Width],
+    columns: &[Numbers],
+    i: usize,
+) -> Result<(), AllocError>
+    ensures { OnOk result (found.new.items ≡ found.old.items ++ values_at widths.now columns.now i) }
+{
+    for j in 0..widths.len() {
+        if j >= columns.len() {
+            return Ok(());
+        }
+        found.push(number_of(widths[j], columns[j].cell(i)))?;
+    }
+    Ok(())
+}
+
+// How many values a row has.
+fn count_of(widths: &[Width], columns: &[Numbers]) -> usize
+    ensures { (i : ℕ) → length (values_at widths.now columns.now i) ≡ result }
+{
+    if widths.len() < columns.len() {
+        widths.len()
+    } else {
+        columns.len()
+    }
+}
+
+// The rows of columns.
+pub(crate) fn made_rows(
+    alloc: Global,
+    kinds: &[KeyType],
+    widths: &[Width],
+    keys: &[Column],
+    values: &[Numbers],
+    r: usize,
+) -> Result<Block, AllocError>
+    ensures { IfOk result (λ b. b ≡ rows_of kinds.now widths.now keys.now values.now r) }
+{
+    let count = count_of(widths, values);
+    let mut found_keys = Fields::new(alloc);
+    let mut found = Vec::new(alloc);
+    let mut key = Vec::new(alloc);
+    for i in 0..r {
+        put_key(&mut key, kinds, keys, i)?;
+        found_keys.push(&key)?;
+        put_values(&mut found, widths, values, i)?;
+    }
+    Ok(Block {
+        keys: found_keys,
+        values: found,
+        count,
+    })
+}
