@@ -91,7 +91,7 @@ start_new b oldest e =
 
 -- a table without rows
 pub record IsNew (s : Shelves) (t : Table) : Type 0 where
-  pub lineage : t.evolving.value ≡ record { first = t.evolving.value.first; changes = []; views = [] }
+  pub lineage : t.evolving.value ≡ record { begins = 0; first = t.evolving.value.first; changes = []; views = [] }
   pub oldest : t.oldest ≡ s.floor
   pub totals : t.totals ≡ replicate (sums_in (aggs_of t.evolving.value.first)) 0
   pub base : option_map ending_of t.base ≡ option_map empty_base (base_before s.floor)

@@ -17,7 +17,7 @@ pub(crate) fn new_lineage(
     keys: &Items<KeyColumn>,
     values: &Items<ValueColumn>,
 ) -> Result<Arc<Evolving>, AllocError>
-    ensures { IfOk result (λ e. e.value ≡ record { first = record { keys = keys.now; values = values.now }; changes = []; views = [] }) }
+    ensures { IfOk result (λ e. e.value ≡ record { begins = 0; first = record { keys = keys.now; values = values.now }; changes = []; views = [] }) }
 {
     let keys = keys.copy()?.into_vec();
     let values = values.copy()?.into_vec();

@@ -36,7 +36,7 @@ use Rattle.mesa_examine.specs.declared.totals.Sums.{Sums}
 -- ---- a table that was made with these columns and never changed
 
 abbrev pub made_with : Columns → Lineage
-made_with s = record { first = s; changes = []; views = [] }
+made_with s = record { begins = 0; first = s; changes = []; views = [] }
 
 lifted_same : (s : Columns) (rows : List Row) → map (lifted (made_with s) 0 (epoch_of (made_with s))) rows ≡ rows
 lifted_same s [] = refl

@@ -68,7 +68,7 @@ pub fn examine<M: Made, D: Disk<M>>(
 // A table that was made with the columns of a file's epoch, and how the file's rows are lifted.
 fn alone(alloc: Global, wanted: &Wanted) -> Result<(Arc<Evolving>, Lift), AllocError>
     requires { HasEpoch wanted.now }
-    ensures columns { IfOk result (λ x. x.0.value ≡ record { first = wanted_columns wanted.now; changes = []; views = [] }) }
+    ensures columns { IfOk result (λ x. x.0.value ≡ record { begins = 0; first = wanted_columns wanted.now; changes = []; views = [] }) }
     ensures lift { IfOk result (λ x. Lifts x.1 wanted.now.evolving.now.value wanted.now.epoch) }
 {
     let schema = wanted.evolving.schema_at(wanted.epoch)?;

@@ -51,7 +51,7 @@ abbrev single : ℕ → List ℕ → Delta
 single k digest = record { epoch = 0; files = Some (record { file = file k digest; views = [] }); totals = Some [] }
 
 abbrev lineage : Lineage
-lineage = record { first = record { keys = record { name = codes "k"; kind = kind.Int } ∷ []; values = record { name = codes "v"; agg = agg.Replace } ∷ [] }; changes = []; views = [] }
+lineage = record { begins = 0; first = record { keys = record { name = codes "k"; kind = kind.Int } ∷ []; values = record { name = codes "v"; agg = agg.Replace } ∷ [] }; changes = []; views = [] }
 
 abbrev before : Catalog
 before = record {

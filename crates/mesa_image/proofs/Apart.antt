@@ -24,7 +24,7 @@ abbrev bodies : List (List ℕ)
 bodies = run_1 ∷ table 116 ∷ table 117 ∷ empty_batch 0 ∷ empty_batch 1 ∷ expire_table 0 1 ∷ []
 
 abbrev lineage : Lineage
-lineage = record { first = record { keys = record { name = codes "k"; kind = kind.Int } ∷ []; values = record { name = codes "v"; agg = agg.Sum } ∷ [] }; changes = []; views = [] }
+lineage = record { begins = 0; first = record { keys = record { name = codes "k"; kind = kind.Int } ∷ []; values = record { name = codes "v"; agg = agg.Sum } ∷ [] }; changes = []; views = [] }
 
 abbrev stock : List ℕ → ℕ → Stock
 stock name oldest = record { name = name; lineage = lineage; totals = 0 ∷ []; oldest = oldest; base = None; cumulatives = []; singles = empty_delta ∷ empty_delta ∷ [] }

@@ -56,6 +56,7 @@ file_w = record { id = first_run 2; len = 103; rows = 1; blocks = 1; first = key
 
 abbrev lineage : Lineage
 lineage = record {
+  begins = 0;
   first = record { keys = record { name = codes "a"; kind = kind.Int } ∷ record { name = codes "b"; kind = kind.Int } ∷ []; values = record { name = codes "v"; agg = agg.Sum } ∷ [] };
   changes = [];
   views = record { name = codes "w"; keys = codes "a" ∷ []; values = codes "v" ∷ [] } ∷ [];

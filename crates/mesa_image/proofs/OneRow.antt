@@ -32,7 +32,7 @@ abbrev pub file : FileRef
 file = record { id = first_run 0; len = 103; rows = 1; blocks = 1; first = key 1; last = key 1; aggregates = pos 5 ∷ []; digest = digest }
 
 abbrev lineage : Lineage
-lineage = record { first = record { keys = record { name = codes "k"; kind = kind.Int } ∷ []; values = record { name = codes "v"; agg = agg.Sum } ∷ [] }; changes = []; views = [] }
+lineage = record { begins = 0; first = record { keys = record { name = codes "k"; kind = kind.Int } ∷ []; values = record { name = codes "v"; agg = agg.Sum } ∷ [] }; changes = []; views = [] }
 
 abbrev pub bodies : List (List ℕ)
 bodies = run_1 ∷ table_t ∷ batch_0 ∷ empty_batch 1 ∷ []

@@ -61,7 +61,7 @@ start_in t = start_of (ranges_of t)
 
 -- what stands for a table that isn't there
 abbrev pub no_stock : Stock
-no_stock = record { name = []; lineage = record { first = record { keys = []; values = [] }; changes = []; views = [] }; totals = []; oldest = 0; base = None; cumulatives = []; singles = [] }
+no_stock = record { name = []; lineage = record { begins = 0; first = record { keys = []; values = [] }; changes = []; views = [] }; totals = []; oldest = 0; base = None; cumulatives = []; singles = [] }
 
 -- the table of a number
 abbrev pub stock_at : Catalog → ℕ → Stock
@@ -81,7 +81,7 @@ empty_base to = record { to = to; delta = empty_delta }
 abbrev pub new_stock : Catalog → List ℕ → Columns → Stock
 new_stock c name s = record {
   name = name;
-  lineage = record { first = s; changes = []; views = [] };
+  lineage = record { begins = 0; first = s; changes = []; views = [] };
   totals = replicate (sums_in (aggs_of s)) 0;
   oldest = c.floor;
   base = option_map empty_base (base_before c.floor);

@@ -20,19 +20,24 @@ use Rattle.mesa_image_laws.specs.Brought.{Replaces}
 use Rattle.mesa_image_laws.proofs.Contents.{drop_take}
 use Rattle.mesa_image_laws.proofs.Formed.{AreFormed, AreOfEpochs, rows_formed}
 
-pub columns_on : (l : Lineage) (a b : ℕ) → a ≤ b → columns_after (columns_at l a) (take (b - a) (drop a l.changes)) ≡ columns_at l b
-columns_on l a b le = sym (columns_after-append l.first (take a l.changes) (take (b - a) (drop a l.changes))) ∙ ap (columns_after l.first) (drop_take a b l.changes le)
+pub columns_on : (l : Lineage) (a b : ℕ) → a ≤ b → columns_after (columns_at l a) (take (b - l.begins - (a - l.begins)) (drop (a - l.begins) l.changes)) ≡ columns_at l b
+columns_on l a b le =
+    let i = a - l.begins in
+    let j = b - l.begins in
+    sym (columns_after-append l.first (take i l.changes) (take (j - i) (drop i l.changes))) ∙ ap (columns_after l.first) (drop_take i j l.changes (omega (arith, le)))
 
 -- A row lifted to an epoch and then to the present one.
 pub lifted_twice : (l : Lineage) (a b : ℕ) (row : Row) → a ≤ b → lifted l a (epoch_of l) row ≡ lifted l b (epoch_of l) (lifted l a b row)
 lifted_twice l a b row le =
-    let front = take (b - a) (drop a l.changes) in
-    let at : a + (b - a) ≡ b = omega (arith, le) in
-    let split : front ++ drop b l.changes ≡ drop a l.changes = ap (λ ds. front ++ ds) (sym (drop-drop (b - a) a l.changes ∙ ap (λ n. drop n l.changes) at)) ∙ take-append-drop (b - a) (drop a l.changes) in
+    let i = a - l.begins in
+    let j = b - l.begins in
+    let front = take (j - i) (drop i l.changes) in
+    let at : i + (j - i) ≡ j = omega (arith, le) in
+    let split : front ++ drop j l.changes ≡ drop i l.changes = ap (λ ds. front ++ ds) (sym (drop-drop (j - i) i l.changes ∙ ap (λ n. drop n l.changes) at)) ∙ take-append-drop (j - i) (drop i l.changes) in
     lifted_all l a row
     ∙ ap (λ changes. lifted_by (columns_at l a) changes row) (sym split)
-    ∙ lifted_by-append (columns_at l a) front (drop b l.changes) row
-    ∙ ap (λ s. lifted_by s (drop b l.changes) (lifted_by (columns_at l a) front row)) (columns_on l a b le)
+    ∙ lifted_by-append (columns_at l a) front (drop j l.changes) row
+    ∙ ap (λ s. lifted_by s (drop j l.changes) (lifted_by (columns_at l a) front row)) (columns_on l a b le)
     ∙ sym (lifted_all l b (lifted_by (columns_at l a) front row))
 
 pub present_more : (rows : Rows) (l : Lineage) (c : Change) (d : Delta) → d.epoch ≤ epoch_of l → present rows (with_change l c) d ≡ map (lifted_once (columns_of l) c) (present rows l d)

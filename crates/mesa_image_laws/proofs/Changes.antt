@@ -1,5 +1,5 @@
 -- A change of a table's columns: what is kept is lifted, files stay under their columns, and rows stay as sound.
-use Rattle.std.proofs.Common.{◌≡◌, ℕ, zero, suc, ◌+◌, ◌-◌, ◌<◌, ◌≤◌, List, [], ◌∷◌, ◌++◌, map, length, take, flat_map, Option, Some, None, is_ok, true, refl, sym, ◌∙◌, ap, subst, slice_get, slice_set}
+use Rattle.std.proofs.Common.{◌≡◌, ℕ, zero, suc, ◌+◌, ◌-◌, ◌<◌, ◌≤◌, List, [], ◌∷◌, ◌++◌, map, length, take, flat_map, Option, Some, None, is_ok, true, refl, sym, ◌∙◌, ap, subst, arith, slice_get, slice_set}
 use Rattle.std.proofs.lemmas.List.{take-append-le, map-append, map-set}
 use Rattle.std.specs.Prelude.{IfSome}
 use Rattle.std.specs.List.{AllByRecursion, range_with_len}
@@ -55,7 +55,7 @@ module _ (l : Lineage) (c : Change) (last : AllByRecursion (Outlives (columns_of
       by : (files : Option Files) (epoch : ℕ) (totals : Option (List ℕ)) → epoch ≤ epoch_of l
           → delta_shelved (with_change l c) (record { epoch = epoch; files = files; totals = totals }) ≡ delta_shelved l (record { epoch = epoch; files = files; totals = totals })
       by None epoch totals le = refl
-      by (Some f) epoch totals le = λ i. record { columns = columns_after l.first (take-append-le epoch l.changes (c ∷ []) le i); file = f.file } ∷ same_views f.views i
+      by (Some f) epoch totals le = λ i. record { columns = columns_after l.first (take-append-le (epoch - l.begins) l.changes (c ∷ []) (omega (arith, le)) i); file = f.file } ∷ same_views f.views i
 
   same_deltas : (ds : List Delta) → AreOfEpochs (epoch_of l) ds → flat_map (delta_shelved (with_change l c)) ds ≡ flat_map (delta_shelved l) ds
   same_deltas [] all = refl
@@ -115,7 +115,7 @@ totalled_still rows l c d le is = by d.totals is
   where
     by : (o : Option (List ℕ)) → IfSome o (λ totals. totals ≡ abs_totals (columns_at l d.epoch) (rows_in rows d)) → IfSome o (λ totals. totals ≡ abs_totals (columns_at (with_change l c) d.epoch) (rows_in rows d))
     by None is = is
-    by (Some totals) is = is ∙ ap (λ changes. abs_totals (columns_after l.first changes) (rows_in rows d)) (sym (take-append-le d.epoch l.changes (c ∷ []) le))
+    by (Some totals) is = is ∙ ap (λ changes. abs_totals (columns_after l.first changes) (rows_in rows d)) (sym (take-append-le (d.epoch - l.begins) l.changes (c ∷ []) (omega (arith, le))))
 
 module _ (rows : Rows) (floor next : ℕ) (t : Stock) (c : Change) (shaped : IsShaped floor next t) (is : IsStocked rows t) (default : HasDefault c) (rule : is_ok (rule_checked t.lineage c) ≡ true) where
   abbrev l : Lineage

@@ -23,7 +23,7 @@ use Rattle.mesa_image_laws.proofs.Altered.{columns_on, lifted_twice, present_mor
 -- ---- at present
 
 pub columns_now : (l : Lineage) → columns_at l (epoch_of l) ≡ columns_of l
-columns_now l = ap (columns_after l.first) (take_all (epoch_of l) l.changes (omega arith))
+columns_now l = ap (columns_after l.first) (take_all (epoch_of l - l.begins) l.changes (omega arith))
 
 -- rows at present
 abbrev pub now : Lineage → Source → List Row
@@ -49,8 +49,10 @@ forms_now l (s ∷ sources) is all = all_append (IsRowOf (columns_of l)) (now l 
 
 form_at : (l : Lineage) (epoch : ℕ) (s : Source) → IsLineage l → s.epoch ≤ epoch → HasForm l s → AreRowsOf (columns_at l epoch) (source_at l epoch s)
 form_at l epoch s is le has =
-    let some : List Change = take (epoch - s.epoch) (drop s.epoch l.changes) in
-    let defaults = all_take HasDefault (epoch - s.epoch) (drop s.epoch l.changes) (all_drop HasDefault s.epoch l.changes is.defaults) in
+    let from = s.epoch - l.begins in
+    let count = epoch - l.begins - from in
+    let some : List Change = take count (drop from l.changes) in
+    let defaults = all_take HasDefault count (drop from l.changes) (all_drop HasDefault from l.changes is.defaults) in
     all_map (IsRowOf (columns_at l epoch)) (lifted l s.epoch epoch) s.rows
     (all_so (IsRowOf (columns_at l s.epoch)) (λ row. IsRowOf (columns_at l epoch) (lifted l s.epoch epoch row)) s.rows
     (λ row form. subst (λ c. IsRowOf c (lifted l s.epoch epoch row)) (columns_on l s.epoch epoch le) (lifted_form (columns_at l s.epoch) some row defaults form)) has.form)
@@ -81,7 +83,7 @@ form_more l c s has =
     let le = has.epoch in
     record {
       epoch = omega (arith, le, epoch_more l c);
-      form = subst (λ changes. AreRowsOf (columns_after l.first changes) s.rows) (sym (take-append-le s.epoch l.changes (c ∷ []) has.epoch)) has.form;
+      form = subst (λ changes. AreRowsOf (columns_after l.first changes) s.rows) (sym (take-append-le (s.epoch - l.begins) l.changes (c ∷ []) (omega (arith, le)))) has.form;
     }
 
 now_more : (l : Lineage) (c : Change) (sources : List Source) → AllByRecursion (HasForm l) sources → map (now (with_change l c)) sources ≡ map (map (lifted_once (columns_of l) c)) (map (now l) sources)

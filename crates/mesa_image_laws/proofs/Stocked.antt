@@ -79,7 +79,7 @@ folds_less s parts forms =
     (λ c sum. folds_totals (aggs_of s) parts c sum (are_full s (rows_of parts) forms)) (sums_at (aggs_of s) 0 (aggs_of s) refl)
 
 columns_now : (l : Lineage) → columns_at l (epoch_of l) ≡ columns_of l
-columns_now l = ap (columns_after l.first) (take_all (epoch_of l) l.changes (omega arith))
+columns_now l = ap (columns_after l.first) (take_all (epoch_of l - l.begins) l.changes (omega arith))
 
 -- ---- a batch
 

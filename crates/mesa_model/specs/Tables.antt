@@ -45,7 +45,7 @@ names_are_good s = list_all is_name (key_names s) && list_all is_name (value_nam
 abbrev pub new_table : Warehouse → List ℕ → Columns → Table
 new_table w name s = record {
   name = name;
-  lineage = record { first = s; changes = []; views = [] };
+  lineage = record { begins = 0; first = s; changes = []; views = [] };
   totals = replicate (sums_in (aggs_of s)) 0;
   oldest = w.store.floor;
   contents = replicate (w.next - w.store.floor) [];

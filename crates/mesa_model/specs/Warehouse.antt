@@ -63,7 +63,7 @@ content_at t version = slice_index_or t.contents (version - t.oldest) []
 
 -- what stands for a table that isn't there
 abbrev pub no_table : Table
-no_table = record { name = []; lineage = record { first = record { keys = []; values = [] }; changes = []; views = [] }; totals = []; oldest = 0; contents = [] }
+no_table = record { name = []; lineage = record { begins = 0; first = record { keys = []; values = [] }; changes = []; views = [] }; totals = []; oldest = 0; contents = [] }
 
 -- the table of a number
 abbrev pub table_at : Store → ℕ → Table

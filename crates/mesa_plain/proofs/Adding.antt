@@ -92,8 +92,8 @@ kept_more tables totals versions from next k t kept few is =
     }
 
 -- the tables with one more, which has no rows at each version that is there
-pub added : (tables : List Known) (totals : List (List ℕ)) (versions : List Contents) (from : From) (next : ℕ) (k : Known) (t : List ℕ) (s : Columns) → AreKept tables totals versions from next → k.lineage ≡ record { first = s; changes = []; views = [] } → t ≡ replicate (sums_in (aggs_of s)) 0
-    → tables_in (from_more from) 0 (totals ++ t ∷ []) versions (tables ++ k ∷ []) ≡ tables_in from 0 totals versions tables ++ record { name = k.name; lineage = record { first = s; changes = []; views = [] }; totals = replicate (sums_in (aggs_of s)) 0; oldest = from.floor; contents = replicate (next - from.floor) [] } ∷ []
+pub added : (tables : List Known) (totals : List (List ℕ)) (versions : List Contents) (from : From) (next : ℕ) (k : Known) (t : List ℕ) (s : Columns) → AreKept tables totals versions from next → k.lineage ≡ record { begins = 0; first = s; changes = []; views = [] } → t ≡ replicate (sums_in (aggs_of s)) 0
+    → tables_in (from_more from) 0 (totals ++ t ∷ []) versions (tables ++ k ∷ []) ≡ tables_in from 0 totals versions tables ++ record { name = k.name; lineage = record { begins = 0; first = s; changes = []; views = [] }; totals = replicate (sums_in (aggs_of s)) 0; oldest = from.floor; contents = replicate (next - from.floor) [] } ∷ []
 added tables totals versions from next k t s kept lineage is =
     let many : length versions ≡ next - from.floor = omega (arith, kept.numbers) in
     let none : contents_in (length totals) versions ≡ replicate (next - from.floor) [] = ap (λ n. contents_in n versions) kept.count ∙ none_there (length tables) versions kept.widths ∙ ap (λ n. replicate n []) many in

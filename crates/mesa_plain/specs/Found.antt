@@ -14,7 +14,7 @@ view_named name views = find (λ (v : View). same_bytes name v.name) views
 
 -- what stands for a table that isn't there
 abbrev pub no_known : Known
-no_known = record { name = []; lineage = record { first = record { keys = []; values = [] }; changes = []; views = [] } }
+no_known = record { name = []; lineage = record { begins = 0; first = record { keys = []; values = [] }; changes = []; views = [] } }
 
 -- the table of a number among these
 abbrev pub known_at : ℕ → List Known → Known

@@ -41,7 +41,7 @@ view_file view views = find (λ (v : ViewRef). v.view == view) views
 
 -- a view's columns through their life: no change touches them
 abbrev pub own_lineage : Lineage → View → Lineage
-own_lineage l v = record { first = view_columns (columns_of l) v; changes = []; views = [] }
+own_lineage l v = record { begins = 0; first = view_columns (columns_of l) v; changes = []; views = [] }
 
 -- A file by which a view is read, and whether it is the view's own.
 pub record Seen : Type 0 where

@@ -126,20 +126,25 @@ chosen_count (place ∷ places) xs ys e = same_options (slice_get xs place) (sli
 pub groups_rise : (s : Columns) (columns values : List ℕ) (rows : List Row) → keys_rise (grouped s columns values rows) ≡ true
 groups_rise s columns values rows = folded_rise (chosen values (aggs_of s)) (map (regrouped s columns values) rows ∷ [])
 
--- Grouped rows have the form of the columns that they are grouped to.
-pub groups_form : (s : Columns) (columns values : List ℕ) (rows : List Row) → AreRowsOf s rows → AreRowsOf (record { keys = chosen columns s.keys; values = chosen values s.values }) (grouped s columns values rows)
-groups_form s columns values rows all =
+-- A row that is regrouped has the form of the columns to which it is.
+pub regrouped_form : (s : Columns) (columns values : List ℕ) (row : Row) → IsRowOf s row → IsRowOf (record { keys = chosen columns s.keys; values = chosen values s.values }) (regrouped s columns values row)
+regrouped_form s columns values row form =
     let wide : Columns = record { keys = chosen columns s.keys; values = chosen values s.values } in
     let kinds : chosen columns (kinds_of s) ≡ kinds_of wide = chosen_mapped (λ (c : KeyColumn). c.kind) columns s.keys in
     let aggs : chosen values (aggs_of s) ≡ aggs_of wide = chosen_mapped (λ (c : ValueColumn). c.agg) values s.values in
-    let one : (row : Row) → IsRowOf s row → IsRowOf wide (regrouped s columns values row) = λ row form.
     let spells = subst (λ (types : List KeyType). Spells types (regrouped s columns values row).key) kinds (regrouped_spells s columns values row (record { key = form.key; spelled = form.spelled })) in
     record {
       key = spells.key;
       spelled = spells.spelled;
       values = chosen_count values row.values s.values form.values;
       ranges = subst (λ (gs : List Agg). AreOf gs (chosen values row.values)) aggs (ranges_chosen values (aggs_of s) row.values (row-full s row form) form.ranges);
-    } in
+    }
+
+-- Grouped rows have the form of the columns that they are grouped to.
+pub groups_form : (s : Columns) (columns values : List ℕ) (rows : List Row) → AreRowsOf s rows → AreRowsOf (record { keys = chosen columns s.keys; values = chosen values s.values }) (grouped s columns values rows)
+groups_form s columns values rows all =
+    let wide : Columns = record { keys = chosen columns s.keys; values = chosen values s.values } in
+    let aggs : chosen values (aggs_of s) ≡ aggs_of wide = chosen_mapped (λ (c : ValueColumn). c.agg) values s.values in
     let parts : AreRowsOf wide (rows_of (map (regrouped s columns values) rows ∷ [])) =
-    all_append (IsRowOf wide) (map (regrouped s columns values) rows) [] (all_map (IsRowOf wide) (regrouped s columns values) rows (all_so (IsRowOf s) (λ (row : Row). IsRowOf wide (regrouped s columns values row)) rows one all)) tt in
+    all_append (IsRowOf wide) (map (regrouped s columns values) rows) [] (all_map (IsRowOf wide) (regrouped s columns values) rows (all_so (IsRowOf s) (λ (row : Row). IsRowOf wide (regrouped s columns values row)) rows (regrouped_form s columns values) all)) tt in
     subst (λ gs. AreRowsOf wide (folded gs (map (regrouped s columns values) rows ∷ []))) (sym aggs) (folded_form wide (map (regrouped s columns values) rows ∷ []) parts)

@@ -1,5 +1,5 @@
 -- Tables' columns keep the rules through their lives: when a table is made, and when its columns change.
-use Rattle.std.proofs.Common.{◌≡◌, ℕ, zero, suc, ◌<◌, List, [], ◌∷◌, ◌++◌, length, take, true, false, sym, Ok, ◌∙◌, ap, subst, arith, is_ok, nat_le, inl, inr, ℤ, nat_abs, refl}
+use Rattle.std.proofs.Common.{◌≡◌, ℕ, ◌-◌, ◌<◌, List, [], ◌∷◌, ◌++◌, length, take, true, false, sym, Ok, ◌∙◌, ap, subst, arith, is_ok, nat_le, inl, inr, ℤ, nat_abs, refl}
 use Rattle.std.specs.Prelude.{Option, Some}
 use Rattle.std.specs.List.{list_all}
 use Rattle.std.proofs.lemmas.Bool.{cases_lt, eqb-true, leb-false, lt-leb}
@@ -43,8 +43,8 @@ lineage_changed l c is default h =
     let new : is_schema (columns_of (with_change l c)) ≡ true = ap is_schema (columns_more l c) ∙ changed_schema l c is rule in
     record {
       schemas = λ epoch. elim (cases_lt (epoch_of l) epoch) [
-        | inl above ↦ ap (λ (changes : List Change). is_schema (columns_after l.first changes)) (take_all epoch (l.changes ++ c ∷ []) (omega (arith, above, epoch_more l c))) ∙ new
-        | inr below ↦ ap (λ (changes : List Change). is_schema (columns_after l.first changes)) (take-append-le epoch l.changes (c ∷ []) below) ∙ is.schemas epoch
+        | inl above ↦ ap (λ (changes : List Change). is_schema (columns_after l.first changes)) (take_all (epoch - l.begins) (l.changes ++ c ∷ []) (omega (arith, above, epoch_more l c))) ∙ new
+        | inr below ↦ ap (λ (changes : List Change). is_schema (columns_after l.first changes)) (take-append-le (epoch - l.begins) l.changes (c ∷ []) (omega (arith, below))) ∙ is.schemas epoch
       ];
       defaults = all_append HasDefault l.changes (c ∷ []) is.defaults (default, tt);
       views = ap (λ (s : Columns). list_all (is_view_of s) l.views) (columns_more l c) ∙ views_changed l c rule is.views;
@@ -54,26 +54,22 @@ lineage_changed l c is default h =
 
 -- The same, as code keeps it: beside the present columns.
 pub kept_with_change : (l : Lineage) (present : Option Columns) (c : Change) (changes : List Change) (now : Columns) → IsKept l present → rule_checked l c ≡ Ok tt → HasDefault c → epoch_of l < 1000
-    → changes ≡ l.changes ++ c ∷ [] → now ≡ changed (columns_of l) c → IsKept (record { first = l.first; changes = changes; views = l.views }) (Some now)
+    → changes ≡ l.changes ++ c ∷ [] → now ≡ changed (columns_of l) c → IsKept (record { begins = l.begins; first = l.first; changes = changes; views = l.views }) (Some now)
 kept_with_change l present c changes now k rule default room e same =
     let few : nat_le max_changes (epoch_of l) ≡ false = lt-leb max_changes (epoch_of l) room in
     let allowed : is_ok (change_checked l c) ≡ true = rw (rule, few) refl in
-    subst (λ cs. IsKept (record { first = l.first; changes = cs; views = l.views }) (Some now)) (sym e) (record { lineage = lineage_changed l c k.lineage default allowed; present = same ∙ sym (columns_more l c) })
+    subst (λ cs. IsKept (record { begins = l.begins; first = l.first; changes = cs; views = l.views }) (Some now)) (sym e) (record { lineage = lineage_changed l c k.lineage default allowed; present = same ∙ sym (columns_more l c) })
 
 -- So does a view that is allowed.
 pub lineage_viewed : (l : Lineage) (v : View) → IsLineage l → length l.views < max_views → is_view_of (columns_of l) v ≡ true → IsLineage (with_view l v)
 lineage_viewed l v is room ok = (kept_with_view l (Some (columns_of l)) v (l.views ++ v ∷ []) (record { lineage = is; present = refl }) room ok refl).lineage
 
 -- A new table's columns keep the rules.
-pub lineage_new : (s : Columns) → is_ok (schema_checked s) ≡ true → IsLineage (record { first = s; changes = []; views = [] })
+pub lineage_new : (s : Columns) → is_ok (schema_checked s) ≡ true → IsLineage (record { begins = 0; first = s; changes = []; views = [] })
 lineage_new s h = record {
-  schemas = λ epoch. first epoch;
+  schemas = λ epoch. ap (λ (changes : List Change). is_schema (columns_after s changes)) (take_all (epoch - 0) [] (omega arith)) ∙ h;
   defaults = tt;
   views = refl;
   few_changes = omega arith;
   few_views = omega arith;
 }
-  where
-    first : (epoch : ℕ) → is_schema (columns_after s (take epoch [])) ≡ true
-    first zero = h
-    first (suc epoch) = h

@@ -1,8 +1,8 @@
 -- What keeps a lineage within the rules.
-use Rattle.std.proofs.Common.{◌≡◌, ℕ, ◌<◌, List, [], ◌∷◌, ◌++◌, length, map, Bool, true, false, refl, sym, ◌∙◌, ap, arith, Option, Some, None, Ok, length-append}
+use Rattle.std.proofs.Common.{◌≡◌, ℕ, ◌<◌, ◌-◌, List, [], ◌∷◌, ◌++◌, length, map, Bool, true, false, refl, sym, ◌∙◌, ap, arith, Option, Some, None, Ok, length-append}
 use Rattle.std.specs.Prelude.{◌&&◌, is_ok, find, option_map, is_some, not, ◌==◌}
 use Rattle.std.specs.List.{list_all}
-use Rattle.std.proofs.lemmas.List.{length-map}
+use Rattle.std.proofs.lemmas.List.{length-map, take_all}
 use Rattle.mesa_list.specs.Checks.{◌>>◌, refuse_if, refuse_unless}
 use Rattle.mesa_schema.specs.declared.changes.ChangeError.TheVariants.{LastValue, NoColumn}
 use Rattle.mesa_schema.specs.Names.{has_name}
@@ -12,9 +12,8 @@ use Rattle.mesa_schema.specs.declared.columns.ValueColumn.{ValueColumn}
 use Rattle.mesa_schema.specs.declared.views.View.{View}
 use Rattle.mesa_schema.specs.declared.views.ViewError.TheVariants.{NoKey, NoValue}
 use Rattle.mesa_schema.specs.Columns.{Columns, chosen, key_names, places_in, value_names}
-use Rattle.std.proofs.Math.Seq.{take-length}
 use Rattle.mesa_schema.specs.Schema.{is_schema}
-use Rattle.mesa_schema.specs.Changes.{Lineage, columns_after, columns_of, drop_checked, refuse_used}
+use Rattle.mesa_schema.specs.Changes.{Lineage, columns_after, columns_of, drop_checked, epoch_of, refuse_used}
 use Rattle.mesa_schema.specs.Views.{choice_checked, is_replace, values_named, view_checked}
 use Rattle.mesa_schema.specs.Lineages.{IsKept, IsLineage, is_view_of}
 
@@ -43,7 +42,7 @@ allowed_slices s ks vs vs2 keys keys2 values values2 values3 e f g h i j k v r =
 
 -- A view more that the present columns allow.
 pub kept_with_view : (l : Lineage) (present : Option Columns) (v : View) (views : List View) → IsKept l present → length l.views < 8 → is_ok (view_checked (columns_of l) v.keys v.values) ≡ true
-    → views ≡ l.views ++ v ∷ [] → IsKept (record { first = l.first; changes = l.changes; views = views }) present
+    → views ≡ l.views ++ v ∷ [] → IsKept (record { begins = l.begins; first = l.first; changes = l.changes; views = views }) present
 kept_with_view l present v views k room ok e = record {
   lineage = record {
     schemas = k.lineage.schemas;
@@ -58,7 +57,7 @@ kept_with_view l present v views k room ok e = record {
 
 -- The present columns make a schema.
 pub present_schema : (l : Lineage) → IsLineage l → is_schema (columns_of l) ≡ true
-present_schema l r = ap (λ changes. is_schema (columns_after l.first changes)) (sym (take-length l.changes)) ∙ r.schemas (length l.changes)
+present_schema l r = ap (λ changes. is_schema (columns_after l.first changes)) (sym (take_all (epoch_of l - l.begins) l.changes (omega arith))) ∙ r.schemas (epoch_of l)
 
 used : (o : Option View) (there alone : Bool) → is_ok (refuse_unless there NoColumn >> (refuse_used o >> refuse_if alone LastValue)) ≡ ((there && not alone) && not (is_some o))
 used o false alone = refl

@@ -1,7 +1,7 @@
 -- Lifting rows of an epoch to the present, and through one change more.
-use Rattle.std.proofs.Common.{◌≡◌, ℕ, ◌+◌, ◌≤◌, List, [], ◌∷◌, ◌++◌, map, length, take, drop, refl, sym, ◌∙◌, ap, subst, arith, append_assoc}
+use Rattle.std.proofs.Common.{◌≡◌, ℕ, ◌+◌, ◌-◌, ◌≤◌, List, [], ◌∷◌, ◌++◌, map, length, take, drop, refl, sym, ◌∙◌, ap, subst, arith, append_assoc}
 use Rattle.std.specs.List.{AllByRecursion}
-use Rattle.std.proofs.lemmas.List.{append-nil, drop-append-le, drop_all, length-append, length-map, map-append, map-id, take-append-drop, take-append-le, take_rest}
+use Rattle.std.proofs.lemmas.List.{append-nil, drop-append-le, drop_all, length-append, length-map, map-append, map-id, take-append-drop, take-append-le, take_all, length-drop}
 use Rattle.std.proofs.lemmas.Simd.{map-map}
 use Rattle.mesa_key.specs.declared.KeyType.{KeyType}
 use Rattle.mesa_key.specs.declared.KeyValue.{KeyValue}
@@ -35,28 +35,28 @@ columns_more l c = columns_after-append l.first l.changes (c ∷ [])
 
 -- The number of changes after one more.
 pub epoch_more : (l : Lineage) (c : Change) → epoch_of (with_change l c) ≡ epoch_of l + 1
-epoch_more l c = length-append l.changes (c ∷ [])
+epoch_more l c = omega (arith, length-append l.changes (c ∷ []))
 
 -- a row of an epoch at present goes through all changes since
-pub lifted_all : (l : Lineage) (epoch : ℕ) (row : Row) → lifted l epoch (epoch_of l) row ≡ lifted_by (columns_at l epoch) (drop epoch l.changes) row
-lifted_all l epoch row = ap (λ changes. lifted_by (columns_at l epoch) changes row) (take_rest l.changes epoch)
+pub lifted_all : (l : Lineage) (epoch : ℕ) (row : Row) → lifted l epoch (epoch_of l) row ≡ lifted_by (columns_at l epoch) (drop (epoch - l.begins) l.changes) row
+lifted_all l epoch row = ap (λ changes. lifted_by (columns_at l epoch) changes row) (take_all (epoch_of l - l.begins - (epoch - l.begins)) (drop (epoch - l.begins) l.changes) (omega (arith, length-drop (epoch - l.begins) l.changes)))
 
 -- and these make the columns of the epoch the present ones
-pub present_since : (l : Lineage) (epoch : ℕ) → columns_after (columns_at l epoch) (drop epoch l.changes) ≡ columns_of l
-present_since l epoch = sym (columns_after-append l.first (take epoch l.changes) (drop epoch l.changes)) ∙ ap (columns_after l.first) (take-append-drop epoch l.changes)
+pub present_since : (l : Lineage) (epoch : ℕ) → columns_after (columns_at l epoch) (drop (epoch - l.begins) l.changes) ≡ columns_of l
+present_since l epoch = sym (columns_after-append l.first (take (epoch - l.begins) l.changes) (drop (epoch - l.begins) l.changes)) ∙ ap (columns_after l.first) (take-append-drop (epoch - l.begins) l.changes)
 
 -- A row of the present epoch stays as it is.
 pub lifted_now : (l : Lineage) (row : Row) → lifted l (epoch_of l) (epoch_of l) row ≡ row
-lifted_now l row = lifted_all l (epoch_of l) row ∙ ap (λ changes. lifted_by (columns_at l (epoch_of l)) changes row) (drop_all (length l.changes) l.changes (omega arith))
+lifted_now l row = lifted_all l (epoch_of l) row ∙ ap (λ changes. lifted_by (columns_at l (epoch_of l)) changes row) (drop_all (epoch_of l - l.begins) l.changes (omega arith))
 
 -- After one change more a row goes through that change too.
 pub lifted_more : (l : Lineage) (c : Change) (epoch : ℕ) (row : Row) → epoch ≤ epoch_of l
     → lifted (with_change l c) epoch (epoch_of (with_change l c)) row ≡ lifted_once (columns_of l) c (lifted l epoch (epoch_of l) row)
 lifted_more l c epoch row le =
     lifted_all (with_change l c) epoch row
-    ∙ (λ i. lifted_by (columns_after l.first (take-append-le epoch l.changes (c ∷ []) le i)) (drop-append-le epoch l.changes (c ∷ []) le i) row)
-    ∙ lifted_by-append (columns_at l epoch) (drop epoch l.changes) (c ∷ []) row
-    ∙ ap (λ s. lifted_once s c (lifted_by (columns_at l epoch) (drop epoch l.changes) row)) (present_since l epoch)
+    ∙ (λ i. lifted_by (columns_after l.first (take-append-le (epoch - l.begins) l.changes (c ∷ []) (omega (arith, le)) i)) (drop-append-le (epoch - l.begins) l.changes (c ∷ []) (omega (arith, le)) i) row)
+    ∙ lifted_by-append (columns_at l epoch) (drop (epoch - l.begins) l.changes) (c ∷ []) row
+    ∙ ap (λ s. lifted_once s c (lifted_by (columns_at l epoch) (drop (epoch - l.begins) l.changes) row)) (present_since l epoch)
     ∙ ap (lifted_once (columns_of l) c) (sym (lifted_all l epoch row))
 
 -- Rows keep their form through a change.
@@ -70,8 +70,8 @@ forms_more s c (row ∷ rows) default all = (lifted_form s (c ∷ []) row (defau
 pub present_form : (l : Lineage) (epoch : ℕ) (row : Row) → IsLineage l → IsRowOf (columns_at l epoch) row → IsRowOf (columns_of l) (lifted l epoch (epoch_of l) row)
 present_form l epoch row is form =
     subst (IsRowOf (columns_of l)) (sym (lifted_all l epoch row)) (
-    subst (λ s. IsRowOf s (lifted_by (columns_at l epoch) (drop epoch l.changes) row)) (present_since l epoch) (
-    lifted_form (columns_at l epoch) (drop epoch l.changes) row (all_drop HasDefault epoch l.changes is.defaults) form))
+    subst (λ s. IsRowOf s (lifted_by (columns_at l epoch) (drop (epoch - l.begins) l.changes) row)) (present_since l epoch) (
+    lifted_form (columns_at l epoch) (drop (epoch - l.begins) l.changes) row (all_drop HasDefault (epoch - l.begins) l.changes is.defaults) form))
 
 parts_is : (f g : Row → Row) (parts : List (List Row)) → ((row : Row) → f row ≡ g row) → map (map f) parts ≡ map (map g) parts
 parts_is f g [] same = refl
@@ -82,9 +82,9 @@ pub present_folds : (l : Lineage) (epoch : ℕ) (parts : List (List Row)) → Is
     → map (lifted l epoch (epoch_of l)) (folded (aggs_of (columns_at l epoch)) parts) ≡ folded (aggs_of (columns_of l)) (map (map (lifted l epoch (epoch_of l))) parts)
 present_folds l epoch parts is all =
     let s : Columns = columns_at l epoch in
-    let since : List Change = drop epoch l.changes in
+    let since : List Change = drop (epoch - l.begins) l.changes in
     map_is (lifted l epoch (epoch_of l)) (lifted_by s since) (folded (aggs_of s) parts) (lifted_all l epoch)
-    ∙ lifts_folded s since parts (all_drop HasDefault epoch l.changes is.defaults) all
+    ∙ lifts_folded s since parts (all_drop HasDefault (epoch - l.begins) l.changes is.defaults) all
     ∙ ap (λ columns. folded (aggs_of columns) (map (map (lifted_by s since)) parts)) (present_since l epoch)
     ∙ ap (folded (aggs_of (columns_of l))) (sym (parts_is (lifted l epoch (epoch_of l)) (lifted_by s since) parts (lifted_all l epoch)))
 
@@ -122,9 +122,9 @@ front l epoch row form =
     let s : Columns = columns_at l epoch in
     let types : List KeyType = kinds_of s in
     let key : List KeyValue = key_of types row.key in
-    let now : Row = lifted_by s (drop epoch l.changes) row in
+    let now : Row = lifted_by s (drop (epoch - l.begins) l.changes) row in
     let long : Longer types row.key (kinds_of (columns_of l)) now.key = subst (λ columns. Longer types row.key (kinds_of columns) now.key) (present_since l epoch)
-    (longer_by types row.key s (drop epoch l.changes) row (record { more_types = []; more_bytes = []; types_are = sym (append-nil types); bytes_are = sym (append-nil row.key) })) in
+    (longer_by types row.key s (drop (epoch - l.begins) l.changes) row (record { more_types = []; more_bytes = []; types_are = sym (append-nil types); bytes_are = sym (append-nil row.key) })) in
     (λ i. take (sym (length-map s.keys (λ (c : KeyColumn). c.kind)) i) (key_of (long.types_are i) (lifted_all l epoch row i).key))
     ∙ key_of-take types long.more_types now.key
     ∙ ap (key_of types) (long.bytes_are ∙ ap (λ bytes. bytes ++ long.more_bytes) (sym form.spelled))
@@ -139,7 +139,7 @@ present_key l epoch row form = ap key_spelling (front l epoch row form) ∙ form
 pub present_longer : (l : Lineage) (epoch : ℕ) (row : Row) → (more : List ℕ) × ((lifted l epoch (epoch_of l) row).key ≡ row.key ++ more)
 present_longer l epoch row =
     let s : Columns = columns_at l epoch in
-    let long = longer_by [] row.key s (drop epoch l.changes) row (record { more_types = kinds_of s; more_bytes = []; types_are = refl; bytes_are = sym (append-nil row.key) }) in
+    let long = longer_by [] row.key s (drop (epoch - l.begins) l.changes) row (record { more_types = kinds_of s; more_bytes = []; types_are = refl; bytes_are = sym (append-nil row.key) }) in
     (long.more_bytes, ap (λ (r : Row). r.key) (lifted_all l epoch row) ∙ long.bytes_are)
 
 -- ---- order
@@ -154,5 +154,5 @@ lifted_rises s (c ∷ changes) rows f all =
 -- Lifting leaves the order of rows.
 pub present_rise : (l : Lineage) (epoch : ℕ) (rows : List Row) → IsLineage l → AreRowsOf (columns_at l epoch) rows → keys_rise (map (lifted l epoch (epoch_of l)) rows) ≡ keys_rise rows
 present_rise l epoch rows is all =
-    ap keys_rise (map_is (lifted l epoch (epoch_of l)) (lifted_by (columns_at l epoch) (drop epoch l.changes)) rows (lifted_all l epoch))
-    ∙ lifted_rises (columns_at l epoch) (drop epoch l.changes) rows (all_drop HasDefault epoch l.changes is.defaults) all
+    ap keys_rise (map_is (lifted l epoch (epoch_of l)) (lifted_by (columns_at l epoch) (drop (epoch - l.begins) l.changes)) rows (lifted_all l epoch))
+    ∙ lifted_rises (columns_at l epoch) (drop (epoch - l.begins) l.changes) rows (all_drop HasDefault (epoch - l.begins) l.changes is.defaults) all

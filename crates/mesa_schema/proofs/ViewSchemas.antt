@@ -36,7 +36,7 @@ nothing : {A : Type 0} (o : Option A) → is_some o ≡ false → o ≡ None
 nothing None e = refl
 nothing (Some x) e = cc
 
-choice : (names : List (List ℕ)) (none : ViewError) (asked : List (List ℕ)) → is_ok (choice_checked names none asked) ≡ true → IsChoice names asked
+pub choice : (names : List (List ℕ)) (none : ViewError) (asked : List (List ℕ)) → is_ok (choice_checked names none asked) ≡ true → IsChoice names asked
 choice names none asked h =
     let first = passed_unless (list_all (λ name. has_name name names) asked) _ _ h in
     let second = passed_if (length asked == 0) none _ first.1 in
@@ -113,7 +113,7 @@ few : (names asked : List (List ℕ)) → IsChoice names asked → length asked 
 few names asked h = length-le_from_is_member nat_list_eq_equiv asked names (apart_after [] asked h.apart).0 (λ q m. member_kept names asked h.there q m)
 
 -- how many columns a schema has at most
-few_columns : (s : Columns) → is_schema s ≡ true → (length s.keys ≤ 16) × (length s.values ≤ 16)
+pub few_columns : (s : Columns) → is_schema s ≡ true → (length s.keys ≤ 16) × (length s.values ≤ 16)
 few_columns s h =
     let first = passed_if (length s.keys == 0) _ _ h in
     let second = passed_if (length s.values == 0) _ _ first.1 in
@@ -127,7 +127,7 @@ pub record IsSort (names : List (List ℕ)) (count : ℕ) : Type 0 where
   pub few : count ≤ 16
   pub apart : repeated names ≡ None
 
-sort_of : {C : Type 0} (f : C → List ℕ) (columns : List C) (asked : List (List ℕ)) → length columns ≤ 16 → IsChoice (map f columns) asked
+pub sort_of : {C : Type 0} (f : C → List ℕ) (columns : List C) (asked : List (List ℕ)) → length columns ≤ 16 → IsChoice (map f columns) asked
     → IsSort (map f (chosen (places_in (map f columns) asked) columns)) (length (chosen (places_in (map f columns) asked) columns))
 sort_of f columns asked l h =
     let same = names_chosen f columns asked h.there in

@@ -20,7 +20,7 @@ use Rattle.mesa_schema.specs.Names.{has_name}
 use Rattle.mesa_schema.specs.Columns.{Columns, key_names, value_names, place_of}
 use Rattle.mesa_schema.specs.Schema.{max_columns}
 
--- how many changes a table may have
+-- how many changes and recasts a table may have
 abbrev pub max_changes : ℕ
 max_changes = 1000
 
@@ -56,19 +56,20 @@ abbrev pub lifted_by : Columns → List Change → Row → Row
 lifted_by s [] row = row
 lifted_by s (change ∷ changes) row = lifted_by (changed s change) changes (lifted_once s change row)
 
--- A table's columns through its life: those it was made with, the changes since, and its views.
+-- A table's columns since it was made or recast: the number of its first epoch, the columns of that epoch, the changes since, and its views.
 pub record Lineage : Type 0 where
+  pub begins : ℕ
   pub first : Columns
   pub changes : List Change
   pub views : List View
 
--- how many changes there were
+-- the present epoch: each change and each recast raised it by 1
 abbrev pub epoch_of : Lineage → ℕ
-epoch_of l = length l.changes
+epoch_of l = l.begins + length l.changes
 
 -- the columns of an epoch
 abbrev pub columns_at : Lineage → ℕ → Columns
-columns_at l epoch = columns_after l.first (take epoch l.changes)
+columns_at l epoch = columns_after l.first (take (epoch - l.begins) l.changes)
 
 -- the present columns
 abbrev pub columns_of : Lineage → Columns
@@ -76,7 +77,7 @@ columns_of l = columns_after l.first l.changes
 
 -- Lift: a row of one epoch at a later one, by the table's changes from the one to the other, in order.
 abbrev pub lifted : Lineage → ℕ → ℕ → Row → Row
-lifted l from to row = lifted_by (columns_at l from) (take (to - from) (drop from l.changes)) row
+lifted l from to row = lifted_by (columns_at l from) (take (to - l.begins - (from - l.begins)) (drop (from - l.begins) l.changes)) row
 
 -- ---- which changes are allowed
 

@@ -1,5 +1,5 @@
 -- Laws of folding, lifting and grouping.
-use Rattle.std.specs.Prelude.{◌≡◌, ℕ, ◌<◌, ◌≤◌, List, [], ◌∷◌, ◌++◌, map, filter, take, length, Bool, ◌==◌, nat_lt, IsTrue, is_ok}
+use Rattle.std.specs.Prelude.{◌≡◌, ℕ, ◌<◌, ◌≤◌, List, [], ◌∷◌, ◌++◌, map, filter, take, length, Bool, ◌==◌, nat_lt, IsTrue, is_ok, Ok}
 use Rattle.std.specs.List.{AllByRecursion, list_all, list_any}
 use Rattle.std.specs.declared.cmp.Ordering.TheVariants.{Less}
 use Rattle.mesa_value.specs.declared.Agg.{Agg}
@@ -17,6 +17,8 @@ use Rattle.mesa_schema.specs.Lineages.{HasDefault, IsLineage, is_view_of}
 use Rattle.mesa_schema.specs.Views.{max_views, view_columns, view_rows, with_view}
 use Rattle.mesa_schema.specs.Folded.{folded, grouped, regrouped, row_combined, rows_of, values_at}
 use Rattle.mesa_schema.specs.Put.{put_row}
+use Rattle.mesa_schema.specs.Recasts.{IsRecastOf, Recast, keeps_view, recast_checked, recast_columns, recast_lineage, recast_rows}
+use Rattle.mesa_schema.specs.Carried.{AreTurnsOf, Turn, carried, columns_through}
 
 -- each row has a value for each column
 abbrev pub AreFull : List Agg → List Row → Type 0
@@ -152,7 +154,7 @@ ViewsOutlive = (l : Lineage) (change : Change) → IsLineage l → IsTrue (is_ok
 
 -- A new table followed the rules where its columns make a schema.
 abbrev pub NewLineages : Type 0
-NewLineages = (s : Columns) → IsTrue (is_schema s) → IsLineage (record { first = s; changes = []; views = [] })
+NewLineages = (s : Columns) → IsTrue (is_schema s) → IsLineage (record { begins = 0; first = s; changes = []; views = [] })
 
 -- A table follows the rules through an allowed change whose default is one of its column.
 abbrev pub ChangedLineages : Type 0
@@ -165,3 +167,41 @@ ViewedLineages = (l : Lineage) (v : View) → IsLineage l → length l.views < m
 -- A change more is made of the present columns.
 abbrev pub ChangedColumns : Type 0
 ChangedColumns = (l : Lineage) (change : Change) → columns_of (with_change l change) ≡ changed (columns_of l) change
+
+-- ---- recasts
+
+-- Rows may be folded before a recast or after it.
+abbrev pub RecastsFold : Type 0
+RecastsFold = (s : Columns) (r : Recast) (parts : List (List Row)) → IsRecastOf s r → AreRowsOf s (rows_of parts)
+    → recast_rows s r (folded (aggs_of s) parts) ≡ folded (aggs_of (recast_columns s r)) (map (recast_rows s r) parts)
+
+-- Recast rows have the form of the recast's columns.
+abbrev pub RecastsForm : Type 0
+RecastsForm = (s : Columns) (r : Recast) (rows : List Row) → AreRowsOf s rows → AreRowsOf (recast_columns s r) (recast_rows s r rows)
+
+-- Their keys rise.
+abbrev pub RecastsRise : Type 0
+RecastsRise = (s : Columns) (r : Recast) (rows : List Row) → IsTrue (keys_rise (recast_rows s r rows))
+
+-- A view outlasts a recast of its table: it is allowed after it, it has the same columns, and the recast rows are grouped to what the rows were grouped to.
+pub record Outlasts (s : Columns) (r : Recast) (v : View) : Type 0 where
+  pub allowed : IsTrue (is_view_of (recast_columns s r) v)
+  pub columns : view_columns (recast_columns s r) v ≡ view_columns s v
+  pub rows : (rows : List Row) → AreRowsOf s rows → view_rows (recast_columns s r) v (recast_rows s r rows) ≡ view_rows s v rows
+
+-- Views outlast the recasts that keep their columns.
+abbrev pub ViewsOutlast : Type 0
+ViewsOutlast = (s : Columns) (r : Recast) (v : View) → IsRecastOf s r → IsTrue (is_view_of s v) → IsTrue (keeps_view r v) → Outlasts s r v
+
+-- THE LAW OF FOLDING WITH CARRYING: rows may be carried before folding or after it.
+abbrev pub CarriesFolds : Type 0
+CarriesFolds = (s : Columns) (turns : List Turn) (parts : List (List Row)) → AreTurnsOf s turns → AreRowsOf s (rows_of parts)
+    → carried s turns (folded (aggs_of s) parts) ≡ folded (aggs_of (columns_through s turns)) (map (carried s turns) parts)
+
+-- Carried rows have the form of the columns to which they are carried.
+abbrev pub CarriesForm : Type 0
+CarriesForm = (s : Columns) (turns : List Turn) (rows : List Row) → AreTurnsOf s turns → AreRowsOf s rows → AreRowsOf (columns_through s turns) (carried s turns rows)
+
+-- A table follows the rules through an allowed recast.
+abbrev pub RecastLineages : Type 0
+RecastLineages = (l : Lineage) (r : Recast) → IsLineage l → recast_checked l r ≡ Ok tt → IsLineage (recast_lineage l r)

@@ -10,6 +10,8 @@ pub mod Changes
 pub mod Views
 pub mod Lineages
 pub mod Lifting
+pub mod Recasts
+pub mod Carried
 pub mod Rows
 pub mod Put
 pub mod Laws

@@ -1,11 +1,12 @@
 // A table's columns through its life.
-ghost use Rattle.std.specs.Prelude.{◌≡◌, IsTrue, IfOk, OnOk, OnErr, IfErr, Ok, ◌<◌, ◌≤◌, length, [], is_ok, map, slice_get, ◌≢◌, IfSome};
+ghost use Rattle.std.specs.Prelude.{◌≡◌, IsTrue, IfOk, OnOk, OnErr, IfErr, Ok, ◌<◌, ◌≤◌, length, [], is_ok, map, slice_get, ◌≢◌, IfSome, nat_lt};
 ghost use Rattle.mesa_schema.specs.declared.views.View.{View as Chosen};
-ghost use Rattle.mesa_schema.specs.Changes.{change_checked, changed, columns_at, columns_of, epoch_of, lifted, rule_checked, with_change};
+ghost use Rattle.mesa_schema.specs.Changes.{change_checked, changed, columns_at, columns_of, epoch_of, lifted, max_changes, rule_checked, with_change};
 ghost use Rattle.mesa_schema.specs.Columns.{key_names};
 ghost use Rattle.mesa_schema.specs.Views.{choice_checked, chosen_values_checked, view_checked, view_columns, with_view};
 ghost use Rattle.mesa_schema.specs.Lineages.{HasDefault, IsLineage};
 ghost use Rattle.mesa_schema.specs.Lifting.{Lifts};
+ghost use Rattle.mesa_schema.specs.Recasts.{recast_checked, recast_lineage};
 ghost use Rattle.mesa_schema.specs.Rows.{IsRowOf};
 
 use crate::allowing::{
@@ -18,14 +19,15 @@ use mesa_list::{Items, TryCopy};
 use std::alloc::{AllocError, Global};
 use std::marker::Model;
 
-/// How many changes a table may have.
+/// How many changes and recasts a table may have.
 pub const MAX_CHANGES: usize = 1000;
 
 /// How many views a table may have.
 pub const MAX_VIEWS: usize = 8;
 
-/// A table's columns through its life: those that it was made with, the linked changes since, and its views. Its epoch is the number of its changes.
+/// A table's columns since it was made or recast: those of its first epoch, the linked changes since, and its views. Each change and each recast raises its epoch by 1.
 pub struct Evolving {
+    begins: u32,
     first: Schema,
     changes: Items<Change>,
     // None while the columns are still the first.
@@ -39,15 +41,16 @@ impl Model for Evolving {
 
     ghost Value = { Lineage };
 
-    ghost view = { λ e. record { first = e.first; changes = e.changes; views = e.views } };
+    ghost view = { λ e. record { begins = e.begins; first = e.first; changes = e.changes; views = e.views } };
 
-    ghost invariant = { λ e. IsKept (record { first = e.first; changes = e.changes; views = e.views }) e.present };
+    ghost invariant = { λ e. IsKept (record { begins = e.begins; first = e.first; changes = e.changes; views = e.views }) e.present };
 }
 
 // One function lets a table's columns go, which an exit calls; a derived one is written out at each exit.
 impl Drop for Evolving {
     fn drop(self) {
         let Evolving {
+            begins: _,
             first: _,
             changes: _,
             present: _,
@@ -59,10 +62,11 @@ impl Drop for Evolving {
 impl Evolving {
     /// A table with these columns, which has no views and no changes yet.
     pub fn new(alloc: Global, first: Schema) -> Self
-        ensures { result ≡ record { first = first; changes = []; views = [] } }
+        ensures { result ≡ record { begins = 0; first = first; changes = []; views = [] } }
     {
         let _ = first.keys();
         Evolving {
+            begins: 0,
             first,
             changes: Items::new(alloc),
             present: None,
@@ -70,24 +74,33 @@ impl Evolving {
         }
     }
 
-    /// How many changes there were.
+    /// The present epoch.
     pub fn epoch(&self) -> u32
         ensures count { result ≡ epoch_of self.now }
         ensures rules { IsLineage self.now }
     {
-        self.changes.len() as u32
+        self.begins + self.changes.len() as u32
+    }
+
+    /// The table's first epoch: that of its making, or of its last recast.
+    pub fn begins(&self) -> u32
+        ensures number { result ≡ self.now.begins }
+        ensures before { result ≤ epoch_of self.now }
+    {
+        self.begins
     }
 
     /// How many key columns the table had at an epoch; changes only add some.
     pub fn keys_at(&self, epoch: u32) -> usize
-        requires { epoch ≤ epoch_of self.now }
+        requires first { self.now.begins ≤ epoch }
+        requires last { epoch ≤ epoch_of self.now }
         ensures { result ≡ length (columns_at self.now epoch).keys }
     {
-        let since = &self.changes.as_slice()[..epoch as usize];
+        let since = &self.changes.as_slice()[..(epoch - self.begins) as usize];
         self.first.keys().len() + added_keys(since)
     }
 
-    /// The columns of epoch 0.
+    /// The columns of the first epoch.
     pub fn first(&self) -> &Schema
         ensures { result.now ≡ self.now.first }
     {
@@ -116,11 +129,12 @@ impl Evolving {
 impl Evolving {
     /// The columns of an epoch.
     pub fn schema_at(&self, epoch: u32) -> Result<Schema, AllocError>
-        requires { epoch ≤ epoch_of self.now }
+        requires first { self.now.begins ≤ epoch }
+        requires last { epoch ≤ epoch_of self.now }
         ensures { IfOk result (λ s. s ≡ columns_at self.now epoch) }
     {
         let (mut keys, mut values) = self.first.columns()?;
-        for change in &self.changes.as_slice()[..epoch as usize] {
+        for change in &self.changes.as_slice()[..(epoch - self.begins) as usize] {
             change_columns(&mut keys, &mut values, change)?;
         }
         Ok(Schema::of(keys, values))
@@ -128,19 +142,21 @@ impl Evolving {
 
     /// How rows of an epoch are lifted to the present.
     pub fn lift_from(&self, epoch: u32) -> Result<Lift, AllocError>
-        requires { epoch ≤ epoch_of self.now }
+        requires first { self.now.begins ≤ epoch }
+        requires last { epoch ≤ epoch_of self.now }
         ensures { IfOk result (λ lift. Lifts lift self.now epoch) }
     {
         if epoch == self.epoch() {
             return Ok(Lift::none(self.changes.allocator()));
         }
         let (keys, values) = self.schema_at(epoch)?.into_columns();
-        let since = &self.changes.as_slice()[epoch as usize..];
+        let since = &self.changes.as_slice()[(epoch - self.begins) as usize..];
         Lift::through(self.changes.allocator(), keys, values, since)
     }
 
     /// A row of an epoch at present. Many rows of one epoch are lifted by one `lift_from`.
     pub fn lift_row(&self, from: u32, row: Row) -> Result<Row, AllocError>
+        requires first { self.now.begins ≤ from }
         requires epoch { from ≤ epoch_of self.now }
         requires form { IsRowOf (columns_at self.now from) row }
         ensures { IfOk result (λ now. now ≡ lifted self.now from (epoch_of self.now) row) }
@@ -190,7 +206,14 @@ impl Evolving {
     pub fn allows(&self, change: &Change) -> bool
         ensures { result ≡ is_ok (change_checked self.now change.now) }
     {
-        self.changes.len() < MAX_CHANGES && self.keeps_rule(change)
+        self.has_room() && self.keeps_rule(change)
+    }
+
+    // Whether a change or a recast more is not too many.
+    fn has_room(&self) -> bool
+        ensures { result ≡ nat_lt (epoch_of self.now) max_changes }
+    {
+        (self.epoch() as usize) < MAX_CHANGES
     }
 
     fn keeps_rule(&self, change: &Change) -> bool
@@ -234,13 +257,32 @@ impl Evolving {
         ensures err { OnErr result (self.new ≡ self.old) }
     {
         self.check_rule(&change)?;
-        if self.changes.len() >= MAX_CHANGES {
+        if !self.has_room() {
             return Err(ChangeError::EpochsFull);
         }
         let present = self.present_after(&change)?;
         self.changes.push(change)?;
         self.present = Some(present);
         Ok(())
+    }
+
+    /// The table with these of its present columns, in this order: they begin the next epoch. Its views stay.
+    pub fn renewed(&self, keys: Vec<Name>, values: Vec<Name>) -> Result<Evolving, AllocError>
+        requires { recast_checked self.now (record { keys = keys.items; values = values.items }) ≡ Ok tt }
+        ensures { IfOk result (λ e. e ≡ recast_lineage self.now (record { keys = keys.items; values = values.items })) }
+    {
+        let alloc = self.changes.allocator();
+        let present = self.present();
+        let first_keys = chosen_columns(alloc, present.keys(), &keys)?;
+        let first_values = chosen_columns(alloc, present.values(), &values)?;
+        let views = self.views.copy()?;
+        Ok(Evolving {
+            begins: self.epoch() + 1,
+            first: Schema::of(first_keys, first_values),
+            changes: Items::new(alloc),
+            present: None,
+            views,
+        })
     }
 
     // The present columns after a change that keeps the rules.
@@ -320,6 +362,7 @@ impl TryCopy for Evolving {
         };
         let views = self.views.copy()?;
         Ok(Evolving {
+            begins: self.begins,
             first,
             changes,
             present,

@@ -1,5 +1,5 @@
 // What holds of every fold, grouping, lifted row and table, whichever function made them.
-ghost use Rattle.mesa_schema.specs.Laws.{ChangedColumns, ChangedLineages, FiltersFold, FoldsForm, FoldsFull, FoldsRise, GroupsFolds, GroupsForm, GroupsRise, GroupsWhole, GroupsWholeFolds, KeepsForm, KeysGrow, LiftedFolds, LiftedForms, LiftedKeys, LiftedMore, LiftedNow, LiftedRise, LiftsFolds, NewLineages, PutsGiven, PutsOne, Refolds, SameFolds, ViewedLineages, ViewsOutlive};
+ghost use Rattle.mesa_schema.specs.Laws.{CarriesFolds, CarriesForm, ChangedColumns, ChangedLineages, FiltersFold, FoldsForm, FoldsFull, FoldsRise, GroupsFolds, GroupsForm, GroupsRise, GroupsWhole, GroupsWholeFolds, KeepsForm, KeysGrow, LiftedFolds, LiftedForms, LiftedKeys, LiftedMore, LiftedNow, LiftedRise, LiftsFolds, NewLineages, PutsGiven, PutsOne, RecastLineages, RecastsFold, RecastsForm, RecastsRise, Refolds, SameFolds, ViewedLineages, ViewsOutlast, ViewsOutlive};
 
 /// Parts that stand one after the other may be folded first.
 pub fn folds_again()
@@ -66,4 +66,23 @@ pub fn tables_keep_rules()
 /// Views outlive the changes of their tables.
 pub fn views_outlive()
     ensures { ViewsOutlive }
+{}
+
+/// Rows may be folded before a recast or after it; recast rows have the form of its columns, and their keys rise; and a table follows the rules through it.
+pub fn recasts_fold()
+    ensures folds { RecastsFold }
+    ensures form { RecastsForm }
+    ensures rise { RecastsRise }
+    ensures lineages { RecastLineages }
+{}
+
+/// Views outlast a recast that keeps their columns.
+pub fn views_outlast()
+    ensures { ViewsOutlast }
+{}
+
+/// Rows may be carried through changes and recasts before folding or after it.
+pub fn rows_are_carried()
+    ensures folds { CarriesFolds }
+    ensures form { CarriesForm }
 {}

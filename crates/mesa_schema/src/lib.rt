@@ -14,6 +14,7 @@ mod lifting;
 mod named;
 mod names;
 mod numbers;
+mod recasts;
 mod rows;
 mod schema;
 mod views;
@@ -24,12 +25,14 @@ pub use columns::{KeyColumn, ValueColumn};
 pub use evolving::{Evolving, MAX_CHANGES, MAX_VIEWS};
 pub use laws::{
     folds_again, folds_by_key, folds_go_on, groups_folds, groups_rise, groups_whole, lifts_folds,
-    lifts_to_present, tables_keep_rules, views_outlive,
+    lifts_to_present, recasts_fold, rows_are_carried, tables_keep_rules, views_outlast,
+    views_outlive,
 };
 pub use lifting::Lift;
 pub use named::{Named, has_name, has_names, place_of, repeated_place};
 pub use names::{Name, NameError, is_name_byte};
 pub use numbers::{key_value, signed};
+pub use recasts::RecastError;
 pub use rows::{Fields, KeyList, Row, RowList, Totals, Words};
 pub use schema::{MAX_COLUMNS, Schema, SchemaError};
 pub use views::{View, ViewError};

@@ -24,6 +24,7 @@ row_seen k v = record { key = key k; values = pos v ∷ [] }
 -- table,t,j int;k int,v sum and view,w,t,k,v
 abbrev lineage : Lineage
 lineage = record {
+  begins = 0;
   first = record { keys = record { name = codes "j"; kind = kind.Int } ∷ record { name = codes "k"; kind = kind.Int } ∷ []; values = record { name = codes "v"; agg = agg.Sum } ∷ [] };
   changes = [];
   views = record { name = codes "w"; keys = codes "k" ∷ []; values = codes "v" ∷ [] } ∷ [];

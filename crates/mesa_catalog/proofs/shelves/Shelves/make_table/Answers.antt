@@ -13,7 +13,7 @@ returns-clause-made c =
     let first = sym (ap (λ (l : Lineage). l.first) lineage) in
     let present = c.present-present.ensures.columns ∙ ap (λ (l : Lineage). columns_of l) (c.deref.ensures ∙ lineage) ∙ first in
     new_made c.args.self.now _ c.requires.shelved (record {
-      lineage = lineage ∙ (λ i. record { first = first i; changes = []; views = [] });
+      lineage = lineage ∙ (λ i. record { begins = 0; first = first i; changes = []; views = [] });
       totals = c.in_ok-totals.ensures ∙ ap (λ (columns : List ValueColumn). replicate (sums_in (map (λ (column : ValueColumn). column.agg) columns)) 0) c.values.ensures.same ∙ ap (λ (s : Columns). replicate (sums_in (aggs_of s)) 0) present;
       oldest = refl;
       base = c.base_before_floor.ensures;

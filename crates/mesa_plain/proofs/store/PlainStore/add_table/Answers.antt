@@ -16,7 +16,7 @@ invariant_of-self-2 c =
     let s = c.self.inside in
     let tables = map known_of s.tables.items in
     let g : Glanced = record { name = c.args.name; evolving = c.in_ok-evolving.evolving } in
-    let lineage : c.in_ok-evolving.evolving.value ≡ record { first = c.args.schema; changes = []; views = [] } = c.in_ok-evolving.ensures.ok ∙ c.new.ensures in
+    let lineage : c.in_ok-evolving.evolving.value ≡ record { begins = 0; first = c.args.schema; changes = []; views = [] } = c.in_ok-evolving.ensures.ok ∙ c.new.ensures in
     let zeros : c.in_ok-totals.totals ≡ replicate (sums_in (aggs_of (columns_of c.in_ok-evolving.evolving.value))) 0 = c.in_ok-totals.ensures ∙ ap (λ (l : Lineage). replicate (sums_in (aggs_of (columns_of l))) 0) (sym lineage) in
     let pushed : map known_of c.push_table.new.tables.items ≡ tables ++ known_of g ∷ [] = ap (map known_of) (c.push_table.ensures ∙ ap (λ (ts : List Glanced). ts ++ g ∷ []) c.in_ok-reserve.ensures.items) ∙ map-append known_of s.tables.items (g ∷ []) in
     let more : c.push.new.self ≡ s.oldests ++ s.floor ∷ [] = c.in_ok-push.ensures.ok ∙ ap (λ (ns : List ℕ). ns ++ s.floor ∷ []) c.in_ok-oldests.ensures in
@@ -29,7 +29,7 @@ returns-clause-added c =
     let tables = map known_of s.tables.items in
     let versions = s.versions.items in
     let g : Glanced = record { name = c.args.name; evolving = c.in_ok-evolving.evolving } in
-    let lineage : c.in_ok-evolving.evolving.value ≡ record { first = c.args.schema; changes = []; views = [] } = c.in_ok-evolving.ensures.ok ∙ c.new.ensures in
+    let lineage : c.in_ok-evolving.evolving.value ≡ record { begins = 0; first = c.args.schema; changes = []; views = [] } = c.in_ok-evolving.ensures.ok ∙ c.new.ensures in
     let pushed : map known_of c.push_table.new.tables.items ≡ tables ++ known_of g ∷ [] = ap (map known_of) (c.push_table.ensures ∙ ap (λ (ts : List Glanced). ts ++ g ∷ []) c.in_ok-reserve.ensures.items) ∙ map-append known_of s.tables.items (g ∷ []) in
     let more : c.push.new.self ≡ s.oldests ++ s.floor ∷ [] = c.in_ok-push.ensures.ok ∙ ap (λ (ns : List ℕ). ns ++ s.floor ∷ []) c.in_ok-oldests.ensures in
     let made = (λ j. tables_in (from_of s.floor (more j)) 0 (c.in_ok-push-2.ensures.ok j) versions (pushed j)) ∙ added tables s.totals versions (from_of s.floor s.oldests) s.next (known_of g) c.in_ok-totals.totals c.args.schema c.self.invariant lineage c.in_ok-totals.ensures in

@@ -1,4 +1,4 @@
-use Rattle.std.proofs.Common.{◌∙◌, ◌+◌, ap, sym, length, take}
+use Rattle.std.proofs.Common.{◌∙◌, ◌+◌, ◌-◌, ap, sym, length, take}
 use Rattle.std.specs.Prelude.{count_by}
 use Rattle.mesa_schema.specs.Changes.{adds_key}
 use Rattle.mesa_schema.proofs.KeyCounts.{key_count}
@@ -7,6 +7,6 @@ use Rattle.mesa_schema.proofs.evolving.Evolving.keys_at.Goals as goal
 pub returns : goal.returns
 returns c =
     (λ i. length (c.keys.ensures.same i) + c.added_keys.ensures.count i)
-    ∙ ap (λ changes. length c.self.inside.first.keys + count_by adds_key (take c.args.epoch changes)) c.as_slice.ensures
-    ∙ ap (λ l. length l.first.keys + count_by adds_key (take c.args.epoch l.changes)) c.self.view_is
-    ∙ sym (key_count c.args.self.now.first (take c.args.epoch c.args.self.now.changes))
+    ∙ ap (λ changes. length c.self.inside.first.keys + count_by adds_key (take (c.args.epoch - c.self.inside.begins) changes)) c.as_slice.ensures
+    ∙ ap (λ l. length l.first.keys + count_by adds_key (take (c.args.epoch - l.begins) l.changes)) c.self.view_is
+    ∙ sym (key_count c.args.self.now.first (take (c.args.epoch - c.args.self.now.begins) c.args.self.now.changes))
