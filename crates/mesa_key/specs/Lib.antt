@@ -1,4 +1,5 @@
 pub mod Columns
+pub mod Faults
 pub mod Order
 pub mod Spelling
 pub mod Text

@@ -63,7 +63,8 @@ fn has_zero(bytes: &[u8]) -> bool
     bytes.iter().any(|b| *b == 0)
 }
 
-fn is_utf8(bytes: &[u8]) -> bool
+/// Whether bytes are UTF-8.
+pub(crate) fn is_utf8(bytes: &[u8]) -> bool
     ensures { result ≡ utf8_test bytes.now }
 {
     str::from_utf8(bytes).is_ok()

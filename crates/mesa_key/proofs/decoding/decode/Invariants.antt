@@ -1,4 +1,5 @@
 use Rattle.std.proofs.Common.{◌≡◌, ◌≤◌, ◌++◌, length}
+use Rattle.mesa_key.specs.Faults.{fault_of_key}
 use Rattle.mesa_key.specs.Spelling.{key_of}
 use Rattle.mesa_key.proofs.Reading.{after_key, begins_with_key}
 use Rattle.mesa_key.proofs.decoding.decode.Given as goal
@@ -9,6 +10,7 @@ invariant-loop-column l = record {
   read : key_of l.types l.bytes ≡ l.key ++ key_of l.columns.kinds l.columns.bytes;
   begins : begins_with_key l.types l.bytes ≡ begins_with_key l.columns.kinds l.columns.bytes;
   after : after_key l.types l.bytes ≡ after_key l.columns.kinds l.columns.bytes;
+  fault : fault_of_key l.types l.bytes ≡ fault_of_key l.columns.kinds l.columns.bytes;
   within : length l.columns.bytes ≤ length l.bytes;
 }
 
