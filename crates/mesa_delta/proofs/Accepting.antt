@@ -32,7 +32,7 @@ use Rattle.mesa_delta.proofs.Steps.{Reads, blocks_once}
 pub tail_accepts : FitsAlone → (content : Option (List ℕ)) (size : ℕ) (s : Layout) (file : FileRef) (d : Damage) (b : List ℕ) (rows : List Row) → IsTrue (is_schema s.columns) → file.len < 2 ^ 64 → content ≡ Some b → length b ≡ size → IsFile s rows b → IsReferenceOf s file.id rows file
     → IsTailDamage content size s file d → ⊥
 tail_accepts law content size s file d b rows schema fits at sized h ref (inl wrong) = wrong.1 (sym sized ∙ ap length h.spelled ∙ sym ref.len)
-tail_accepts law content size s file d b rows schema fits at sized h ref (inr (piece, read, why)) =
+tail_accepts law content size s file d b rows schema fits at sized h ref (inr (same, (piece, read, why))) =
     let len : length b ≡ file.len = ap length h.spelled ∙ sym ref.len in
     let t = tail_of_file law s rows b schema h (omega (arith, len, fits)) in
     let parts = blocks_of s rows in
@@ -49,7 +49,7 @@ tail_accepts law content size s file d b rows schema fits at sized h ref (inr (p
 pub block_accepts : FitsAlone → {R : Type 0} (bytes : R → Option (List ℕ)) (r : DeltaReader R) (size i : ℕ) (parts : List (List Row)) (d : Damage) (b : List ℕ) (rows : List Row) → IsIndex r.index → i < length r.index.entries → bytes r.reader ≡ Some b → length b ≡ size → IsIndexed r.index rows b → HasRead bytes r parts
     → IsBlockDamage (bytes r.reader) size r.index i parts d → ⊥
 block_accepts law bytes r size i parts d b rows index lt at sized f h (inl wrong) = wrong.1 (sym sized ∙ f.over.len)
-block_accepts law bytes r size i parts d b rows index lt at sized f h (inr (piece, read, why)) =
+block_accepts law bytes r size i parts d b rows index lt at sized f h (inr (same, (piece, read, why))) =
     let x = r.index in
     let here = is_at law x rows b i index f lt in
     let is : piece ≡ piece_of x i b = read.told b at in

@@ -17,17 +17,17 @@ use Rattle.mesa_delta.proofs.Steps.{Reads, not_next, one_read}
 
 -- damage of a block by itself is damage of it behind others
 pub weaker : (told : Option (List ℕ)) (size : ℕ) (x : Indexed) (i : ℕ) (parts : List (List Row)) (d : Damage)
-    → (IsWrongLength x.file x.len size d ⊎ IsPieceDamage told x.file (entry_of x.entries i).offset (entry_of x.entries i).len (entry_of x.entries i).digest (IsNoBlock x i) d) → IsBlockDamage told size x i parts d
+    → (IsWrongLength x.file x.len size d ⊎ ((size ≡ x.len) × IsPieceDamage told x.file (entry_of x.entries i).offset (entry_of x.entries i).len (entry_of x.entries i).digest (IsNoBlock x i) d)) → IsBlockDamage told size x i parts d
 weaker told size x i parts d (inl wrong) = inl wrong
-weaker told size x i parts d (inr (piece, read, inl wrong)) = inr (piece, read, inl wrong)
-weaker told size x i parts d (inr (piece, read, inr misfit)) = inr (piece, read, inr (misfit.0, λ rows b f begins is. misfit.1 rows b f is))
+weaker told size x i parts d (inr (sized, (piece, read, inl wrong))) = inr (sized, (piece, read, inl wrong))
+weaker told size x i parts d (inr (sized, (piece, read, inr misfit))) = inr (sized, (piece, read, inr (misfit.0, λ rows b f begins is. misfit.1 rows b f is)))
 
 -- damage of a block that doesn't follow
-pub unfollowed : FitsAlone → Reads → (told : Option (List ℕ)) (size : ℕ) (x : Indexed) (run : Run) (kept parts : List (List Row)) (part rows : List Row) (i : ℕ) (d : Damage) → IsIndex x → i < length x.entries → i ≡ length kept → IsRun x.layout run kept
+pub unfollowed : FitsAlone → Reads → (told : Option (List ℕ)) (size : ℕ) (x : Indexed) (run : Run) (kept parts : List (List Row)) (part rows : List Row) (i : ℕ) (d : Damage) → size ≡ x.len → IsIndex x → i < length x.entries → i ≡ length kept → IsRun x.layout run kept
     → take (length kept) x.entries ≡ places x.layout 0 kept → rows ≡ part → IsBlock x i part → ((b : List ℕ) → told ≡ Some b → piece_of x i b ≡ block x.layout part)
     → d ≡ record { file = x.file; place = (entry_of x.entries run.next).offset; want = seen.Fits; found = seen.Misfit 0 } → IsNeverNext x run rows
     → ((b : List ℕ) → take (length (laid x.layout parts)) b ≡ laid x.layout parts → take (length (laid x.layout kept)) b ≡ laid x.layout kept) → IsBlockDamage told size x i parts d
-unfollowed law reads told size x run kept parts part rows i d index lt at h before same b piece is never begins =
+unfollowed law reads told size x run kept parts part rows i d sized index lt at h before same b piece is never begins =
     let s = x.layout in
     let e = entry_of x.entries i in
     let place : run.next ≡ i = h.next ∙ sym at in
@@ -35,9 +35,12 @@ unfollowed law reads told size x run kept parts part rows i d index lt at h befo
     let inside = subst (λ (n : ℕ). n < length x.entries) at lt in
     let next = not_next law reads x run kept part index h before inside b.rows (subst (IsNeverNext x run) same never) in
     inr (
-      block s part,
-      record { len = sym (ap (λ (k : Entry). k.len) b.entry); told = λ c told_so. sym (piece c told_so) },
-      inr ((damage, sym (ap (λ (k : Entry). k.digest) b.entry)), λ all c f begun piece_is. next all c f (begins c begun) (subst (λ (n : ℕ). piece_of x n c ≡ block s part) at piece_is)),
+      sized,
+      (
+        block s part,
+        record { len = sym (ap (λ (k : Entry). k.len) b.entry); told = λ c told_so. sym (piece c told_so) },
+        inr ((damage, sym (ap (λ (k : Entry). k.digest) b.entry)), λ all c f begun piece_is. next all c f (begins c begun) (subst (λ (n : ℕ). piece_of x n c ≡ block s part) at piece_is)),
+      ),
     )
 
 -- a block that follows

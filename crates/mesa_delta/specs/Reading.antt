@@ -105,12 +105,12 @@ IsNoneIn s short bytes = (rows : List Row) → AreRows s rows → block s rows �
 abbrev pub IsNeverNext : Indexed → Run → List Row → Type 0
 IsNeverNext x run part = (parts more : List (List Row)) (rows : List Row) (bytes : List ℕ) → IsRun x.layout run parts → IsIndexed x rows bytes → blocks_of x.layout rows ≢ parts ++ part ∷ more
 
--- What damage is told of a block, after these were read: the file's length or the block's digest isn't the recorded one, or a piece of this digest can't be the block of a file with this index that begins with these.
+-- What damage is told of a block, after these were read: the file's length isn't the recorded one; or it is, and the block's digest isn't, or a piece of this digest can't be the block of a file with this index that begins with these.
 abbrev pub IsBlockDamage : Option (List ℕ) → ℕ → Indexed → ℕ → List (List Row) → Damage → Type 0
 IsBlockDamage told size x i parts d =
-    IsWrongLength x.file x.len size d ⊎ IsPieceDamage told x.file (entry_of x.entries i).offset (entry_of x.entries i).len (entry_of x.entries i).digest (IsNotNext x i parts) d
+    IsWrongLength x.file x.len size d ⊎ ((size ≡ x.len) × IsPieceDamage told x.file (entry_of x.entries i).offset (entry_of x.entries i).len (entry_of x.entries i).digest (IsNotNext x i parts) d)
 
--- What damage is told of a tail: the file's length or the tail's digest isn't the recorded one, or a piece of this digest is the tail of no file of the recorded length and count of blocks.
+-- What damage is told of a tail: the file's length isn't the recorded one; or it is, and the tail's digest isn't, or a piece of this digest is the tail of no file of the recorded length and count of blocks.
 abbrev pub IsTailDamage : Option (List ℕ) → ℕ → Layout → FileRef → Damage → Type 0
 IsTailDamage told size s file d =
-    IsWrongLength file.id file.len size d ⊎ IsPieceDamage told file.id (tail_place s file) (file.len - tail_place s file) file.digest (IsNoTail s file) d
+    IsWrongLength file.id file.len size d ⊎ ((size ≡ file.len) × IsPieceDamage told file.id (tail_place s file) (file.len - tail_place s file) file.digest (IsNoTail s file) d)

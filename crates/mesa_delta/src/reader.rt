@@ -162,7 +162,8 @@ fn fetch<R: FileReader>(
     ensures reads { R.reads reader.new ≤ R.reads reader.old + 1 }
     ensures cause { HasFaultCause (λ e. e ≡ file_error.Read) (R.faults reader.old) (R.faults reader.new) result }
     ensures damaged { IfErr result (λ e. (d : AnyDamage) → e ≡ file_error.Damaged d → IsWrongLength index.now.file index.now.len (R.size reader.old) d
-        ⊎ IsPieceDamage (R.bytes reader.old) index.now.file (entry_of index.now.entries i).offset (entry_of index.now.entries i).len (entry_of index.now.entries i).digest (IsNoBlock index.now i) d) }
+        ⊎ ((R.size reader.old ≡ index.now.len) × IsPieceDamage (R.bytes reader.old) index.now.file (entry_of index.now.entries i).offset (entry_of index.now.entries i).len (entry_of index.now.entries i).digest (IsNoBlock index.now i) d)) }
+    ensures sized { OnOk result (R.size reader.old ≡ index.now.len) }
 {
     fits_alone();
     let entry = index.entry(i);

@@ -82,8 +82,8 @@ differs told s file d is = elim is.shown [
     by : (content : Option (List ℕ)) (size : ℕ) → IsTailDamage content size s file d → d.want ≢ d.found
     by content size shown = elim shown [
       | inl wrong ↦ subst (λ (x : Damage). x.want ≢ x.found) (sym wrong.0) (λ e. wrong.1 (let same : size ≡ file.len = cc in same))
-      | inr piece ↦ elim piece.2 [
-        | inl digest ↦ subst (λ (x : Damage). x.want ≢ x.found) (sym digest.0) (λ e. digest.1 (let same : sha256 piece.0 ≡ file.digest = cc in same))
+      | inr piece ↦ elim piece.1.2 [
+        | inl digest ↦ subst (λ (x : Damage). x.want ≢ x.found) (sym digest.0) (λ e. digest.1 (let same : sha256 piece.1.0 ≡ file.digest = cc in same))
         | inr misfit ↦ subst (λ (x : Damage). x.want ≢ x.found) (sym misfit.0.0) (λ e. absurd cc)
       ]
     ]

@@ -63,7 +63,7 @@ piece_differs told file place len digest Never d (piece, read, inr misfit) = tol
 
 block_differs : (told : Option (List ℕ)) (size : ℕ) (x : Indexed) (block : ℕ) (before : List (List Row)) (d : Damage) → IsBlockDamage told size x block before d → Differs d
 block_differs told size x block before d (inl wrong) = length_differs x.file x.len size d wrong
-block_differs told size x block before d (inr piece) = piece_differs told x.file _ _ _ _ d piece
+block_differs told size x block before d (inr piece) = piece_differs told x.file _ _ _ _ d piece.1
 
 pub damaged_differs : {R : Type 0} (bytes : R → Option (List ℕ)) (size : R → ℕ) (i : Input R) (d : Damage) → IsDamaged bytes size i d → Differs d
 damaged_differs bytes size i d damaged = block_differs (bytes (reader_in i)) (size (reader_in i)) _ damaged.block damaged.before d damaged.shown

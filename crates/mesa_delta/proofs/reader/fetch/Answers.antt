@@ -29,4 +29,4 @@ returns-in-None-clause-damaged g c = λ d is.
     let damage : c.misfit.result ≡ record { file = x.file; place = e.offset; want = Fits; found = Misfit 0 } =
     c.misfit.ensures ∙ ap (λ (f : ℕ). record { file = f; place = c.entry-entry.result.offset; want = Fits; found = Misfit 0 }) c.file-in-None.ensures ∙ ap (λ (k : Entry). record { file = x.file; place = k.offset; want = Fits; found = Misfit 0 }) at in
     let told : IsMisfit x.file e.offset e.digest piece d = (sym same ∙ damage, digest) in
-    inr (piece, read, inr (told, never))
+    inr (search rules, (piece, read, inr (told, never)))

@@ -33,4 +33,4 @@ returns-in-None-clause-damaged g c = λ d is.
     let read : IsPiece (g.R.FileReader.bytes c.args.reader.now) (tail_place s file) (file.len - tail_place s file) piece = subst (λ p. IsPiece (g.R.FileReader.bytes c.args.reader.now) p (file.len - p) piece) at c.in_ok-read_piece.ensures.piece in
     let digest : sha256 piece ≡ file.digest = search rules in
     let told : IsMisfit file.id (tail_place s file) file.digest piece d = (sym same ∙ c.misfit.ensures ∙ ap (λ p. record { file = file.id; place = p; want = Fits; found = Misfit 0 }) at, digest) in
-    inr (piece, read, inr (told, never))
+    inr (search rules, (piece, read, inr (told, never)))

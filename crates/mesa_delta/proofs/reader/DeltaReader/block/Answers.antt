@@ -17,7 +17,7 @@ returns-in-Err-go_on-clause-damaged g c = λ d is parts h.
     let self = c.args.self.now in
     let p = c.start-start.ensures in
     let run = start_run self.index.layout c.start-start.result p.next p.rows p.last p.count in
-    unfollowed c.fits_alone.ensures c.reads_blocks.ensures (r.bytes self.reader) (r.size self.reader) self.index c.start-start.result [] parts c.in-Ok.block c.in-Ok.block c.args.i d c.blocks-blocks.ensures.index c.requires c.if-i-eq0.true run refl refl
+    unfollowed c.fits_alone.ensures c.reads_blocks.ensures (r.bytes self.reader) (r.size self.reader) self.index c.start-start.result [] parts c.in-Ok.block c.in-Ok.block c.args.i d c.in-Ok.ensures.sized c.blocks-blocks.ensures.index c.requires c.if-i-eq0.true run refl refl
     c.in-Ok.ensures.block c.in-Ok.ensures.told (c.in-Err-go_on.ensures.err d is) (c.in-Err-go_on.ensures.never d is) (λ b begun. refl)
 
 pub returns-in-Err-go_on-clause-accepts : goal.returns-in-Err-go_on-clause-accepts
@@ -27,7 +27,7 @@ returns-in-Err-go_on-clause-accepts g c = λ d is parts h b all at f.
     let p = c.start-start.ensures in
     let run = start_run self.index.layout c.start-start.result p.next p.rows p.last p.count in
     block_accepts c.fits_alone.ensures r.bytes self (r.size self.reader) c.args.i parts d b all c.blocks-blocks.ensures.index c.requires at (c.told_sizes.ensures b at) f h
-    (unfollowed c.fits_alone.ensures c.reads_blocks.ensures (r.bytes self.reader) (r.size self.reader) self.index c.start-start.result [] parts c.in-Ok.block c.in-Ok.block c.args.i d c.blocks-blocks.ensures.index c.requires c.if-i-eq0.true run refl refl
+    (unfollowed c.fits_alone.ensures c.reads_blocks.ensures (r.bytes self.reader) (r.size self.reader) self.index c.start-start.result [] parts c.in-Ok.block c.in-Ok.block c.args.i d c.in-Ok.ensures.sized c.blocks-blocks.ensures.index c.requires c.if-i-eq0.true run refl refl
     c.in-Ok.ensures.block c.in-Ok.ensures.told (c.in-Err-go_on.ensures.err d is) (c.in-Err-go_on.ensures.never d is) (λ b begun. refl))
 
 pub returns-then-i-eq0-clause-again : goal.returns-then-i-eq0-clause-again
@@ -62,7 +62,7 @@ pub returns-in-Err-go_on-2-clause-damaged : goal.returns-in-Err-go_on-2-clause-d
 returns-in-Err-go_on-2-clause-damaged g c = λ d is parts h.
     let r = g.R.FileReader in
     let self = c.args.self.now in
-    unfollowed c.fits_alone.ensures c.reads_blocks.ensures (r.bytes self.reader) (r.size self.reader) self.index self.run parts parts c.in-Ok.block c.in-Ok.block c.args.i d c.blocks-blocks.ensures.index c.requires (c.if-i-self.true ∙ h.run.next) h.run h.places refl
+    unfollowed c.fits_alone.ensures c.reads_blocks.ensures (r.bytes self.reader) (r.size self.reader) self.index self.run parts parts c.in-Ok.block c.in-Ok.block c.args.i d c.in-Ok.ensures.sized c.blocks-blocks.ensures.index c.requires (c.if-i-self.true ∙ h.run.next) h.run h.places refl
     c.in-Ok.ensures.block c.in-Ok.ensures.told (c.in-Err-go_on-2.ensures.err d is) (c.in-Err-go_on-2.ensures.never d is) (λ b begun. begun)
 
 pub returns-in-Err-go_on-2-clause-accepts : goal.returns-in-Err-go_on-2-clause-accepts
@@ -70,7 +70,7 @@ returns-in-Err-go_on-2-clause-accepts g c = λ d is parts h b all at f.
     let r = g.R.FileReader in
     let self = c.args.self.now in
     block_accepts c.fits_alone.ensures r.bytes self (r.size self.reader) c.args.i parts d b all c.blocks-blocks.ensures.index c.requires at (c.told_sizes.ensures b at) f h
-    (unfollowed c.fits_alone.ensures c.reads_blocks.ensures (r.bytes self.reader) (r.size self.reader) self.index self.run parts parts c.in-Ok.block c.in-Ok.block c.args.i d c.blocks-blocks.ensures.index c.requires (c.if-i-self.true ∙ h.run.next) h.run h.places refl
+    (unfollowed c.fits_alone.ensures c.reads_blocks.ensures (r.bytes self.reader) (r.size self.reader) self.index self.run parts parts c.in-Ok.block c.in-Ok.block c.args.i d c.in-Ok.ensures.sized c.blocks-blocks.ensures.index c.requires (c.if-i-self.true ∙ h.run.next) h.run h.places refl
     c.in-Ok.ensures.block c.in-Ok.ensures.told (c.in-Err-go_on-2.ensures.err d is) (c.in-Err-go_on-2.ensures.never d is) (λ b begun. begun))
 
 pub returns-then-i-self-clause-again : goal.returns-then-i-self-clause-again
