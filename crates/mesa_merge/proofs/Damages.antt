@@ -1,9 +1,14 @@
 -- Which damage is told.
-use Rattle.std.proofs.Common.{◌≡◌, inl, inr, ℕ, ◌+◌, ◌<◌, List, [], ◌∷◌, ◌++◌, refl, sym, ◌∙◌, ap, subst, length, get_or, set, arith, true}
+use Rattle.std.proofs.Common.{◌≡◌, inl, inr, ℕ, ℤ, ◌+◌, ◌<◌, List, [], ◌∷◌, ◌++◌, refl, sym, ◌∙◌, ap, subst, length, get_or, set, arith, true}
 use Rattle.std.proofs.lemmas.List.{get_or-set_same}
 use Rattle.std.specs.Prelude.{Option, Some, slice_get}
 use Rattle.std.specs.Ordering.{is_ge}
 use Rattle.std.specs.declared.cmp.Ordering.TheVariants.{Less, Equal, Greater}
+use Rattle.std.specs.List.{AllByRecursion}
+use Rattle.mesa_value.specs.Agg.{IsSum}
+use Rattle.mesa_value.specs.declared.Agg.{Agg}
+use Rattle.mesa_value.specs.declared.Agg.TheVariants as agg
+use Rattle.mesa_schema.specs.Folded.{AllCombine, row_combined}
 use Rattle.mesa_file.specs.declared.damage.Damage.{Damage}
 use Rattle.mesa_key.specs.Order.{byte_cmp}
 use Rattle.mesa_schema.specs.declared.rows.Row.{Row}
@@ -46,10 +51,30 @@ taken_key key i hands givens more rows least there lt =
     let same : more.key ≡ key = ap (λ (r : Row). r.key) (heads_same _ _ _ _ (sym there ∙ least.least.there)) ∙ least.is in
     subst (HasKey key) (sym (get_or-set_same givens i (get_or givens i [] ++ more ∷ []) [] lt)) (key_behind key (get_or givens i []) (more ∷ []) (inl same))
 
+-- where all values of a combined row keep the bound of sums, all values combine
+combine : (aggs : List Agg) (old new : List ℤ) → AllByRecursion IsSum (row_combined aggs old new) → AllCombine aggs old new
+combine [] old new all = tt
+combine (agg ∷ aggs) [] new all = tt
+combine (agg ∷ aggs) (a ∷ old) [] all = tt
+combine (agg.Sum ∷ aggs) (a ∷ old) (b ∷ new) all = (all.0, combine aggs old new all.1)
+combine (agg.Min ∷ aggs) (a ∷ old) (b ∷ new) all = (tt, combine aggs old new all.1)
+combine (agg.Max ∷ aggs) (a ∷ old) (b ∷ new) all = (tt, combine aggs old new all.1)
+combine (agg.Replace ∷ aggs) (a ∷ old) (b ∷ new) all = (tt, combine aggs old new all.1)
+
+-- a row that doesn't combine with another has a value in the combined row that doesn't keep it
+pub leaves_bound : (aggs : List Agg) (old new : List ℤ) → (AllCombine aggs old new → ⊥) → AllByRecursion IsSum (row_combined aggs old new) → ⊥
+leaves_bound aggs old new off all = off (combine aggs old new all)
+
 -- the newest input that holds the key of a row so far is told
 pub sum_of : {R : Type 0} (bytes : R → Option (List ℕ)) (s : Columns) (inputs : List (Input R)) (cursors : List Cursor) (i at : ℕ) (row : Row) (front : List Row) (givens : List (List Row)) (file : Known) (d : Damage)
-    → IsGathering bytes s inputs cursors (i + 1) row front givens → HasKey row.key (get_or givens i []) → IsNewest row.key i at (hands_of cursors) → slice_get (knowns_of bytes inputs) at ≡ Some file → d ≡ sum_damage file.file.file → IsSumOf bytes inputs d
-sum_of bytes s inputs cursors i at row front givens file d g here newest one told = record {
+    → IsGathering bytes s inputs cursors (i + 1) row front givens → (AllByRecursion IsSum row.values → ⊥) → HasKey row.key (get_or givens i []) → IsNewest row.key i at (hands_of cursors) → slice_get (knowns_of bytes inputs) at ≡ Some file → d ≡ sum_damage file.file.file → IsSumOf bytes inputs d
+sum_of bytes s inputs cursors i at row front givens file d g off here newest one told = record {
+  columns = s;
+  front = front;
+  sum = row;
+  fold = g.fold;
+  leaves = off;
+  is = refl;
   cursors = cursors;
   givens = givens;
   given = g.given;

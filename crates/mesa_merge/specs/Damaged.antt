@@ -1,7 +1,11 @@
 -- What damage a merge tells of.
 use Rattle.std.specs.Prelude.{◌≡◌, ◌⊎◌, ℕ, ◌<◌, List, [], ◌∷◌, ◌++◌, length, get_or, slice_get, Option, Some}
+use Rattle.std.specs.List.{AllByRecursion}
+use Rattle.mesa_value.specs.Agg.{IsSum}
 use Rattle.mesa_file.specs.declared.damage.Damage.{Damage}
 use Rattle.mesa_schema.specs.declared.rows.Row.{Row}
+use Rattle.mesa_schema.specs.Columns.{Columns, aggs_of}
+use Rattle.mesa_schema.specs.Folded.{folded}
 use Rattle.mesa_schema.specs.Laws.{AreUnder}
 use Rattle.mesa_delta.specs.declared.input.Input.{Input}
 use Rattle.mesa_cursor.specs.declared.cursor.Cursor.{Cursor}
@@ -23,13 +27,19 @@ pub record IsBlockOf {R : Type 0} (bytes : R → Option (List ℕ)) (size : R �
   pub one : slice_get knowns at ≡ Some (known_of bytes input)
   pub damaged : IsDamaged bytes size input d
 
--- A sum of the rows of a key would leave its type, which is told of the newest file that holds the key: it has given a row of it or has one at hand, and each newer one has given lesser keys alone, and has a greater one at hand or is at its end.
+-- A sum of the rows of a key leaves its bound: the fold of what was given ends with a row of the key that has a value which doesn't keep it. It is told of the newest file that holds the key: it has given a row of it or has one at hand, and each newer one has given lesser keys alone, and has a greater one at hand or is at its end.
 pub record IsSumOf {R : Type 0} (bytes : R → Option (List ℕ)) (inputs : List (Input R)) (d : Damage) : Type 0 where
   pub cursors : List Cursor
   pub givens : List (List Row)
   pub given : HasGivens bytes inputs cursors givens
   pub ready : AreReady (length inputs) inputs cursors
+  pub columns : Columns
+  pub front : List Row
+  pub sum : Row
+  pub fold : folded (aggs_of columns) givens ≡ front ++ sum ∷ []
+  pub leaves : AllByRecursion IsSum sum.values → ⊥
   pub key : List ℕ
+  pub is : sum.key ≡ key
   pub at : ℕ
   pub holds : HasKey key (get_or givens at [] ++ get_or (hands_of cursors) at [])
   pub newer : (j : ℕ) → at < j → AreUnder key (get_or givens j []) × IsAhead key (get_or (hands_of cursors) j [])

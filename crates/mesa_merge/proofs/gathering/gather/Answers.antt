@@ -11,7 +11,7 @@ use Rattle.mesa_merge.specs.Sums.{IsNewest, sum_damage}
 use Rattle.mesa_merge.proofs.Bounds.{sum_stays}
 use Rattle.mesa_merge.proofs.Causing.{cause_on, cause_other, cause_quiet}
 use Rattle.mesa_merge.proofs.Combining.{aggs_count, gather_done, gather_later, gather_more}
-use Rattle.mesa_merge.proofs.Damages.{sum_of, taken_key}
+use Rattle.mesa_merge.proofs.Damages.{leaves_bound, sum_of, taken_key}
 use Rattle.mesa_merge.proofs.Ending.{AreFronts, givens_fronts}
 use Rattle.mesa_merge.proofs.Inputs.{givens_count, givens_inputs}
 use Rattle.mesa_merge.proofs.gathering.gather.Goals as goal
@@ -173,4 +173,8 @@ returns-then-not-combines_all-clause-damaged g c = λ d e.
     let file = c.file_at.ensures in
     let newest = subst (λ k. IsNewest k i c.newest_with-newest.result (hands_of c.advance.new.cursors)) c.as_slice-then-not-combines_all.ensures c.newest_with-newest.ensures.newest in
     let told : d ≡ sum_damage file.0.file.file = let both : Damaged (sum_damage c.file_at.result) ≡ Damaged d = sym c.sum_fault.ensures ∙ e in let one : d ≡ sum_damage c.file_at.result = cc in one ∙ ap sum_damage file.2 in
-    inr (sum_of bytes s c.advance.new.inputs c.advance.new.cursors i c.newest_with-newest.result next start.1 _ file.0 d after (taken_key c.same.row.key i (hands_of c.same.cursors) now.0 more there.0 least there.1 within) newest file.1 told)
+    let off = leaves_bound (aggs_of s) c.same.row.values more.values (λ all.
+      let both : AllCombine c.args.aggs.now c.as_slice-in-Some.result.now c.as_slice-in-Some-2.result.now =
+      subst (λ ags. AllCombine ags c.as_slice-in-Some.result.now c.as_slice-in-Some-2.result.now) (sym start.3) (subst (λ vs. AllCombine (aggs_of s) vs c.as_slice-in-Some-2.result.now) (sym c.as_slice-in-Some.ensures) (subst (AllCombine (aggs_of s) c.same.row.values) (sym c.as_slice-in-Some-2.ensures) all)) in
+      let no : false ≡ true = sym c.if-not-combines_all.true ∙ c.combines_all.ensures.1 both in cc) in
+    inr (sum_of bytes s c.advance.new.inputs c.advance.new.cursors i c.newest_with-newest.result next start.1 _ file.0 d after off (taken_key c.same.row.key i (hands_of c.same.cursors) now.0 more there.0 least there.1 within) newest file.1 told)
