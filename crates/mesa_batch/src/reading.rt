@@ -66,7 +66,7 @@ fn read_key(
     ensures enough { OnOk result (length columns.now ≤ length fields.now) }
     ensures refused { IfErr result (IsRefusal (key_from 1 (map (λ (c : Key). c.kind) columns.now) fields.now)) }
 {
-    let mut bytes = Vec::new(alloc);
+    let mut bytes = Vec::with_capacity(alloc, columns.len() * 8)?;
     'columns: for (place, column) in columns.iter().enumerate() {
         let number = place as u16 + 1;
         let Some(field) = fields.get(place) else {
@@ -112,7 +112,7 @@ fn read_values(
     ensures read { IfOk result (λ values. values_from first (map (λ (c : Value). c.agg) columns.now) fields.now ≡ Ok values) }
     ensures refused { IfErr result (IsRefusal (values_from first (map (λ (c : Value). c.agg) columns.now) fields.now)) }
 {
-    let mut values = Values::new(alloc);
+    let mut values = Values::from_vec(Vec::with_capacity(alloc, columns.len())?);
     'columns: for place in 0..columns.len() {
         let number = first + place as u16;
         let Some(field) = fields.get(place) else {

@@ -1,6 +1,6 @@
 // Numbers and key values, as the bytes of a script spell them.
-ghost use Rattle.std.specs.Prelude.{◌≡◌, IfOk};
-ghost use Rattle.mesa_schema.specs.Numbers.{key_value_of, signed_of};
+ghost use Rattle.std.specs.Prelude.{◌≡◌, ◌<◌, ◌^◌, IfOk, IfSome};
+ghost use Rattle.mesa_schema.specs.Numbers.{key_value_of, number_of, signed_of};
 
 use mesa_key::{KeyText, KeyType, KeyValue};
 use mesa_list::Items;
@@ -8,6 +8,43 @@ use std::alloc::{AllocError, Global};
 
 /// The signed number that the bytes spell: an optional `+` or `-` and decimal digits, with a value of 64 bits.
 pub fn signed(bytes: &[u8]) -> Option<i64>
+    ensures { result ≡ signed_of bytes.now }
+{
+    match bytes {
+        [b'-', digits @ ..] => match small(digits) {
+            Some(number) => Some(-(number as i64)),
+            None => parsed(bytes),
+        },
+        _ => match small(bytes) {
+            Some(number) => Some(number as i64),
+            None => parsed(bytes),
+        },
+    }
+}
+
+// The number that digits alone spell, where each step to it keeps far below 2 ^ 63.
+fn small(bytes: &[u8]) -> Option<u64>
+    ensures read { IfSome result (λ n. number_of bytes.now ≡ Some n) }
+    ensures below { IfSome result (λ n. n < 2 ^ 63) }
+{
+    if bytes.is_empty() {
+        return None;
+    }
+    let mut number: u64 = 0;
+    'digits: for byte in bytes {
+        if !byte.is_ascii_digit() {
+            return None;
+        }
+        if number > 900_000_000_000_000_000 {
+            return None;
+        }
+        number = 10 * number + (*byte - b'0') as u64;
+    }
+    Some(number)
+}
+
+// What std's parsing reads.
+fn parsed(bytes: &[u8]) -> Option<i64>
     ensures { result ≡ signed_of bytes.now }
 {
     match str::from_utf8(bytes) {

@@ -1,7 +1,7 @@
 use Rattle.std.proofs.Common.{◌∙◌, sym, ap}
 use Rattle.mesa_schema.specs.Numbers.{signed_of}
 use Rattle.mesa_schema.proofs.NumberWords.{parsed, unreadable}
-use Rattle.mesa_schema.proofs.numbers.signed.Goals as goal
+use Rattle.mesa_schema.proofs.numbers.parsed.Goals as goal
 
 pub returns-in-Ok : goal.returns-in-Ok
 returns-in-Ok c = c.ok.ensures.value ∙ parsed c.in-Ok.text.now c.parse.result c.parse.ensures.value.0 ∙ ap signed_of c.in-Ok.ensures.cases.0
