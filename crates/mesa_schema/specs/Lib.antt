@@ -13,5 +13,6 @@ pub mod Lifting
 pub mod Recasts
 pub mod Carried
 pub mod Rows
+pub mod Lent
 pub mod Put
 pub mod Laws

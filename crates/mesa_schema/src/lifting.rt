@@ -1,12 +1,15 @@
 // Rows of an epoch, lifted to the present.
 ghost use Rattle.std.specs.Prelude.{◌≡◌, ℤ, List, [], ◌++◌, IfOk, OnOk, length, map};
+ghost use Rattle.std.specs.Bool.{OnTrue};
 ghost use Rattle.mesa_schema.specs.declared.rows.Row.{Row as AnyRow};
 ghost use Rattle.mesa_schema.specs.Changes.{changed, lifted_by, lifted_once};
 ghost use Rattle.mesa_key.specs.Spelling.{value_spelling};
+ghost use Rattle.mesa_schema.specs.Lent.{lent};
 ghost use Rattle.mesa_schema.specs.Lifting.{lifted_with, moved, value_from};
 
 use crate::epochs::change_columns;
-use crate::{Change, KeyColumn, Row, ValueColumn, place_of};
+use crate::rows::{refill, room};
+use crate::{Change, KeyColumn, LentRow, Row, ValueColumn, place_of};
 use mesa_key::{Amount, KeyBytes, KeyValue, Values, encode_int, encode_text};
 use mesa_list::Items;
 use std::alloc::{AllocError, Global};
@@ -60,16 +63,44 @@ impl Lift {
         })
     }
 
-    /// The row at present.
+    /// Whether rows stay as they are.
+    pub fn is_none(&self) -> bool
+        ensures { OnTrue result ((row : AnyRow) → lifted_with self.now row ≡ row) }
+    {
+        self.sources.is_none() && self.suffix.is_empty()
+    }
+
+    /// How many values a row has at present that has so many.
+    pub fn count(&self, values: usize) -> usize
+        ensures { (row : AnyRow) → length row.values ≡ values → length (lifted_with self.now row).values ≡ result }
+    {
+        match &self.sources {
+            Some(sources) => sources.len(),
+            None => values,
+        }
+    }
+
+    /// Puts a row at present into another row, in the room that it has. After an Err that may hold anything.
+    pub fn put(&self, row: LentRow, lifted: &mut Row) -> Result<(), AllocError>
+        ensures { OnOk result (lifted.new ≡ lifted_with self.now (lent row.entry)) }
+    {
+        put_key(row.key, self.suffix.as_slice(), &mut lifted.key)?;
+        match &self.sources {
+            Some(sources) => put_moved(row.values, sources.as_slice(), &mut lifted.values),
+            None => refill(&mut lifted.values, row.values),
+        }
+    }
+
+    /// The row at present. One that stays as it is isn't copied.
     pub fn row(&self, row: Row) -> Result<Row, AllocError>
         ensures { IfOk result (λ lifted. lifted ≡ lifted_with self.now row) }
     {
-        let key = with_suffix(row.key, self.suffix.as_slice())?;
-        let values = match &self.sources {
-            Some(sources) => moved_values(&row.values, sources.as_slice())?,
-            None => row.values,
-        };
-        Ok(Row { key, values })
+        if self.is_none() {
+            return Ok(row);
+        }
+        let mut lifted = Row::empty(self.suffix.allocator());
+        self.put(row.lend(), &mut lifted)?;
+        Ok(lifted)
     }
 }
 
@@ -120,23 +151,27 @@ fn append_value(value: &KeyValue, out: &mut Vec<u8>) -> Result<(), AllocError>
     }
 }
 
-fn with_suffix(key: KeyBytes, suffix: &[u8]) -> Result<KeyBytes, AllocError>
-    ensures { IfOk result (λ longer. longer ≡ key ++ suffix.now) }
+// A key with bytes behind it, in place of what is there.
+fn put_key(key: &[u8], suffix: &[u8], out: &mut KeyBytes) -> Result<(), AllocError>
+    ensures { OnOk result (out.new ≡ key.now ++ suffix.now) }
 {
-    let mut bytes = key.into_vec();
+    let mut bytes = room(out);
+    bytes.extend_from_slice(key)?;
     bytes.extend_from_slice(suffix)?;
-    Ok(Items::from_vec(bytes))
+    *out = Items::from_vec(bytes);
+    Ok(())
 }
 
-fn moved_values(values: &Values, sources: &[Source]) -> Result<Values, AllocError>
-    ensures { IfOk result (λ found. found ≡ map (value_from values.now) sources.now) }
+// Values from these sources, in place of what is there.
+fn put_moved(values: &[Amount], sources: &[Source], out: &mut Values) -> Result<(), AllocError>
+    ensures { OnOk result (out.new ≡ map (value_from values.now) sources.now) }
 {
-    let values_now = values.as_slice();
-    let mut found = Vec::with_capacity(values.allocator(), sources.len())?;
+    let mut found = room(out);
     for source in sources {
-        found.push(value_of(*source, values_now))?;
+        found.push(value_of(*source, values))?;
     }
-    Ok(Items::from_vec(found))
+    *out = Items::from_vec(found);
+    Ok(())
 }
 
 fn value_of(source: Source, values: &[Amount]) -> Amount
