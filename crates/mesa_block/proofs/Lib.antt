@@ -3,6 +3,7 @@ pub mod Forms
 pub mod Vectors
 pub mod Zeros
 pub mod Laying
+pub mod Lifting
 pub mod Sizes
 pub mod Walk
 pub mod Rows

@@ -4,4 +4,3 @@ pub mod Rows
 pub mod Fill
 pub mod Reading
 pub mod Cells
-pub mod Lent

@@ -1,15 +1,16 @@
 // A block that is filled row by row.
 ghost use Rattle.std.specs.Prelude.{◌≡◌, ℕ, ◌<◌, [], ◌∷◌, ◌++◌, IfOk, OnErr, OnOk, length, map};
+ghost use Rattle.mesa_schema.specs.Lent.{lent};
 ghost use Rattle.mesa_block.specs.Spelling.{block, key_of};
 ghost use Rattle.mesa_block.specs.Rows.{AreRows, IsRow, Rise};
 ghost use Rattle.mesa_block.specs.Fill.{after, fit};
 
 use crate::layout::{row_size, widths};
 use crate::writing::{kinds, put_head, put_keys, put_values};
-use crate::{Width, is_full, lend};
+use crate::{Width, is_full};
 use mesa_key::{Format, KeyType, reads_back};
 use mesa_list::{Fields, TryCopy};
-use mesa_schema::{Row, Schema};
+use mesa_schema::{LentRow, Schema};
 use mesa_value::Amount;
 use std::alloc::{AllocError, Global};
 use std::marker::Model;
@@ -83,20 +84,20 @@ impl BlockBuilder {
     }
 
     /// Whether the row fits, and then the row is in the block.
-    pub fn push(&mut self, row: &Row) -> Result<bool, AllocError>
-        requires form { IsRow self.old.layout row.now }
-        requires greater { Rise (map key_of (self.old.rows ++ row.now ∷ [])) }
-        ensures fits { IfOk result (λ b. b ≡ fit self.old.layout (self.old.rows ++ row.now ∷ [])) }
-        ensures ok { IfOk result (λ b. self.new ≡ after b self.old row.now) }
+    pub fn push(&mut self, row: LentRow) -> Result<bool, AllocError>
+        requires form { IsRow self.old.layout (lent row) }
+        requires greater { Rise (map key_of (self.old.rows ++ lent row ∷ [])) }
+        ensures fits { IfOk result (λ b. b ≡ fit self.old.layout (self.old.rows ++ lent row.entry ∷ [])) }
+        ensures ok { IfOk result (λ b. self.new ≡ after b self.old (lent row.entry)) }
         ensures err { OnErr result (self.new ≡ self.old) }
     {
         reads_back();
         let rows = self.keys.len();
-        if is_full(self.size, rows, self.len, lend(row)) {
+        if is_full(self.size, rows, self.len, row) {
             return Ok(false);
         }
-        self.keys.push(row.key.as_slice())?;
-        if let Err(error) = self.values.extend_from_slice(row.values.as_slice()) {
+        self.keys.push(row.key)?;
+        if let Err(error) = self.values.extend_from_slice(row.values) {
             self.keys.truncate(rows);
             return Err(error);
         }

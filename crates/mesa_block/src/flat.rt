@@ -1,7 +1,8 @@
 // The rows of a block, held flat.
 ghost use Rattle.std.specs.Prelude.{◌≡◌, ◌<◌, ◌≤◌, ◌+◌, ◌*◌, ℕ, ◌++◌, [], List, length, map, take, drop, get_or, slice_get, Some, IfOk, OnOk};
+ghost use Rattle.mesa_schema.specs.Lent.{lent};
+ghost use Rattle.mesa_schema.specs.Lifting.{lifted_with};
 ghost use Rattle.mesa_block.specs.Layout.{number};
-ghost use Rattle.mesa_block.specs.Lent.{lent};
 ghost use Rattle.mesa_block.specs.Spelling.{key_of};
 ghost use Rattle.mesa_block.specs.Reading.{key_at, values_at, rows_of, sealed};
 
@@ -9,27 +10,10 @@ use crate::Width;
 use crate::column::{Column, Numbers};
 use mesa_key::KeyType;
 use mesa_list::Fields;
-use mesa_schema::Row;
+use mesa_schema::{LentRow, Lift, Row};
 use mesa_value::Amount;
 use std::alloc::{AllocError, Global};
 use std::marker::Model;
-
-/// A row that is lent.
-#[derive(Clone, Copy)]
-pub struct LentRow<'a> {
-    pub key: &'a [u8],
-    pub values: &'a [Amount],
-}
-
-/// A row, lent.
-pub fn lend(row: &Row) -> LentRow<'_>
-    ensures { lent result ≡ row.now }
-{
-    LentRow {
-        key: row.key.as_slice(),
-        values: row.values.as_slice(),
-    }
-}
 
 /// The rows of a block, as they were read: their keys stand in one buffer, and their values, row by row, in another.
 #[derive(Drop)]
@@ -53,6 +37,17 @@ impl Model for Block {
 }
 
 impl Block {
+    /// No rows. It takes no memory.
+    pub fn none(alloc: Global) -> Self
+        ensures { result ≡ [] }
+    {
+        Block {
+            keys: Fields::new(alloc),
+            values: Vec::new(alloc),
+            count: 0,
+        }
+    }
+
     /// How many rows there are.
     pub fn len(&self) -> usize
         ensures { result ≡ length self.now }
@@ -80,6 +75,37 @@ impl Block {
             None => unreachable!(),
         }
     }
+
+    /// The rows, lifted. Where they stay as they are none is copied.
+    pub fn lifted(self, lift: &Lift) -> Result<Block, AllocError>
+        ensures { IfOk result (λ b. b ≡ map (lifted_with lift.now) self) }
+    {
+        if lift.is_none() {
+            return Ok(self);
+        }
+        lifted_rows(&self, lift)
+    }
+}
+
+// The rows of a block, lifted.
+fn lifted_rows(rows: &Block, lift: &Lift) -> Result<Block, AllocError>
+    ensures { IfOk result (λ b. b ≡ map (lifted_with lift.now) rows.now) }
+{
+    let alloc = rows.keys.allocator();
+    let count = lift.count(rows.count);
+    let mut keys = Fields::new(alloc);
+    let mut values = Vec::new(alloc);
+    let mut row = Row::empty(alloc);
+    for i in 0..rows.len() {
+        lift.put(rows.row(i), &mut row)?;
+        keys.push(row.key.as_slice())?;
+        values.extend_from_slice(row.values.as_slice())?;
+    }
+    Ok(Block {
+        keys,
+        values,
+        count,
+    })
 }
 
 // The values of a row, where each row has so many.

@@ -15,7 +15,7 @@ mod writing;
 pub use builder::BlockBuilder;
 pub use checking::rises;
 pub use error::BlockError;
-pub use flat::{Block, LentRow, lend};
+pub use flat::Block;
 pub use laws::{fits_alone, grows_by_rows, reads_blocks};
 pub use layout::{Width, row_size};
 pub use reading::read_block;

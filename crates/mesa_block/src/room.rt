@@ -1,9 +1,10 @@
 // The room that a block has.
 ghost use Rattle.std.specs.Prelude.{◌≡◌};
+ghost use Rattle.mesa_schema.specs.Lent.{lent};
 ghost use Rattle.mesa_block.specs.Fill.{is_full as is_full_of};
-ghost use Rattle.mesa_block.specs.Lent.{lent};
 
-use crate::{LentRow, MOST_BYTES, MOST_ROWS};
+use crate::{MOST_BYTES, MOST_ROWS};
+use mesa_schema::LentRow;
 
 /// Whether a block with so many rows and so many bytes has no room for the row, whose values take so many bytes.
 pub fn is_full(size: usize, rows: usize, len: usize, row: LentRow) -> bool
