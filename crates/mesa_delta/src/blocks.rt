@@ -1,6 +1,7 @@
 // Blocks that are written through a draft.
 ghost use Rattle.std.specs.Prelude.{◌≡◌, IsTrue, ◌<◌, ◌≤◌, ◌^◌, ℕ, List, [], ◌∷◌, ◌++◌, length, map, IfOk, OnOk, IfErr, None};
 ghost use Rattle.mesa_disk.specs.mesa_fault.Causes.{HasFaultCause};
+ghost use Rattle.mesa_schema.specs.Lent.{lent};
 ghost use Rattle.mesa_block.specs.Layout.{Layout};
 ghost use Rattle.mesa_block.specs.Fill.{after, fit};
 ghost use Rattle.mesa_block.specs.Rows.{IsRow, Rise};
@@ -15,7 +16,7 @@ use crate::tail::{put_entry, put_foot};
 use mesa_block::{BlockBuilder, fits_alone};
 use mesa_disk::{Draft, Made};
 use mesa_key::{Format, short};
-use mesa_schema::{Row, Schema};
+use mesa_schema::{LentRow, Schema};
 use sha2::{Digest, Sha256};
 use std::alloc::AllocError;
 use std::marker::PhantomData;
@@ -47,12 +48,12 @@ pub struct BlockWriter<M, T> {
 
 impl<M: Made, T: Draft<M>> BlockWriter<M, T> {
     /// One row more, in the open block where it fits there, else in the next one.
-    pub fn push(&mut self, schema: &Schema, row: &Row) -> Result<(), WriteError>
+    pub fn push(&mut self, schema: &Schema, row: LentRow) -> Result<(), WriteError>
         requires columns { self.old.builder.layout ≡ record { format = Format.Two; columns = schema.now } }
-        requires form { IsRow (record { format = Format.Two; columns = schema.now }) row.now }
-        requires greater { Rise (map key_of (self.old.builder.rows ++ row.now ∷ [])) }
+        requires form { IsRow (record { format = Format.Two; columns = schema.now }) (lent row) }
+        requires greater { Rise (map key_of (self.old.builder.rows ++ lent row ∷ [])) }
         requires short { self.old.short ≡ begun self.old.builder.rows }
-        ensures laid { OnOk result ((f : Filling) → Lays T.bytes (record { format = Format.Two; columns = schema.now }) self.old f → Lays T.bytes (record { format = Format.Two; columns = schema.now }) self.new (with_more (record { format = Format.Two; columns = schema.now }) f row.now)) }
+        ensures laid { OnOk result ((f : Filling) → Lays T.bytes (record { format = Format.Two; columns = schema.now }) self.old f → Lays T.bytes (record { format = Format.Two; columns = schema.now }) self.new (with_more (record { format = Format.Two; columns = schema.now }) f (lent row.entry))) }
         ensures id { T.id_of self.new.draft ≡ T.id_of self.old.draft }
         ensures cause { HasFaultCause (λ e. e ≡ DraftFault) (T.faults self.old.draft) (T.faults self.new.draft) result }
     {
@@ -84,18 +85,18 @@ impl<M: Made, T: Draft<M>> BlockWriter<M, T> {
     }
 
     // Whether the row fits in the open block, and then it is there.
-    fn offer(&mut self, row: &Row) -> Result<bool, AllocError>
-        requires form { IsRow self.old.builder.layout row.now }
-        requires greater { Rise (map key_of (self.old.builder.rows ++ row.now ∷ [])) }
+    fn offer(&mut self, row: LentRow) -> Result<bool, AllocError>
+        requires form { IsRow self.old.builder.layout (lent row) }
+        requires greater { Rise (map key_of (self.old.builder.rows ++ lent row ∷ [])) }
         requires short { self.old.short ≡ begun self.old.builder.rows }
-        ensures fits { IfOk result (λ b. b ≡ fit self.old.builder.layout (self.old.builder.rows ++ row.now ∷ [])) }
-        ensures ok { IfOk result (λ b. self.new.builder ≡ after b self.old.builder row.now) }
+        ensures fits { IfOk result (λ b. b ≡ fit self.old.builder.layout (self.old.builder.rows ++ lent row.entry ∷ [])) }
+        ensures ok { IfOk result (λ b. self.new.builder ≡ after b self.old.builder (lent row.entry)) }
         ensures short { OnOk result (self.new.short ≡ begun self.new.builder.rows) }
         ensures same { self.new ≡ record self.old { builder = self.new.builder; short = self.new.short } }
     {
         let fits = self.builder.push(row)?;
         if fits && self.short.is_none() {
-            self.short = Some(short(row.key.as_slice()));
+            self.short = Some(short(row.key));
         }
         Ok(fits)
     }

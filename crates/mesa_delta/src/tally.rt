@@ -2,11 +2,12 @@
 ghost use Rattle.std.specs.Prelude.{◌≡◌, ◌<◌, ◌↔◌, List, [], ◌∷◌, ◌++◌, length, map, IsTrue, OnOk};
 ghost use Rattle.mesa_schema.specs.declared.rows.Row.{Row as AnyRow};
 ghost use Rattle.mesa_schema.specs.Columns.{aggs_of};
+ghost use Rattle.mesa_schema.specs.Lent.{lent};
 ghost use Rattle.mesa_delta.specs.Summary.{AllCombine, aggregates, all_noted, noted as noted_value};
 ghost use Rattle.mesa_delta.specs.Totals.{added};
 ghost use Rattle.mesa_delta.specs.Tallies.{Tallies};
 
-use mesa_schema::{Row, Schema, ValueColumn};
+use mesa_schema::{LentRow, Schema, ValueColumn};
 use mesa_value::{Agg, Amount, combine, combines};
 use std::alloc::{AllocError, Global};
 
@@ -36,20 +37,20 @@ impl Tally {
     }
 
     /// Whether the row's values combine with the aggregates.
-    pub fn allows(&self, schema: &Schema, row: &Row) -> bool
-        ensures { (rows : List AnyRow) → Tallies schema.now self.now rows → IsTrue result ↔ (0 < length rows → AllCombine (aggs_of schema.now) (aggregates (aggs_of schema.now) rows) row.now.values) }
+    pub fn allows(&self, schema: &Schema, row: LentRow) -> bool
+        ensures { (rows : List AnyRow) → Tallies schema.now self.now rows → IsTrue result ↔ (0 < length rows → AllCombine (aggs_of schema.now) (aggregates (aggs_of schema.now) rows) row.entry.values.now) }
     {
         if self.rows == 0 {
             return true;
         }
-        all_combine(schema.values(), &self.totals, row.values.as_slice())
+        all_combine(schema.values(), &self.totals, row.values)
     }
 
     /// One row more. More rows than can be counted are answered as want of memory.
-    pub fn add(&mut self, schema: &Schema, row: &Row) -> Result<(), AllocError>
-        requires values { length row.now.values ≡ length schema.now.values }
-        requires sums { 0 < self.old.rows → AllCombine (aggs_of schema.now) self.old.totals.items row.now.values }
-        ensures { OnOk result ((rows : List AnyRow) → Tallies schema.now self.old rows → Tallies schema.now self.new (rows ++ row.now ∷ [])) }
+    pub fn add(&mut self, schema: &Schema, row: LentRow) -> Result<(), AllocError>
+        requires values { length row.values.now ≡ length schema.now.values }
+        requires sums { 0 < self.old.rows → AllCombine (aggs_of schema.now) self.old.totals.items row.values.now }
+        ensures { OnOk result ((rows : List AnyRow) → Tallies schema.now self.old rows → Tallies schema.now self.new (rows ++ lent row.entry ∷ [])) }
     {
         if self.rows == 0 {
             self.begin(schema, row)
@@ -59,30 +60,30 @@ impl Tally {
     }
 
     // The first row.
-    fn begin(&mut self, schema: &Schema, row: &Row) -> Result<(), AllocError>
-        requires values { length row.now.values ≡ length schema.now.values }
+    fn begin(&mut self, schema: &Schema, row: LentRow) -> Result<(), AllocError>
+        requires values { length row.values.now ≡ length schema.now.values }
         requires first { self.old.rows ≡ 0 }
-        ensures { OnOk result ((rows : List AnyRow) → Tallies schema.now self.old rows → Tallies schema.now self.new (rows ++ row.now ∷ [])) }
+        ensures { OnOk result ((rows : List AnyRow) → Tallies schema.now self.old rows → Tallies schema.now self.new (rows ++ lent row.entry ∷ [])) }
     {
-        put_noted(&mut self.totals, schema.values(), row.values.as_slice())?;
-        put_bytes(&mut self.first, row.key.as_slice())?;
-        put_bytes(&mut self.last, row.key.as_slice())?;
+        put_noted(&mut self.totals, schema.values(), row.values)?;
+        put_bytes(&mut self.first, row.key)?;
+        put_bytes(&mut self.last, row.key)?;
         self.rows = 1;
         Ok(())
     }
 
     // A row behind others.
-    fn go_on(&mut self, schema: &Schema, row: &Row) -> Result<(), AllocError>
-        requires values { length row.now.values ≡ length schema.now.values }
+    fn go_on(&mut self, schema: &Schema, row: LentRow) -> Result<(), AllocError>
+        requires values { length row.values.now ≡ length schema.now.values }
         requires later { 0 < self.old.rows }
-        requires sums { AllCombine (aggs_of schema.now) self.old.totals.items row.now.values }
-        ensures { OnOk result ((rows : List AnyRow) → Tallies schema.now self.old rows → Tallies schema.now self.new (rows ++ row.now ∷ [])) }
+        requires sums { AllCombine (aggs_of schema.now) self.old.totals.items row.values.now }
+        ensures { OnOk result ((rows : List AnyRow) → Tallies schema.now self.old rows → Tallies schema.now self.new (rows ++ lent row.entry ∷ [])) }
     {
         let Some(rows) = self.rows.checked_add(1) else {
             return Err(AllocError);
         };
-        put_bytes(&mut self.last, row.key.as_slice())?;
-        add_values(&mut self.totals, schema.values(), row.values.as_slice());
+        put_bytes(&mut self.last, row.key)?;
+        add_values(&mut self.totals, schema.values(), row.values);
         self.rows = rows;
         Ok(())
     }

@@ -5,6 +5,7 @@ ghost use Rattle.std.specs.List.{AllByRecursion};
 ghost use Rattle.mesa_value.specs.Agg.{IsAmount};
 ghost use Rattle.mesa_schema.specs.declared.rows.Row.{Row as AnyRow};
 ghost use Rattle.mesa_schema.specs.Columns.{aggs_of};
+ghost use Rattle.mesa_schema.specs.Lent.{lent};
 ghost use Rattle.mesa_block.specs.Rows.{IsRow, Rise};
 ghost use Rattle.mesa_block.specs.Spelling.{key_of};
 ghost use Rattle.mesa_delta.specs.declared.error.WriteError.TheVariants.{Draft as DraftFault};
@@ -19,7 +20,7 @@ use mesa_block::BlockBuilder;
 use mesa_disk::{Draft, FileId, FileRef, Made};
 use mesa_key::Format;
 use mesa_list::{Items, TryCopy};
-use mesa_schema::{Row, Schema};
+use mesa_schema::{LentRow, Schema};
 use mesa_value::Amount;
 use std::alloc::{AllocError, Global};
 use std::marker::PhantomData;
@@ -74,9 +75,9 @@ impl<M: Made, T: Draft<M>> DeltaWriter<M, T> {
     }
 
     /// Whether the sums over the rows so far and the row keep their bound.
-    pub fn allows(&self, row: &Row) -> bool
+    pub fn allows(&self, row: LentRow) -> bool
         ensures { (rows : List AnyRow) → HasTaken T.bytes self.now rows
-            → IsTrue result ↔ (0 < length rows → AllCombine (aggs_of (columns_of self.now)) (aggregates (aggs_of (columns_of self.now)) rows) row.now.values) }
+            → IsTrue result ↔ (0 < length rows → AllCombine (aggs_of (columns_of self.now)) (aggregates (aggs_of (columns_of self.now)) rows) row.entry.values.now) }
     {
         self.tally.allows(&self.schema, row)
     }
@@ -87,15 +88,15 @@ impl<M: Made, T: Draft<M>> DeltaWriter<M, T> {
     {}
 
     /// One row more.
-    pub fn push(&mut self, row: &Row) -> Result<(), WriteError>
-        requires { IsNext T.bytes self.old row.now }
-        ensures taken { OnOk result ((rows : List AnyRow) → HasTaken T.bytes self.old rows → HasTaken T.bytes self.new (rows ++ row.now ∷ [])) }
+    pub fn push(&mut self, row: LentRow) -> Result<(), WriteError>
+        requires { IsNext T.bytes self.old (lent row) }
+        ensures taken { OnOk result ((rows : List AnyRow) → HasTaken T.bytes self.old rows → HasTaken T.bytes self.new (rows ++ lent row.entry ∷ [])) }
         ensures columns { columns_of self.new ≡ columns_of self.old }
         ensures id { id_of self.new ≡ id_of self.old }
         ensures draft { T.id_of (draft_of self.new) ≡ T.id_of (draft_of self.old) }
         ensures cause { HasFaultCause (λ e. e ≡ DraftFault) (T.faults (draft_of self.old)) (T.faults (draft_of self.new)) result }
     {
-        are_amounts(row.values.as_slice());
+        are_amounts(row.values);
         self.tally.add(&self.schema, row)?;
         self.blocks.push(&self.schema, row)?;
         Ok(())

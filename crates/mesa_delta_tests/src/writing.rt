@@ -1,22 +1,21 @@
 // The file of one row is written, and read again.
-ghost use Rattle.std.specs.Prelude.{◌≡◌, [], ◌∷◌, IfOk};
+ghost use Rattle.std.specs.Prelude.{[], ◌∷◌};
+ghost use Rattle.mesa_schema.specs.Lent.{lent};
 ghost use Rattle.mesa_delta.specs.Writing.{HasTaken};
-ghost use Rattle.mesa_block.specs.Lent.{lent};
 ghost use Rattle.mesa_block.specs.Rows.{IsRow};
 ghost use Rattle.mesa_key.specs.declared.Format.TheVariants.{Two};
 
 use crate::expected::expect_same;
 use crate::files::{ONE_ID, TWO_DIGEST, TWO_FILE, count_rows, schema};
-use mesa_block::{LentRow, read_block};
+use mesa_block::read_block;
 use mesa_delta::{DeltaWriter, WriteError};
 use mesa_disk::{
     Bench, Disk, Draft, FileId, FileReader, FileRef, Made, MemBench, MemDisk, MemMade, MemReader,
     OpenFault,
 };
 use mesa_key::{Format, KeyType};
-use mesa_list::Items;
-use mesa_schema::{Row, Schema};
-use std::alloc::{AllocError, Global};
+use mesa_schema::{LentRow, Schema};
+use std::alloc::Global;
 use std::process::Abort;
 
 type Written = Result<(MemMade, FileRef), WriteError>;
@@ -24,22 +23,12 @@ type Written = Result<(MemMade, FileRef), WriteError>;
 // Finishes the file of this row.
 fn finish_row<M: Made, T: Draft<M>>(
     writer: DeltaWriter<M, T>,
-    row: &Row,
+    row: LentRow,
 ) -> Result<(M, FileRef), (WriteError, T)>
-    requires { HasTaken T.bytes writer (row.now ∷ []) }
+    requires { HasTaken T.bytes writer (lent row ∷ []) }
 {
     let _row = row;
     writer.finish()
-}
-
-// A lent row by itself.
-fn kept(alloc: Global, row: LentRow) -> Result<Row, AllocError>
-    ensures { IfOk result (λ own. own ≡ lent row.entry) }
-{
-    Ok(Row {
-        key: Items::from_bytes(alloc, row.key)?,
-        values: Items::from_vec(row.values.to_vec(alloc)?),
-    })
 }
 
 // Writes a file of the row, through a draft of which these calls fail.
@@ -47,10 +36,10 @@ fn write_row(
     rt: &impl Abort,
     alloc: Global,
     schema: &Schema,
-    row: &Row,
+    row: LentRow,
     calls: Vec<(u64, u64)>,
 ) -> Written
-    requires { IsRow (record { format = Two; columns = schema.now }) row.now }
+    requires { IsRow (record { format = Two; columns = schema.now }) (lent row) }
 {
     let mut bench = MemBench::new(alloc, calls);
     let draft = bench.draft(FileId::of(7)).expect(rt, "a draft");
@@ -72,10 +61,7 @@ fn write_one(rt: &impl Abort, alloc: Global, fails: &[(u64, u64)]) -> Written {
     let calls = fails.to_vec(alloc).expect(rt, "memory");
     let schema = schema(rt, alloc, KeyType::Int);
     match read_block(alloc, Format::Two, &schema, &TWO_FILE[..27]) {
-        Ok(block) => {
-            let row = kept(alloc, block.row(0)).expect(rt, "memory");
-            write_row(rt, alloc, &schema, &row, calls)
-        }
+        Ok(block) => write_row(rt, alloc, &schema, block.row(0), calls),
         Err(_) => panic!(rt; "no block"),
     }
 }

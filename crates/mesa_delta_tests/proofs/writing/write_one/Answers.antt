@@ -1,10 +1,10 @@
-use Rattle.std.proofs.Common.{rules, ◌≡◌, [], ◌∷◌, List, subst, sym}
+use Rattle.std.proofs.Common.{◌≡◌, [], ◌∷◌, List, subst}
 use Rattle.std.specs.Prelude.{Some, slice_get}
 use Rattle.std.specs.List.{AllByRecursion}
 use Rattle.std.proofs.lemmas.Option.{get_or_from_slice_get}
 use Rattle.mesa_schema.specs.declared.rows.Row.{Row}
 use Rattle.mesa_block.specs.Layout.{Layout}
-use Rattle.mesa_block.specs.Lent.{lent}
+use Rattle.mesa_schema.specs.Lent.{lent}
 use Rattle.mesa_block.specs.Rows.{IsRow}
 use Rattle.mesa_key.specs.declared.Format.TheVariants.{Two}
 use Rattle.mesa_delta_tests.proofs.writing.write_one.Goals as goal
@@ -16,5 +16,4 @@ first s (x ∷ rows) row all at = subst (IsRow s) (get_or_from_slice_get (x ∷ 
 pub write_row-requires : goal.write_row-requires
 write_row-requires g c =
     let s : Layout = record { format = Two; columns = c.schema-schema.result } in
-    let same : c.expect-row.result ≡ lent c.row.result = search rules in
-    subst (IsRow s) (sym same) (first s c.in-Ok.block (lent c.row.result) c.in-Ok.ensures.rows.good c.row.ensures)
+    first s c.in-Ok.block (lent c.row.result) c.in-Ok.ensures.rows.good c.row.ensures

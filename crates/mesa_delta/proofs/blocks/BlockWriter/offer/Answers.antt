@@ -1,5 +1,5 @@
 use Rattle.std.proofs.Common.{◌≡◌, rules, ap, sym, ◌∙◌, Some, None}
-use Rattle.mesa_key.specs.Order.{short_key}
+use Rattle.mesa_schema.specs.Lent.{lent}
 use Rattle.mesa_block.specs.Fill.{Built}
 use Rattle.mesa_delta.specs.Begun.{begun}
 use Rattle.mesa_delta.proofs.Placing.{begun_first}
@@ -8,5 +8,5 @@ use Rattle.mesa_delta.proofs.blocks.BlockWriter.offer.Goals as goal
 pub returns-then-is_none-clause-short : goal.returns-then-is_none-clause-short
 returns-then-is_none-clause-short g c =
     let none : c.args.self.now.short ≡ None = search rules in
-    ap Some c.short.ensures ∙ ap (λ k. Some (short_key k)) c.as_slice.ensures ∙ begun_first c.args.self.now.builder.rows c.args.row.now (sym c.requires.short ∙ none)
+    ap Some c.short.ensures ∙ begun_first c.args.self.now.builder.rows (lent c.args.row) (sym c.requires.short ∙ none)
     ∙ sym (ap (λ (b : Built). begun b.rows) (rw c.if-fits.true at c.in_ok-fits.ensures.ok))

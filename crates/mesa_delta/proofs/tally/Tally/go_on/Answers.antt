@@ -1,6 +1,7 @@
 use Rattle.std.proofs.Common.{◌≡◌, refl, arith, rules, ◌∙◌, ap, length}
 use Rattle.std.proofs.lemmas.List.{take_at}
 use Rattle.mesa_schema.specs.Columns.{aggs_of}
+use Rattle.mesa_schema.specs.Lent.{lent}
 use Rattle.mesa_delta.specs.Totals.{added}
 use Rattle.mesa_delta.proofs.Adding.{goes_on}
 use Rattle.mesa_delta.proofs.tally.Tally.go_on.Goals as goal
@@ -8,5 +9,5 @@ use Rattle.mesa_delta.proofs.tally.Tally.go_on.Goals as goal
 pub returns : goal.returns
 returns c =
     let len : length c.add_values.new.totals ≡ c.args.self.now.totals.len = omega (arith, c.add_values.ensures.len, ap length c.deref_mut.ensures.value, c.args.self.now.totals.ok) in
-    let is : c.add_values.new.totals ≡ added (aggs_of c.args.schema.now) c.args.self.now.totals.items c.args.row.now.values = search rules in
-    λ rows h. goes_on c.args.schema.now c.args.self.now _ c.args.row.now rows c.requires.values c.requires.later (search rules) refl (search rules) (take_at c.add_values.new.totals _ c.args.self.now.totals.len len ∙ is) h
+    let is : c.add_values.new.totals ≡ added (aggs_of c.args.schema.now) c.args.self.now.totals.items c.args.row.values.now = search rules in
+    λ rows h. goes_on c.args.schema.now c.args.self.now _ (lent c.args.row) rows c.requires.values c.requires.later (search rules) refl (search rules) (take_at c.add_values.new.totals _ c.args.self.now.totals.len len ∙ is) h
