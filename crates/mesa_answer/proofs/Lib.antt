@@ -7,7 +7,6 @@ pub mod Paging
 pub mod Parts
 pub mod Passing
 pub mod Picked
-pub mod Regrouped
 pub mod Results
 pub mod Steps
 pub mod ViewColumns

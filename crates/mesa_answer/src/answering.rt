@@ -1,6 +1,7 @@
 // Answering a query.
 ghost use Rattle.std.specs.Prelude.{◌≡◌, List, [], ◌∷◌, ◌++◌, IfOk, OnOk};
 ghost use Rattle.mesa_schema.specs.declared.rows.Row.{Row as AnyRow};
+ghost use Rattle.mesa_schema.specs.Lent.{lent};
 ghost use Rattle.mesa_schema.specs.Rows.{AreRowsOf, IsRowOf};
 ghost use Rattle.mesa_filter.specs.Filter.{filtered};
 ghost use Rattle.mesa_filter.specs.Query.{IsQueryOf};
@@ -14,7 +15,7 @@ use crate::error::GroupError;
 use crate::groups::Groups;
 use mesa_filter::Query;
 use mesa_model::Page;
-use mesa_schema::{Row, Schema};
+use mesa_schema::{LentRow, Row, Schema};
 use std::alloc::{AllocError, Global};
 
 /// Answers a query over the rows of its relation. A row's key is looked at in place, and only what its page may show is copied.
@@ -50,17 +51,17 @@ fn gathered<'a>(
     let filter = query.filter();
     for row in rows {
         if filter.matches(row.key.as_slice()) {
-            put_bounded(&mut groups, row)?;
+            put_bounded(&mut groups, row.lend())?;
         }
     }
     Ok(groups)
 }
 
 // One row more of rows whose sums stay in their type.
-pub(crate) fn put_bounded(groups: &mut Groups, row: &Row) -> Result<(), AllocError>
-    requires gathering { (given : List AnyRow) × HasPut groups.old given × KeepsSums (wanted_of groups.old).schema (given ++ row.now ∷ []) }
-    requires form { IsRowOf (wanted_of groups.old).schema row.now }
-    ensures put { OnOk result ((given : List AnyRow) → HasPut groups.old given → HasPut groups.new (given ++ row.now ∷ [])) }
+pub(crate) fn put_bounded(groups: &mut Groups, row: LentRow) -> Result<(), AllocError>
+    requires gathering { (given : List AnyRow) × HasPut groups.old given × KeepsSums (wanted_of groups.old).schema (given ++ lent row ∷ []) }
+    requires form { IsRowOf (wanted_of groups.old).schema (lent row) }
+    ensures put { OnOk result ((given : List AnyRow) → HasPut groups.old given → HasPut groups.new (given ++ lent row.entry ∷ [])) }
     ensures wanted { wanted_of groups.new ≡ wanted_of groups.old }
 {
     match groups.put(row) {

@@ -50,7 +50,7 @@ fn gathered<'a>(
 {
     let mut groups = Groups::all(alloc, schema, columns, values)?;
     for row in rows {
-        put_bounded(&mut groups, row)?;
+        put_bounded(&mut groups, row.lend())?;
     }
     Ok(groups)
 }

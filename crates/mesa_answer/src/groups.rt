@@ -5,6 +5,7 @@ ghost use Rattle.mesa_schema.specs.declared.columns.KeyColumn.{KeyColumn as Colu
 ghost use Rattle.mesa_schema.specs.declared.rows.Row.{Row as AnyRow};
 ghost use Rattle.mesa_schema.specs.Columns.{aggs_of, chosen};
 ghost use Rattle.mesa_schema.specs.Folded.{grouped};
+ghost use Rattle.mesa_schema.specs.Lent.{lent};
 ghost use Rattle.mesa_schema.specs.Rows.{AreRowsOf, IsRowOf};
 ghost use Rattle.mesa_filter.specs.Query.{IsQueryOf, are_places};
 ghost use Rattle.mesa_model.specs.Page.{page_of};
@@ -21,7 +22,7 @@ use mesa_filter::Query;
 use mesa_key::KeyType;
 use mesa_list::Items;
 use mesa_model::Page;
-use mesa_schema::{KeyColumn, Row, RowList, Schema};
+use mesa_schema::{KeyColumn, LentRow, Row, RowList, Schema};
 use mesa_value::{Agg, Values};
 use std::alloc::{AllocError, Global};
 use std::collections::BTreeMap;
@@ -116,14 +117,14 @@ impl<'a> Groups<'a> {
     }
 
     /// One row more. After an error the groups are as they were.
-    pub fn put(&mut self, row: &Row) -> Result<(), GroupError>
+    pub fn put(&mut self, row: LentRow) -> Result<(), GroupError>
         requires gathering { (given : List AnyRow) × HasPut self.old given }
-        requires form { IsRowOf (wanted_of self.old).schema row.now }
-        ensures put { OnOk result ((given : List AnyRow) → HasPut self.old given → HasPut self.new (given ++ row.now ∷ [])) }
+        requires form { IsRowOf (wanted_of self.old).schema (lent row) }
+        ensures put { OnOk result ((given : List AnyRow) → HasPut self.old given → HasPut self.new (given ++ lent row.entry ∷ [])) }
         ensures same { OnErr result ((given : List AnyRow) → HasPut self.old given → HasPut self.new given) }
         ensures wanted { wanted_of self.new ≡ wanted_of self.old }
         // A sum leaves its type only where the absolute values of the rows may add up to more than it holds.
-        ensures cause { IfErr result (λ e. e ≡ GroupError.Sum → (given : List AnyRow) → HasPut self.old given → KeepsSums (wanted_of self.old).schema (given ++ row.now ∷ []) → ⊥) }
+        ensures cause { IfErr result (λ e. e ≡ GroupError.Sum → (given : List AnyRow) → HasPut self.old given → KeepsSums (wanted_of self.old).schema (given ++ lent row.entry ∷ []) → ⊥) }
     {
         self.hand
             .take(&self.kinds, self.depth, self.columns, self.values, row)?;

@@ -1,19 +1,21 @@
 // The row at hand under its group key, in room that is used again for each row.
-ghost use Rattle.std.specs.Prelude.{◌≡◌, ◌<◌, take, slice_index, EachIndex, IsTrue, OnOk};
+ghost use Rattle.std.specs.Prelude.{◌≡◌, ◌<◌, [], take, slice_index, EachIndex, IsTrue, OnOk};
 ghost use Rattle.std.specs.List.{concat};
 ghost use Rattle.mesa_key.specs.Spelling.{columns_of, is_spelling};
 ghost use Rattle.mesa_schema.specs.Columns.{chosen};
+ghost use Rattle.mesa_schema.specs.Lent.{lent};
 
 use mesa_key::{KeyColumns, KeyType};
 use mesa_list::Fields;
-use mesa_schema::Row;
+use mesa_schema::LentRow;
 use mesa_value::Amount;
 use std::alloc::{AllocError, Global};
 use std::marker::Model;
 
-// A row under its group key: the columns of its own key, cut, and then the group key and the chosen values.
+/// A row under its group key, in room that is used again for each row.
 #[derive(Drop)]
-pub(crate) struct Hand {
+pub struct Hand {
+    // The columns of the row's own key, cut.
     columns: Fields,
     key: Vec<u8>,
     values: Vec<Amount>,
@@ -28,12 +30,24 @@ impl Model for Hand {
 }
 
 impl Hand {
-    // Takes no memory.
-    pub(crate) fn new(alloc: Global) -> Self {
+    /// No row yet. It takes no memory.
+    pub fn new(alloc: Global) -> Self
+        ensures { result ≡ record { key = []; values = [] } }
+    {
         Hand {
             columns: Fields::new(alloc),
             key: Vec::new(alloc),
             values: Vec::new(alloc),
+        }
+    }
+
+    /// The row at hand.
+    pub fn row(&self) -> LentRow<'_>
+        ensures { lent result ≡ self.now }
+    {
+        LentRow {
+            key: self.key.as_slice(),
+            values: self.values.as_slice(),
         }
     }
 
@@ -56,15 +70,15 @@ impl Hand {
         depth: usize,
         columns: &[u16],
         values: &[u16],
-        row: &Row,
+        row: LentRow,
     ) -> Result<(), AllocError>
-        requires spelled { IsTrue (is_spelling kinds.now row.now.key) }
+        requires spelled { IsTrue (is_spelling kinds.now row.key.now) }
         requires deep { EachIndex columns.now (λ k. slice_index columns.now k < depth) }
-        ensures { OnOk result (self.new ≡ record { key = concat (chosen columns.now (columns_of kinds.now row.now.key)); values = chosen values.now row.now.values }) }
+        ensures { OnOk result (self.new ≡ record { key = concat (chosen columns.now (columns_of kinds.now row.entry.key.now)); values = chosen values.now row.entry.values.now }) }
     {
-        cut(&mut self.columns, kinds, depth, row.key.as_slice())?;
+        cut(&mut self.columns, kinds, depth, row.key)?;
         fill_key(&mut self.key, &self.columns, columns)?;
-        fill_values(&mut self.values, values, row.values.as_slice())
+        fill_values(&mut self.values, values, row.values)
     }
 }
 

@@ -16,6 +16,7 @@ pub use answering::answer;
 pub use error::GroupError;
 pub use grouping::group;
 pub use groups::Groups;
+pub use hand::Hand;
 pub use laws::answer_over_parts;
 pub use regrouping::Regrouping;
 pub use views::view_rows;

@@ -1,9 +1,10 @@
 // Rows of a table as rows of one of its views.
-ghost use Rattle.std.specs.Prelude.{◌≡◌, ◌<◌, IsTrue, IfOk, IfSome, length, slice_get};
+ghost use Rattle.std.specs.Prelude.{◌≡◌, ◌<◌, IsTrue, IfOk, IfSome, OnOk, length, slice_get};
 ghost use Rattle.mesa_key.specs.Spelling.{is_spelling};
 ghost use Rattle.mesa_schema.specs.declared.views.View.{View as Chosen};
 ghost use Rattle.mesa_schema.specs.Changes.{columns_of};
 ghost use Rattle.mesa_schema.specs.Columns.{Columns};
+ghost use Rattle.mesa_schema.specs.Lent.{lent};
 ghost use Rattle.mesa_schema.specs.Rows.{IsRowOf};
 ghost use Rattle.mesa_schema.specs.Views.{view_columns};
 ghost use Rattle.mesa_filter.specs.Query.{are_places};
@@ -13,8 +14,7 @@ use crate::groups::{depth_of, kinds_in};
 use crate::hand::Hand;
 use crate::views::places;
 use mesa_key::KeyType;
-use mesa_list::Items;
-use mesa_schema::{Evolving, Row};
+use mesa_schema::{Evolving, LentRow};
 use std::alloc::{AllocError, Global};
 use std::marker::Model;
 
@@ -23,9 +23,8 @@ pub struct Regrouping {
     kinds: Vec<KeyType>,
     columns: Vec<u16>,
     values: Vec<u16>,
-    // How many columns of a row's key are looked at, and the row at hand.
+    // How many columns of a row's key are looked at.
     depth: usize,
-    hand: Hand,
 }
 
 impl Model for Regrouping {
@@ -47,7 +46,6 @@ impl Drop for Regrouping {
             columns: _,
             values: _,
             depth: _,
-            hand: _,
         } = self;
     }
 }
@@ -71,7 +69,6 @@ impl Regrouping {
             columns,
             values,
             depth,
-            hand: Hand::new(alloc),
         })
     }
 
@@ -89,28 +86,12 @@ impl Regrouping {
         &self.values
     }
 
-    /// A row of the table as one of the view, in the room that it has.
-    pub fn row(&mut self, row: Row) -> Result<Row, AllocError>
-        requires { IsTrue (is_spelling self.old.kinds row.key) }
-        ensures regrouped { IfOk result (λ now. now ≡ row_under self.old row) }
-        ensures form { IfOk result (λ now. (s : Columns) (v : Chosen) → self.old ≡ places_seen s v → IsRowOf s row → IsRowOf (view_columns s v) now) }
-        ensures same { self.new ≡ self.old }
+    /// Takes a row of the table in hand, as one of the view.
+    pub fn take(&self, row: LentRow, hand: &mut Hand) -> Result<(), AllocError>
+        requires { IsTrue (is_spelling self.now.kinds row.key.now) }
+        ensures regrouped { OnOk result (hand.new ≡ row_under self.now (lent row.entry)) }
+        ensures form { OnOk result ((s : Columns) (v : Chosen) → self.now ≡ places_seen s v → IsRowOf s (lent row.entry) → IsRowOf (view_columns s v) hand.new) }
     {
-        self.hand
-            .take(&self.kinds, self.depth, &self.columns, &self.values, &row)?;
-        let Row { key, values } = row;
-        let key = refilled(key, self.hand.key())?;
-        let values = refilled(values, self.hand.values())?;
-        Ok(Row { key, values })
+        hand.take(&self.kinds, self.depth, &self.columns, &self.values, row)
     }
-}
-
-// A list of other items, in the same room.
-fn refilled<T: Copy>(list: Items<T>, with: &[T]) -> Result<Items<T>, AllocError>
-    ensures { IfOk result (λ filled. filled ≡ with.now) }
-{
-    let mut items = list.into_vec();
-    items.clear();
-    items.extend_from_slice(with)?;
-    Ok(Items::from_vec(items))
 }

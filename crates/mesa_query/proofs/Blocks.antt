@@ -31,7 +31,7 @@ use Rattle.mesa_answer.specs.Answering.{KeepsSums}
 use Rattle.mesa_answer.specs.Gathered.{HasPut, wanted_of}
 use Rattle.mesa_answer.specs.Regrouping.{PlacesSeen, places_seen, row_under}
 use Rattle.mesa_answer.proofs.Forms.{row_spells}
-use Rattle.mesa_answer.proofs.Regrouped.{regrouped_form}
+use Rattle.mesa_schema.proofs.GroupKeys.{regrouped_form}
 use Rattle.mesa_view.proofs.Blocks.{every_passes, given_all, given_matching}
 use Rattle.mesa_view.proofs.Sums.{sums_front}
 use Rattle.mesa_query.specs.Relation.{under_view}

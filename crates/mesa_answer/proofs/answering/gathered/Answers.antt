@@ -30,7 +30,7 @@ put_bounded-requires-clause-gathering c =
     let schema = ap (λ (w : Wanted). w.schema) c.loop-row.invariant.wanted in
     let keeps : KeepsSums c.loop-row.groups.schema.now (some ++ c.row-item.result ∷ []) =
     subst (λ t. KeepsSums t (some ++ c.row-item.result ∷ [])) (sym schema) (sums_filtered s test c.loop-row.row-index c.args.rows.now c.row-item.result c.loop-row-test.true c.row-item.is c.requires.bounded) in
-    (some, c.loop-row.invariant.put, keeps)
+    rw c.lend.ensures (some, c.loop-row.invariant.put, keeps)
 
 pub loop-row-preserved : goal.loop-row-preserved
 loop-row-preserved c =
@@ -42,7 +42,7 @@ loop-row-preserved c =
     let met : c.matches.result ≡ test row = rw (c.filter-filter.ensures.kinds, c.filter-filter.ensures.terms, c.requires.asked.kinds, c.as_slice.ensures) at c.matches.ensures in
     elim c.if-matches.branch [
       | then-matches+in_ok-put_bounded w ↦
-          let put : HasPut w.put_bounded.new.groups (some ++ row ∷ []) = w.in_ok-put_bounded.ensures.put some c.loop-row.invariant.put in
+          let put : HasPut w.put_bounded.new.groups (some ++ row ∷ []) = rw w.lend.ensures at (w.in_ok-put_bounded.ensures.put some c.loop-row.invariant.put) in
           let more = one_more_passes test i c.args.rows.now row c.loop-row-test.true c.row-item.is (sym met ∙ w.if-matches.true) in
           record {
             put = subst (λ g. HasPut g (filter test (take (c.loop-row.row-index + 1) c.args.rows.now))) (sym w.groups-is) (subst (HasPut w.put_bounded.new.groups) (sym more) put);

@@ -7,6 +7,7 @@ use Rattle.mesa_schema.specs.declared.rows.Row.{Row}
 use Rattle.mesa_schema.specs.Columns.{aggs_of, chosen}
 use Rattle.mesa_schema.specs.Folded.{AllCombine, regrouped}
 use Rattle.mesa_schema.specs.Laws.{AreFull}
+use Rattle.mesa_schema.specs.Lent.{lent}
 use Rattle.mesa_schema.specs.Put.{put_row}
 use Rattle.mesa_schema.specs.Rows.{IsRowOf}
 use Rattle.mesa_answer.specs.Gathered.{wanted_of}
@@ -19,12 +20,12 @@ use Rattle.mesa_answer.proofs.groups.Groups.put.Goals as goal
 
 pub take-requires-clause-spelled : goal.take-requires-clause-spelled
 take-requires-clause-spelled c =
-    rw (c.deref.ensures.value, c.requires.gathering.1.kinds) (row_spells c.args.self.now.schema.now c.args.row.now c.requires.form)
+    rw (c.deref.ensures.value, c.requires.gathering.1.kinds) (row_spells c.args.self.now.schema.now (lent c.args.row) c.requires.form)
 
 pub returns-then-not-is_behind-clause-put : goal.returns-then-not-is_behind-clause-put
 returns-then-not-is_behind-clause-put c = λ given put.
     let g = c.args.self.now in
-    let row = c.args.row.now in
+    let row : Row = lent c.args.row in
     let kinds = c.deref.ensures.value ∙ put.kinds in
     let filled : c.take.new.self ≡ regrouped g.schema.now g.columns.now g.values.now row = c.in_ok-take.ensures ∙ (λ i. record { key = concat (chosen g.columns.now (columns_of (kinds i) row.key)); values = chosen g.values.now row.values }) in
     let before : is_behind (wanted_of g).resume (regrouped g.schema.now g.columns.now g.values.now row).key ≡ false =
@@ -50,7 +51,7 @@ put_first-requires-clause-full c =
 pub put_first-requires-clause-row_full : goal.put_first-requires-clause-row_full
 put_first-requires-clause-row_full c =
     let g = c.args.self.now in
-    let row = c.args.row.now in
+    let row : Row = lent c.args.row in
     let put = c.requires.gathering.1 in
     let aggs : c.deref-2.result.now ≡ chosen g.values.now (aggs_of g.schema.now) = c.deref-2.ensures.value ∙ put.aggs in
     let full = full_regrouped g.schema.now g.columns.now g.values.now (row ∷ []) (c.requires.form, tt) in
@@ -59,7 +60,7 @@ put_first-requires-clause-row_full c =
 pub returns-clause-put : goal.returns-clause-put
 returns-clause-put c =
     let g = c.args.self.now in
-    let row = c.args.row.now in
+    let row : Row = lent c.args.row in
     on_ok c.put_first.result _ _ (λ held given put.
     let kinds = c.deref.ensures.value ∙ put.kinds in
     let filled : c.take.new.self ≡ regrouped g.schema.now g.columns.now g.values.now row = c.in_ok-take.ensures ∙ (λ i. record { key = concat (chosen g.columns.now (columns_of (kinds i) row.key)); values = chosen g.values.now row.values }) in
@@ -80,7 +81,7 @@ returns-clause-put c =
 pub returns-clause-cause : goal.returns-clause-cause
 returns-clause-cause c =
     let g = c.args.self.now in
-    let row = c.args.row.now in
+    let row : Row = lent c.args.row in
     if_err c.put_first.result _ _ (λ e why is given put keeps.
     let group = why is in
     let kinds = c.deref.ensures.value ∙ put.kinds in

@@ -9,9 +9,8 @@ use Rattle.mesa_answer.proofs.hand.Hand.take.Goals as goal
 pub returns : goal.returns
 returns c =
     let columns = c.args.columns.now in
-    let key : c.fill_key.new.found.items ≡ concat (chosen columns (columns_of c.args.kinds.now c.args.row.now.key)) =
+    let key : c.fill_key.new.found.items ≡ concat (chosen columns (columns_of c.args.kinds.now c.args.row.key.now)) =
     c.in_ok-fill_key.ensures
     ∙ ap (λ (cs : List (List ℕ)). concat (chosen columns cs)) c.in_ok-cut.ensures
-    ∙ ap (λ (cs : List (List ℕ)). concat cs) (chosen-taken c.args.depth columns (columns_of c.args.kinds.now c.as_slice.result.now) c.requires.deep)
-    ∙ ap (λ bytes. concat (chosen columns (columns_of c.args.kinds.now bytes))) c.as_slice.ensures in
-    on_ok c.fill_values.result _ _ (λ values. λ i. record { key = key i; values = (values ∙ ap (chosen c.args.values.now) c.as_slice-2.ensures) i }) c.fill_values.ensures
+    ∙ ap (λ (cs : List (List ℕ)). concat cs) (chosen-taken c.args.depth columns (columns_of c.args.kinds.now c.args.row.key.now) c.requires.deep) in
+    on_ok c.fill_values.result _ _ (λ values. λ i. record { key = key i; values = values i }) c.fill_values.ensures
