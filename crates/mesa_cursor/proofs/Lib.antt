@@ -1,4 +1,5 @@
 pub mod Lifted
+pub mod Handing
 pub mod Giving
 pub mod Rising
 pub mod Ending

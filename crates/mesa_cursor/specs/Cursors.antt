@@ -1,5 +1,5 @@
 -- Files as streams of rows.
-use Rattle.std.specs.Prelude.{◌≡◌, ℕ, ◌<◌, ◌≤◌, List, [], ◌++◌, length, map, take, Option, Some}
+use Rattle.std.specs.Prelude.{◌≡◌, ℕ, ◌<◌, ◌≤◌, List, [], ◌++◌, length, map, take, drop, Option, Some}
 use Rattle.mesa_schema.specs.declared.rows.Row.{Row}
 use Rattle.mesa_schema.specs.declared.lifting.Lift.{Lift}
 use Rattle.mesa_schema.specs.Changes.{columns_at, epoch_of, lifted}
@@ -36,7 +36,7 @@ pub record IsSameInput {R : Type 0} (bytes : R → Option (List ℕ)) (old new :
 
 -- the rows at hand, the next first
 abbrev pub at_hand : Cursor → List Row
-at_hand c = c.rows.items
+at_hand c = drop c.given c.block
 
 -- how a cursor lifts rows
 abbrev pub lift_of : Cursor → Lift

@@ -1,21 +1,21 @@
 // A file read as a stream of lifted rows.
-ghost use Rattle.std.specs.Prelude.{◌≡◌, ◌<◌, ◌≤◌, ◌+◌, ◌++◌, [], ◌∷◌, ℕ, List, length, IfOk, OnOk, IfErr, IfSome, IfNone, IsTrue, Ok, Some};
+ghost use Rattle.std.specs.Prelude.{◌≡◌, ◌<◌, ◌≤◌, ◌+◌, ◌++◌, [], ◌∷◌, ℕ, List, length, drop, IfOk, OnOk, IfErr, IfSome, IfNone, IsTrue, Ok, Some};
 ghost use Rattle.mesa_fault.specs.Causes.{HasFaultCause};
 ghost use Rattle.mesa_disk.specs.mesa_file.declared.damage.Damage.{Damage as AnyDamage};
 ghost use Rattle.mesa_schema.specs.declared.rows.Row.{Row as AnyRow};
 ghost use Rattle.mesa_schema.specs.Changes.{columns_of};
 ghost use Rattle.mesa_schema.specs.Laws.{AreUnder};
+ghost use Rattle.mesa_schema.specs.Lent.{lent};
 ghost use Rattle.mesa_schema.specs.Rows.{AreRowsOf, keys_rise};
 ghost use Rattle.mesa_delta.specs.declared.error.FileError.TheVariants as file_error;
 ghost use Rattle.mesa_delta.specs.Reading.{IsBlockDamage, IsIndexed, index_of};
 ghost use Rattle.mesa_cursor.specs.Cursors.{HasGiven, IsAllOf, IsInput, IsReady, IsSameInput, at_hand, lift_of, next_of, reader_in};
 
-use crate::lifting::lift_rows;
+use mesa_block::Block;
 use mesa_delta::{FileError, Input};
 use mesa_disk::FileReader;
-use mesa_schema::{Lift, Row, lifts_to_present};
+use mesa_schema::{LentRow, Lift, lifts_to_present};
 use std::alloc::{AllocError, Global};
-use std::collections::VecDeque;
 
 /// Where an input is being read: its rows come one after the other from the first on, lifted to the present, and at
 /// most one block of them is held.
@@ -25,8 +25,9 @@ use std::collections::VecDeque;
 pub struct Cursor {
     lift: Lift,
     next: u32,
-    // The rows at hand. The buffer stays for the next block.
-    rows: VecDeque<Row>,
+    // The rows of the block that was read last, lifted, and how many of them were given.
+    block: Block,
+    given: usize,
 }
 
 impl Cursor {
@@ -41,33 +42,39 @@ impl Cursor {
         Ok(Cursor {
             lift,
             next: 0,
-            rows: VecDeque::new(alloc),
+            block: Block::none(alloc),
+            given: 0,
         })
     }
 
     /// The row at hand.
-    pub fn head(&self) -> Option<&Row>
-        ensures some { IfSome result (λ row. (rows : List AnyRow) × (at_hand self.now ≡ row.now ∷ rows)) }
+    pub fn head(&self) -> Option<LentRow<'_>>
+        ensures some { IfSome result (λ row. (rows : List AnyRow) × (at_hand self.now ≡ lent row ∷ rows)) }
         ensures none { IfNone result (at_hand self.now ≡ []) }
     {
-        self.rows.front()
+        if self.given < self.block.len() {
+            Some(self.block.row(self.given))
+        } else {
+            None
+        }
     }
 
     /// How many rows are held.
     pub fn held(&self) -> usize
         ensures { result ≡ length (at_hand self.now) }
     {
-        self.rows.len()
+        self.block.len().saturating_sub(self.given)
     }
 
-    /// The row at hand, which is then given.
-    pub fn take(&mut self) -> Option<Row>
-        ensures some { IfSome result (λ row. at_hand self.old ≡ row ∷ at_hand self.new) }
-        ensures none { IfNone result ((at_hand self.old ≡ []) × (at_hand self.new ≡ [])) }
+    /// Gives the row at hand, if there is one: the one behind it is at hand then.
+    pub fn step(&mut self)
+        ensures rows { at_hand self.new ≡ drop 1 (at_hand self.old) }
         ensures lift { lift_of self.new ≡ lift_of self.old }
         ensures next { next_of self.new ≡ next_of self.old }
     {
-        self.rows.pop_front()
+        if self.given < self.block.len() {
+            self.given += 1;
+        }
     }
 
     /// Reads the next block where no row is at hand and there is one.
@@ -89,7 +96,7 @@ impl Cursor {
         ensures accepts { IfErr result (λ e. (d : AnyDamage) → e ≡ file_error.Damaged d → IsInput R.bytes input.old
             → (b : List ℕ) (all : List AnyRow) → R.bytes (reader_in input.old) ≡ Some b → IsIndexed (index_of input.old.reader) all b → ⊥) }
     {
-        if !self.rows.is_empty() {
+        if self.given < self.block.len() {
             return Ok(());
         }
         if self.next >= input.reader.blocks() {
@@ -99,7 +106,8 @@ impl Cursor {
             Ok(block) => block,
             Err(error) => return Err(error),
         };
-        lift_rows(&self.lift, block.into_rows(), &mut self.rows)?;
+        self.block = block.lifted(&self.lift)?;
+        self.given = 0;
         self.next += 1;
         Ok(())
     }

@@ -2,6 +2,5 @@
 #![tactic(auto)]
 
 mod cursor;
-mod lifting;
 
 pub use cursor::Cursor;

@@ -1,10 +1,9 @@
 use Rattle.std.proofs.Common.{◌≡◌, ◌<◌, [], length, refl, arith}
-use Rattle.std.specs.Prelude.{map}
 use Rattle.std.proofs.lemmas.Grind.{common_steps}
-use Rattle.mesa_schema.specs.Lifting.{lifted_with}
 use Rattle.mesa_delta.specs.Reading.{index_of}
-use Rattle.mesa_cursor.specs.Cursors.{IsSameInput, at_hand, lift_of, next_of}
+use Rattle.mesa_cursor.specs.Cursors.{IsSameInput, at_hand, next_of}
 use Rattle.mesa_cursor.proofs.Giving.{given_more, input_more}
+use Rattle.mesa_cursor.proofs.Handing.{past_end}
 use Rattle.mesa_cursor.proofs.cursor.Cursor.fill.Goals as goal
 
 pub returns-in-Err-clause-damaged : goal.returns-in-Err-clause-damaged
@@ -14,9 +13,9 @@ pub returns-clause-given : goal.returns-clause-given
 returns-clause-given g c = λ given h.
     let bytes = g.R.FileReader.bytes in
     let old = c.args.input.now in
-    let none : at_hand c.args.self.now ≡ [] = grind (arith, common_steps) in
+    let none : at_hand c.args.self.now ≡ [] = past_end c.args.self.now.block c.args.self.now.given (omega (arith, c.len.ensures, c.if-self-len.false)) in
     let lt : next_of c.args.self.now < length (index_of old.reader).entries = grind (arith, common_steps) in
-    let hand : c.lift_rows.new.lifted.items ≡ map (lifted_with (lift_of c.args.self.now)) c.in-Ok.block = grind (arith, common_steps) in
+    let hand = c.in_ok-lifted.ensures in
     let same : IsSameInput bytes old (record old { reader = c.block.new.self }) = record { index = c.block.ensures.index; evolving = refl; epoch = refl; told = c.block.ensures.bytes } in
     given_more bytes old (record old { reader = c.block.new.self }) c.args.self.now _ c.in-Ok.block given
     (record {

@@ -6,5 +6,5 @@ use Rattle.mesa_cursor.proofs.cursor.Cursor.of.Goals as goal
 
 pub returns-clause-given : goal.returns-clause-given
 returns-clause-given g c =
-    given_none g.R.FileReader.bytes c.args.input.now _ c.requires (subst IsIndex c.index.ensures c.blocks-blocks.ensures.index) c.new.ensures.items refl
+    given_none g.R.FileReader.bytes c.args.input.now _ c.requires (subst IsIndex c.index.ensures c.blocks-blocks.ensures.index) c.none.ensures refl
     (subst (λ l. Lifts c.in_ok-lift.lift l c.args.input.now.epoch) c.deref.ensures c.in_ok-lift.ensures)
