@@ -6,5 +6,6 @@ mod matching;
 mod scanning;
 mod whole;
 
+pub use matching::Matching;
 pub use scanning::Scan;
 pub use whole::{ScanCount, scan};

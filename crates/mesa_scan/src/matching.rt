@@ -1,42 +1,79 @@
 // The matching rows of a block.
-ghost use Rattle.std.specs.Prelude.{◌≡◌, ◌++◌, ◌∷◌, [], List, map, filter, OnOk, IsTrue};
+ghost use Rattle.std.specs.Prelude.{◌≡◌, ◌<◌, [], IfOk, IsTrue, Some, length, slice_get};
 ghost use Rattle.std.specs.List.{AllByRecursion};
-ghost use Rattle.mesa_key.specs.Spelling.{is_spelling, key_of};
+ghost use Rattle.mesa_key.specs.Spelling.{is_spelling};
 ghost use Rattle.mesa_schema.specs.declared.rows.Row.{Row as AnyRow};
-ghost use Rattle.mesa_schema.specs.Lifting.{lifted_with};
-ghost use Rattle.mesa_filter.specs.Filter.{meets};
+ghost use Rattle.mesa_schema.specs.Lent.{lent};
 ghost use Rattle.mesa_scan.specs.Matching.{matching_rows};
 
+use mesa_block::Block;
 use mesa_filter::Filter;
-use mesa_schema::{Lift, Row};
-use std::alloc::AllocError;
+use mesa_schema::LentRow;
+use std::alloc::{AllocError, Global};
+use std::marker::Model;
 
-// Lifts the rows of a block, and adds those that match behind the rows that are there. No row is copied.
-pub(crate) fn add_matching(
-    filter: &Filter,
-    lift: &Lift,
-    block: Vec<Row>,
-    rows: &mut Vec<Row>,
-) -> Result<(), AllocError>
-    requires { AllByRecursion (λ (row : AnyRow). IsTrue (is_spelling filter.now.kinds (lifted_with lift.now row).key)) block.items }
-    ensures added { OnOk result (rows.new.items ≡ rows.old.items ++ matching_rows filter.now (map (lifted_with lift.now) block.items)) }
-    ensures grows { (more : List AnyRow) × (rows.new.items ≡ rows.old.items ++ more) }
-{
-    'block: for row in block {
-        add_one(filter, lift.row(row)?, rows)?;
-    }
-    Ok(())
+/// The rows of a block that match a filter, in their order. They stand where they were read, and are lent from there.
+#[derive(Drop)]
+pub struct Matching {
+    block: Block,
+    // Where the rows stand in the block.
+    places: Vec<usize>,
 }
 
-// Adds a row where it matches.
-fn add_one(filter: &Filter, row: Row, rows: &mut Vec<Row>) -> Result<(), AllocError>
-    requires { IsTrue (is_spelling filter.now.kinds row.key) }
-    ensures added { OnOk result (rows.new.items ≡ rows.old.items ++ matching_rows filter.now (row ∷ [])) }
-    ensures grows { (more : List AnyRow) × (rows.new.items ≡ rows.old.items ++ more) }
-{
-    if !filter.matches(row.key.as_slice()) {
-        return Ok(());
+impl Model for Matching {
+    ghost use Rattle.std.specs.Prelude.{◌<◌, List, length};
+    ghost use Rattle.std.specs.List.{AllByRecursion};
+    ghost use Rattle.mesa_schema.specs.declared.rows.Row.{Row};
+    ghost use Rattle.mesa_schema.specs.Columns.{chosen};
+
+    ghost Value = { List Row };
+
+    ghost view = { λ m. chosen m.places.items m.block };
+
+    ghost invariant = { λ m. AllByRecursion (λ place. place < length m.block) m.places.items };
+}
+
+impl Matching {
+    // No rows.
+    pub(crate) fn none(alloc: Global) -> Self
+        ensures { result ≡ [] }
+    {
+        Matching {
+            block: Block::none(alloc),
+            places: Vec::new(alloc),
+        }
     }
-    rows.push(row)?;
-    Ok(())
+
+    /// How many rows there are.
+    pub fn len(&self) -> usize
+        ensures { result ≡ length self.now }
+    {
+        self.places.len()
+    }
+
+    /// The row at a place, counted from 0.
+    pub fn row(&self, i: usize) -> LentRow<'_>
+        requires { i < length self.now }
+        ensures { slice_get self.now i ≡ Some (lent result) }
+    {
+        self.block.row(self.places[i])
+    }
+}
+
+// The rows of a block that match.
+pub(crate) fn matching_in(
+    alloc: Global,
+    filter: &Filter,
+    block: Block,
+) -> Result<Matching, AllocError>
+    requires { AllByRecursion (λ (row : AnyRow). IsTrue (is_spelling filter.now.kinds row.key)) block }
+    ensures { IfOk result (λ m. m ≡ matching_rows filter.now block) }
+{
+    let mut places = Vec::with_capacity(alloc, block.len())?;
+    for place in 0..block.len() {
+        if filter.matches(block.row(place).key) {
+            places.push(place)?;
+        }
+    }
+    Ok(Matching { block, places })
 }

@@ -10,20 +10,21 @@ ghost use Rattle.mesa_scan.specs.Damaged.{IsDamaged};
 ghost use Rattle.mesa_scan.specs.Scanning.{HasScanned, IsFilterOf, filter_of, next_of, read_of};
 
 use crate::allowing::may_have;
-use crate::matching::add_matching;
+use crate::matching::{Matching, matching_in};
 use mesa_block::fits_alone;
 use mesa_delta::{FileError, Input, keys_between};
 use mesa_disk::FileReader;
 use mesa_filter::Filter;
 use mesa_key::reads_back;
-use mesa_schema::{Lift, Row, lifts_to_present};
-use std::alloc::AllocError;
+use mesa_schema::{Lift, lifts_to_present};
+use std::alloc::{AllocError, Global};
 
 /// Where an input is being scanned for the rows that match a filter. It goes on block by block, and a block is read only where it may have a matching row; so what is held is at most a block.
 ///
 /// A scan is of the input that it was made for, which each call is given that reads it.
 #[derive(Drop)]
 pub struct Scan<'a> {
+    alloc: Global,
     filter: &'a Filter,
     lift: Lift,
     // How many key columns the file's rows have.
@@ -34,7 +35,11 @@ pub struct Scan<'a> {
 
 impl<'a> Scan<'a> {
     /// At the first block of an input. The filter is one of the columns to which its rows are lifted.
-    pub fn of<R: FileReader>(input: &Input<R>, filter: &'a Filter) -> Result<Self, AllocError>
+    pub fn of<R: FileReader>(
+        alloc: Global,
+        input: &Input<R>,
+        filter: &'a Filter,
+    ) -> Result<Self, AllocError>
         requires input { IsInput R.bytes input.now }
         requires filter { IsFilterOf input.now filter.now }
         ensures given { IfOk result (λ s. HasScanned R.bytes input.now s []) }
@@ -43,6 +48,7 @@ impl<'a> Scan<'a> {
     {
         let lift = input.evolving.lift_from(input.epoch)?;
         Ok(Scan {
+            alloc,
             filter,
             lift,
             columns: input.reader.index().schema().keys().len() as u8,
@@ -65,19 +71,13 @@ impl<'a> Scan<'a> {
         self.blocks_read
     }
 
-    /// Goes on by a block, and adds its matching rows, lifted, behind the rows that are there. After an error some of them may be there, and the scan stands where it stood.
-    pub fn block<R: FileReader>(
-        &mut self,
-        input: &mut Input<R>,
-        rows: &mut Vec<Row>,
-    ) -> Result<(), FileError>
+    /// Goes on by a block: its matching rows, lifted. After an error the scan stands where it stood.
+    pub fn block<R: FileReader>(&mut self, input: &mut Input<R>) -> Result<Matching, FileError>
         requires scanning { (given : List AnyRow) × HasScanned R.bytes input.old self.old given }
         requires left { next_of self.old < length (index_of input.old.reader).entries }
-        ensures more { OnOk result ((given : List AnyRow) → HasScanned R.bytes input.old self.old given
-            → (more : List AnyRow) × (rows.new.items ≡ rows.old.items ++ more) × HasScanned R.bytes input.new self.new (given ++ more)) }
+        ensures more { IfOk result (λ more. (given : List AnyRow) → HasScanned R.bytes input.old self.old given → HasScanned R.bytes input.new self.new (given ++ more)) }
         ensures next { OnOk result (next_of self.new ≡ next_of self.old + 1) }
         ensures filter { filter_of self.new ≡ filter_of self.old }
-        ensures grows { (more : List AnyRow) × (rows.new.items ≡ rows.old.items ++ more) }
         ensures stays { OnErr result (self.new ≡ self.old) }
 
         // The input stays one, of the same file, and is read at most once.
@@ -99,15 +99,15 @@ impl<'a> Scan<'a> {
         let _blocks = index.blocks();
         if !may_have(self.filter, self.columns, index, self.next) {
             self.next += 1;
-            return Ok(());
+            return Ok(Matching::none(self.alloc));
         }
         let block = match input.reader.block(self.next) {
             Ok(block) => block,
             Err(error) => return Err(error),
         };
-        add_matching(self.filter, &self.lift, block.into_rows(), rows)?;
+        let rows = matching_in(self.alloc, self.filter, block.lifted(&self.lift)?)?;
         self.blocks_read += 1;
         self.next += 1;
-        Ok(())
+        Ok(rows)
     }
 }

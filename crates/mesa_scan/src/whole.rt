@@ -13,12 +13,14 @@ ghost use Rattle.mesa_scan.specs.Allowing.{allowed_among};
 ghost use Rattle.mesa_scan.specs.Damaged.{IsDamaged};
 ghost use Rattle.mesa_scan.specs.Scanning.{IsFilterOf, keys_in};
 
+use crate::matching::Matching;
 use crate::scanning::Scan;
 use mesa_delta::{FileError, Input};
 use mesa_disk::FileReader;
 use mesa_filter::Filter;
 use mesa_list::Items;
 use mesa_schema::{Row, RowList};
+use std::alloc::{AllocError, Global};
 use std::mem::replace;
 
 /// How many blocks of a file were read, of how many.
@@ -57,10 +59,10 @@ pub fn scan<R: FileReader>(
     ensures cause { HasFaultCause (λ e. e ≡ file_error.Read) (R.faults (reader_in input.old)) (R.faults (reader_in input.new)) result }
     ensures damaged { IfErr result (λ e. (d : AnyDamage) → e ≡ file_error.Damaged d → IsDamaged R.bytes R.size input.old d) }
 {
-    let empty = Items::new(out.allocator());
-    let mut rows = replace(out, empty).into_vec();
+    let alloc = out.allocator();
+    let mut rows = replace(out, Items::new(alloc)).into_vec();
     let before = rows.len();
-    let scanned = scan_onto(input, filter, &mut rows);
+    let scanned = scan_onto(alloc, input, filter, &mut rows);
     if scanned.is_err() {
         rows.truncate(before);
     }
@@ -70,6 +72,7 @@ pub fn scan<R: FileReader>(
 
 // Adds the matching rows. After an error some of them may be there.
 fn scan_onto<R: FileReader>(
+    alloc: Global,
     input: &mut Input<R>,
     filter: &Filter,
     rows: &mut Vec<Row>,
@@ -89,12 +92,23 @@ fn scan_onto<R: FileReader>(
     ensures cause { HasFaultCause (λ e. e ≡ file_error.Read) (R.faults (reader_in input.old)) (R.faults (reader_in input.new)) result }
     ensures damaged { IfErr result (λ e. (d : AnyDamage) → e ≡ file_error.Damaged d → IsDamaged R.bytes R.size input.old d) }
 {
-    let mut scan = Scan::of(input, filter)?;
+    let mut scan = Scan::of(alloc, input, filter)?;
     while !scan.is_over(input) {
-        scan.block(input, rows)?;
+        add_copies(alloc, &scan.block(input)?, rows)?;
     }
     Ok(ScanCount {
         blocks_read: scan.blocks_read(),
         blocks: input.reader.blocks(),
     })
+}
+
+// Adds copies of rows behind those that are there. After an error some of them may be there.
+fn add_copies(alloc: Global, more: &Matching, rows: &mut Vec<Row>) -> Result<(), AllocError>
+    ensures added { OnOk result (rows.new.items ≡ rows.old.items ++ more.now) }
+    ensures grows { (some : List AnyRow) × (rows.new.items ≡ rows.old.items ++ some) }
+{
+    for i in 0..more.len() {
+        rows.push(more.row(i).to_row(alloc)?)?;
+    }
+    Ok(())
 }
