@@ -1,5 +1,8 @@
 -- Facts about a value that may be none, or an error.
-use Rattle.std.specs.Prelude.{Option, Some, None, IfNone, IfSome, Result, Ok, Err, IfOk, IfErr, OnOk}
+use Rattle.std.proofs.Common.{◌≡◌, sym}
+use Rattle.std.proofs.lemmas.Bool.{false≢true}
+use Rattle.std.specs.Bool.{OnFalse, OnTrue}
+use Rattle.std.specs.Prelude.{Bool, true, false, Option, Some, None, IfNone, IfSome, Result, Ok, Err, IfOk, IfErr, OnOk}
 
 pub if_none : {X : Type 0} (o : Option X) (P Q : Type 0) → (P → Q) → IfNone o P → IfNone o Q
 if_none None P Q f p = f p
@@ -21,3 +24,12 @@ if_err (Err e) P Q f p = f e p
 pub if_ok2 : {X E : Type 0} (r : Result X E) (A : Type 0) (P Q : X → Type 0) → ((x : X) → A → P x → Q x) → OnOk r A → IfOk r P → IfOk r Q
 if_ok2 (Ok x) A P Q f a p = f x a p
 if_ok2 (Err e) A P Q f a p = tt
+
+-- what holds where a test is true, or where it isn't
+pub if_true : (b : Bool) (P : Type 0) → b ≡ true → OnTrue b P → P
+if_true true P e p = p
+if_true false P e p = absurd (false≢true e)
+
+pub if_false : (b : Bool) (P : Type 0) → b ≡ false → OnFalse b P → P
+if_false true P e p = absurd (false≢true (sym e))
+if_false false P e p = p

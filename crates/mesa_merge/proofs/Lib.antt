@@ -17,3 +17,4 @@ pub mod Handing
 pub mod Held
 pub mod Newest
 pub mod Damages
+pub mod Answering

@@ -1,5 +1,5 @@
 -- An input from which the row at hand was taken.
-use Rattle.std.proofs.Common.{◌≡◌, ℕ, List, [], ◌∷◌, ◌++◌, sym, ◌∙◌, ap, subst, append_assoc, length, arith}
+use Rattle.std.proofs.Common.{◌≡◌, ℕ, List, [], ◌∷◌, ◌++◌, sym, ◌∙◌, ap, subst, append_assoc, length, drop, arith}
 use Rattle.std.specs.Prelude.{Option}
 use Rattle.mesa_schema.specs.declared.rows.Row.{Row}
 use Rattle.mesa_schema.specs.Changes.{epoch_of, lifted}
@@ -9,6 +9,10 @@ use Rattle.mesa_schema.specs.Rows.{AreRowsOf, IsRowOf}
 use Rattle.mesa_delta.specs.declared.input.Input.{Input}
 use Rattle.mesa_cursor.specs.declared.cursor.Cursor.{Cursor}
 use Rattle.mesa_cursor.specs.Cursors.{HasGiven, at_hand, lift_of, next_of}
+
+-- what is at hand without its first row
+pub stepped : (old new rows : List Row) (row : Row) → old ≡ row ∷ rows → new ≡ drop 1 old → old ≡ row ∷ new
+stepped old new rows row e is = e ∙ ap (λ rs. row ∷ rs) (sym (is ∙ ap (drop 1) e))
 
 -- the row at hand is given
 pub taken : {R : Type 0} (bytes : R → Option (List ℕ)) (i : Input R) (old new : Cursor) (given : List Row) (row : Row) → HasGiven bytes i old given → at_hand old ≡ row ∷ at_hand new → lift_of new ≡ lift_of old → next_of new ≡ next_of old

@@ -1,5 +1,5 @@
 -- What a call of a merge answers.
-use Rattle.std.specs.Prelude.{◌≡◌, ℕ, List, [], ◌∷◌, ◌++◌, Option, Result, IfOk, IfErr, IfSome, IfNone}
+use Rattle.std.specs.Prelude.{◌≡◌, ℕ, List, [], ◌∷◌, ◌++◌, Bool, Option, Result, Ok, Err, IfOk, IfErr, IfSome, IfNone}
 use Rattle.std.specs.List.{AllByRecursion}
 use Rattle.mesa_file.specs.declared.damage.Damage.{Damage}
 use Rattle.mesa_schema.specs.declared.rows.Row.{Row}
@@ -13,8 +13,14 @@ use Rattle.mesa_cursor.specs.Cursors.{IsInput}
 use Rattle.mesa_merge.specs.Damaged.{IsDamageOf}
 use Rattle.mesa_merge.specs.Faults.{HaveFaultCause, faults_of}
 use Rattle.mesa_merge.specs.Inputs.{AreAll, AreTold, knowns_of, lifted_parts}
-use Rattle.mesa_merge.specs.Merged.{HasMerged, inputs_of}
+use Rattle.mesa_merge.specs.Merged.{HasMerged, inputs_of, row_in}
+use Rattle.mesa_merge.specs.Merging.{given_if}
 use Rattle.mesa_merge.specs.declared.merge.Merge.{Merge}
+
+-- What a call answers: the row that the merge then lends, none, or an error.
+abbrev pub answer_of : {R : Type 0} → Result Bool FileError → Merge R → Result (Option Row) FileError
+answer_of (Ok more) m = Ok (given_if more (row_in m))
+answer_of (Err e) m = Err e
 
 -- The answer of a merge that has not failed.
 pub record IsNextOf {R : Type 0} (bytes : R → Option (List ℕ)) (faults size : R → ℕ) (old new : Merge R) (answer : Result (Option Row) FileError) : Type 0 where

@@ -20,6 +20,10 @@ failed_of m = m.failed
 abbrev pub hands_in : {R : Type 0} → Merge R → List (List Row)
 hands_in m = hands_of m.cursors.items
 
+-- the row that was given last
+abbrev pub row_in : {R : Type 0} → Merge R → Row
+row_in m = m.row
+
 -- the first blocks were read
 abbrev pub IsBegun : {R : Type 0} → Merge R → Type 0
 IsBegun m = m.begun ≡ true

@@ -1,5 +1,5 @@
 // Rows of one key, combined.
-ghost use Rattle.std.specs.Prelude.{◌≡◌, ◌<◌, ◌+◌, ◌++◌, ◌∷◌, [], ℕ, List, length, IfOk, IfErr, IfSome, IfNone, OnOk, get_or};
+ghost use Rattle.std.specs.Prelude.{◌≡◌, ◌<◌, ◌+◌, ◌++◌, ◌∷◌, [], ℕ, List, length, IfErr, IfSome, IfNone, OnOk, get_or};
 ghost use Rattle.std.specs.List.{AllByRecursion};
 ghost use Rattle.mesa_file.specs.declared.damage.Damage.{Damage as AnyDamage};
 ghost use Rattle.mesa_schema.specs.declared.rows.Row.{Row as AnyRow};
@@ -16,13 +16,14 @@ ghost use Rattle.mesa_merge.specs.Inputs.{AreTold, knowns_of, lifted_parts};
 ghost use Rattle.mesa_merge.specs.Matches.{IsTree};
 ghost use Rattle.mesa_merge.specs.Merging.{IsGathering, IsMerging};
 
+use crate::heads::combine_head;
 use crate::matches::{Tree, least};
 use crate::streams::advance;
 use crate::sums::{file_at, is_same, newest_with, sum_fault};
 use mesa_cursor::Cursor;
 use mesa_delta::{FileError, Input};
 use mesa_disk::FileReader;
-use mesa_fold::{combine_into, combines_all, folds_totals};
+use mesa_fold::folds_totals;
 use mesa_schema::{Row, folds_go_on};
 use mesa_value::Agg;
 
@@ -39,51 +40,46 @@ fn same_key(tree: &Tree, cursors: &[Cursor], key: &[u8]) -> Option<usize>
     let Some(row) = cursors[i].head() else {
         return None;
     };
-    if is_same(row.key.as_slice(), key) {
-        Some(i)
-    } else {
-        None
-    }
+    if is_same(row.key, key) { Some(i) } else { None }
 }
 
-// Takes the further rows of a row's key, and combines them with it in the order of the inputs. The row was taken from this input.
+// Combines a row with the further rows of its key, in the order of the inputs. It was taken from this input. After an error it may be any row.
 pub(crate) fn gather<R: FileReader>(
     inputs: &mut [Input<R>],
     cursors: &mut [Cursor],
     tree: &mut Tree,
     aggs: &[Agg],
-    first: Row,
+    row: &mut Row,
     mut from: usize,
-) -> Result<Row, FileError>
+) -> Result<(), FileError>
     requires within { from < length inputs.old }
     requires count { length cursors.old ≡ length inputs.old }
     requires tree { IsTree (hands_of cursors.old) tree.old }
-    requires gathering { (s : Columns) × (front : List AnyRow) × (givens : List (List AnyRow)) × (aggs.now ≡ aggs_of s) × IsGathering R.bytes s inputs.old cursors.old (from + 1) first front givens }
+    requires gathering { (s : Columns) × (front : List AnyRow) × (givens : List (List AnyRow)) × (aggs.now ≡ aggs_of s) × IsGathering R.bytes s inputs.old cursors.old (from + 1) row.old front givens }
     ensures tree { OnOk result (IsTree (hands_of cursors.new) tree.new) }
-    ensures merging { IfOk result (λ row. (s : Columns) (front : List AnyRow) (givens : List (List AnyRow)) → aggs.now ≡ aggs_of s → IsGathering R.bytes s inputs.old cursors.old (from + 1) first front givens
-        → (after : List (List AnyRow)) × IsMerging R.bytes s inputs.new cursors.new after × (folded (aggs_of s) after ≡ front ++ row ∷ []) × IsRowOf s row) }
+    ensures merging { OnOk result ((s : Columns) (front : List AnyRow) (givens : List (List AnyRow)) → aggs.now ≡ aggs_of s → IsGathering R.bytes s inputs.old cursors.old (from + 1) row.old front givens
+        → (after : List (List AnyRow)) × IsMerging R.bytes s inputs.new cursors.new after × (folded (aggs_of s) after ≡ front ++ row.new ∷ []) × IsRowOf s row.new) }
     ensures known { knowns_of R.bytes inputs.new ≡ knowns_of R.bytes inputs.old }
     ensures inputs { AllByRecursion (IsInput R.bytes) inputs.old → AllByRecursion (IsInput R.bytes) inputs.new }
     ensures cause { HaveFaultCause (λ e. e ≡ file_error.Read) (faults_of R.faults inputs.old) (faults_of R.faults inputs.new) result }
     ensures damaged { IfErr result (λ e. (d : AnyDamage) → e ≡ file_error.Damaged d → IsDamageOf R.bytes R.size inputs.new d) }
-    ensures accepts { IfErr result (λ e. (d : AnyDamage) → e ≡ file_error.Damaged d → (s : Columns) (front : List AnyRow) (givens : List (List AnyRow)) → aggs.now ≡ aggs_of s → IsGathering R.bytes s inputs.old cursors.old (from + 1) first front givens
+    ensures accepts { IfErr result (λ e. (d : AnyDamage) → e ≡ file_error.Damaged d → (s : Columns) (front : List AnyRow) (givens : List (List AnyRow)) → aggs.now ≡ aggs_of s → IsGathering R.bytes s inputs.old cursors.old (from + 1) row.old front givens
         → (contents : List (List AnyRow)) → AreTold (knowns_of R.bytes inputs.old) contents → KeepsBound (aggs_of s) [] (rows_of (lifted_parts (knowns_of R.bytes inputs.old) contents)) → ⊥) }
 {
     folds_go_on();
     folds_totals();
-    let mut row = first;
     'same: while let Some(i) = same_key(tree, cursors, row.key.as_slice()) {
-        let taken = match advance(inputs, cursors, tree, i) {
-            Ok(taken) => taken,
+        cursors[i].rises(&inputs[i]);
+        let combined = combine_head(&cursors[i], aggs, row);
+        match advance(inputs, cursors, tree, i) {
+            Ok(()) => {}
             Err(error) => return Err(error),
-        };
+        }
         from = i;
-        let Some(more) = taken else { unreachable!() };
-        if !combines_all(aggs, row.values.as_slice(), more.values.as_slice()) {
+        if !combined {
             let newest = newest_with(cursors, row.key.as_slice(), from);
             return Err(sum_fault(file_at(inputs, newest)));
         }
-        combine_into(aggs, &mut row.values, more.values.as_slice());
     }
-    Ok(row)
+    Ok(())
 }

@@ -2,6 +2,7 @@
 #![tactic(auto)]
 
 mod gathering;
+mod heads;
 mod laws;
 mod making;
 mod matches;

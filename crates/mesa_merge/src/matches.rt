@@ -53,7 +53,7 @@ fn front_of(cursor: &Cursor) -> u128
     ensures { HasFront result (at_hand cursor.now) }
 {
     match cursor.head() {
-        Some(row) => front(row.key.as_slice()),
+        Some(row) => front(row.key),
         None => u128::MAX,
     }
 }
@@ -97,7 +97,7 @@ fn first_by_rows(cursors: &[Cursor], a: usize, b: usize) -> usize
     let Some(first) = cursors[a].head() else {
         return b;
     };
-    match compare(first.key.as_slice(), second.key.as_slice()) {
+    match compare(first.key, second.key) {
         Ordering::Less => a,
         Ordering::Greater => b,
         Ordering::Equal => a.min(b),

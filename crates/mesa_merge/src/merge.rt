@@ -5,6 +5,7 @@ ghost use Rattle.mesa_value.specs.declared.Agg.{Agg as AnyAgg};
 ghost use Rattle.mesa_schema.specs.declared.rows.Row.{Row as AnyRow};
 ghost use Rattle.mesa_schema.specs.Columns.{Columns};
 ghost use Rattle.mesa_schema.specs.Folded.{folded};
+ghost use Rattle.mesa_schema.specs.Lent.{lent};
 ghost use Rattle.mesa_delta.specs.declared.error.FileError.{FileError as AnyError};
 ghost use Rattle.mesa_cursor.specs.Cursors.{IsInput};
 ghost use Rattle.mesa_merge.specs.Inputs.{AreInputs};
@@ -16,7 +17,7 @@ use crate::streams::held_by;
 use mesa_cursor::Cursor;
 use mesa_delta::{FileError, Input};
 use mesa_disk::FileReader;
-use mesa_schema::Row;
+use mesa_schema::{LentRow, Row};
 use mesa_value::Agg;
 use std::alloc::{AllocError, Global};
 
@@ -28,14 +29,16 @@ pub struct Merge<R> {
     tree: Tree,
     // The aggregations of the columns that the rows are lifted to.
     aggs: Vec<Agg>,
+    // The row that was given last, in room that is used again for the next one.
+    row: Row,
     // Whether the first blocks were read.
     begun: bool,
     failed: Option<FileError>,
 }
 
 impl<R: FileReader> Merge<R> {
-    ghost use Rattle.mesa_merge.specs.Calls.{IsNextOf};
-    ghost use Rattle.mesa_merge.specs.Merged.{HasMerged, IsBegun, failed_of, hands_in, inputs_of, nothing_given};
+    ghost use Rattle.mesa_merge.specs.Calls.{IsNextOf, answer_of};
+    ghost use Rattle.mesa_merge.specs.Merged.{HasMerged, IsBegun, failed_of, hands_in, inputs_of, nothing_given, row_in};
 
     /// A merge of inputs in version order, whose rows are lifted to one schema. Nothing is read yet.
     pub fn new(alloc: Global, inputs: Vec<Input<R>>) -> Result<Self, (AllocError, Vec<Input<R>>)>
@@ -58,15 +61,16 @@ impl<R: FileReader> Merge<R> {
             cursors,
             tree,
             aggs,
+            row: Row::empty(alloc),
             begun: false,
             failed: None,
         })
     }
 
-    /// The next row of the fold; None at the end of all inputs. After an Err each call answers the same Err.
-    pub fn next(&mut self) -> Result<Option<Row>, FileError>
+    /// Whether there is a next row of the fold, which `row` then lends; at the end of all inputs there is none. After an Err each call answers the same Err.
+    pub fn next(&mut self) -> Result<bool, FileError>
         requires { IfNone (failed_of self.old) ((s : Columns) × (givens : List (List AnyRow)) × HasMerged R.bytes s self.old givens) }
-        ensures next { failed_of self.old ≡ None → IsNextOf R.bytes R.faults R.size self.old self.new result }
+        ensures next { failed_of self.old ≡ None → IsNextOf R.bytes R.faults R.size self.old self.new (answer_of result self.new) }
         ensures failed { IfErr result (λ e. failed_of self.new ≡ Some e) }
         ensures again { (e : AnyError) → failed_of self.old ≡ Some e → (result ≡ Err e) × (self.new ≡ self.old) }
     {
@@ -76,14 +80,21 @@ impl<R: FileReader> Merge<R> {
         }
     }
 
+    /// The row that was given last.
+    pub fn row(&self) -> LentRow<'_>
+        ensures { lent result ≡ row_in self.now }
+    {
+        self.row.lend()
+    }
+
     // The next row of a merge that has not failed. An Err is kept.
-    fn go_on(&mut self) -> Result<Option<Row>, FileError>
+    fn go_on(&mut self) -> Result<bool, FileError>
         requires { (s : Columns) × (givens : List (List AnyRow)) × HasMerged R.bytes s self.old givens }
-        ensures next { IsNextOf R.bytes R.faults R.size self.old self.new result }
+        ensures next { IsNextOf R.bytes R.faults R.size self.old self.new (answer_of result self.new) }
         ensures failed { IfErr result (λ e. failed_of self.new ≡ Some e) }
     {
         match self.step() {
-            Ok(row) => Ok(row),
+            Ok(more) => Ok(more),
             Err(error) => {
                 self.failed = Some(same(&error));
                 Err(error)
@@ -92,9 +103,9 @@ impl<R: FileReader> Merge<R> {
     }
 
     // The next row, after the first blocks were read.
-    fn step(&mut self) -> Result<Option<Row>, FileError>
+    fn step(&mut self) -> Result<bool, FileError>
         requires { (s : Columns) × (givens : List (List AnyRow)) × HasMerged R.bytes s self.old givens }
-        ensures { IsNextOf R.bytes R.faults R.size self.old self.new result }
+        ensures { IsNextOf R.bytes R.faults R.size self.old self.new (answer_of result self.new) }
     {
         if self.begun {
             return self.further();
@@ -109,15 +120,16 @@ impl<R: FileReader> Merge<R> {
     }
 
     // The next row, where the first blocks were read.
-    fn further(&mut self) -> Result<Option<Row>, FileError>
+    fn further(&mut self) -> Result<bool, FileError>
         requires { (s : Columns) × (givens : List (List AnyRow)) × HasMerged R.bytes s self.old givens × IsBegun self.old }
-        ensures { IsNextOf R.bytes R.faults R.size self.old self.new result }
+        ensures { IsNextOf R.bytes R.faults R.size self.old self.new (answer_of result self.new) }
     {
         next_row(
             &mut self.inputs,
             &mut self.cursors,
             &mut self.tree,
             &self.aggs,
+            &mut self.row,
         )
     }
 
@@ -138,6 +150,7 @@ impl<R: FileReader> Merge<R> {
             cursors: _cursors,
             tree: _tree,
             aggs: _aggs,
+            row: _row,
             begun: _begun,
             failed: _failed,
         } = self;

@@ -14,9 +14,10 @@ ghost use Rattle.mesa_merge.specs.Faults.{HaveFaultCause, faults_of};
 ghost use Rattle.mesa_merge.specs.Hands.{hands_of};
 ghost use Rattle.mesa_merge.specs.Inputs.{AreAlike, AreAll, AreTold, knowns_of, lifted_parts};
 ghost use Rattle.mesa_merge.specs.Matches.{IsTree};
-ghost use Rattle.mesa_merge.specs.Merging.{HasGivens, IsMerging};
+ghost use Rattle.mesa_merge.specs.Merging.{HasGivens, IsMerging, given_if};
 
 use crate::gathering::gather;
+use crate::heads::take_head;
 use crate::matches::{Tree, least};
 use crate::streams::advance;
 use mesa_cursor::Cursor;
@@ -45,26 +46,27 @@ pub(crate) fn begin<R: FileReader>(
 {
     'inputs: for i in 0..inputs.len() {
         match advance(inputs, cursors, tree, i) {
-            Ok(_) => {}
+            Ok(()) => {}
             Err(error) => return Err(error),
         }
     }
     Ok(())
 }
 
-// The next row of the fold.
+// Whether there is a next row of the fold, which then stands in this one. After an error it may hold anything.
 pub(crate) fn next_row<R: FileReader>(
     inputs: &mut [Input<R>],
     cursors: &mut [Cursor],
     tree: &mut Tree,
     aggs: &[Agg],
-) -> Result<Option<Row>, FileError>
+    row: &mut Row,
+) -> Result<bool, FileError>
     requires tree { IsTree (hands_of cursors.old) tree.old }
     requires merging { (s : Columns) × (givens : List (List AnyRow)) × (0 < length inputs.old → aggs.now ≡ aggs_of s) × IsMerging R.bytes s inputs.old cursors.old givens }
     ensures tree { OnOk result (IsTree (hands_of cursors.new) tree.new) }
-    ensures some { IfOk result (λ o. IfSome o (λ row. (s : Columns) (givens : List (List AnyRow)) → (0 < length inputs.old → aggs.now ≡ aggs_of s) → IsMerging R.bytes s inputs.old cursors.old givens
-        → (after : List (List AnyRow)) × IsMerging R.bytes s inputs.new cursors.new after × (folded (aggs_of s) after ≡ folded (aggs_of s) givens ++ row ∷ []) × IsRowOf s row)) }
-    ensures none { IfOk result (λ o. IfNone o ((s : Columns) (givens : List (List AnyRow)) → IsMerging R.bytes s inputs.old cursors.old givens → AreAll (knowns_of R.bytes inputs.new) givens × IsMerging R.bytes s inputs.new cursors.new givens)) }
+    ensures some { IfOk result (λ more. IfSome (given_if more row.new) (λ given. (s : Columns) (givens : List (List AnyRow)) → (0 < length inputs.old → aggs.now ≡ aggs_of s) → IsMerging R.bytes s inputs.old cursors.old givens
+        → (after : List (List AnyRow)) × IsMerging R.bytes s inputs.new cursors.new after × (folded (aggs_of s) after ≡ folded (aggs_of s) givens ++ given ∷ []) × IsRowOf s given)) }
+    ensures none { IfOk result (λ more. IfNone (given_if more row.new) ((s : Columns) (givens : List (List AnyRow)) → IsMerging R.bytes s inputs.old cursors.old givens → AreAll (knowns_of R.bytes inputs.new) givens × IsMerging R.bytes s inputs.new cursors.new givens)) }
     ensures known { knowns_of R.bytes inputs.new ≡ knowns_of R.bytes inputs.old }
     ensures inputs { AllByRecursion (IsInput R.bytes) inputs.old → AllByRecursion (IsInput R.bytes) inputs.new }
     ensures cause { HaveFaultCause (λ e. e ≡ file_error.Read) (faults_of R.faults inputs.old) (faults_of R.faults inputs.new) result }
@@ -74,15 +76,15 @@ pub(crate) fn next_row<R: FileReader>(
 {
     folds_go_on();
     let Some(i) = least(tree, cursors) else {
-        return Ok(None);
+        return Ok(false);
     };
-    let taken = match advance(inputs, cursors, tree, i) {
-        Ok(taken) => taken,
+    take_head(&cursors[i], row)?;
+    match advance(inputs, cursors, tree, i) {
+        Ok(()) => {}
         Err(error) => return Err(error),
-    };
-    let Some(first) = taken else { unreachable!() };
-    match gather(inputs, cursors, tree, aggs, first, i) {
-        Ok(row) => Ok(Some(row)),
+    }
+    match gather(inputs, cursors, tree, aggs, row, i) {
+        Ok(()) => Ok(true),
         Err(error) => Err(error),
     }
 }

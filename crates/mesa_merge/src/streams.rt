@@ -1,5 +1,5 @@
 // Inputs that are read row by row, each at its cursor.
-ghost use Rattle.std.specs.Prelude.{◌≡◌, ◌≢◌, ◌<◌, ◌+◌, ◌++◌, ◌∷◌, [], ℕ, List, length, IfOk, OnOk, IfErr, IfSome, IfNone, get_or, slice_set, min, sum_by, ◌^◌, ◌-◌};
+ghost use Rattle.std.specs.Prelude.{◌≡◌, ◌≢◌, ◌<◌, ◌+◌, ◌++◌, ◌∷◌, [], ℕ, List, length, OnOk, IfErr, get_or, slice_set, min, sum_by, ◌^◌, ◌-◌};
 ghost use Rattle.std.specs.List.{AllByRecursion};
 ghost use Rattle.mesa_file.specs.declared.damage.Damage.{Damage as AnyDamage};
 ghost use Rattle.mesa_schema.specs.declared.rows.Row.{Row as AnyRow};
@@ -18,15 +18,14 @@ use crate::matches::{Tree, play};
 use mesa_cursor::Cursor;
 use mesa_delta::{FileError, Input};
 use mesa_disk::FileReader;
-use mesa_schema::Row;
 
-// Takes the row at hand of an input, if there is one, and reads its next block where then none is.
+// Gives the row at hand of an input, if there is one, and reads its next block where then none is.
 pub(crate) fn advance<R: FileReader>(
     inputs: &mut [Input<R>],
     cursors: &mut [Cursor],
     tree: &mut Tree,
     i: usize,
-) -> Result<Option<Row>, FileError>
+) -> Result<(), FileError>
     requires within { i < length inputs.old }
     requires count { length cursors.old ≡ length inputs.old }
     requires tree { IsTree (hands_of cursors.old) tree.old }
@@ -34,15 +33,13 @@ pub(crate) fn advance<R: FileReader>(
     ensures others { (j : ℕ) → j ≢ i → get_or (hands_of cursors.new) j [] ≡ get_or (hands_of cursors.old) j [] }
 
     // A row was at hand: it is given, and the row at hand then is above it.
-    ensures there { IfOk result (λ o. IfSome o (λ row. (rows : List AnyRow) × (get_or (hands_of cursors.old) i [] ≡ row ∷ rows))) }
-    ensures given { IfOk result (λ o. IfSome o (λ row. (givens : List (List AnyRow)) → HasGivens R.bytes inputs.old cursors.old givens
-        → HasGivens R.bytes inputs.new cursors.new (slice_set givens i (get_or givens i [] ++ row ∷ [])))) }
-    ensures form { IfOk result (λ o. IfSome o (λ row. (s : Columns) (givens : List (List AnyRow)) → AreAlike s (knowns_of R.bytes inputs.old) → HasGivens R.bytes inputs.old cursors.old givens → IsRowOf s row)) }
-    ensures above { IfOk result (λ o. IfSome o (λ row. (givens : List (List AnyRow)) → HasGivens R.bytes inputs.old cursors.old givens → IsAhead row.key (get_or (hands_of cursors.new) i []))) }
+    ensures given { OnOk result ((row : AnyRow) (rows : List AnyRow) → get_or (hands_of cursors.old) i [] ≡ row ∷ rows → (givens : List (List AnyRow)) → HasGivens R.bytes inputs.old cursors.old givens
+        → HasGivens R.bytes inputs.new cursors.new (slice_set givens i (get_or givens i [] ++ row ∷ []))) }
+    ensures form { OnOk result ((row : AnyRow) (rows : List AnyRow) → get_or (hands_of cursors.old) i [] ≡ row ∷ rows → (s : Columns) (givens : List (List AnyRow)) → AreAlike s (knowns_of R.bytes inputs.old) → HasGivens R.bytes inputs.old cursors.old givens → IsRowOf s row) }
+    ensures above { OnOk result ((row : AnyRow) (rows : List AnyRow) → get_or (hands_of cursors.old) i [] ≡ row ∷ rows → (givens : List (List AnyRow)) → HasGivens R.bytes inputs.old cursors.old givens → IsAhead row.key (get_or (hands_of cursors.new) i [])) }
 
-    // None was at hand.
-    ensures none { IfOk result (λ o. IfNone o (get_or (hands_of cursors.old) i [] ≡ [])) }
-    ensures began { IfOk result (λ o. IfNone o ((givens : List (List AnyRow)) → HasGivens R.bytes inputs.old cursors.old givens → HasGivens R.bytes inputs.new cursors.new givens)) }
+    // None was.
+    ensures began { OnOk result (get_or (hands_of cursors.old) i [] ≡ [] → (givens : List (List AnyRow)) → HasGivens R.bytes inputs.old cursors.old givens → HasGivens R.bytes inputs.new cursors.new givens) }
 
     // Then one is, or the input is at its end.
     ensures ready { OnOk result ((n : ℕ) → AreReady n inputs.old cursors.old → AreReady n inputs.new cursors.new) }
@@ -58,12 +55,12 @@ pub(crate) fn advance<R: FileReader>(
     let cursor = &mut cursors[i];
     let input = &mut inputs[i];
     cursor.rises(input);
-    let row = cursor.take();
+    cursor.step();
     let filled = cursor.fill(input);
     cursor.rises(input);
     play(tree, cursors, i);
     match filled {
-        Ok(()) => Ok(row),
+        Ok(()) => Ok(()),
         Err(error) => Err(error),
     }
 }

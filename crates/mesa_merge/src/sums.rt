@@ -25,7 +25,7 @@ fn has_key(cursor: &Cursor, key: &[u8]) -> bool
     ensures no { OnFalse result (HasHead key.now (at_hand cursor.now) → ⊥) }
 {
     match cursor.head() {
-        Some(row) => is_same(row.key.as_slice(), key),
+        Some(row) => is_same(row.key, key),
         None => false,
     }
 }

@@ -2,6 +2,8 @@ use Rattle.std.proofs.Common.{◌≡◌, inl, inr, ◌<◌, ◌+◌, ◌++◌, �
 use Rattle.mesa_schema.specs.declared.rows.Row.{Row}
 use Rattle.mesa_schema.specs.Columns.{aggs_of}
 use Rattle.mesa_schema.specs.Folded.{AllCombine, row_combined}
+use Rattle.mesa_schema.specs.Rows.{AreRowsOf}
+use Rattle.mesa_cursor.specs.Cursors.{at_hand}
 use Rattle.mesa_delta.specs.declared.error.FileError.TheVariants.{Damaged, Read}
 use Rattle.mesa_merge.specs.Damaged.{IsBlockOf}
 use Rattle.mesa_merge.specs.Hands.{IsAhead, IsFrom, IsLeastOf, hands_of}
@@ -9,11 +11,14 @@ use Rattle.mesa_merge.specs.Inputs.{AreTold, knowns_of, lifted_parts}
 use Rattle.mesa_merge.specs.Merging.{AreReady}
 use Rattle.mesa_merge.specs.Sums.{IsNewest, sum_damage}
 use Rattle.mesa_merge.proofs.Bounds.{sum_stays}
+use Rattle.mesa_merge.proofs.Cases.{if_false, if_true}
 use Rattle.mesa_merge.proofs.Causing.{cause_on, cause_other, cause_quiet}
 use Rattle.mesa_merge.proofs.Combining.{aggs_count, gather_done, gather_later, gather_more}
 use Rattle.mesa_merge.proofs.Damages.{leaves_bound, sum_of, taken_key}
 use Rattle.mesa_merge.proofs.Ending.{AreFronts, givens_fronts}
-use Rattle.mesa_merge.proofs.Inputs.{givens_count, givens_inputs}
+use Rattle.mesa_merge.proofs.Hands.{hand_at}
+use Rattle.mesa_merge.proofs.Inputs.{alike_at, given_at, givens_count, givens_inputs}
+use Rattle.mesa_merge.proofs.Taking.{hand_form}
 use Rattle.mesa_merge.proofs.gathering.gather.Goals as goal
 
 pub same-preserved : goal.same-preserved
@@ -21,11 +26,13 @@ same-preserved g c =
     let bytes = g.R.FileReader.bytes in
     let inv = c.same.invariant in
     let i = c.in-Some.i in
-    let more = c.in-Some-taken.more in
-    let there = rw c.in-Some-taken.is at c.in-Ok.ensures.there in
-    let given = rw c.in-Some-taken.is at c.in-Ok.ensures.given in
-    let form = rw c.in-Some-taken.is at c.in-Ok.ensures.form in
-    let above = rw c.in-Some-taken.is at c.in-Ok.ensures.above in
+    let head = c.in-Some.ensures.least.least in
+    let more = head.row in
+    let given = c.in-Ok.ensures.given more head.rows head.there in
+    let form = c.in-Ok.ensures.form more head.rows head.there in
+    let above = c.in-Ok.ensures.above more head.rows head.there in
+    let hand = sym (hand_at c.same.cursors i c.index-cursors-i.result c.in-Some.ensures.within c.index-cursors-i.is) ∙ head.there in
+    let combined = if_true _ _ c.if-not-combined.false c.combine_head.ensures.yes more head.rows hand in
     let lt : i < length c.same.inputs = omega (arith, c.in-Some.ensures.within, inv.count) in
     record {
       within = omega (arith, lt, c.advance.auto.inputs);
@@ -37,14 +44,14 @@ same-preserved g c =
       stage = λ s front givens e start.
           let now = inv.stage s front givens e start in
           let least : IsLeastOf c.same.row.key i (hands_of c.same.cursors) = subst (λ k. IsLeastOf k i (hands_of c.same.cursors)) c.as_slice.ensures c.in-Some.ensures.least in
-          let made : record { key = c.same.row.key; values = c.combine_into.new.old } ≡ record c.same.row { values = row_combined (aggs_of s) c.same.row.values more.values } =
-          λ k. record { key = c.same.row.key; values = (c.combine_into.ensures ∙ (λ j. row_combined (e j) c.same.row.values (c.as_slice-in-Some-3.ensures j))) k } in (
+          let made : c.combine_head.new.row ≡ record c.same.row { values = row_combined (aggs_of s) c.same.row.values more.values } =
+          combined.1 ∙ ap (λ gs. record c.same.row { values = row_combined gs c.same.row.values more.values }) e in (
             set now.0 i (get_or now.0 i [] ++ more ∷ []),
             gather_more c.folds_go_on.ensures.given bytes s c.same.inputs c.advance.new.inputs c.same.cursors c.advance.new.cursors (c.same.from + 1) i c.same.row more _ front now.0 now.1 least
                 (record {
                   within = lt;
-                  rows = there.0;
-                  there = there.1;
+                  rows = head.rows;
+                  there = head.there;
                   given = given now.0 now.1.given;
                   form = form s now.0 now.1.alike now.1.given;
                   ahead = above now.0 now.1.given;
@@ -64,31 +71,27 @@ same-smaller g c =
     let later = gather_later g.R.FileReader.bytes start.0 c.same.inputs c.same.cursors (c.same.from + 1) c.in-Some.i c.same.row start.1 now.0 now.1 least in
     omega (arith, later, inv.within, inv.count, c.in-Some.ensures.within, c.advance.auto.inputs)
 
-pub combines_all-requires-clause-old_full : goal.combines_all-requires-clause-old_full
-combines_all-requires-clause-old_full g c =
-    let start = c.requires.gathering in
-    let now = c.same.invariant.stage start.0 start.1 start.2 start.3 start.4 in
-    ap length c.as_slice-in-Some.ensures ∙ now.1.form.values ∙ sym (aggs_count start.0) ∙ sym (ap length start.3)
-
-pub combines_all-requires-clause-new_full : goal.combines_all-requires-clause-new_full
-combines_all-requires-clause-new_full g c =
-    let start = c.requires.gathering in
-    let now = c.same.invariant.stage start.0 start.1 start.2 start.3 start.4 in
-    let form = rw c.in-Some-taken.is at c.in-Ok.ensures.form in
-    ap length c.as_slice-in-Some-2.ensures ∙ (form start.0 now.0 now.1.alike now.1.given).values ∙ sym (aggs_count start.0) ∙ sym (ap length start.3)
-
-pub combine_into-requires-clause-old_full : goal.combine_into-requires-clause-old_full
-combine_into-requires-clause-old_full g c =
+pub combine_head-requires-clause-old_full : goal.combine_head-requires-clause-old_full
+combine_head-requires-clause-old_full g c =
     let start = c.requires.gathering in
     let now = c.same.invariant.stage start.0 start.1 start.2 start.3 start.4 in
     now.1.form.values ∙ sym (aggs_count start.0) ∙ sym (ap length start.3)
 
-pub combine_into-requires-clause-new_full : goal.combine_into-requires-clause-new_full
-combine_into-requires-clause-new_full g c =
+pub combine_head-requires-clause-new_full : goal.combine_head-requires-clause-new_full
+combine_head-requires-clause-new_full g c =
+    let bytes = g.R.FileReader.bytes in
+    let i = c.in-Some.i in
     let start = c.requires.gathering in
-    let now = c.same.invariant.stage start.0 start.1 start.2 start.3 start.4 in
-    let form = rw c.in-Some-taken.is at c.in-Ok.ensures.form in
-    ap length c.as_slice-in-Some-3.ensures ∙ (form start.0 now.0 now.1.alike now.1.given).values ∙ sym (aggs_count start.0) ∙ sym (ap length start.3)
+    let s = start.0 in
+    let now = c.same.invariant.stage s start.1 start.2 start.3 start.4 in
+    let head = c.in-Some.ensures.least.least in
+    let hand = sym (hand_at c.same.cursors i c.index-cursors-i.result c.in-Some.ensures.within c.index-cursors-i.is) ∙ head.there in
+    let lt : i < length c.same.inputs = omega (arith, c.in-Some.ensures.within, c.same.invariant.count) in
+    let was = given_at bytes c.same.inputs c.same.cursors now.0 i c.index-inputs-i.result c.index-cursors-i.result now.1.given lt in
+    let form = c.rises.ensures.form (get_or now.0 i []) was in
+    let same = alike_at bytes s c.same.inputs i c.index-inputs-i.result now.1.alike lt in
+    let own = hand_form s (get_or now.0 i []) (at_hand c.index-cursors-i.result) head.row head.rows (subst (λ t. AreRowsOf t (get_or now.0 i [] ++ at_hand c.index-cursors-i.result)) same form) hand in
+    (head.row, head.rows, hand, own.values ∙ sym (aggs_count s) ∙ sym (ap length start.3))
 
 pub returns-in-Err-clause-accepts : goal.returns-in-Err-clause-accepts
 returns-in-Err-clause-accepts g c = λ d e s front givens columns start contents told bound.
@@ -98,29 +101,29 @@ returns-in-Err-clause-accepts g c = λ d e s front givens columns start contents
 pub returns-in-Err-clause-cause : goal.returns-in-Err-clause-cause
 returns-in-Err-clause-cause g c = cause_on _ _ _ _ _ c.same.invariant.faults c.in-Err.ensures.cause refl
 
-pub returns-then-not-combines_all-clause-accepts : goal.returns-then-not-combines_all-clause-accepts
-returns-then-not-combines_all-clause-accepts g c = λ d e s front givens columns start contents told bound.
+pub returns-then-not-combined-clause-accepts : goal.returns-then-not-combined-clause-accepts
+returns-then-not-combined-clause-accepts g c = λ d e s front givens columns start contents told bound.
     let bytes = g.R.FileReader.bytes in
     let inv = c.same.invariant in
     let i = c.in-Some.i in
-    let more = c.in-Some-taken.more in
+    let head = c.in-Some.ensures.least.least in
+    let more = head.row in
+    let hand = sym (hand_at c.same.cursors i c.index-cursors-i.result c.in-Some.ensures.within c.index-cursors-i.is) ∙ head.there in
     let now = inv.stage s front givens columns start in
-    let given = rw c.in-Some-taken.is at c.in-Ok.ensures.given in
+    let given = c.in-Ok.ensures.given more head.rows head.there in
     let known : knowns_of bytes c.advance.new.inputs ≡ knowns_of bytes c.args.inputs.now = c.in-Ok.ensures.known ∙ inv.known in
     let lt : i < length now.0 = omega (arith, c.in-Some.ensures.within, inv.count, givens_count bytes c.same.inputs c.same.cursors now.0 now.1.given) in
     let fronts : AreFronts (set now.0 i (get_or now.0 i [] ++ more ∷ [])) (lifted_parts (knowns_of bytes c.args.inputs.now) contents) =
     subst (λ ks. AreFronts (set now.0 i (get_or now.0 i [] ++ more ∷ [])) (lifted_parts ks contents)) known (givens_fronts bytes c.advance.new.inputs c.advance.new.cursors _ contents (given now.0 now.1.given) (subst (λ ks. AreTold ks contents) (sym known) told)) in
     let stays : AllCombine (aggs_of s) c.same.row.values more.values = sum_stays c.folds_totals.ensures s now.0 _ front c.same.row more i (aggs_count s) now.1.formed now.1.fold lt fronts bound in
-    let both : AllCombine c.args.aggs.now c.as_slice-in-Some.result.now c.as_slice-in-Some-2.result.now =
-    subst (λ ags. AllCombine ags c.as_slice-in-Some.result.now c.as_slice-in-Some-2.result.now) (sym columns) (subst (λ vs. AllCombine (aggs_of s) vs c.as_slice-in-Some-2.result.now) (sym c.as_slice-in-Some.ensures) (subst (AllCombine (aggs_of s) c.same.row.values) (sym c.as_slice-in-Some-2.ensures) stays)) in
-    let no : false ≡ true = sym c.if-not-combines_all.true ∙ c.combines_all.ensures.1 both in cc
+    absurd ((if_false _ _ c.if-not-combined.true c.combine_head.ensures.no).1 more head.rows hand (subst (λ gs. AllCombine gs c.same.row.values more.values) (sym columns) stays))
 
-pub returns-then-not-combines_all-clause-cause : goal.returns-then-not-combines_all-clause-cause
-returns-then-not-combines_all-clause-cause g c =
+pub returns-then-not-combined-clause-cause : goal.returns-then-not-combined-clause-cause
+returns-then-not-combined-clause-cause g c =
     cause_other _ _ _ (c.in-Ok.ensures.cause.quiet ∙ c.same.invariant.faults) (λ read. let both : Damaged (sum_damage c.file_at.result) ≡ Read = sym c.sum_fault.ensures ∙ read in cc)
 
-pub returns-then-not-combines_all-clause-inputs : goal.returns-then-not-combines_all-clause-inputs
-returns-then-not-combines_all-clause-inputs g c = λ all. c.in-Ok.ensures.inputs (c.same.invariant.inputs all)
+pub returns-then-not-combined-clause-inputs : goal.returns-then-not-combined-clause-inputs
+returns-then-not-combined-clause-inputs g c = λ all. c.in-Ok.ensures.inputs (c.same.invariant.inputs all)
 
 pub returns-clause-merging : goal.returns-clause-merging
 returns-clause-merging g c = λ s front givens columns start.
@@ -141,19 +144,20 @@ returns-in-Err-clause-damaged g c = λ d e.
     let start = c.requires.gathering in
     inl (subst (λ ks. IsBlockOf bytes g.R.FileReader.size ks d) (sym c.in-Err.ensures.known) (c.in-Err.ensures.damaged d e (c.same.invariant.inputs (givens_inputs bytes c.args.inputs.now c.args.cursors.now start.2 start.4.given))))
 
-pub returns-then-not-combines_all-clause-damaged : goal.returns-then-not-combines_all-clause-damaged
-returns-then-not-combines_all-clause-damaged g c = λ d e.
+pub returns-then-not-combined-clause-damaged : goal.returns-then-not-combined-clause-damaged
+returns-then-not-combined-clause-damaged g c = λ d e.
     let bytes = g.R.FileReader.bytes in
     let start = c.requires.gathering in
     let inv = c.same.invariant in
     let i = c.in-Some.i in
-    let more = c.in-Some-taken.more in
+    let head = c.in-Some.ensures.least.least in
+    let more = head.row in
+    let hand = sym (hand_at c.same.cursors i c.index-cursors-i.result c.in-Some.ensures.within c.index-cursors-i.is) ∙ head.there in
     let s = start.0 in
     let now = inv.stage s start.1 start.2 start.3 start.4 in
-    let there = rw c.in-Some-taken.is at c.in-Ok.ensures.there in
-    let given = rw c.in-Some-taken.is at c.in-Ok.ensures.given in
-    let form = rw c.in-Some-taken.is at c.in-Ok.ensures.form in
-    let above = rw c.in-Some-taken.is at c.in-Ok.ensures.above in
+    let given = c.in-Ok.ensures.given more head.rows head.there in
+    let form = c.in-Ok.ensures.form more head.rows head.there in
+    let above = c.in-Ok.ensures.above more head.rows head.there in
     let lt : i < length c.same.inputs = omega (arith, c.in-Some.ensures.within, inv.count) in
     let within : i < length now.0 = omega (arith, lt, givens_count bytes c.same.inputs c.same.cursors now.0 now.1.given) in
     let least : IsLeastOf c.same.row.key i (hands_of c.same.cursors) = subst (λ k. IsLeastOf k i (hands_of c.same.cursors)) c.as_slice.ensures c.in-Some.ensures.least in
@@ -161,8 +165,8 @@ returns-then-not-combines_all-clause-damaged g c = λ d e.
     let after = gather_more c.folds_go_on.ensures.given bytes s c.same.inputs c.advance.new.inputs c.same.cursors c.advance.new.cursors (c.same.from + 1) i c.same.row more next start.1 now.0 now.1 least
     (record {
       within = lt;
-      rows = there.0;
-      there = there.1;
+      rows = head.rows;
+      there = head.there;
       given = given now.0 now.1.given;
       form = form s now.0 now.1.alike now.1.given;
       ahead = above now.0 now.1.given;
@@ -171,10 +175,8 @@ returns-then-not-combines_all-clause-damaged g c = λ d e.
       known = c.in-Ok.ensures.known;
     }) refl in
     let file = c.file_at.ensures in
-    let newest = subst (λ k. IsNewest k i c.newest_with-newest.result (hands_of c.advance.new.cursors)) c.as_slice-then-not-combines_all.ensures c.newest_with-newest.ensures.newest in
+    let no = if_false _ _ c.if-not-combined.true c.combine_head.ensures.no in
+    let newest = subst (λ k. IsNewest k i c.newest_with-newest.result (hands_of c.advance.new.cursors)) (c.as_slice-then-not-combined.ensures ∙ ap (λ (r : Row). r.key) no.0) c.newest_with-newest.ensures.newest in
     let told : d ≡ sum_damage file.0.file.file = let both : Damaged (sum_damage c.file_at.result) ≡ Damaged d = sym c.sum_fault.ensures ∙ e in let one : d ≡ sum_damage c.file_at.result = cc in one ∙ ap sum_damage file.2 in
-    let off = leaves_bound (aggs_of s) c.same.row.values more.values (λ all.
-      let both : AllCombine c.args.aggs.now c.as_slice-in-Some.result.now c.as_slice-in-Some-2.result.now =
-      subst (λ ags. AllCombine ags c.as_slice-in-Some.result.now c.as_slice-in-Some-2.result.now) (sym start.3) (subst (λ vs. AllCombine (aggs_of s) vs c.as_slice-in-Some-2.result.now) (sym c.as_slice-in-Some.ensures) (subst (AllCombine (aggs_of s) c.same.row.values) (sym c.as_slice-in-Some-2.ensures) all)) in
-      let no : false ≡ true = sym c.if-not-combines_all.true ∙ c.combines_all.ensures.1 both in cc) in
-    inr (sum_of bytes s c.advance.new.inputs c.advance.new.cursors i c.newest_with-newest.result next start.1 _ file.0 d after off (taken_key c.same.row.key i (hands_of c.same.cursors) now.0 more there.0 least there.1 within) newest file.1 told)
+    let off = leaves_bound (aggs_of s) c.same.row.values more.values (λ all. no.1 more head.rows hand (subst (λ gs. AllCombine gs c.same.row.values more.values) (sym start.3) all)) in
+    inr (sum_of bytes s c.advance.new.inputs c.advance.new.cursors i c.newest_with-newest.result next start.1 _ file.0 d after off (taken_key c.same.row.key i (hands_of c.same.cursors) now.0 more head.rows least head.there within) newest file.1 told)

@@ -19,7 +19,7 @@ invariant-same g l = record {
   known : knowns_of g.R.FileReader.bytes l.inputs ≡ knowns_of g.R.FileReader.bytes l.fn.inputs;
   inputs : AllByRecursion (IsInput g.R.FileReader.bytes) l.fn.inputs → AllByRecursion (IsInput g.R.FileReader.bytes) l.inputs;
   faults : faults_of g.R.FileReader.faults l.inputs ≡ faults_of g.R.FileReader.faults l.fn.inputs;
-  stage : (s : Columns) (front : List Row) (givens : List (List Row)) → l.aggs ≡ aggs_of s → IsGathering g.R.FileReader.bytes s l.fn.inputs l.fn.cursors (l.fn.from + 1) l.fn.first front givens
+  stage : (s : Columns) (front : List Row) (givens : List (List Row)) → l.aggs ≡ aggs_of s → IsGathering g.R.FileReader.bytes s l.fn.inputs l.fn.cursors (l.fn.from + 1) l.fn.row front givens
       → (now : List (List Row)) × IsGathering g.R.FileReader.bytes s l.inputs l.cursors (l.from + 1) l.row front now;
 }
 

@@ -1,4 +1,4 @@
-use Rattle.std.proofs.Common.{inl, ◌≡◌, ◌<◌, ◌++◌, ◌∷◌, [], get_or, length, set, refl, sym, subst, arith}
+use Rattle.std.proofs.Common.{inl, ◌≡◌, ◌<◌, ◌++◌, ◌∷◌, [], get_or, length, set, refl, sym, ◌∙◌, subst, arith}
 use Rattle.mesa_schema.specs.Columns.{aggs_of}
 use Rattle.mesa_schema.specs.Folded.{folded, rows_of}
 use Rattle.mesa_fold.specs.Bound.{KeepsBound}
@@ -8,8 +8,14 @@ use Rattle.mesa_merge.specs.Merging.{AreReady}
 use Rattle.mesa_merge.proofs.Causing.{cause_on, cause_quiet}
 use Rattle.mesa_merge.proofs.Combining.{gather_first}
 use Rattle.mesa_merge.proofs.Ending.{all_at_end}
+use Rattle.mesa_merge.proofs.Hands.{hand_of_get}
 use Rattle.mesa_merge.proofs.Inputs.{cursors_count, givens_inputs}
 use Rattle.mesa_merge.proofs.next.next_row.Goals as goal
+
+pub take_head-requires : goal.take_head-requires
+take_head-requires g c =
+    let least = c.in-Some.ensures.least in
+    (least.row, least.rows, sym (hand_of_get c.args.cursors.now c.in-Some.i c.index-cursors-i.result c.in-Some.ensures.within) ∙ least.there)
 
 pub advance-requires-clause-within : goal.advance-requires-clause-within
 advance-requires-clause-within g c =
@@ -36,11 +42,12 @@ gather-requires-clause-gathering g c = λ _ _.
     let bytes = g.R.FileReader.bytes in
     let m = c.requires.merging in
     let i = c.in-Some.i in
-    let first = c.in-Some-taken.first in
-    let there = rw c.in-Some-taken.is at c.in-Ok.ensures.there in
-    let given = rw c.in-Some-taken.is at c.in-Ok.ensures.given in
-    let form = rw c.in-Some-taken.is at c.in-Ok.ensures.form in
-    let above = rw c.in-Some-taken.is at c.in-Ok.ensures.above in
+    let first = c.take_head.new.row in
+    let head = c.in_ok-take_head.ensures in
+    let there = hand_of_get c.args.cursors.now i c.index-cursors-i.result c.in-Some.ensures.within ∙ head.1 in
+    let given = c.in-Ok.ensures.given first head.0 there in
+    let form = c.in-Ok.ensures.form first head.0 there in
+    let above = c.in-Ok.ensures.above first head.0 there in
     let lt : i < length c.args.inputs.now = omega (arith, c.in-Some.ensures.within, cursors_count bytes c.args.inputs.now c.args.cursors.now m.1 m.3.given) in (
       m.0,
       folded (aggs_of m.0) m.1,
@@ -49,8 +56,8 @@ gather-requires-clause-gathering g c = λ _ _.
       gather_first c.folds_go_on.ensures.given bytes m.0 c.args.inputs.now c.advance.new.inputs c.args.cursors.now c.advance.new.cursors i m.1 first m.3 c.in-Some.ensures.least
           (record {
             within = lt;
-            rows = there.0;
-            there = there.1;
+            rows = head.0;
+            there = there;
             given = given m.1 m.3.given;
             form = form m.0 m.1 m.3.alike m.3.given;
             ahead = above m.1 m.3.given;
@@ -83,18 +90,19 @@ pub returns-in-Ok-gather-clause-some : goal.returns-in-Ok-gather-clause-some
 returns-in-Ok-gather-clause-some g c = λ s givens columns m.
     let bytes = g.R.FileReader.bytes in
     let i = c.in-Some.i in
-    let first = c.in-Some-taken.first in
-    let there = rw c.in-Some-taken.is at c.in-Ok.ensures.there in
-    let given = rw c.in-Some-taken.is at c.in-Ok.ensures.given in
-    let form = rw c.in-Some-taken.is at c.in-Ok.ensures.form in
-    let above = rw c.in-Some-taken.is at c.in-Ok.ensures.above in
+    let first = c.take_head.new.row in
+    let head = c.in_ok-take_head.ensures in
+    let there = hand_of_get c.args.cursors.now i c.index-cursors-i.result c.in-Some.ensures.within ∙ head.1 in
+    let given = c.in-Ok.ensures.given first head.0 there in
+    let form = c.in-Ok.ensures.form first head.0 there in
+    let above = c.in-Ok.ensures.above first head.0 there in
     let lt : i < length c.args.inputs.now = omega (arith, c.in-Some.ensures.within, cursors_count bytes c.args.inputs.now c.args.cursors.now givens m.given) in
     c.in-Ok-gather.ensures.merging s (folded (aggs_of s) givens) (set givens i (get_or givens i [] ++ first ∷ [])) (columns (omega (arith, lt)))
     (gather_first c.folds_go_on.ensures.given bytes s c.args.inputs.now c.advance.new.inputs c.args.cursors.now c.advance.new.cursors i givens first m c.in-Some.ensures.least
     (record {
       within = lt;
-      rows = there.0;
-      there = there.1;
+      rows = head.0;
+      there = there;
       given = given givens m.given;
       form = form s givens m.alike m.given;
       ahead = above givens m.given;
@@ -107,19 +115,20 @@ pub returns-in-Err-gather-clause-accepts : goal.returns-in-Err-gather-clause-acc
 returns-in-Err-gather-clause-accepts g c = λ d e s givens columns m contents told bound.
     let bytes = g.R.FileReader.bytes in
     let i = c.in-Some.i in
-    let first = c.in-Some-taken.first in
-    let there = rw c.in-Some-taken.is at c.in-Ok.ensures.there in
-    let given = rw c.in-Some-taken.is at c.in-Ok.ensures.given in
-    let form = rw c.in-Some-taken.is at c.in-Ok.ensures.form in
-    let above = rw c.in-Some-taken.is at c.in-Ok.ensures.above in
+    let first = c.take_head.new.row in
+    let head = c.in_ok-take_head.ensures in
+    let there = hand_of_get c.args.cursors.now i c.index-cursors-i.result c.in-Some.ensures.within ∙ head.1 in
+    let given = c.in-Ok.ensures.given first head.0 there in
+    let form = c.in-Ok.ensures.form first head.0 there in
+    let above = c.in-Ok.ensures.above first head.0 there in
     let lt : i < length c.args.inputs.now = omega (arith, c.in-Some.ensures.within, cursors_count bytes c.args.inputs.now c.args.cursors.now givens m.given) in
     let known : knowns_of bytes c.advance.new.inputs ≡ knowns_of bytes c.args.inputs.now = c.in-Ok.ensures.known in
     c.in-Err-gather.ensures.accepts d e s (folded (aggs_of s) givens) (set givens i (get_or givens i [] ++ first ∷ [])) (columns (omega (arith, lt)))
     (gather_first c.folds_go_on.ensures.given bytes s c.args.inputs.now c.advance.new.inputs c.args.cursors.now c.advance.new.cursors i givens first m c.in-Some.ensures.least
     (record {
       within = lt;
-      rows = there.0;
-      there = there.1;
+      rows = head.0;
+      there = there;
       given = given givens m.given;
       form = form s givens m.alike m.given;
       ahead = above givens m.given;

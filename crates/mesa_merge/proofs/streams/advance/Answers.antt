@@ -1,4 +1,4 @@
-use Rattle.std.proofs.Common.{◌≡◌, ◌≢◌, ◌<◌, ℕ, [], ◌∷◌, ◌++◌, get_or, length, set, refl, sym, ◌∙◌, subst, arith, add-one}
+use Rattle.std.proofs.Common.{◌≡◌, ◌≢◌, ◌<◌, ℕ, [], ◌∷◌, ◌++◌, get_or, length, set, drop, refl, sym, ◌∙◌, ap, subst, arith, add-one}
 use Rattle.std.proofs.lemmas.List.{length-set}
 use Rattle.mesa_schema.specs.Rows.{AreRowsOf}
 use Rattle.mesa_cursor.specs.Cursors.{at_hand, next_of}
@@ -6,11 +6,10 @@ use Rattle.mesa_merge.specs.Fronts.{HasFront}
 use Rattle.mesa_merge.specs.Hands.{IsAhead, hands_of}
 use Rattle.mesa_merge.specs.Matches.{AreWinners}
 use Rattle.mesa_merge.specs.Merging.{AreReady, HasGivens}
-use Rattle.mesa_merge.proofs.Cases.{if_none, if_some}
 use Rattle.mesa_merge.proofs.Hands.{hand_of_get, hand_other, hand_same, hands_length}
 use Rattle.mesa_merge.proofs.Inputs.{alike_at, cause_at, given_at, given_set, inputs_at, inputs_set, known_get, known_set, ready_more, ready_set, set_same, told_at}
 use Rattle.mesa_merge.proofs.Stages.{ahead_of_hand}
-use Rattle.mesa_merge.proofs.Taking.{hand_form, not_taken, taken}
+use Rattle.mesa_merge.proofs.Taking.{hand_form, not_taken, stepped, taken}
 use Rattle.mesa_merge.proofs.Trees.{changed_won}
 use Rattle.mesa_merge.proofs.streams.advance.Goals as goal
 
@@ -36,63 +35,56 @@ returns-in-Ok-clause-others g c = λ j ne. hand_other c.args.cursors.now c.args.
 pub returns-in-Err-clause-others : goal.returns-in-Err-clause-others
 returns-in-Err-clause-others g c = λ j ne. hand_other c.args.cursors.now c.args.i j c.fill-filled.new.self ne
 
-pub returns-in-Ok-clause-there : goal.returns-in-Ok-clause-there
-returns-in-Ok-clause-there g c =
-    let ltc : c.args.i < length c.args.cursors.now = omega (arith, c.requires.count, c.requires.within) in
-    if_some c.take-row.result _ _ (λ row hand. (at_hand c.take-row.new.self, hand_of_get c.args.cursors.now c.args.i c.index-cursors-i.result ltc ∙ hand)) c.take-row.ensures.some
-
-pub returns-in-Ok-clause-none : goal.returns-in-Ok-clause-none
-returns-in-Ok-clause-none g c =
-    let ltc : c.args.i < length c.args.cursors.now = omega (arith, c.requires.count, c.requires.within) in
-    if_none c.take-row.result _ _ (λ none. hand_of_get c.args.cursors.now c.args.i c.index-cursors-i.result ltc ∙ none.0) c.take-row.ensures.none
-
 pub returns-in-Ok-clause-given : goal.returns-in-Ok-clause-given
-returns-in-Ok-clause-given g c =
-    let bytes = g.R.FileReader.bytes in
-    let is = c.args.inputs.now in
-    let cs = c.args.cursors.now in
-    let i = c.args.i in
-    if_some c.take-row.result _ _ (λ row hand givens h.
-    let was = given_at bytes is cs givens i c.index-inputs-i.result c.index-cursors-i.result h c.requires.within in
-    given_set bytes is cs givens i c.fill-filled.new.input c.fill-filled.new.self (get_or givens i [] ++ row ∷ []) h
-    (c.in-Ok.ensures.given (get_or givens i [] ++ row ∷ []) (taken bytes _ _ c.take-row.new.self (get_or givens i []) row was hand c.take-row.ensures.lift c.take-row.ensures.next))) c.take-row.ensures.some
-
-pub returns-in-Ok-clause-began : goal.returns-in-Ok-clause-began
-returns-in-Ok-clause-began g c =
-    let bytes = g.R.FileReader.bytes in
-    let is = c.args.inputs.now in
-    let cs = c.args.cursors.now in
-    let i = c.args.i in
-    if_none c.take-row.result _ _ (λ none givens h.
-    let was = given_at bytes is cs givens i c.index-inputs-i.result c.index-cursors-i.result h c.requires.within in
-    subst (λ gs. HasGivens bytes (set is i c.fill-filled.new.input) (set cs i c.fill-filled.new.self) gs) (set_same givens i)
-    (given_set bytes is cs givens i c.fill-filled.new.input c.fill-filled.new.self (get_or givens i []) h
-    (c.in-Ok.ensures.given (get_or givens i []) (not_taken bytes _ _ c.take-row.new.self (get_or givens i []) was none.0 none.1 c.take-row.ensures.lift c.take-row.ensures.next)))) c.take-row.ensures.none
-
-pub returns-in-Ok-clause-form : goal.returns-in-Ok-clause-form
-returns-in-Ok-clause-form g c =
-    let bytes = g.R.FileReader.bytes in
-    let is = c.args.inputs.now in
-    let cs = c.args.cursors.now in
-    let i = c.args.i in
-    if_some c.take-row.result _ _ (λ row hand s givens alike h.
-    let was = given_at bytes is cs givens i c.index-inputs-i.result c.index-cursors-i.result h c.requires.within in
-    let form = c.rises.ensures.form (get_or givens i []) was in
-    let same = alike_at bytes s is i c.index-inputs-i.result alike c.requires.within in
-    hand_form s (get_or givens i []) (at_hand (get_or cs i c.index-cursors-i.result)) row (at_hand c.take-row.new.self) (subst (λ t. AreRowsOf t (get_or givens i [] ++ at_hand (get_or cs i c.index-cursors-i.result))) same form) hand) c.take-row.ensures.some
-
-pub returns-in-Ok-clause-above : goal.returns-in-Ok-clause-above
-returns-in-Ok-clause-above g c =
+returns-in-Ok-clause-given g c = λ row rows e givens h.
     let bytes = g.R.FileReader.bytes in
     let is = c.args.inputs.now in
     let cs = c.args.cursors.now in
     let i = c.args.i in
     let ltc : i < length cs = omega (arith, c.requires.count, c.requires.within) in
-    if_some c.take-row.result _ _ (λ row hand givens h.
+    let hand = stepped _ (at_hand c.step.new.self) rows row (sym (hand_of_get cs i c.index-cursors-i.result ltc) ∙ e) c.step.ensures.rows in
     let was = given_at bytes is cs givens i c.index-inputs-i.result c.index-cursors-i.result h c.requires.within in
-    let now = c.in-Ok.ensures.given (get_or givens i [] ++ row ∷ []) (taken bytes _ _ c.take-row.new.self (get_or givens i []) row was hand c.take-row.ensures.lift c.take-row.ensures.next) in
+    given_set bytes is cs givens i c.fill-filled.new.input c.fill-filled.new.self (get_or givens i [] ++ row ∷ []) h
+    (c.in-Ok.ensures.given (get_or givens i [] ++ row ∷ []) (taken bytes _ _ c.step.new.self (get_or givens i []) row was hand c.step.ensures.lift c.step.ensures.next))
+
+pub returns-in-Ok-clause-began : goal.returns-in-Ok-clause-began
+returns-in-Ok-clause-began g c = λ e givens h.
+    let bytes = g.R.FileReader.bytes in
+    let is = c.args.inputs.now in
+    let cs = c.args.cursors.now in
+    let i = c.args.i in
+    let ltc : i < length cs = omega (arith, c.requires.count, c.requires.within) in
+    let none = sym (hand_of_get cs i c.index-cursors-i.result ltc) ∙ e in
+    let was = given_at bytes is cs givens i c.index-inputs-i.result c.index-cursors-i.result h c.requires.within in
+    subst (λ gs. HasGivens bytes (set is i c.fill-filled.new.input) (set cs i c.fill-filled.new.self) gs) (set_same givens i)
+    (given_set bytes is cs givens i c.fill-filled.new.input c.fill-filled.new.self (get_or givens i []) h
+    (c.in-Ok.ensures.given (get_or givens i []) (not_taken bytes _ _ c.step.new.self (get_or givens i []) was none (c.step.ensures.rows ∙ ap (drop 1) none) c.step.ensures.lift c.step.ensures.next)))
+
+pub returns-in-Ok-clause-form : goal.returns-in-Ok-clause-form
+returns-in-Ok-clause-form g c = λ row rows e s givens alike h.
+    let bytes = g.R.FileReader.bytes in
+    let is = c.args.inputs.now in
+    let cs = c.args.cursors.now in
+    let i = c.args.i in
+    let ltc : i < length cs = omega (arith, c.requires.count, c.requires.within) in
+    let hand = stepped _ (at_hand c.step.new.self) rows row (sym (hand_of_get cs i c.index-cursors-i.result ltc) ∙ e) c.step.ensures.rows in
+    let was = given_at bytes is cs givens i c.index-inputs-i.result c.index-cursors-i.result h c.requires.within in
+    let form = c.rises.ensures.form (get_or givens i []) was in
+    let same = alike_at bytes s is i c.index-inputs-i.result alike c.requires.within in
+    hand_form s (get_or givens i []) (at_hand (get_or cs i c.index-cursors-i.result)) row (at_hand c.step.new.self) (subst (λ t. AreRowsOf t (get_or givens i [] ++ at_hand (get_or cs i c.index-cursors-i.result))) same form) hand
+
+pub returns-in-Ok-clause-above : goal.returns-in-Ok-clause-above
+returns-in-Ok-clause-above g c = λ row rows e givens h.
+    let bytes = g.R.FileReader.bytes in
+    let is = c.args.inputs.now in
+    let cs = c.args.cursors.now in
+    let i = c.args.i in
+    let ltc : i < length cs = omega (arith, c.requires.count, c.requires.within) in
+    let hand = stepped _ (at_hand c.step.new.self) rows row (sym (hand_of_get cs i c.index-cursors-i.result ltc) ∙ e) c.step.ensures.rows in
+    let was = given_at bytes is cs givens i c.index-inputs-i.result c.index-cursors-i.result h c.requires.within in
+    let now = c.in-Ok.ensures.given (get_or givens i [] ++ row ∷ []) (taken bytes _ _ c.step.new.self (get_or givens i []) row was hand c.step.ensures.lift c.step.ensures.next) in
     subst (IsAhead row.key) (sym (hand_same cs i c.fill-filled.new.self ltc))
-    (ahead_of_hand row (get_or givens i []) (at_hand c.fill-filled.new.self) (λ next rows e. c.rises-2.ensures.above (get_or givens i [] ++ row ∷ []) next rows now e))) c.take-row.ensures.some
+    (ahead_of_hand row (get_or givens i []) (at_hand c.fill-filled.new.self) (λ next rest there. c.rises-2.ensures.above (get_or givens i [] ++ row ∷ []) next rest now there))
 
 pub returns-in-Ok-clause-ready : goal.returns-in-Ok-clause-ready
 returns-in-Ok-clause-ready g c = λ n ready. ready_set n c.args.inputs.now c.args.cursors.now c.args.i c.fill-filled.new.input c.fill-filled.new.self ready c.in-Ok.ensures.ready
@@ -137,5 +129,5 @@ returns-in-Err-clause-damaged g c = λ d e all.
       at = i;
       input = get_or is i c.index-inputs-i.result;
       one = known_get bytes is i c.index-inputs-i.result c.requires.within;
-      damaged = record { block = next_of c.take-row.new.self; before = told.0; shown = told.1; unsound = c.in-Err.ensures.accepts d e input };
+      damaged = record { block = next_of c.step.new.self; before = told.0; shown = told.1; unsound = c.in-Err.ensures.accepts d e input };
     }

@@ -10,7 +10,8 @@ use Rattle.mesa_merge.specs.Faults.{faults_of}
 use Rattle.mesa_merge.specs.Hands.{hands_of}
 use Rattle.mesa_merge.specs.Inputs.{AreAll, AreTold, knowns_of, lifted_parts}
 use Rattle.mesa_merge.specs.Matches.{IsTree}
-use Rattle.mesa_merge.specs.Merging.{IsMerging}
+use Rattle.mesa_merge.specs.Merging.{IsMerging, given_if}
+use Rattle.mesa_merge.proofs.Answering.{answered, answered_cause, answered_not}
 use Rattle.mesa_merge.proofs.Cases.{if_err, if_none, if_ok2, if_some}
 use Rattle.mesa_merge.proofs.Causing.{cause_kept}
 use Rattle.mesa_merge.proofs.Handing.{merged_with, refill}
@@ -41,30 +42,30 @@ returns g c =
     let ec = refill m.cursors.len m.cursors.items c.next_row.new.cursors (sym m.cursors.ok.0) (c.next_row.auto.cursors ∙ ap length c.deref_mut-2.ensures.value) in
     record {
       some =
-          if_ok2 c.next_row.result _ _ _ (λ o tree some. if_some o _ _ (λ row more s givens h.
+          answered c.next_row.result _ _ (if_ok2 c.next_row.result _ _ _ (λ more tree some. if_some (given_if more c.next_row.new.row) _ _ (λ row some s givens h.
           let merging = subst (λ is. IsMerging bytes s is c.deref_mut-2.result.now givens) (sym c.deref_mut.ensures.value) (subst (λ cs. IsMerging bytes s m.inputs.items cs givens) (sym c.deref_mut-2.ensures.value) (h.merging c.requires.3)) in
-          let next = more s givens (λ any. c.deref.ensures.value ∙ h.columns (subst (λ is. 0 < length is) c.deref_mut.ensures.value any)) merging in
+          let next = some s givens (λ any. c.deref.ensures.value ∙ h.columns (subst (λ is. 0 < length is) c.deref_mut.ensures.value any)) merging in
           let columns : 0 < length c.next_row.new.inputs → m.aggs.items ≡ aggs_of s = λ any. h.columns (omega (arith, any, c.next_row.auto.inputs, ap length c.deref_mut.ensures.value)) in
-          (next.0, merged_with bytes s _ c.next_row.new.inputs c.next_row.new.cursors c.next_row.new.tree next.0 ei ec refl c.requires.3 h.going columns tree next.1, next.2, next.3)) some) c.next_row.ensures.tree c.next_row.ensures.some;
+          (next.0, merged_with bytes s _ c.next_row.new.inputs c.next_row.new.cursors c.next_row.new.tree next.0 ei ec refl c.requires.3 h.going columns tree next.1, next.2, next.3)) some) c.next_row.ensures.tree c.next_row.ensures.some);
       none =
-          if_ok2 c.next_row.result _ _ _ (λ o tree none. if_none o _ _ (λ more s givens h.
+          answered c.next_row.result _ _ (if_ok2 c.next_row.result _ _ _ (λ more tree none. if_none (given_if more c.next_row.new.row) _ _ (λ none s givens h.
           let merging = subst (λ is. IsMerging bytes s is c.deref_mut-2.result.now givens) (sym c.deref_mut.ensures.value) (subst (λ cs. IsMerging bytes s m.inputs.items cs givens) (sym c.deref_mut-2.ensures.value) (h.merging c.requires.3)) in
-          let all = more s givens merging in
+          let all = none s givens merging in
           let columns : 0 < length c.next_row.new.inputs → m.aggs.items ≡ aggs_of s = λ any. h.columns (omega (arith, any, c.next_row.auto.inputs, ap length c.deref_mut.ensures.value)) in
-          (merged_with bytes s _ c.next_row.new.inputs c.next_row.new.cursors c.next_row.new.tree givens ei ec refl c.requires.3 h.going columns tree all.1, subst (λ is. AreAll (knowns_of bytes is) givens) (sym ei) all.0)) none) c.next_row.ensures.tree c.next_row.ensures.none;
+          (merged_with bytes s _ c.next_row.new.inputs c.next_row.new.cursors c.next_row.new.tree givens ei ec refl c.requires.3 h.going columns tree all.1, subst (λ is. AreAll (knowns_of bytes is) givens) (sym ei) all.0)) none) c.next_row.ensures.tree c.next_row.ensures.none);
       known =
           ap (knowns_of g.R.FileReader.bytes) ei ∙ c.next_row.ensures.known ∙ ap (knowns_of g.R.FileReader.bytes) c.deref_mut.ensures.value;
       inputs =
           λ all.
           subst (AllByRecursion (IsInput g.R.FileReader.bytes)) (sym ei) (c.next_row.ensures.inputs (subst (AllByRecursion (IsInput g.R.FileReader.bytes)) (sym c.deref_mut.ensures.value) all));
       cause =
-          cause_kept c.next_row.result _ _ _ _ (ap (faults_of g.R.FileReader.faults) c.deref_mut.ensures.value) (sym (ap (faults_of g.R.FileReader.faults) ei)) c.next_row.ensures.cause;
+          answered_cause _ _ _ c.next_row.result _ (cause_kept c.next_row.result _ _ _ _ (ap (faults_of g.R.FileReader.faults) c.deref_mut.ensures.value) (sym (ap (faults_of g.R.FileReader.faults) ei)) c.next_row.ensures.cause);
       accepts =
-          if_err c.next_row.result _ _ (λ e accepts d is s givens h contents told bound.
+          answered_not c.next_row.result _ _ (if_err c.next_row.result _ _ (λ e accepts d is s givens h contents told bound.
           let merging = subst (λ xs. IsMerging bytes s xs c.deref_mut-2.result.now givens) (sym c.deref_mut.ensures.value) (subst (λ cs. IsMerging bytes s m.inputs.items cs givens) (sym c.deref_mut-2.ensures.value) (h.merging c.requires.3)) in
           accepts d is s givens (λ any. c.deref.ensures.value ∙ h.columns (subst (λ xs. 0 < length xs) c.deref_mut.ensures.value any)) merging contents
           (subst (λ xs. AreTold (knowns_of bytes xs) contents) (sym c.deref_mut.ensures.value) told)
-          (subst (λ xs. KeepsBound (aggs_of s) [] (rows_of (lifted_parts (knowns_of bytes xs) contents))) (sym c.deref_mut.ensures.value) bound)) c.next_row.ensures.accepts;
+          (subst (λ xs. KeepsBound (aggs_of s) [] (rows_of (lifted_parts (knowns_of bytes xs) contents))) (sym c.deref_mut.ensures.value) bound)) c.next_row.ensures.accepts);
       damaged =
-          if_err c.next_row.result _ _ (λ e damaged d is. subst (λ xs. IsDamageOf bytes g.R.FileReader.size xs d) (sym ei) (damaged d is)) c.next_row.ensures.damaged;
+          answered_not c.next_row.result _ _ (if_err c.next_row.result _ _ (λ e damaged d is. subst (λ xs. IsDamageOf bytes g.R.FileReader.size xs d) (sym ei) (damaged d is)) c.next_row.ensures.damaged);
     }
