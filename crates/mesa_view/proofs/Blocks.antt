@@ -77,10 +77,6 @@ no_fault e before now same unread = record {
   other = λ not. same;
 }
 
--- the rows of one block more, in a buffer that was empty
-pub more_rows : {R : Type 0} (bytes : R → Option (List ℕ)) (i : Input R) (s : Scan) (given before rows : List Row) → before ≡ [] → ((more : List Row) × (rows ≡ before ++ more) × HasScanned bytes i s (given ++ more)) → HasScanned bytes i s (given ++ rows)
-more_rows bytes i s given before rows none m = subst (λ (more : List Row). HasScanned bytes i s (given ++ more)) (sym (m.1 ∙ ap (λ (front : List Row). front ++ m.0) none)) m.2
-
 -- every row meets a filter without terms
 pub every_passes : (s : Columns) (rows : List Row) → filtered s [] rows ≡ rows
 every_passes s [] = refl

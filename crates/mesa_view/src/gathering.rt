@@ -53,11 +53,9 @@ pub fn gather<R: FileReader>(
         → KeepsSums (columns_of input.old.evolving.value) (given ++ filtered (columns_of input.old.evolving.value) filter.now.terms (map (lift_by input.old) all)) → ⊥) }
 {
     let file = input.reader.index().file();
-    let mut scan = Scan::of(input, filter)?;
-    let mut rows = Vec::new(alloc);
+    let mut scan = Scan::of(alloc, input, filter)?;
     'each_block: while !scan.is_over(input) {
-        rows.clear();
-        scan.block(input, &mut rows)?;
+        let rows = scan.block(input)?;
         put_rows(groups, file, &rows)?;
     }
     Ok(())

@@ -9,4 +9,4 @@ mod putting;
 pub use derived::derive;
 pub use filters::every_row;
 pub use gathering::gather;
-pub use putting::{put_row, put_rows};
+pub use putting::put_row;

@@ -2,6 +2,7 @@
 ghost use Rattle.std.specs.Prelude.{◌≡◌, ◌≢◌, [], ◌∷◌, ◌++◌, List, OnOk, IfErr};
 ghost use Rattle.mesa_file.specs.declared.damage.Damage.{Damage as AnyDamage};
 ghost use Rattle.mesa_schema.specs.declared.rows.Row.{Row as AnyRow};
+ghost use Rattle.mesa_schema.specs.Lent.{lent};
 ghost use Rattle.mesa_schema.specs.Rows.{AreRowsOf, IsRowOf};
 ghost use Rattle.mesa_delta.specs.declared.error.FileError.TheVariants as file_error;
 ghost use Rattle.mesa_answer.specs.Answering.{KeepsSums};
@@ -11,19 +12,20 @@ ghost use Rattle.mesa_view.specs.SumDamage.{IsSumDamage};
 use mesa_answer::{GroupError, Groups};
 use mesa_delta::FileError;
 use mesa_disk::{Damage, FileId, Seen};
-use mesa_schema::Row;
+use mesa_scan::Matching;
+use mesa_schema::LentRow;
 
 /// One row more of a file. A sum that would leave its type is damage of the file: of sound files none does.
-pub fn put_row(groups: &mut Groups, file: FileId, row: &Row) -> Result<(), FileError>
+pub fn put_row(groups: &mut Groups, file: FileId, row: LentRow) -> Result<(), FileError>
     requires gathering { (given : List AnyRow) × HasPut groups.old given }
-    requires form { IsRowOf (wanted_of groups.old).schema row.now }
-    ensures put { OnOk result ((given : List AnyRow) → HasPut groups.old given → HasPut groups.new (given ++ row.now ∷ [])) }
+    requires form { IsRowOf (wanted_of groups.old).schema (lent row) }
+    ensures put { OnOk result ((given : List AnyRow) → HasPut groups.old given → HasPut groups.new (given ++ lent row.entry ∷ [])) }
     ensures wanted { wanted_of groups.new ≡ wanted_of groups.old }
 
     // Nothing is read here, and damage is a sum, which leaves its type only where the absolute values of the rows may add up to more than it holds.
     ensures unread { IfErr result (λ e. e ≢ file_error.Read) }
     ensures damaged { IfErr result (λ e. (d : AnyDamage) → e ≡ file_error.Damaged d → IsSumDamage file d) }
-    ensures never { IfErr result (λ e. (d : AnyDamage) → e ≡ file_error.Damaged d → (given : List AnyRow) → HasPut groups.old given → KeepsSums (wanted_of groups.old).schema (given ++ row.now ∷ []) → ⊥) }
+    ensures never { IfErr result (λ e. (d : AnyDamage) → e ≡ file_error.Damaged d → (given : List AnyRow) → HasPut groups.old given → KeepsSums (wanted_of groups.old).schema (given ++ lent row.entry ∷ []) → ⊥) }
 {
     match groups.put(row) {
         Ok(()) => Ok(()),
@@ -37,8 +39,8 @@ pub fn put_row(groups: &mut Groups, file: FileId, row: &Row) -> Result<(), FileE
     }
 }
 
-/// Rows of a file more, in their order.
-pub fn put_rows(groups: &mut Groups, file: FileId, rows: &[Row]) -> Result<(), FileError>
+// The rows of a file's block more, in their order.
+pub(crate) fn put_rows(groups: &mut Groups, file: FileId, rows: &Matching) -> Result<(), FileError>
     requires gathering { (given : List AnyRow) × HasPut groups.old given }
     requires form { AreRowsOf (wanted_of groups.old).schema rows.now }
     ensures put { OnOk result ((given : List AnyRow) → HasPut groups.old given → HasPut groups.new (given ++ rows.now)) }
@@ -47,8 +49,8 @@ pub fn put_rows(groups: &mut Groups, file: FileId, rows: &[Row]) -> Result<(), F
     ensures damaged { IfErr result (λ e. (d : AnyDamage) → e ≡ file_error.Damaged d → IsSumDamage file d) }
     ensures never { IfErr result (λ e. (d : AnyDamage) → e ≡ file_error.Damaged d → (given : List AnyRow) → HasPut groups.old given → KeepsSums (wanted_of groups.old).schema (given ++ rows.now) → ⊥) }
 {
-    for row in rows {
-        put_row(groups, file, row)?;
+    for i in 0..rows.len() {
+        put_row(groups, file, rows.row(i))?;
     }
     Ok(())
 }

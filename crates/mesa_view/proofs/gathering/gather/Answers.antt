@@ -11,7 +11,7 @@ use Rattle.mesa_answer.specs.Answering.{KeepsSums}
 use Rattle.mesa_answer.specs.Gathered.{HasPut, wanted_of}
 use Rattle.mesa_answer.specs.Gathering.{Wanted}
 use Rattle.mesa_view.specs.SumDamage.{IsSumDamage}
-use Rattle.mesa_view.proofs.Blocks.{given_all, given_bounded, more_form, more_rows, no_fault}
+use Rattle.mesa_view.proofs.Blocks.{given_all, given_bounded, more_form, no_fault}
 use Rattle.mesa_view.proofs.gathering.gather.Goals as goal
 
 pub returns-in_err-block-clause-damaged : goal.returns-in_err-block-clause-damaged
@@ -35,13 +35,13 @@ put_rows-requires-clause-form g c =
     let inv = c.each_block.invariant in
     let start = c.args.input.now in
     let now = c.block.new.input in
-    let rows = c.block.new.rows.items in
-    let scanned = more_rows bytes now c.block.new.self inv.given c.clear.new.self.items rows c.clear.ensures.items (c.in_ok-block.ensures.more inv.given inv.scanned) in
+    let rows : List Row = c.in_ok-block.rows in
+    let scanned = c.in_ok-block.ensures.more inv.given inv.scanned in
     let form : AreRowsOf (columns_of now.evolving.value) rows = more_form bytes now c.block.new.self inv.given rows scanned in
     let schema : (wanted_of c.each_block.groups).schema ≡ columns_of start.evolving.value = ap (λ (w : Wanted). w.schema) inv.wanted ∙ c.requires.columns in
     let same = same_input bytes start c.each_block.input now inv.same c.block.ensures.same in
     let columns : columns_of now.evolving.value ≡ columns_of start.evolving.value = λ k. columns_of (same.evolving k).value in
-    subst (λ (s : Columns). AreRowsOf s c.deref.result.now) (columns ∙ sym schema) (subst (AreRowsOf (columns_of now.evolving.value)) (sym c.deref.ensures.value) form)
+    subst (λ (s : Columns). AreRowsOf s rows) (columns ∙ sym schema) form
 
 pub returns-in_err-put_rows-clause-cause : goal.returns-in_err-put_rows-clause-cause
 returns-in_err-put_rows-clause-cause g c =
@@ -62,29 +62,29 @@ returns-in_err-put_rows-clause-never g c =
     let inv = c.each_block.invariant in
     let start = c.args.input.now in
     let now = c.block.new.input in
-    let rows = c.block.new.rows.items in
-    let scanned = more_rows bytes now c.block.new.self inv.given c.clear.new.self.items rows c.clear.ensures.items (c.in_ok-block.ensures.more inv.given inv.scanned) in
+    let rows : List Row = c.in_ok-block.rows in
+    let scanned = c.in_ok-block.ensures.more inv.given inv.scanned in
     let schema : (wanted_of c.each_block.groups).schema ≡ columns_of start.evolving.value = ap (λ (w : Wanted). w.schema) inv.wanted ∙ c.requires.columns in
     let same = same_input bytes start c.each_block.input now inv.same c.block.ensures.same in
     rw (p.1, p.2) (λ d e given h b all told indexed keeps.
     let bounded = given_bounded bytes start now c.args.filter.now c.block.new.self given (inv.given ++ rows) scanned (c.in_ok-block.ensures.filter ∙ inv.filter) same b all told indexed keeps in
-    let here : KeepsSums (columns_of start.evolving.value) ((given ++ inv.given) ++ c.deref.result.now) = subst (KeepsSums (columns_of start.evolving.value)) (sym (append_assoc given inv.given rows) ∙ ap (λ (more : List Row). (given ++ inv.given) ++ more) (sym c.deref.ensures.value)) bounded in
-    c.in_err-put_rows.ensures.never d e (given ++ inv.given) (inv.put given h) (subst (λ (s : Columns). KeepsSums s ((given ++ inv.given) ++ c.deref.result.now)) (sym schema) here))
+    let here : KeepsSums (columns_of start.evolving.value) ((given ++ inv.given) ++ rows) = subst (KeepsSums (columns_of start.evolving.value)) (sym (append_assoc given inv.given rows)) bounded in
+    c.in_err-put_rows.ensures.never d e (given ++ inv.given) (inv.put given h) (subst (λ (s : Columns). KeepsSums s ((given ++ inv.given) ++ rows)) (sym schema) here))
 
 pub each_block-preserved : goal.each_block-preserved
 each_block-preserved g c =
     let bytes = g.R.FileReader.bytes in
     let inv = c.each_block.invariant in
     let now = c.block.new.input in
-    let rows = c.block.new.rows.items in
+    let rows : List Row = c.in_ok-block.rows in
     record {
       given = inv.given ++ rows;
-      scanned = more_rows bytes now c.block.new.self inv.given c.clear.new.self.items rows c.clear.ensures.items (c.in_ok-block.ensures.more inv.given inv.scanned);
+      scanned = c.in_ok-block.ensures.more inv.given inv.scanned;
       filter = c.in_ok-block.ensures.filter ∙ inv.filter;
       same = same_input bytes c.args.input.now c.each_block.input now inv.same c.block.ensures.same;
       size = c.block.ensures.size ∙ inv.size;
       faults = c.in_ok-block.ensures.cause.quiet ∙ inv.faults;
-      put = λ before h. subst (HasPut c.put_rows.new.groups) (append_assoc before inv.given c.deref.result.now ∙ ap (λ (more : List Row). before ++ (inv.given ++ more)) c.deref.ensures.value)
+      put = λ before h. subst (HasPut c.put_rows.new.groups) (append_assoc before inv.given rows)
           (c.in_ok-put_rows.ensures.put (before ++ inv.given) (inv.put before h));
       wanted = c.in_ok-put_rows.ensures.wanted ∙ inv.wanted;
     }
