@@ -16,6 +16,7 @@ use Rattle.mesa_schema.specs.Views.{view_columns, view_key_places, view_value_pl
 use Rattle.mesa_schema.proofs.Folds.{rows_of-append}
 use Rattle.mesa_filter.specs.declared.terms.Term.{Term}
 use Rattle.mesa_filter.specs.Filter.{KeyFilter, filtered, meets}
+use Rattle.mesa_delta.specs.mesa_block.Layout.{Layout}
 use Rattle.mesa_delta.specs.Reading.{index_of}
 use Rattle.mesa_delta.specs.Spread.{blocks_of}
 use Rattle.mesa_delta.specs.declared.input.Input.{Input}
@@ -83,7 +84,7 @@ matching_more f p xs ys =
 -- ---- the blocks of a file
 
 -- The rows of the blocks so far are put in, regrouped by these places, and the input stays what it was.
-pub record Regroups {R : Type 0} (bytes : R → Option (List ℕ)) (size_of faults_of : R → ℕ) (start now : Input R) (p seen : PlacesSeen) (f every : KeyFilter) (s : Scan) (old new : Groups) : Type 0 where
+pub record Regroups {R : Type 0} (bytes : R → Option (List ℕ)) (size_of faults_of : R → ℕ) (start now : Input R) (p : PlacesSeen) (f every : KeyFilter) (s : Scan) (old new : Groups) : Type 0 where
   pub given : List Row
   pub scanned : HasScanned bytes now s given
   pub filter : filter_of s ≡ every
@@ -92,13 +93,12 @@ pub record Regroups {R : Type 0} (bytes : R → Option (List ℕ)) (size_of faul
   pub faults : faults_of (reader_in now) ≡ faults_of (reader_in start)
   pub put : (before : List Row) → HasPut old before → HasPut new (before ++ matching_rows f (map (row_under p) given))
   pub wanted : wanted_of new ≡ wanted_of old
-  pub places : seen ≡ p
 
 -- the rows of one block more are put in
-pub put_more : (new : Groups) (f : KeyFilter) (p : PlacesSeen) (before given block rows : List Row) → rows ≡ matching_rows f (map (row_under p) block) → HasPut new ((before ++ matching_rows f (map (row_under p) given)) ++ rows)
+pub put_more : (new : Groups) (f : KeyFilter) (p : PlacesSeen) (before given block : List Row) → HasPut new ((before ++ matching_rows f (map (row_under p) given)) ++ matching_rows f (map (row_under p) block))
     → HasPut new (before ++ matching_rows f (map (row_under p) (given ++ block)))
-put_more new f p before given block rows is put =
-    subst (HasPut new) (append_assoc before (matching_rows f (map (row_under p) given)) rows ∙ ap (λ (more : List Row). before ++ more) (ap (λ (more : List Row). matching_rows f (map (row_under p) given) ++ more) is ∙ sym (matching_more f p given block))) put
+put_more new f p before given block put =
+    subst (HasPut new) (append_assoc before (matching_rows f (map (row_under p) given)) (matching_rows f (map (row_under p) block)) ∙ ap (λ (more : List Row). before ++ more) (sym (matching_more f p given block))) put
 
 -- at the end of a file that is told, its rows were given
 pub given_told : {R : Type 0} (bytes : R → Option (List ℕ)) (start now : Input R) (every : KeyFilter) (s : Scan) (given rows : List Row) → HasScanned bytes now s given → filter_of s ≡ every → every.terms ≡ [] → IsSameInput bytes start now
@@ -112,8 +112,8 @@ given_told bytes start now every s given rows h filter none same over told =
 given_first : {R : Type 0} (bytes : R → Option (List ℕ)) (start now : Input R) (every : KeyFilter) (s : Scan) (given rows : List Row) → HasScanned bytes now s given → filter_of s ≡ every → every.terms ≡ [] → IsSameInput bytes start now
     → IsTold (known_of bytes start) rows → (others : List Row) × (map (lift_by start) rows ≡ given ++ others)
 given_first bytes start now every s given rows h filter none same told =
-    let columns : Columns = (index_of now.reader).columns in
-    let blocks : List (List Row) = blocks_of columns rows in
+    let layout : Layout = (index_of now.reader).layout in
+    let blocks : List (List Row) = blocks_of layout rows in
     let lift : Row → Row = lift_by now in
     let front : List Row = map lift (rows_of (take (next_of s) blocks)) in
     let others : List Row = map lift (rows_of (drop (next_of s) blocks)) in
@@ -121,7 +121,7 @@ given_first bytes start now every s given rows h filter none same told =
     given_matching bytes start now every s given h filter same told.0 rows told.1 told.2
     ∙ ap (λ (terms : List Term). filtered (columns_of now.evolving.value) terms front) none ∙ every_passes (columns_of now.evolving.value) front in
     let cut : rows ≡ rows_of (take (next_of s) blocks) ++ rows_of (drop (next_of s) blocks) =
-    sym (blocks_rows columns rows) ∙ ap rows_of (sym (take-append-drop (next_of s) blocks)) ∙ rows_of-append (take (next_of s) blocks) (drop (next_of s) blocks) in
+    sym (blocks_rows layout rows) ∙ ap rows_of (sym (take-append-drop (next_of s) blocks)) ∙ rows_of-append (take (next_of s) blocks) (drop (next_of s) blocks) in
     let before : map (lift_by start) rows ≡ map lift rows = sym (λ k. map (lift_by (record now { evolving = same.evolving k; epoch = same.epoch k })) rows) in
     (others, before ∙ ap (map lift) cut ∙ map-append lift (rows_of (take (next_of s) blocks)) (rows_of (drop (next_of s) blocks)) ∙ ap (λ (xs : List Row). xs ++ others) (sym these))
 
@@ -136,14 +136,10 @@ given_bounded bytes start now every f p s columns before given rows h filter non
     ap (λ (xs : List Row). before ++ matching_rows f (map (row_under p) xs)) first.1 ∙ ap (λ (xs : List Row). before ++ xs) (matching_more f p given first.0) ∙ sym (append_assoc before front others) in
     sums_front columns (before ++ front) others (subst (KeepsSums columns) cut keeps)
 
--- what a block adds to a buffer that was empty
-pub rows_added : (f : KeyFilter) (p q : PlacesSeen) (block before rows : List Row) → before ≡ [] → p ≡ q → rows ≡ before ++ matching_rows f (map (row_under p) block) → rows ≡ matching_rows f (map (row_under q) block)
-rows_added f p q block before rows none same is = is ∙ ap (λ (front : List Row). front ++ matching_rows f (map (row_under p) block)) none ∙ ap (λ (r : PlacesSeen). matching_rows f (map (row_under r) block)) same
-
 -- sums that keep their bound with a block keep it as the block's rows are put in
-pub keeps_more : (s : Columns) (f : KeyFilter) (p : PlacesSeen) (before given block rows : List Row) → rows ≡ matching_rows f (map (row_under p) block) → KeepsSums s (before ++ matching_rows f (map (row_under p) (given ++ block)))
-    → KeepsSums s ((before ++ matching_rows f (map (row_under p) given)) ++ rows)
-keeps_more s f p before given block rows is keeps =
+pub keeps_more : (s : Columns) (f : KeyFilter) (p : PlacesSeen) (before given block : List Row) → KeepsSums s (before ++ matching_rows f (map (row_under p) (given ++ block)))
+    → KeepsSums s ((before ++ matching_rows f (map (row_under p) given)) ++ matching_rows f (map (row_under p) block))
+keeps_more s f p before given block keeps =
     let front : List Row = matching_rows f (map (row_under p) given) in
     let more : List Row = matching_rows f (map (row_under p) block) in
-    subst (KeepsSums s) (ap (λ (xs : List Row). before ++ xs) (matching_more f p given block) ∙ sym (append_assoc before front more) ∙ ap (λ (xs : List Row). (before ++ front) ++ xs) (sym is)) keeps
+    subst (KeepsSums s) (ap (λ (xs : List Row). before ++ xs) (matching_more f p given block) ∙ sym (append_assoc before front more)) keeps

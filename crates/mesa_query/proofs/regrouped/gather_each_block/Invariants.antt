@@ -5,7 +5,7 @@ use Rattle.mesa_query.proofs.Blocks.{Regroups}
 use Rattle.mesa_query.proofs.regrouped.gather_each_block.Given as goal
 
 abbrev pub invariant-each_block : goal.invariant-each_block
-invariant-each_block g l = Regroups g.R.FileReader.bytes g.R.FileReader.size g.R.FileReader.faults l.fn.input l.input l.fn.regrouping l.regrouping l.filter l.every l.scan l.fn.groups l.groups
+invariant-each_block g l = Regroups g.R.FileReader.bytes g.R.FileReader.size g.R.FileReader.faults l.fn.input l.input l.regrouping l.filter l.every l.scan l.fn.groups l.groups
 
 abbrev pub decreases-each_block : goal.decreases-each_block
 decreases-each_block g l = length (index_of l.input.reader).entries - next_of l.scan
