@@ -19,9 +19,11 @@ use Rattle.mesa_schema.specs.declared.columns.ValueColumn.{ValueColumn}
 use Rattle.mesa_schema.specs.Columns.{Columns, aggs_of, kinds_of, place_of}
 use Rattle.mesa_schema.specs.Changes.{columns_of}
 use Rattle.mesa_schema.specs.Numbers.{any_signed, is_i64, key_value_of, signed_of}
-use Rattle.mesa_schema.specs.Rows.{AreRowsOf, IsRowOf}
+use Rattle.mesa_schema.specs.Rows.{AreOf, AreRowsOf, IsRowOf}
 use Rattle.mesa_schema.proofs.NumberWords.{is_i64-fits}
 use Rattle.mesa_schema.proofs.Places.{place_named}
+use Rattle.mesa_schema.proofs.Ranges.{of_narrow}
+use Rattle.mesa_batch.proofs.RowForms.{then_fits}
 use Rattle.mesa_batch.specs.declared.words.RowWords.{RowWords}
 use Rattle.mesa_batch.specs.declared.words.BatchError.TheVariants.{BadRow, NoTable}
 use Rattle.mesa_batch.specs.Batch.{Named, Placed, batch_from, batch_of, columns_at, is_at, key_from, placed_of, refuse_twice, row_of, rows_for, values_from}
@@ -69,10 +71,19 @@ read_values c (agg ∷ aggs) (field ∷ fields) values h =
     let same : first.0 ∷ rest.0 ≡ values = cc rest.2 in
     sym (ap length same) ∙ (let more = read_values (c + 1) aggs fields rest.0 rest.1 in omega (arith, more))
 
-spelled : (s : Columns) (key : List KeyValue) (values : List ℤ) → IsKey (kinds_of s) key → length values ≡ length s.values → IsRowOf s (record { key = key_spelling key; values = values })
-spelled s key values is n =
+read_ranges : (c : ℕ) (aggs : List Agg) (fields : List (List ℕ)) (values : List ℤ) → values_from c aggs fields ≡ Ok values → AreOf aggs values
+read_ranges c [] fields values h = tt
+read_ranges c (agg ∷ aggs) [] values h = cc
+read_ranges c (agg ∷ aggs) (field ∷ fields) values h =
+    let first = bound_some (signed_of field) c (λ v. values_from (c + 1) aggs fields >>= (λ vs. Ok (v ∷ vs))) values h in
+    let rest = bound (values_from (c + 1) aggs fields) (λ vs. Ok (first.0 ∷ vs)) values first.2 in
+    let same : first.0 ∷ rest.0 ≡ values = cc rest.2 in
+    subst (AreOf (agg ∷ aggs)) same (of_narrow agg first.0 (then_fits (any_signed field) first.0 first.1), read_ranges (c + 1) aggs fields rest.0 rest.1)
+
+spelled : (s : Columns) (key : List KeyValue) (values : List ℤ) → IsKey (kinds_of s) key → length values ≡ length s.values → AreOf (aggs_of s) values → IsRowOf s (record { key = key_spelling key; values = values })
+spelled s key values is n ranges =
     let read : key_of (kinds_of s) (key_spelling key) ≡ key = ap (key_of (kinds_of s)) (sym (append-nil (key_spelling key))) ∙ key_again (kinds_of s) key [] is in
-    record { key = subst (IsKey (kinds_of s)) (sym read) is; spelled = ap key_spelling read; values = n }
+    record { key = subst (IsKey (kinds_of s)) (sym read) is; spelled = ap key_spelling read; values = n; ranges = ranges }
 
 -- A row that is read has the form of its columns.
 read_row : (s : Columns) (fields : List (List ℕ)) (row : Row) → row_of s fields ≡ Ok row → IsRowOf s row
@@ -82,7 +93,8 @@ read_row s fields row h =
     let made : Row = record { key = key_spelling key.0; values = values.0 } in
     let same : made ≡ row = cc values.2 in
     subst (IsRowOf s) same (spelled s key.0 values.0 (read_key 1 (kinds_of s) fields key.0 key.1)
-    (read_values (length s.keys + 1) (aggs_of s) (drop (length s.keys) fields) values.0 values.1 ∙ length-map s.values (λ (c : ValueColumn). c.agg)))
+    (read_values (length s.keys + 1) (aggs_of s) (drop (length s.keys) fields) values.0 values.1 ∙ length-map s.values (λ (c : ValueColumn). c.agg))
+    (read_ranges (length s.keys + 1) (aggs_of s) (drop (length s.keys) fields) values.0 values.1))
 
 -- ---- placed rows
 

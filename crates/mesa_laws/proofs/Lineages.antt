@@ -8,7 +8,8 @@ use Rattle.mesa_schema.specs.declared.views.ViewError.{ViewError}
 use Rattle.mesa_schema.specs.declared.changes.Change.{Change}
 use Rattle.mesa_schema.specs.declared.changes.Change.TheVariants.{AddKey, AddValue, DropValue}
 use Rattle.mesa_schema.specs.declared.changes.ChangeError.TheVariants.{BadDefault}
-use Rattle.mesa_schema.specs.Numbers.{key_value_of, signed_of}
+use Rattle.mesa_value.specs.Agg.{IsNarrow}
+use Rattle.mesa_schema.specs.Numbers.{any_signed, key_value_of, signed_of}
 use Rattle.mesa_schema.specs.Columns.{key_names, value_names}
 use Rattle.mesa_schema.specs.Changes.{Lineage, columns_of, is_default, new_name_checked, rule_checked}
 use Rattle.mesa_schema.specs.Views.{max_views, view_checked}
@@ -23,18 +24,28 @@ use Rattle.mesa_model.specs.declared.replies.Refusal.TheVariants as no
 use Rattle.mesa_model.specs.Warehouse.{Table}
 use Rattle.mesa_model.specs.Refusals.{view_refusal}
 use Rattle.mesa_model.specs.Tables.{change_asked, new_column_checked, view_of_table_checked}
+use Rattle.mesa_batch.proofs.RowForms.{then_fits}
 use Rattle.mesa_laws.proofs.Batches.{read_value}
 use Rattle.mesa_laws.proofs.Checks.{bound_some, passed}
 use Rattle.mesa_laws.proofs.Moves.{viewed}
 
 -- A change that was asked for and is allowed has a default of its column.
 pub change_default : (l : Lineage) (asked : ChangeWords) (c : Change) → change_asked (columns_of l) asked ≡ Ok c → is_ok (rule_checked l c) ≡ true → HasDefault c
-change_default l asked (AddValue column default) e h =
-    default_fits column.agg default ((passed_unless_last (is_default column.agg default) (passed_first (new_name_checked column.name (value_names (columns_of l))) _ h).1))
+change_default l (words.AddValue column' word) (AddValue column default) e h =
+    let next = passed (new_column_checked column'.name (value_names (columns_of l))) _ (AddValue column default) e in
+    let value = bound_some (signed_of word) (no.BadDefault column'.name) (λ v. Ok (AddValue (record { name = column'.name; agg = column'.agg }) v)) (AddValue column default) next in
+    let same : value.0 ≡ default = cc value.2 in
+    let narrow : IsNarrow default = subst IsNarrow same (then_fits (any_signed word) value.0 value.1) in
+    default_fits column.agg default narrow ((passed_unless_last (is_default column.agg default) (passed_first (new_name_checked column.name (value_names (columns_of l))) _ h).1))
   where
     passed_unless_last : (t : Bool) → is_ok (refuse_unless t BadDefault) ≡ true → t ≡ true
     passed_unless_last true h = refl
     passed_unless_last false h = cc
+change_default l (words.DropValue name) (AddValue column default) e h = cc
+change_default l (words.AddKey column' word) (AddValue column default) e h =
+    let next = passed (new_column_checked column'.name (key_names (columns_of l))) _ (AddValue column default) e in
+    let value = bound_some (key_value_of column'.kind word) (no.BadDefault column'.name) (λ v. Ok (AddKey (record { name = column'.name; kind = column'.kind }) v)) (AddValue column default) next in
+    cc value.2
 change_default l asked (DropValue name) e h = tt
 change_default l (words.AddValue column' word) (AddKey column default) e h =
     let next = passed (new_column_checked column'.name (value_names (columns_of l))) _ (AddKey column default) e in
