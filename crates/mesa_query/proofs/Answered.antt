@@ -6,6 +6,7 @@ use Rattle.std.proofs.Math.Seq.{take-nil}
 use Rattle.std.proofs.lemmas.Bool.{le-ltb}
 use Rattle.std.proofs.lemmas.List.Elements.{filter-append}
 use Rattle.std.proofs.lemmas.List.Filters.{sum_by-filter_both}
+use Rattle.mesa_value.specs.Agg.{sum_bound}
 use Rattle.mesa_key.specs.Spelling.{key_of}
 use Rattle.mesa_schema.specs.declared.rows.Row.{Row}
 use Rattle.mesa_schema.specs.Columns.{Columns, aggs_of, kinds_of}
@@ -124,5 +125,5 @@ pub sums_matching : (s t : Columns) (asked terms : List Term) (rows : List Row) 
 sums_matching s t asked terms rows same is keeps =
     subst (λ (u : Columns). KeepsSums u (filtered u terms rows)) (sym same) (λ c p.
     let weigh : Row → ℕ = λ (row : Row). nat_abs (get_or row.values c (pos 0)) in
-    let all : sum_by weigh rows < 2 ^ 63 = keeps c p in
+    let all : sum_by weigh rows < sum_bound = keeps c p in
     omega (arith, all, sums_less weigh (λ (row : Row). meets (key_of (kinds_of s) row.key) terms) rows))
