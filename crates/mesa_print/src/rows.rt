@@ -12,7 +12,7 @@ use mesa_schema::Row;
 use std::alloc::AllocError;
 
 // A number as a field more.
-fn push_number(fields: &mut ByteRecord, number: i64) -> Result<(), AllocError>
+fn push_number(fields: &mut ByteRecord, number: Amount) -> Result<(), AllocError>
     requires { partial_of fields.old ≡ [] }
     ensures fields { OnOk result (fields_of fields.new ≡ fields_of fields.old ++ signed_decimal number ∷ []) }
     ensures whole { OnOk result (partial_of fields.new ≡ []) }
@@ -28,7 +28,7 @@ fn push_column(fields: &mut ByteRecord, column: Column) -> Result<(), AllocError
     ensures whole { OnOk result (partial_of fields.new ≡ []) }
 {
     match column.value() {
-        ColumnValue::Int(number) => push_number(fields, number),
+        ColumnValue::Int(number) => push_number(fields, Amount::from(number)),
         ColumnValue::Text(text) => fields.push_field(text),
     }
 }
