@@ -5,7 +5,8 @@ use Rattle.mesa_value.specs.declared.Agg.{Agg}
 use Rattle.mesa_value.specs.declared.Agg.TheVariants.{Sum, Min, Max, Replace}
 use Rattle.mesa_value.specs.Agg.{Combines}
 use Rattle.mesa_schema.specs.declared.rows.Row.{Row}
-use Rattle.mesa_schema.specs.Columns.{aggs_of}
+use Rattle.mesa_key.specs.declared.Format.TheVariants as format
+use Rattle.mesa_schema.specs.Columns.{Columns, aggs_of}
 use Rattle.mesa_block.specs.Layout.{Layout}
 use Rattle.mesa_schema.specs.Folded.{all_combined}
 use Rattle.mesa_disk.specs.mesa_file.declared.file_ref.FileRef.{FileRef}
@@ -44,6 +45,14 @@ AllCombine [] old new = ⊤
 AllCombine (agg ∷ aggs) [] new = ⊤
 AllCombine (agg ∷ aggs) (a ∷ old) [] = ⊤
 AllCombine (agg ∷ aggs) (a ∷ old) (b ∷ new) = Combines agg a b × AllCombine aggs old new
+
+-- How the file of a reference spells rows of these columns: by the format that the reference names.
+abbrev pub file_layout : Columns → FileRef → Layout
+file_layout s file = record { format = file.format; columns = s }
+
+-- A new file is written in format 2.
+abbrev pub new_layout : Columns → Layout
+new_layout s = record { format = format.Two; columns = s }
 
 -- A reference is true of the file of these rows, adopted under this id.
 pub record IsReferenceOf (s : Layout) (number : ℕ) (written : List Row) (file : FileRef) : Type 0 where

@@ -4,12 +4,11 @@ use Rattle.std.specs.List.{AllByRecursion}
 use Rattle.mesa_schema.specs.declared.rows.Row.{Row}
 use Rattle.mesa_schema.specs.Columns.{Columns, aggs_of}
 use Rattle.mesa_schema.specs.Rows.{IsRowOf}
-use Rattle.mesa_key.specs.declared.Format.TheVariants as format
 use Rattle.mesa_block.specs.Layout.{Layout}
 use Rattle.mesa_block.specs.Rows.{IsRow, Rise}
 use Rattle.mesa_block.specs.Spelling.{key_of}
 use Rattle.mesa_delta.specs.Spread.{spread}
-use Rattle.mesa_delta.specs.Summary.{AllCombine, aggregates}
+use Rattle.mesa_delta.specs.Summary.{AllCombine, aggregates, new_layout}
 use Rattle.mesa_delta.specs.Laying.{Lays}
 use Rattle.mesa_delta.specs.Tallies.{Tallies}
 use Rattle.mesa_delta.specs.declared.writer.DeltaWriter.{DeltaWriter}
@@ -18,9 +17,9 @@ use Rattle.mesa_delta.specs.declared.writer.DeltaWriter.{DeltaWriter}
 abbrev pub columns_of : {M T : Type 0} → DeltaWriter M T → Columns
 columns_of w = w.schema
 
--- files are written in format 2
+-- how it spells them
 abbrev pub layout_of : {M T : Type 0} → DeltaWriter M T → Layout
-layout_of w = record { format = format.Two; columns = w.schema }
+layout_of w = new_layout w.schema
 
 abbrev pub id_of : {M T : Type 0} → DeltaWriter M T → ℕ
 id_of w = w.id
