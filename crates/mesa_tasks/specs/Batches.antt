@@ -7,7 +7,7 @@ use Rattle.mesa_schema.specs.Changes.{Lineage, columns_of}
 use Rattle.mesa_schema.specs.Folded.{folded}
 use Rattle.mesa_batch.specs.Batch.{Placed, batch_of, rows_for}
 use Rattle.mesa_batch.specs.Glance.{Known, Sight, tables_of}
-use Rattle.mesa_batch.specs.Totals.{abs_totals, capped}
+use Rattle.mesa_batch.specs.Totals.{abs_totals, capped, sum_bound}
 use Rattle.mesa_batch.specs.declared.words.BatchError.{BatchError}
 use Rattle.mesa_batch.specs.declared.words.RowWords.{RowWords}
 use Rattle.mesa_tasks.specs.Made.{AreMadeFiles}
@@ -45,7 +45,7 @@ shares sight batch = shares_from batch 0 sight.tables
 
 -- a total passes the bound of 2^63 - 1 by itself
 abbrev pub is_over : Share → Bool
-is_over share = list_any (λ total. nat_le (2 ^ 63) total) share.totals
+is_over share = list_any (λ total. nat_le sum_bound total) share.totals
 
 -- The files of a part: none where some total of the batch passes the bound, and else its rows' and its views'.
 abbrev pub HasFiles : {M : Type 0} → (M → Option (List ℕ)) → (M → ℕ) → Bool → Share → Option (MadeFiles M) → Type 0

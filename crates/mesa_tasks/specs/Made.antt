@@ -5,7 +5,7 @@ use Rattle.mesa_schema.specs.declared.views.View.{View}
 use Rattle.mesa_schema.specs.Columns.{Columns}
 use Rattle.mesa_schema.specs.Views.{view_columns, view_rows}
 use Rattle.mesa_delta.specs.File.{IsFile, file_bytes}
-use Rattle.mesa_delta.specs.Summary.{IsReferenceOf}
+use Rattle.mesa_delta.specs.Summary.{IsReferenceOf, new_layout}
 use Rattle.mesa_tasks.specs.declared.made.MadeFile.{MadeFile}
 use Rattle.mesa_tasks.specs.declared.made.MadeFiles.{MadeFiles}
 use Rattle.mesa_tasks.specs.declared.made.MadeView.{MadeView}
@@ -19,11 +19,11 @@ pub record Content : Type 0 where
 abbrev pub content_of : Columns → List Row → View → Content
 content_of s rows v = record { columns = view_columns s v; rows = view_rows s v rows }
 
--- The file of a content: its rows make one, which the bytes are where they are told, and the reference is true of it and has its draft's id.
+-- The file of a content, which is of format 2: its rows make one, which the bytes are where they are told, and the reference is true of it and has its draft's id.
 pub record IsMadeFile {M : Type 0} (bytes : M → Option (List ℕ)) (id_of : M → ℕ) (content : Content) (made : MadeFile M) : Type 0 where
-  pub rows : IsFile content.columns content.rows (file_bytes content.columns content.rows)
-  pub told : (b : List ℕ) → bytes made.made ≡ Some b → b ≡ file_bytes content.columns content.rows
-  pub reference : IsReferenceOf content.columns (id_of made.made) content.rows made.file
+  pub rows : IsFile (new_layout content.columns) content.rows (file_bytes (new_layout content.columns) content.rows)
+  pub told : (b : List ℕ) → bytes made.made ≡ Some b → b ≡ file_bytes (new_layout content.columns) content.rows
+  pub reference : IsReferenceOf (new_layout content.columns) (id_of made.made) content.rows made.file
 
 -- One file for each of these contents of views, which are numbered from this one on.
 abbrev pub AreMadeViews : {M : Type 0} → (M → Option (List ℕ)) → (M → ℕ) → ℕ → List Content → List (MadeView M) → Type 0

@@ -15,7 +15,7 @@ use Rattle.mesa_delta.specs.declared.error.FileError.TheVariants as file_error
 use Rattle.mesa_delta.specs.File.{IsFile}
 use Rattle.mesa_delta.specs.Indexed.{IsIndexOf}
 use Rattle.mesa_delta.specs.Reading.{IsTailDamage, index_of}
-use Rattle.mesa_delta.specs.Summary.{IsReferenceOf}
+use Rattle.mesa_delta.specs.Summary.{IsReferenceOf, file_layout}
 use Rattle.mesa_delta.specs.declared.input.Input.{Input}
 use Rattle.mesa_cursor.specs.Cursors.{IsInput, reader_in}
 use Rattle.mesa_tasks.specs.Inputs.{lineage_of}
@@ -75,7 +75,7 @@ HasBytes bytes told id reader = (i : Image) → told ≡ Some i → (b : List �
 
 -- An index is what a tail with the recorded digest tells.
 abbrev pub IsRecordedIndex : {R : Type 0} → Wanted → Input R → Type 0
-IsRecordedIndex w i = (tail : List ℕ) × IsIndexOf w.file.now (wanted_columns w) tail (index_of i.reader) × (sha256 tail ≡ w.file.now.digest)
+IsRecordedIndex w i = (tail : List ℕ) × IsIndexOf w.file.now (file_layout (wanted_columns w) w.file.now) tail (index_of i.reader) × (sha256 tail ≡ w.file.now.digest)
 
 -- An input of a wanted file, whose tail is the recorded one. Its reader has not failed.
 pub record IsOpened {R : Type 0} (bytes : R → Option (List ℕ)) (faults : R → ℕ) (told : Option Image) (w : Wanted) (i : Input R) : Type 0 where
@@ -96,11 +96,11 @@ pub record IsMarred (told : Option Image) (s : Columns) (file : FileRef) (d : Da
   pub content : Option (List ℕ)
   pub size : ℕ
   pub read : (i : Image) → told ≡ Some i → (b : List ℕ) × (file_of i file.id ≡ Some b) × (content ≡ Some b)
-  pub shown : IsTailDamage content size s file d
+  pub shown : IsTailDamage content size (file_layout s file) file d
 
 -- A file isn't the recorded one: what a read gives of it is no file of the reference.
 abbrev pub IsUnsound : Option Image → Columns → FileRef → Type 0
-IsUnsound told s file = (i : Image) → told ≡ Some i → (b : List ℕ) (rows : List Row) → file_of i file.id ≡ Some b → IsFile s rows b → IsReferenceOf s file.id rows file → ⊥
+IsUnsound told s file = (i : Image) → told ≡ Some i → (b : List ℕ) (rows : List Row) → file_of i file.id ≡ Some b → IsFile (file_layout s file) rows b → IsReferenceOf (file_layout s file) file.id rows file → ⊥
 
 -- The damage of a file that isn't the recorded one.
 pub record IsDamageOf (told : Option Image) (s : Columns) (file : FileRef) (d : Damage) : Type 0 where

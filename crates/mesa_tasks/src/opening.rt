@@ -6,6 +6,7 @@ ghost use Rattle.mesa_file.specs.declared.damage.Damage.{Damage as AnyDamage};
 ghost use Rattle.mesa_disk.specs.Story.{Unmoved};
 ghost use Rattle.mesa_delta.specs.Indexed.{IsIndexOf};
 ghost use Rattle.mesa_delta.specs.Reading.{HasRead, IsReaderOf, index_of, reader_of};
+ghost use Rattle.mesa_delta.specs.Summary.{file_layout};
 ghost use Rattle.mesa_delta.specs.declared.error.FileError.TheVariants as file_error;
 ghost use Rattle.mesa_tasks.specs.Opening.{Counted, HasBytes, HasEpoch, HasMet, HaveOpened, IsDamageOf, is_fault_in, is_fault_met, is_read_fault, wanted_columns};
 
@@ -90,7 +91,7 @@ fn attach<M: Made, D: Disk<M>>(
 ) -> Result<DeltaReader<D::Reader>, FileError>
     ensures unmoved { Unmoved (D.story disk.old) (D.story disk.new) }
     ensures counted { Counted (D.story disk.old) (D.story disk.new) (is_read_fault result) }
-    ensures index { IfOk result (λ r. (tail : List ℕ) × IsIndexOf file.now schema.now tail (index_of r) × (sha256 tail ≡ file.now.digest)) }
+    ensures index { IfOk result (λ r. (tail : List ℕ) × IsIndexOf file.now (file_layout schema.now file.now) tail (index_of r) × (sha256 tail ≡ file.now.digest)) }
     ensures over { IfOk result (λ r. IsReaderOf D.Reader.bytes (reader_of r) (index_of r)) }
     ensures read { IfOk result (λ r. HasRead D.Reader.bytes r []) }
     ensures bytes { IfOk result (λ r. HasBytes D.Reader.bytes (D.story disk.old).told file.now.id (reader_of r)) }
