@@ -73,7 +73,6 @@ pub input_more : {R : Type 0} (bytes : R → Option (List ℕ)) (old new : Input
     → ((parts : List (List Row)) → HasRead bytes old.reader parts → 0 < at → at ≢ length parts → HasRead bytes new.reader parts)
     → IsInput bytes old → IsInput bytes new
 input_more bytes old new at block same first next other input = record {
-  first = subst (λ e. new.evolving.value.begins ≤ e) (sym same.epoch) (subst (λ l. l.value.begins ≤ old.epoch) (sym same.evolving) input.first);
   epoch = subst (λ e. e ≤ epoch_of new.evolving.value) (sym same.epoch) (subst (λ l. old.epoch ≤ epoch_of l.value) (sym same.evolving) input.epoch);
   columns = ap (λ x. x.layout.columns) same.index ∙ input.columns ∙ (λ i. columns_at (sym same.evolving i).value (sym same.epoch i));
   over = λ b told. subst (λ x. IsOver x b) (sym same.index) (input.over b (sym same.told ∙ told));

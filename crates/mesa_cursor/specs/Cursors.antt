@@ -21,7 +21,6 @@ lift_by i row = lifted i.evolving.value i.epoch (epoch_of i.evolving.value) row
 
 -- An input's epoch is one that its table had, and its file has that epoch's columns; where its reader tells bytes, the index is of them, and it knows which blocks it has read one after the other, as none.
 pub record IsInput {R : Type 0} (bytes : R → Option (List ℕ)) (i : Input R) : Type 0 where
-  pub first : i.evolving.value.begins ≤ i.epoch
   pub epoch : i.epoch ≤ epoch_of i.evolving.value
   pub columns : (index_of i.reader).layout.columns ≡ columns_at i.evolving.value i.epoch
   pub over : IsReaderOf bytes (reader_in i) (index_of i.reader)

@@ -1,5 +1,5 @@
 // A table's columns through its life.
-ghost use Rattle.std.specs.Prelude.{◌≡◌, IsTrue, IfOk, OnOk, OnErr, IfErr, Ok, ◌<◌, ◌≤◌, length, [], is_ok, map, slice_get, ◌≢◌, IfSome, nat_lt};
+ghost use Rattle.std.specs.Prelude.{◌≡◌, IsTrue, IfOk, OnOk, OnErr, IfErr, Ok, ◌-◌, ◌<◌, ◌≤◌, length, [], is_ok, map, slice_get, ◌≢◌, IfSome, nat_lt};
 ghost use Rattle.mesa_schema.specs.declared.views.View.{View as Chosen};
 ghost use Rattle.mesa_schema.specs.Changes.{change_checked, changed, columns_at, columns_of, epoch_of, lifted, max_changes, rule_checked, with_change};
 ghost use Rattle.mesa_schema.specs.Columns.{key_names};
@@ -90,13 +90,19 @@ impl Evolving {
         self.begins
     }
 
+    // How many of the changes an epoch is behind: none, where it is before the first.
+    fn changes_before(&self, epoch: u32) -> usize
+        ensures { result ≡ epoch - self.now.begins }
+    {
+        epoch.saturating_sub(self.begins) as usize
+    }
+
     /// How many key columns the table had at an epoch; changes only add some.
     pub fn keys_at(&self, epoch: u32) -> usize
-        requires first { self.now.begins ≤ epoch }
-        requires last { epoch ≤ epoch_of self.now }
+        requires { epoch ≤ epoch_of self.now }
         ensures { result ≡ length (columns_at self.now epoch).keys }
     {
-        let since = &self.changes.as_slice()[..(epoch - self.begins) as usize];
+        let since = &self.changes.as_slice()[..self.changes_before(epoch)];
         self.first.keys().len() + added_keys(since)
     }
 
@@ -129,12 +135,11 @@ impl Evolving {
 impl Evolving {
     /// The columns of an epoch.
     pub fn schema_at(&self, epoch: u32) -> Result<Schema, AllocError>
-        requires first { self.now.begins ≤ epoch }
-        requires last { epoch ≤ epoch_of self.now }
+        requires { epoch ≤ epoch_of self.now }
         ensures { IfOk result (λ s. s ≡ columns_at self.now epoch) }
     {
         let (mut keys, mut values) = self.first.columns()?;
-        for change in &self.changes.as_slice()[..(epoch - self.begins) as usize] {
+        for change in &self.changes.as_slice()[..self.changes_before(epoch)] {
             change_columns(&mut keys, &mut values, change)?;
         }
         Ok(Schema::of(keys, values))
@@ -142,21 +147,19 @@ impl Evolving {
 
     /// How rows of an epoch are lifted to the present.
     pub fn lift_from(&self, epoch: u32) -> Result<Lift, AllocError>
-        requires first { self.now.begins ≤ epoch }
-        requires last { epoch ≤ epoch_of self.now }
+        requires { epoch ≤ epoch_of self.now }
         ensures { IfOk result (λ lift. Lifts lift self.now epoch) }
     {
         if epoch == self.epoch() {
             return Ok(Lift::none(self.changes.allocator()));
         }
         let (keys, values) = self.schema_at(epoch)?.into_columns();
-        let since = &self.changes.as_slice()[(epoch - self.begins) as usize..];
+        let since = &self.changes.as_slice()[self.changes_before(epoch)..];
         Lift::through(self.changes.allocator(), keys, values, since)
     }
 
     /// A row of an epoch at present. Many rows of one epoch are lifted by one `lift_from`.
     pub fn lift_row(&self, from: u32, row: Row) -> Result<Row, AllocError>
-        requires first { self.now.begins ≤ from }
         requires epoch { from ≤ epoch_of self.now }
         requires form { IsRowOf (columns_at self.now from) row }
         ensures { IfOk result (λ now. now ≡ lifted self.now from (epoch_of self.now) row) }

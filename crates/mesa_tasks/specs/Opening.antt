@@ -32,7 +32,7 @@ wanted_columns w = columns_at w.evolving.now.value w.epoch
 
 -- A wanted file's epoch is one that its table had.
 abbrev pub HasEpoch : Wanted → Type 0
-HasEpoch w = (w.evolving.now.value.begins ≤ w.epoch) × (w.epoch ≤ epoch_of w.evolving.now.value)
+HasEpoch w = w.epoch ≤ epoch_of w.evolving.now.value
 
 -- ---- counts of faults
 
