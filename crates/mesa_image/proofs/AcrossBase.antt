@@ -1,4 +1,5 @@
 -- A store of a replaced value: three batches, of which the first two are merged into a base.
+use Rattle.mesa_record.specs.mesa_key.declared.Format.TheVariants as format
 use Rattle.std.proofs.Common.{◌≡◌, refl, ℕ, List, [], ◌∷◌, ◌++◌, Some, None}
 use Rattle.std.specs.Prelude.{pos, ◌==◌, codes, if◌then◌else◌}
 use Rattle.mesa_record.specs.mesa_value.declared.Agg.TheVariants as agg
@@ -45,7 +46,7 @@ abbrev pub merged : List ℕ
 merged = swap 1 0 1 (1 ∷ file_bytes 3 digest_6)
 
 abbrev file : ℕ → List ℕ → FileRef
-file k digest = record { id = first_run k; len = 103; rows = 1; blocks = 1; first = key 1; last = key 1; aggregates = pos 0 ∷ []; digest = digest }
+file k digest = record { format = format.One; id = first_run k; len = 103; rows = 1; blocks = 1; first = key 1; last = key 1; aggregates = pos 0 ∷ []; digest = digest }
 
 abbrev single : ℕ → List ℕ → Delta
 single k digest = record { epoch = 0; files = Some (record { file = file k digest; views = [] }); totals = Some [] }

@@ -1,4 +1,5 @@
 -- A store in which a view is added when data is there: the batch before it has no file of the view, the batch after it has one.
+use Rattle.mesa_record.specs.mesa_key.declared.Format.TheVariants as format
 use Rattle.std.proofs.Common.{◌≡◌, refl, ℕ, List, [], ◌∷◌, ◌++◌, Some, None}
 use Rattle.std.specs.Prelude.{pos, codes, ◌==◌, if◌then◌else◌}
 use Rattle.mesa_record.specs.mesa_value.declared.Agg.TheVariants as agg
@@ -46,13 +47,13 @@ batch_1 =
     ++ 1 ∷ long 1
 
 abbrev file_0 : FileRef
-file_0 = record { id = first_run 0; len = 136; rows = 2; blocks = 1; first = key 1 ++ key 1; last = key 1 ++ key 2; aggregates = pos 12 ∷ []; digest = digest_0 }
+file_0 = record { format = format.One; id = first_run 0; len = 136; rows = 2; blocks = 1; first = key 1 ++ key 1; last = key 1 ++ key 2; aggregates = pos 12 ∷ []; digest = digest_0 }
 
 abbrev file_1 : FileRef
-file_1 = record { id = first_run 1; len = 112; rows = 1; blocks = 1; first = key 1 ++ key 3; last = key 1 ++ key 3; aggregates = pos 1 ∷ []; digest = digest_1 }
+file_1 = record { format = format.One; id = first_run 1; len = 112; rows = 1; blocks = 1; first = key 1 ++ key 3; last = key 1 ++ key 3; aggregates = pos 1 ∷ []; digest = digest_1 }
 
 abbrev file_w : FileRef
-file_w = record { id = first_run 2; len = 103; rows = 1; blocks = 1; first = key 1; last = key 1; aggregates = pos 1 ∷ []; digest = digest_w }
+file_w = record { format = format.One; id = first_run 2; len = 103; rows = 1; blocks = 1; first = key 1; last = key 1; aggregates = pos 1 ∷ []; digest = digest_w }
 
 abbrev lineage : Lineage
 lineage = record {

@@ -1,4 +1,5 @@
 -- A store with one table, a batch of one row, and an empty batch.
+use Rattle.mesa_record.specs.mesa_key.declared.Format.TheVariants as format
 use Rattle.std.proofs.Common.{◌≡◌, refl, ℕ, List, [], ◌∷◌, ◌++◌, Some, None}
 use Rattle.std.specs.Prelude.{pos, codes, ◌==◌, if◌then◌else◌}
 use Rattle.mesa_record.specs.mesa_value.declared.Agg.TheVariants as agg
@@ -29,7 +30,7 @@ abbrev pub batch_0 : List ℕ
 batch_0 = 5 ∷ word 0 ++ half 1 ++ half 0 ++ word 0 ++ file_bytes 1 0 ++ 1 ∷ long 5
 
 abbrev pub file : FileRef
-file = record { id = first_run 0; len = 103; rows = 1; blocks = 1; first = key 1; last = key 1; aggregates = pos 5 ∷ []; digest = digest }
+file = record { format = format.One; id = first_run 0; len = 103; rows = 1; blocks = 1; first = key 1; last = key 1; aggregates = pos 5 ∷ []; digest = digest }
 
 abbrev lineage : Lineage
 lineage = record { begins = 0; first = record { keys = record { name = codes "k"; kind = kind.Int } ∷ []; values = record { name = codes "v"; agg = agg.Sum } ∷ [] }; changes = []; views = [] }

@@ -5,7 +5,7 @@ use Rattle.mesa_history.specs.mesa_schema.Names.{repeated}
 use Rattle.mesa_history.specs.mesa_schema.Columns.{aggs_of}
 use Rattle.mesa_history.specs.mesa_schema.Changes.{columns_of, epoch_of}
 use Rattle.mesa_history.specs.mesa_schema.Lineages.{IsLineage}
-use Rattle.mesa_history.specs.mesa_batch.Totals.{sums_in}
+use Rattle.mesa_history.specs.mesa_batch.Totals.{sum_bound, sums_in}
 use Rattle.mesa_history.specs.mesa_span.Ranges.{IsReachable}
 use Rattle.mesa_history.specs.mesa_model.Warehouse.{max_tables, max_versions}
 use Rattle.mesa_image.specs.Catalog.{Delta, Ending, Stock, Catalog, ranges_of, start_in}
@@ -15,7 +15,7 @@ use Rattle.mesa_image.specs.Fitting.{deltas_of, names_in}
 pub record IsShaped (floor next : ℕ) (t : Stock) : Type 0 where
   pub lineage : IsLineage t.lineage
   pub totals : length t.totals ≡ sums_in (aggs_of (columns_of t.lineage))
-  pub bounded : AllByRecursion (λ total. total < 2 ^ 63) t.totals
+  pub bounded : AllByRecursion (λ total. total < sum_bound) t.totals
   pub above : floor ≤ t.oldest
   pub oldest : (t.oldest < next) ⊎ ((t.oldest ≡ 0) × (next ≡ 0))
   pub singles : start_in t + length t.singles ≡ next

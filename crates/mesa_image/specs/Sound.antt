@@ -13,8 +13,9 @@ use Rattle.mesa_commit.specs.mesa_disk.Image.{Image}
 use Rattle.mesa_commit.specs.mesa_journal.Journal.{IsJournal}
 use Rattle.mesa_commit.specs.Images.{Has}
 use Rattle.mesa_record.specs.declared.record.ViewRef.{ViewRef}
+use Rattle.mesa_delta.specs.mesa_block.Layout.{Layout}
 use Rattle.mesa_delta.specs.File.{IsFile, file_bytes}
-use Rattle.mesa_delta.specs.Summary.{IsReferenceOf}
+use Rattle.mesa_delta.specs.Summary.{IsReferenceOf, file_layout}
 use Rattle.mesa_history.specs.Found.{Kept}
 use Rattle.mesa_image.specs.Catalog.{Delta, Ending, Stock, Catalog, start_in}
 use Rattle.mesa_image.specs.Fitting.{Shelved, base_deltas, catalog, deltas_of, shelved, stock_shelved}
@@ -22,9 +23,13 @@ use Rattle.mesa_image.specs.Contents.{Rows, rows_in, present, kept_of}
 
 -- ---- files
 
+-- how a file's rows stand in its blocks
+abbrev pub layout_of : Shelved → Layout
+layout_of x = file_layout x.columns x.file
+
 -- the bytes of a file's rows
 abbrev pub bytes_of : Rows → Shelved → List ℕ
-bytes_of rows x = file_bytes x.columns (rows x.file.id)
+bytes_of rows x = file_bytes (layout_of x) (rows x.file.id)
 
 -- a file's id, and the bytes that it has
 abbrev pub wanted : Rows → Shelved → ℕ × List ℕ
@@ -36,8 +41,8 @@ wants rows files = map (wanted rows) files
 
 -- The rows make a file of the columns, and its reference is true of it.
 pub record IsTold (rows : Rows) (x : Shelved) : Type 0 where
-  pub file : IsFile x.columns (rows x.file.id) (bytes_of rows x)
-  pub true : IsReferenceOf x.columns x.file.id (rows x.file.id) x.file
+  pub file : IsFile (layout_of x) (rows x.file.id) (bytes_of rows x)
+  pub true : IsReferenceOf (layout_of x) x.file.id (rows x.file.id) x.file
 
 -- ---- what holds of the rows
 
