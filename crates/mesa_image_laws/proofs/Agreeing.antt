@@ -16,7 +16,7 @@ use Rattle.mesa_image.specs.mesa_delta.Summary.{IsReferenceOf}
 use Rattle.mesa_image.specs.Catalog.{Delta, Ending, Stock, Catalog, ranges_of, start_in}
 use Rattle.mesa_image.specs.Fitting.{Shelved, base_deltas, delta_in, deltas_of, delta_shelved, stock_shelved, shelved, view_shelved}
 use Rattle.mesa_image.specs.Contents.{Rows, rows_in, present, deltas_to, content, table_of, kept_of}
-use Rattle.mesa_image.specs.Sound.{IsTold, IsMerged, IsGrouped, IsGroupedAs, AreGrouped, IsTotalled, IsStocked, AreStocked, wanted, wants}
+use Rattle.mesa_image.specs.Sound.{IsTold, IsMerged, IsGrouped, IsGroupedAs, AreGrouped, IsTotalled, IsStocked, AreStocked, layout_of, wanted, wants}
 use Rattle.mesa_fold.proofs.mesa_schema.Lists.{all_append, all_both, same_maps}
 use Rattle.mesa_image_laws.proofs.Lists.{all_front, all_back, all_take, all_unflat, all_unmap}
 
@@ -70,8 +70,8 @@ module _ (old new : Rows) where
 
     told : (x : Shelved) → Agrees x → IsTold old x → IsTold new x
     told x same is = record {
-      file = subst (λ r. IsFile x.columns r (file_bytes x.columns r)) (sym same) is.file;
-      true = subst (λ r. IsReferenceOf x.columns x.file.id r x.file) (sym same) is.true;
+      file = subst (λ r. IsFile (layout_of x) r (file_bytes (layout_of x) r)) (sym same) is.file;
+      true = subst (λ r. IsReferenceOf (layout_of x) x.file.id r x.file) (sym same) is.true;
     }
 
     merged : (e : Ending) → Same t.lineage e.delta → IsMerged old t e → IsMerged new t e
@@ -118,4 +118,4 @@ module _ (old new : Rows) where
   agree_stocked c all is = all_both SameStock (IsStocked old) (IsStocked new) c.tables same_stocked (all_unflat Agrees stock_shelved c.tables all) is
 
   pub agree_wants : (xs : List Shelved) → AllByRecursion Agrees xs → wants new xs ≡ wants old xs
-  agree_wants xs all = same_maps Agrees (wanted new) (wanted old) xs (λ x same i. (x.file.id, file_bytes x.columns (same i))) all
+  agree_wants xs all = same_maps Agrees (wanted new) (wanted old) xs (λ x same i. (x.file.id, file_bytes (layout_of x) (same i))) all

@@ -27,7 +27,7 @@ unless_last true h = refl
 unless_last false h = cc
 
 pub default_read : (l : Lineage) (c : Change) → IsTypedChange c → is_ok (rule_checked l c) ≡ true → HasDefault c
-default_read l (AddValue column default) typed h = default_fits column.agg default (unless_last (is_default column.agg default) (passed_first (new_name_checked column.name (value_names (columns_of l))) _ h).1)
+default_read l (AddValue column default) typed h = default_fits column.agg default typed.1 (unless_last (is_default column.agg default) (passed_first (new_name_checked column.name (value_names (columns_of l))) _ h).1)
 default_read l (DropValue name) typed h = tt
 default_read l (AddKey column default) typed h =
     value_fits column.kind default (unless_last (is_of_kind column.kind default) (passed_first (new_name_checked column.name (key_names (columns_of l))) _ h).1) typed.1

@@ -9,6 +9,8 @@ use Rattle.mesa_fold.specs.mesa_schema.Rows.{AreRowsOf, IsRowOf}
 use Rattle.mesa_fold.proofs.mesa_schema.Lists.{all_append, all_map, all_so}
 use Rattle.mesa_fold.proofs.mesa_schema.PresentRows.{present_form}
 use Rattle.mesa_image.specs.mesa_block.Rows.{IsRow}
+use Rattle.mesa_image.specs.mesa_history.mesa_file.declared.file_ref.FileRef.{FileRef}
+use Rattle.mesa_image.specs.mesa_delta.Summary.{file_layout}
 use Rattle.mesa_image.specs.mesa_record.declared.record.Files.{Files}
 use Rattle.mesa_image.specs.Catalog.{Delta, Stock, start_in}
 use Rattle.mesa_image.specs.Fitting.{base_deltas, delta_in, deltas_of, delta_shelved}
@@ -41,10 +43,10 @@ pub rows_formed : (rows : Rows) (l : Lineage) (ds : List Delta) → AreFormed ro
 rows_formed rows l [] all = tt
 rows_formed rows l (d ∷ ds) all = all_append (IsRowOf (columns_of l)) (present rows l d) (rows_of (map (present rows l) ds)) all.0 (rows_formed rows l ds all.1)
 
-lifts_forms : (l : Lineage) (epoch : ℕ) (rows : List Row) → IsLineage l → AllByRecursion (IsRow (columns_at l epoch)) rows → AreRowsOf (columns_of l) (map (lifted l epoch (epoch_of l)) rows)
-lifts_forms l epoch rows is all =
+lifts_forms : (l : Lineage) (epoch : ℕ) (f : FileRef) (rows : List Row) → IsLineage l → AllByRecursion (IsRow (file_layout (columns_at l epoch) f)) rows → AreRowsOf (columns_of l) (map (lifted l epoch (epoch_of l)) rows)
+lifts_forms l epoch f rows is all =
     all_map (IsRowOf (columns_of l)) (lifted l epoch (epoch_of l)) rows
-    (all_so (IsRow (columns_at l epoch)) (λ row. IsRowOf (columns_of l) (lifted l epoch (epoch_of l) row)) rows (λ row good. present_form l epoch row is good.form) all)
+    (all_so (IsRow (file_layout (columns_at l epoch) f)) (λ row. IsRowOf (columns_of l) (lifted l epoch (epoch_of l) row)) rows (λ row good. present_form l epoch row is good.form) all)
 
 delta_formed : (rows : Rows) (l : Lineage) (d : Delta) → IsLineage l → AllByRecursion (IsTold rows) (delta_shelved l d) → AreRowsOf (columns_of l) (present rows l d)
 delta_formed rows l d is told = by d.files d.epoch d.totals told
@@ -52,7 +54,7 @@ delta_formed rows l d is told = by d.files d.epoch d.totals told
     by : (files : Option Files) (epoch : ℕ) (totals : Option (List ℕ)) → AllByRecursion (IsTold rows) (delta_shelved l (record { epoch = epoch; files = files; totals = totals }))
         → AreRowsOf (columns_of l) (present rows l (record { epoch = epoch; files = files; totals = totals }))
     by None epoch totals told = tt
-    by (Some f) epoch totals told = lifts_forms l epoch (rows f.file.id) is told.0.file.good
+    by (Some f) epoch totals told = lifts_forms l epoch f.file (rows f.file.id) is told.0.file.good
 
 -- The deltas whose files are told have rows of the present form.
 pub all_formed : (rows : Rows) (l : Lineage) (ds : List Delta) → IsLineage l → AllByRecursion (λ (d : Delta). AllByRecursion (IsTold rows) (delta_shelved l d)) ds → AreFormed rows l ds

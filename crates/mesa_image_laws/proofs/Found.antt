@@ -11,7 +11,9 @@ use Rattle.mesa_fold.specs.mesa_schema.Lineages.{IsLineage}
 use Rattle.mesa_fold.specs.mesa_schema.Rows.{AreRowsOf, IsRowOf, keys_rise}
 use Rattle.mesa_fold.proofs.mesa_schema.Lists.{all_append, all_both, all_filter, all_map, all_so}
 use Rattle.mesa_fold.proofs.mesa_schema.PresentRows.{present_rise}
+use Rattle.mesa_image.specs.mesa_block.Layout.{Layout}
 use Rattle.mesa_image.specs.mesa_block.Rows.{IsRow}
+use Rattle.mesa_image.specs.mesa_delta.Summary.{file_layout}
 use Rattle.mesa_image.specs.mesa_span.Ranges.{Rise, base_before, end_of}
 use Rattle.mesa_image.specs.mesa_history.Sources.{Source, range_rows}
 use Rattle.mesa_image.specs.mesa_record.declared.record.Files.{Files}
@@ -34,8 +36,8 @@ use Rattle.mesa_image_laws.proofs.Written.{From, is_within, sources_first, sourc
 abbrev IsFound : Rows → Lineage → Delta → Type 0
 IsFound rows l d = (d.epoch ≤ epoch_of l) × AllByRecursion (IsTold rows) (delta_shelved l d)
 
-good_forms : (s : Columns) (rows : List Row) → AllByRecursion (IsRow s) rows → AreRowsOf s rows
-good_forms s rows all = all_so (IsRow s) (IsRowOf s) rows (λ row good. good.form) all
+good_forms : (s : Layout) (rows : List Row) → AllByRecursion (IsRow s) rows → AreRowsOf s.columns rows
+good_forms s rows all = all_so (IsRow s) (IsRowOf s.columns) rows (λ row good. good.form) all
 
 form_found : (rows : Rows) (l : Lineage) (d : Delta) → IsFound rows l d → HasForm l (source_of rows d)
 form_found rows l d is = record { epoch = is.0; form = by d.files d.epoch d.totals is.1 }
@@ -43,7 +45,7 @@ form_found rows l d is = record { epoch = is.0; form = by d.files d.epoch d.tota
     by : (files : Option Files) (epoch : ℕ) (totals : Option (List ℕ)) → AllByRecursion (IsTold rows) (delta_shelved l (record { epoch = epoch; files = files; totals = totals }))
         → AreRowsOf (columns_at l epoch) (rows_in rows (record { epoch = epoch; files = files; totals = totals }))
     by None epoch totals told = tt
-    by (Some f) epoch totals told = good_forms (columns_at l epoch) (rows f.file.id) told.0.file.good
+    by (Some f) epoch totals told = good_forms (file_layout (columns_at l epoch) f.file) (rows f.file.id) told.0.file.good
 
 rises_found : (rows : Rows) (l : Lineage) (d : Delta) → IsLineage l → IsFound rows l d → keys_rise (present rows l d) ≡ true
 rises_found rows l d lineage is = by d.files d.epoch d.totals is.1
@@ -51,7 +53,7 @@ rises_found rows l d lineage is = by d.files d.epoch d.totals is.1
     by : (files : Option Files) (epoch : ℕ) (totals : Option (List ℕ)) → AllByRecursion (IsTold rows) (delta_shelved l (record { epoch = epoch; files = files; totals = totals }))
         → keys_rise (present rows l (record { epoch = epoch; files = files; totals = totals })) ≡ true
     by None epoch totals told = refl
-    by (Some f) epoch totals told = present_rise l epoch (rows f.file.id) lineage (good_forms (columns_at l epoch) (rows f.file.id) told.0.file.good) ∙ rising (rows f.file.id) told.0.file.rise
+    by (Some f) epoch totals told = present_rise l epoch (rows f.file.id) lineage (good_forms (file_layout (columns_at l epoch) f.file) (rows f.file.id) told.0.file.good) ∙ rising (rows f.file.id) told.0.file.rise
 
 self_made : (rows : Rows) (l : Lineage) (d : Delta) → IsLineage l → IsFound rows l d → present rows l d ≡ folded_now l (source_of rows d ∷ [])
 self_made rows l d lineage is = sym (folds_itself (aggs_of (columns_of l)) (present rows l d) (rises_found rows l d lineage is))

@@ -9,7 +9,7 @@ use Rattle.mesa_fold.specs.mesa_schema.Names.{repeated}
 use Rattle.mesa_fold.specs.mesa_schema.Changes.{columns_of, epoch_of}
 use Rattle.mesa_fold.proofs.mesa_schema.Lists.{all_found}
 use Rattle.mesa_fold.proofs.mesa_schema.Maps.{is_some_position}
-use Rattle.mesa_fold.specs.mesa_batch.Totals.{over_bound, totals_with}
+use Rattle.mesa_fold.specs.mesa_batch.Totals.{over_bound, sum_bound, totals_with}
 use Rattle.mesa_image.specs.mesa_span.declared.works.Work.TheVariants as work
 use Rattle.mesa_image.specs.mesa_span.Ranges.{end_of}
 use Rattle.mesa_image.specs.mesa_span.Work.{is_missing, missing_end, possible_ends}
@@ -29,15 +29,15 @@ use Rattle.mesa_image_laws.proofs.ShapedTables.{same_set}
 
 -- ---- a batch
 
-under : (t : ℕ) → nat_le (2 ^ 63) t ≡ false → t < 2 ^ 63
-under t e = leb-false (2 ^ 63) t e
+under : (t : ℕ) → nat_le sum_bound t ≡ false → t < sum_bound
+under t e = leb-false sum_bound t e
 
-none_over : (totals : List ℕ) → list_any (λ total. nat_le (2 ^ 63) total) totals ≡ false → AllByRecursion (λ total. total < 2 ^ 63) totals
+none_over : (totals : List ℕ) → list_any (λ total. nat_le sum_bound total) totals ≡ false → AllByRecursion (λ total. total < sum_bound) totals
 none_over [] e = tt
-none_over (t ∷ totals) e = by (nat_le (2 ^ 63) t) refl e (none_over totals)
+none_over (t ∷ totals) e = by (nat_le sum_bound t) refl e (none_over totals)
   where
-    by : (b : Bool) → nat_le (2 ^ 63) t ≡ b → (b || list_any (λ total. nat_le (2 ^ 63) total) totals) ≡ false → (list_any (λ total. nat_le (2 ^ 63) total) totals ≡ false → AllByRecursion (λ total. total < 2 ^ 63) totals)
-        → (t < 2 ^ 63) × AllByRecursion (λ total. total < 2 ^ 63) totals
+    by : (b : Bool) → nat_le sum_bound t ≡ b → (b || list_any (λ total. nat_le sum_bound total) totals) ≡ false → (list_any (λ total. nat_le sum_bound total) totals ≡ false → AllByRecursion (λ total. total < sum_bound) totals)
+        → (t < sum_bound) × AllByRecursion (λ total. total < sum_bound) totals
     by true is e rest = absurd (let f : true ≡ false = e in cc)
     by false is e rest = (under t is, rest e)
 
@@ -53,7 +53,7 @@ part_shaped t p e =
     record {
       epoch = is_equal p.epoch (epoch_of t.lineage) first.0;
       count = is_equal (length p.totals) (sums_in (aggs_of (columns_of t.lineage))) third.1;
-      bound = none_over (totals_with t.totals p.totals) (sym (is_some_position (λ total. nat_le (2 ^ 63) total) (totals_with t.totals p.totals)) ∙ not_some (over_bound t.totals p.totals) last.1);
+      bound = none_over (totals_with t.totals p.totals) (sym (is_some_position (λ total. nat_le sum_bound total) (totals_with t.totals p.totals)) ∙ not_some (over_bound t.totals p.totals) last.1);
     }
 
 -- what is asked of each part

@@ -23,7 +23,7 @@ use Rattle.mesa_fold.proofs.mesa_schema.LineageChanges.{lineage_changed, lineage
 use Rattle.mesa_fold.proofs.mesa_schema.Lists.{all_append, all_drop, all_replicate, all_set, all_so}
 use Rattle.mesa_fold.proofs.mesa_schema.Passing.{passed_first}
 use Rattle.mesa_fold.proofs.mesa_schema.PresentRows.{columns_more}
-use Rattle.mesa_fold.specs.mesa_batch.Totals.{is_sum, sum_places, sums_in, totals_after, totals_without}
+use Rattle.mesa_fold.specs.mesa_batch.Totals.{is_sum, sum_bound, sum_places, sums_in, totals_after, totals_without}
 use Rattle.mesa_image.specs.mesa_span.Ranges.{base_before, start_behind}
 use Rattle.mesa_image.specs.mesa_model.Warehouse.{max_tables}
 use Rattle.mesa_image.specs.mesa_record.Rules.{IsTypedChange}
@@ -84,7 +84,7 @@ new_shaped c name s is schema =
     record {
       lineage = lineage_new s schema;
       totals = length-replicate (sums_in (aggs_of s)) 0;
-      bounded = all_replicate (λ total. total < 2 ^ 63) 0 (sums_in (aggs_of s)) (omega arith);
+      bounded = all_replicate (λ total. total < sum_bound) 0 (sums_in (aggs_of s)) (omega arith);
       above = omega arith;
       oldest = is.floor;
       singles = (let len = length-replicate (c.next - c.floor) empty_delta in elim is.floor [ inl lt ↦ omega (arith, start, len, lt) | inr none ↦ omega (arith, start, len, none.0, none.1) ]);
@@ -239,14 +239,14 @@ totals_changed s (DropValue name) totals e =
     ∙ ap sums_in (sym (map-append f (take i s.values) (drop (i + 1) s.values) ∙ (λ j. map_take f i s.values j ++ map_drop f (i + 1) s.values j)))
 totals_changed s (AddKey column default) totals e = e
 
-totals_below : (s : Columns) (c : Change) (totals : List ℕ) → AllByRecursion (λ total. total < 2 ^ 63) totals → AllByRecursion (λ total. total < 2 ^ 63) (totals_after s c totals)
+totals_below : (s : Columns) (c : Change) (totals : List ℕ) → AllByRecursion (λ total. total < sum_bound) totals → AllByRecursion (λ total. total < sum_bound) (totals_after s c totals)
 totals_below s (AddValue column default) totals all = by (is_sum column.agg)
   where
-    by : (b : Bool) → AllByRecursion (λ total. total < 2 ^ 63) (cond b (totals ++ 0 ∷ []) totals)
-    by true = all_append (λ total. total < 2 ^ 63) totals (0 ∷ []) all (omega arith, tt)
+    by : (b : Bool) → AllByRecursion (λ total. total < sum_bound) (cond b (totals ++ 0 ∷ []) totals)
+    by true = all_append (λ total. total < sum_bound) totals (0 ∷ []) all (omega arith, tt)
     by false = all
 totals_below s (DropValue name) totals all =
-    let P = λ (total : ℕ). total < 2 ^ 63 in
+    let P = λ (total : ℕ). total < sum_bound in
     let i : ℕ = unwrap_or (place_of name (value_names s)) (length s.values) in
     all_append P (take (sums_in (take i (aggs_of s))) totals) _ (all_take P (sums_in (take i (aggs_of s))) totals all) (all_drop P (sums_in (take (i + 1) (aggs_of s))) totals all)
 totals_below s (AddKey column default) totals all = all

@@ -5,7 +5,7 @@ use Rattle.std.proofs.lemmas.List.{length-map, map-append}
 use Rattle.std.specs.List.{AllByRecursion}
 use Rattle.mesa_fold.specs.mesa_schema.Columns.{aggs_of}
 use Rattle.mesa_fold.specs.mesa_schema.Changes.{columns_of, epoch_of}
-use Rattle.mesa_fold.specs.mesa_batch.Totals.{totals_with}
+use Rattle.mesa_fold.specs.mesa_batch.Totals.{sum_bound, totals_with}
 use Rattle.mesa_fold.specs.mesa_batch.Totals.{sums_in}
 use Rattle.mesa_image.specs.mesa_span.declared.works.Work.TheVariants as work
 use Rattle.mesa_image.specs.mesa_span.Ranges.{IsReachable}
@@ -61,7 +61,7 @@ expire_shaped c version lt is = record {
 pub record PartFits (t : Stock) (p : Part) : Type 0 where
   pub epoch : p.epoch ≡ epoch_of t.lineage
   pub count : length p.totals ≡ sums_in (aggs_of (columns_of t.lineage))
-  pub bound : AllByRecursion (λ total. total < 2 ^ 63) (totals_with t.totals p.totals)
+  pub bound : AllByRecursion (λ total. total < sum_bound) (totals_with t.totals p.totals)
 
 length-totals : (totals more : List ℕ) → length more ≡ length totals → length (totals_with totals more) ≡ length totals
 length-totals [] [] e = refl
