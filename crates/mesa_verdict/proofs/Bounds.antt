@@ -15,7 +15,7 @@ use Rattle.mesa_schema.specs.Rows.{AreRowsOf, IsRowOf}
 use Rattle.mesa_schema.proofs.Folds.{rows_of-append}
 use Rattle.mesa_schema.proofs.Lists.{all_so}
 use Rattle.mesa_fold.proofs.Merged.{folds_totals}
-use Rattle.mesa_batch.specs.Totals.{AreAtMost, abs_total, abs_totals, sum_places}
+use Rattle.mesa_batch.specs.Totals.{AreAtMost, abs_total, abs_totals, sum_bound, sum_places}
 use Rattle.mesa_fold.proofs.Sums.{abs_total-next}
 use Rattle.mesa_verdict.specs.Faults.{are_at_most, keep_bound}
 use Rattle.mesa_verdict.proofs.Lists.{and_true, true_parts}
@@ -77,20 +77,20 @@ pub less_less : (places : List ℕ) (xs ys zs : List Row) → AddUpToLess places
 less_less [] xs ys zs p q = tt
 less_less (c ∷ places) xs ys zs p q = let a = p.0 in let b = q.0 in (omega (arith, a, b), less_less places xs ys zs p.1 q.1)
 
-less_bound : (places totals : List ℕ) (rows all : List Row) → AddUpToLess places rows all → AreAtMost (map (λ c. abs_total c all) places) totals → AllByRecursion (λ total. total < 2 ^ 63) totals
-    → list_all (λ total. nat_lt total (2 ^ 63)) (map (λ c. abs_total c rows) places) ≡ true
+less_bound : (places totals : List ℕ) (rows all : List Row) → AddUpToLess places rows all → AreAtMost (map (λ c. abs_total c all) places) totals → AllByRecursion (λ total. total < sum_bound) totals
+    → list_all (λ total. nat_lt total sum_bound) (map (λ c. abs_total c rows) places) ≡ true
 less_bound [] totals rows all less most bounded = refl
 less_bound (c ∷ places) [] rows all less most bounded = absurd most
 less_bound (c ∷ places) (y ∷ ys) rows all less most bounded =
     let a = less.0 in let b = most.0 in let d = bounded.0 in
-    let under : abs_total c rows < 2 ^ 63 = omega (arith, a, b, d) in
-    and_true (nat_lt (abs_total c rows) (2 ^ 63)) (list_all (λ total. nat_lt total (2 ^ 63)) (map (λ k. abs_total k rows) places)) (lt_is (abs_total c rows) (2 ^ 63) under) (less_bound places ys rows all less.1 most.1 bounded.1)
+    let under : abs_total c rows < sum_bound = omega (arith, a, b, d) in
+    and_true (nat_lt (abs_total c rows) sum_bound) (list_all (λ total. nat_lt total sum_bound) (map (λ k. abs_total k rows) places)) (lt_is (abs_total c rows) sum_bound under) (less_bound places ys rows all less.1 most.1 bounded.1)
   where
     lt_is : (a b : ℕ) → a < b → nat_lt a b ≡ true
     lt_is a b e = grind (arith, nat_tests)
 
 -- Some of the rows whose absolute values are at most totals within the bound keep the bound.
-pub some_keep_bound : (s : Columns) (rows all : List Row) (totals : List ℕ) → AddUpToLess (sum_places 0 (aggs_of s)) rows all → AreAtMost (abs_totals s all) totals → AllByRecursion (λ total. total < 2 ^ 63) totals → keep_bound s rows ≡ true
+pub some_keep_bound : (s : Columns) (rows all : List Row) (totals : List ℕ) → AddUpToLess (sum_places 0 (aggs_of s)) rows all → AreAtMost (abs_totals s all) totals → AllByRecursion (λ total. total < sum_bound) totals → keep_bound s rows ≡ true
 some_keep_bound s rows all totals less most bounded = less_bound (sum_places 0 (aggs_of s)) totals rows all less most bounded
 
 -- ---- folded rows

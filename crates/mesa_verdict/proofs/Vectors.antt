@@ -2,6 +2,7 @@
 use Rattle.std.proofs.Common.{◌≡◌, refl, ℕ, List, [], ◌∷◌, ◌++◌, Option, Some, None}
 use Rattle.std.specs.Prelude.{pos, codes, ◌==◌, if◌then◌else◌, replicate}
 use Rattle.mesa_value.specs.declared.Agg.TheVariants as agg
+use Rattle.mesa_key.specs.declared.Format.TheVariants as format
 use Rattle.mesa_key.specs.declared.KeyType.TheVariants as kind
 use Rattle.mesa_schema.specs.declared.rows.Row.{Row}
 use Rattle.mesa_schema.specs.Changes.{Lineage}
@@ -32,7 +33,7 @@ lineage = record {
 
 -- what a file's reference says besides its id doesn't matter here
 abbrev file : ℕ → FileRef
-file id = record { id = id; len = 0; rows = 1; blocks = 1; first = []; last = []; aggregates = pos 0 ∷ []; digest = [] }
+file id = record { format = format.Two; id = id; len = 0; rows = 1; blocks = 1; first = []; last = []; aggregates = pos 0 ∷ []; digest = [] }
 
 abbrev seen : ℕ → ViewRef
 seen id = record { view = 0; file = file id }

@@ -8,7 +8,7 @@ use Rattle.mesa_schema.specs.Columns.{Columns, aggs_of}
 use Rattle.mesa_schema.specs.Changes.{Lineage, columns_at, columns_of}
 use Rattle.mesa_schema.specs.Views.{view_rows}
 use Rattle.mesa_schema.specs.Folded.{folded, rows_of}
-use Rattle.mesa_batch.specs.Totals.{abs_totals}
+use Rattle.mesa_batch.specs.Totals.{abs_totals, sum_bound}
 use Rattle.mesa_record.specs.declared.record.Files.{Files}
 use Rattle.mesa_record.specs.declared.record.ViewRef.{ViewRef}
 use Rattle.mesa_difference.specs.Difference.{first_difference}
@@ -66,9 +66,9 @@ exceeds_totals found t =
     list_all (is_found found t.lineage) (base_deltas t.base) && list_all (is_true found t.lineage) t.singles
     && not (are_at_most (abs_totals (columns_of t.lineage) (rows_of (all_parts (rows_found found) t))) t.totals)
 
--- in each sum column the absolute values of the rows add up to at most 2^63 - 1, so that each sum of them is a value
+-- in each sum column the absolute values of the rows add up to less than the bound, so that each sum of them is a value
 abbrev pub keep_bound : Columns → List Row → Bool
-keep_bound s rows = list_all (λ total. nat_lt total (2 ^ 63)) (abs_totals s rows)
+keep_bound s rows = list_all (λ total. nat_lt total sum_bound) (abs_totals s rows)
 
 -- ---- the faults of a range
 

@@ -9,7 +9,7 @@ use Rattle.mesa_commit.specs.Images.{Has}
 use Rattle.mesa_image.specs.Catalog.{Catalog}
 use Rattle.mesa_image.specs.Fitting.{Shelved, shelved}
 use Rattle.mesa_image.specs.Contents.{Rows}
-use Rattle.mesa_image.specs.Sound.{AreStocked, wants}
+use Rattle.mesa_image.specs.Sound.{AreStocked, layout_of, wants}
 
 -- what was found of files: by a file's id its rows, where it is the recorded file, and none where it isn't
 abbrev pub Found : Type 0
@@ -25,8 +25,8 @@ all_found rows id = Some (rows id)
 
 -- An image has the file of these rows, of which the reference is true; or what it has, if anything, is no file of the reference.
 abbrev pub IsFoundAs : Image → Shelved → Option (List Row) → Type 0
-IsFoundAs i x (Some rows) = (file_of i x.file.id ≡ Some (file_bytes x.columns rows)) × IsFile x.columns rows (file_bytes x.columns rows) × IsReferenceOf x.columns x.file.id rows x.file
-IsFoundAs i x None = (b : List ℕ) (rows : List Row) → file_of i x.file.id ≡ Some b → IsFile x.columns rows b → IsReferenceOf x.columns x.file.id rows x.file → ⊥
+IsFoundAs i x (Some rows) = (file_of i x.file.id ≡ Some (file_bytes (layout_of x) rows)) × IsFile (layout_of x) rows (file_bytes (layout_of x) rows) × IsReferenceOf (layout_of x) x.file.id rows x.file
+IsFoundAs i x None = (b : List ℕ) (rows : List Row) → file_of i x.file.id ≡ Some b → IsFile (layout_of x) rows b → IsReferenceOf (layout_of x) x.file.id rows x.file → ⊥
 
 -- This is what an image has of each of these files.
 abbrev pub AreFound : Image → Found → List Shelved → Type 0
