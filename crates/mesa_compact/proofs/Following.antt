@@ -1,4 +1,4 @@
--- Sums of a file's rows that stay in their type.
+-- Sums of a file's rows that keep their bound.
 use Rattle.std.proofs.Common.{◌≡◌, ℕ, zero, suc, ◌+◌, ◌^◌, ◌<◌, ◌≤◌, ℤ, pos, negsuc, ◌+ℤ◌, List, [], ◌∷◌, ◌++◌, length, map, get_or, refl, sym, ap, ◌∙◌, arith, zero-add, true}
 use Rattle.std.specs.List.{AllByRecursion}
 use Rattle.std.specs.Prelude.{Some, slice_get, nat_abs}
@@ -18,28 +18,28 @@ use Rattle.mesa_schema.specs.declared.columns.ValueColumn.{ValueColumn}
 use Rattle.mesa_schema.specs.Columns.{Columns, aggs_of}
 use Rattle.mesa_schema.specs.Folded.{row_combined, combined_from, folded, rows_of}
 use Rattle.mesa_schema.specs.Rows.{AreRowsOf, IsRowOf, keys_rise}
-use Rattle.mesa_batch.specs.Totals.{abs_total}
+use Rattle.mesa_batch.specs.Totals.{abs_total, sum_bound}
 use Rattle.mesa_fold.specs.Bound.{FoldsTotals, KeepsBound}
 use Rattle.mesa_block.specs.Rows.{IsRow, Rise}
 use Rattle.mesa_block.specs.Spelling.{key_of}
-use Rattle.mesa_delta.specs.Summary.{all_noted, aggregates, values_of, AllCombine}
+use Rattle.mesa_delta.specs.Summary.{all_noted, aggregates, new_layout, values_of, AllCombine}
 use Rattle.mesa_merge.proofs.Bounds.{abs_fronts, full_all}
 use Rattle.mesa_merge.proofs.Combining.{aggs_count}
 use Rattle.mesa_merge.proofs.Ending.{AreFronts}
 
-sum_fits : (o n : ℤ) → nat_abs o + nat_abs n < 2 ^ 63 → Combines Sum o n
+sum_fits : (o n : ℤ) → nat_abs o + nat_abs n < sum_bound → Combines Sum o n
 sum_fits (pos a) (pos b) h = omega (arith, ints)
 sum_fits (pos a) (negsuc b) h = omega (arith, ints)
 sum_fits (negsuc a) (pos b) h = omega (arith, ints)
 sum_fits (negsuc a) (negsuc b) h = omega (arith, ints)
 
-combines_one : (agg : Agg) (o n : ℤ) → (agg ≡ Sum → nat_abs o + nat_abs n < 2 ^ 63) → Combines agg o n
+combines_one : (agg : Agg) (o n : ℤ) → (agg ≡ Sum → nat_abs o + nat_abs n < sum_bound) → Combines agg o n
 combines_one Sum o n h = sum_fits o n (h refl)
 combines_one Min o n h = tt
 combines_one Max o n h = tt
 combines_one Replace o n h = tt
 
-combine_from : (aggs : List Agg) (os ns : List ℤ) → ((c : ℕ) → slice_get aggs c ≡ Some Sum → nat_abs (get_or os c (pos 0)) + nat_abs (get_or ns c (pos 0)) < 2 ^ 63) → AllCombine aggs os ns
+combine_from : (aggs : List Agg) (os ns : List ℤ) → ((c : ℕ) → slice_get aggs c ≡ Some Sum → nat_abs (get_or os c (pos 0)) + nat_abs (get_or ns c (pos 0)) < sum_bound) → AllCombine aggs os ns
 combine_from [] os ns h = tt
 combine_from (g ∷ aggs) [] ns h = tt
 combine_from (g ∷ aggs) (o ∷ os) [] h = tt
@@ -101,11 +101,11 @@ total_append : (c : ℕ) (xs ys : List Row) → abs_total c (xs ++ ys) ≡ abs_t
 total_append c xs ys = sum_by-append (abs_at c) xs ys
 
 -- a row more keeps the sums where all rows keep the bound
-pub sums_follow : (s : Columns) (rows : List Row) (row : Row) → AreRowsOf s rows → ((c : ℕ) → slice_get (aggs_of s) c ≡ Some Sum → abs_total c (rows ++ row ∷ []) < 2 ^ 63) → AllCombine (aggs_of s) (aggregates (aggs_of s) rows) row.values
+pub sums_follow : (s : Columns) (rows : List Row) (row : Row) → AreRowsOf s rows → ((c : ℕ) → slice_get (aggs_of s) c ≡ Some Sum → abs_total c (rows ++ row ∷ []) < sum_bound) → AllCombine (aggs_of s) (aggregates (aggs_of s) rows) row.values
 sums_follow s rows row form bound = combine_from (aggs_of s) _ _ (λ c p. omega (arith, bound c p, total_append c rows (row ∷ []), total_next c row [], aggregates_abs s rows c p form))
 
 -- rows that stand in a file have its form
-pub taken_form : (s : Columns) (rows : List Row) → AllByRecursion (IsRow s) rows → AreRowsOf s rows
+pub taken_form : (s : Columns) (rows : List Row) → AllByRecursion (IsRow (new_layout s)) rows → AreRowsOf s rows
 taken_form s [] all = tt
 taken_form s (row ∷ rows) all = (all.0.form, taken_form s rows all.1)
 
@@ -122,6 +122,6 @@ rises (row ∷ next ∷ rows) r = let parts = and_parts (is_lt (byte_cmp row.key
 
 -- the fold of what was given keeps the bound that the inputs keep
 pub folded_bound : FoldsTotals → (s : Columns) (givens parts : List (List Row)) → ((j : ℕ) → AreRowsOf s (get_or givens j [])) → AreFronts givens parts → KeepsBound (aggs_of s) [] (rows_of parts)
-    → (c : ℕ) → slice_get (aggs_of s) c ≡ Some Sum → abs_total c (folded (aggs_of s) givens) < 2 ^ 63
+    → (c : ℕ) → slice_get (aggs_of s) c ≡ Some Sum → abs_total c (folded (aggs_of s) givens) < sum_bound
 folded_bound law s givens parts formed fronts bound c p =
     omega (arith, law (aggs_of s) givens c p (full_all s givens formed (aggs_count s)), abs_fronts c givens parts fronts, bound c p)

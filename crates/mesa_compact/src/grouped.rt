@@ -95,10 +95,11 @@ fn write_rows<M: Made, T: Draft<M>>(
     ensures accepts { IfErr result (λ e. (d : AnyDamage) → e ≡ damaged_by d → KeepsSums (columns_of writer.old) rows.now → ⊥) }
 {
     'rows: for row in rows {
-        if !writer.allows(row) {
+        let next = row.lend();
+        if !writer.allows(next) {
             return Err(sum_fault(newest));
         }
-        match writer.push(row) {
+        match writer.push(next) {
             Ok(()) => {}
             Err(error) => return Err(CompactError::from(error)),
         }

@@ -4,6 +4,7 @@ ghost use Rattle.std.specs.List.{AllByRecursion};
 ghost use Rattle.mesa_file.specs.declared.damage.Damage.{Damage as AnyDamage};
 ghost use Rattle.mesa_schema.specs.declared.rows.Row.{Row as AnyRow};
 ghost use Rattle.mesa_schema.specs.Columns.{Columns};
+ghost use Rattle.mesa_schema.specs.Lent.{lent};
 ghost use Rattle.mesa_schema.specs.Rows.{IsRowOf};
 ghost use Rattle.mesa_delta.specs.declared.error.FileError.TheVariants as file_error;
 ghost use Rattle.mesa_answer.specs.Answering.{KeepsSums};
@@ -13,22 +14,22 @@ ghost use Rattle.mesa_compact.specs.Grouping.{HasPutIn, HavePut, TakesRows, want
 use mesa_answer::Groups;
 use mesa_delta::FileError;
 use mesa_file::FileId;
-use mesa_schema::Row;
+use mesa_schema::LentRow;
 use mesa_view::put_row;
 
-// Puts a row more into each gatherer. A sum that would leave its type is told of this file.
+// Puts a row more into each gatherer. A sum that would leave its bound is told of this file.
 pub(crate) fn put_all(
     groups: &mut [Option<Groups>],
     file: FileId,
-    row: &Row,
+    row: LentRow,
 ) -> Result<(), FileError>
     requires gathering { (given : List AnyRow) × HavePut groups.old given }
-    requires form { (s : Columns) × IsRowOf s row.now × AllByRecursion (TakesRows s) groups.old }
-    ensures put { OnOk result ((given : List AnyRow) → HavePut groups.old given → HavePut groups.new (given ++ row.now ∷ [])) }
+    requires form { (s : Columns) × IsRowOf s (lent row) × AllByRecursion (TakesRows s) groups.old }
+    ensures put { OnOk result ((given : List AnyRow) → HavePut groups.old given → HavePut groups.new (given ++ lent row.entry ∷ [])) }
     ensures wanted { map wanted_in groups.new ≡ map wanted_in groups.old }
     ensures unread { IfErr result (λ e. e ≢ file_error.Read) }
     ensures damaged { IfErr result (λ e. (d : AnyDamage) → e ≡ file_error.Damaged d → d ≡ sum_damage file) }
-    ensures never { IfErr result (λ e. (d : AnyDamage) → e ≡ file_error.Damaged d → (s : Columns) (given : List AnyRow) → HavePut groups.old given → AllByRecursion (TakesRows s) groups.old → KeepsSums s (given ++ row.now ∷ []) → ⊥) }
+    ensures never { IfErr result (λ e. (d : AnyDamage) → e ≡ file_error.Damaged d → (s : Columns) (given : List AnyRow) → HavePut groups.old given → AllByRecursion (TakesRows s) groups.old → KeepsSums s (given ++ lent row.entry ∷ []) → ⊥) }
 {
     'groups: for i in 0..groups.len() {
         match put_one(&mut groups[i], file, row) {
@@ -40,14 +41,14 @@ pub(crate) fn put_all(
 }
 
 // Puts it into one, where there is one.
-fn put_one(groups: &mut Option<Groups>, file: FileId, row: &Row) -> Result<(), FileError>
+fn put_one(groups: &mut Option<Groups>, file: FileId, row: LentRow) -> Result<(), FileError>
     requires gathering { (given : List AnyRow) × HasPutIn given groups.old }
-    requires form { (s : Columns) × IsRowOf s row.now × TakesRows s groups.old }
-    ensures put { OnOk result ((given : List AnyRow) → HasPutIn given groups.old → HasPutIn (given ++ row.now ∷ []) groups.new) }
+    requires form { (s : Columns) × IsRowOf s (lent row) × TakesRows s groups.old }
+    ensures put { OnOk result ((given : List AnyRow) → HasPutIn given groups.old → HasPutIn (given ++ lent row.entry ∷ []) groups.new) }
     ensures wanted { wanted_in groups.new ≡ wanted_in groups.old }
     ensures unread { IfErr result (λ e. e ≢ file_error.Read) }
     ensures damaged { IfErr result (λ e. (d : AnyDamage) → e ≡ file_error.Damaged d → d ≡ sum_damage file) }
-    ensures never { IfErr result (λ e. (d : AnyDamage) → e ≡ file_error.Damaged d → (s : Columns) (given : List AnyRow) → HasPutIn given groups.old → TakesRows s groups.old → KeepsSums s (given ++ row.now ∷ []) → ⊥) }
+    ensures never { IfErr result (λ e. (d : AnyDamage) → e ≡ file_error.Damaged d → (s : Columns) (given : List AnyRow) → HasPutIn given groups.old → TakesRows s groups.old → KeepsSums s (given ++ lent row.entry ∷ []) → ⊥) }
 {
     match groups {
         Some(groups) => put_row(groups, file, row),

@@ -56,21 +56,22 @@ pub(crate) fn pour<M: Made, T: Draft<M>, R: FileReader>(
     folds_by_key();
     folds_totals();
     'rows: for _ in 0..u64::MAX {
-        let next = match merge.next() {
-            Ok(next) => next,
+        let more = match merge.next() {
+            Ok(more) => more,
             Err(error) => return Err(CompactError::File(error)),
         };
-        let Some(row) = next else {
+        if !more {
             return Ok(());
-        };
-        if !writer.allows(&row) {
+        }
+        let row = merge.row();
+        if !writer.allows(row) {
             return Err(sum_fault(newest));
         }
-        match put_all(groups, newest, &row) {
+        match put_all(groups, newest, row) {
             Ok(()) => {}
             Err(unfit) => return Err(CompactError::File(unfit)),
         }
-        match writer.push(&row) {
+        match writer.push(row) {
             Ok(()) => {}
             Err(error) => return Err(CompactError::from(error)),
         }
@@ -78,7 +79,7 @@ pub(crate) fn pour<M: Made, T: Draft<M>, R: FileReader>(
     Err(CompactError::File(FileError::Memory))
 }
 
-// The damage of a file with which a sum leaves its type.
+// The damage of a file with which a sum leaves its bound.
 pub(crate) fn sum_fault(file: FileId) -> CompactError
     ensures { result ≡ damaged_by (sum_damage file) }
 {

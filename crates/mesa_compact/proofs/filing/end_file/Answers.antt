@@ -1,6 +1,6 @@
 use Rattle.std.proofs.Common.{◌≡◌, ℕ, ◌∙◌, refl, sym, subst}
 use Rattle.mesa_delta.specs.Summary.{IsReferenceOf}
-use Rattle.mesa_delta.specs.Writing.{columns_of, id_of}
+use Rattle.mesa_delta.specs.Writing.{id_of, layout_of}
 use Rattle.mesa_compact.proofs.Causing.{caused_finish, caused_ok}
 use Rattle.mesa_compact.proofs.filing.end_file.Goals as goal
 
@@ -12,7 +12,7 @@ returns-in-Ok-clause-made g c =
     record {
       rows = record { some = some; good = held.0; rise = held.1; spelled = refl };
       told = λ bytes told. (c.in-Ok.ensures.file rows taken bytes told).spelled;
-      reference = subst (λ (n : ℕ). IsReferenceOf (columns_of c.args.writer) n rows c.in-Ok.file) (sym own) (c.in-Ok.ensures.reference rows taken);
+      reference = subst (λ (n : ℕ). IsReferenceOf (layout_of c.args.writer) n rows c.in-Ok.file) (sym own) (c.in-Ok.ensures.reference rows taken);
     }
 
 pub returns-in-Ok-clause-causes : goal.returns-in-Ok-clause-causes

@@ -3,6 +3,7 @@ use Rattle.mesa_block.specs.Rows.{Rise}
 use Rattle.mesa_block.specs.Spelling.{key_of}
 use Rattle.mesa_schema.specs.declared.rows.Row.{Row}
 use Rattle.mesa_schema.specs.Columns.{Columns}
+use Rattle.mesa_schema.specs.Lent.{lent}
 use Rattle.mesa_schema.specs.Rows.{IsRowOf}
 use Rattle.mesa_delta.specs.Writing.{columns_of}
 use Rattle.mesa_merge.specs.Sums.{sum_damage}
@@ -26,8 +27,8 @@ push-requires-after_bounds g c = λ _ _.
       take i rows,
       c.rows.invariant.taken,
       record {
-        form = subst (λ (s : Columns). IsRowOf s row) (sym cols) (subst (IsRowOf (columns_of c.args.writer.now)) (sym c.row-item.is) (all_at (IsRowOf (columns_of c.args.writer.now)) rows i row c.requires.form c.rows-test.true));
-        greater = subst (λ (x : Row). Rise (map key_of (take i rows ++ x ∷ []))) (sym c.row-item.is) (rise_at rows i row c.rows-test.true (rises rows c.requires.rise));
+        form = subst (λ (s : Columns). IsRowOf s (lent c.lend-next.result)) (sym cols) (subst (IsRowOf (columns_of c.args.writer.now)) (sym (c.lend-next.ensures ∙ c.row-item.is)) (all_at (IsRowOf (columns_of c.args.writer.now)) rows i row c.requires.form c.rows-test.true));
+        greater = subst (λ (x : Row). Rise (map key_of (take i rows ++ x ∷ []))) (sym (c.lend-next.ensures ∙ c.row-item.is)) (rise_at rows i row c.rows-test.true (rises rows c.requires.rise));
         sums = (c.allows.ensures (take i rows) c.rows.invariant.taken).0 c.if-not-allows.false;
       },
     )
@@ -48,8 +49,11 @@ returns-then-not-allows-clause-accepts g c = λ d e keeps.
     let i = c.rows.row-index in
     let row = c.row-item.result in
     let s : Columns = columns_of c.rows.writer in
-    let all : KeepsSums s (take i rows ++ row ∷ []) = subst (λ (t : Columns). KeepsSums t (take i rows ++ row ∷ [])) (sym inv.columns) (sums_taken (columns_of c.args.writer.now) i rows row c.rows-test.true c.row-item.is keeps) in
-    let no : false ≡ true = sym c.if-not-allows.true ∙ (c.allows.ensures (take i rows) inv.taken).1 (λ _. sums_follow s (take i rows) row (taken_form s _ inv.taken.good) all) in
+    let same : lent c.lend-next.result ≡ row = c.lend-next.ensures in
+    let all : KeepsSums s (take i rows ++ lent c.lend-next.result ∷ []) =
+    subst (λ (t : Columns). KeepsSums t (take i rows ++ lent c.lend-next.result ∷ [])) (sym inv.columns)
+    (subst (λ (x : Row). KeepsSums (columns_of c.args.writer.now) (take i rows ++ x ∷ [])) (sym same) (sums_taken (columns_of c.args.writer.now) i rows row c.rows-test.true c.row-item.is keeps)) in
+    let no : false ≡ true = sym c.if-not-allows.true ∙ (c.allows.ensures (take i rows) inv.taken).1 (λ _. sums_follow s (take i rows) (lent c.lend-next.result) (taken_form s _ inv.taken.good) all) in
     cc
 
 pub returns-in-Err-clause-accepts : goal.returns-in-Err-clause-accepts

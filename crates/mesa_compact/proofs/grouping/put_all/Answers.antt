@@ -1,4 +1,5 @@
 use Rattle.std.proofs.Common.{◌++◌, ◌∷◌, [], sym, ◌∙◌, subst, set, arith, add-one}
+use Rattle.mesa_schema.specs.Lent.{lent}
 use Rattle.mesa_compact.specs.Grouping.{HasPutIn, TakesRows}
 use Rattle.mesa_compact.proofs.Putting.{AllUpTo, all_at, map_set, takes_kept, upto_all, upto_at, upto_set}
 use Rattle.mesa_compact.proofs.grouping.put_all.Goals as goal
@@ -20,7 +21,7 @@ groups-preserved c =
     record {
       put = λ given h.
           let was = inv.put given h in
-          subst (λ n. AllUpTo n (HasPutIn (given ++ c.args.row.now ∷ [])) (HasPutIn given) (set c.groups.groups i c.put_one.new.groups)) (sym (add-one i))
+          subst (λ n. AllUpTo n (HasPutIn (given ++ lent c.args.row ∷ [])) (HasPutIn given) (set c.groups.groups i c.put_one.new.groups)) (sym (add-one i))
           (upto_set i _ _ c.groups.groups c.put_one.new.groups was (c.in-Ok.ensures.put given (upto_at i _ _ c.groups.groups c.index-groups-i.result was (omega (arith, c.groups-test.true, c.groups.auto.groups)))));
       wanted = map_set _ c.groups.groups i c.put_one.new.groups c.index-groups-i.result c.in-Ok.ensures.wanted ∙ inv.wanted;
     }

@@ -2,12 +2,13 @@ use Rattle.std.proofs.Common.{◌≡◌, ◌<◌, ◌^◌, ◌++◌, ◌∷◌, 
 use Rattle.std.specs.List.{AllByRecursion}
 use Rattle.std.specs.Prelude.{slice_get, Some}
 use Rattle.mesa_value.specs.declared.Agg.TheVariants.{Sum}
-use Rattle.mesa_batch.specs.Totals.{abs_total}
+use Rattle.mesa_batch.specs.Totals.{abs_total, sum_bound}
 use Rattle.mesa_block.specs.Rows.{Rise}
 use Rattle.mesa_block.specs.Spelling.{key_of}
 use Rattle.mesa_schema.specs.declared.rows.Row.{Row}
 use Rattle.mesa_schema.specs.Columns.{Columns, aggs_of}
 use Rattle.mesa_schema.specs.Folded.{folded, rows_of}
+use Rattle.mesa_schema.specs.Lent.{lent}
 use Rattle.mesa_fold.specs.Bound.{KeepsBound}
 use Rattle.mesa_delta.specs.declared.error.FileError.TheVariants.{Damaged}
 use Rattle.mesa_delta.specs.Writing.{HasTaken, columns_of}
@@ -21,7 +22,7 @@ use Rattle.mesa_compact.proofs.Causing.{caused_damage, caused_file, caused_memor
 use Rattle.mesa_compact.proofs.Following.{folded_bound, rises, sums_follow, taken_form}
 use Rattle.mesa_compact.specs.Bounded.{AreBounded}
 use Rattle.mesa_compact.proofs.Whole.{told_sums}
-use Rattle.mesa_compact.proofs.Poured.{if_none_from, merged_formed}
+use Rattle.mesa_compact.proofs.Poured.{goes_on, if_none_from, merged_formed}
 use Rattle.mesa_compact.proofs.Putting.{takes_kept}
 use Rattle.mesa_compact.proofs.pouring.pour.Goals as goal
 
@@ -44,8 +45,7 @@ put_all-requires-clause-form g c =
     let inv = c.rows.invariant in
     let s = columns_of c.rows.writer in
     let now = inv.poured start.0 start.1 start.2 start.3 in
-    let some = rw c.in-Some.is at (c.in-Ok.ensures.next now.1.going).some in
-    let next = some s now.0 now.1 in
+    let next = goes_on g.R.FileReader.bytes _ _ _ _ _ _ (c.in-Ok.ensures.next now.1.going) c.if-not-more.false c.row-row.ensures s now.0 now.1 in
     (s, next.3, takes_kept s c.args.groups.now c.rows.groups inv.wanted (subst (λ (t : Columns). AllByRecursion (TakesRows t) c.args.groups.now) (sym inv.columns) c.requires.takes))
 
 pub push-requires-after_bounds : goal.push-requires-after_bounds
@@ -53,8 +53,7 @@ push-requires-after_bounds g c = λ _ _.
     let start = c.requires.pouring in
     let s = columns_of c.rows.writer in
     let now = c.rows.invariant.poured start.0 start.1 start.2 start.3 in
-    let some = rw c.in-Some.is at (c.in-Ok.ensures.next now.1.going).some in
-    let next = some s now.0 now.1 in (
+    let next = goes_on g.R.FileReader.bytes _ _ _ _ _ _ (c.in-Ok.ensures.next now.1.going) c.if-not-more.false c.row-row.ensures s now.0 now.1 in (
       folded (aggs_of s) now.0,
       now.2,
       record {
@@ -71,7 +70,7 @@ rows-preserved g c =
     let start = c.requires.pouring in
     let first = inv.poured start.0 start.1 start.2 start.3 in
     let answer = c.in-Ok.ensures.next first.1.going in
-    let some = rw c.in-Some.is at answer.some in
+    let some = goes_on bytes _ _ _ _ _ _ answer c.if-not-more.false c.row-row.ensures in
     let cols : columns_of c.push.new.self ≡ columns_of c.rows.writer = c.in-Ok-push.ensures.columns in
     record {
       columns = cols ∙ inv.columns;
@@ -86,8 +85,8 @@ rows-preserved g c =
           let s = columns_of c.rows.writer in
           let now = inv.poured givens h taken put in
           let next = some s now.0 now.1 in
-          let more : HasTaken g.T.Draft.bytes c.push.new.self (folded (aggs_of s) now.0 ++ c.in-Some.row ∷ []) = c.in-Ok-push.ensures.taken (folded (aggs_of s) now.0) now.2 in
-          let grouped : HavePut c.put_all.new.groups (folded (aggs_of s) now.0 ++ c.in-Some.row ∷ []) = c.in-Ok-put_all.ensures.put (folded (aggs_of s) now.0) now.3 in (
+          let more : HasTaken g.T.Draft.bytes c.push.new.self (folded (aggs_of s) now.0 ++ lent c.row-row.result ∷ []) = c.in-Ok-push.ensures.taken (folded (aggs_of s) now.0) now.2 in
+          let grouped : HavePut c.put_all.new.groups (folded (aggs_of s) now.0 ++ lent c.row-row.result ∷ []) = c.in-Ok-put_all.ensures.put (folded (aggs_of s) now.0) now.3 in (
             next.0,
             subst (λ (t : Columns). HasMerged bytes t c.next.new.self next.0) (sym cols) next.1,
             subst (λ (t : Columns). HasTaken g.T.Draft.bytes c.push.new.self (folded (aggs_of t) next.0)) (sym cols) (subst (HasTaken g.T.Draft.bytes c.push.new.self) (sym next.2) more),
@@ -130,12 +129,12 @@ returns-in-Err-clause-inputs g c = λ all.
 
 -- ---- the end
 
-pub returns-in_default-clause-taken : goal.returns-in_default-clause-taken
-returns-in_default-clause-taken g c = λ givens h taken put.
+pub returns-then-not-more-clause-taken : goal.returns-then-not-more-clause-taken
+returns-then-not-more-clause-taken g c = λ givens h taken put.
     let inv = c.rows.invariant in
     let s = columns_of c.rows.writer in
     let now = inv.poured givens h taken put in
-    let none = rw c.in_default.is at (c.in-Ok.ensures.next now.1.going).none in
+    let none = rw c.if-not-more.true at (c.in-Ok.ensures.next now.1.going).none in
     let all = none s now.0 now.1 in (
       now.0,
       all.1,
@@ -144,44 +143,43 @@ returns-in_default-clause-taken g c = λ givens h taken put.
       subst (λ (t : Columns). AreBounded t (knowns_of g.R.FileReader.bytes (inputs_of c.next.new.self)) → KeepsSums t (folded (aggs_of t) now.0)) inv.columns (told_sums c.folds_totals.ensures s _ now.0 (merged_formed g.R.FileReader.bytes s c.rows.merge now.0 now.1) all.1),
     )
 
-pub returns-in_default-clause-causes : goal.returns-in_default-clause-causes
-returns-in_default-clause-causes g c =
+pub returns-then-not-more-clause-causes : goal.returns-then-not-more-clause-causes
+returns-then-not-more-clause-causes g c =
     let start = c.requires.pouring in
     let inv = c.rows.invariant in
     let now = inv.poured start.0 start.1 start.2 start.3 in
     caused_ok _ _ _ _ _ _ inv.faults ((c.in-Ok.ensures.next now.1.going).cause.quiet ∙ inv.reads)
 
-pub returns-in_default-clause-known : goal.returns-in_default-clause-known
-returns-in_default-clause-known g c =
+pub returns-then-not-more-clause-known : goal.returns-then-not-more-clause-known
+returns-then-not-more-clause-known g c =
     let start = c.requires.pouring in
     let inv = c.rows.invariant in
     (c.in-Ok.ensures.next (inv.poured start.0 start.1 start.2 start.3).1.going).known ∙ inv.known
 
-pub returns-in_default-clause-inputs : goal.returns-in_default-clause-inputs
-returns-in_default-clause-inputs g c = λ all.
+pub returns-then-not-more-clause-inputs : goal.returns-then-not-more-clause-inputs
+returns-then-not-more-clause-inputs g c = λ all.
     let start = c.requires.pouring in
     let inv = c.rows.invariant in
     (c.in-Ok.ensures.next (inv.poured start.0 start.1 start.2 start.3).1.going).inputs (inv.inputs all)
 
--- ---- a total that leaves its type
+-- ---- a total that leaves its bound
 
 pub returns-then-not-allows-clause-accepts : goal.returns-then-not-allows-clause-accepts
 returns-then-not-allows-clause-accepts g c = λ d e givens h taken put contents told bound.
     let bytes = g.R.FileReader.bytes in
     let inv = c.rows.invariant in
     let s : Columns = columns_of c.rows.writer in
-    let row = c.in-Some.row in
+    let row = lent c.row-row.result in
     let now = inv.poured givens h taken put in
     let answer = c.in-Ok.ensures.next now.1.going in
-    let some = rw c.in-Some.is at answer.some in
-    let next = some s now.0 now.1 in
+    let next = goes_on g.R.FileReader.bytes _ _ _ _ _ _ (c.in-Ok.ensures.next now.1.going) c.if-not-more.false c.row-row.ensures s now.0 now.1 in
     let known : knowns_of bytes (inputs_of c.next.new.self) ≡ knowns_of bytes (inputs_of c.args.merge.now) = answer.known ∙ inv.known in
     let parts : List (List Row) = lifted_parts (knowns_of bytes (inputs_of c.next.new.self)) contents in
     let fronts : AreFronts next.0 parts = givens_fronts bytes (inputs_of c.next.new.self) _ next.0 contents next.1.given (subst (λ ks. AreTold ks contents) (sym known) told) in
     let keeps : KeepsBound (aggs_of s) [] (rows_of parts) = subst (λ (t : Columns). KeepsBound (aggs_of t) [] (rows_of parts)) (sym inv.columns)
     (subst (λ ks. KeepsBound (aggs_of (columns_of c.args.writer.now)) [] (rows_of (lifted_parts ks contents))) (sym known) bound) in
-    let all : (k : ℕ) → slice_get (aggs_of s) k ≡ Some Sum → abs_total k (folded (aggs_of s) now.0 ++ row ∷ []) < 2 ^ 63 =
-    subst (λ rows. (k : ℕ) → slice_get (aggs_of s) k ≡ Some Sum → abs_total k rows < 2 ^ 63) next.2 (folded_bound c.folds_totals.ensures s next.0 parts (merged_formed bytes s c.next.new.self next.0 next.1) fronts keeps) in
+    let all : (k : ℕ) → slice_get (aggs_of s) k ≡ Some Sum → abs_total k (folded (aggs_of s) now.0 ++ row ∷ []) < sum_bound =
+    subst (λ rows. (k : ℕ) → slice_get (aggs_of s) k ≡ Some Sum → abs_total k rows < sum_bound) next.2 (folded_bound c.folds_totals.ensures s next.0 parts (merged_formed bytes s c.next.new.self next.0 next.1) fronts keeps) in
     let no : false ≡ true = sym c.if-not-allows.true ∙ (c.allows.ensures (folded (aggs_of s) now.0) now.2).1 (λ _. sums_follow s (folded (aggs_of s) now.0) row (taken_form s _ now.2.good) all) in
     cc
 
@@ -204,18 +202,17 @@ returns-then-not-allows-clause-inputs g c = λ all.
     let inv = c.rows.invariant in
     (c.in-Ok.ensures.next (inv.poured start.0 start.1 start.2 start.3).1.going).inputs (inv.inputs all)
 
--- ---- a sum of a group that leaves its type
+-- ---- a sum of a group that leaves its bound
 
 pub returns-in-Err-put_all-clause-accepts : goal.returns-in-Err-put_all-clause-accepts
 returns-in-Err-put_all-clause-accepts g c = λ d e givens h taken put contents told bound.
     let bytes = g.R.FileReader.bytes in
     let inv = c.rows.invariant in
     let s : Columns = columns_of c.rows.writer in
-    let row = c.in-Some.row in
+    let row = lent c.row-row.result in
     let now = inv.poured givens h taken put in
     let answer = c.in-Ok.ensures.next now.1.going in
-    let some = rw c.in-Some.is at answer.some in
-    let next = some s now.0 now.1 in
+    let next = goes_on g.R.FileReader.bytes _ _ _ _ _ _ (c.in-Ok.ensures.next now.1.going) c.if-not-more.false c.row-row.ensures s now.0 now.1 in
     let known : knowns_of bytes (inputs_of c.next.new.self) ≡ knowns_of bytes (inputs_of c.args.merge.now) = answer.known ∙ inv.known in
     let parts : List (List Row) = lifted_parts (knowns_of bytes (inputs_of c.next.new.self)) contents in
     let fronts : AreFronts next.0 parts = givens_fronts bytes (inputs_of c.next.new.self) _ next.0 contents next.1.given (subst (λ ks. AreTold ks contents) (sym known) told) in
