@@ -1,14 +1,14 @@
 -- What a call of a merge answers, by what it says of the row that the merge then lends.
 use Rattle.std.specs.Prelude.{ℕ, List, Bool, Option, Result, Ok, Err, IfOk, IfErr}
+use Rattle.std.specs.Bool.{then_some}
 use Rattle.mesa_schema.specs.declared.rows.Row.{Row}
 use Rattle.mesa_delta.specs.declared.error.FileError.{FileError}
 use Rattle.mesa_merge.specs.Calls.{answer_of}
 use Rattle.mesa_merge.specs.Faults.{HaveFaultCause}
 use Rattle.mesa_merge.specs.Merged.{row_in}
-use Rattle.mesa_merge.specs.Merging.{given_if}
 use Rattle.mesa_merge.specs.declared.merge.Merge.{Merge}
 
-pub answered : {R : Type 0} (r : Result Bool FileError) (m : Merge R) (P : Option Row → Type 0) → IfOk r (λ more. P (given_if more (row_in m))) → IfOk (answer_of r m) P
+pub answered : {R : Type 0} (r : Result Bool FileError) (m : Merge R) (P : Option Row → Type 0) → IfOk r (λ more. P (then_some more (row_in m))) → IfOk (answer_of r m) P
 answered (Ok more) m P h = h
 answered (Err e) m P h = tt
 

@@ -1,5 +1,6 @@
 -- What a call of a merge answers.
 use Rattle.std.specs.Prelude.{◌≡◌, ℕ, List, [], ◌∷◌, ◌++◌, Bool, Option, Result, Ok, Err, IfOk, IfErr, IfSome, IfNone}
+use Rattle.std.specs.Bool.{then_some}
 use Rattle.std.specs.List.{AllByRecursion}
 use Rattle.mesa_file.specs.declared.damage.Damage.{Damage}
 use Rattle.mesa_schema.specs.declared.rows.Row.{Row}
@@ -14,12 +15,11 @@ use Rattle.mesa_merge.specs.Damaged.{IsDamageOf}
 use Rattle.mesa_merge.specs.Faults.{HaveFaultCause, faults_of}
 use Rattle.mesa_merge.specs.Inputs.{AreAll, AreTold, knowns_of, lifted_parts}
 use Rattle.mesa_merge.specs.Merged.{HasMerged, inputs_of, row_in}
-use Rattle.mesa_merge.specs.Merging.{given_if}
 use Rattle.mesa_merge.specs.declared.merge.Merge.{Merge}
 
 -- What a call answers: the row that the merge then lends, none, or an error.
 abbrev pub answer_of : {R : Type 0} → Result Bool FileError → Merge R → Result (Option Row) FileError
-answer_of (Ok more) m = Ok (given_if more (row_in m))
+answer_of (Ok more) m = Ok (then_some more (row_in m))
 answer_of (Err e) m = Err e
 
 -- The answer of a merge that has not failed.

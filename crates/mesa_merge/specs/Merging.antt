@@ -1,5 +1,5 @@
 -- Merging inputs row by row.
-use Rattle.std.specs.Prelude.{◌≡◌, ℕ, zero, suc, ◌<◌, ◌≤◌, List, [], ◌∷◌, ◌++◌, length, get_or, Bool, Option, None, Some, true, false, ⊤}
+use Rattle.std.specs.Prelude.{◌≡◌, ℕ, zero, suc, ◌<◌, ◌≤◌, List, [], ◌∷◌, ◌++◌, length, get_or, Option, true, ⊤}
 use Rattle.std.specs.List.{AllByRecursion}
 use Rattle.std.specs.Ordering.{is_ge}
 use Rattle.mesa_key.specs.Order.{byte_cmp}
@@ -13,11 +13,6 @@ use Rattle.mesa_cursor.specs.declared.cursor.Cursor.{Cursor}
 use Rattle.mesa_cursor.specs.Cursors.{HasGiven, IsReady}
 use Rattle.mesa_merge.specs.Hands.{IsAhead, IsFrom, hands_of}
 use Rattle.mesa_merge.specs.Inputs.{AreAlike, knowns_of}
-
--- the row that was given, where one was
-abbrev pub given_if : Bool → Row → Option Row
-given_if true row = Some row
-given_if false row = None
 
 -- each input has given just these rows
 abbrev pub HasGivens : {R : Type 0} → (R → Option (List ℕ)) → List (Input R) → List Cursor → List (List Row) → Type 0

@@ -1,5 +1,6 @@
 // The next row of a merge.
 ghost use Rattle.std.specs.Prelude.{◌≡◌, ◌<◌, ◌++◌, ◌∷◌, [], ℕ, List, length, IfOk, OnOk, IfErr, IfSome, IfNone, get_or};
+ghost use Rattle.std.specs.Bool.{then_some};
 ghost use Rattle.std.specs.List.{AllByRecursion};
 ghost use Rattle.mesa_file.specs.declared.damage.Damage.{Damage as AnyDamage};
 ghost use Rattle.mesa_schema.specs.declared.rows.Row.{Row as AnyRow};
@@ -14,7 +15,7 @@ ghost use Rattle.mesa_merge.specs.Faults.{HaveFaultCause, faults_of};
 ghost use Rattle.mesa_merge.specs.Hands.{hands_of};
 ghost use Rattle.mesa_merge.specs.Inputs.{AreAlike, AreAll, AreTold, knowns_of, lifted_parts};
 ghost use Rattle.mesa_merge.specs.Matches.{IsTree};
-ghost use Rattle.mesa_merge.specs.Merging.{HasGivens, IsMerging, given_if};
+ghost use Rattle.mesa_merge.specs.Merging.{HasGivens, IsMerging};
 
 use crate::gathering::gather;
 use crate::heads::take_head;
@@ -64,9 +65,9 @@ pub(crate) fn next_row<R: FileReader>(
     requires tree { IsTree (hands_of cursors.old) tree.old }
     requires merging { (s : Columns) × (givens : List (List AnyRow)) × (0 < length inputs.old → aggs.now ≡ aggs_of s) × IsMerging R.bytes s inputs.old cursors.old givens }
     ensures tree { OnOk result (IsTree (hands_of cursors.new) tree.new) }
-    ensures some { IfOk result (λ more. IfSome (given_if more row.new) (λ given. (s : Columns) (givens : List (List AnyRow)) → (0 < length inputs.old → aggs.now ≡ aggs_of s) → IsMerging R.bytes s inputs.old cursors.old givens
+    ensures some { IfOk result (λ more. IfSome (then_some more row.new) (λ given. (s : Columns) (givens : List (List AnyRow)) → (0 < length inputs.old → aggs.now ≡ aggs_of s) → IsMerging R.bytes s inputs.old cursors.old givens
         → (after : List (List AnyRow)) × IsMerging R.bytes s inputs.new cursors.new after × (folded (aggs_of s) after ≡ folded (aggs_of s) givens ++ given ∷ []) × IsRowOf s given)) }
-    ensures none { IfOk result (λ more. IfNone (given_if more row.new) ((s : Columns) (givens : List (List AnyRow)) → IsMerging R.bytes s inputs.old cursors.old givens → AreAll (knowns_of R.bytes inputs.new) givens × IsMerging R.bytes s inputs.new cursors.new givens)) }
+    ensures none { IfOk result (λ more. IfNone (then_some more row.new) ((s : Columns) (givens : List (List AnyRow)) → IsMerging R.bytes s inputs.old cursors.old givens → AreAll (knowns_of R.bytes inputs.new) givens × IsMerging R.bytes s inputs.new cursors.new givens)) }
     ensures known { knowns_of R.bytes inputs.new ≡ knowns_of R.bytes inputs.old }
     ensures inputs { AllByRecursion (IsInput R.bytes) inputs.old → AllByRecursion (IsInput R.bytes) inputs.new }
     ensures cause { HaveFaultCause (λ e. e ≡ file_error.Read) (faults_of R.faults inputs.old) (faults_of R.faults inputs.new) result }

@@ -1,4 +1,5 @@
 use Rattle.std.proofs.Common.{◌≡◌, ◌<◌, [], List, length, refl, sym, ◌∙◌, ap, subst, arith}
+use Rattle.std.specs.Bool.{then_some}
 use Rattle.std.specs.List.{AllByRecursion}
 use Rattle.mesa_schema.specs.Columns.{aggs_of}
 use Rattle.mesa_schema.specs.Folded.{rows_of}
@@ -10,7 +11,7 @@ use Rattle.mesa_merge.specs.Faults.{faults_of}
 use Rattle.mesa_merge.specs.Hands.{hands_of}
 use Rattle.mesa_merge.specs.Inputs.{AreAll, AreTold, knowns_of, lifted_parts}
 use Rattle.mesa_merge.specs.Matches.{IsTree}
-use Rattle.mesa_merge.specs.Merging.{IsMerging, given_if}
+use Rattle.mesa_merge.specs.Merging.{IsMerging}
 use Rattle.mesa_merge.proofs.Answering.{answered, answered_cause, answered_not}
 use Rattle.mesa_merge.proofs.Cases.{if_err, if_none, if_ok2, if_some}
 use Rattle.mesa_merge.proofs.Causing.{cause_kept}
@@ -42,13 +43,13 @@ returns g c =
     let ec = refill m.cursors.len m.cursors.items c.next_row.new.cursors (sym m.cursors.ok.0) (c.next_row.auto.cursors ∙ ap length c.deref_mut-2.ensures.value) in
     record {
       some =
-          answered c.next_row.result _ _ (if_ok2 c.next_row.result _ _ _ (λ more tree some. if_some (given_if more c.next_row.new.row) _ _ (λ row some s givens h.
+          answered c.next_row.result _ _ (if_ok2 c.next_row.result _ _ _ (λ more tree some. if_some (then_some more c.next_row.new.row) _ _ (λ row some s givens h.
           let merging = subst (λ is. IsMerging bytes s is c.deref_mut-2.result.now givens) (sym c.deref_mut.ensures.value) (subst (λ cs. IsMerging bytes s m.inputs.items cs givens) (sym c.deref_mut-2.ensures.value) (h.merging c.requires.3)) in
           let next = some s givens (λ any. c.deref.ensures.value ∙ h.columns (subst (λ is. 0 < length is) c.deref_mut.ensures.value any)) merging in
           let columns : 0 < length c.next_row.new.inputs → m.aggs.items ≡ aggs_of s = λ any. h.columns (omega (arith, any, c.next_row.auto.inputs, ap length c.deref_mut.ensures.value)) in
           (next.0, merged_with bytes s _ c.next_row.new.inputs c.next_row.new.cursors c.next_row.new.tree next.0 ei ec refl c.requires.3 h.going columns tree next.1, next.2, next.3)) some) c.next_row.ensures.tree c.next_row.ensures.some);
       none =
-          answered c.next_row.result _ _ (if_ok2 c.next_row.result _ _ _ (λ more tree none. if_none (given_if more c.next_row.new.row) _ _ (λ none s givens h.
+          answered c.next_row.result _ _ (if_ok2 c.next_row.result _ _ _ (λ more tree none. if_none (then_some more c.next_row.new.row) _ _ (λ none s givens h.
           let merging = subst (λ is. IsMerging bytes s is c.deref_mut-2.result.now givens) (sym c.deref_mut.ensures.value) (subst (λ cs. IsMerging bytes s m.inputs.items cs givens) (sym c.deref_mut-2.ensures.value) (h.merging c.requires.3)) in
           let all = none s givens merging in
           let columns : 0 < length c.next_row.new.inputs → m.aggs.items ≡ aggs_of s = λ any. h.columns (omega (arith, any, c.next_row.auto.inputs, ap length c.deref_mut.ensures.value)) in
