@@ -10,6 +10,7 @@ use Rattle.mesa_schema.specs.Changes.{columns_at, epoch_of}
 use Rattle.mesa_schema.specs.declared.rows.Row.{Row}
 use Rattle.mesa_disk.specs.Image.{Image, file_of}
 use Rattle.mesa_disk.specs.Story.{Story}
+use Rattle.mesa_delta.specs.mesa_block.Layout.{Layout}
 use Rattle.mesa_delta.specs.declared.error.FileError.{FileError}
 use Rattle.mesa_delta.specs.declared.error.FileError.TheVariants as file_error
 use Rattle.mesa_delta.specs.File.{IsFile}
@@ -29,6 +30,10 @@ use Rattle.mesa_tasks.specs.declared.opening.Wanted.{Wanted}
 -- the columns of a wanted file's rows
 abbrev pub wanted_columns : Wanted → Columns
 wanted_columns w = columns_at w.evolving.now.value w.epoch
+
+-- and how they stand in its blocks
+abbrev pub wanted_layout : Wanted → Layout
+wanted_layout w = file_layout (wanted_columns w) w.file.now
 
 -- A wanted file's epoch is one that its table had.
 abbrev pub HasEpoch : Wanted → Type 0
@@ -75,7 +80,7 @@ HasBytes bytes told id reader = (i : Image) → told ≡ Some i → (b : List �
 
 -- An index is what a tail with the recorded digest tells.
 abbrev pub IsRecordedIndex : {R : Type 0} → Wanted → Input R → Type 0
-IsRecordedIndex w i = (tail : List ℕ) × IsIndexOf w.file.now (file_layout (wanted_columns w) w.file.now) tail (index_of i.reader) × (sha256 tail ≡ w.file.now.digest)
+IsRecordedIndex w i = (tail : List ℕ) × IsIndexOf w.file.now (wanted_layout w) tail (index_of i.reader) × (sha256 tail ≡ w.file.now.digest)
 
 -- An input of a wanted file, whose tail is the recorded one. Its reader has not failed.
 pub record IsOpened {R : Type 0} (bytes : R → Option (List ℕ)) (faults : R → ℕ) (told : Option Image) (w : Wanted) (i : Input R) : Type 0 where
