@@ -1,6 +1,6 @@
 -- A file's rows one by one.
 use Rattle.std.proofs.Common.{◌≡◌, ℕ, ◌≤◌, List, [], ◌∷◌, ◌++◌, length, sym, ap, subst, ◌∙◌, arith, append_assoc}
-use Rattle.std.specs.Prelude.{Option, None, Some, IfNone, Err}
+use Rattle.std.specs.Prelude.{Option, Err}
 use Rattle.mesa_disk.specs.mesa_fault.Causes.{HasFaultCause, Rose}
 use Rattle.mesa_schema.specs.declared.rows.Row.{Row}
 use Rattle.mesa_schema.specs.declared.lifting.Lift.{Lift}
@@ -31,26 +31,6 @@ taken bytes i was now given row hand lift next h = record {
 pub form_in : (s : Columns) (front : List Row) (row : Row) (rows : List Row) → AreRowsOf s (front ++ row ∷ rows) → IsRowOf s row
 form_in s [] row rows all = all.0
 form_in s (x ∷ front) row rows all = form_in s front row rows all.1
-
--- nothing is at hand, and then too
-pub still : {R : Type 0} (bytes : R → Option (List ℕ)) (i : Input R) (was now : Cursor) (given : List Row) → at_hand was ≡ [] → at_hand now ≡ [] → lift_of now ≡ lift_of was → next_of now ≡ next_of was
-    → HasGiven bytes i was given → HasGiven bytes i now given
-still bytes i was now given none end lift next h = record {
-  parts = h.parts;
-  input = h.input;
-  lifts = subst (λ (l : Lift). Lifts l i.evolving.value i.epoch) (sym lift) h.lifts;
-  read = h.read;
-  next = next ∙ h.next;
-  within = h.within;
-  few = omega (arith, ap length end);
-  rows = ap (λ rows. given ++ rows) (end ∙ sym none) ∙ h.rows;
-  whole = h.whole;
-  again = h.again;
-}
-
-pub if_none_then : {X P Q : Type 0} (o : Option X) → IfNone o P → (P → Q) → IfNone o Q
-if_none_then None p f = f p
-if_none_then (Some x) p f = tt
 
 -- one read after another of the same file
 pub same_input : {R : Type 0} (bytes : R → Option (List ℕ)) (a b d : Input R) → IsSameInput bytes a b → IsSameInput bytes b d → IsSameInput bytes a d

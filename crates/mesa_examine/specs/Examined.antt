@@ -9,7 +9,7 @@ use Rattle.mesa_disk.specs.mesa_file.declared.file_ref.FileRef.{FileRef}
 use Rattle.mesa_disk.specs.Image.{Image, file_of}
 use Rattle.mesa_delta.specs.File.{IsFile, file_bytes}
 use Rattle.mesa_delta.specs.Summary.{IsReferenceOf}
-use Rattle.mesa_tasks.specs.Opening.{wanted_columns}
+use Rattle.mesa_tasks.specs.Opening.{wanted_layout}
 use Rattle.mesa_tasks.specs.declared.opening.Wanted.{Wanted}
 use Rattle.mesa_examine.specs.Sums.{AreSumsOf, counted}
 use Rattle.mesa_examine.specs.Tallies.{IsToldOf}
@@ -24,9 +24,9 @@ AreSumsIn w rows sums = AreSumsOf w.evolving.now.value w.epoch rows sums
 -- An image has a wanted file, of which the reference is true, and its rows add up to these sums; or what it has, if anything, is no file of the reference.
 abbrev pub IsExaminedAs : Image → Wanted → Option Sums → Type 0
 IsExaminedAs i w (Some sums) =
-    (rows : List Row) × (file_of i w.file.now.id ≡ Some (file_bytes (wanted_columns w) rows)) × IsFile (wanted_columns w) rows (file_bytes (wanted_columns w) rows)
-    × IsReferenceOf (wanted_columns w) w.file.now.id rows w.file.now × AreSumsIn w rows sums
-IsExaminedAs i w None = (b : List ℕ) (rows : List Row) → file_of i w.file.now.id ≡ Some b → IsFile (wanted_columns w) rows b → IsReferenceOf (wanted_columns w) w.file.now.id rows w.file.now → ⊥
+    (rows : List Row) × (file_of i w.file.now.id ≡ Some (file_bytes (wanted_layout w) rows)) × IsFile (wanted_layout w) rows (file_bytes (wanted_layout w) rows)
+    × IsReferenceOf (wanted_layout w) w.file.now.id rows w.file.now × AreSumsIn w rows sums
+IsExaminedAs i w None = (b : List ℕ) (rows : List Row) → file_of i w.file.now.id ≡ Some b → IsFile (wanted_layout w) rows b → IsReferenceOf (wanted_layout w) w.file.now.id rows w.file.now → ⊥
 
 -- The reference tells these rows, and the sums are those of the rows and of the rows as they are lifted to the present columns; or it doesn't.
 abbrev pub AreJudged : Columns → Columns → Lift → FileRef → List Row → Option Sums → Type 0

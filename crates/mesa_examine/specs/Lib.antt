@@ -1,3 +1,4 @@
+pub mod Aggregates
 pub mod Sums
 pub mod Tallies
 pub mod Examined

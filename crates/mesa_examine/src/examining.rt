@@ -23,7 +23,7 @@ use mesa_cursor::Cursor;
 use mesa_delta::{FileError, Input};
 use mesa_disk::{Disk, FileReader, FileRef, Made};
 use mesa_list::TryCopy;
-use mesa_schema::{Evolving, Lift, Schema};
+use mesa_schema::{Evolving, Lift, Row, Schema};
 use mesa_tasks::{Met, Wanted, open_one, retire_input};
 use std::alloc::{AllocError, Global};
 use std::sync::Arc;
@@ -119,15 +119,16 @@ fn tally_rows<R: FileReader>(
     ensures accepts { IfErr result (λ e. (d : AnyDamage) → e ≡ file_error.Damaged d → (b : List ℕ) (all : List AnyRow) → R.bytes (reader_in input.old) ≡ Some b → IsIndexed (index_of input.old.reader) all b → ⊥) }
 {
     let mut cursor = Cursor::of(alloc, input)?;
+    let mut row = Row::empty(alloc);
     'rows: for _ in 0..u64::MAX {
-        let next = match next_row(&mut cursor, input) {
-            Ok(next) => next,
+        let more = match next_row(&mut cursor, input, &mut row) {
+            Ok(more) => more,
             Err(error) => return Err(error),
         };
-        let Some(row) = next else {
+        if !more {
             return Ok(());
-        };
-        tally.add(own, lift, row)?;
+        }
+        tally.add(own, lift, &row)?;
     }
     Err(FileError::Memory)
 }

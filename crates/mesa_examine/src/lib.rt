@@ -1,6 +1,7 @@
 //! Files examined: whether a file is the recorded one, and what the absolute values of its rows add up to.
 #![tactic(auto)]
 
+mod aggregate;
 mod error;
 mod examining;
 mod matching;

@@ -4,6 +4,7 @@ ghost use Rattle.mesa_schema.specs.declared.rows.Row.{Row as AnyRow};
 ghost use Rattle.mesa_schema.specs.Columns.{Columns};
 ghost use Rattle.mesa_examine.specs.Tallies.{AreEnds, IsToldOf};
 
+use crate::aggregate::Aggregate;
 use crate::tally::Ends;
 use mesa_disk::FileRef;
 use mesa_value::Amount;
@@ -21,14 +22,14 @@ impl Ends {
 }
 
 // Whether the numbers are the same.
-fn are_same(recorded: &[Amount], found: &[i128]) -> bool
+fn are_same(recorded: &[Amount], found: &[Aggregate]) -> bool
     ensures { IsTrue result ↔ (recorded.now ≡ found.now) }
 {
     if recorded.len() != found.len() {
         return false;
     }
     for i in 0..found.len() {
-        if recorded[i] as i128 != found[i] {
+        if !found[i].is(recorded[i]) {
             return false;
         }
     }

@@ -1,5 +1,6 @@
 // A file's rows one by one.
 ghost use Rattle.std.specs.Prelude.{◌≡◌, [], ◌∷◌, ◌++◌, ℕ, List, IfOk, IfErr, IfSome, IfNone, Some};
+ghost use Rattle.std.specs.Bool.{then_some};
 ghost use Rattle.mesa_tasks.specs.mesa_cursor.Cursors.{HasGiven, IsAllOf, IsInput, IsSameInput, reader_in};
 ghost use Rattle.mesa_disk.specs.mesa_fault.Causes.{HasFaultCause};
 ghost use Rattle.mesa_disk.specs.mesa_file.declared.damage.Damage.{Damage as AnyDamage};
@@ -14,14 +15,15 @@ use mesa_delta::{FileError, Input};
 use mesa_disk::FileReader;
 use mesa_schema::Row;
 
-/// The next row of an input, lifted to the present; None at its end. Beside it at most a block of the file is held.
+/// Puts the next row of an input, lifted to the present, into this one, in the room that it has: whether there is one. Beside it at most a block of the file is held. After an Err the row may hold anything.
 pub fn next_row<R: FileReader>(
     cursor: &mut Cursor,
     input: &mut Input<R>,
-) -> Result<Option<Row>, FileError>
+    row: &mut Row,
+) -> Result<bool, FileError>
     // What was given grows by the row, or it is all of the input.
-    ensures some { IfOk result (λ o. IfSome o (λ row. (given : List AnyRow) → HasGiven R.bytes input.old cursor.old given → HasGiven R.bytes input.new cursor.new (given ++ row ∷ []) × IsRowOf (columns_of input.old.evolving.value) row)) }
-    ensures none { IfOk result (λ o. IfNone o ((given : List AnyRow) → HasGiven R.bytes input.old cursor.old given → HasGiven R.bytes input.new cursor.new given × IsAllOf R.bytes input.new given)) }
+    ensures some { IfOk result (λ more. IfSome (then_some more row.new) (λ next. (given : List AnyRow) → HasGiven R.bytes input.old cursor.old given → HasGiven R.bytes input.new cursor.new (given ++ next ∷ []) × IsRowOf (columns_of input.old.evolving.value) next)) }
+    ensures none { IfOk result (λ more. IfNone (then_some more row.new) ((given : List AnyRow) → HasGiven R.bytes input.old cursor.old given → HasGiven R.bytes input.new cursor.new given × IsAllOf R.bytes input.new given)) }
 
     // The input stays one, of the same file.
     ensures input { IsInput R.bytes input.old → IsInput R.bytes input.new }
@@ -38,5 +40,10 @@ pub fn next_row<R: FileReader>(
     }
     cursor.rises(input);
     cursor.ends(input);
-    Ok(cursor.take())
+    let Some(head) = cursor.head() else {
+        return Ok(false);
+    };
+    row.fill(head)?;
+    cursor.step();
+    Ok(true)
 }

@@ -1,25 +1,25 @@
 // What the rows of a file come to, tallied row by row.
-ghost use Rattle.std.specs.Prelude.{◌≡◌, ◌<◌, [], ◌∷◌, ◌++◌, ℕ, List, length, map, IfOk, OnOk, IfSome};
-ghost use Rattle.mesa_value.specs.Agg.{combined};
+ghost use Rattle.std.specs.Prelude.{◌≡◌, ◌<◌, [], ◌∷◌, ◌++◌, ℕ, List, length, map, IfOk, OnOk};
 ghost use Rattle.mesa_schema.specs.declared.rows.Row.{Row as AnyRow};
 ghost use Rattle.mesa_schema.specs.declared.lifting.Lift.{Lift as AnyLift};
 ghost use Rattle.mesa_schema.specs.Columns.{Columns};
-ghost use Rattle.mesa_delta.specs.Summary.{all_noted, noted};
+ghost use Rattle.mesa_delta.specs.Summary.{all_noted};
 ghost use Rattle.mesa_delta.specs.Totals.{added};
 ghost use Rattle.mesa_examine.specs.Tallies.{AreEnds, Tallies};
 
+use crate::aggregate::Aggregate;
 use crate::totals::{add_absolutes, no_totals};
 use mesa_schema::{Lift, Row, Schema, ValueColumn};
-use mesa_value::{Agg, Amount};
+use mesa_value::Amount;
 use std::alloc::{AllocError, Global};
 
-/// How many rows there are, their first and last key, and for each value column its aggregate, which may pass 64 bits before all rows are in.
+/// How many rows there are, their first and last key, and for each value column its aggregate.
 #[derive(Drop)]
 pub(crate) struct Ends {
     pub rows: u64,
     pub first: Vec<u8>,
     pub last: Vec<u8>,
-    pub aggregates: Vec<i128>,
+    pub aggregates: Vec<Aggregate>,
 }
 
 /// That, and the absolute values of each value column added up, of the rows as they are and as they are lifted.
@@ -28,6 +28,8 @@ pub(crate) struct Tally {
     pub ends: Ends,
     pub own: Vec<u128>,
     pub present: Vec<u128>,
+    // Room for a row as it is lifted.
+    lifted: Row,
 }
 
 impl Tally {
@@ -41,18 +43,19 @@ impl Tally {
             ends: Ends::new(alloc),
             own,
             present,
+            lifted: Row::empty(alloc),
         })
     }
 
     /// One row more.
-    pub fn add(&mut self, schema: &Schema, lift: &Lift, row: Row) -> Result<(), AllocError>
-        requires { length row.values ≡ length schema.now.values }
-        ensures { OnOk result ((present : ℕ) (rows : List AnyRow) → Tallies schema.now lift.now present self.old rows → Tallies schema.now lift.now present self.new (rows ++ row ∷ [])) }
+    pub fn add(&mut self, schema: &Schema, lift: &Lift, row: &Row) -> Result<(), AllocError>
+        requires { length row.now.values ≡ length schema.now.values }
+        ensures { OnOk result ((present : ℕ) (rows : List AnyRow) → Tallies schema.now lift.now present self.old rows → Tallies schema.now lift.now present self.new (rows ++ row.now ∷ [])) }
     {
-        self.ends.add(schema, &row)?;
+        self.ends.add(schema, row)?;
         add_absolutes(&mut self.own, row.values.as_slice());
-        let lifted = lift.row(row)?;
-        add_absolutes(&mut self.present, lifted.values.as_slice());
+        lift.put(row.lend(), &mut self.lifted)?;
+        add_absolutes(&mut self.present, self.lifted.values.as_slice());
         Ok(())
     }
 }
@@ -123,31 +126,9 @@ fn put_bytes(out: &mut Vec<u8>, bytes: &[u8]) -> Result<(), AllocError>
     Ok(())
 }
 
-// A column's aggregate of one value.
-fn noted_value(agg: Agg, value: Amount) -> i128
-    ensures { result ≡ noted agg value }
-{
-    match agg {
-        Agg::Replace => 0,
-        Agg::Sum | Agg::Min | Agg::Max => value as i128,
-    }
-}
-
-// A column's aggregate with a value more, if it has 128 bits.
-fn with_value(agg: Agg, aggregate: i128, value: Amount) -> Option<i128>
-    ensures { IfSome result (λ x. x ≡ noted agg (combined agg aggregate value)) }
-{
-    match agg {
-        Agg::Sum => aggregate.checked_add(value as i128),
-        Agg::Min => Some(aggregate.min(value as i128)),
-        Agg::Max => Some(aggregate.max(value as i128)),
-        Agg::Replace => Some(0),
-    }
-}
-
 // The aggregates of one row.
 fn put_noted(
-    aggregates: &mut Vec<i128>,
+    aggregates: &mut Vec<Aggregate>,
     columns: &[ValueColumn],
     values: &[Amount],
 ) -> Result<(), AllocError>
@@ -156,14 +137,14 @@ fn put_noted(
 {
     aggregates.clear();
     for i in 0..columns.len() {
-        aggregates.push(noted_value(columns[i].agg, values[i]))?;
+        aggregates.push(Aggregate::of(columns[i].agg, values[i]))?;
     }
     Ok(())
 }
 
 // The aggregates of one row more.
 fn add_values(
-    aggregates: &mut [i128],
+    aggregates: &mut [Aggregate],
     columns: &[ValueColumn],
     values: &[Amount],
 ) -> Result<(), AllocError>
@@ -173,7 +154,7 @@ fn add_values(
 {
     let count = columns.len().min(aggregates.len());
     for i in 0..count {
-        match with_value(columns[i].agg, aggregates[i], values[i]) {
+        match aggregates[i].with(columns[i].agg, values[i]) {
             Some(aggregate) => aggregates[i] = aggregate,
             None => return Err(AllocError),
         }

@@ -30,11 +30,11 @@ pub(crate) fn add_absolutes(totals: &mut [u128], values: &[Amount])
     ensures each { (j : ℕ) → j < length totals.old → get_or totals.new j 0 ≡ min most (get_or totals.old j 0 + nat_abs (slice_index_or values.now j (pos 0))) }
 {
     for i in 0..totals.len() {
-        totals[i] = totals[i].saturating_add(absolute_at(values, i) as u128);
+        totals[i] = totals[i].saturating_add(absolute_at(values, i));
     }
 }
 
-fn absolute_at(values: &[Amount], column: usize) -> u64
+fn absolute_at(values: &[Amount], column: usize) -> u128
     ensures { result ≡ nat_abs (slice_index_or values.now column (pos 0)) }
 {
     match values.get(column) {

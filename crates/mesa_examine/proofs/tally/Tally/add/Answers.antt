@@ -8,7 +8,7 @@ use Rattle.mesa_examine.proofs.tally.Tally.add.Goals as goal
 
 pub returns : goal.returns
 returns c =
-    let row : Row = c.args.row in
+    let row : Row = c.args.row.now in
     let lifted : Row = lifted_with c.args.lift.now row in
     let own = c.args.self.now.own in
     let present = c.args.self.now.present in
@@ -16,7 +16,8 @@ returns c =
     let present_is : c.deref_mut-2.result.now ≡ present.items = c.deref_mut-2.ensures.value in
     let own_len : length c.add_absolutes.new.totals ≡ own.len = omega (arith, c.add_absolutes.ensures.len, ap length own_is, own.ok) in
     let present_len : length c.add_absolutes-2.new.totals ≡ present.len = omega (arith, c.add_absolutes-2.ensures.len, ap length present_is, present.ok) in
-    let lifted_is : c.as_slice-2.result.now ≡ lifted.values = c.as_slice-2.ensures ∙ ap (λ (r : Row). r.values) c.in_ok-lifted.ensures in
+    let put : c.put.new.lifted ≡ lifted = c.in_ok-put.ensures ∙ ap (lifted_with c.args.lift.now) c.lend.ensures in
+    let lifted_is : c.as_slice-2.result.now ≡ lifted.values = c.as_slice-2.ensures ∙ ap (λ (r : Row). r.values) put in
     λ width rows h. record {
       ends = c.in_ok-add.ensures rows h.ends;
       own = subst (λ (l : List ℕ). AreTotals (length c.args.schema.now.values) l (rows ++ row ∷ [])) (sym (take_at c.add_absolutes.new.totals _ own.len own_len))
