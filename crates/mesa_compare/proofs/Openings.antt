@@ -12,7 +12,7 @@ use Rattle.mesa_delta.specs.Reading.{index_of}
 use Rattle.mesa_delta.specs.declared.input.Input.{Input}
 use Rattle.mesa_cursor.specs.Cursors.{IsInput, lift_by, reader_in}
 use Rattle.mesa_merge.specs.Inputs.{AreAlike, AreTold, IsTold, known_of, knowns_of, lifted_parts}
-use Rattle.mesa_tasks.specs.Opening.{HaveOpened, IsDamageOf, IsOpened, wanted_columns}
+use Rattle.mesa_tasks.specs.Opening.{HaveOpened, IsDamageOf, IsOpened, wanted_columns, wanted_layout}
 use Rattle.mesa_tasks.specs.declared.opening.Wanted.{Wanted}
 use Rattle.mesa_examine.proofs.Judged.{indexed_by}
 use Rattle.mesa_compare.specs.Compared.{HasFile, HaveFiles, IsLiftedTo, present_parts, present_rows}
@@ -54,12 +54,12 @@ module _ {R : Type 0} (bytes : R → Option (List ℕ)) (faults : R → ℕ) (to
     pub one_told : (w : Wanted) (i : Input R) (rows : List Row) → IsOpened bytes faults told w i → HasFile image w rows → IsTold (known_of bytes i) rows
     one_told w i rows o has =
         let read = o.content image is_told in
-        let found : Some read.0 ≡ Some (file_bytes (wanted_columns w) rows) = sym read.1 ∙ has.0 in
-        let same : read.0 ≡ file_bytes (wanted_columns w) rows = cc in
+        let found : Some read.0 ≡ Some (file_bytes (wanted_layout w) rows) = sym read.1 ∙ has.0 in
+        let same : read.0 ≡ file_bytes (wanted_layout w) rows = cc in
         let x = o.index in (
           read.0,
           read.2,
-          indexed_by (index_of i.reader) (wanted_columns w) w.file.now x.0 rows read.0 x.1 (o.input.over read.0 read.2) (subst (IsFile (wanted_columns w) rows) (sym same) has.1) has.2,
+          indexed_by (index_of i.reader) (wanted_layout w) w.file.now x.0 rows read.0 x.1 (o.input.over read.0 read.2) (subst (IsFile (wanted_layout w) rows) (sym same) has.1) has.2,
         )
 
     pub all_told : (ws : List Wanted) (is : List (Input R)) (contents : List (List Row)) → HaveOpened bytes faults told ws is None → HaveFiles image ws contents → AreTold (knowns_of bytes is) contents
@@ -72,7 +72,7 @@ module _ {R : Type 0} (bytes : R → Option (List ℕ)) (faults : R → ℕ) (to
 
     -- and none of them is damaged
     pub not_damaged : (w : Wanted) (rows : List Row) (d : Damage) → IsDamageOf told (wanted_columns w) w.file.now d → HasFile image w rows → ⊥
-    not_damaged w rows d damage has = damage.unsound image is_told (file_bytes (wanted_columns w) rows) rows has.0 has.1 has.2
+    not_damaged w rows d damage has = damage.unsound image is_told (file_bytes (wanted_layout w) rows) rows has.0 has.1 has.2
 
     pub none_damaged : (ws : List Wanted) (is : List (Input R)) (contents : List (List Row)) (d : Damage) → HaveOpened bytes faults told ws is (Some d) → HaveFiles image ws contents → ⊥
     none_damaged [] [] contents d have has = have

@@ -1,10 +1,13 @@
 -- A row more of a stream, or its end.
-use Rattle.std.proofs.Common.{◌≡◌, ℕ, List, [], ◌∷◌, ◌++◌, refl, sym, subst, true, false}
+use Rattle.std.proofs.Common.{◌≡◌, ℕ, List, [], ◌∷◌, ◌++◌, refl, sym, ap, ◌∙◌, subst, true, false}
 use Rattle.std.proofs.lemmas.List.{append-nil}
-use Rattle.std.specs.Prelude.{Option, Some, None, IfSome, IfNone, IsTrue, Bool, not, is_some, option_to_list}
+use Rattle.std.specs.Prelude.{Option, Some, None, IfSome, IfNone, IsTrue, Bool, not, option_map, option_to_list}
+use Rattle.std.specs.Bool.{then_some}
+use Rattle.mesa_schema.specs.declared.rows.LentRow.{LentRow}
 use Rattle.mesa_schema.specs.declared.rows.Row.{Row}
 use Rattle.mesa_schema.specs.Columns.{Columns, aggs_of}
 use Rattle.mesa_schema.specs.Folded.{folded}
+use Rattle.mesa_schema.specs.Lent.{lent}
 use Rattle.mesa_schema.specs.Rows.{IsRowOf}
 use Rattle.mesa_delta.specs.declared.input.Input.{Input}
 use Rattle.mesa_cursor.specs.Cursors.{HasGiven, IsAllOf}
@@ -17,15 +20,18 @@ pub if_none_from : {X : Type 0} (o : Option X) (P : Type 0) → P → IfNone o P
 if_none_from None P p = p
 if_none_from (Some x) P p = tt
 
-pub no_row : {X : Type 0} (o : Option X) (ended : Bool) → is_some o ≡ not ended → IsTrue ended → o ≡ None
-no_row None ended is end = refl
-no_row (Some x) true is end = cc
-no_row (Some x) false is end = cc
+pub no_row : {X : Type 0} (more : Bool) (x : X) → IsTrue (not more) → then_some more x ≡ None
+no_row true x end = cc
+no_row false x end = refl
 
-pub ended : {X : Type 0} (o : Option X) (end : Bool) → is_some o ≡ not end → o ≡ None → IsTrue end
-ended None true is none = refl
-ended None false is none = cc
-ended (Some x) end is none = cc
+pub ended : {X : Type 0} (more : Bool) (x : X) → then_some more x ≡ None → IsTrue (not more)
+ended true x none = cc
+ended false x none = refl
+
+-- a row is lent, where there is one
+pub lent_some : (more : Bool) (r : LentRow) (row : Row) (o : Option LentRow) → o ≡ then_some more r → lent r ≡ row → option_map lent o ≡ then_some more row
+lent_some true r row o is same = ap (option_map lent) is ∙ ap Some same
+lent_some false r row o is same = ap (option_map lent) is
 
 -- What a merge gives next: a row by which its fold grows, or its end.
 pub record GoesOn {R : Type 0} (bytes : R → Option (List ℕ)) (s : Columns) (new : Merge R) (before : List Row) (row : Option Row) : Type 0 where

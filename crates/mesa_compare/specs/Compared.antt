@@ -9,7 +9,7 @@ use Rattle.mesa_delta.specs.File.{IsFile, file_bytes}
 use Rattle.mesa_delta.specs.Summary.{IsReferenceOf}
 use Rattle.mesa_delta.specs.declared.error.FileError.{FileError}
 use Rattle.mesa_delta.specs.declared.error.FileError.TheVariants as file_error
-use Rattle.mesa_tasks.specs.Opening.{wanted_columns}
+use Rattle.mesa_tasks.specs.Opening.{wanted_layout}
 use Rattle.mesa_tasks.specs.declared.opening.Wanted.{Wanted}
 use Rattle.mesa_difference.specs.Difference.{first_difference, next_of}
 use Rattle.mesa_examine.specs.declared.error.CheckError.{CheckError}
@@ -18,7 +18,7 @@ use Rattle.mesa_examine.specs.declared.error.CheckError.TheVariants as check_err
 -- An image has the wanted file: it is the file of these rows, of which the reference is true.
 abbrev pub HasFile : Image → Wanted → List Row → Type 0
 HasFile i w rows =
-    (file_of i w.file.now.id ≡ Some (file_bytes (wanted_columns w) rows)) × IsFile (wanted_columns w) rows (file_bytes (wanted_columns w) rows) × IsReferenceOf (wanted_columns w) w.file.now.id rows w.file.now
+    (file_of i w.file.now.id ≡ Some (file_bytes (wanted_layout w) rows)) × IsFile (wanted_layout w) rows (file_bytes (wanted_layout w) rows) × IsReferenceOf (wanted_layout w) w.file.now.id rows w.file.now
 
 -- each of these files
 abbrev pub HaveFiles : Image → List Wanted → List (List Row) → Type 0

@@ -80,7 +80,7 @@ fn fold_difference<M: Made, D: Disk<M>>(
     match Merge::new(alloc, inputs) {
         Ok(merge) => match own {
             Some(own) => against_file(alloc, disk, merge, own),
-            None => against_none(disk, merge),
+            None => against_none(alloc, disk, merge),
         },
         Err((_, inputs)) => {
             retire_all(disk, inputs);
@@ -91,6 +91,7 @@ fn fold_difference<M: Made, D: Disk<M>>(
 
 // The first key of a merge that has given nothing yet, whose readers are given back.
 fn against_none<M: Made, D: Disk<M>>(
+    alloc: Global,
     disk: &mut D,
     mut merge: Merge<D::Reader>,
 ) -> Result<Option<KeyBytes>, CheckError>
@@ -101,7 +102,7 @@ fn against_none<M: Made, D: Disk<M>>(
     ensures unmoved { Unmoved (D.story disk.old) (D.story disk.new) }
     ensures counted { Counted (D.story disk.old) (D.story disk.new) (is_read_failure result) }
 {
-    let compared = first_key(&mut merge);
+    let compared = first_key(alloc, &mut merge);
     retire_all(disk, merge.into_inputs());
     answer(compared)
 }

@@ -18,9 +18,12 @@ use mesa_delta::{FileError, Input};
 use mesa_disk::FileReader;
 use mesa_examine::next_row;
 use mesa_merge::Merge;
+use mesa_schema::Row;
+use std::alloc::Global;
 
 /// Reads a merge and an input to their ends, where they haven't ended.
 pub(crate) fn finish_both<R: FileReader>(
+    alloc: Global,
     merge: &mut Merge<R>,
     merged: bool,
     cursor: &mut Cursor,
@@ -41,7 +44,7 @@ pub(crate) fn finish_both<R: FileReader>(
         → KeepsBound (aggs_of s) [] (rows_of (lifted_parts (knowns_of R.bytes (inputs_of merge.old)) contents)) → ⊥) }
 {
     finish_merge(merge, merged)?;
-    finish_input(cursor, input, read)
+    finish_input(alloc, cursor, input, read)
 }
 
 /// Reads a merge to its end, if it hasn't ended.
@@ -61,19 +64,20 @@ pub(crate) fn finish_merge<R: FileReader>(
         return Ok(());
     }
     'rows: for _ in 0..u64::MAX {
-        let next = match merge.next() {
-            Ok(next) => next,
+        let more = match merge.next() {
+            Ok(more) => more,
             Err(error) => return Err(error),
         };
-        let Some(_row) = next else {
+        if !more {
             return Ok(());
-        };
+        }
     }
     Err(FileError::Memory)
 }
 
 /// Reads an input to its end, if it hasn't ended.
 pub(crate) fn finish_input<R: FileReader>(
+    alloc: Global,
     cursor: &mut Cursor,
     input: &mut Input<R>,
     ended: bool,
@@ -88,14 +92,15 @@ pub(crate) fn finish_input<R: FileReader>(
     if ended {
         return Ok(());
     }
+    let mut row = Row::empty(alloc);
     'rows: for _ in 0..u64::MAX {
-        let next = match next_row(cursor, input) {
-            Ok(next) => next,
+        let more = match next_row(cursor, input, &mut row) {
+            Ok(more) => more,
             Err(error) => return Err(error),
         };
-        let Some(_row) = next else {
+        if !more {
             return Ok(());
-        };
+        }
     }
     Err(FileError::Memory)
 }

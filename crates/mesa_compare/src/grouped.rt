@@ -55,11 +55,12 @@ pub(crate) fn grouped_difference<R: FileReader>(
         Err(error) => return Err(error),
     };
     let mut cursor = Cursor::of(alloc, own)?;
-    listed_difference(rows.as_slice(), &mut cursor, own)
+    listed_difference(alloc, rows.as_slice(), &mut cursor, own)
 }
 
 // The first key at which rows differ from those of a file, of which nothing was read yet.
 fn listed_difference<R: FileReader>(
+    alloc: Global,
     rows: &[Row],
     cursor: &mut Cursor,
     input: &mut Input<R>,
@@ -72,25 +73,27 @@ fn listed_difference<R: FileReader>(
     ensures cause { HasFaultCause (λ e. e ≡ file_error.Read) (R.faults (reader_in input.old)) (R.faults (reader_in input.new)) result }
     ensures never { IfErr result (λ e. (d : AnyDamage) → e ≡ file_error.Damaged d → (b : List ℕ) (all : List AnyRow) → R.bytes (reader_in input.old) ≡ Some b → IsIndexed (index_of input.old.reader) all b → ⊥) }
 {
+    let mut beside = Row::empty(alloc);
     for row in rows {
-        let beside = match next_row(cursor, input) {
-            Ok(beside) => beside,
+        let read = match next_row(cursor, input, &mut beside) {
+            Ok(read) => read,
             Err(error) => return Err(error),
         };
-        let difference = difference_at(Some(row), beside.as_ref())?;
-        let read = beside.is_none();
-        drop(beside);
+        let one = Some(row.lend());
+        let other = read.then_some(beside.lend());
+        let difference = difference_at(alloc, one, other)?;
         if let Some(key) = difference {
-            finish_input(cursor, input, read)?;
+            finish_input(alloc, cursor, input, !read)?;
             cursor.rises(input);
             return Ok(Some(key));
         }
     }
-    further_key(cursor, input)
+    further_key(alloc, cursor, input)
 }
 
 // The key of the next row of a file, and None at its end: where the rows that were given differ from all of them.
 fn further_key<R: FileReader>(
+    alloc: Global,
     cursor: &mut Cursor,
     input: &mut Input<R>,
 ) -> Result<Option<KeyBytes>, FileError>
@@ -103,16 +106,17 @@ fn further_key<R: FileReader>(
 {
     same_rows_differ_nowhere();
     cursor.rises(input);
-    let beside = match next_row(cursor, input) {
-        Ok(beside) => beside,
+    let mut beside = Row::empty(alloc);
+    let read = match next_row(cursor, input, &mut beside) {
+        Ok(read) => read,
         Err(error) => return Err(error),
     };
-    let difference = difference_at(None, beside.as_ref())?;
-    drop(beside);
+    let other = read.then_some(beside.lend());
+    let difference = difference_at(alloc, None, other)?;
     let Some(key) = difference else {
         return Ok(None);
     };
-    finish_input(cursor, input, false)?;
+    finish_input(alloc, cursor, input, false)?;
     cursor.rises(input);
     Ok(Some(key))
 }

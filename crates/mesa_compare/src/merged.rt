@@ -23,7 +23,7 @@ use mesa_disk::FileReader;
 use mesa_examine::next_row;
 use mesa_key::KeyBytes;
 use mesa_merge::{Merge, all_are_told};
-use mesa_schema::folds_by_key;
+use mesa_schema::{Row, folds_by_key};
 use std::alloc::Global;
 
 /// The first key at which the fold of a merge's inputs differs from the rows of a file, both at present; None where they are the same. The merge has given nothing yet.
@@ -52,26 +52,25 @@ pub(crate) fn merged_difference<R: FileReader>(
     all_are_told();
     folds_by_key();
     let mut cursor = Cursor::of(alloc, input)?;
+    let mut beside = Row::empty(alloc);
     'rows: for _ in 0..u64::MAX {
-        let row = match merge.next() {
-            Ok(row) => row,
+        let given = match merge.next() {
+            Ok(given) => given,
             Err(error) => return Err(error),
         };
-        let beside = match next_row(&mut cursor, input) {
-            Ok(beside) => beside,
+        let read = match next_row(&mut cursor, input, &mut beside) {
+            Ok(read) => read,
             Err(error) => return Err(error),
         };
-        let difference = difference_at(row.as_ref(), beside.as_ref())?;
-        let merged = row.is_none();
-        let read = beside.is_none();
-        drop(row);
-        drop(beside);
+        let one = given.then_some(merge.row());
+        let other = read.then_some(beside.lend());
+        let difference = difference_at(alloc, one, other)?;
         if let Some(key) = difference {
-            finish_both(merge, merged, &mut cursor, input, read)?;
+            finish_both(alloc, merge, !given, &mut cursor, input, !read)?;
             cursor.rises(input);
             return Ok(Some(key));
         }
-        if merged {
+        if !given {
             return Ok(None);
         }
     }
@@ -79,7 +78,10 @@ pub(crate) fn merged_difference<R: FileReader>(
 }
 
 /// The first key that a merge gives, and None where it gives no row: where the fold of its inputs differs from no rows. The merge has given nothing yet.
-pub(crate) fn first_key<R: FileReader>(merge: &mut Merge<R>) -> Result<Option<KeyBytes>, FileError>
+pub(crate) fn first_key<R: FileReader>(
+    alloc: Global,
+    merge: &mut Merge<R>,
+) -> Result<Option<KeyBytes>, FileError>
     requires { (s : Columns) × (givens : List (List AnyRow)) × HasMerged R.bytes s merge.old givens × (folded (aggs_of s) givens ≡ []) }
 
     // Where all files are told and their indexes are true of them, it is the first difference of their rows from none.
@@ -97,12 +99,12 @@ pub(crate) fn first_key<R: FileReader>(merge: &mut Merge<R>) -> Result<Option<Ke
     same_rows_differ_nowhere();
     all_are_told();
     folds_by_key();
-    let row = match merge.next() {
-        Ok(row) => row,
+    let given = match merge.next() {
+        Ok(given) => given,
         Err(error) => return Err(error),
     };
-    let difference = difference_at(row.as_ref(), None)?;
-    drop(row);
+    let one = given.then_some(merge.row());
+    let difference = difference_at(alloc, one, None)?;
     let Some(key) = difference else {
         return Ok(None);
     };

@@ -16,8 +16,8 @@ pub rows-preserved : goal.rows-preserved
 rows-preserved g c =
     let inv = c.rows.invariant in
     let bytes = g.R.FileReader.bytes in
-    let some = rw c.in-Some.is at c.in-Ok.ensures.some in
-    let row : Row = c.in-Some._row in
+    let some = rw c.if-not-more.false at c.in-Ok.ensures.some in
+    let row : Row = c.next_row.new.row in
     record {
       input = c.in-Ok.ensures.input inv.input;
       same = same_input bytes c.args.input.now c.rows.input c.next_row.new.input inv.same c.in-Ok.ensures.same;
@@ -27,10 +27,10 @@ rows-preserved g c =
           (now.0 ++ row ∷ [], subst (HasGiven bytes c.next_row.new.input c.next_row.new.cursor) (append_assoc before now.0 (row ∷ [])) (some (before ++ now.0) now.1).0);
     }
 
-pub returns-in_default-clause-rest : goal.returns-in_default-clause-rest
-returns-in_default-clause-rest g c = λ before h ended.
+pub returns-then-not-more-clause-rest : goal.returns-then-not-more-clause-rest
+returns-then-not-more-clause-rest g c = λ before h ended.
     let now = c.rows.invariant.given before h in
-    let none = rw c.in_default.is at c.in-Ok.ensures.none in
+    let none = rw c.if-not-more.true at c.in-Ok.ensures.none in
     let end = none (before ++ now.0) now.1 in
     (now.0, end.0, end.1, λ t. absurd (false≢true (sym c.if-ended.false ∙ t)))
 

@@ -6,7 +6,7 @@ use Rattle.mesa_schema.specs.Folded.{rows_of}
 use Rattle.mesa_fold.specs.Bound.{KeepsBound}
 use Rattle.mesa_schema.specs.Columns.{aggs_of}
 use Rattle.mesa_merge.specs.Inputs.{AreAll, AreTold, lifted_parts}
-use Rattle.mesa_merge.specs.Merged.{HasMerged, failed_of}
+use Rattle.mesa_merge.specs.Merged.{HasMerged, failed_of, row_in}
 use Rattle.std.specs.Prelude.{Ok, Err}
 use Rattle.mesa_delta.specs.declared.error.FileError.TheVariants.{Memory, Read}
 use Rattle.mesa_compare.proofs.Counting.{failed_after, quiet_after}
@@ -25,8 +25,8 @@ rows-preserved g c =
     let inv = c.rows.invariant in
     let start = c.requires in
     let answer = c.in-Ok.ensures.next (inv.merged start.0 start.1 start.2).2.going in
-    let some = rw c.in-Some.is at answer.some in
-    let row : Row = c.in-Some._row in
+    let some = rw c.if-not-more.false at answer.some in
+    let row : Row = row_in c.next.new.self in
     record {
       known = answer.known ∙ inv.known;
       faults = answer.cause.quiet ∙ inv.faults;
@@ -36,12 +36,12 @@ rows-preserved g c =
           (next.0, now.1 ++ row ∷ [], next.1, next.2 ∙ ap (λ (l : List Row). l ++ row ∷ []) now.3 ∙ append_assoc _ now.1 (row ∷ []));
     }
 
-pub returns-in_default-clause-rest : goal.returns-in_default-clause-rest
-returns-in_default-clause-rest g c = λ s givens h ended.
+pub returns-then-not-more-clause-rest : goal.returns-then-not-more-clause-rest
+returns-then-not-more-clause-rest g c = λ s givens h ended.
     let inv = c.rows.invariant in
     let now = inv.merged s givens h in
     let answer = c.in-Ok.ensures.next now.2.going in
-    let none = rw c.in_default.is at answer.none in
+    let none = rw c.if-not-more.true at answer.none in
     (now.0, now.1, subst (λ ks. AreAll ks now.0) (answer.known ∙ inv.known) (none s now.0 now.2).1, now.3, λ t. absurd (false≢true (sym c.if-ended.false ∙ t)))
 
 pub returns-then-ended-clause-cause : goal.returns-then-ended-clause-cause

@@ -1,9 +1,10 @@
 use Rattle.std.proofs.Common.{◌≡◌, ◌+◌, ◌≤◌, ◌++◌, List, length, map, take, drop, sym, ap, subst, ◌∙◌, arith}
 use Rattle.std.proofs.lemmas.Result.{err_from_is_err_and}
 use Rattle.std.proofs.lemmas.List.{take_all, take-append-drop}
-use Rattle.std.specs.Option.{option_copied}
-use Rattle.std.specs.Prelude.{Option, Some, IsTrue, option_to_list}
+use Rattle.std.specs.Bool.{then_some}
+use Rattle.std.specs.Prelude.{Option, Some, IsTrue, option_map, option_to_list}
 use Rattle.mesa_schema.specs.declared.rows.Row.{Row}
+use Rattle.mesa_schema.specs.Lent.{lent}
 use Rattle.mesa_schema.specs.Rows.{keys_rise}
 use Rattle.mesa_schema.specs.Changes.{columns_of}
 use Rattle.mesa_delta.specs.Reading.{IsIndexed}
@@ -14,7 +15,7 @@ use Rattle.mesa_answer.proofs.Results.{if_err, if_ok}
 use Rattle.mesa_examine.proofs.Streams.{same_input}
 use Rattle.mesa_compare.specs.Compared.{Shows}
 use Rattle.mesa_compare.proofs.Differing.{differs, front_rises, lifts_same, whole_of}
-use Rattle.mesa_compare.proofs.Stepping.{GivesOn, ended, gives_on, no_row}
+use Rattle.mesa_compare.proofs.Stepping.{GivesOn, ended, gives_on, lent_some, no_row}
 use Rattle.mesa_compare.proofs.grouped.listed_difference.Goals as goal
 
 pub loop-row-preserved : goal.loop-row-preserved
@@ -24,9 +25,10 @@ loop-row-preserved g c =
     let rows : List Row = c.args.rows.now in
     let i = c.loop-row.row-index in
     let row : Row = c.row-item.result in
-    let beside : Option Row = c.in-Ok.beside in
+    let beside : Option Row = then_some c.in-Ok.read c.next_row.new.row in
     let by = gives_on bytes c.loop-row.input c.next_row.new.input c.loop-row.cursor c.next_row.new.cursor (columns_of c.loop-row.input.evolving.value) (take i rows) beside inv.read c.in-Ok.ensures.some c.in-Ok.ensures.none in
-    let alike : Some row ≡ beside = (rw c.in_default.is at c.in_ok-difference.ensures.same) ∙ c.as_ref.ensures.value in
+    let lends : option_map lent c.then_some-other.result ≡ beside = lent_some _ _ _ _ c.then_some-other.ensures c.lend-2.ensures in
+    let alike : Some row ≡ beside = ap Some (sym c.lend.ensures) ∙ (rw c.in_default.is at c.in_ok-difference.ensures.same) ∙ lends in
     let more : take i rows ++ option_to_list beside ≡ take (i + 1) rows = ap (λ (o : Option Row). take i rows ++ option_to_list o) (sym alike) ∙ sym (one_more_row i rows row c.loop-row-test.true c.row-item.is) in
     record {
       input = c.in-Ok.ensures.input inv.input;
@@ -56,21 +58,22 @@ returns-in-Some-clause-difference g c = λ b all rises read indexed.
     let rows : List Row = c.args.rows.now in
     let i = c.loop-row.row-index in
     let row : Row = c.row-item.result in
-    let beside : Option Row = c.in-Ok.beside in
+    let beside : Option Row = then_some c.in-Ok.read c.next_row.new.row in
     let front : List Row = take i rows in
     let by : GivesOn bytes c.next_row.new.input c.next_row.new.cursor front beside =
     gives_on bytes c.loop-row.input c.next_row.new.input c.loop-row.cursor c.next_row.new.cursor (columns_of c.loop-row.input.evolving.value) front beside inv.read c.in-Ok.ensures.some c.in-Ok.ensures.none in
-    let more = c.in_ok-finish_input.ensures.rest (front ++ option_to_list beside) by.given (λ t. by.ends (no_row beside c.is_none-read.result c.is_none-read.ensures t)) in
+    let more = c.in_ok-finish_input.ensures.rest (front ++ option_to_list beside) by.given (λ t. by.ends (no_row c.in-Ok.read c.next_row.new.row t)) in
     let given : List Row = (front ++ option_to_list beside) ++ more.0 in
     let total : rows ≡ (front ++ option_to_list (Some row)) ++ drop (i + 1) rows =
     sym (take-append-drop (i + 1) rows) ∙ ap (λ (l : List Row). l ++ drop (i + 1) rows) (one_more_row i rows row c.loop-row-test.true c.row-item.is) in
     let same : IsSameInput bytes c.args.input.now c.finish_input.new.input =
     same_input bytes c.args.input.now c.next_row.new.input c.finish_input.new.input (same_input bytes c.args.input.now c.loop-row.input c.next_row.new.input inv.same c.in-Ok.ensures.same) c.in_ok-finish_input.ensures.same in
     let whole : map (lift_by c.args.input.now) all ≡ given = whole_of bytes c.args.input.now c.finish_input.new.input given all b same more.2 read indexed in
-    let first : Shows c.in-Some.key (Some row) (option_copied c.as_ref.result) = rw c.in-Some.is at c.in_ok-difference.ensures.first in
-    let shows : Shows c.in-Some.key (Some row) beside = λ before ones others one other rises rise. first before ones others one (other ∙ sym c.as_ref.ensures.value) rises rise in
+    let lends : option_map lent c.then_some-other.result ≡ beside = lent_some _ _ _ _ c.then_some-other.ensures c.lend-2.ensures in
+    let first : Shows c.in-Some.key (Some (lent c.lend.result)) (option_map lent c.then_some-other.result) = rw c.in-Some.is at c.in_ok-difference.ensures.first in
+    let shows : Shows c.in-Some.key (Some row) beside = λ before ones others one other rises rise. first before ones others (one ∙ ap Some (sym c.lend.ensures)) (other ∙ sym lends) rises rise in
     let rise : IsTrue (keys_rise (map (lift_by c.args.input.now) all)) = subst (λ (l : List Row). IsTrue (keys_rise l)) (sym whole) (front_rises given (at_hand c.finish_input.new.cursor) (c.rises.ensures.rise given more.1)) in
-    differs front (Some row) beside (drop (i + 1) rows) more.0 rows _ c.in-Some.key shows total (λ e. absurd cc) whole (λ e. more.3 (ended beside c.is_none-read.result c.is_none-read.ensures e)) rises rise
+    differs front (Some row) beside (drop (i + 1) rows) more.0 rows _ c.in-Some.key shows total (λ e. absurd cc) whole (λ e. more.3 (ended c.in-Ok.read c.next_row.new.row e)) rises rise
 
 -- ---- rows of the file behind them
 

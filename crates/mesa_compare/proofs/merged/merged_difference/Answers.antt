@@ -1,24 +1,25 @@
 use Rattle.std.proofs.Common.{◌≡◌, [], ◌∷◌, ◌++◌, List, map, refl, sym, ap, subst, ◌∙◌}
 use Rattle.std.proofs.lemmas.Result.{err_from_is_err_and}
-use Rattle.std.specs.Option.{option_copied}
-use Rattle.std.specs.Prelude.{Option, None, Err, IsTrue, option_to_list}
+use Rattle.std.specs.Bool.{then_some}
+use Rattle.std.specs.Prelude.{Option, None, Err, IsTrue, option_map, option_to_list}
 use Rattle.mesa_schema.specs.declared.rows.Row.{Row}
 use Rattle.mesa_schema.specs.Changes.{columns_of}
 use Rattle.mesa_schema.specs.Columns.{Columns, aggs_of}
 use Rattle.mesa_schema.specs.Folded.{folded, rows_of}
+use Rattle.mesa_schema.specs.Lent.{lent}
 use Rattle.mesa_schema.specs.Rows.{keys_rise}
 use Rattle.mesa_fold.specs.Bound.{KeepsBound}
 use Rattle.mesa_delta.specs.declared.error.FileError.TheVariants.{Memory, Read}
 use Rattle.mesa_delta.specs.Reading.{IsIndexed}
 use Rattle.mesa_cursor.specs.Cursors.{IsSameInput, at_hand, lift_by}
 use Rattle.mesa_merge.specs.Inputs.{AreTold, knowns_of, lifted_parts}
-use Rattle.mesa_merge.specs.Merged.{HasMerged, failed_of, inputs_of}
+use Rattle.mesa_merge.specs.Merged.{HasMerged, failed_of, inputs_of, row_in}
 use Rattle.mesa_difference.specs.Difference.{first_difference}
 use Rattle.mesa_examine.proofs.Streams.{same_input}
 use Rattle.mesa_compare.specs.Compared.{Shows}
 use Rattle.mesa_compare.proofs.Counting.{failed_after, none_failed}
 use Rattle.mesa_compare.proofs.Differing.{differs, fold_of, front_rises, whole_of}
-use Rattle.mesa_compare.proofs.Stepping.{GivesOn, GoesOn, ended, gives_on, goes_on, if_none_from, no_row}
+use Rattle.mesa_compare.proofs.Stepping.{GivesOn, GoesOn, ended, gives_on, goes_on, if_none_from, lent_some, no_row}
 use Rattle.mesa_compare.proofs.merged.merged_difference.Goals as goal
 
 -- ---- the loop
@@ -35,12 +36,14 @@ rows-preserved g c =
     let bytes = g.R.FileReader.bytes in
     let s : Columns = columns_of c.args.input.now.evolving.value in
     let inv = c.rows.invariant in
-    let row : Option Row = c.in-Ok.row in
-    let beside : Option Row = c.in-Ok-next_row.beside in
+    let row : Option Row = then_some c.in-Ok.given (row_in c.next.new.self) in
+    let beside : Option Row = then_some c.in-Ok-next_row.read c.next_row.new.row in
     let answer = c.in-Ok.ensures.next inv.merged.going in
     let on = goes_on bytes s c.rows.merge c.next.new.self inv.givens row inv.merged answer.some answer.none in
     let by = gives_on bytes c.rows.input c.next_row.new.input c.rows.cursor c.next_row.new.cursor (columns_of c.rows.input.evolving.value) inv.given beside inv.read c.in-Ok-next_row.ensures.some c.in-Ok-next_row.ensures.none in
-    let alike : row ≡ beside = sym c.as_ref.ensures.value ∙ (rw c.in_default.is at c.in_ok-difference.ensures.same) ∙ c.as_ref-in-rows.ensures.value in
+    let lends : option_map lent c.then_some-one.result ≡ row = lent_some _ _ _ _ c.then_some-one.ensures c.row.ensures in
+    let lends_beside : option_map lent c.then_some-other.result ≡ beside = lent_some _ _ _ _ c.then_some-other.ensures c.lend.ensures in
+    let alike : row ≡ beside = sym lends ∙ (rw c.in_default.is at c.in_ok-difference.ensures.same) ∙ lends_beside in
     record {
       known = answer.known ∙ inv.known;
       counts = answer.cause.quiet ∙ inv.counts;
@@ -84,7 +87,7 @@ finish_both-requires-clause-merge g c κs within =
     let s : Columns = columns_of c.args.input.now.evolving.value in
     let inv = c.rows.invariant in
     let answer = c.in-Ok.ensures.next inv.merged.going in
-    let on = goes_on bytes s c.rows.merge c.next.new.self inv.givens c.in-Ok.row inv.merged answer.some answer.none in
+    let on = goes_on bytes s c.rows.merge c.next.new.self inv.givens (then_some c.in-Ok.given (row_in c.next.new.self)) inv.merged answer.some answer.none in
     (s, on.after, on.merged)
 
 pub returns-in_err-finish_both-clause-cause : goal.returns-in_err-finish_both-clause-cause
@@ -102,7 +105,7 @@ returns-in_err-finish_both-clause-never g c =
     let s : Columns = columns_of c.args.input.now.evolving.value in
     let inv = c.rows.invariant in
     let answer = c.in-Ok.ensures.next inv.merged.going in
-    let on = goes_on bytes s c.rows.merge c.next.new.self inv.givens c.in-Ok.row inv.merged answer.some answer.none in
+    let on = goes_on bytes s c.rows.merge c.next.new.self inv.givens (then_some c.in-Ok.given (row_in c.next.new.self)) inv.merged answer.some answer.none in
     let known = answer.known ∙ inv.known in
     let same = same_input bytes c.args.input.now c.rows.input c.next_row.new.input inv.same c.in-Ok-next_row.ensures.same in
     rw (p.1, p.2) (λ d is contents b all told read indexed keeps.
@@ -114,14 +117,14 @@ returns-in-Some-clause-difference g c = λ contents b all told read indexed.
     let bytes = g.R.FileReader.bytes in
     let s : Columns = columns_of c.args.input.now.evolving.value in
     let inv = c.rows.invariant in
-    let row : Option Row = c.in-Ok.row in
-    let beside : Option Row = c.in-Ok-next_row.beside in
+    let row : Option Row = then_some c.in-Ok.given (row_in c.next.new.self) in
+    let beside : Option Row = then_some c.in-Ok-next_row.read c.next_row.new.row in
     let answer = c.in-Ok.ensures.next inv.merged.going in
     let on : GoesOn bytes s c.next.new.self (folded (aggs_of s) inv.givens) row = goes_on bytes s c.rows.merge c.next.new.self inv.givens row inv.merged answer.some answer.none in
     let by : GivesOn bytes c.next_row.new.input c.next_row.new.cursor inv.given beside =
     gives_on bytes c.rows.input c.next_row.new.input c.rows.cursor c.next_row.new.cursor (columns_of c.rows.input.evolving.value) inv.given beside inv.read c.in-Ok-next_row.ensures.some c.in-Ok-next_row.ensures.none in
-    let rest = c.in_ok-finish_both.ensures.rest s on.after on.merged (λ t. on.ends (no_row row c.is_none-merged.result c.is_none-merged.ensures t)) in
-    let more = c.in_ok-finish_both.ensures.rows (inv.given ++ option_to_list beside) by.given (λ t. by.ends (no_row beside c.is_none-read.result c.is_none-read.ensures t)) in
+    let rest = c.in_ok-finish_both.ensures.rest s on.after on.merged (λ t. on.ends (no_row c.in-Ok.given (row_in c.next.new.self) t)) in
+    let more = c.in_ok-finish_both.ensures.rows (inv.given ++ option_to_list beside) by.given (λ t. by.ends (no_row c.in-Ok-next_row.read c.next_row.new.row t)) in
     let given : List Row = (inv.given ++ option_to_list beside) ++ more.0 in
     let known = answer.known ∙ inv.known in
     let total : folded (aggs_of s) (lifted_parts (knowns_of bytes (inputs_of c.args.merge.now)) contents) ≡ (inv.given ++ option_to_list row) ++ rest.1 =
@@ -130,27 +133,31 @@ returns-in-Some-clause-difference g c = λ contents b all told read indexed.
     let same : IsSameInput bytes c.args.input.now c.finish_both.new.input =
     same_input bytes c.args.input.now c.next_row.new.input c.finish_both.new.input (same_input bytes c.args.input.now c.rows.input c.next_row.new.input inv.same c.in-Ok-next_row.ensures.same) c.in_ok-finish_both.ensures.same in
     let whole : map (lift_by c.args.input.now) all ≡ given = whole_of bytes c.args.input.now c.finish_both.new.input given all b same more.2 read indexed in
-    let first : Shows c.in-Some.key (option_copied c.as_ref.result) (option_copied c.as_ref-in-rows.result) = rw c.in-Some.is at c.in_ok-difference.ensures.first in
-    let shows : Shows c.in-Some.key row beside = λ front rows others one other rises rise. first front rows others (one ∙ sym c.as_ref.ensures.value) (other ∙ sym c.as_ref-in-rows.ensures.value) rises rise in
+    let lends : option_map lent c.then_some-one.result ≡ row = lent_some _ _ _ _ c.then_some-one.ensures c.row.ensures in
+    let lends_beside : option_map lent c.then_some-other.result ≡ beside = lent_some _ _ _ _ c.then_some-other.ensures c.lend.ensures in
+    let first : Shows c.in-Some.key (option_map lent c.then_some-one.result) (option_map lent c.then_some-other.result) = rw c.in-Some.is at c.in_ok-difference.ensures.first in
+    let shows : Shows c.in-Some.key row beside = λ front rows others one other rises rise. first front rows others (one ∙ sym lends) (other ∙ sym lends_beside) rises rise in
     let rises : IsTrue (keys_rise (folded (aggs_of s) (lifted_parts (knowns_of bytes (inputs_of c.args.merge.now)) contents))) = c.folds_by_key.ensures.rise (aggs_of s) (lifted_parts (knowns_of bytes (inputs_of c.args.merge.now)) contents) in
     let rise : IsTrue (keys_rise (map (lift_by c.args.input.now) all)) = subst (λ (l : List Row). IsTrue (keys_rise l)) (sym whole) (front_rises given (at_hand c.finish_both.new.cursor) (c.rises.ensures.rise given more.1)) in
-    differs inv.given row beside rest.1 more.0 _ _ c.in-Some.key shows total (λ e. rest.4 (ended row c.is_none-merged.result c.is_none-merged.ensures e)) whole (λ e. more.3 (ended beside c.is_none-read.result c.is_none-read.ensures e)) rises rise
+    differs inv.given row beside rest.1 more.0 _ _ c.in-Some.key shows total (λ e. rest.4 (ended c.in-Ok.given (row_in c.next.new.self) e)) whole (λ e. more.3 (ended c.in-Ok-next_row.read c.next_row.new.row e)) rises rise
 
 -- ---- both at their ends
 
-pub returns-then-merged-clause-difference : goal.returns-then-merged-clause-difference
-returns-then-merged-clause-difference g c = λ contents b all told read indexed.
+pub returns-then-not-given-clause-difference : goal.returns-then-not-given-clause-difference
+returns-then-not-given-clause-difference g c = λ contents b all told read indexed.
     let bytes = g.R.FileReader.bytes in
     let s : Columns = columns_of c.args.input.now.evolving.value in
     let inv = c.rows.invariant in
-    let row : Option Row = c.in-Ok.row in
-    let beside : Option Row = c.in-Ok-next_row.beside in
+    let row : Option Row = then_some c.in-Ok.given (row_in c.next.new.self) in
+    let beside : Option Row = then_some c.in-Ok-next_row.read c.next_row.new.row in
     let answer = c.in-Ok.ensures.next inv.merged.going in
     let on : GoesOn bytes s c.next.new.self (folded (aggs_of s) inv.givens) row = goes_on bytes s c.rows.merge c.next.new.self inv.givens row inv.merged answer.some answer.none in
     let by : GivesOn bytes c.next_row.new.input c.next_row.new.cursor inv.given beside =
     gives_on bytes c.rows.input c.next_row.new.input c.rows.cursor c.next_row.new.cursor (columns_of c.rows.input.evolving.value) inv.given beside inv.read c.in-Ok-next_row.ensures.some c.in-Ok-next_row.ensures.none in
-    let alike : row ≡ beside = sym c.as_ref.ensures.value ∙ (rw c.in_default.is at c.in_ok-difference.ensures.same) ∙ c.as_ref-in-rows.ensures.value in
-    let none : row ≡ None = no_row row c.is_none-merged.result c.is_none-merged.ensures c.if-merged.true in
+    let lends : option_map lent c.then_some-one.result ≡ row = lent_some _ _ _ _ c.then_some-one.ensures c.row.ensures in
+    let lends_beside : option_map lent c.then_some-other.result ≡ beside = lent_some _ _ _ _ c.then_some-other.ensures c.lend.ensures in
+    let alike : row ≡ beside = sym lends ∙ (rw c.in_default.is at c.in_ok-difference.ensures.same) ∙ lends_beside in
+    let none : row ≡ None = ap (λ more. then_some more (row_in c.next.new.self)) c.if-not-given.true in
     let given : List Row = inv.given ++ option_to_list beside in
     let same : IsSameInput bytes c.args.input.now c.next_row.new.input = same_input bytes c.args.input.now c.rows.input c.next_row.new.input inv.same c.in-Ok-next_row.ensures.same in
     let total : folded (aggs_of s) (lifted_parts (knowns_of bytes (inputs_of c.args.merge.now)) contents) ≡ given =
