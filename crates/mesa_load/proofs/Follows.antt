@@ -13,26 +13,26 @@ use Rattle.mesa_schema.specs.declared.columns.ValueColumn.{ValueColumn}
 use Rattle.mesa_schema.specs.Columns.{Columns, aggs_of}
 use Rattle.mesa_schema.specs.Folded.{row_combined, combined_from}
 use Rattle.mesa_schema.specs.Rows.{AreRowsOf, IsRowOf}
-use Rattle.mesa_batch.specs.Totals.{abs_total}
+use Rattle.mesa_batch.specs.Totals.{abs_total, sum_bound}
 use Rattle.mesa_block.specs.Rows.{Rise}
 use Rattle.mesa_block.specs.Spelling.{key_of}
 use Rattle.mesa_delta.specs.Summary.{all_noted, aggregates, values_of, AllCombine}
 use Rattle.mesa_delta.specs.Writing.{MayFollow}
 use Rattle.mesa_load.specs.Filing.{AreFileRows}
 
-sum_fits : (o n : ℤ) → nat_abs o + nat_abs n < 2 ^ 63 → Combines Sum o n
+sum_fits : (o n : ℤ) → nat_abs o + nat_abs n < sum_bound → Combines Sum o n
 sum_fits (pos a) (pos b) h = omega (arith, ints)
 sum_fits (pos a) (negsuc b) h = omega (arith, ints)
 sum_fits (negsuc a) (pos b) h = omega (arith, ints)
 sum_fits (negsuc a) (negsuc b) h = omega (arith, ints)
 
-combines_one : (agg : Agg) (o n : ℤ) → (agg ≡ Sum → nat_abs o + nat_abs n < 2 ^ 63) → Combines agg o n
+combines_one : (agg : Agg) (o n : ℤ) → (agg ≡ Sum → nat_abs o + nat_abs n < sum_bound) → Combines agg o n
 combines_one Sum o n h = sum_fits o n (h refl)
 combines_one Min o n h = tt
 combines_one Max o n h = tt
 combines_one Replace o n h = tt
 
-combine_from : (aggs : List Agg) (os ns : List ℤ) → ((c : ℕ) → slice_get aggs c ≡ Some Sum → nat_abs (get_or os c (pos 0)) + nat_abs (get_or ns c (pos 0)) < 2 ^ 63) → AllCombine aggs os ns
+combine_from : (aggs : List Agg) (os ns : List ℤ) → ((c : ℕ) → slice_get aggs c ≡ Some Sum → nat_abs (get_or os c (pos 0)) + nat_abs (get_or ns c (pos 0)) < sum_bound) → AllCombine aggs os ns
 combine_from [] os ns h = tt
 combine_from (g ∷ aggs) [] ns h = tt
 combine_from (g ∷ aggs) (o ∷ os) [] h = tt

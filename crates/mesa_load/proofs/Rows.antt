@@ -17,7 +17,7 @@ use Rattle.mesa_schema.specs.Columns.{Columns, aggs_of, chosen}
 use Rattle.mesa_schema.specs.Folded.{folded, folded_at, keys_of, regrouped, rows_of, with_key}
 use Rattle.mesa_schema.specs.Rows.{keys_rise}
 use Rattle.mesa_schema.specs.Views.{view_key_places, view_rows, view_value_places}
-use Rattle.mesa_batch.specs.Totals.{abs_total, abs_totals, sum_places}
+use Rattle.mesa_batch.specs.Totals.{abs_total, abs_totals, sum_bound, sum_places}
 use Rattle.mesa_block.specs.Rows.{Rise}
 use Rattle.mesa_block.specs.Spelling.{key_of}
 use Rattle.mesa_answer.specs.Answering.{KeepsSums}
@@ -68,20 +68,20 @@ none_any p x xs none = by (p x) none
     by true e = absurd cc
     by false e = (refl, e)
 
-below_bound : (n : ℕ) → nat_le (2 ^ 63) n ≡ false → n < 2 ^ 63
-below_bound n e = grind (arith, le-leb (2 ^ 63) n)
+below_bound : (n : ℕ) → nat_le sum_bound n ≡ false → n < sum_bound
+below_bound n e = grind (arith, le-leb sum_bound n)
 
-bounds : (f : ℕ → ℕ) (aggs : List Agg) (i c : ℕ) → list_any (λ total. nat_le (2 ^ 63) total) (map f (sum_places i aggs)) ≡ false → slice_get aggs c ≡ Some agg.Sum → f (i + c) < 2 ^ 63
+bounds : (f : ℕ → ℕ) (aggs : List Agg) (i c : ℕ) → list_any (λ total. nat_le sum_bound total) (map f (sum_places i aggs)) ≡ false → slice_get aggs c ≡ Some agg.Sum → f (i + c) < sum_bound
 bounds f [] i c none p = absurd cc
-bounds f (agg.Sum ∷ aggs) i zero none p = subst (λ n. f n < 2 ^ 63) (sym (add-zero i)) (below_bound (f i) (none_any (λ total. nat_le (2 ^ 63) total) (f i) (map f (sum_places (i + 1) aggs)) none).0)
+bounds f (agg.Sum ∷ aggs) i zero none p = subst (λ n. f n < sum_bound) (sym (add-zero i)) (below_bound (f i) (none_any (λ total. nat_le sum_bound total) (f i) (map f (sum_places (i + 1) aggs)) none).0)
 bounds f (agg.Min ∷ aggs) i zero none p = absurd cc
 bounds f (agg.Max ∷ aggs) i zero none p = absurd cc
 bounds f (agg.Replace ∷ aggs) i zero none p = absurd cc
-bounds f (agg.Sum ∷ aggs) i (suc c) none p = subst (λ n. f n < 2 ^ 63) (omega arith) (bounds f aggs (i + 1) c (none_any (λ total. nat_le (2 ^ 63) total) (f i) (map f (sum_places (i + 1) aggs)) none).1 p)
-bounds f (agg.Min ∷ aggs) i (suc c) none p = subst (λ n. f n < 2 ^ 63) (omega arith) (bounds f aggs (i + 1) c none p)
-bounds f (agg.Max ∷ aggs) i (suc c) none p = subst (λ n. f n < 2 ^ 63) (omega arith) (bounds f aggs (i + 1) c none p)
-bounds f (agg.Replace ∷ aggs) i (suc c) none p = subst (λ n. f n < 2 ^ 63) (omega arith) (bounds f aggs (i + 1) c none p)
+bounds f (agg.Sum ∷ aggs) i (suc c) none p = subst (λ n. f n < sum_bound) (omega arith) (bounds f aggs (i + 1) c (none_any (λ total. nat_le sum_bound total) (f i) (map f (sum_places (i + 1) aggs)) none).1 p)
+bounds f (agg.Min ∷ aggs) i (suc c) none p = subst (λ n. f n < sum_bound) (omega arith) (bounds f aggs (i + 1) c none p)
+bounds f (agg.Max ∷ aggs) i (suc c) none p = subst (λ n. f n < sum_bound) (omega arith) (bounds f aggs (i + 1) c none p)
+bounds f (agg.Replace ∷ aggs) i (suc c) none p = subst (λ n. f n < sum_bound) (omega arith) (bounds f aggs (i + 1) c none p)
 
 -- rows of which no total passes the bound keep their sums within it
-pub keeps_sums : (s : Columns) (rows : List Row) → list_any (λ total. nat_le (2 ^ 63) total) (abs_totals s rows) ≡ false → KeepsSums s rows
-keeps_sums s rows none c p = subst (λ n. abs_total n rows < 2 ^ 63) (omega arith) (bounds (λ n. abs_total n rows) (aggs_of s) 0 c none p)
+pub keeps_sums : (s : Columns) (rows : List Row) → list_any (λ total. nat_le sum_bound total) (abs_totals s rows) ≡ false → KeepsSums s rows
+keeps_sums s rows none c p = subst (λ n. abs_total n rows < sum_bound) (omega arith) (bounds (λ n. abs_total n rows) (aggs_of s) 0 c none p)

@@ -15,7 +15,7 @@ use Rattle.mesa_schema.specs.Rows.{AreRowsOf, keys_rise}
 use Rattle.mesa_batch.specs.Batch.{Placed, columns_at, rows_for}
 use Rattle.mesa_batch.specs.Gathered.{Batched, columns_for, rows_at}
 use Rattle.mesa_batch.specs.Glance.{Known, Sight, columns_in, tables_of}
-use Rattle.mesa_batch.specs.Totals.{abs_totals, capped}
+use Rattle.mesa_batch.specs.Totals.{abs_totals, capped, sum_bound}
 use Rattle.mesa_tasks.specs.Batches.{Share, is_over, share_of, shares_from}
 use Rattle.mesa_load.specs.Filing.{AreFileRows}
 use Rattle.mesa_load.specs.Jobs.{IsFit, content_in}
@@ -88,11 +88,11 @@ planned_more [] share (q ∷ ps) p all one = absurd all
 planned_more (s ∷ ss) share [] p all one = absurd all
 planned_more (s ∷ ss) share (q ∷ ps) p all one = (all.0, planned_more ss share ps p all.1 one)
 
-capped_over : (totals : List ℕ) → list_any (λ total. nat_le (2 ^ 63) total) (capped totals) ≡ list_any (λ total. nat_le (2 ^ 63) total) totals
+capped_over : (totals : List ℕ) → list_any (λ total. nat_le sum_bound total) (capped totals) ≡ list_any (λ total. nat_le sum_bound total) totals
 capped_over [] = refl
 capped_over (t ∷ ts) =
-    let one : nat_le (2 ^ 63) (min (2 ^ 63) t) ≡ nat_le (2 ^ 63) t = grind (arith, le-leb, leb-true) in
-    ap (λ (b : Bool). b || list_any (λ total. nat_le (2 ^ 63) total) (capped ts)) one ∙ ap (λ (b : Bool). nat_le (2 ^ 63) t || b) (capped_over ts)
+    let one : nat_le sum_bound (min sum_bound t) ≡ nat_le sum_bound t = grind (arith, le-leb, leb-true) in
+    ap (λ (b : Bool). b || list_any (λ total. nat_le sum_bound total) (capped ts)) one ∙ ap (λ (b : Bool). nat_le sum_bound t || b) (capped_over ts)
 
 -- a plan for tables is one for a table more of which the batch has no rows
 pub plan_same : (sight : Sight) (batch : List Placed) (b : Batched) (table : ℕ) (p : Plan) → table < length sight.tables → IsBatched sight batch b → rows_at table b ≡ []
@@ -135,15 +135,15 @@ pub plan_next : FoldsRise → (sight : Sight) (batch : List Placed) (b : Batched
     → IsNextTable sight batch b table l → IsPlan batch (take table sight.tables) old
     → new.parts.items ≡ old.parts.items ++ p ∷ [] → p.table ≡ table → p.views ≡ length l.views → p.totals ≡ capped (abs_totals (columns_for table b) (rows_at table b))
     → map content_in new.jobs.items ≡ map content_in old.jobs.items ++ table_contents l (rows_at table b)
-    → new.over ≡ (old.over || list_any (λ total. nat_le (2 ^ 63) total) p.totals)
+    → new.over ≡ (old.over || list_any (λ total. nat_le sum_bound total) p.totals)
     → (AreFileRows (columns_of l) (rows_at table b) → AllByRecursion IsFit old.jobs.items → AllByRecursion IsFit new.jobs.items)
     → IsPlan batch (take (table + 1) sight.tables) new
 plan_next rises sight batch b table l old new p next plan parts number views same_totals contents over fit =
     let before = shares_from batch 0 (take table sight.tables) in
     let share = share_with table l (rows_at table b) in
     let its : p.totals ≡ capped (abs_totals (columns_of l) (rows_at table b)) = same_totals ∙ ap (λ (c : Columns). capped (abs_totals c (rows_at table b))) next.columns in
-    let passes : list_any (λ total. nat_le (2 ^ 63) total) p.totals ≡ is_over share =
-    ap (λ (ts : List ℕ). list_any (λ total. nat_le (2 ^ 63) total) ts) its ∙ capped_over (abs_totals (columns_of l) (rows_at table b)) in
+    let passes : list_any (λ total. nat_le sum_bound total) p.totals ≡ is_over share =
+    ap (λ (ts : List ℕ). list_any (λ total. nat_le sum_bound total) ts) its ∙ capped_over (abs_totals (columns_of l) (rows_at table b)) in
     let either : new.over ≡ (old.over || is_over share) = over ∙ ap (λ (x : Bool). old.over || x) passes in
     record {
       parts = subst (λ (ps : List Planned). ArePlanned (shares_from batch 0 (take (table + 1) sight.tables)) ps) (sym parts)

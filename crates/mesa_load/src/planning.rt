@@ -3,6 +3,7 @@ ghost use Rattle.std.specs.Prelude.{◌≡◌, ◌<◌, ◌^◌, ◌+◌, ◌++�
 ghost use Rattle.std.specs.List.{AllByRecursion, list_any};
 ghost use Rattle.mesa_schema.specs.Changes.{columns_of};
 ghost use Rattle.mesa_batch.specs.Batch.{Placed as PlacedRow};
+ghost use Rattle.mesa_batch.specs.Totals.{sum_bound};
 ghost use Rattle.mesa_load.specs.Filing.{AreFileRows};
 ghost use Rattle.mesa_load.specs.Jobs.{IsFit, content_in};
 ghost use Rattle.mesa_load.specs.Plans.{IsBatched, IsPlan, table_contents};
@@ -81,7 +82,7 @@ fn add_table<'a>(
 
 // Whether one of these totals passes the bound by itself.
 fn is_over(totals: &Totals) -> bool
-    ensures { result ≡ list_any (λ total. nat_le (2 ^ 63) total) totals.now }
+    ensures { result ≡ list_any (λ total. nat_le sum_bound total) totals.now }
 {
     totals.as_slice().iter().any(|total| *total >= OVER_BOUND)
 }

@@ -53,7 +53,7 @@ fn push_rows<M: Made, T: Draft<M>>(
     ensures cause { HasFaultCause (λ e. e ≡ DraftFault) (T.faults (draft_of writer.old)) (T.faults (draft_of writer.new)) result }
 {
     'rows: for row in rows {
-        writer.push(row)?;
+        writer.push(row.lend())?;
     }
     Ok(())
 }

@@ -6,6 +6,7 @@ use Rattle.std.specs.List.{AllByRecursion, list_any}
 use Rattle.mesa_schema.specs.declared.rows.Row.{Row}
 use Rattle.mesa_schema.specs.Changes.{Lineage, columns_of}
 use Rattle.mesa_batch.specs.Gathered.{rows_at}
+use Rattle.mesa_batch.specs.Totals.{sum_bound}
 use Rattle.mesa_batch.specs.Glance.{Known}
 use Rattle.mesa_load.proofs.Places.{if_some, splits_at}
 use Rattle.mesa_load.proofs.Shares.{next_table, plan_next, plan_same}
@@ -46,7 +47,7 @@ returns c =
     let sight = c.args.glance.now in
     let b = c.args.batch.now in
     let l : Lineage = c.deref-evolving.result.now in
-    let over : c.if-plan.plan ≡ (c.args.plan.now.over || list_any (λ total. nat_le (2 ^ 63) total) c.in_ok-totals.totals) = elim c.if-plan.branch [
+    let over : c.if-plan.plan ≡ (c.args.plan.now.over || list_any (λ total. nat_le sum_bound total) c.in_ok-totals.totals) = elim c.if-plan.branch [
       | then-plan w ↦ either c.args.plan.now.over _ c.if-plan.plan w.if-plan.true (w.plan-is ∙ w.if-plan.true)
       | else-plan w ↦ w.plan-is ∙ w.is_over-plan.ensures ∙ neither c.args.plan.now.over _ w.if-plan.false
     ] in

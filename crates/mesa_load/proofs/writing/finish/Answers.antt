@@ -1,6 +1,6 @@
 use Rattle.std.proofs.Common.{◌≡◌, ℕ, ◌∙◌, refl, sym, subst}
 use Rattle.mesa_delta.specs.Summary.{IsReferenceOf}
-use Rattle.mesa_delta.specs.Writing.{columns_of, id_of}
+use Rattle.mesa_delta.specs.Writing.{id_of, layout_of}
 use Rattle.mesa_load.proofs.writing.finish.Goals as goal
 
 pub returns-clause-made : goal.returns-clause-made
@@ -11,5 +11,5 @@ returns-clause-made g c =
     record {
       rows = record { some = some; good = held.0; rise = held.1; spelled = refl };
       told = λ bytes told. (c.in_ok-made.ensures.file rows taken bytes told).spelled;
-      reference = subst (λ (n : ℕ). IsReferenceOf (columns_of c.args.writer) n rows c.in_ok-made.file) (sym own) (c.in_ok-made.ensures.reference rows taken);
+      reference = subst (λ (n : ℕ). IsReferenceOf (layout_of c.args.writer) n rows c.in_ok-made.file) (sym own) (c.in_ok-made.ensures.reference rows taken);
     }
