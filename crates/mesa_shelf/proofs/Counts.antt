@@ -21,7 +21,7 @@ use Rattle.mesa_schema.proofs.Choices.{chosen-slot}
 use Rattle.mesa_schema.proofs.Maps.{is_some_position, position_map}
 use Rattle.mesa_schema.proofs.Passing.{passed_first, passed_unless}
 use Rattle.mesa_batch.proofs.NameNumbers.{position-within}
-use Rattle.mesa_batch.specs.Totals.{is_sum, over_bound, sum_places}
+use Rattle.mesa_batch.specs.Totals.{is_sum, over_bound, sum_bound, sum_places}
 use Rattle.mesa_list.specs.Bytes.{same_bytes}
 use Rattle.mesa_shelf.specs.Meaning.{widths_of}
 
@@ -52,11 +52,11 @@ none_not (Some x) = refl
 none_not None = refl
 
 -- no total passes its bound
-pub none_over : (totals more : List ℕ) → is_none (over_bound totals more) ≡ not (list_any (λ (p : ℕ × ℕ). nat_le (2 ^ 63) (p.0 + p.1)) (zip totals more))
+pub none_over : (totals more : List ℕ) → is_none (over_bound totals more) ≡ not (list_any (λ (p : ℕ × ℕ). nat_le sum_bound (p.0 + p.1)) (zip totals more))
 none_over totals more =
     none_not (over_bound totals more)
-    ∙ ap (λ o. not (is_some o)) (position_map (λ total. nat_le (2 ^ 63) total) (λ (p : ℕ × ℕ). p.0 + p.1) (zip totals more))
-    ∙ ap not (is_some_position (λ (p : ℕ × ℕ). nat_le (2 ^ 63) (p.0 + p.1)) (zip totals more))
+    ∙ ap (λ o. not (is_some o)) (position_map (λ total. nat_le sum_bound total) (λ (p : ℕ × ℕ). p.0 + p.1) (zip totals more))
+    ∙ ap not (is_some_position (λ (p : ℕ × ℕ). nat_le sum_bound (p.0 + p.1)) (zip totals more))
 
 -- ---- columns of a view
 

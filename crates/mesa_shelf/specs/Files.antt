@@ -6,6 +6,7 @@ use Rattle.mesa_schema.specs.Changes.{Lineage}
 use Rattle.mesa_record.specs.declared.record.ViewRef.{ViewRef}
 use Rattle.mesa_image.specs.Catalog.{Catalog, Delta}
 use Rattle.mesa_image.specs.Fitting.{Shelved, delta_shelved, shelved, view_shelved}
+use Rattle.mesa_image.specs.Sound.{layout_of}
 use Rattle.mesa_image.specs.mesa_delta.Reading.{tail_place}
 use Rattle.mesa_shelf.specs.declared.recorded.Recorded.{Recorded}
 use Rattle.mesa_shelf.specs.declared.table.Loaded.{Loaded}
@@ -17,7 +18,7 @@ RiseFrom least (n ∷ ns) = (least ≤ n) × RiseFrom (n + 1) ns
 
 -- what is recorded of a file
 abbrev pub recorded_of : Shelved → Recorded
-recorded_of x = record { id = x.file.id; len = x.file.len; tail = tail_place x.columns x.file; digest = x.file.digest }
+recorded_of x = record { id = x.file.id; len = x.file.len; tail = tail_place (layout_of x) x.file; digest = x.file.digest }
 
 abbrev pub recorded_id : Recorded → ℕ
 recorded_id r = r.id

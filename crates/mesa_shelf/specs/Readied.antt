@@ -2,6 +2,7 @@
 use Rattle.std.specs.Prelude.{◌≡◌, ℕ, ◌<◌, ◌≤◌, ◌==◌, length, [], Bool, true, false, unwrap_or, vec_len, vec_capacity}
 use Rattle.mesa_batch.specs.Totals.{totals_with}
 use Rattle.mesa_span.specs.Ranges.{end_of}
+use Rattle.mesa_record.specs.mesa_key.declared.Format.TheVariants as format
 use Rattle.mesa_record.specs.declared.record.Files.{Files}
 use Rattle.mesa_record.specs.declared.record.Part.{Part}
 use Rattle.mesa_image.specs.Catalog.{part_delta}
@@ -11,7 +12,7 @@ use Rattle.mesa_shelf.specs.Meaning.{start_of_base}
 
 -- what stands for files that aren't there
 abbrev no_files : Files
-no_files = record { file = record { id = 0; len = 0; rows = 0; blocks = 0; first = []; last = []; aggregates = []; digest = [] }; views = [] }
+no_files = record { file = record { format = format.Two; id = 0; len = 0; rows = 0; blocks = 0; first = []; last = []; aggregates = []; digest = [] }; views = [] }
 
 -- what a batch brings to a table
 abbrev pub part_in : ReadyPart → Part

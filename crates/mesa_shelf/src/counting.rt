@@ -5,7 +5,7 @@ ghost use Rattle.mesa_schema.specs.declared.columns.ValueColumn.{ValueColumn as 
 ghost use Rattle.mesa_schema.specs.Changes.{columns_of, epoch_of};
 ghost use Rattle.mesa_schema.specs.Lineages.{IsLineage};
 ghost use Rattle.mesa_schema.specs.Columns.{aggs_of};
-ghost use Rattle.mesa_batch.specs.Totals.{is_sum as adds, over_bound, sums_in};
+ghost use Rattle.mesa_batch.specs.Totals.{is_sum as adds, over_bound, sum_bound, sums_in};
 ghost use Rattle.mesa_image.specs.Fitting.{files_fit, is_view_ref as fits_view};
 ghost use Rattle.mesa_shelf.specs.Meaning.{widths_of};
 
@@ -72,14 +72,14 @@ pub(crate) fn is_sum(agg: Agg) -> bool
 }
 
 /// Whether none of the totals passes 2^63 - 1 with more.
-pub fn keeps_bound(totals: &[u64], more: &[u64]) -> bool
+pub fn keeps_bound(totals: &[u128], more: &[u128]) -> bool
     ensures { result ≡ is_none (over_bound totals.now more.now) }
 {
     !passes_bound(totals, more)
 }
 
-fn passes_bound(totals: &[u64], more: &[u64]) -> bool
-    ensures { result ≡ list_any (λ (p : ℕ × ℕ). nat_le (2 ^ 63) (p.0 + p.1)) (zip totals.now more.now) }
+fn passes_bound(totals: &[u128], more: &[u128]) -> bool
+    ensures { result ≡ list_any (λ (p : ℕ × ℕ). nat_le sum_bound (p.0 + p.1)) (zip totals.now more.now) }
 {
     totals
         .iter()

@@ -13,7 +13,7 @@ use std::alloc::{AllocError, Global};
 pub fn no_totals(alloc: Global, columns: &[ValueColumn]) -> Result<Totals, AllocError>
     ensures { IfOk result (λ totals. totals ≡ replicate (sums_in (map (λ (c : Column). c.agg) columns.now)) 0) }
 {
-    let zeros = vec![in alloc; 0u64; sums_among(columns)]?;
+    let zeros = vec![in alloc; 0u128; sums_among(columns)]?;
     Ok(Items::from_vec(zeros))
 }
 
@@ -26,8 +26,8 @@ pub fn totals_with(totals: &Totals, more: &Totals) -> Result<Totals, AllocError>
     Ok(Items::from_vec(sums))
 }
 
-fn added(alloc: Global, totals: &[u64], more: &[u64]) -> Result<Vec<u64>, AllocError>
-    ensures { IfOk result (λ sums. sums.items ≡ map (λ (p : ℕ × ℕ). min (2 ^ 64 - 1) (p.0 + p.1)) (zip totals.now more.now)) }
+fn added(alloc: Global, totals: &[u128], more: &[u128]) -> Result<Vec<u128>, AllocError>
+    ensures { IfOk result (λ sums. sums.items ≡ map (λ (p : ℕ × ℕ). min (2 ^ 128 - 1) (p.0 + p.1)) (zip totals.now more.now)) }
 {
     totals
         .iter()

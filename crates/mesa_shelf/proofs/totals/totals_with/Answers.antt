@@ -6,5 +6,5 @@ use Rattle.mesa_shelf.proofs.totals.totals_with.Goals as goal
 pub returns : goal.returns
 returns c =
     c.from_vec.ensures ∙ c.in_ok-sums.ensures
-    ∙ (λ i. map (λ (p : ℕ × ℕ). min (2 ^ 64 - 1) (p.0 + p.1)) (zip (c.as_slice.ensures i) (c.as_slice-2.ensures i)))
+    ∙ (λ i. map (λ (p : ℕ × ℕ). min (2 ^ 128 - 1) (p.0 + p.1)) (zip (c.as_slice.ensures i) (c.as_slice-2.ensures i)))
     ∙ totals_bounded c.args.totals.now c.args.more.now c.requires
