@@ -63,7 +63,7 @@ change_there c table change fits = (both _ _ fits).0
 
 -- the columns of earlier epochs stay
 columns_stay : (l : Lineage) (c : Change) (epoch : ℕ) → epoch ≤ epoch_of l → columns_at (with_change l c) epoch ≡ columns_at l epoch
-columns_stay l c epoch h = ap (columns_after l.first) (take-append-le epoch l.changes (c ∷ []) h)
+columns_stay l c epoch h = ap (columns_after l.first) (take-append-le (epoch - l.begins) l.changes (c ∷ []) (omega (arith, h)))
 
 widths_stay : (l : Lineage) (c : Change) (from n : ℕ) → from + n ≤ epoch_of l + 1
     → map (λ e. length (columns_at (with_change l c) e).values) (range_with_len from n) ≡ map (λ e. length (columns_at l e).values) (range_with_len from n)
@@ -72,8 +72,9 @@ widths_stay l c from (suc n) h = (λ i. length (columns_stay l c from (omega ari
 
 pub widths_changed : (l : Lineage) (c : Change) → widths_of (with_change l c) ≡ widths_of l ++ length (columns_of (with_change l c)).values ∷ []
 widths_changed l c =
-    let count : epoch_of (with_change l c) + 1 ≡ epoch_of l + 1 + 1 = ap (λ n. n + 1) (length_push l.changes c) in
-    let now : columns_at (with_change l c) (epoch_of l + 1) ≡ columns_of (with_change l c) = ap (columns_after l.first) (take_all (epoch_of l + 1) (l.changes ++ c ∷ []) (let e = length_push l.changes c in omega arith)) in
+    let more : length (l.changes ++ c ∷ []) ≡ length l.changes + 1 = length_push l.changes c in
+    let count : epoch_of (with_change l c) + 1 ≡ epoch_of l + 1 + 1 = omega (arith, more) in
+    let now : columns_at (with_change l c) (epoch_of l + 1) ≡ columns_of (with_change l c) = ap (columns_after l.first) (take_all (epoch_of l + 1 - l.begins) (l.changes ++ c ∷ []) (omega (arith, more))) in
     ap (λ n. map (λ e. length (columns_at (with_change l c) e).values) (range_with_len 0 n)) count
     ∙ map-range_with_len_more (λ e. length (columns_at (with_change l c) e).values) 0 (epoch_of l + 1) (epoch_of l + 1) (omega arith)
     ∙ (λ i. widths_stay l c 0 (epoch_of l + 1) (omega arith) i ++ length (now i).values ∷ [])
