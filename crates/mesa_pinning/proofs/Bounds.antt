@@ -17,7 +17,7 @@ use Rattle.mesa_schema.specs.declared.rows.Row.{Row}
 use Rattle.mesa_schema.specs.declared.views.View.{View}
 use Rattle.mesa_schema.proofs.Lists.{all_found}
 use Rattle.mesa_batch.proofs.NameNumbers.{position-within}
-use Rattle.mesa_batch.specs.Totals.{abs_total}
+use Rattle.mesa_batch.specs.Totals.{abs_total, sum_bound}
 use Rattle.mesa_fold.proofs.Merged.{folds_totals}
 use Rattle.mesa_filter.specs.Query.{are_places}
 use Rattle.mesa_query.specs.mesa_answer.Answering.{KeepsSums}
@@ -141,11 +141,11 @@ module _ (rows : Rows) (l : Lineage) (number : ℕ) (v : View) (there : slice_ge
       let whole = rows_of (map (present rows l) ds) in
       let same : aggs_of (view_columns s v) ≡ chosen (view_value_places s v) (aggs_of s) = chosen-map (λ (k : ValueColumn). k.agg) (view_value_places s v) s.values in
       let mine : slice_get (chosen (view_value_places s v) (aggs_of s)) c ≡ Some Sum = subst (λ (gs : List Agg). slice_get gs c ≡ Some Sum) same sum in
-      let bound : 0 + abs_total c (under_view s v whole) < 2 ^ 63 = bound_regrouped s (view_key_places s v) (view_value_places s v) whole (value_places s v) (rows_formed rows l ds form) keeps c mine in
+      let bound : 0 + abs_total c (under_view s v whole) < sum_bound = bound_regrouped s (view_key_places s v) (view_value_places s v) whole (value_places s v) (rows_formed rows l ds form) keeps c mine in
       let most = view_at_most c mine ds all form in
       below _ _ most bound
     where
-      below : (a b : ℕ) → a ≤ b → 0 + b < 2 ^ 63 → a < 2 ^ 63
+      below : (a b : ℕ) → a ≤ b → 0 + b < sum_bound → a < sum_bound
       below a b p q = omega (arith, p, q)
 
 -- ---- a relation

@@ -9,6 +9,7 @@ use Rattle.mesa_schema.specs.declared.rows.Row.{Row}
 use Rattle.mesa_schema.specs.declared.views.View.{View}
 use Rattle.mesa_schema.proofs.Lists.{all_found}
 use Rattle.mesa_rules.proofs.mesa_catalog.Loads.{found_passes}
+use Rattle.mesa_delta.specs.mesa_block.Layout.{Layout}
 use Rattle.mesa_delta.specs.File.{IsFile, file_bytes}
 use Rattle.mesa_delta.specs.Spread.{blocks_of}
 use Rattle.mesa_delta.specs.declared.input.Input.{Input}
@@ -26,7 +27,7 @@ use Rattle.mesa_pinning.proofs.Reading.{IsThere}
 use Rattle.mesa_plans.specs.Files.{Seen, Want, files_seen, files_wanted, own_in, own_lineage, seen_by, table_wanted, view_file, view_wanted, want_in, want_of}
 use Rattle.mesa_record.specs.declared.record.Files.{Files}
 use Rattle.mesa_record.specs.declared.record.ViewRef.{ViewRef}
-use Rattle.mesa_tasks.specs.Opening.{HaveOpened, IsOpened, wanted_columns}
+use Rattle.mesa_tasks.specs.Opening.{HaveOpened, IsOpened, wanted_layout}
 use Rattle.mesa_tasks.specs.Pins.{relation_rows}
 use Rattle.mesa_tasks.specs.declared.opening.Wanted.{Wanted}
 
@@ -91,15 +92,15 @@ module _ (rows : Rows) (image : Image) where
     one_told w i o given =
         let its = rows w.file.now.id in
         let read = o.content image is_told in
-        let found : Some read.0 ≡ Some (file_bytes (wanted_columns w) its) = sym read.1 ∙ given.1 in
-        let same : read.0 ≡ file_bytes (wanted_columns w) its = cc in
+        let found : Some read.0 ≡ Some (file_bytes (wanted_layout w) its) = sym read.1 ∙ given.1 in
+        let same : read.0 ≡ file_bytes (wanted_layout w) its = cc in
         let index = o.index.1 in (
           read.0,
           read.2,
           record {
-            file = subst (λ (s : Columns). IsFile s its read.0) (sym index.columns) (subst (IsFile (wanted_columns w) its) (sym same) given.0.file);
+            file = subst (λ (s : Layout). IsFile s its read.0) (sym index.layout) (subst (IsFile (wanted_layout w) its) (sym same) given.0.file);
             over = o.input.over read.0 read.2;
-            blocks = ap (λ (s : Columns). length (blocks_of s its)) index.columns ∙ sym given.0.true.blocks ∙ sym index.blocks;
+            blocks = ap (λ (s : Layout). length (blocks_of s its)) index.layout ∙ sym given.0.true.blocks ∙ sym index.blocks;
             last = index.last ∙ ap short_key given.0.true.last;
           },
         )

@@ -14,7 +14,7 @@ use Rattle.mesa_schema.specs.Rows.{AreRowsOf, IsRowOf}
 use Rattle.mesa_schema.specs.declared.columns.ValueColumn.{ValueColumn}
 use Rattle.mesa_schema.specs.declared.rows.Row.{Row}
 use Rattle.mesa_schema.proofs.Lists.{all_found, all_so}
-use Rattle.mesa_batch.specs.Totals.{AreAtMost, abs_total, sum_places}
+use Rattle.mesa_batch.specs.Totals.{AreAtMost, abs_total, sum_bound, sum_places}
 use Rattle.mesa_fold.proofs.Merged.{folds_totals}
 use Rattle.mesa_span.specs.Plan.{longest}
 use Rattle.mesa_shelf.specs.mesa_image.Catalog.{Delta, Ending, Stock, end_in, start_in}
@@ -33,7 +33,7 @@ pub abs_append : (c : ℕ) (xs ys : List Row) → abs_total c (xs ++ ys) ≡ abs
 abs_append c xs ys = sum_by-append (λ (row : Row). nat_abs (slice_index_or row.values c (pos 0))) xs ys
 
 -- each of these is below 2^63 where it is at most one that is
-sums_below : (f : ℕ → ℕ) (places totals : List ℕ) → AreAtMost (map f places) totals → AllByRecursion (λ total. total < 2 ^ 63) totals → AllByRecursion (λ c. f c < 2 ^ 63) places
+sums_below : (f : ℕ → ℕ) (places totals : List ℕ) → AreAtMost (map f places) totals → AllByRecursion (λ total. total < sum_bound) totals → AllByRecursion (λ c. f c < sum_bound) places
 sums_below f [] totals most all = tt
 sums_below f (c ∷ places) [] most all = absurd most
 sums_below f (c ∷ places) (t ∷ totals) most all = (omega (arith, most.0, all.0), sums_below f places totals most.1 all.1)
@@ -103,14 +103,14 @@ module _ (rows : Rows) (oldest next : ℕ) (t : Stock) (shaped : IsShaped oldest
       let rest = total_cut c (version - e.to) (drop n t.singles) in
       omega (arith, first, one, all, rest)
 
-  all_below : (c : ℕ) → slice_get (aggs_of (columns_of t.lineage)) c ≡ Some Sum → total_of c (base_deltas t.base ++ t.singles) < 2 ^ 63
+  all_below : (c : ℕ) → slice_get (aggs_of (columns_of t.lineage)) c ≡ Some Sum → total_of c (base_deltas t.base ++ t.singles) < sum_bound
   all_below c sum =
       let f : ℕ → ℕ = λ k. total_of k (base_deltas t.base ++ t.singles) in
       let here : 0 + c ≡ c = zero-add c in
-      subst (λ k. f k < 2 ^ 63) here (of_sum (λ k. f k < 2 ^ 63) 0 (aggs_of s) (sums_below f (sum_places 0 (aggs_of s)) t.totals stocked.bound shaped.bounded) c sum)
+      subst (λ k. f k < sum_bound) here (of_sum (λ k. f k < sum_bound) 0 (aggs_of s) (sums_below f (sum_places 0 (aggs_of s)) t.totals stocked.bound shaped.bounded) c sum)
 
   -- No sum over the deltas of a plan leaves its type.
-  pub planned_sums : (version c : ℕ) → slice_get (aggs_of (columns_of t.lineage)) c ≡ Some Sum → total_of c (planned t version) < 2 ^ 63
+  pub planned_sums : (version c : ℕ) → slice_get (aggs_of (columns_of t.lineage)) c ≡ Some Sum → total_of c (planned t version) < sum_bound
   planned_sums version c sum =
       let o = longest version (map end_in t.cumulatives) in
       let all = all_below c sum in
@@ -120,7 +120,7 @@ module _ (rows : Rows) (oldest next : ℕ) (t : Stock) (shaped : IsShaped oldest
       omega (arith, all, whole, plan, behind)
 
   -- Nor does one over the deltas that a work merges.
-  pub merged_sums : (base : _) (to c : ℕ) → slice_get (aggs_of (columns_of t.lineage)) c ≡ Some Sum → total_of c (merged_of t base to) < 2 ^ 63
+  pub merged_sums : (base : _) (to c : ℕ) → slice_get (aggs_of (columns_of t.lineage)) c ≡ Some Sum → total_of c (merged_of t base to) < sum_bound
   merged_sums true to c sum =
       let n = to + 1 - start_in t in
       let all = all_below c sum in
