@@ -10,7 +10,7 @@ use Rattle.mesa_schema.specs.Changes.{columns_of}
 use Rattle.mesa_schema.specs.Folded.{folded}
 use Rattle.mesa_schema.specs.Views.{max_views, view_rows}
 use Rattle.mesa_batch.specs.Batch.{Placed, rows_for}
-use Rattle.mesa_batch.specs.Totals.{abs_totals, over_bound, sum_places, sums_in}
+use Rattle.mesa_batch.specs.Totals.{abs_totals, over_bound, sum_bound, sum_places, sums_in}
 use Rattle.mesa_model.specs.Load.{bound_checked, bounds_checked, sum_name}
 use Rattle.mesa_model.specs.declared.replies.Refusal.{Refusal}
 use Rattle.mesa_model.specs.declared.replies.Refusal.TheVariants.{SumBound}
@@ -35,12 +35,12 @@ bound_same t load = by (over_bound t.totals (abs_totals (columns_of t.lineage) l
     by (Some place) = refl
 
 -- no rows are never refused
-none_refused : (t : Stock) → AllByRecursion (λ total. total < 2 ^ 63) t.totals → bound_checked (skeleton_of t) [] ≡ Ok tt
+none_refused : (t : Stock) → AllByRecursion (λ total. total < sum_bound) t.totals → bound_checked (skeleton_of t) [] ≡ Ok tt
 none_refused t all = bound_same t [] ∙ ap (refused_at t) (nothing_over t.totals (sum_places 0 (aggs_of (columns_of t.lineage))) all)
 
 module _ {M : Type 0} (bytes : M → Option (List ℕ)) (id_of : M → ℕ) (over : Bool) (c : Catalog) (batch : List Placed) where
   -- what a step of the tables' checks needs
-  step_same : (n : ℕ) (t : Stock) (ts : List Stock) (load : List Row) → rows_for n batch ≡ load → (shares : List Share) (parts : List (PreparedPart M)) → stock_at c n ≡ t → AllByRecursion (λ total. total < 2 ^ 63) t.totals
+  step_same : (n : ℕ) (t : Stock) (ts : List Stock) (load : List Row) → rows_for n batch ≡ load → (shares : List Share) (parts : List (PreparedPart M)) → stock_at c n ≡ t → AllByRecursion (λ total. total < sum_bound) t.totals
       → AreParts bytes id_of over (share_of n t.lineage load ++ shares) parts
       → ((more : List (PreparedPart M)) → AreParts bytes id_of over shares more → bounds_checked batch (n + 1) (map skeleton_of ts) ≡ parts_checked c more)
       → (bound_checked (skeleton_of t) load >> bounds_checked batch (n + 1) (map skeleton_of ts)) ≡ parts_checked c parts

@@ -5,6 +5,7 @@ use Rattle.std.specs.List.{AllByRecursion, list_all}
 use Rattle.std.proofs.lemmas.Bool.Decides.{nat_tests}
 use Rattle.std.proofs.lemmas.List.{length-map}
 use Rattle.mesa_value.specs.declared.Agg.{Agg}
+use Rattle.mesa_key.specs.declared.Format.TheVariants as format
 use Rattle.mesa_schema.specs.declared.rows.Row.{Row}
 use Rattle.mesa_schema.specs.declared.views.View.{View}
 use Rattle.mesa_schema.specs.Columns.{Columns, aggs_of}
@@ -16,9 +17,10 @@ use Rattle.mesa_file.specs.declared.file_ref.FileRef.{FileRef}
 use Rattle.mesa_record.specs.declared.record.ViewRef.{ViewRef}
 use Rattle.mesa_record.specs.declared.record.Files.{Files}
 use Rattle.mesa_record.specs.declared.record.Part.{Part}
+use Rattle.mesa_block.specs.Layout.{Layout}
 use Rattle.mesa_block.specs.Rows.{IsRow}
 use Rattle.mesa_tasks.specs.mesa_delta.File.{IsFile, file_bytes}
-use Rattle.mesa_tasks.specs.mesa_delta.Summary.{IsReferenceOf, all_noted, values_of}
+use Rattle.mesa_tasks.specs.mesa_delta.Summary.{IsReferenceOf, all_noted, file_layout, new_layout, values_of}
 use Rattle.mesa_catalog.specs.mesa_image.Catalog.{Delta, Stock, part_delta}
 use Rattle.mesa_catalog.specs.mesa_image.Contents.{Rows, present}
 use Rattle.mesa_catalog.specs.mesa_image.Fitting.{columns_seen, counts_columns, counts_view, files_fit, files_shelved, is_view_ref, shelved_id, view_shelved}
@@ -51,17 +53,18 @@ noted_length [] values e = refl
 noted_length (g ∷ aggs) [] e = absurd (omega arith)
 noted_length (g ∷ aggs) (v ∷ values) e = ap suc (noted_length aggs values (omega arith))
 
-widths : (s : Columns) (rows : List Row) → AllByRecursion (IsRow s) rows → AllByRecursion (λ (r : Row). length r.values ≡ length (aggs_of s)) rows
+widths : (s : Layout) (rows : List Row) → AllByRecursion (IsRow s) rows → AllByRecursion (λ (r : Row). length r.values ≡ length (aggs_of s.columns)) rows
 widths s [] all = tt
-widths s (r ∷ rows) all = (all.0.form.values ∙ sym (length-map s.values _), widths s rows all.1)
+widths s (r ∷ rows) all = (all.0.form.values ∙ sym (length-map s.columns.values _), widths s rows all.1)
 
 -- a true reference has an aggregate for each value column
-pub true_counts : (s : Columns) (number : ℕ) (rows : List Row) (bytes : List ℕ) (f : FileRef) → IsFile s rows bytes → IsReferenceOf s number rows f → counts_columns s f ≡ true
+pub true_counts : (s : Layout) (number : ℕ) (rows : List Row) (bytes : List ℕ) (f : FileRef) → IsFile s rows bytes → IsReferenceOf s number rows f → counts_columns s.columns f ≡ true
 true_counts s number [] bytes f file is = absurd (let some = file.some in omega (arith, some))
 true_counts s number (r ∷ rows) bytes f file is =
     let all = widths s (r ∷ rows) file.good in
-    let made : length f.aggregates ≡ length (aggs_of s) = ap length is.aggregates ∙ noted_length (aggs_of s) _ (all_combined_length (aggs_of s) r.values rows all.0 all.1) in
-    let same : length (aggs_of s) ≡ length s.values = length-map s.values _ in
+    let aggs = aggs_of s.columns in
+    let made : length f.aggregates ≡ length aggs = ap length is.aggregates ∙ noted_length aggs _ (all_combined_length aggs r.values rows all.0 all.1) in
+    let same : length aggs ≡ length s.columns.values = length-map s.columns.values _ in
     grind (arith, nat_tests, made, same)
 
 -- ---- files under ids
@@ -79,14 +82,18 @@ view_ids l id (f ∷ made) = ap (λ ids. id ∷ ids) (view_ids l (id + 1) made)
 pub brought_ids_are : {M : Type 0} (l : Lineage) (epoch id : ℕ) (made : MadeFiles M) → map shelved_id (files_shelved l epoch (Some (files_under id made))) ≡ ids_from id (files_in made)
 brought_ids_are l epoch id made = ap (λ ids. id ∷ ids) (view_ids l (id + 1) made.views.items)
 
+-- a made file's rows stand in it as its reference tells
+pub layout_under : {M : Type 0} (id : ℕ) (s : Columns) (f : MadeFile M) → f.file.format ≡ format.Two → new_layout s ≡ file_layout s (ref_under id f)
+layout_under id s f is = λ i. record { format = sym is i; columns = s }
+
 -- a made file under its id is told
 pub told_one : {M : Type 0} (bytes : M → Option (List ℕ)) (id_of : M → ℕ) (rows : Rows) (id : ℕ) (s : Columns) (its : List Row) (f : MadeFile M) → IsMadeFile bytes id_of (record { columns = s; rows = its }) f → rows id ≡ its
     → IsTold rows (record { columns = s; file = ref_under id f })
 told_one bytes id_of rows id s its f made at =
     subst (λ (its : List Row). IsMadeFile bytes id_of (record { columns = s; rows = its }) f → IsTold rows (record { columns = s; file = ref_under id f })) at
     (λ made. record {
-      file = made.rows;
-      true = record { id = refl; len = made.reference.len; rows = made.reference.rows; blocks = made.reference.blocks; first = made.reference.first; last = made.reference.last; aggregates = made.reference.aggregates; digest = made.reference.digest };
+      file = subst (λ (x : Layout). IsFile x (rows id) (file_bytes x (rows id))) (layout_under id s f made.reference.format) made.rows;
+      true = subst (λ (x : Layout). IsReferenceOf x id (rows id) (ref_under id f)) (layout_under id s f made.reference.format) (record made.reference { id = refl });
     }) made
 
 module _ {M : Type 0} (bytes : M → Option (List ℕ)) (id_of : M → ℕ) (rows : Rows) (l : Lineage) (its : List Row) where
@@ -106,7 +113,7 @@ module _ {M : Type 0} (bytes : M → Option (List ℕ)) (id_of : M → ℕ) (row
       let told = told_one bytes id_of rows id (view_columns s view) (view_rows s view its) f.file made at in
       record {
         told = subst (λ (o : Option View). IsTold rows (record { columns = columns_seen s o; file = ref_under id f.file })) (sym seen) told;
-        fits = ap (λ (o : Option View). counts_view s o (ref_under id f.file)) seen ∙ true_counts (view_columns s view) id (rows id) _ (ref_under id f.file) told.file told.true;
+        fits = ap (λ (o : Option View). counts_view s o (ref_under id f.file)) seen ∙ true_counts (file_layout (view_columns s view) (ref_under id f.file)) id (rows id) _ (ref_under id f.file) told.file told.true;
         grouped = subst (λ (o : Option View). IsGroupedAs rows l d o (record { view = f.view; file = ref_under id f.file })) (sym seen) (at ∙ ap (view_rows s view) (sym now));
       }
 
@@ -119,8 +126,8 @@ module _ {M : Type 0} (bytes : M → Option (List ℕ)) (id_of : M → ℕ) (row
       (seen_one d now id number v f are.0 from.0 are.1 at.0, seen_all d now (id + 1) (number + 1) views made from.1 are.2 at.1)
 
   tells_one : (id : ℕ) (columns : Columns) (some : List Row) (f : MadeFile M) → IsMadeFile bytes id_of (record { columns = columns; rows = some }) f → rows id ≡ some → (b : List ℕ) → bytes f.made ≡ Some b
-      → bytes f.made ≡ Some (file_bytes columns (rows id))
-  tells_one id columns some f made at b is = is ∙ ap (λ (x : List ℕ). Some x) (made.told b is) ∙ ap (λ (r : List Row). Some (file_bytes columns r)) (sym at)
+      → bytes f.made ≡ Some (file_bytes (file_layout columns (ref_under id f)) (rows id))
+  tells_one id columns some f made at b is = is ∙ ap (λ (x : List ℕ). Some x) (made.told b is) ∙ (λ i. Some (file_bytes (layout_under id columns f made.reference.format i) (sym at i)))
 
   tells_views : (id number : ℕ) (views : List View) (made : List (MadeView M)) → AreFrom l.views number views → AreMadeViews bytes id_of number (map (content_of s its) views) made → AreAt rows id (map (λ (v : View). view_rows s v its) views)
       → AreTold bytes (map file_in made) → told_under bytes id (map file_in made) ≡ told_files (wants rows (map (view_shelved l) (views_under id made)))
@@ -129,7 +136,7 @@ module _ {M : Type 0} (bytes : M → Option (List ℕ)) (id_of : M → ℕ) (row
   tells_views id number (v ∷ views) [] from are at all = absurd are
   tells_views id number (v ∷ views) (f ∷ made) from are at all =
       let seen : slice_get l.views f.view ≡ Some v = ap (slice_get l.views) are.0 ∙ from.0 in
-      let one = tells_one id (view_columns s v) (view_rows s v its) f.file are.1 at.0 all.0.0 all.0.1 ∙ ap (λ (o : Option View). Some (file_bytes (columns_seen s o) (rows id))) (sym seen) in
+      let one = tells_one id (view_columns s v) (view_rows s v its) f.file are.1 at.0 all.0.0 all.0.1 ∙ ap (λ (o : Option View). Some (file_bytes (file_layout (columns_seen s o) (ref_under id f.file)) (rows id))) (sym seen) in
       λ i. (id, one i) ∷ tells_views (id + 1) (number + 1) views made from.1 are.2 at.1 all.1 i
 
   told_views : (d : Delta) (views : List ViewRef) → AllByRecursion (IsSeen d) views → AllByRecursion (IsTold rows) (map (view_shelved l) views)
@@ -168,13 +175,13 @@ module _ {M : Type 0} (bytes : M → Option (List ℕ)) (id_of : M → ℕ) (row
     pub files_right : files_fit l (epoch_of l) refs ≡ true
     files_right =
         let one = told_one bytes id_of rows id s its made.file are.table at.0 in
-        ap (λ b. b && list_all (is_view_ref l) refs.views) (ap (λ (c : Columns). counts_columns c (ref_under id made.file)) (columns_now l) ∙ true_counts s id (rows id) _ (ref_under id made.file) one.file one.true)
+        ap (λ b. b && list_all (is_view_ref l) refs.views) (ap (λ (c : Columns). counts_columns c (ref_under id made.file)) (columns_now l) ∙ true_counts (file_layout s (ref_under id made.file)) id (rows id) _ (ref_under id made.file) one.file one.true)
         ∙ fit_views some_delta refs.views (seen some_delta refl refl)
 
     -- they are those that are named, with their bytes
     pub are_told : AreTold bytes (files_in made) → told_under bytes id (files_in made) ≡ told_files (wants rows (files_shelved l (epoch_of l) (Some refs)))
     are_told all =
-        let one = tells_one id s its made.file are.table at.0 all.0.0 all.0.1 ∙ ap (λ (c : Columns). Some (file_bytes c (rows id))) (sym (columns_now l)) in
+        let one = tells_one id s its made.file are.table at.0 all.0.0 all.0.1 ∙ ap (λ (c : Columns). Some (file_bytes (file_layout c (ref_under id made.file)) (rows id))) (sym (columns_now l)) in
         λ i. (id, one i) ∷ tells_views (id + 1) 0 l.views made.views.items from are.grouped at.1 all.1 i
 
     pub part_brings : (t : Stock) → t.lineage ≡ l → (p : Part) (load : List Row) → p.epoch ≡ epoch_of l → p.files ≡ refs → its ≡ folded (aggs_of (columns_of l)) (load ∷ []) → p.totals ≡ abs_totals (columns_of l) load → abs_totals (columns_of l) its ≡ abs_totals (columns_of l) load

@@ -23,6 +23,7 @@ use Rattle.mesa_schema.specs.Columns.{Columns, aggs_of, kinds_of}
 use Rattle.mesa_schema.specs.Schema.{is_schema}
 use Rattle.mesa_schema.specs.Lineages.{IsLineage, is_view_of}
 use Rattle.mesa_schema.specs.Views.{view_columns, view_rows}
+use Rattle.mesa_schema.specs.Rows.{IsRowOf}
 use Rattle.mesa_schema.proofs.LineageRules.{present_schema}
 use Rattle.mesa_schema.proofs.Passing.{passed_if}
 use Rattle.mesa_schema.proofs.ViewSchemas.{view_is_schema}
@@ -32,10 +33,11 @@ use Rattle.mesa_file.specs.declared.file_ref.FileRef.{FileRef}
 use Rattle.mesa_record.specs.declared.record.Part.{Part}
 use Rattle.mesa_record.specs.declared.record.ViewRef.{ViewRef}
 use Rattle.mesa_record.specs.Rules.{are_files, are_parts, is_count_of_columns, is_file_ref, is_key_length, is_part, rise_from}
+use Rattle.mesa_block.specs.Layout.{Layout}
 use Rattle.mesa_block.specs.Rows.{IsRow}
 use Rattle.mesa_tasks.specs.mesa_delta.File.{IsFile}
 use Rattle.mesa_tasks.specs.mesa_delta.Spread.{spread}
-use Rattle.mesa_tasks.specs.mesa_delta.Summary.{IsReferenceOf, last_key}
+use Rattle.mesa_tasks.specs.mesa_delta.Summary.{IsReferenceOf, last_key, new_layout}
 use Rattle.mesa_tasks.specs.mesa_delta.Tail.{first_key}
 use Rattle.mesa_catalog.specs.mesa_image.Catalog.{Catalog, Stock, stock_at}
 use Rattle.mesa_catalog.specs.mesa_image.Shape.{IsCatalog, IsShaped}
@@ -101,39 +103,39 @@ key_small [] (v ∷ key) h = absurd h
 key_small (k ∷ kinds) [] h = absurd h
 key_small (k ∷ kinds) (v ∷ key) h = rw flat_map-cons (omega (arith, length-append (value_spelling v) (key_spelling key), value_small k v h.0, key_small kinds key h.1))
 
-key_length : (s : Columns) (row : Row) → is_schema s ≡ true → IsRow s row → is_key_length (length row.key) ≡ true
+key_length : (s : Columns) (row : Row) → is_schema s ≡ true → IsRowOf s row → is_key_length (length row.key) ≡ true
 key_length s row schema h =
     let few = few_keys s schema in
-    let key = key_small (kinds_of s) (key_of (kinds_of s) row.key) h.form.key in
+    let key = key_small (kinds_of s) (key_of (kinds_of s) row.key) h.key in
     let kinds = length-map s.keys (λ (c : KeyColumn). c.kind) in
-    let spelled = ap length h.form.spelled in
+    let spelled = ap length h.spelled in
     lt-ltb (length row.key) (2 ^ 16) (omega (arith, few, key, kinds, spelled))
 
-first_length : (s : Columns) (rows : List Row) → is_schema s ≡ true → AllByRecursion (IsRow s) rows → is_key_length (length (first_key rows)) ≡ true
+first_length : (s : Layout) (rows : List Row) → is_schema s.columns ≡ true → AllByRecursion (IsRow s) rows → is_key_length (length (first_key rows)) ≡ true
 first_length s [] schema all = refl
-first_length s (row ∷ rows) schema all = key_length s row schema all.0
+first_length s (row ∷ rows) schema all = key_length s.columns row schema all.0.form
 
-last_length : (s : Columns) (rows : List Row) → is_schema s ≡ true → AllByRecursion (IsRow s) rows → is_key_length (length (last_key rows)) ≡ true
+last_length : (s : Layout) (rows : List Row) → is_schema s.columns ≡ true → AllByRecursion (IsRow s) rows → is_key_length (length (last_key rows)) ≡ true
 last_length s [] schema all = refl
-last_length s (row ∷ []) schema all = key_length s row schema all.0
+last_length s (row ∷ []) schema all = key_length s.columns row schema all.0.form
 last_length s (a ∷ b ∷ rows) schema all = last_length s (b ∷ rows) schema all.1
 
 -- ---- references
 
 -- a true reference keeps the rules
-ref_rules : (s : Columns) (number : ℕ) (rows : List Row) (bytes : List ℕ) (f : FileRef) → is_schema s ≡ true → IsFile s rows bytes → IsReferenceOf s number rows f → is_file_ref f ≡ true
+ref_rules : (s : Layout) (number : ℕ) (rows : List Row) (bytes : List ℕ) (f : FileRef) → is_schema s.columns ≡ true → IsFile s rows bytes → IsReferenceOf s number rows f → is_file_ref f ≡ true
 ref_rules s number rows bytes f schema file is =
     let some = file.some in
     let count : f.rows ≡ length rows = is.rows in
     let blocks : f.blocks ≡ length ((spread s rows).done ++ (spread s rows).last ∷ []) = is.blocks in
     let more = length-append (spread s rows).done ((spread s rows).last ∷ []) in
-    let same : length f.aggregates ≡ length s.values = is_equal (length f.aggregates) (length s.values) (true_counts s number rows bytes f file is) in
+    let same : length f.aggregates ≡ length s.columns.values = is_equal (length f.aggregates) (length s.columns.values) (true_counts s number rows bytes f file is) in
     λ i. le-leb 1 f.rows (omega (arith, some, count)) i && le-leb 1 f.blocks (omega (arith, blocks, more)) i && (ap (λ k. is_key_length (length k)) is.first ∙ first_length s rows schema file.good) i
-    && (ap (λ k. is_key_length (length k)) is.last ∙ last_length s rows schema file.good) i && (ap is_count_of_columns same ∙ values_counted s schema) i
+    && (ap (λ k. is_key_length (length k)) is.last ∙ last_length s rows schema file.good) i && (ap is_count_of_columns same ∙ values_counted s.columns schema) i
 
 module _ {M : Type 0} (bytes : M → Option (List ℕ)) (id_of : M → ℕ) where
   made_rules : (s : Columns) (its : List Row) (id : ℕ) (f : MadeFile M) → is_schema s ≡ true → IsMadeFile bytes id_of (record { columns = s; rows = its }) f → is_file_ref (ref_under id f) ≡ true
-  made_rules s its id f schema made = ref_rules s (id_of f.made) its _ f.file schema made.rows made.reference
+  made_rules s its id f schema made = ref_rules (new_layout s) (id_of f.made) its _ f.file schema made.rows made.reference
 
   -- the files of views, which are numbered from one on
   record AreSo (number : ℕ) (views : List View) (refs : List ViewRef) : Type 0 where

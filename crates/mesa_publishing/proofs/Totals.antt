@@ -15,20 +15,20 @@ use Rattle.mesa_schema.specs.declared.columns.ValueColumn.{ValueColumn}
 use Rattle.mesa_schema.proofs.Passing.{passed_if}
 use Rattle.mesa_list.specs.Checks.{◌>>◌}
 use Rattle.mesa_schema.proofs.Maps.{is_some_position, position_map}
-use Rattle.mesa_batch.specs.Totals.{abs_total, capped, over_bound, sum_places, totals_with}
+use Rattle.mesa_batch.specs.Totals.{abs_total, capped, over_bound, sum_bound, sum_places, totals_with}
 use Rattle.mesa_model.specs.declared.replies.Refusal.{Refusal}
 
 -- ---- none passes
 
-pub none_passes : (totals more : List ℕ) → over_bound totals more ≡ None → list_any (λ total. nat_le (2 ^ 63) total) (totals_with totals more) ≡ false
-none_passes totals more e = sym (is_some_position (λ total. nat_le (2 ^ 63) total) (totals_with totals more)) ∙ ap is_some e
+pub none_passes : (totals more : List ℕ) → over_bound totals more ≡ None → list_any (λ total. nat_le sum_bound total) (totals_with totals more) ≡ false
+none_passes totals more e = sym (is_some_position (λ total. nat_le sum_bound total) (totals_with totals more)) ∙ ap is_some e
 
 pub not_some : (o : Option ℕ) → is_some o ≡ false → o ≡ None
 not_some None e = refl
 not_some (Some n) e = absurd (cc)
 
-pub passes_none : (totals more : List ℕ) → list_any (λ total. nat_le (2 ^ 63) total) (totals_with totals more) ≡ false → over_bound totals more ≡ None
-passes_none totals more e = not_some (over_bound totals more) (is_some_position (λ total. nat_le (2 ^ 63) total) (totals_with totals more) ∙ e)
+pub passes_none : (totals more : List ℕ) → list_any (λ total. nat_le sum_bound total) (totals_with totals more) ≡ false → over_bound totals more ≡ None
+passes_none totals more e = not_some (over_bound totals more) (is_some_position (λ total. nat_le sum_bound total) (totals_with totals more) ∙ e)
 
 pub neither : (a b : Bool) → (a || b) ≡ false → (a ≡ false) × (b ≡ false)
 neither true b e = absurd (cc)
@@ -36,13 +36,13 @@ neither false b e = (refl, e)
 
 -- ---- totals that were cut
 
-same_over : (t m : ℕ) → nat_le (2 ^ 63) (t + min (2 ^ 63) m) ≡ nat_le (2 ^ 63) (t + m)
+same_over : (t m : ℕ) → nat_le sum_bound (t + min sum_bound m) ≡ nat_le sum_bound (t + m)
 same_over t m = grind (arith, nat_tests)
 
-over_alone : (t m : ℕ) → nat_le (2 ^ 63) (t + min (2 ^ 63) m) ≡ false → nat_le (2 ^ 63) m ≡ false
+over_alone : (t m : ℕ) → nat_le sum_bound (t + min sum_bound m) ≡ false → nat_le sum_bound m ≡ false
 over_alone t m e = grind (arith, nat_tests)
 
-small_same : (m : ℕ) → nat_le (2 ^ 63) m ≡ false → min (2 ^ 63) m ≡ m
+small_same : (m : ℕ) → nat_le sum_bound m ≡ false → min sum_bound m ≡ m
 small_same m e = grind (arith, nat_tests)
 
 -- the first that passes is found among the tests
@@ -50,7 +50,7 @@ found : (bs cs : List Bool) → bs ≡ cs → position (λ b. b) bs ≡ position
 found bs cs e = ap (position (λ b. b)) e
 
 tested : List ℕ → List ℕ → List Bool
-tested totals more = map (λ total. nat_le (2 ^ 63) total) (totals_with totals more)
+tested totals more = map (λ total. nat_le sum_bound total) (totals_with totals more)
 
 tested_cut : (totals more : List ℕ) → tested totals (capped more) ≡ tested totals more
 unfolding tested
@@ -61,38 +61,38 @@ tested_cut (t ∷ totals) (m ∷ more) = λ i. same_over t m i ∷ tested_cut to
 -- totals that were cut pass the bound where the totals do
 pub over_cut : (totals more : List ℕ) → over_bound totals (capped more) ≡ over_bound totals more
 unfolding tested
-over_cut totals more = sym (position_map (λ b. b) (λ total. nat_le (2 ^ 63) total) (totals_with totals (capped more))) ∙ found _ _ (tested_cut totals more) ∙ position_map (λ b. b) (λ total. nat_le (2 ^ 63) total) (totals_with totals more)
+over_cut totals more = sym (position_map (λ b. b) (λ total. nat_le sum_bound total) (totals_with totals (capped more))) ∙ found _ _ (tested_cut totals more) ∙ position_map (λ b. b) (λ total. nat_le sum_bound total) (totals_with totals more)
 
 -- where none passes with those of a table, none does by itself
-pub none_alone : (totals more : List ℕ) → length totals ≡ length more → over_bound totals (capped more) ≡ None → list_any (λ total. nat_le (2 ^ 63) total) more ≡ false
+pub none_alone : (totals more : List ℕ) → length totals ≡ length more → over_bound totals (capped more) ≡ None → list_any (λ total. nat_le sum_bound total) more ≡ false
 none_alone totals more len e = by totals more len (none_passes totals (capped more) e)
   where
-    by : (totals more : List ℕ) → length totals ≡ length more → list_any (λ total. nat_le (2 ^ 63) total) (totals_with totals (capped more)) ≡ false → list_any (λ total. nat_le (2 ^ 63) total) more ≡ false
+    by : (totals more : List ℕ) → length totals ≡ length more → list_any (λ total. nat_le sum_bound total) (totals_with totals (capped more)) ≡ false → list_any (λ total. nat_le sum_bound total) more ≡ false
     by [] [] len e = refl
     by [] (m ∷ more) len e = absurd (omega arith)
     by (t ∷ totals) [] len e = refl
     by (t ∷ totals) (m ∷ more) len e =
-        let both = neither (nat_le (2 ^ 63) (t + min (2 ^ 63) m)) (list_any (λ total. nat_le (2 ^ 63) total) (totals_with totals (capped more))) e in
-        ap (λ b. b || list_any (λ total. nat_le (2 ^ 63) total) more) (over_alone t m both.0) ∙ by totals more (omega arith) both.1
+        let both = neither (nat_le sum_bound (t + min sum_bound m)) (list_any (λ total. nat_le sum_bound total) (totals_with totals (capped more))) e in
+        ap (λ b. b || list_any (λ total. nat_le sum_bound total) more) (over_alone t m both.0) ∙ by totals more (omega arith) both.1
 
 -- and they weren't cut
-pub uncut : (more : List ℕ) → list_any (λ total. nat_le (2 ^ 63) total) more ≡ false → capped more ≡ more
+pub uncut : (more : List ℕ) → list_any (λ total. nat_le sum_bound total) more ≡ false → capped more ≡ more
 uncut [] e = refl
-uncut (m ∷ more) e = let both = neither (nat_le (2 ^ 63) m) (list_any (λ total. nat_le (2 ^ 63) total) more) e in λ i. small_same m both.0 i ∷ uncut more both.1 i
+uncut (m ∷ more) e = let both = neither (nat_le sum_bound m) (list_any (λ total. nat_le sum_bound total) more) e in λ i. small_same m both.0 i ∷ uncut more both.1 i
 
 -- ---- no rows
 
-small : (t : ℕ) → t < 2 ^ 63 → nat_le (2 ^ 63) (t + 0) ≡ false
+small : (t : ℕ) → t < sum_bound → nat_le sum_bound (t + 0) ≡ false
 small t lt = grind (arith, nat_tests)
 
 -- no rows pass no bound
-pub nothing_over : (totals places : List ℕ) → AllByRecursion (λ total. total < 2 ^ 63) totals → over_bound totals (map (λ column. abs_total column []) places) ≡ None
+pub nothing_over : (totals places : List ℕ) → AllByRecursion (λ total. total < sum_bound) totals → over_bound totals (map (λ column. abs_total column []) places) ≡ None
 nothing_over totals places all = passes_none totals (map (λ column. abs_total column []) places) (by totals places all)
   where
-    by : (totals places : List ℕ) → AllByRecursion (λ total. total < 2 ^ 63) totals → list_any (λ total. nat_le (2 ^ 63) total) (totals_with totals (map (λ column. abs_total column []) places)) ≡ false
+    by : (totals places : List ℕ) → AllByRecursion (λ total. total < sum_bound) totals → list_any (λ total. nat_le sum_bound total) (totals_with totals (map (λ column. abs_total column []) places)) ≡ false
     by [] places all = refl
     by (t ∷ totals) [] all = refl
-    by (t ∷ totals) (c ∷ places) all = ap (λ b. b || list_any (λ total. nat_le (2 ^ 63) total) (totals_with totals (map (λ column. abs_total column []) places))) (small t all.0) ∙ by totals places all.1
+    by (t ∷ totals) (c ∷ places) all = ap (λ b. b || list_any (λ total. nat_le sum_bound total) (totals_with totals (map (λ column. abs_total column []) places))) (small t all.0) ∙ by totals places all.1
 
 -- ---- how many sums
 
@@ -121,7 +121,7 @@ few_totals s totals h count = omega (arith, few_values s h, few_sums 0 (aggs_of 
 -- the place of a total over the bound
 pub over_within : (totals more : List ℕ) (place : ℕ) → over_bound totals more ≡ Some place → place < length totals
 over_within totals more place e =
-    let found = position-Some (nat_le (2 ^ 63)) (totals_with totals more) place 0 e in
+    let found = position-Some (nat_le sum_bound) (totals_with totals more) place 0 e in
     omega (arith, found.0, length-map (zip totals more) (λ (p : ℕ × ℕ). p.0 + p.1), length-zip totals more)
 
 -- ---- checks one after another
