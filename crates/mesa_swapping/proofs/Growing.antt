@@ -1,5 +1,5 @@
 -- A table's columns and views, from one change to the next.
-use Rattle.std.proofs.Common.{◌≡◌, ℕ, zero, suc, ◌≤◌, List, [], ◌∷◌, ◌++◌, length, map, get_or, refl, sym, ◌∙◌, ap, subst, arith, true, Some}
+use Rattle.std.proofs.Common.{◌≡◌, ℕ, zero, suc, ◌-◌, ◌≤◌, List, [], ◌∷◌, ◌++◌, length, map, take, get_or, refl, sym, ◌∙◌, ap, subst, arith, true, Some}
 use Rattle.std.specs.Prelude.{is_ok, slice_get}
 use Rattle.std.specs.List.{AllByRecursion}
 use Rattle.std.proofs.lemmas.List.{length-take, take-append-le, take_all}
@@ -20,13 +20,19 @@ use Rattle.mesa_swapping.specs.Grown.{HasGrown}
 
 -- ---- what was
 
+-- no fewer changes are there
+changes_was : (was now : Lineage) → HasGrown was now → length was.changes ≤ length now.changes
+changes_was was now grown = let e = length-take (length was.changes) now.changes in let same = ap length grown.changes in omega (arith, e, same)
+
 -- the epoch that was isn't a later one
 pub epoch_was : (was now : Lineage) → HasGrown was now → epoch_of was ≤ epoch_of now
-epoch_was was now grown = let e = length-take (epoch_of was) now.changes in let same = ap length grown.changes in omega (arith, e, same)
+epoch_was was now grown = omega (arith, changes_was was now grown, grown.begins)
 
 -- the columns of the epoch that was are those that were
 pub columns_was : (was now : Lineage) → HasGrown was now → columns_at now (epoch_of was) ≡ columns_of was
-columns_was was now grown = λ i. columns_after (grown.first i) (grown.changes i)
+columns_was was now grown =
+    let since : epoch_of was - now.begins ≡ length was.changes = omega (arith, grown.begins) in
+    λ i. columns_after (grown.first i) ((ap (λ n. take n now.changes) since ∙ grown.changes) i)
 
 -- no fewer views are there
 pub views_was : (was now : Lineage) → HasGrown was now → length was.views ≤ length now.views
@@ -50,8 +56,9 @@ map_same f (row ∷ rows) same = λ i. same row i ∷ map_same f rows same i
 
 pub grown_not : (l : Lineage) → HasGrown l l
 grown_not l = record {
+  begins = refl;
   first = refl;
-  changes = take_all (epoch_of l) l.changes (omega arith);
+  changes = take_all (length l.changes) l.changes (omega arith);
   views = λ number v there. record {
     there = there;
     columns = refl;
@@ -87,8 +94,9 @@ module _ (was now : Lineage) (change : Change) (is : IsLineage now) (rule : is_o
 
   pub grown_changed : HasGrown was (with_change now change)
   grown_changed = record {
+    begins = grown.begins;
     first = grown.first;
-    changes = take-append-le (epoch_of was) now.changes (change ∷ []) (epoch_was was now grown) ∙ grown.changes;
+    changes = take-append-le (length was.changes) now.changes (change ∷ []) (changes_was was now grown) ∙ grown.changes;
     views = λ number v there.
         let seen = grown.views number v there in
         let on = outlives number v seen.there in
@@ -108,6 +116,7 @@ got_front (y ∷ xs) ys (suc i) x e = got_front xs ys i x e
 
 pub grown_viewed : (was now : Lineage) (v : View) → HasGrown was now → HasGrown was (with_view now v)
 grown_viewed was now v grown = record {
+  begins = grown.begins;
   first = grown.first;
   changes = grown.changes;
   views = λ number u there. let seen = grown.views number u there in record { there = got_front now.views (v ∷ []) number u seen.there; columns = seen.columns; rows = seen.rows };

@@ -17,8 +17,10 @@ use Rattle.mesa_schema.specs.declared.columns.KeyColumn.{KeyColumn}
 use Rattle.mesa_schema.specs.declared.rows.Row.{Row}
 use Rattle.mesa_schema.specs.Columns.{Columns, kinds_of}
 use Rattle.mesa_schema.specs.Schema.{is_schema, max_columns}
+use Rattle.mesa_schema.specs.Rows.{IsRowOf}
 use Rattle.mesa_file.specs.declared.file_ref.FileRef.{FileRef}
 use Rattle.mesa_record.specs.Rules.{is_count_of_columns, is_file_ref, is_key_length}
+use Rattle.mesa_block.specs.Layout.{Layout}
 use Rattle.mesa_block.specs.Rows.{IsRow}
 use Rattle.mesa_delta.specs.File.{IsFile}
 use Rattle.mesa_delta.specs.Spread.{spread}
@@ -86,29 +88,29 @@ is_less n k lt = grind (arith, nat_tests)
 pub is_at_least : (n k : ℕ) → n ≤ k → nat_le n k ≡ true
 is_at_least n k le = grind (arith, nat_tests)
 
-row_short : (s : Columns) (row : Row) → length s.keys ≤ 16 → IsRow s row → is_key_length (length row.key) ≡ true
+row_short : (s : Columns) (row : Row) → length s.keys ≤ 16 → IsRowOf s row → is_key_length (length row.key) ≡ true
 row_short s row few is =
-    let short = key_short (kinds_of s) (key_of (kinds_of s) row.key) is.form.key in
+    let short = key_short (kinds_of s) (key_of (kinds_of s) row.key) is.key in
     let kinds = length-map s.keys (λ (c : KeyColumn). c.kind) in
-    let spelled = ap length is.form.spelled in
+    let spelled = ap length is.spelled in
     is_less (length row.key) (2 ^ 16) (omega (arith, short, kinds, spelled, few))
 
-last_short : (s : Columns) (rows : List Row) → length s.keys ≤ 16 → 0 < length rows → AllByRecursion (IsRow s) rows → is_key_length (length (last_key rows)) ≡ true
+last_short : (s : Layout) (rows : List Row) → length s.columns.keys ≤ 16 → 0 < length rows → AllByRecursion (IsRow s) rows → is_key_length (length (last_key rows)) ≡ true
 last_short s [] few some all = absurd (omega (arith, some))
-last_short s (row ∷ []) few some all = row_short s row few all.0
+last_short s (row ∷ []) few some all = row_short s.columns row few all.0.form
 last_short s (a ∷ b ∷ rows) few some all = last_short s (b ∷ rows) few (omega arith) all.1
 
-first_short : (s : Columns) (rows : List Row) → length s.keys ≤ 16 → 0 < length rows → AllByRecursion (IsRow s) rows → is_key_length (length (first_key rows)) ≡ true
+first_short : (s : Layout) (rows : List Row) → length s.columns.keys ≤ 16 → 0 < length rows → AllByRecursion (IsRow s) rows → is_key_length (length (first_key rows)) ≡ true
 first_short s [] few some all = absurd (omega (arith, some))
-first_short s (row ∷ rows) few some all = row_short s row few all.0
+first_short s (row ∷ rows) few some all = row_short s.columns row few all.0.form
 
 -- ---- a reference
 
 -- A true reference to a file of rows keeps the rules of references.
-pub is_ref : (s : Columns) (number : ℕ) (rows : List Row) (bytes : List ℕ) (f : FileRef) → IsTrue (is_schema s) → IsFile s rows bytes → IsReferenceOf s number rows f → is_file_ref f ≡ true
+pub is_ref : (s : Layout) (number : ℕ) (rows : List Row) (bytes : List ℕ) (f : FileRef) → IsTrue (is_schema s.columns) → IsFile s rows bytes → IsReferenceOf s number rows f → is_file_ref f ≡ true
 is_ref s number rows bytes f schema file is =
-    let few = few_columns s schema in
-    let aggregates : length f.aggregates ≡ length s.values = is_equal (length f.aggregates) (length s.values) (true_counts s number rows bytes f file is) in
+    let few = few_columns s.columns schema in
+    let aggregates : length f.aggregates ≡ length s.columns.values = is_equal (length f.aggregates) (length s.columns.values) (true_counts s number rows bytes f file is) in
     let blocks = length-append (spread s rows).done ((spread s rows).last ∷ []) in
     all_true
     (all_true
@@ -116,4 +118,4 @@ is_ref s number rows bytes f schema file is =
     (all_true (is_at_least 1 f.rows (omega (arith, is.rows, file.some))) (is_at_least 1 f.blocks (omega (arith, is.blocks, blocks))))
     (subst (λ key. is_key_length (length key) ≡ true) (sym is.first) (first_short s rows few.keys file.some file.good)))
     (subst (λ key. is_key_length (length key) ≡ true) (sym is.last) (last_short s rows few.keys file.some file.good)))
-    (subst (λ n. is_count_of_columns n ≡ true) (sym aggregates) (all_true (is_at_least 1 (length s.values) few.some) (is_at_least (length s.values) 16 few.values)))
+    (subst (λ n. is_count_of_columns n ≡ true) (sym aggregates) (all_true (is_at_least 1 (length s.columns.values) few.some) (is_at_least (length s.columns.values) 16 few.values)))

@@ -16,6 +16,7 @@ use Rattle.mesa_schema.proofs.Lists.{all_so}
 use Rattle.mesa_schema.proofs.ViewSchemas.{view_is_schema}
 use Rattle.mesa_block.specs.Rows.{IsRow}
 use Rattle.mesa_delta.specs.File.{file_bytes}
+use Rattle.mesa_delta.specs.Summary.{file_layout, new_layout}
 use Rattle.mesa_record.specs.Rules.{are_files_if_any, is_file_ref, rise_from}
 use Rattle.mesa_record.specs.declared.record.ViewRef.{ViewRef}
 use Rattle.mesa_commit.specs.Turn.{told_files}
@@ -33,7 +34,7 @@ use Rattle.mesa_tasks.specs.declared.merging.Task.{Task}
 use Rattle.mesa_tasks.specs.declared.merging.TaskView.{TaskView}
 use Rattle.mesa_publishing.specs.Adopted.{file_in, files_if_any, ref_under, told_under, views_under}
 use Rattle.mesa_publishing.proofs.Lists.{AreAt, AreFrom, ids_from}
-use Rattle.mesa_publishing.proofs.Parts.{AreTold, brought_ids_are, told_one, true_counts}
+use Rattle.mesa_publishing.proofs.Parts.{AreTold, brought_ids_are, layout_under, told_one, true_counts}
 use Rattle.mesa_swapping.specs.Finished.{GroupOnly}
 use Rattle.mesa_swapping.specs.Grown.{HasGrown}
 use Rattle.mesa_swapping.specs.Swapped.{files_under_if_any}
@@ -101,11 +102,11 @@ module _ {M R : Type 0} (bytes : M → Option (List ℕ)) (id_of : M → ℕ) (r
     -- ---- one file
 
     tells_one : (id : ℕ) (columns : Columns) (some : List Row) (f : MadeFile M) → IsMadeFile bytes id_of (record { columns = columns; rows = some }) f → rows id ≡ some → (b : List ℕ) → bytes f.made ≡ Some b
-        → bytes f.made ≡ Some (file_bytes columns (rows id))
-    tells_one id columns some f made at b is = is ∙ ap (λ (x : List ℕ). Some x) (made.told b is) ∙ ap (λ (r : List Row). Some (file_bytes columns r)) (sym at)
+        → bytes f.made ≡ Some (file_bytes (file_layout columns (ref_under id f)) (rows id))
+    tells_one id columns some f made at b is = is ∙ ap (λ (x : List ℕ). Some x) (made.told b is) ∙ (λ i. Some (file_bytes (layout_under id columns f made.reference.format i) (sym at i)))
 
-    formed : (s : Columns) (some : List Row) → AllByRecursion (IsRow s) some → AreRowsOf s some
-    formed s some good = all_so (IsRow s) (IsRowOf s) some (λ row is. is.form) good
+    formed : (s : Columns) (some : List Row) → AllByRecursion (IsRow (new_layout s)) some → AreRowsOf s some
+    formed s some good = all_so (IsRow (new_layout s)) (IsRowOf s) some (λ row is. is.form) good
 
     module _ (id number : ℕ) (view : View) (f : MadeView M) (some : List Row) (is : f.view ≡ number) (there : slice_get was.views number ≡ Some view) (made : IsMadeFile bytes id_of (record { columns = view_columns s view; rows = some }) f.file) (at : rows id ≡ some) where
       abbrev its_ref : ViewRef
@@ -127,7 +128,7 @@ module _ {M R : Type 0} (bytes : M → Option (List ℕ)) (id_of : M → ℕ) (r
       view_fits =
           ap (λ (o : Option View). counts_view (columns_of now) o (ref_under id f.file)) seen
           ∙ ap (λ (c : Columns). counts_columns c (ref_under id f.file)) (grown.views number view there).columns
-          ∙ true_counts (view_columns s view) id (rows id) _ (ref_under id f.file) was_told.file was_told.true
+          ∙ true_counts (file_layout (view_columns s view) (ref_under id f.file)) id (rows id) _ (ref_under id f.file) was_told.file was_told.true
 
       view_grouped : (d : Delta) → d.epoch ≡ epoch_of was → rows_in rows d ≡ its → AreRowsOf s its → some ≡ view_rows s view its → IsGrouped rows now d its_ref
       view_grouped d epoch has form grouped =
@@ -140,7 +141,7 @@ module _ {M R : Type 0} (bytes : M → Option (List ℕ)) (id_of : M → ℕ) (r
           let outlived = grown.views number view there in
           let allowed : is_view_of (columns_of now) view ≡ true = passes_got (is_view_of (columns_of now)) now.views number view rules.views outlived.there in
           let schema : is_schema (view_columns s view) ≡ true = ap is_schema (sym outlived.columns) ∙ view_is_schema (columns_of now) view (present_schema now rules) allowed in
-          is_ref (view_columns s view) id (rows id) _ (ref_under id f.file) schema was_told.file was_told.true
+          is_ref (file_layout (view_columns s view) (ref_under id f.file)) id (rows id) _ (ref_under id f.file) schema was_told.file was_told.true
 
     -- ---- the views' files
 
@@ -196,7 +197,7 @@ module _ {M R : Type 0} (bytes : M → Option (List ℕ)) (id_of : M → ℕ) (r
     views_tell id number (v ∷ views) (t ∷ ts) [] from tasks are at all = absurd are
     views_tell id number (v ∷ views) (t ∷ ts) (f ∷ made) from tasks are at all =
         let columns = its_columns id number v f are.0.its (are.0.number ∙ tasks.0) from.0 are.0.file at.0 in
-        let one = tells_one id (view_columns s v) are.0.its f.file are.0.file at.0 all.0.0 all.0.1 ∙ ap (λ (c : Columns). Some (file_bytes c (rows id))) (sym columns) in
+        let one = tells_one id (view_columns s v) are.0.its f.file are.0.file at.0 all.0.0 all.0.1 ∙ ap (λ (c : Columns). Some (file_bytes (file_layout c (ref_under id f.file)) (rows id))) (sym columns) in
         λ i. (id, one i) ∷ views_tell (id + 1) (number + 1) views ts made from.1 tasks.2 are.1 at.1 all.1 i
 
     -- ---- the files of the range
@@ -216,7 +217,7 @@ module _ {M R : Type 0} (bytes : M → Option (List ℕ)) (id_of : M → ℕ) (r
       merged_fit None have at = refl
       merged_fit (Some made) have at =
           let one = told_one bytes id_of rows id s its made.file have.0 at.0 in
-          ap (λ b. b && list_all (is_view_ref now) (views_under (id + 1) made.views.items)) (ap (λ (c : Columns). counts_columns c (ref_under id made.file)) its_epoch ∙ true_counts s id (rows id) _ (ref_under id made.file) one.file one.true)
+          ap (λ b. b && list_all (is_view_ref now) (views_under (id + 1) made.views.items)) (ap (λ (c : Columns). counts_columns c (ref_under id made.file)) its_epoch ∙ true_counts (file_layout s (ref_under id made.file)) id (rows id) _ (ref_under id made.file) one.file one.true)
           ∙ views_fit (id + 1) 0 was.views t.views.items made.views.items from tasks have.1 at.1
 
       pub merged_keeps : IsLineage now → (files : Option (MadeFiles M)) (have : HaveMerged bytes id_of read was t its files) → AreAt rows id (rows_made was t its files have) → are_files_if_any (files_under_if_any id files) ≡ true
@@ -227,7 +228,7 @@ module _ {M R : Type 0} (bytes : M → Option (List ℕ)) (id_of : M → ℕ) (r
           let many = views_many s its was.views t.views.items made.views.items have.1 in
           let refs = under_many (id + 1) made.views.items in
           let few = views_was was now grown in
-          all_true (is_ref s id (rows id) _ (ref_under id made.file) schema one.file one.true)
+          all_true (is_ref (file_layout s (ref_under id made.file)) id (rows id) _ (ref_under id made.file) schema one.file one.true)
           (all_true
           (all_true (is_at_least (length (views_under (id + 1) made.views.items)) 8 (omega (arith, many, refs, few, rules.few_views))) (views_rise s its 0 0 (id + 1) (omega arith) was.views t.views.items made.views.items tasks have.1))
           (views_keep rules (id + 1) 0 was.views t.views.items made.views.items from tasks have.1 at.1))
@@ -240,7 +241,7 @@ module _ {M R : Type 0} (bytes : M → Option (List ℕ)) (id_of : M → ℕ) (r
           → told_under bytes id (files_if_any files) ≡ told_files (wants rows (files_shelved now t.epoch (files_under_if_any id files)))
       merged_tell None have at all = refl
       merged_tell (Some made) have at all =
-          let one = tells_one id s its made.file have.0 at.0 all.0.0 all.0.1 ∙ ap (λ (c : Columns). Some (file_bytes c (rows id))) (sym its_epoch) in
+          let one = tells_one id s its made.file have.0 at.0 all.0.0 all.0.1 ∙ ap (λ (c : Columns). Some (file_bytes (file_layout c (ref_under id made.file)) (rows id))) (sym its_epoch) in
           λ i. (id, one i) ∷ views_tell (id + 1) 0 was.views t.views.items made.views.items from tasks have.1 at.1 all.1 i
 
       -- the delta has the merged rows

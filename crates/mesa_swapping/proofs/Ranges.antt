@@ -1,5 +1,5 @@
 -- The rows of a range, by the columns that a table had and by those that it has now.
-use Rattle.std.proofs.Common.{◌≡◌, ℕ, ◌-◌, ◌≤◌, List, [], ◌∷◌, ◌++◌, map, take, drop, refl, sym, ◌∙◌, ap, arith, length-drop}
+use Rattle.std.proofs.Common.{◌≡◌, ℕ, ◌-◌, ◌≤◌, List, [], ◌∷◌, ◌++◌, length, map, take, drop, refl, sym, ◌∙◌, ap, arith, length-drop}
 use Rattle.std.specs.List.{AllByRecursion}
 use Rattle.std.proofs.lemmas.List.{drop-append-le, take-append-drop, take-append-le}
 use Rattle.mesa_schema.specs.declared.rows.Row.{Row}
@@ -17,19 +17,23 @@ module _ (was now : Lineage) (grown : HasGrown was now) where
 
   -- the changes that came since
   abbrev since : List Change
-  since = drop epoch now.changes
+  since = drop (length was.changes) now.changes
 
   changes_are : now.changes ≡ was.changes ++ since
-  changes_are = sym (take-append-drop epoch now.changes) ∙ ap (λ front. front ++ since) grown.changes
+  changes_are = sym (take-append-drop (length was.changes) now.changes) ∙ ap (λ front. front ++ since) grown.changes
 
   columns_same : (from : ℕ) → from ≤ epoch → columns_at now from ≡ columns_at was from
-  columns_same from le = λ i. columns_after (grown.first i) ((ap (take from) changes_are ∙ take-append-le from was.changes since le) i)
+  columns_same from le =
+      let at = from - was.begins in
+      λ i. columns_after (grown.first i) (((λ j. take (from - grown.begins j) (changes_are j)) ∙ take-append-le at was.changes since (omega (arith, le))) i)
 
-  changes_same : (from : ℕ) → from ≤ epoch → take (epoch - from) (drop from now.changes) ≡ take (epoch - from) (drop from was.changes)
+  changes_same : (from : ℕ) → from ≤ epoch → take (epoch - now.begins - (from - now.begins)) (drop (from - now.begins) now.changes) ≡ take (epoch - was.begins - (from - was.begins)) (drop (from - was.begins) was.changes)
   changes_same from le =
-      ap (λ changes. take (epoch - from) (drop from changes)) changes_are
-      ∙ ap (take (epoch - from)) (drop-append-le from was.changes since le)
-      ∙ take-append-le (epoch - from) (drop from was.changes) since (let count = length-drop from was.changes in omega (arith, count))
+      let at = from - was.begins in
+      let count = epoch - was.begins - at in
+      (λ i. take (epoch - grown.begins i - (from - grown.begins i)) (drop (from - grown.begins i) (changes_are i)))
+      ∙ ap (take count) (drop-append-le at was.changes since (omega (arith, le)))
+      ∙ take-append-le count (drop at was.changes) since (let left = length-drop at was.changes in omega (arith, left))
 
   lifted_same : (from : ℕ) (row : Row) → from ≤ epoch → lifted now from epoch row ≡ lifted was from epoch row
   lifted_same from row le = λ i. lifted_by (columns_same from le i) (changes_same from le i) row

@@ -1,5 +1,5 @@
 -- What stays of a table's columns and views while they are changed.
-use Rattle.std.specs.Prelude.{◌≡◌, ℕ, List, map, take, IsTrue, is_ok, Some, slice_get}
+use Rattle.std.specs.Prelude.{◌≡◌, ℕ, List, length, map, take, IsTrue, is_ok, Some, slice_get}
 use Rattle.mesa_schema.specs.declared.changes.Change.{Change}
 use Rattle.mesa_schema.specs.declared.rows.Row.{Row}
 use Rattle.mesa_schema.specs.declared.views.View.{View}
@@ -14,10 +14,11 @@ pub record HasOutlived (was now : Lineage) (number : ℕ) (v : View) : Type 0 wh
   pub columns : view_columns (columns_of now) v ≡ view_columns (columns_of was) v
   pub rows : (rows : List Row) → AreRowsOf (columns_of was) rows → view_rows (columns_of now) v (map (lifted now (epoch_of was) (epoch_of now)) rows) ≡ view_rows (columns_of was) v rows
 
--- A table's columns and views have become these: the changes that there were stand before those that came since, and each view that there was is there still.
+-- A table's columns and views have become these: they begin at the same epoch, the changes that there were stand before those that came since, and each view that there was is there still.
 pub record HasGrown (was now : Lineage) : Type 0 where
+  pub begins : now.begins ≡ was.begins
   pub first : now.first ≡ was.first
-  pub changes : take (epoch_of was) now.changes ≡ was.changes
+  pub changes : take (length was.changes) now.changes ≡ was.changes
   pub views : (number : ℕ) (v : View) → slice_get was.views number ≡ Some v → HasOutlived was now number v
 
 -- Nothing has come yet.
