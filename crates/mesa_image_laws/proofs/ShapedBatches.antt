@@ -146,12 +146,12 @@ swapped_shaped c t true from to epoch files is shaped may le =
     let some = is_at_most 1 to first.1 in
     let within = is_at_most to t.oldest last.1 in
     let lt : to < c.next = elim shaped.oldest [ inl lt ↦ omega (arith, within, lt) | inr none ↦ absurd (omega (arith, some, within, none.0)) ] in
-    based_shaped c.floor c.next t to (merged_delta epoch files) (is_at_most (start_in t) to third.1) within lt le refl shaped
+    based_shaped c.floor c.next t to (merged_delta epoch files) (is_at_most (start_in t) to third.1) within lt le tt refl shaped
 swapped_shaped c t false from to epoch files is shaped may le =
     let both = both_true (from == start_in t) (is_number (missing_end (start_in t) (ranges_of t).cumulatives (base_before c.next)) to) may in
     let missing = number_is (missing_end (start_in t) (ranges_of t).cumulatives (base_before c.next)) to both.1 in
     let lt : to < c.next = missing_there (start_in t) c.next to (ranges_of t).cumulatives (omega (arith, shaped.singles)) missing in
-    covered_shaped c.floor c.next t to (merged_delta epoch files) lt le (works_keep (ranges_of t) 0 (base_before c.next) (work.Cumulative (start_in t) to) shaped.reachable (ap (option_map (work.Cumulative (start_in t))) missing)) shaped
+    covered_shaped c.floor c.next t to (merged_delta epoch files) lt le tt (works_keep (ranges_of t) 0 (base_before c.next) (work.Cumulative (start_in t) to) shaped.reachable (ap (option_map (work.Cumulative (start_in t))) missing)) shaped
 
 pub swap_shaped : (c : Catalog) (table : ℕ) (base : Bool) (from to epoch : ℕ) (files : Option Files) → IsCatalog c → is_there c table && swap_fits c (stock_at c table) base from to epoch files ≡ true
     → IsCatalog (with_stock c table (stock_swapped (stock_at c table) base to (merged_delta epoch files)))

@@ -29,7 +29,7 @@ use Rattle.mesa_image.specs.mesa_model.Warehouse.{max_tables}
 use Rattle.mesa_image.specs.mesa_record.Rules.{IsTypedChange}
 use Rattle.mesa_image.specs.Catalog.{Delta, Stock, Catalog, start_in, no_stock, new_stock, stock_at, stock_from, stock_viewed, stock_changed, with_stock, empty_base, empty_delta}
 use Rattle.mesa_image.specs.Fitting.{base_deltas, deltas_of, names_in, is_new_name, is_there, table_fits, view_fits, alter_fits, expire_fits}
-use Rattle.mesa_image.specs.Shape.{IsShaped, IsCatalog}
+use Rattle.mesa_image.specs.Shape.{IsShaped, IsCatalog, IsWithinBound}
 use Rattle.mesa_image_laws.proofs.Shaping.{from_shaped}
 use Rattle.mesa_image_laws.proofs.Lists.{all_take, both_true, is_less, not_true, stock_found}
 use Rattle.mesa_image_laws.proofs.Defaults.{default_read}
@@ -78,6 +78,10 @@ base_epochs : (o : Option ℕ) → AllByRecursion (λ (d : Delta). d.epoch ≤ 0
 base_epochs None = tt
 base_epochs (Some to) = (omega arith, tt)
 
+base_within : (o : Option ℕ) → AllByRecursion IsWithinBound (base_deltas (option_map empty_base o))
+base_within None = tt
+base_within (Some to) = (tt, tt)
+
 new_shaped : (c : Catalog) (name : List ℕ) (s : Columns) → IsCatalog c → is_schema s ≡ true → IsShaped c.floor c.next (new_stock c name s)
 new_shaped c name s is schema =
     let start = start_new c name s in
@@ -92,6 +96,7 @@ new_shaped c name s is schema =
       reachable = refl;
       ends = tt;
       epochs = all_append (λ (d : Delta). d.epoch ≤ 0) (base_deltas (new_stock c name s).base) _ (base_epochs (base_before c.floor)) (all_replicate (λ (d : Delta). d.epoch ≤ 0) empty_delta (c.next - c.floor) (omega arith));
+      recorded = all_append IsWithinBound (base_deltas (new_stock c name s).base) _ (base_within (base_before c.floor)) (all_replicate IsWithinBound empty_delta (c.next - c.floor) tt);
     }
 
 names_pushed : (tables : List Stock) (t : Stock) → t.lineage.views ≡ [] → has_name t.name (flat_map names_in tables) ≡ false → is_none (repeated (flat_map names_in tables)) ≡ true → is_none (repeated (flat_map names_in (tables ++ t ∷ []))) ≡ true
@@ -158,6 +163,7 @@ viewed_shaped floor next t name keys values is ok room =
       reachable = is.reachable;
       ends = is.ends;
       epochs = is.epochs;
+      recorded = is.recorded;
     }
 
 pub view_shaped : (c : Catalog) (table : ℕ) (name : List ℕ) (keys values : List (List ℕ)) → IsCatalog c → view_fits c table name keys values ≡ true → IsCatalog (with_stock c table (stock_viewed (stock_at c table) name keys values))
@@ -264,6 +270,7 @@ changed_shaped floor next t c is default ok = record {
   reachable = is.reachable;
   ends = is.ends;
   epochs = all_so (λ (d : Delta). d.epoch ≤ epoch_of t.lineage) (λ (d : Delta). d.epoch ≤ epoch_of (with_change t.lineage c)) (deltas_of t) (λ d le. (let n : d.epoch ≤ epoch_of (with_change t.lineage c) = omega (arith, le, length-append t.lineage.changes (c ∷ [])) in n)) is.epochs;
+  recorded = is.recorded;
 }
 
 pub alter_shaped : (c : Catalog) (table : ℕ) (change : Change) → IsCatalog c → IsTypedChange change → alter_fits c table change ≡ true → IsCatalog (with_stock c table (stock_changed (stock_at c table) change))

@@ -1,5 +1,5 @@
 -- Every record that fits keeps what catalogues keep.
-use Rattle.std.proofs.Common.{◌≡◌, inl, inr, ℕ, suc, ◌+◌, ◌-◌, ◌^◌, ◌<◌, ◌≤◌, List, [], ◌∷◌, ◌++◌, map, length, Option, Some, None, true, false, refl, sym, ◌∙◌, ap, subst, arith, length-append, length-drop, is_none}
+use Rattle.std.proofs.Common.{◌≡◌, inl, inr, ℕ, suc, ◌+◌, ◌-◌, ◌^◌, ◌<◌, ◌≤◌, List, [], ◌∷◌, ◌++◌, map, drop, length, Option, Some, None, true, false, refl, sym, ◌∙◌, ap, subst, arith, length-append, length-drop, is_none}
 use Rattle.std.specs.Prelude.{flat_map, max}
 use Rattle.std.proofs.lemmas.List.{length-map, map-append}
 use Rattle.std.specs.List.{AllByRecursion}
@@ -16,7 +16,7 @@ use Rattle.mesa_image.specs.Catalog.{Delta, Ending, Stock, Catalog, start_in, ra
 use Rattle.mesa_image.specs.Fitting.{base_deltas, delta_in, deltas_of, names_in}
 use Rattle.mesa_image.specs.mesa_model.Warehouse.{max_tables}
 use Rattle.mesa_fold.specs.mesa_schema.Names.{repeated}
-use Rattle.mesa_image.specs.Shape.{IsShaped, IsCatalog}
+use Rattle.mesa_image.specs.Shape.{IsShaped, IsCatalog, IsWithinBound}
 use Rattle.mesa_fold.proofs.mesa_schema.Lists.{all_append, all_drop, all_map, all_so}
 use Rattle.mesa_image_laws.proofs.Lists.{all_front, all_back}
 use Rattle.mesa_image_laws.proofs.Kept.{ranges_swapped}
@@ -39,6 +39,7 @@ from_shaped floor later version next t above lt is = record {
   reachable = is.reachable;
   ends = is.ends;
   epochs = is.epochs;
+  recorded = is.recorded;
 }
 
 -- names stay where versions are let go
@@ -69,12 +70,32 @@ length-totals [] (m ∷ more) e = absurd (omega (arith, e))
 length-totals (t ∷ totals) [] e = absurd (omega (arith, e))
 length-totals (t ∷ totals) (m ∷ more) e = ap suc (length-totals totals more (omega (arith, e)))
 
-epochs_more : (t : Stock) (d : Delta) → d.epoch ≤ epoch_of t.lineage → AllByRecursion (λ (x : Delta). x.epoch ≤ epoch_of t.lineage) (deltas_of t) → AllByRecursion (λ (x : Delta). x.epoch ≤ epoch_of t.lineage) (base_deltas t.base ++ (map delta_in t.cumulatives ++ (t.singles ++ d ∷ [])))
-epochs_more t d le all =
-    let E = λ (x : Delta). x.epoch ≤ epoch_of t.lineage in
-    let rest = all_back E (base_deltas t.base) (map delta_in t.cumulatives ++ t.singles) all in
-    all_append E (base_deltas t.base) _ (all_front E (base_deltas t.base) (map delta_in t.cumulatives ++ t.singles) all)
-    (all_append E (map delta_in t.cumulatives) _ (all_front E (map delta_in t.cumulatives) t.singles rest) (all_append E t.singles (d ∷ []) (all_back E (map delta_in t.cumulatives) t.singles rest) (le, tt)))
+-- what is added to totals is within the bound where the sums are
+more_below : (totals more : List ℕ) → length more ≡ length totals → AllByRecursion (λ total. total < sum_bound) (totals_with totals more) → AllByRecursion (λ total. total < sum_bound) more
+more_below [] [] e all = tt
+more_below [] (m ∷ more) e all = absurd (omega (arith, e))
+more_below (t ∷ totals) [] e all = tt
+more_below (t ∷ totals) (m ∷ more) e all = (let below = all.0 in omega (arith, below), more_below totals more (omega (arith, e)) all.1)
+
+-- what holds of all deltas, with a singleton more
+deltas_loaded : (P : Delta → Type 0) (t : Stock) (d : Delta) → P d → AllByRecursion P (deltas_of t) → AllByRecursion P (base_deltas t.base ++ (map delta_in t.cumulatives ++ (t.singles ++ d ∷ [])))
+deltas_loaded P t d its all =
+    let rest = all_back P (base_deltas t.base) (map delta_in t.cumulatives ++ t.singles) all in
+    all_append P (base_deltas t.base) _ (all_front P (base_deltas t.base) (map delta_in t.cumulatives ++ t.singles) all)
+    (all_append P (map delta_in t.cumulatives) _ (all_front P (map delta_in t.cumulatives) t.singles rest) (all_append P t.singles (d ∷ []) (all_back P (map delta_in t.cumulatives) t.singles rest) (its, tt)))
+
+-- with another base
+deltas_based : (P : Delta → Type 0) (t : Stock) (n : ℕ) (d : Delta) → P d → AllByRecursion P (deltas_of t) → P d × AllByRecursion P (drop n t.singles)
+deltas_based P t n d its all = (its, all_drop P n t.singles (all_back P (map delta_in t.cumulatives) t.singles (all_back P (base_deltas t.base) (map delta_in t.cumulatives ++ t.singles) all)))
+
+-- and with a cumulative more
+deltas_covered : (P : Delta → Type 0) (t : Stock) (ending : Ending) → P ending.delta → AllByRecursion P (deltas_of t) → AllByRecursion P (base_deltas t.base ++ (map delta_in (t.cumulatives ++ ending ∷ []) ++ t.singles))
+deltas_covered P t ending its all =
+    let rest = all_back P (base_deltas t.base) (map delta_in t.cumulatives ++ t.singles) all in
+    all_append P (base_deltas t.base) _ (all_front P (base_deltas t.base) (map delta_in t.cumulatives ++ t.singles) all)
+    (all_append P (map delta_in (t.cumulatives ++ ending ∷ [])) t.singles
+    (subst (AllByRecursion P) (sym (map-append delta_in t.cumulatives (ending ∷ []))) (all_append P (map delta_in t.cumulatives) (ending.delta ∷ []) (all_front P (map delta_in t.cumulatives) t.singles rest) (its, tt)))
+    (all_back P (map delta_in t.cumulatives) t.singles rest))
 
 ends_later : (next : ℕ) (es : List Ending) → AllByRecursion (λ (e : Ending). e.to < next) es → AllByRecursion (λ (e : Ending). e.to < next + 1) es
 ends_later next es all = all_so (λ (e : Ending). e.to < next) (λ (e : Ending). e.to < next + 1) es (λ e lt. (let n : e.to < next + 1 = omega (arith, lt) in n)) all
@@ -94,7 +115,8 @@ loaded_shaped floor next t None is fit = record {
   base = is.base;
   reachable = is.reachable;
   ends = ends_later next t.cumulatives is.ends;
-  epochs = epochs_more t (empty_delta) (omega arith) is.epochs;
+  epochs = deltas_loaded (λ (d : Delta). d.epoch ≤ epoch_of t.lineage) t empty_delta (omega arith) is.epochs;
+  recorded = deltas_loaded IsWithinBound t empty_delta tt is.recorded;
 }
 loaded_shaped floor next t (Some p) is fit = record {
   lineage = is.lineage;
@@ -106,16 +128,15 @@ loaded_shaped floor next t (Some p) is fit = record {
   base = is.base;
   reachable = is.reachable;
   ends = ends_later next t.cumulatives is.ends;
-  epochs = epochs_more t (part_delta p) (omega (arith, fit.epoch)) is.epochs;
+  epochs = deltas_loaded (λ (d : Delta). d.epoch ≤ epoch_of t.lineage) t (part_delta p) (omega (arith, fit.epoch)) is.epochs;
+  recorded = deltas_loaded IsWithinBound t (part_delta p) (more_below t.totals p.totals (fit.count ∙ sym is.totals) fit.bound) is.recorded;
 }
 
 -- ---- a merged range
 
-pub based_shaped : (floor next : ℕ) (t : Stock) (to : ℕ) (d : Delta) → start_in t ≤ to → to ≤ t.oldest → to < next → d.epoch ≤ epoch_of t.lineage → IsReachable (swapped (work.Base to) (ranges_of t)) → IsShaped floor next t → IsShaped floor next (stock_swapped t true to d)
-based_shaped floor next t to d behind within lt epoch reachable is =
-    let E = λ (x : Delta). x.epoch ≤ epoch_of t.lineage in
+pub based_shaped : (floor next : ℕ) (t : Stock) (to : ℕ) (d : Delta) → start_in t ≤ to → to ≤ t.oldest → to < next → d.epoch ≤ epoch_of t.lineage → IsWithinBound d → IsReachable (swapped (work.Base to) (ranges_of t)) → IsShaped floor next t → IsShaped floor next (stock_swapped t true to d)
+based_shaped floor next t to d behind within lt epoch bounded reachable is =
     let n = to + 1 - start_in t in
-    let rest = all_back E (map delta_in t.cumulatives) t.singles (all_back E (base_deltas t.base) (map delta_in t.cumulatives ++ t.singles) is.epochs) in
     record {
       lineage = is.lineage;
       totals = is.totals;
@@ -126,14 +147,13 @@ based_shaped floor next t to d behind within lt epoch reachable is =
       base = omega (arith, within);
       reachable = reachable;
       ends = tt;
-      epochs = (epoch, all_drop E n t.singles rest);
+      epochs = deltas_based (λ (x : Delta). x.epoch ≤ epoch_of t.lineage) t n d epoch is.epochs;
+      recorded = deltas_based IsWithinBound t n d bounded is.recorded;
     }
 
-pub covered_shaped : (floor next : ℕ) (t : Stock) (to : ℕ) (d : Delta) → to < next → d.epoch ≤ epoch_of t.lineage → IsReachable (swapped (work.Cumulative (start_in t) to) (ranges_of t)) → IsShaped floor next t → IsShaped floor next (stock_swapped t false to d)
-covered_shaped floor next t to d lt epoch reachable is =
-    let E = λ (x : Delta). x.epoch ≤ epoch_of t.lineage in
+pub covered_shaped : (floor next : ℕ) (t : Stock) (to : ℕ) (d : Delta) → to < next → d.epoch ≤ epoch_of t.lineage → IsWithinBound d → IsReachable (swapped (work.Cumulative (start_in t) to) (ranges_of t)) → IsShaped floor next t → IsShaped floor next (stock_swapped t false to d)
+covered_shaped floor next t to d lt epoch bounded reachable is =
     let ending : Ending = record { to = to; delta = d } in
-    let rest = all_back E (base_deltas t.base) (map delta_in t.cumulatives ++ t.singles) is.epochs in
     record {
       lineage = is.lineage;
       totals = is.totals;
@@ -144,6 +164,6 @@ covered_shaped floor next t to d lt epoch reachable is =
       base = is.base;
       reachable = subst IsReachable (sym (ranges_swapped t false (start_in t) to d)) reachable;
       ends = all_append (λ (e : Ending). e.to < next) t.cumulatives (ending ∷ []) is.ends (lt, tt);
-      epochs = all_append E (base_deltas t.base) _ (all_front E (base_deltas t.base) (map delta_in t.cumulatives ++ t.singles) is.epochs)
-          (all_append E (map delta_in (t.cumulatives ++ ending ∷ [])) t.singles (subst (AllByRecursion E) (sym (map-append delta_in t.cumulatives (ending ∷ []))) (all_append E (map delta_in t.cumulatives) (d ∷ []) (all_front E (map delta_in t.cumulatives) t.singles rest) (epoch, tt))) (all_back E (map delta_in t.cumulatives) t.singles rest));
+      epochs = deltas_covered (λ (x : Delta). x.epoch ≤ epoch_of t.lineage) t ending epoch is.epochs;
+      recorded = deltas_covered IsWithinBound t ending bounded is.recorded;
     }
