@@ -8,6 +8,7 @@ use Rattle.mesa_schema.specs.Changes.{Lineage, columns_at, columns_of, epoch_of,
 use Rattle.mesa_schema.specs.Columns.{Columns}
 use Rattle.mesa_schema.specs.Schema.{is_schema}
 use Rattle.mesa_image_laws.specs.mesa_history.mesa_batch.Totals.{abs_totals}
+use Rattle.mesa_delta.specs.mesa_block.Layout.{Layout}
 use Rattle.mesa_delta.specs.File.{IsFile, file_bytes}
 use Rattle.mesa_delta.specs.Spread.{blocks_of}
 use Rattle.mesa_record.specs.declared.record.Files.{Files}
@@ -17,7 +18,7 @@ use Rattle.mesa_image_laws.proofs.Contents.{present_now}
 use Rattle.mesa_plans.specs.Files.{own_lineage}
 use Rattle.mesa_image_laws.specs.mesa_image.Catalog.{Delta}
 use Rattle.mesa_image_laws.specs.mesa_image.Fitting.{Shelved, columns_seen, view_shelved}
-use Rattle.mesa_tasks.specs.Opening.{wanted_columns}
+use Rattle.mesa_tasks.specs.Opening.{wanted_columns, wanted_layout}
 use Rattle.mesa_tasks.specs.declared.opening.Wanted.{Wanted}
 use Rattle.mesa_examine.specs.Examined.{AreSumsIn, IsExaminedAs}
 use Rattle.mesa_examine.specs.Sums.{counted}
@@ -29,15 +30,15 @@ use Rattle.mesa_check.specs.declared.testing.Test.{Test}
 
 -- two files of as many blocks with the same bytes have the same rows
 abbrev pub OneFile : Type 0
-OneFile = (s : Columns) (rows others : List Row) (bytes : List ℕ) → IsTrue (is_schema s) → length bytes < 2 ^ 64 → IsFile s rows bytes → IsFile s others bytes → length (blocks_of s rows) ≡ length (blocks_of s others) → rows ≡ others
+OneFile = (s : Layout) (rows others : List Row) (bytes : List ℕ) → IsTrue (is_schema s.columns) → length bytes < 2 ^ 64 → IsFile s rows bytes → IsFile s others bytes → length (blocks_of s rows) ≡ length (blocks_of s others) → rows ≡ others
 
 -- what is examined of a file is what is found of it
 pub found_once : OneFile → (i : Image) (w : Wanted) (rows : Option (List Row)) (o : Option Sums) → IsTrue (is_schema (wanted_columns w)) → w.file.now.len < 2 ^ 64 → IsExaminedAs i w o → IsFoundAs i (shelf_of w) rows → AreSumsFound w rows o
 found_once law i w None None schema fits examined found = tt
-found_once law i w None (Some sums) schema fits examined found = found (file_bytes (wanted_columns w) examined.0) examined.0 examined.1 examined.2 examined.3
-found_once law i w (Some rows) None schema fits examined found = examined (file_bytes (wanted_columns w) rows) rows found.0 found.1 found.2
+found_once law i w None (Some sums) schema fits examined found = found (file_bytes (wanted_layout w) examined.0) examined.0 examined.1 examined.2 examined.3
+found_once law i w (Some rows) None schema fits examined found = examined (file_bytes (wanted_layout w) rows) rows found.0 found.1 found.2
 found_once law i w (Some rows) (Some sums) schema fits examined found =
-    let s : Columns = wanted_columns w in
+    let s : Layout = wanted_layout w in
     let mine : List Row = examined.0 in
     let read : Some (file_bytes s mine) ≡ Some (file_bytes s rows) = sym examined.1 ∙ found.0 in
     let same : file_bytes s mine ≡ file_bytes s rows = cc in

@@ -12,7 +12,7 @@ use Rattle.mesa_schema.specs.Columns.{Columns, aggs_of}
 use Rattle.mesa_schema.specs.Folded.{folded, rows_of}
 use Rattle.mesa_schema.specs.Views.{view_rows}
 use Rattle.mesa_fold.specs.Bound.{KeepsBound}
-use Rattle.mesa_image_laws.specs.mesa_history.mesa_batch.Totals.{abs_total, sum_places}
+use Rattle.mesa_image_laws.specs.mesa_history.mesa_batch.Totals.{abs_total, sum_bound, sum_places}
 use Rattle.mesa_disk.specs.Image.{Image}
 use Rattle.mesa_record.specs.declared.record.Files.{Files}
 use Rattle.mesa_record.specs.declared.record.ViewRef.{ViewRef}
@@ -32,31 +32,31 @@ use Rattle.mesa_check.specs.Tested.{AreThere, IsThere, shelf_of}
 
 -- ---- sums that keep their bound
 
-bounds : (f : ℕ → ℕ) (aggs : List Agg) (i c : ℕ) → list_all (λ total. nat_lt total (2 ^ 63)) (map f (sum_places i aggs)) ≡ true → slice_get aggs c ≡ Some agg.Sum → f (i + c) < 2 ^ 63
+bounds : (f : ℕ → ℕ) (aggs : List Agg) (i c : ℕ) → list_all (λ total. nat_lt total sum_bound) (map f (sum_places i aggs)) ≡ true → slice_get aggs c ≡ Some agg.Sum → f (i + c) < sum_bound
 bounds f [] i c all p = absurd cc
 bounds f (agg.Sum ∷ aggs) i zero all p =
-    let here = (both_true (nat_lt (f i) (2 ^ 63)) (list_all (λ total. nat_lt total (2 ^ 63)) (map f (sum_places (i + 1) aggs))) all).0 in
+    let here = (both_true (nat_lt (f i) sum_bound) (list_all (λ total. nat_lt total sum_bound) (map f (sum_places (i + 1) aggs))) all).0 in
     let same : i ≡ i + 0 = omega arith in
-    subst (λ n. f n < 2 ^ 63) same (below (f i) here)
+    subst (λ n. f n < sum_bound) same (below (f i) here)
   where
-    below : (n : ℕ) → nat_lt n (2 ^ 63) ≡ true → n < 2 ^ 63
+    below : (n : ℕ) → nat_lt n sum_bound ≡ true → n < sum_bound
     below n e = grind (arith, nat_tests)
 bounds f (agg.Min ∷ aggs) i zero all p = absurd cc
 bounds f (agg.Max ∷ aggs) i zero all p = absurd cc
 bounds f (agg.Replace ∷ aggs) i zero all p = absurd cc
 bounds f (agg.Sum ∷ aggs) i (suc c) all p =
-    subst (λ n. f n < 2 ^ 63) (omega arith) (bounds f aggs (i + 1) c (both_true (nat_lt (f i) (2 ^ 63)) (list_all (λ total. nat_lt total (2 ^ 63)) (map f (sum_places (i + 1) aggs))) all).1 p)
-bounds f (agg.Min ∷ aggs) i (suc c) all p = subst (λ n. f n < 2 ^ 63) (omega arith) (bounds f aggs (i + 1) c all p)
-bounds f (agg.Max ∷ aggs) i (suc c) all p = subst (λ n. f n < 2 ^ 63) (omega arith) (bounds f aggs (i + 1) c all p)
-bounds f (agg.Replace ∷ aggs) i (suc c) all p = subst (λ n. f n < 2 ^ 63) (omega arith) (bounds f aggs (i + 1) c all p)
+    subst (λ n. f n < sum_bound) (omega arith) (bounds f aggs (i + 1) c (both_true (nat_lt (f i) sum_bound) (list_all (λ total. nat_lt total sum_bound) (map f (sum_places (i + 1) aggs))) all).1 p)
+bounds f (agg.Min ∷ aggs) i (suc c) all p = subst (λ n. f n < sum_bound) (omega arith) (bounds f aggs (i + 1) c all p)
+bounds f (agg.Max ∷ aggs) i (suc c) all p = subst (λ n. f n < sum_bound) (omega arith) (bounds f aggs (i + 1) c all p)
+bounds f (agg.Replace ∷ aggs) i (suc c) all p = subst (λ n. f n < sum_bound) (omega arith) (bounds f aggs (i + 1) c all p)
 
-pub keeps_sums : (s : Columns) (rows : List Row) → keep_bound s rows ≡ true → (c : ℕ) → slice_get (aggs_of s) c ≡ Some agg.Sum → abs_total c rows < 2 ^ 63
-keeps_sums s rows all c p = let same : 0 + c ≡ c = omega arith in subst (λ n. abs_total n rows < 2 ^ 63) same (bounds (λ n. abs_total n rows) (aggs_of s) 0 c all p)
+pub keeps_sums : (s : Columns) (rows : List Row) → keep_bound s rows ≡ true → (c : ℕ) → slice_get (aggs_of s) c ≡ Some agg.Sum → abs_total c rows < sum_bound
+keeps_sums s rows all c p = let same : 0 + c ≡ c = omega arith in subst (λ n. abs_total n rows < sum_bound) same (bounds (λ n. abs_total n rows) (aggs_of s) 0 c all p)
 
 pub keeps_bound : (s : Columns) (rows : List Row) → keep_bound s rows ≡ true → KeepsBound (aggs_of s) [] rows
 keeps_bound s rows all c p = let h = keeps_sums s rows all c p in plus (abs_total c rows) h
   where
-    plus : (n : ℕ) → n < 2 ^ 63 → 0 + n < 2 ^ 63
+    plus : (n : ℕ) → n < sum_bound → 0 + n < sum_bound
     plus n h = omega (arith, h)
 
 -- ---- files that were found

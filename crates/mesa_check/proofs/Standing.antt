@@ -24,7 +24,7 @@ use Rattle.mesa_disk.specs.Image.{Image}
 use Rattle.mesa_record.specs.declared.record.Files.{Files}
 use Rattle.mesa_difference.specs.Difference.{first_difference}
 use Rattle.mesa_difference.proofs.Differing.{same_where_none}
-use Rattle.mesa_image_laws.specs.mesa_history.mesa_batch.Totals.{abs_total, sum_places}
+use Rattle.mesa_image_laws.specs.mesa_history.mesa_batch.Totals.{abs_total, sum_bound, sum_places}
 use Rattle.mesa_image_laws.specs.mesa_image.Catalog.{Delta, Stock, start_in}
 use Rattle.mesa_image_laws.specs.mesa_image.Contents.{Rows, present, rows_if_any}
 use Rattle.mesa_image_laws.specs.mesa_image.Fitting.{delta_shelved, files_shelved}
@@ -49,14 +49,14 @@ front_passes p [] ys e = refl
 front_passes p (x ∷ xs) ys e = let parts = both_true (p x) (list_all p (xs ++ ys)) e in λ k. parts.0 k && front_passes p xs ys parts.1 k
 
 -- rows whose absolute values add up to no more keep the bound too
-less_bounded : (places : List ℕ) (rows all : List Row) → ((c : ℕ) → abs_total c rows ≤ abs_total c all) → list_all (λ total. nat_lt total (2 ^ 63)) (map (λ c. abs_total c all) places) ≡ true → list_all (λ total. nat_lt total (2 ^ 63)) (map (λ c. abs_total c rows) places) ≡ true
+less_bounded : (places : List ℕ) (rows all : List Row) → ((c : ℕ) → abs_total c rows ≤ abs_total c all) → list_all (λ total. nat_lt total sum_bound) (map (λ c. abs_total c all) places) ≡ true → list_all (λ total. nat_lt total sum_bound) (map (λ c. abs_total c rows) places) ≡ true
 less_bounded [] rows all less e = refl
 less_bounded (c ∷ places) rows all less e =
-    let parts = both_true (nat_lt (abs_total c all) (2 ^ 63)) (list_all (λ total. nat_lt total (2 ^ 63)) (map (λ k. abs_total k all) places)) e in
-    let here : nat_lt (abs_total c rows) (2 ^ 63) ≡ true = below (abs_total c rows) (abs_total c all) (less c) parts.0 in
+    let parts = both_true (nat_lt (abs_total c all) sum_bound) (list_all (λ total. nat_lt total sum_bound) (map (λ k. abs_total k all) places)) e in
+    let here : nat_lt (abs_total c rows) sum_bound ≡ true = below (abs_total c rows) (abs_total c all) (less c) parts.0 in
     λ k. here k && less_bounded places rows all less parts.1 k
   where
-    below : (a b : ℕ) → a ≤ b → nat_lt b (2 ^ 63) ≡ true → nat_lt a (2 ^ 63) ≡ true
+    below : (a b : ℕ) → a ≤ b → nat_lt b sum_bound ≡ true → nat_lt a sum_bound ≡ true
     below a b le e = grind (arith, nat_tests)
 
 pub less_keeps : (s : Columns) (rows all : List Row) → ((c : ℕ) → abs_total c rows ≤ abs_total c all) → keep_bound s all ≡ true → keep_bound s rows ≡ true
@@ -153,7 +153,7 @@ module _ (i : Image) (found : Found) (u : Stock) (lineage : IsLineage u.lineage)
           let both : abs_total c (rows_of (map f (d ∷ rest))) ≡ abs_total c (f d) + abs_total c (rows_of (map f rest)) = sum_by-append _ (f d) (rows_of (map f rest)) in
           under (abs_total c (rows_of (map f (d ∷ rest)))) (omega (arith, all, split, first, both))
         where
-          under : (n : ℕ) → n < 2 ^ 63 → 0 + n < 2 ^ 63
+          under : (n : ℕ) → n < sum_bound → 0 + n < sum_bound
           under n h = omega (arith, h)
 
       refolds : folded aggs (map f (d ∷ rest)) ≡ folded aggs (map f (merged_singles u to))

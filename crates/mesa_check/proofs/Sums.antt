@@ -1,12 +1,12 @@
 -- Totals in which each of 2^128 or more stands as 2^128 - 1.
 use lib.Pointwise.{pointwise}
-use Rattle.std.proofs.Common.{◌≡◌, ℕ, suc, ◌+◌, ◌^◌, ◌<◌, List, [], ◌∷◌, ◌++◌, get_or, length, map, refl, sym, ◌∙◌, ap, arith, Bool, true, false, ◌&&◌, nat_eq, nat_le, nat_lt}
+use Rattle.std.proofs.Common.{◌≡◌, ℕ, suc, ◌+◌, ◌^◌, ◌<◌, List, [], ◌∷◌, ◌++◌, length, map, refl, sym, ◌∙◌, ap, arith, Bool, true, false, ◌&&◌, nat_eq, nat_le, nat_lt}
 use Rattle.std.specs.Prelude.{min, replicate, zip, ◌==◌}
 use Rattle.std.specs.List.{AllByRecursion, list_all}
 use Rattle.std.proofs.lemmas.Bool.Decides.{nat_tests}
 use Rattle.std.proofs.lemmas.List.Sums.{sum_by-append}
 use Rattle.mesa_schema.specs.declared.rows.Row.{Row}
-use Rattle.mesa_image_laws.specs.mesa_history.mesa_batch.Totals.{abs_total}
+use Rattle.mesa_image_laws.specs.mesa_history.mesa_batch.Totals.{abs_total, sum_bound}
 use Rattle.mesa_examine.specs.Sums.{counted, most}
 use Rattle.mesa_verdict.specs.Faults.{are_at_most}
 
@@ -27,7 +27,7 @@ counted_both (c ∷ places) xs ys =
 
 -- ---- compared with totals of 64 bits
 
-below : (y : ℕ) → y < 2 ^ 64 → y < most
+below : (y : ℕ) → y < sum_bound → y < most
 below y h = omega (arith, h)
 
 le_capped : (m x y : ℕ) → y < m → nat_le (min m x) y ≡ nat_le x y
@@ -39,17 +39,17 @@ lt_capped m x y h = grind (arith, nat_tests)
 eq_capped : (m x y : ℕ) → y < m → nat_eq y (min m x) ≡ nat_eq y x
 eq_capped m x y h = grind (arith, nat_tests)
 
-pub most_counted : (xs ys : List ℕ) → AllByRecursion (λ y. y < 2 ^ 64) ys → are_at_most (counted xs) ys ≡ are_at_most xs ys
+pub most_counted : (xs ys : List ℕ) → AllByRecursion (λ y. y < sum_bound) ys → are_at_most (counted xs) ys ≡ are_at_most xs ys
 most_counted [] [] all = refl
 most_counted [] (y ∷ ys) all = refl
 most_counted (x ∷ xs) [] all = refl
 most_counted (x ∷ xs) (y ∷ ys) all = λ i. le_capped most x y (below y all.0) i && most_counted xs ys all.1 i
 
-pub bounded_counted : (xs : List ℕ) → list_all (λ total. nat_lt total (2 ^ 63)) (counted xs) ≡ list_all (λ total. nat_lt total (2 ^ 63)) xs
+pub bounded_counted : (xs : List ℕ) → list_all (λ total. nat_lt total sum_bound) (counted xs) ≡ list_all (λ total. nat_lt total sum_bound) xs
 bounded_counted [] = refl
-bounded_counted (x ∷ xs) = let h : 2 ^ 63 < most = omega arith in λ i. lt_capped most x (2 ^ 63) h i && bounded_counted xs i
+bounded_counted (x ∷ xs) = let h : sum_bound < most = omega arith in λ i. lt_capped most x sum_bound h i && bounded_counted xs i
 
-pub same_counted : (ys xs : List ℕ) → AllByRecursion (λ y. y < 2 ^ 64) ys → pointwise nat_eq ys (counted xs) ≡ pointwise nat_eq ys xs
+pub same_counted : (ys xs : List ℕ) → AllByRecursion (λ y. y < sum_bound) ys → pointwise nat_eq ys (counted xs) ≡ pointwise nat_eq ys xs
 same_counted [] [] all = refl
 same_counted [] (x ∷ xs) all = refl
 same_counted (y ∷ ys) [] all = refl
@@ -88,8 +88,3 @@ not_same (y ∷ ys) (x ∷ xs) differs = ap (λ b. nat_eq y x && b) (not_same ys
     last_out : (b : Bool) → (b && false) ≡ false
     last_out true = refl
     last_out false = refl
-
--- numbers of 64 bits, by their places
-pub all_below : (ys : List ℕ) → ((i : ℕ) → get_or ys i 0 < 2 ^ 64) → AllByRecursion (λ y. y < 2 ^ 64) ys
-all_below [] f = tt
-all_below (y ∷ ys) f = (f 0, all_below ys (λ i. f (suc i)))

@@ -11,6 +11,7 @@ use Rattle.mesa_schema.proofs.Lists.{all_both, all_map, all_so}
 use Rattle.mesa_image_laws.specs.mesa_history.mesa_batch.Totals.{abs_totals}
 use Rattle.mesa_image_laws.specs.mesa_image.Catalog.{Delta, Stock, empty_delta, start_in}
 use Rattle.mesa_image_laws.specs.mesa_image.Contents.{present}
+use Rattle.mesa_image_laws.specs.mesa_image.Shape.{IsWithinBound}
 use Rattle.mesa_image_laws.specs.mesa_image.Sound.{all_parts}
 use Rattle.mesa_image_laws.specs.mesa_image.Fitting.{Shelved, base_deltas, delta_in, delta_shelved, deltas_of, stock_shelved}
 use Rattle.mesa_image_laws.proofs.Lists.{all_back, all_take, all_unflat, all_unmap}
@@ -115,6 +116,9 @@ ranges_all P t ranges are all = all_unmap P range_in ranges (subst (AllByRecursi
 
 pub epochs_held : (next : ℕ) (t : Table) → IsHeld next t → AllByRecursion (λ (r : Range). r.delta.epoch ≤ epoch_of t.evolving.value) (held_ranges t)
 epochs_held next t is = held_all (λ (d : Delta). d.epoch ≤ epoch_of t.evolving.value) next t is.shaped.epochs
+
+pub within_held : (next : ℕ) (t : Table) → IsHeld next t → AllByRecursion (λ (r : Range). IsWithinBound r.delta) (held_ranges t)
+within_held next t is = held_all IsWithinBound next t is.shaped.recorded
 
 -- what is found of a table's files is what the tests say
 pub all_read : (told : Option Image) (next : ℕ) (t : Table) (tests : List Test) (i : Image) (found : Found) → map range_in (map range_of tests) ≡ held_ranges t → AllByRecursion (IsTestOf told t.evolving.value) tests → told ≡ Some i → AreFound i found (stock_shelved (stock_of next t))

@@ -10,7 +10,7 @@ use Rattle.mesa_schema.specs.declared.rows.Row.{Row}
 use Rattle.mesa_schema.specs.Changes.{Lineage, columns_of}
 use Rattle.mesa_schema.specs.Columns.{Columns, aggs_of}
 use Rattle.mesa_schema.proofs.Lists.{all_so}
-use Rattle.mesa_image_laws.specs.mesa_history.mesa_batch.Totals.{abs_total, sum_places}
+use Rattle.mesa_image_laws.specs.mesa_history.mesa_batch.Totals.{abs_total, sum_bound, sum_places}
 use Rattle.mesa_image_laws.specs.mesa_image.Contents.{present}
 use Rattle.mesa_image_laws.proofs.Lists.{both_true}
 use Rattle.mesa_shelf.specs.declared.table.Table.{Table}
@@ -44,7 +44,7 @@ ends_here : (single f k : Bool) → (not single || (f && k)) ≡ false → (sing
 ends_here true f k so = (refl, so)
 ends_here false f k so = absurd cc
 
-none_bounded : (places : List ℕ) → list_all (λ total. nat_lt total (2 ^ 63)) (map (λ c. abs_total c []) places) ≡ true
+none_bounded : (places : List ℕ) → list_all (λ total. nat_lt total sum_bound) (map (λ c. abs_total c []) places) ≡ true
 none_bounded [] = refl
 none_bounded (c ∷ places) = none_bounded places
 

@@ -1,8 +1,9 @@
 // The first fault of a table.
-ghost use Rattle.std.specs.Prelude.{◌≡◌, ◌≤◌, ◌&&◌, ℕ, map, find, flat_map, option_map, slice_get, true, IfOk, IfSome, None, Some, if◌then◌else◌};
+ghost use Rattle.std.specs.Prelude.{◌≡◌, ◌<◌, ◌≤◌, ◌&&◌, ℕ, map, find, flat_map, option_map, slice_get, true, IfOk, IfSome, None, Some, if◌then◌else◌};
 ghost use Rattle.std.specs.List.{AllByRecursion, list_all};
 ghost use Rattle.mesa_disk.specs.Image.{Image};
 ghost use Rattle.mesa_disk.specs.Story.{Unmoved};
+ghost use Rattle.mesa_image_laws.specs.mesa_history.mesa_batch.Totals.{sum_bound};
 ghost use Rattle.mesa_image_laws.specs.mesa_image.Fitting.{stock_shelved};
 ghost use Rattle.mesa_plans.specs.Lent.{now_if_any};
 ghost use Rattle.mesa_schema.specs.Changes.{epoch_of};
@@ -59,7 +60,8 @@ pub(crate) fn table_fault<M: Made, D: Disk<M>>(
 
 // Whether the absolute values of all rows add up to more than the table's totals. It is asked where the files of the base and of all singletons are the recorded ones and the singletons' totals true.
 fn exceeds_totals(alloc: Global, table: &Table, tests: &[Test]) -> Result<bool, AllocError>
-    requires { map range_in (map range_of tests.now) ≡ ranges_held table.now }
+    requires tests { map range_in (map range_of tests.now) ≡ ranges_held table.now }
+    requires totals { AllByRecursion (λ total. total < sum_bound) table.now.totals }
     ensures { IfOk result (λ b. (next : ℕ) (i : Image) (found : Found) → IsHeld next table.now → AllByRecursion (IsRead i found table.now.evolving.value) tests.now → b ≡ exceeds_them found (stock_of next table.now)) }
 {
     if !are_true(tests) {

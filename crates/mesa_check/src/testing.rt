@@ -3,6 +3,7 @@ ghost use Rattle.std.specs.Prelude.{◌≡◌, ◌≤◌, map, false, IfOk, None
 ghost use Rattle.std.specs.List.{AllByRecursion};
 ghost use Rattle.mesa_disk.specs.Image.{Image};
 ghost use Rattle.mesa_disk.specs.Story.{Unmoved};
+ghost use Rattle.mesa_image_laws.specs.mesa_image.Shape.{IsWithinBound};
 ghost use Rattle.mesa_schema.specs.Changes.{epoch_of};
 ghost use Rattle.mesa_tasks.specs.Opening.{Counted};
 ghost use Rattle.mesa_examine.specs.Examined.{is_read_failure};
@@ -40,7 +41,8 @@ pub(crate) fn test_ranges<'a, M: Made, D: Disk<M>>(
     evolving: &Arc<Evolving>,
     ranges: &[Held<'a>],
 ) -> Result<Vec<Test<'a>>, CheckError>
-    requires { AllByRecursion (λ r. (delta_of r).epoch ≤ epoch_of evolving.now.value) ranges.now }
+    requires epochs { AllByRecursion (λ r. (delta_of r).epoch ≤ epoch_of evolving.now.value) ranges.now }
+    requires totals { AllByRecursion (λ r. IsWithinBound (delta_of r)) ranges.now }
     ensures ranges { IfOk result (λ tests. map range_of tests.items ≡ ranges.now) }
     ensures tests { IfOk result (λ tests. AllByRecursion (IsTestOf (D.story disk.old).told evolving.now.value) tests.items) }
     ensures unmoved { Unmoved (D.story disk.old) (D.story disk.new) }
@@ -60,7 +62,8 @@ fn test_range<'a, M: Made, D: Disk<M>>(
     evolving: &Arc<Evolving>,
     range: Held<'a>,
 ) -> Result<Test<'a>, CheckError>
-    requires { (delta_of range).epoch ≤ epoch_of evolving.now.value }
+    requires epoch { (delta_of range).epoch ≤ epoch_of evolving.now.value }
+    requires totals { IsWithinBound (delta_of range) }
     ensures range { IfOk result (λ t. t.range ≡ range.entry) }
     ensures test { IfOk result (IsTestOf (D.story disk.old).told evolving.now.value) }
     ensures unmoved { Unmoved (D.story disk.old) (D.story disk.new) }
@@ -79,6 +82,7 @@ fn test_none<'a>(
     range: Held<'a>,
 ) -> Result<Test<'a>, AllocError>
     requires epoch { (delta_of range).epoch ≤ epoch_of evolving.now.value }
+    requires totals { IsWithinBound (delta_of range) }
     requires none { (delta_of range).files ≡ None }
     ensures range { IfOk result (λ t. t.range ≡ range.entry) }
     ensures test { (told : Option Image) → IfOk result (IsTestOf told evolving.now.value) }
@@ -103,6 +107,7 @@ fn test_files<'a, M: Made, D: Disk<M>>(
     files: &Files,
 ) -> Result<Test<'a>, CheckError>
     requires epoch { (delta_of range).epoch ≤ epoch_of evolving.now.value }
+    requires totals { IsWithinBound (delta_of range) }
     requires files { (delta_of range).files ≡ Some files.now }
     ensures range { IfOk result (λ t. t.range ≡ range.entry) }
     ensures test { IfOk result (IsTestOf (D.story disk.old).told evolving.now.value) }

@@ -1,7 +1,7 @@
-// Absolute values added up and compared. A total of 2^128 or more stands as 2^128 - 1, which is more than any total that is recorded.
-ghost use Rattle.std.specs.Prelude.{◌≡◌, ◌^◌, ◌+◌, ◌++◌, ◌==◌, ◌&&◌, ℕ, List, [], length, map, min, nat_eq, nat_le, nat_lt, zip, IfOk, Some, true, flat_map};
+// Absolute values added up and compared. A total of 2^128 or more stands as 2^128 - 1, which is more than any total that is recorded, as those are within the bound.
+ghost use Rattle.std.specs.Prelude.{◌≡◌, ◌<◌, ◌^◌, ◌+◌, ◌++◌, ◌==◌, ◌&&◌, ℕ, List, [], length, map, min, nat_eq, nat_le, nat_lt, zip, IfOk, IfSome, Some, true, flat_map};
 ghost use Rattle.std.specs.List.{AllByRecursion, list_all};
-ghost use Rattle.mesa_image_laws.specs.mesa_history.mesa_batch.Totals.{abs_totals};
+ghost use Rattle.mesa_image_laws.specs.mesa_history.mesa_batch.Totals.{abs_totals, sum_bound};
 ghost use Rattle.mesa_schema.specs.Changes.{Lineage, columns_of};
 ghost use Rattle.mesa_schema.specs.Columns.{Columns};
 ghost use Rattle.mesa_schema.specs.declared.rows.Row.{Row as AnyRow};
@@ -15,6 +15,7 @@ ghost use Rattle.mesa_plans.specs.Lent.{now_if_any};
 
 use crate::range::{Held, Kind};
 use crate::testing::Test;
+use mesa_batch::OVER_BOUND;
 use mesa_list::Items;
 use mesa_schema::{Schema, Totals};
 use mesa_shelf::no_totals;
@@ -25,13 +26,7 @@ pub(crate) fn no_sums(alloc: Global, schema: &Schema) -> Result<Vec<u128>, Alloc
     ensures { IfOk result (λ sums. sums.items ≡ counted_of (abs_totals schema.now [])) }
 {
     let none = no_totals(alloc, schema.values())?;
-    widened(alloc, none.as_slice())
-}
-
-fn widened(alloc: Global, totals: &[u64]) -> Result<Vec<u128>, AllocError>
-    ensures { IfOk result (λ sums. sums.items ≡ map (λ total. total) totals.now) }
-{
-    totals.iter().map(|total| *total as u128).collect(alloc)
+    Ok(none.into_vec())
 }
 
 /// Those of the rows at present of all ranges but cumulatives.
@@ -84,35 +79,35 @@ pub(crate) fn added(alloc: Global, sums: &[u128], more: &[u128]) -> Result<Vec<u
 }
 
 /// Whether there are as many sums as totals, and each is at most its total.
-pub(crate) fn are_at_most(sums: &[u128], totals: &[u64]) -> bool
+pub(crate) fn are_at_most(sums: &[u128], totals: &[u128]) -> bool
+    requires { AllByRecursion (λ total. total < sum_bound) totals.now }
     ensures { (true_sums : List ℕ) → sums.now ≡ counted_of true_sums → result ≡ at_most true_sums totals.now }
 {
     sums.len() == totals.len() && is_each_at_most(sums, totals)
 }
 
-fn is_each_at_most(sums: &[u128], totals: &[u64]) -> bool
+fn is_each_at_most(sums: &[u128], totals: &[u128]) -> bool
     ensures { result ≡ list_all (λ (p : ℕ × ℕ). nat_le p.0 p.1) (zip sums.now totals.now) }
 {
-    sums.iter()
-        .zip(totals)
-        .all(|(sum, total)| *sum <= *total as u128)
+    sums.iter().zip(totals).all(|(sum, total)| *sum <= *total)
 }
 
-/// Whether each sum is a value of 64 bits.
+/// Whether each sum keeps the bound.
 pub(crate) fn keep_bound(sums: &[u128]) -> bool
-    ensures { (true_sums : List ℕ) → sums.now ≡ counted_of true_sums → result ≡ list_all (λ total. nat_lt total (2 ^ 63)) true_sums }
+    ensures { (true_sums : List ℕ) → sums.now ≡ counted_of true_sums → result ≡ list_all (λ total. nat_lt total sum_bound) true_sums }
 {
     is_each_bounded(sums)
 }
 
 fn is_each_bounded(sums: &[u128]) -> bool
-    ensures { result ≡ list_all (λ total. nat_lt total (2 ^ 63)) sums.now }
+    ensures { result ≡ list_all (λ total. nat_lt total sum_bound) sums.now }
 {
-    sums.iter().all(|sum| *sum < 1 << 63)
+    sums.iter().all(|sum| *sum < OVER_BOUND)
 }
 
 /// Whether recorded totals, if there are any, are these sums.
 pub(crate) fn agree(recorded: Option<&Totals>, sums: &[u128]) -> bool
+    requires { IfSome (now_if_any recorded) (λ totals. AllByRecursion (λ total. total < sum_bound) totals) }
     ensures { (true_sums : List ℕ) → sums.now ≡ counted_of true_sums → result ≡ agrees_if_any (now_if_any recorded.entry) true_sums }
 {
     match recorded {
@@ -121,17 +116,15 @@ pub(crate) fn agree(recorded: Option<&Totals>, sums: &[u128]) -> bool
     }
 }
 
-fn are_same(recorded: &[u64], sums: &[u128]) -> bool
+fn are_same(recorded: &[u128], sums: &[u128]) -> bool
+    requires { AllByRecursion (λ total. total < sum_bound) recorded.now }
     ensures { (true_sums : List ℕ) → sums.now ≡ counted_of true_sums → result ≡ agrees_if_any (Some recorded.now) true_sums }
 {
     recorded.len() == sums.len() && is_each_same(recorded, sums)
 }
 
-fn is_each_same(recorded: &[u64], sums: &[u128]) -> bool
+fn is_each_same(recorded: &[u128], sums: &[u128]) -> bool
     ensures { result ≡ list_all (λ (p : ℕ × ℕ). p.0 == p.1) (zip recorded.now sums.now) }
 {
-    recorded
-        .iter()
-        .zip(sums)
-        .all(|(total, sum)| *total as u128 == *sum)
+    recorded.iter().zip(sums).all(|(total, sum)| *total == *sum)
 }

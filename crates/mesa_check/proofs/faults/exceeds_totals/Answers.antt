@@ -20,7 +20,7 @@ pub returns-then-not-are_true : goal.returns-then-not-are_true
 returns-then-not-are_true c = λ next i found held read.
     let t = c.args.table.now in
     let tests = c.args.tests.now in
-    let e = sym c.if-not-are_true.true ∙ c.are_true.ensures ∙ sure_tested i found next t tests c.requires read in
+    let e = sym c.if-not-are_true.true ∙ c.are_true.ensures ∙ sure_tested i found next t tests c.requires.tests read in
     λ k. e k && not (are_at_most (abs_totals (columns_of t.evolving.value) (rows_of (all_parts (rows_found found) (stock_of next t)))) t.totals)
 
 pub returns : goal.returns
@@ -29,11 +29,11 @@ returns c = λ next i found held read.
     let l = t.evolving.value in
     let tests = c.args.tests.now in
     let so = sym c.are_true.ensures ∙ c.if-not-are_true.false in
-    let e = sym so ∙ sure_tested i found next t tests c.requires read in
+    let e = sym so ∙ sure_tested i found next t tests c.requires.tests read in
     let rows = flat_map (λ (x : Test). rows_where found l is_counted (tested_range x)) tests in
     let columns = c.present.ensures.columns ∙ ap columns_of c.deref.ensures in
     let sums = c.in_ok-sums.ensures found l columns
-    (subst (λ (s : Columns). AllByRecursion (λ (x : Test). is_counted (tested_range x) ≡ true → x.present ≡ counted (abs_totals s (rows_where found l is_counted (tested_range x)))) tests) (sym columns) (sure_sums i found next t tests c.requires read so)) in
+    (subst (λ (s : Columns). AllByRecursion (λ (x : Test). is_counted (tested_range x) ≡ true → x.present ≡ counted (abs_totals s (rows_where found l is_counted (tested_range x)))) tests) (sym columns) (sure_sums i found next t tests c.requires.tests read so)) in
     let most = c.are_at_most.ensures (abs_totals (columns_of l) rows) (c.deref-2.ensures.value ∙ sums ∙ ap (λ (s : Columns). counted (abs_totals s rows)) columns)
-    ∙ (λ j. are_at_most (abs_totals (columns_of l) (rows_sure i found next t tests c.requires read j)) (c.as_slice.ensures j)) in
+    ∙ (λ j. are_at_most (abs_totals (columns_of l) (rows_sure i found next t tests c.requires.tests read j)) (c.as_slice.ensures j)) in
     λ k. e k && not (most k)

@@ -2,6 +2,7 @@ use Rattle.std.proofs.Common.{◌≡◌, ◌≤◌, ◌∙◌, ap, sym, subst, m
 use Rattle.std.specs.Prelude.{slice_get}
 use Rattle.std.specs.List.{AllByRecursion}
 use Rattle.std.proofs.lemmas.Result.{IfOk-weaker}
+use Rattle.mesa_image_laws.specs.mesa_image.Shape.{IsWithinBound}
 use Rattle.mesa_schema.specs.Changes.{epoch_of}
 use Rattle.mesa_shelf.specs.Meaning.{stock_of}
 use Rattle.mesa_verdict.specs.Ranges.{Range}
@@ -10,11 +11,17 @@ use Rattle.mesa_check.specs.Shown.{is_found_in}
 use Rattle.mesa_check.specs.Tested.{IsRead, range_of}
 use Rattle.mesa_check.specs.declared.range.Held.{Held}
 use Rattle.mesa_check.specs.declared.testing.Test.{Test}
-use Rattle.mesa_check.proofs.Told.{all_have_rows, all_read, epochs_held, faults_held, faults_tested, ranges_all, tests_all}
+use Rattle.mesa_check.proofs.Told.{all_have_rows, all_read, epochs_held, faults_held, faults_tested, ranges_all, tests_all, within_held}
 use Rattle.mesa_check.proofs.faults.table_fault.Goals as goal
 
-pub test_ranges-requires-after_bounds : goal.test_ranges-requires-after_bounds
-test_ranges-requires-after_bounds g c = λ _ _.
+pub test_ranges-requires-clause-totals : goal.test_ranges-requires-clause-totals
+test_ranges-requires-clause-totals g c = λ _ _.
+    let t = c.args.table.now in
+    let held = c.requires in
+    subst (AllByRecursion (λ (r : Held). IsWithinBound (delta_of r))) (sym c.deref.ensures.value) (ranges_all (λ (r : Range). IsWithinBound r.delta) t c.in_ok-ranges.ranges.items c.in_ok-ranges.ensures (within_held held.0 t held.1))
+
+pub test_ranges-requires-clause-epochs : goal.test_ranges-requires-clause-epochs
+test_ranges-requires-clause-epochs g c = λ _ _.
     let t = c.args.table.now in
     let held = c.requires in
     subst (AllByRecursion (λ (r : Held). (delta_of r).epoch ≤ epoch_of t.evolving.value)) (sym c.deref.ensures.value) (ranges_all (λ (r : Range). r.delta.epoch ≤ epoch_of t.evolving.value) t c.in_ok-ranges.ranges.items c.in_ok-ranges.ensures (epochs_held held.0 t held.1))

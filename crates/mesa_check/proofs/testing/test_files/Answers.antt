@@ -1,6 +1,7 @@
-use Rattle.std.proofs.Common.{◌∙◌, ap, sym, subst, refl, map, List, ℕ}
-use Rattle.std.specs.Prelude.{is_some, Option}
+use Rattle.std.proofs.Common.{◌∙◌, ◌<◌, ap, sym, subst, refl, map, List, ℕ}
+use Rattle.std.specs.Prelude.{IfSome, is_some, Option}
 use Rattle.std.specs.List.{AllByRecursion, list_all}
+use Rattle.mesa_image_laws.specs.mesa_history.mesa_batch.Totals.{sum_bound}
 use Rattle.mesa_image_laws.specs.mesa_image.Fitting.{view_shelved}
 use Rattle.mesa_record.specs.declared.record.ViewRef.{ViewRef}
 use Rattle.mesa_examine.specs.declared.totals.Sums.{Sums}
@@ -49,3 +50,6 @@ returns-clause-test g c =
     refl
     (λ xs is. c.agree-totalled.ensures xs (c.as_slice-2.ensures ∙ is) ∙ ap (λ (o : Option (List ℕ)). agrees_if_any o xs) c.totals.ensures)
     refl)
+
+pub agree-requires : goal.agree-requires
+agree-requires g c = subst (λ (o : Option (List ℕ)). IfSome o (λ totals. AllByRecursion (λ total. total < sum_bound) totals)) (sym c.totals.ensures) c.requires.totals

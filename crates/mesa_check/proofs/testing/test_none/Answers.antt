@@ -1,6 +1,7 @@
-use Rattle.std.proofs.Common.{◌∙◌, [], ap, refl, List, ℕ}
-use Rattle.std.specs.Prelude.{Option}
-use Rattle.mesa_image_laws.specs.mesa_history.mesa_batch.Totals.{abs_totals}
+use Rattle.std.proofs.Common.{◌∙◌, ◌<◌, [], ap, refl, sym, subst, List, ℕ}
+use Rattle.std.specs.Prelude.{IfSome, Option}
+use Rattle.std.specs.List.{AllByRecursion}
+use Rattle.mesa_image_laws.specs.mesa_history.mesa_batch.Totals.{abs_totals, sum_bound}
 use Rattle.mesa_schema.specs.Changes.{columns_at, columns_of}
 use Rattle.mesa_examine.specs.Sums.{counted}
 use Rattle.mesa_verdict.specs.Faults.{agrees_if_any}
@@ -18,3 +19,6 @@ returns-clause-test c = λ told.
     without_files told l d _ c.requires.none refl
     (c.agree-totalled.ensures xs (c.deref-3.ensures.value ∙ c.in_ok-sums.ensures ∙ (λ k. counted (abs_totals (own_is k) []))) ∙ ap (λ (o : Option (List ℕ)). agrees_if_any o xs) c.totals.ensures)
     (c.from_vec.ensures ∙ c.in_ok-now.ensures ∙ (λ k. counted (abs_totals (now_is k) [])))
+
+pub agree-requires : goal.agree-requires
+agree-requires c = subst (λ (o : Option (List ℕ)). IfSome o (λ totals. AllByRecursion (λ total. total < sum_bound) totals)) (sym c.totals.ensures) c.requires.totals

@@ -1,7 +1,5 @@
 use Rattle.std.proofs.Common.{◌∙◌, ap, map}
 use Rattle.std.specs.Prelude.{replicate}
-use Rattle.std.proofs.lemmas.List.{map-id}
-use Rattle.std.proofs.lemmas.Result.{IfOk-weaker}
 use Rattle.mesa_schema.specs.Columns.{aggs_of}
 use Rattle.mesa_schema.specs.declared.columns.ValueColumn.{ValueColumn}
 use Rattle.mesa_image_laws.specs.mesa_history.mesa_batch.Totals.{sum_places, sums_in}
@@ -10,6 +8,4 @@ use Rattle.mesa_check.proofs.totals.no_sums.Goals as goal
 
 pub returns : goal.returns
 returns c =
-    IfOk-weaker c.widened.result _ _
-    (λ sums is. is ∙ map-id _ ∙ c.as_slice.ensures ∙ c.in_ok-none.ensures ∙ ap (λ vs. replicate (sums_in (map (λ (x : ValueColumn). x.agg) vs)) 0) c.values.ensures.same ∙ none_counted (sum_places 0 (aggs_of c.args.schema.now)))
-    c.widened.ensures
+    c.into_vec.ensures ∙ c.in_ok-none.ensures ∙ ap (λ vs. replicate (sums_in (map (λ (x : ValueColumn). x.agg) vs)) 0) c.values.ensures.same ∙ none_counted (sum_places 0 (aggs_of c.args.schema.now))
