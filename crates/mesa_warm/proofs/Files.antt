@@ -37,7 +37,7 @@ module _ {R : Type 0} (bytes : R → Option (List ℕ)) where
   pub readable_one : (x : PinnedInput R) (q : DeltaReader R) → reader_of q ≡ reader_in x.input → index_of q ≡ index_of x.input.reader → HasRead bytes q [] → IsInput bytes x.input → IsInput bytes (by_reader x q).input
   readable_one x q reader index none is = record {
     epoch = is.epoch;
-    columns = ap (λ (file : Indexed). file.columns) index ∙ is.columns;
+    columns = ap (λ (file : Indexed). file.layout.columns) index ∙ is.columns;
     over = λ b told. subst (λ (file : Indexed). IsOver file b) (sym index) (is.over b (ap bytes (sym reader) ∙ told));
     read = ([], none);
   }
