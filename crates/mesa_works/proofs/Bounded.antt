@@ -2,7 +2,7 @@
 use Rattle.std.proofs.Common.{◌≡◌, ◌∙◌, ℕ, zero, suc, ◌<◌, ◌^◌, List, [], ◌∷◌, length, map, true, refl, sym, ap, subst, zero-add, Option, None, Some}
 use Rattle.std.specs.Prelude.{flat_map, slice_get}
 use Rattle.std.specs.List.{AllByRecursion}
-use Rattle.mesa_batch.specs.Totals.{abs_total}
+use Rattle.mesa_batch.specs.Totals.{abs_total, sum_bound}
 use Rattle.mesa_commit.specs.Images.{Has}
 use Rattle.mesa_compact.specs.Bounded.{AreBounded, AreOwnBounded, IsBounded}
 use Rattle.mesa_disk.specs.Image.{Image}
@@ -101,7 +101,7 @@ module _ (o : Outset) (g : Origin) (l : Ledger) (story : Story) (held : Option (
     bound = λ k sum.
         let parts = lifted_are bytes faults story.told v.rows gathered.wanted t.inputs.items (flat_map (table_wanted lin) ds) gathered.are all_open in
         let all = ap rows_of parts ∙ table_parts v.rows lin ds in
-        subst (λ n. n < 2 ^ 63) (sym (zero-add _)) (subst (λ (rs : List Row). abs_total k rs < 2 ^ 63) (sym all)
+        subst (λ n. n < sum_bound) (sym (zero-add _)) (subst (λ (rs : List Row). abs_total k rs < sum_bound) (sym all)
         (merged_sums v.rows c.floor c.next u (shaped_at c v.shaped t.table there) (stock_found (IsStocked v.rows) c.tables t.table there (v.stocked refl).0) (is_base t.work) (last_of t.work) k sum));
   }
 

@@ -27,7 +27,7 @@ use Rattle.mesa_pinning.specs.mesa_plans.Files.{Want, files_wanted, table_wanted
 use Rattle.mesa_gather.specs.Gathered.{unread_view}
 use Rattle.mesa_swapping.specs.Finished.{GroupOnly}
 use Rattle.mesa_tasks.specs.Inputs.{HaveRows, present_parts}
-use Rattle.mesa_tasks.specs.Opening.{HaveOpened, IsOpened, wanted_columns}
+use Rattle.mesa_tasks.specs.Opening.{HaveOpened, IsOpened, wanted_columns, wanted_layout}
 use Rattle.mesa_tasks.specs.declared.opening.Wanted.{Wanted}
 use Rattle.mesa_works.proofs.WholeFiles.{OneFile, some_same, whole_rows}
 
@@ -87,7 +87,7 @@ module _ (law : OneFile) {R : Type 0} (bytes : R → Option (List ℕ)) (faults 
       let index = opened.index in
       let bytes_are = some_same content.0 (bytes_of rows (record { columns = wanted_columns w; file = w.file.now })) (sym content.1 ∙ its.there) in
       let all : part ≡ rows w.file.now.id =
-      whole_rows law w.file.now (wanted_columns w) index.0 (index_of j.reader) w.file.now.id (rows w.file.now.id) part content.0 index.1 its.told.file its.told.true bytes_are (subst (IsWhole (index_of j.reader) part) content.2 whole) in
+      whole_rows law w.file.now (wanted_layout w) index.0 (index_of j.reader) w.file.now.id (rows w.file.now.id) part content.0 index.1 its.told.file its.told.true bytes_are (subst (IsWhole (index_of j.reader) part) content.2 whole) in
       let lineage : j.evolving.value ≡ l = opened.lineage ∙ ap (λ (x : Want). x.lineage) same in
       let since : j.epoch ≡ epoch = opened.epoch ∙ ap (λ (x : Want). x.epoch) same in
       let mine : part ≡ rows file.id = all ∙ ap (λ (x : Want). rows x.file.id) same in
