@@ -9,8 +9,8 @@ use Rattle.sha2.proofs.Facts256.{length-sha256}
 use Rattle.mesa_file.specs.declared.damage.Damage.{Damage}
 use Rattle.mesa_key.specs.Order.{short_key}
 use Rattle.mesa_schema.specs.declared.rows.Row.{Row}
-use Rattle.mesa_schema.specs.Columns.{Columns}
 use Rattle.mesa_schema.proofs.Lists.{all_so}
+use Rattle.mesa_block.specs.Layout.{Layout}
 use Rattle.mesa_block.specs.Spelling.{block}
 use Rattle.mesa_disk.specs.Image.{Image, file_of}
 use Rattle.mesa_journal.proofs.Unique.{same_journal}
@@ -25,7 +25,7 @@ use Rattle.mesa_skeleton.specs.Rows.{Rows}
 use Rattle.mesa_commit.specs.Images.{Has}
 use Rattle.mesa_image.specs.Catalog.{Catalog}
 use Rattle.mesa_image.specs.Fitting.{Shelved, catalog, shelved, stock_shelved}
-use Rattle.mesa_image.specs.Sound.{IsSoundAs, IsStocked, IsTold, bytes_of, wants}
+use Rattle.mesa_image.specs.Sound.{IsSoundAs, IsStocked, IsTold, bytes_of, layout_of, wants}
 use Rattle.mesa_opening.proofs.mesa_image_laws.Lists.{all_flat}
 use Rattle.mesa_opening.specs.mesa_shelf.declared.recorded.Recorded.{Recorded}
 use Rattle.mesa_opening.specs.mesa_shelf.Files.{recorded_of}
@@ -48,19 +48,19 @@ entry_long short offset bytes is =
 short_long : (key : List ℕ) → length (short_key key) ≡ 16
 short_long key = length-take-le 16 (key ++ replicate 16 0) (omega (arith, length-append key (replicate 16 0)))
 
-entries_long : (s : Columns) (at : ℕ) (parts : List (List Row)) → length (entries s at parts) ≡ 60 * length parts
+entries_long : (s : Layout) (at : ℕ) (parts : List (List Row)) → length (entries s at parts) ≡ 60 * length parts
 entries_long s at [] = refl
 entries_long s at (part ∷ parts) =
     let first = entry_long (short_key (first_key part)) at (block s part) (short_long (first_key part)) in
     let rest = entries_long s (at + length (block s part)) parts in
     omega (arith, first, rest, length-append (entry (short_key (first_key part)) at (block s part)) (entries s (at + length (block s part)) parts))
 
-tail_long : (s : Columns) (rows : List Row) → length (file_tail s rows) ≡ tail_length s (length (blocks_of s rows))
+tail_long : (s : Layout) (rows : List Row) → length (file_tail s rows) ≡ tail_length s.columns (length (blocks_of s rows))
 tail_long s rows =
     let parts = blocks_of s rows in
     omega (arith, entries_long s 0 parts, foot_long s (length rows) (length parts), length-append (entries s 0 parts) (foot s (length rows) (length parts)))
 
-tail_behind : (s : Columns) (rows : List Row) (place : ℕ) → place + length (file_tail s rows) ≡ length (file_bytes s rows) → drop place (file_bytes s rows) ≡ file_tail s rows
+tail_behind : (s : Layout) (rows : List Row) (place : ℕ) → place + length (file_tail s rows) ≡ length (file_bytes s rows) → drop place (file_bytes s rows) ≡ file_tail s rows
 tail_behind s rows place is =
     let before = laid s (blocks_of s rows) in
     let same : place ≡ length before = omega (arith, is, length-append before (file_tail s rows)) in
@@ -76,15 +76,15 @@ module _ (image : Image) (rows : Rows) (d : Damage) where
   told_well : (x : Shelved) → IsTold rows x → file_of image x.file.id ≡ Some (bytes_of rows x) → IsWell (recorded_of x)
   told_well x told there damage = by (subst (λ o. IsFileDamage o (recorded_of x) d) there damage)
     where
-      place : tail_place x.columns x.file + length (file_tail x.columns (rows x.file.id)) ≡ length (file_bytes x.columns (rows x.file.id))
+      place : tail_place (layout_of x) x.file + length (file_tail (layout_of x) (rows x.file.id)) ≡ length (file_bytes (layout_of x) (rows x.file.id))
       place =
-          let tail = tail_long x.columns (rows x.file.id) in
+          let tail = tail_long (layout_of x) (rows x.file.id) in
           let blocks = ap (tail_length x.columns) told.true.blocks in
-          let long = length-append (laid x.columns (blocks_of x.columns (rows x.file.id))) (file_tail x.columns (rows x.file.id)) in
+          let long = length-append (laid (layout_of x) (blocks_of (layout_of x) (rows x.file.id))) (file_tail (layout_of x) (rows x.file.id)) in
           omega (arith, tail, blocks, long, told.true.len)
 
-      digest : sha256 (drop (tail_place x.columns x.file) (bytes_of rows x)) ≡ x.file.digest
-      digest = ap sha256 (tail_behind x.columns (rows x.file.id) (tail_place x.columns x.file) place) ∙ sym told.true.digest
+      digest : sha256 (drop (tail_place (layout_of x) x.file) (bytes_of rows x)) ≡ x.file.digest
+      digest = ap sha256 (tail_behind (layout_of x) (rows x.file.id) (tail_place (layout_of x) x.file) place) ∙ sym told.true.digest
 
       by : IsFileDamage (Some (bytes_of rows x)) (recorded_of x) d → ⊥
       by (inl long) = long.1 (sym told.true.len)
