@@ -1,5 +1,5 @@
 -- A table whose schema is changed.
-use Rattle.std.proofs.Common.{◌≡◌, ◌≢◌, ◌≤◌, ◌<◌, ◌+◌, ◌^◌, ◌⊎◌, ℕ, zero, suc, List, [], ◌∷◌, ◌++◌, length, map, take, drop, get_or, set, cond, true, false, Some, refl, sym, ◌∙◌, ap, subst, arith, inl, inr, zero-add}
+use Rattle.std.proofs.Common.{◌≡◌, ◌≢◌, ◌≤◌, ◌<◌, ◌+◌, ◌-◌, ◌^◌, ◌⊎◌, ℕ, zero, suc, List, [], ◌∷◌, ◌++◌, length, map, take, drop, get_or, set, cond, true, false, Some, refl, sym, ◌∙◌, ap, subst, arith, inl, inr, zero-add}
 use Rattle.std.specs.Prelude.{slice_get, unwrap_or}
 use Rattle.std.specs.List.{AllByRecursion}
 use Rattle.std.proofs.lemmas.List.{append-nil, get_or-set_other, get_or-set_same, length-map, length-set}
@@ -38,7 +38,9 @@ front_is (y ∷ xs) x = ap (λ ys. y ∷ ys) (front_is xs x)
 pub lift_once : (l : Lineage) (c : Change) (lift : Lift) (epoch : ℕ) → epoch ≡ epoch_of l → Lifts lift (with_change l c) epoch → (row : Row) → length row.values ≡ length (columns_of l).values
     → lifted_with lift row ≡ lifted_once (columns_of l) c row
 lift_once l c lift epoch is lifts row full =
-    let before : columns_at (with_change l c) epoch ≡ columns_of l = ap (columns_at (with_change l c)) is ∙ ap (λ cs. columns_of (record l { changes = cs })) (front_is l.changes c) in
+    let since : epoch_of l - l.begins ≡ length l.changes = omega arith in
+    let front : take (epoch_of l - l.begins) (l.changes ++ c ∷ []) ≡ l.changes = ap (λ n. take n (l.changes ++ c ∷ [])) since ∙ front_is l.changes c in
+    let before : columns_at (with_change l c) epoch ≡ columns_of l = ap (columns_at (with_change l c)) is ∙ ap (λ cs. columns_of (record l { changes = cs })) front in
     lifts row (full ∙ sym (ap (λ (s : Columns). length s.values) before))
     ∙ ap (λ e. lifted (with_change l c) e (epoch_of (with_change l c)) row) is
     ∙ lifted_more l c (epoch_of l) row (omega arith)
