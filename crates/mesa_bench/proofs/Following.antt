@@ -21,7 +21,7 @@ use Rattle.mesa_schema.specs.declared.rows.Row.{Row}
 use Rattle.mesa_schema.specs.declared.columns.ValueColumn.{ValueColumn}
 use Rattle.mesa_schema.specs.Columns.{Columns, kinds_of}
 use Rattle.mesa_schema.specs.Folded.{row_combined, all_combined}
-use Rattle.mesa_schema.specs.Rows.{IsRowOf}
+use Rattle.mesa_schema.specs.Rows.{AreOf, IsRowOf}
 use Rattle.mesa_block.specs.Rows.{Rise}
 use Rattle.mesa_block.specs.Spelling.{key_of}
 use Rattle.mesa_delta.specs.Summary.{all_noted, aggregates, values_of, last_key, AllCombine}
@@ -126,6 +126,7 @@ is_row reads s i has h =
       key = subst (IsKey (kinds_of s)) (sym known) (subst (λ (types : List KeyType). IsKey types key) (sym has.kinds) (is_key i h));
       spelled = ap key_spelling known;
       values = omega (arith, length-map s.values agg_of, ap length has.aggs);
+      ranges = subst (λ (aggs : List Agg). AreOf aggs (row_at i).values) (sym has.aggs) (tt, (small (i % 997) (omega arith), tt));
     }
 
 pub may_follow : Orders → Reads → Lasts → Rises → CombinesOn → (s : Columns) (i : ℕ) → HasColumns s → i < 2 ^ 32 → Rise (map key_of (rows_below i)) → MayFollow s (rows_below i) (row_at i)

@@ -6,7 +6,7 @@ use Rattle.mesa_value.specs.declared.Agg.TheVariants.{Sum, Max}
 use Rattle.mesa_schema.specs.declared.rows.Row.{Row}
 use Rattle.mesa_schema.specs.Columns.{Columns}
 use Rattle.mesa_schema.specs.Rows.{AreRowsOf, IsRowOf}
-use Rattle.mesa_batch.specs.Totals.{abs_total}
+use Rattle.mesa_batch.specs.Totals.{abs_total, sum_bound}
 use Rattle.mesa_answer.specs.Answering.{KeepsSums}
 use Rattle.mesa_bench.specs.Made.{HasColumns, row_at}
 
@@ -30,4 +30,4 @@ only_first (suc (suc c)) e = cc
 pub keeps : (s : Columns) (rows : List Row) (n : ℕ) → HasColumns s → n < 2 ^ 32 → abs_total 0 rows ≤ n * 999 → KeepsSums s rows
 keeps s rows n has few le c p =
     let first : c ≡ 0 = only_first c (subst (λ aggs. slice_get aggs c ≡ Some Sum) has.aggs p) in
-    subst (λ k. abs_total k rows < 2 ^ 63) (sym first) (omega (arith, few, le))
+    subst (λ k. abs_total k rows < sum_bound) (sym first) (omega (arith, few, le))

@@ -54,7 +54,7 @@ fn put_page(alloc: Global, schema: &Schema, query: &Query, rows: u32) -> Result<
     let mut groups = Groups::of(alloc, schema, query)?;
     for number in 0..rows {
         let row = row(alloc, number)?;
-        groups.put(&row)?;
+        groups.put(row.lend())?;
     }
     Ok(groups.into_page(query)?)
 }

@@ -61,9 +61,9 @@ fn add_up<R: FileReader>(reader: &mut DeltaReader<R>) -> Result<i64, FileError> 
     let mut total: i64 = 0;
     for i in 0..reader.blocks() {
         let block = reader.block(i)?;
-        for row in block.rows() {
-            if let Some(amount) = row.values.as_slice().first() {
-                total = total.wrapping_add(*amount);
+        for place in 0..block.len() {
+            if let Some(amount) = block.row(place).values.first() {
+                total = total.wrapping_add(*amount as i64);
             }
         }
     }

@@ -13,6 +13,7 @@ use mesa_delta::one_row_more;
 use mesa_key::{KeyBytes, encode_int, orders_bytes_as_keys, reads_back};
 use mesa_list::Items;
 use mesa_schema::Row;
+use mesa_value::Amount;
 use std::alloc::{AllocError, Global};
 
 /// How many rows have the same day, and so how many items there are.
@@ -33,8 +34,8 @@ pub fn row(alloc: Global, number: u32) -> Result<Row, AllocError>
     ensures { IfOk result (λ r. r ≡ row_at number) }
 {
     let key = key(alloc, number)?;
-    let amount = i64::from(number % 1000);
-    let peak = i64::from(number % 997);
+    let amount = Amount::from(number % 1000);
+    let peak = Amount::from(number % 997);
     let values = Vec::from_slice(alloc, &[amount, peak])?;
     Ok(Row {
         key,
@@ -47,7 +48,7 @@ pub fn add_up_rows(alloc: Global, rows: u32) -> Result<i64, AllocError> {
     let mut total: i64 = 0;
     for number in 0..rows {
         let row = row(alloc, number)?;
-        total = total.wrapping_add(row.values.as_slice()[0]);
+        total = total.wrapping_add(row.values.as_slice()[0] as i64);
     }
     Ok(total)
 }

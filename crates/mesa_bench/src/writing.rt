@@ -27,7 +27,7 @@ fn push_rows<M: Made, T: Draft<M>>(
     rows_follow();
     for number in 0..rows {
         let row = row(alloc, number)?;
-        writer.push(&row)?;
+        writer.push(row.lend())?;
     }
     Ok(())
 }

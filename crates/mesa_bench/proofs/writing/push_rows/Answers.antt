@@ -1,4 +1,5 @@
 use Rattle.std.proofs.Common.{◌≡◌, ℕ, refl, sym, subst, ◌∙◌, arith}
+use Rattle.mesa_schema.specs.Lent.{lent}
 use Rattle.mesa_delta.specs.Writing.{HasTaken, IsNext}
 use Rattle.mesa_bench.specs.Made.{HasColumns, rows_below}
 use Rattle.mesa_bench.proofs.Following.{next_row, with_row}
@@ -11,13 +12,13 @@ loop-number-init g c = (c.requires.none, refl)
 pub push-requires-after_bounds : goal.push-requires-after_bounds
 push-requires-after_bounds g c κs within =
     let h = c.loop-number.invariant in
-    subst (IsNext g.T.Draft.bytes c.loop-number.writer) (sym c.in_ok-row.ensures) (next_row g.T.Draft.bytes c.loop-number.writer c.loop-number.number c.rows_follow.ensures h.0 (subst HasColumns (sym h.1) c.requires.columns) (omega arith))
+    subst (IsNext g.T.Draft.bytes c.loop-number.writer) (sym (c.lend.ensures ∙ c.in_ok-row.ensures)) (next_row g.T.Draft.bytes c.loop-number.writer c.loop-number.number c.rows_follow.ensures h.0 (subst HasColumns (sym h.1) c.requires.columns) (omega arith))
 
 pub loop-number-preserved : goal.loop-number-preserved
 loop-number-preserved g c =
     let h = c.loop-number.invariant in
     let after = c.in_ok-push.ensures in (
-      with_row g.T.Draft.bytes c.push.new.self c.loop-number.number c.in_ok-row.row c.in_ok-row.ensures (after.taken (rows_below c.loop-number.number) h.0),
+      with_row g.T.Draft.bytes c.push.new.self c.loop-number.number (lent c.lend.result) (c.lend.ensures ∙ c.in_ok-row.ensures) (after.taken (rows_below c.loop-number.number) h.0),
       after.columns ∙ h.1,
     )
 
