@@ -1,7 +1,7 @@
 // Blocks that are read, and bytes that are none.
 use crate::expected::expect_same;
 use mesa_block::{BlockError, read_block};
-use mesa_key::KeyType;
+use mesa_key::{Format, KeyType};
 use mesa_schema::{KeyColumn, Name, Schema, ValueColumn};
 use mesa_value::Agg;
 use std::alloc::Global;
@@ -49,16 +49,11 @@ const TWICE: [u8; 35] = [
 #[test]
 fn reads_one_row(rt: HostRuntime) {
     let ints = schema(&rt, rt.alloc(), KeyType::Int);
-    let block = read_block(rt.alloc(), &ints, &ONE).expect(&rt, "a block");
-    assert_eq!(rt; block.rows().len(), 1);
-    let row = &block.rows()[0];
-    expect_same(&rt, &row.key.as_slice(), &&ONE[3..11], &"the row's key");
-    expect_same(
-        &rt,
-        &row.values.as_slice(),
-        &[5i64].as_slice(),
-        &"the row's values",
-    );
+    let block = read_block(rt.alloc(), Format::One, &ints, &ONE).expect(&rt, "a block");
+    assert_eq!(rt; block.len(), 1);
+    let row = block.row(0);
+    expect_same(&rt, &row.key, &&ONE[3..11], &"the row's key");
+    expect_same(&rt, &row.values, &[5i128].as_slice(), &"the row's values");
 }
 
 // Bytes that are no block, and why.
@@ -83,7 +78,7 @@ static TEXTS: [Fault; 1] = [(
 fn expect_faults(rt: &impl Abort, alloc: Global, kind: KeyType, faults: &[Fault]) {
     let schema = schema(rt, alloc, kind);
     for (bytes, fault) in faults {
-        let found = read_block(alloc, &schema, bytes).err();
+        let found = read_block(alloc, Format::One, &schema, bytes).err();
         expect_same(rt, &found, &Some(*fault), bytes);
     }
 }

@@ -9,7 +9,7 @@ use std::process::Abort;
 use std::thread::Threads;
 
 // The aggregate of a file's last value column.
-fn last_total(file: &MadeFile<MemMade>) -> i64 {
+fn last_total(file: &MadeFile<MemMade>) -> i128 {
     let mut total = 0;
     for value in file.file.aggregates.as_slice() {
         total = *value;
@@ -62,7 +62,7 @@ fn push_part(
 ) -> Result<(), AllocError> {
     push_number(alloc, " table=", u128::from(part.table), text)?;
     for total in part.totals.as_slice() {
-        push_number(alloc, " total=", u128::from(*total), text)?;
+        push_number(alloc, " total=", *total, text)?;
     }
     match &part.files {
         Some(files) => push_files(alloc, files, text),

@@ -3,9 +3,10 @@ ghost use Rattle.std.specs.Prelude.{◌≡◌, IfOk};
 ghost use Rattle.mesa_schema.specs.Changes.{columns_of};
 ghost use Rattle.mesa_tasks.specs.Tasks.{AreTaskViews};
 
-use crate::files::{Source, input_of, source_of, table};
+use crate::files::{Form, Source, input_of, source_of, table};
 use mesa_compact::merge_task;
 use mesa_disk::{FileId, FileReader, MemBench, MemMade};
+use mesa_key::Format;
 use mesa_schema::Evolving;
 use mesa_span::Work;
 use mesa_tasks::{CompactError, NewDelta, Serials, Task, TaskView};
@@ -16,7 +17,7 @@ use std::sync::Arc;
 
 type Merged = Result<NewDelta<MemMade>, CompactError>;
 
-/// Rows of an older and a newer file, whose ids are 1 and 2.
+/// Rows of an older and a newer file, whose ids are 1 and 2. The older is of the first format, the newer of the second.
 #[derive(Clone, Copy)]
 pub struct Two<'a> {
     pub agg: Agg,
@@ -79,7 +80,16 @@ pub fn merged(
 ) -> Merged {
     let calls = Vec::from_slice(alloc, calls).expect(rt, "memory");
     let mut bench = MemBench::new(alloc, calls);
-    let older = source_of(rt, alloc, FileId::of(1), two.agg, two.older, fails);
-    let newer = source_of(rt, alloc, FileId::of(2), two.agg, two.newer, fails);
-    merge_two(rt, alloc, &mut bench, two.agg, older, newer)
+    let agg = two.agg;
+    let first = Form {
+        format: Format::One,
+        agg,
+    };
+    let second = Form {
+        format: Format::Two,
+        agg,
+    };
+    let older = source_of(rt, alloc, FileId::of(1), first, two.older, fails);
+    let newer = source_of(rt, alloc, FileId::of(2), second, two.newer, fails);
+    merge_two(rt, alloc, &mut bench, agg, older, newer)
 }

@@ -1,9 +1,10 @@
 // What comes of merging two files.
 use crate::expected::expect_same;
-use crate::files::file_of;
+use crate::files::{Form, file_of};
 use crate::merging::{Two, merged};
 use mesa_delta::FileError;
 use mesa_disk::{Damage, FileId, Seen};
+use mesa_key::Format;
 use mesa_tasks::CompactError;
 use mesa_value::Agg;
 use std::alloc::Global;
@@ -41,7 +42,11 @@ static MERGES: [(Two<'static>, &[(i64, i64)]); 3] = [
 // Stops the test where the table's merged file, or that of the view of all its columns, isn't the file of these rows,
 // whose tail has the digests of its blocks.
 fn expect_rows(rt: &impl Abort, alloc: Global, two: &Two, rows: &[(i64, i64)]) {
-    let (_, wanted) = file_of(rt, alloc, FileId::of(3), two.agg, rows);
+    let form = Form {
+        format: Format::Two,
+        agg: two.agg,
+    };
+    let (_, wanted) = file_of(rt, alloc, FileId::of(3), form, rows);
     let Ok(delta) = merged(rt, alloc, two, &[], None) else {
         panic!(rt; "not merged");
     };
@@ -61,7 +66,7 @@ fn merges_in_version_order(rt: HostRuntime) {
     }
 }
 
-// Files that aren't merged: the sum of a key leaves its type, or the total of several keys' absolute values.
+// Files that aren't merged: the sum of a key leaves its bound, or the total of several keys' absolute values.
 static OVERFLOWS: [Two<'static>; 2] = [
     Two {
         agg: Agg::Sum,

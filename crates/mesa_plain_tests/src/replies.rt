@@ -6,13 +6,13 @@ use mesa_schema::Row;
 use std::alloc::{AllocError, Global};
 use std::process::Abort;
 
-fn push_number(alloc: Global, number: i64, text: &mut Vec<u8>) -> Result<(), AllocError> {
+fn push_number(alloc: Global, number: i128, text: &mut Vec<u8>) -> Result<(), AllocError> {
     text.extend_from_slice(format!(in alloc; "{number}")?.as_bytes())
 }
 
 fn push_value(alloc: Global, value: &KeyValue, text: &mut Vec<u8>) -> Result<(), AllocError> {
     match value {
-        KeyValue::Int(number) => push_number(alloc, *number, text),
+        KeyValue::Int(number) => push_number(alloc, i128::from(*number), text),
         KeyValue::Text(word) => text.extend_from_slice(word.as_bytes()),
     }
 }
@@ -25,7 +25,7 @@ fn push_key(alloc: Global, values: &[KeyValue], text: &mut Vec<u8>) -> Result<()
     Ok(())
 }
 
-fn push_numbers(alloc: Global, numbers: &[i64], text: &mut Vec<u8>) -> Result<(), AllocError> {
+fn push_numbers(alloc: Global, numbers: &[i128], text: &mut Vec<u8>) -> Result<(), AllocError> {
     for (place, number) in numbers.iter().enumerate() {
         if place > 0 {
             text.push(b',')?;

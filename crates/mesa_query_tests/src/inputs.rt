@@ -9,6 +9,7 @@ use crate::vectors::{Vector, bytes_of, spelled};
 use mesa_cache::Cached;
 use mesa_delta::{DeltaReader, Input};
 use mesa_disk::{ByteList, Disk, FileId, FileReader, FileRef, MemDisk, MemReader};
+use mesa_key::Format;
 use mesa_list::Items;
 use mesa_schema::Evolving;
 use mesa_tasks::PinnedInput;
@@ -42,10 +43,11 @@ fn reader_of(rt: &impl Abort, alloc: Global, id: FileId, bytes: Vec<u8>) -> MemR
     disk.reader(id).expect(rt, "a reader")
 }
 
-// A file's reference, with no first key and no aggregates, which no reader looks at.
+// The reference of a file of the first format, with no first key and no aggregates, which no reader looks at.
 fn reference(rt: &impl Abort, alloc: Global, vector: &Vector, len: u64) -> FileRef {
     let last = spelled(rt, alloc, vector.last);
     FileRef {
+        format: Format::One,
         id: FileId::of(vector.id),
         len,
         rows: vector.rows,

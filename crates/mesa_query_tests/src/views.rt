@@ -7,13 +7,14 @@ use mesa_delta::FileError;
 use mesa_disk::FileReader;
 use mesa_model::Page;
 use mesa_schema::Row;
+use mesa_value::Amount;
 use mesa_view::derive;
 use std::alloc::Global;
 use std::process::Abort;
 use std::test::Fail;
 
 // The one row of key 1 and of this value.
-fn expect_one(rt: &impl Abort, rows: &[Row], value: i64) {
+fn expect_one(rt: &impl Abort, rows: &[Row], value: Amount) {
     assert_eq!(rt; rows.len(), 1);
     for row in rows {
         assert_eq!(rt; row.key.as_slice(), [0x80, 0, 0, 0, 0, 0, 0, 1].as_slice());

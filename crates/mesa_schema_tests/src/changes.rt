@@ -7,7 +7,7 @@ use mesa_list::Items;
 use mesa_schema::{
     Change, ChangeError, Evolving, KeyColumn, Lift, MAX_CHANGES, Name, Row, ValueColumn,
 };
-use mesa_value::Agg;
+use mesa_value::{Agg, Amount};
 use std::alloc::Global;
 use std::process::Abort;
 
@@ -140,7 +140,7 @@ static LINKED: [Step; 4] = [
     ("f", Made::Number(KeyType::Int, -1), ""),
 ];
 
-static VALUES: [i64; 2] = [7, 9];
+static VALUES: [Amount; 2] = [7, 9];
 
 static KEY: &[u8] = b"\x80\0\0\0\0\0\0\x01x\0\0\x7f\xff\xff\xff\xff\xff\xff\xff";
 

@@ -6,7 +6,7 @@ ghost use Rattle.mesa_key.specs.Text.{is_key_text};
 ghost use Rattle.mesa_schema.specs.declared.rows.Row.{Row as AnyRow};
 
 use crate::expected::expect_same;
-use mesa_key::{Key, KeyBytes, KeyText, KeyType, KeyValue, encode, reads_back};
+use mesa_key::{Amount, Key, KeyBytes, KeyText, KeyType, KeyValue, encode, reads_back};
 use mesa_list::Items;
 use mesa_model::Page;
 use mesa_print::render;
@@ -30,7 +30,7 @@ fn key_bytes(alloc: Global, types: &[KeyType], key: &Key) -> Result<KeyBytes, Al
 }
 
 // A row of a number and a text, with one value.
-fn row(alloc: Global, number: i64, text: &[u8], value: i64) -> Result<Row, AllocError>
+fn row(alloc: Global, number: i64, text: &[u8], value: Amount) -> Result<Row, AllocError>
     requires { IsTrue (is_key_text text.now) }
     ensures { IfOk result (λ row. IsTrue (is_spelling (KeyType.Int ∷ KeyType.Text ∷ []) row.key)) }
 {
