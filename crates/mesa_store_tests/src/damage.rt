@@ -60,10 +60,10 @@ static CASES: [Case; 14] = [
     },
     Case {
         name: "a record of no kind",
-        area: "01000000010900",
+        area: "01000000010000",
         file: "",
         told: "Some(Journal { area: 0, at: 0, want: Fits, found: Misfit(0) })",
-        after: "01000000010900",
+        after: "01000000010000",
     },
     Case {
         name: "an oldest version before any",
