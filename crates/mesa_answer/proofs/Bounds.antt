@@ -1,5 +1,5 @@
 -- The sums of rows that are filtered and grouped keep their bound.
-use Rattle.std.proofs.Common.{◌≡◌, ◌<◌, ◌≤◌, ◌+◌, ◌^◌, ℕ, zero, suc, List, [], ◌∷◌, ◌++◌, length, map, take, get_or, true, false, Bool, cond, refl, sym, ◌∙◌, ap, subst, arith, zero-add, Option, Some, None}
+use Rattle.std.proofs.Common.{◌≡◌, ◌<◌, ◌≤◌, ◌+◌, ℕ, zero, suc, List, [], ◌∷◌, ◌++◌, length, map, take, get_or, true, false, Bool, cond, refl, sym, ◌∙◌, ap, subst, arith, zero-add, Option, Some, None}
 use Rattle.std.specs.Prelude.{pos, nat_abs, nat_lt, filter, slice_get, sum_by}
 use Rattle.std.specs.List.{list_all}
 use Rattle.std.specs.Ordering.{is_lt}

@@ -1,5 +1,5 @@
 -- Absolute totals: what keeps every sum within its type.
-use Rattle.std.specs.Prelude.{ℕ, ◌+◌, ◌^◌, ◌≤◌, min, pos, nat_abs, List, [], ◌∷◌, ◌++◌, map, zip, sum_by, slice_index_or, take, drop, length, nat_le, Bool, true, false, if◌then◌else◌, Option, position, unwrap_or, ⊤}
+use Rattle.std.specs.Prelude.{ℕ, ◌+◌, ◌≤◌, min, pos, nat_abs, List, [], ◌∷◌, ◌++◌, map, zip, sum_by, slice_index_or, take, drop, length, nat_le, Bool, true, false, if◌then◌else◌, Option, position, unwrap_or, ⊤}
 pub use Rattle.mesa_value.specs.Agg.{sum_bound}
 use Rattle.mesa_value.specs.declared.Agg.{Agg}
 use Rattle.mesa_value.specs.declared.Agg.TheVariants as agg

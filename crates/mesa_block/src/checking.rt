@@ -1,6 +1,6 @@
 // The cells of a block's columns: which text is none, and whether keys rise.
 
-ghost use Rattle.std.specs.Prelude.{◌≡◌, ◌==◌, ◌≤◌, ◌<◌, ℕ, [], List, length, map, get_or, replicate, position, not, Option, Some, None, IfOk, OnOk, ◌++◌};
+ghost use Rattle.std.specs.Prelude.{◌≡◌, ◌==◌, ◌≤◌, ◌<◌, ℕ, [], List, length, replicate, position, not, Option, Some, None};
 ghost use Rattle.std.specs.List.{range_with_len};
 ghost use Rattle.mesa_key.specs.Spelling.{is_key_text};
 ghost use Rattle.mesa_key.specs.Order.{byte_cmp};

@@ -1,6 +1,6 @@
 // Writing a block.
-ghost use Rattle.std.specs.Prelude.{◌≡◌, IsTrue, ◌<◌, ℕ, ◌++◌, ◌^◌, [], ◌∷◌, IfOk, OnOk, List, drop, length, map, get_or, pos};
-ghost use Rattle.std.specs.Int.{w16, w128, cast_unsigned, to_be_bytes};
+ghost use Rattle.std.specs.Prelude.{◌≡◌, IsTrue, ◌<◌, ℕ, ◌++◌, ◌^◌, [], ◌∷◌, IfOk, OnOk, List, length, map};
+ghost use Rattle.std.specs.Int.{w16, to_be_bytes};
 ghost use Rattle.std.specs.List.{AllByRecursion};
 ghost use Rattle.mesa_key.specs.declared.KeyType.{KeyType as AnyType};
 ghost use Rattle.mesa_key.specs.Spelling.{is_spelling};

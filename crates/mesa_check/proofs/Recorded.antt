@@ -5,7 +5,6 @@ use Rattle.std.specs.List.{AllByRecursion, list_all}
 use Rattle.mesa_disk.specs.Image.{Image}
 use Rattle.mesa_schema.specs.declared.rows.Row.{Row}
 use Rattle.mesa_schema.specs.Changes.{Lineage, columns_at, columns_of, epoch_of, lifted}
-use Rattle.mesa_schema.specs.Columns.{Columns}
 use Rattle.mesa_schema.specs.Schema.{is_schema}
 use Rattle.mesa_image_laws.specs.mesa_history.mesa_batch.Totals.{abs_totals}
 use Rattle.mesa_delta.specs.mesa_block.Layout.{Layout}

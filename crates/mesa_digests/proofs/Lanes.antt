@@ -1,5 +1,5 @@
 -- Words of one message among those of four.
-use Rattle.std.proofs.Common.{◌≡◌, ℕ, zero, suc, ◌+◌, ◌*◌, ◌%◌, ◌<◌, ◌≤◌, List, [], ◌∷◌, length, map, get_or, slice_index, slice_index_or, slice_set, take, drop, refl, sym, ap, ◌∙◌, arith}
+use Rattle.std.proofs.Common.{◌≡◌, ℕ, zero, suc, ◌<◌, List, [], ◌∷◌, length, slice_index, slice_index_or, slice_set, take, drop, refl, ap, arith}
 use Rattle.std.proofs.Common.{◌^◌, Fits, w32}
 use Rattle.std.proofs.lemmas.Simd.{Each1-get_or}
 use Rattle.mesa_digests.specs.Lanes.{lane, one_of}

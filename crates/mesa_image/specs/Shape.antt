@@ -1,5 +1,5 @@
 -- What every catalogue keeps, whatever records made it.
-use Rattle.std.specs.Prelude.{◌≡◌, ℕ, ◌+◌, ◌^◌, ◌<◌, ◌≤◌, ◌⊎◌, length, flat_map, IfSome, IsTrue, is_none}
+use Rattle.std.specs.Prelude.{◌≡◌, ℕ, ◌+◌, ◌<◌, ◌≤◌, ◌⊎◌, length, flat_map, IfSome, IsTrue, is_none}
 use Rattle.std.specs.List.{AllByRecursion}
 use Rattle.mesa_history.specs.mesa_schema.Names.{repeated}
 use Rattle.mesa_history.specs.mesa_schema.Columns.{aggs_of}

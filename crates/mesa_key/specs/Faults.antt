@@ -1,5 +1,5 @@
 -- Why bytes begin with no key of some types: the first fault from the left, as the bytes are read one at a time.
-use Rattle.std.specs.Prelude.{ℕ, ◌+◌, ◌-◌, List, [], ◌∷◌, length, take, drop, Bool, true, false, not, ◌&&◌, nat_lt, if◌then◌else◌, Option, None, Some, is_some}
+use Rattle.std.specs.Prelude.{ℕ, ◌-◌, List, [], ◌∷◌, length, take, drop, Bool, true, false, not, ◌&&◌, nat_lt, if◌then◌else◌, Option, None, Some, is_some}
 use Rattle.std.specs.Str.{is_utf8}
 use Rattle.std.specs.Str.Lossy.{utf8_error_len, utf8_valid_len}
 use Rattle.mesa_key.specs.declared.KeyType.{KeyType}
@@ -7,7 +7,7 @@ use Rattle.mesa_key.specs.declared.KeyType.TheVariants as kind
 use Rattle.mesa_key.specs.declared.decoding.KeyError.{KeyError}
 use Rattle.mesa_key.specs.declared.decoding.KeyError.TheVariants as fault
 use Rattle.mesa_key.specs.Columns.{is_whole}
-use Rattle.mesa_key.specs.Spelling.{before_zero, column_length, is_column}
+use Rattle.mesa_key.specs.Spelling.{column_length, is_column}
 
 -- Bytes hold one that can't stand where it does, whatever follows: they aren't UTF-8, and they don't just end within a character.
 abbrev pub breaks_off : List ℕ → Bool

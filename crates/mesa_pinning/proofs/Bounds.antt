@@ -1,5 +1,5 @@
 -- No sum over the files by which a relation is read leaves its type.
-use Rattle.std.proofs.Common.{◌≡◌, ℕ, ◌+◌, ◌<◌, ◌≤◌, ◌^◌, List, [], ◌∷◌, ◌++◌, map, length, refl, sym, ap, ◌∙◌, subst, arith, lt-ltb, Bool, true, false, ◌&&◌, Option, Some, None}
+use Rattle.std.proofs.Common.{◌≡◌, ℕ, ◌+◌, ◌<◌, ◌≤◌, List, [], ◌∷◌, ◌++◌, map, length, refl, sym, ap, ◌∙◌, subst, arith, lt-ltb, Bool, true, false, ◌&&◌, Option, Some, None}
 use Rattle.std.specs.Prelude.{flat_map, nat_lt, slice_get, ◌==◌}
 use Rattle.std.specs.List.{AllByRecursion, cons_option, list_all}
 use Rattle.std.proofs.lemmas.List.{append-nil, length-map, map-append}

@@ -1,5 +1,5 @@
 -- The tables of a store, whose totals and contents are kept in lists of their own.
-use Rattle.std.proofs.Common.{◌≡◌, ◌<◌, ◌≤◌, ◌+◌, ◌^◌, inl, inr, ℕ, zero, suc, List, [], ◌∷◌, ◌++◌, drop, drop-drop, get_or, length, length-drop, map, set, Some, None, Ok, refl, sym, ◌∙◌, ap, subst, arith, add-zero, zero-add}
+use Rattle.std.proofs.Common.{◌≡◌, ◌<◌, ◌≤◌, ◌+◌, inl, inr, ℕ, zero, suc, List, [], ◌∷◌, ◌++◌, drop, drop-drop, get_or, length, length-drop, map, set, Some, None, Ok, refl, sym, ◌∙◌, ap, subst, arith, add-zero, zero-add}
 use Rattle.std.specs.Prelude.{max, slice_get, zip, ◌-◌, ◌⊎◌}
 use Rattle.std.specs.List.{AllByRecursion}
 use Rattle.std.proofs.lemmas.List.{length-map, length-set, map-append}

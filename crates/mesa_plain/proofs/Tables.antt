@@ -1,5 +1,5 @@
 -- Tables, one after another, with their rows of a batch.
-use Rattle.std.proofs.Common.{◌≡◌, ◌<◌, ◌+◌, ◌^◌, ℕ, List, [], drop, length, true, false, Ok, Err, Result, None, Some, sym, ◌∙◌, ap, subst}
+use Rattle.std.proofs.Common.{◌≡◌, ◌<◌, ◌+◌, ℕ, List, [], drop, length, true, false, Ok, Err, Result, None, Some, sym, ◌∙◌, ap, subst}
 use Rattle.std.specs.Prelude.{◌==◌, Option, slice_get}
 use Rattle.std.specs.List.{AllByRecursion}
 use Rattle.std.proofs.lemmas.Bool.{eqb-true}

@@ -17,7 +17,7 @@ use Rattle.mesa_record.specs.declared.record.ViewRef.{ViewRef}
 use Rattle.mesa_record.specs.declared.record.Files.{Files}
 use Rattle.mesa_record.specs.declared.record.Part.{Part}
 use Rattle.mesa_record.specs.Reading.{Left, Read, aggregate_at, aggregates_at, byte_at, format_at, format_of, total_at, count_at, file_ref_at, files_at, files_if, files_if_any_at, flag_of, half_at, key_at, long_at, meaning, not_zero, part_at, piece_at, ruled, totals_at, view_number, view_ref_at, view_refs_at, word_at}
-use Rattle.mesa_record.specs.Rules.{FitsFiles, FitsFilesIfAny, FitsPart, FitsRef, FitsTotals, FitsView, IsHalf, IsLong, IsTotal, IsTypedRef, IsWord, is_count_of_columns, is_file_ref, is_key_length}
+use Rattle.mesa_record.specs.Rules.{FitsRef, FitsTotals, IsHalf, IsLong, IsTotal, IsTypedRef, IsWord, is_count_of_columns, is_file_ref, is_key_length}
 use Rattle.mesa_record.specs.Spelling.{aggregate, counted, format_byte, format_field, total, file_keys, file_ref, file_sizes, files, files_if_any, flag, half, key, long, part, view_ref, word}
 use Rattle.mesa_record.proofs.Both.{Again, Begins, Found, InOrder, begins_two, here, list_again, list_found, of_ok, ok_is, step_of}
 use Rattle.mesa_record.proofs.Numbers.{IsAggregate, IsTotalIn, aggregate_again, aggregate_found, total_again, total_found, byte_again, byte_found, half_again, half_found, long_again, long_found, one, piece_again, piece_found, word_again, word_found}

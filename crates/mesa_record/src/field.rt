@@ -2,7 +2,7 @@
 ghost use Rattle.std.specs.Prelude.{◌≡◌, ◌++◌, ◌≤◌, List, ℕ, flat_map, length, OnOk};
 ghost use Rattle.mesa_record.specs.declared.edition.Edition.TheVariants.{Second as AsSecond};
 ghost use Rattle.mesa_record.specs.Reading.{Gives, wide_at, wide_amount_at, amount_at, key_column_at, long_at, many, name_at, value_column_at};
-ghost use Rattle.mesa_record.specs.Spelling.{aggregate, total, wide as wide_bytes, amount, counted, key_column, half, long, text, value_column, word};
+ghost use Rattle.mesa_record.specs.Spelling.{aggregate, total, amount, counted, key_column, half, long, text, value_column, word};
 ghost use Rattle.std.specs.List.{AllByRecursion};
 ghost use Rattle.mesa_value.specs.Agg.{IsAmount, IsNarrow};
 ghost use Rattle.mesa_schema.specs.declared.columns.KeyColumn.{KeyColumn as Column};

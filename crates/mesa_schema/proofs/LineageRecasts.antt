@@ -1,14 +1,13 @@
 -- A table's columns keep the rules through a recast.
-use Rattle.std.proofs.Common.{◌≡◌, ℕ, ◌+◌, ◌-◌, ◌<◌, List, [], ◌∷◌, length, Bool, true, false, cond, refl, sym, ◌∙◌, ap, arith, Option, Some, None, Result, Ok, Err, is_ok, find, nat_le}
+use Rattle.std.proofs.Common.{◌≡◌, ℕ, ◌+◌, ◌-◌, ◌<◌, List, [], ◌∷◌, true, false, cond, refl, ◌∙◌, ap, arith, Option, Some, None, Result, Ok, Err, is_ok, find, nat_le}
 use Rattle.std.specs.Prelude.{not}
 use Rattle.std.specs.List.{AllByRecursion, list_all}
-use Rattle.std.proofs.lemmas.Bool.{and_from, and_parts, leb-false, not-false}
+use Rattle.std.proofs.lemmas.Bool.{and_from, and_parts, leb-false}
 use Rattle.std.proofs.lemmas.List.{take_all}
-use Rattle.mesa_list.specs.Checks.{◌>>◌, refused_as}
+use Rattle.mesa_list.specs.Checks.{refused_as}
 use Rattle.mesa_schema.specs.declared.columns.KeyColumn.{KeyColumn}
 use Rattle.mesa_schema.specs.declared.columns.ValueColumn.{ValueColumn}
 use Rattle.mesa_schema.specs.declared.changes.Change.{Change}
-use Rattle.mesa_schema.specs.declared.recasts.RecastError.{RecastError}
 use Rattle.mesa_schema.specs.declared.views.View.{View}
 use Rattle.mesa_schema.specs.declared.views.ViewError.{ViewError}
 use Rattle.mesa_schema.specs.declared.views.ViewError.TheVariants.{NoKey, NoValue}

@@ -1,7 +1,6 @@
 -- Views outlast recasts of their table.
-use Rattle.std.proofs.Common.{◌≡◌, ℕ, List, [], ◌∷◌, map, length, Bool, true, false, cond, refl, sym, ◌∙◌, ap, subst, Option, Some, None, Result, Ok, Err, is_ok, find}
-use Rattle.std.specs.Prelude.{◌&&◌}
-use Rattle.std.specs.List.{AllByRecursion, list_all}
+use Rattle.std.proofs.Common.{◌≡◌, ℕ, List, [], ◌∷◌, map, true, false, cond, refl, sym, ◌∙◌, ap, subst, Option, Some, None, Result, Ok, Err, is_ok, find}
+use Rattle.std.specs.List.{AllByRecursion}
 use Rattle.std.proofs.lemmas.List.{append-nil, length-map}
 use Rattle.std.proofs.lemmas.Simd.{map-map}
 use Rattle.mesa_list.specs.Checks.{◌>>◌}
@@ -13,11 +12,10 @@ use Rattle.mesa_schema.specs.declared.rows.Row.{Row}
 use Rattle.mesa_schema.specs.declared.views.View.{View}
 use Rattle.mesa_schema.specs.declared.views.ViewError.{ViewError}
 use Rattle.mesa_schema.specs.declared.views.ViewError.TheVariants.{NoKey, NoValue, ReplaceInView}
-use Rattle.mesa_schema.specs.Names.{has_name}
 use Rattle.mesa_schema.specs.Columns.{Columns, aggs_of, chosen, key_names, value_names}
-use Rattle.mesa_schema.specs.Views.{choice_checked, is_replace, values_named, view_checked, view_columns, view_key_places, view_rows, view_value_places}
+use Rattle.mesa_schema.specs.Views.{choice_checked, is_replace, values_named, view_columns, view_key_places, view_rows, view_value_places}
 use Rattle.mesa_schema.specs.Lineages.{is_view_of}
-use Rattle.mesa_schema.specs.Folded.{folded, grouped, regrouped, rows_of}
+use Rattle.mesa_schema.specs.Folded.{folded, regrouped, rows_of}
 use Rattle.mesa_schema.specs.Rows.{AreRowsOf, IsRowOf}
 use Rattle.mesa_schema.proofs.Folds.{folded-folded}
 use Rattle.mesa_schema.proofs.GroupedFolds.{groups_folded}

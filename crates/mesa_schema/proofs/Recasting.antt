@@ -1,6 +1,6 @@
 -- Rows may be folded before a recast or after it.
 use Rattle.std.proofs.Common.{◌≡◌, ℕ, zero, suc, ◌+◌, ◌<◌, List, [], ◌∷◌, ◌++◌, map, length, true, false, refl, sym, ◌∙◌, ap, subst, arith, append_assoc, None}
-use Rattle.std.specs.Prelude.{◌==◌, cond, find, nat_lt}
+use Rattle.std.specs.Prelude.{◌==◌, cond, find}
 use Rattle.std.specs.List.{AllByRecursion, enumerate_from, list_all, list_any}
 use Rattle.std.proofs.lemmas.List.{append-nil, length-map}
 use Rattle.std.proofs.lemmas.Simd.{map-map}

@@ -1,6 +1,6 @@
 -- Counts of columns.
 use Rattle.std.proofs.Common.{◌≡◌, ℕ, ◌+◌, ◌≤◌, ◌<◌, List, [], ◌∷◌, length, map, get_or, refl, sym, ◌∙◌, ap, arith, Bool, true, false, cond, suc, zero}
-use Rattle.std.specs.Prelude.{◌&&◌, ◌^◌, not, nat_le, zip, count_by, is_some, is_none, Option, Some, None, slice_get}
+use Rattle.std.specs.Prelude.{◌&&◌, not, nat_le, zip, count_by, is_some, is_none, Option, Some, None, slice_get}
 use Rattle.std.specs.List.{list_all, list_any}
 use Rattle.std.proofs.lemmas.List.FromFn.{get_or-map-range_with_len, length-map-range_with_len}
 use Rattle.std.proofs.lemmas.List.Sums.{sum_by-cons}

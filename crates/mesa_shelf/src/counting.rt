@@ -1,5 +1,5 @@
 // Counts of columns: what is recorded for each column is there for each, and for no other.
-ghost use Rattle.std.specs.Prelude.{◌≡◌, ◌≤◌, ◌==◌, ◌+◌, ◌^◌, ℕ, length, count_by, is_none, map, nat_le, zip};
+ghost use Rattle.std.specs.Prelude.{◌≡◌, ◌≤◌, ◌==◌, ◌+◌, ℕ, length, count_by, is_none, map, nat_le, zip};
 ghost use Rattle.std.specs.List.{list_all, list_any};
 ghost use Rattle.mesa_schema.specs.declared.columns.ValueColumn.{ValueColumn as Column};
 ghost use Rattle.mesa_schema.specs.Changes.{columns_of, epoch_of};

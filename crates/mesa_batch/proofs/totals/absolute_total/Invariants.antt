@@ -1,4 +1,4 @@
-use Rattle.std.proofs.Common.{◌≡◌, ◌^◌, min, take}
+use Rattle.std.proofs.Common.{◌≡◌, min, take}
 use Rattle.mesa_batch.specs.Totals.{abs_total, sum_bound}
 use Rattle.mesa_batch.proofs.totals.absolute_total.Given as goal
 

@@ -1,4 +1,4 @@
-use Rattle.std.proofs.Common.{length, arith, refl, sym}
+use Rattle.std.proofs.Common.{arith, refl, sym}
 use Rattle.sha2.proofs.Schedule256.{rounds_first}
 use Rattle.mesa_digests.specs.Lanes.{lane}
 use Rattle.mesa_digests.proofs.Lanes.{lane_at}

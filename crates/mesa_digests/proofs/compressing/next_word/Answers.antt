@@ -1,4 +1,4 @@
-use Rattle.std.proofs.Common.{◌≡◌, ◌+◌, ◌%◌, ◌<◌, length, slice_index, arith, refl}
+use Rattle.std.proofs.Common.{◌≡◌, ◌+◌, ◌%◌, length, arith, refl}
 use Rattle.mesa_digests.proofs.Lanes.{lane_at}
 use Rattle.mesa_digests.proofs.compressing.next_word.Goals as goal
 

@@ -1,4 +1,4 @@
-use Rattle.std.proofs.Common.{◌≡◌, ◌<◌, length, slice_index, arith, refl}
+use Rattle.std.proofs.Common.{◌≡◌, length, arith, refl}
 use Rattle.std.proofs.lemmas.Simd.{get_or-replicate}
 use Rattle.mesa_digests.proofs.Lanes.{lane_at}
 use Rattle.mesa_digests.proofs.compressing.round.Goals as goal

@@ -1,4 +1,4 @@
-use Rattle.std.proofs.Common.{◌≡◌, ℕ, List, ◌∙◌, ◌*◌, ap, sym, refl}
+use Rattle.std.proofs.Common.{ℕ, List, ◌∙◌, ◌*◌, ap, sym, refl}
 use Rattle.sha2.specs.Sha256.{compress, hash_after}
 use Rattle.sha2.proofs.Absorbing256.{hash_after_next}
 use Rattle.mesa_digests.specs.Lanes.{lane, one_of}

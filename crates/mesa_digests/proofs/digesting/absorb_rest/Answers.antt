@@ -1,7 +1,7 @@
-use Rattle.std.proofs.Common.{◌≡◌, ℕ, List, ◌∙◌, ◌*◌, ap, sym, refl, arith, length, ◌/◌}
+use Rattle.std.proofs.Common.{ℕ, List, ◌∙◌, ap, sym}
 use Rattle.sha2.specs.Sha256.{compress, hash_after}
 use Rattle.sha2.proofs.Absorbing256.{hash_after_next}
-use Rattle.mesa_digests.specs.Lanes.{lane, one_of}
+use Rattle.mesa_digests.specs.Lanes.{one_of}
 use Rattle.mesa_digests.proofs.Lanes.{same_block}
 use Rattle.mesa_digests.proofs.digesting.absorb_rest.Goals as goal
 

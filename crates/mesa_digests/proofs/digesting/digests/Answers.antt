@@ -1,4 +1,4 @@
-use Rattle.std.proofs.Common.{◌≡◌, ◌∙◌, ◌/◌, ℕ, List, ap, length}
+use Rattle.std.proofs.Common.{◌∙◌, ◌/◌, ℕ, List, ap, length}
 use Rattle.sha2.specs.Sha256.{digest_bytes, hash_after, initial_hash_256, sha256}
 use Rattle.mesa_digests.proofs.digesting.digests.Goals as goal
 

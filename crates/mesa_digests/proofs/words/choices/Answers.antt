@@ -1,4 +1,4 @@
-use Rattle.std.proofs.Common.{◌<◌, ◌^◌, slice_index, arith}
+use Rattle.std.proofs.Common.{slice_index, arith}
 use Rattle.mesa_digests.proofs.Rotations.{rotated_three}
 use Rattle.mesa_digests.proofs.Lanes.{word_fits}
 use Rattle.mesa_digests.proofs.words.choices.Goals as goal

@@ -1,4 +1,4 @@
-use Rattle.std.proofs.Common.{w32, ◌<◌, ◌^◌, slice_index, arith}
+use Rattle.std.proofs.Common.{w32, slice_index}
 use Rattle.mesa_digests.proofs.ChMaj.{ch_short}
 use Rattle.mesa_digests.proofs.Lanes.{word_fits}
 use Rattle.mesa_digests.proofs.words.chosen.Goals as goal

@@ -1,4 +1,4 @@
-use Rattle.std.proofs.Common.{ℕ, ◌<◌, ◌/◌, ◌^◌, bit_xor, slice_index, ap, arith}
+use Rattle.std.proofs.Common.{ℕ, ◌/◌, ◌^◌, bit_xor, slice_index, ap, arith}
 use Rattle.mesa_digests.proofs.Rotations.{rotated_two}
 use Rattle.mesa_digests.proofs.Lanes.{word_fits}
 use Rattle.mesa_digests.proofs.words.early.Goals as goal

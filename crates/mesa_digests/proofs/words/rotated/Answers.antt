@@ -1,4 +1,4 @@
-use Rattle.std.proofs.Common.{◌≡◌, ◌-◌, ◌%◌, slice_index, arith, refl}
+use Rattle.std.proofs.Common.{◌≡◌, ◌-◌, ◌%◌, arith, refl}
 use Rattle.mesa_digests.proofs.words.rotated.Goals as goal
 
 pub returns : goal.returns

@@ -1,4 +1,4 @@
-use Rattle.std.proofs.Common.{◌≡◌, ℕ, ◌<◌, ◌/◌, ◌^◌, [], ◌∷◌, length, slice_index, ap, ◌∙◌, arith}
+use Rattle.std.proofs.Common.{ℕ, ◌<◌, ◌/◌, ◌^◌, [], ◌∷◌, length, slice_index, ap, ◌∙◌, arith}
 use Rattle.std.proofs.lemmas.Simd.{get_or-replicate, get_or-zip2}
 use Rattle.mesa_digests.proofs.words.shifted.Goals as goal
 
