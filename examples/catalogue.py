@@ -31,8 +31,8 @@ class Bytes:
     def number(self, size):
         return int.from_bytes(self.take(size), "big")
 
-    def value(self):
-        return int.from_bytes(self.take(8), "big", signed=True)
+    def value(self, size=8):
+        return int.from_bytes(self.take(size), "big", signed=True)
 
     def one_of(self, words):
         number = self.number(1)
@@ -76,7 +76,8 @@ def bodies(area):
         at = end
 
 
-# FORMATS, "Records": what columns, file references and the files of a range are
+# FORMATS, "Records": what columns, file references and the files of a range are. In the first edition (kinds 5 and 6) a
+# file has format 1, and what was added up takes 8 bytes; in the second (kinds 9 and 10) the format is told, and it takes 16.
 
 
 class Column(typing.NamedTuple):
@@ -101,6 +102,7 @@ class Columns(typing.NamedTuple):
 class Reference(typing.NamedTuple):
     """A file as the journal tells of it."""
 
+    format: int
     id: int
     length: int
     rows: int
@@ -111,9 +113,12 @@ class Reference(typing.NamedTuple):
     digest: bytes
 
     @classmethod
-    def read(cls, b):
+    def read(cls, b, edition):
+        told = b.one_of((None, 1, 2)) if edition == 2 else 1
+        if told is None:
+            raise b.fault("there is no format 0")
         numbers = b.number(8), b.number(8), b.number(8), b.number(4)
-        return cls(*numbers, b.key(), b.key(), b.many(1, b.value), b.take(32))
+        return cls(told, *numbers, b.key(), b.key(), b.many(1, lambda: b.value(8 * edition)), b.take(32))
 
     @property
     def file(self):
@@ -127,8 +132,8 @@ class Files(typing.NamedTuple):
     views: dict
 
     @classmethod
-    def read(cls, b):
-        return cls(Reference.read(b), dict(b.many(1, lambda: (b.number(1), Reference.read(b)))))
+    def read(cls, b, edition):
+        return cls(Reference.read(b, edition), dict(b.many(1, lambda: (b.number(1), Reference.read(b, edition)))))
 
     def all(self):
         return [self.table, *self.views.values()]
@@ -294,7 +299,9 @@ class Catalogue:
     def apply(self, body, source):
         b = Bytes(body, source)
         kind = b.number(1)
-        readers = {1: self.run, 2: self.table, 3: self.view, 4: self.alter, 5: self.publish, 6: self.swap, 7: self.expire, 12: self.expire_table}
+        readers = {1: self.run, 2: self.table, 3: self.view, 4: self.alter, 7: self.expire, 12: self.expire_table}
+        readers |= {5: lambda b: self.publish(b, 1), 6: lambda b: self.swap(b, 1)}
+        readers |= {9: lambda b: self.publish(b, 2), 10: lambda b: self.swap(b, 2)}
         if kind not in readers:
             raise b.fault(f"there is no record of kind {kind}")
         try:
@@ -324,23 +331,23 @@ class Catalogue:
             raise b.fault("there is no change of kind 0")
         table.change(kind.read(b))
 
-    def publish(self, b):
+    def publish(self, b, edition):
         version = b.number(4)
         if version != self.next:
             raise b.fault(f"version {version} is published, and the next one is {self.next}")
-        b.many(2, lambda: self.part(b, version))
+        b.many(2, lambda: self.part(b, version, edition))
         self.next += 1
 
-    def part(self, b, version):
+    def part(self, b, version, edition):
         table = self.tables[b.number(2)]
-        delta = Delta(version, version, b.number(4), Files.read(b))
-        b.many(1, lambda: b.number(8))
+        delta = Delta(version, version, b.number(4), Files.read(b, edition))
+        b.many(1, lambda: b.number(8 * edition))
         table.publish(self.tested(table, delta))
 
-    def swap(self, b):
+    def swap(self, b, edition):
         table, is_base = self.tables[b.number(2)], b.one_of((False, True))
         first, last, epoch = b.number(4), b.number(4), b.number(4)
-        files = Files.read(b) if b.one_of((False, True)) else None
+        files = Files.read(b, edition) if b.one_of((False, True)) else None
         delta = self.tested(table, Delta(first, last, epoch, files))
         if is_base and first == 0 and max(1, table.behind_base) <= last <= table.oldest:
             table.swap_base(delta)

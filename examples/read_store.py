@@ -18,7 +18,7 @@ import sys
 from catalogue import AGGREGATIONS, KEY_TYPES, Bytes, Catalogue, Fault, bodies
 
 COMBINE = {"sum": int.__add__, "min": min, "max": max, "replace": lambda older, newer: newer}
-MAGIC = b"MESADLT1"
+MAGICS = {1: b"MESADLT1", 2: b"MESADLT2"}
 BLOCK_ENTRY, FOOT = 60, 22
 
 
@@ -38,8 +38,8 @@ def blocks(file, told, columns):
     foot = b.number(8), b.number(4), b.number(1), b.number(1), b.take(8)
     if words != [it.word for it in (*columns.keys, *columns.values)]:
         raise b.fault("its columns are others than the journal's")
-    if foot != (told.rows, told.blocks, len(columns.keys), len(columns.values), MAGIC):
-        raise b.fault("its counts are others than the journal's")
+    if foot != (told.rows, told.blocks, len(columns.keys), len(columns.values), MAGICS[told.format]):
+        raise b.fault("its counts or its format are others than the journal's")
     return found
 
 
@@ -49,13 +49,14 @@ def block(b):
     return b.number(8), b.number(4), b.take(32)
 
 
-def block_rows(b, columns):
-    """The rows of a block: its columns one after the other."""
+def block_rows(b, columns, file_format):
+    """The rows of a block: its columns one after the other. A sum takes 16 bytes from format 2 on, other values 8."""
     if b.number(1) != 0:
         raise b.fault("its flag isn't 0")
     count = b.number(2)
     keys = [key_column(b, it.word, count) for it in columns.keys]
-    values = [[b.value() for _ in range(count)] for _ in columns.values]
+    sizes = [16 if it.word == "sum" and file_format == 2 else 8 for it in columns.values]
+    values = [[b.value(size) for _ in range(count)] for size in sizes]
     b.end()
     return zip(zip(*keys), zip(*values))
 
@@ -140,7 +141,7 @@ class Store:
                 source = f"the block at {offset} of {told.file}"
                 if hashlib.sha256(data).digest() != digest:
                     raise Fault(f"{source} is damaged: it isn't what was written")
-                yield from block_rows(Bytes(data, source), columns)
+                yield from block_rows(Bytes(data, source), columns, told.format)
 
     def opened(self, told):
         path = self.folder / told.file
