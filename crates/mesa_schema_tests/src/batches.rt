@@ -193,13 +193,13 @@ fn a_key_comes_once(rt: HostRuntime) {
 }
 
 // A total, one more, and whether both keep the bound.
-static BOUNDS: [(u64, u64, Result<(), u16>); 2] = [
+static BOUNDS: [(u128, u128, Result<(), u16>); 2] = [
     (9_223_372_036_854_775_800, 7, Ok(())),
     (9_223_372_036_854_775_800, 8, Err(1)),
 ];
 
 // Whether totals of two columns, of which the first stays the same, keep the bound.
-fn fit(rt: &impl Abort, alloc: Global, total: u64, more: u64) -> Result<(), u16> {
+fn fit(rt: &impl Abort, alloc: Global, total: u128, more: u128) -> Result<(), u16> {
     let totals = vec![in alloc; 1, total].expect(rt, "memory");
     let others = vec![in alloc; 1, more].expect(rt, "memory");
     fits(&Items::from_vec(totals), &Items::from_vec(others))

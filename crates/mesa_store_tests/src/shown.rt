@@ -23,7 +23,7 @@ fn put_stock(
     out: &mut String,
     evolving: &Evolving,
     oldest: u32,
-    totals: &[u64],
+    totals: &[u128],
     ranges: &Ranges,
 ) -> Result<(), AllocError> {
     let views = evolving.views();
