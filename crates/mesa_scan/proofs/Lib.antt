@@ -3,3 +3,4 @@ pub mod Blocks
 pub mod Skipping
 pub mod Going
 pub mod Onwards
+pub mod Chosen
