@@ -1,5 +1,5 @@
 -- A table's file put into groups of a view, block by block.
-use Rattle.std.proofs.Common.{◌≡◌, ℕ, zero, suc, ◌<◌, ◌≤◌, List, [], ◌∷◌, ◌++◌, length, take, drop, sym, ◌∙◌, ap, subst, append_assoc, arith}
+use Rattle.std.proofs.Common.{◌≡◌, ℕ, zero, suc, ◌+◌, ◌<◌, ◌≤◌, List, [], ◌∷◌, ◌++◌, length, take, drop, get_or, sym, ◌∙◌, ap, subst, append_assoc, arith}
 use Rattle.std.specs.Prelude.{map, filter, IsTrue, IfSome, Option, Some, slice_get}
 use Rattle.std.specs.List.{AllByRecursion}
 use Rattle.std.proofs.lemmas.List.{map-append, take-append-drop}
@@ -32,6 +32,7 @@ use Rattle.mesa_answer.specs.Answering.{KeepsSums}
 use Rattle.mesa_answer.specs.Gathered.{HasPut, wanted_of}
 use Rattle.mesa_answer.specs.Regrouping.{PlacesSeen, places_seen, row_under}
 use Rattle.mesa_answer.proofs.Forms.{row_spells}
+use Rattle.mesa_answer.proofs.Passing.{one_more_row}
 use Rattle.mesa_schema.proofs.GroupKeys.{regrouped_form}
 use Rattle.mesa_view.proofs.Blocks.{every_passes, given_all, given_matching}
 use Rattle.mesa_view.proofs.Sums.{sums_front}
@@ -143,3 +144,33 @@ keeps_more s f p before given block keeps =
     let front : List Row = matching_rows f (map (row_under p) given) in
     let more : List Row = matching_rows f (map (row_under p) block) in
     subst (KeepsSums s) (ap (λ (xs : List Row). before ++ xs) (matching_more f p given block) ∙ sym (append_assoc before front more)) keeps
+
+-- ---- the rows of a block one by one
+
+-- each has the form that all have
+pub form_at : (s : Columns) (p : PlacesSeen) (rows : List Row) (i : ℕ) (row : Row) → i < length rows → row ≡ get_or rows i row → AreRowsOf s (map (row_under p) rows) → IsRowOf s (row_under p row)
+form_at s p [] i row lt is all = absurd (omega arith)
+form_at s p (x ∷ rows) zero row lt is all = subst (λ (r : Row). IsRowOf s (row_under p r)) (sym is) all.0
+form_at s p (x ∷ rows) (suc i) row lt is all = form_at s p rows i row (omega arith) is all.1
+
+-- what matches of one row more
+next_matching : (f : KeyFilter) (p : PlacesSeen) (rows : List Row) (i : ℕ) (row : Row) → i < length rows → row ≡ get_or rows i row
+    → matching_rows f (map (row_under p) (take (i + 1) rows)) ≡ matching_rows f (map (row_under p) (take i rows)) ++ matching_rows f (row_under p row ∷ [])
+next_matching f p rows i row lt is = ap (λ (xs : List Row). matching_rows f (map (row_under p) xs)) (one_more_row i rows row lt is) ∙ matching_more f p (take i rows) (row ∷ [])
+
+-- is put in behind what matches of those before it
+pub put_next : (new : Groups) (f : KeyFilter) (p : PlacesSeen) (before rows : List Row) (i : ℕ) (row : Row) → i < length rows → row ≡ get_or rows i row
+    → HasPut new ((before ++ matching_rows f (map (row_under p) (take i rows))) ++ matching_rows f (row_under p row ∷ [])) → HasPut new (before ++ matching_rows f (map (row_under p) (take (i + 1) rows)))
+put_next new f p before rows i row lt is put =
+    subst (HasPut new) (append_assoc before (matching_rows f (map (row_under p) (take i rows))) (matching_rows f (row_under p row ∷ [])) ∙ ap (λ (xs : List Row). before ++ xs) (sym (next_matching f p rows i row lt is))) put
+
+-- and keeps the bound that the whole block keeps
+pub keeps_front : (s : Columns) (f : KeyFilter) (p : PlacesSeen) (before rows : List Row) (i : ℕ) (row : Row) → i < length rows → row ≡ get_or rows i row → KeepsSums s (before ++ matching_rows f (map (row_under p) rows))
+    → KeepsSums s ((before ++ matching_rows f (map (row_under p) (take i rows))) ++ matching_rows f (row_under p row ∷ []))
+keeps_front s f p before rows i row lt is keeps =
+    let front : List Row = matching_rows f (map (row_under p) (take (i + 1) rows)) in
+    let others : List Row = matching_rows f (map (row_under p) (drop (i + 1) rows)) in
+    let cut : matching_rows f (map (row_under p) rows) ≡ front ++ others =
+    ap (λ (xs : List Row). matching_rows f (map (row_under p) xs)) (sym (take-append-drop (i + 1) rows)) ∙ matching_more f p (take (i + 1) rows) (drop (i + 1) rows) in
+    let all : KeepsSums s ((before ++ front) ++ others) = subst (KeepsSums s) (ap (λ (xs : List Row). before ++ xs) cut ∙ sym (append_assoc before front others)) keeps in
+    subst (KeepsSums s) (ap (λ (xs : List Row). before ++ xs) (next_matching f p rows i row lt is) ∙ sym (append_assoc before (matching_rows f (map (row_under p) (take i rows))) (matching_rows f (row_under p row ∷ [])))) (sums_front s (before ++ front) others all)

@@ -1,0 +1,31 @@
+use Rattle.std.proofs.Common.{◌≡◌, ◌∙◌, ◌++◌, ◌∷◌, [], List, Bool, append-nil, ap, cond, false, subst, sym, true}
+use Rattle.std.proofs.lemmas.Result.{on_ok_weaker}
+use Rattle.mesa_key.specs.Spelling.{key_of}
+use Rattle.mesa_schema.specs.declared.rows.Row.{Row}
+use Rattle.mesa_schema.specs.Lent.{lent}
+use Rattle.mesa_filter.specs.Filter.{meets}
+use Rattle.mesa_answer.specs.Answering.{KeepsSums}
+use Rattle.mesa_answer.specs.Gathered.{HasPut, wanted_of}
+use Rattle.mesa_answer.proofs.Results.{if_err}
+use Rattle.mesa_query.proofs.regrouped.put_matching.Goals as goal
+
+pub returns-then-not-matches-clause-put : goal.returns-then-not-matches-clause-put
+returns-then-not-matches-clause-put c = λ given h.
+    let row : Row = lent c.args.row in
+    let f = c.args.filter.now in
+    let no : meets (key_of f.kinds row.key) f.terms ≡ false = sym c.matches.ensures ∙ c.if-not-matches.true in
+    subst (HasPut c.args.groups.now) (sym (ap (λ (b : Bool). given ++ cond b (row ∷ []) []) no ∙ append-nil given)) h
+
+pub returns-clause-put : goal.returns-clause-put
+returns-clause-put c =
+    let row : Row = lent c.args.row in
+    let f = c.args.filter.now in
+    let yes : meets (key_of f.kinds row.key) f.terms ≡ true = sym c.matches.ensures ∙ c.if-not-matches.false in
+    on_ok_weaker c.put_row.result (λ put given h. subst (HasPut c.put_row.new.groups) (sym (ap (λ (b : Bool). given ++ cond b (row ∷ []) []) yes)) (put given h)) c.put_row.ensures.put
+
+pub returns-clause-never : goal.returns-clause-never
+returns-clause-never c =
+    let row : Row = lent c.args.row in
+    let f = c.args.filter.now in
+    let yes : meets (key_of f.kinds row.key) f.terms ≡ true = sym c.matches.ensures ∙ c.if-not-matches.false in
+    if_err c.put_row.result _ _ (λ e never d is given h keeps. never d is given h (subst (KeepsSums (wanted_of c.args.groups.now).schema) (ap (λ (b : Bool). given ++ cond b (row ∷ []) []) yes) keeps)) c.put_row.ensures.never
