@@ -1,4 +1,4 @@
-use Rattle.std.proofs.Common.{rules, ◌≡◌, ℕ, ◌∙◌, inl, inr, [], length, arith}
+use Rattle.std.proofs.Common.{rules, ◌≡◌, ◌∙◌, inl, inr, [], length, arith}
 use Rattle.std.proofs.lemmas.List.{get_or-set_same, get_or-set_other}
 use Rattle.std.proofs.lemmas.Bool.{cases_lt}
 use Rattle.sha2.proofs.Schedule256.{IsWindow_first}

@@ -1,4 +1,4 @@
-use Rattle.std.proofs.Common.{◌≡◌, ◌*◌, ℕ, [], ◌∷◌, slice_index}
+use Rattle.std.proofs.Common.{◌≡◌, ◌*◌, [], ◌∷◌, slice_index}
 use Rattle.sha2.specs.Sha256.{word_at}
 use Rattle.mesa_digests.specs.Lanes.{one_of}
 use Rattle.mesa_digests.proofs.Lanes.{of_each}
