@@ -107,7 +107,7 @@ const FIRST_CUMULATIVE: [(&str, &str); 3] = [
     ),
 ];
 
-static CASES: [Changed; 15] = [
+static CASES: [Changed; 17] = [
     Changed {
         name: "an empty store",
         script: "",
@@ -173,6 +173,55 @@ static CASES: [Changed; 15] = [
         ],
         status: 0,
         text: "sound\n",
+    },
+    // Both values are the greatest of 128 bits. Their sum has 129, and the reference what is left of it in 128.
+    Changed {
+        name: "a file whose sum has more than 128 bits",
+        script: "table,t,k int,v sum\n\
+         row,t,1,5\n\
+         row,t,2,7\n\
+         commit\n",
+        changes: &[
+            (
+                "000002800000000000000180000000000000020000000000000000000000000000000500000000000000000000000000000007",
+                "000002800000000000000180000000000000027fffffffffffffffffffffffffffffff7fffffffffffffffffffffffffffffff",
+            ),
+            (
+                "553e9955d5b5b69fb1ba78388c23902691d565247931fd96449516d5412d6af4",
+                "7a5ef7115fcf7761b9979512d5fe0b6cb77fd1c9355c180a0032b11f9a2fb8a2",
+            ),
+            (
+                "0000000000000000000000000000000c5cfe10ba0f27c2f632dd449b66e1f82e917fdfb4a1684859aef060443a1f21c9",
+                "fffffffffffffffffffffffffffffffef1fee74b8d475ec400fe5a20fc3bfccc5554bb9fc5857c9780509ffb9ef59fd3",
+            ),
+        ],
+        status: 1,
+        text: "unsound table=t range=[0,0] key=-\n",
+    },
+    // A third value is the least but one, so the sum comes back, and the reference is true. The totals are the old rows'.
+    Changed {
+        name: "a file whose sum has more than 128 bits on the way",
+        script: "table,t,k int,v sum\n\
+         row,t,1,5\n\
+         row,t,2,7\n\
+         row,t,3,1\n\
+         commit\n",
+        changes: &[
+            (
+                "000003800000000000000180000000000000028000000000000003000000000000000000000000000000050000000000000000000000000000000700000000000000000000000000000001",
+                "0000038000000000000001800000000000000280000000000000037fffffffffffffffffffffffffffffff7fffffffffffffffffffffffffffffff80000000000000000000000000000001",
+            ),
+            (
+                "d677de6f94dcf3ceba71032e459c34d764bcaaf2b99110a17b1be280e9ddfe93",
+                "c6fd5b2984f87a1c910defef41cda66fa68ee526249a751f875208bdde848771",
+            ),
+            (
+                "0000000000000000000000000000000d2bea9a0b0bfad755a54749c4e5c28123c60cffbba2d85a1ba1229da1e834dcc8",
+                "7ffffffffffffffffffffffffffffffffc315ab6c6c385a463810cd46c2d4ddcb6647b240d92179115ae5f8fdd9d42f3",
+            ),
+        ],
+        status: 1,
+        text: "unsound table=t range=[0,0] key=-\n",
     },
     Changed {
         name: "a cumulative with one value changed",
