@@ -51,9 +51,13 @@ taken [] i row is = absurd cc
 taken (x ∷ rows) zero row is = let same : x ≡ row = cc in ap (λ r. r ∷ []) same
 taken (x ∷ rows) (suc i) row is = ap (λ rs. x ∷ rs) (taken rows i row is)
 
+-- the first rows, one more
+pub one_taken : (rows : List Row) (i : ℕ) (row : Row) → slice_get rows i ≡ Some row → take (i + 1) rows ≡ take i rows ++ row ∷ []
+one_taken rows i row is = ap (λ n. take n rows) (add-one i) ∙ taken rows i row is
+
 passes : (test : Row → Bool) (rows : List Row) (i : ℕ) (row : Row) (b : Bool) → slice_get rows i ≡ Some row → test row ≡ b → filter test (take (i + 1) rows) ≡ filter test (take i rows) ++ cond b (row ∷ []) []
 passes test rows i row b is so =
-    ap (filter test) (ap (λ n. take n rows) (add-one i) ∙ taken rows i row is) ∙ filter-append test (take i rows) (row ∷ []) ∙ ap (λ c. filter test (take i rows) ++ cond c (row ∷ []) []) so
+    ap (filter test) (one_taken rows i row is) ∙ filter-append test (take i rows) (row ∷ []) ∙ ap (λ c. filter test (take i rows) ++ cond c (row ∷ []) []) so
 
 -- the place of a row that matches
 pub match_more : (test : Row → Bool) (places : List ℕ) (rows : List Row) (i : ℕ) (row : Row) → slice_get rows i ≡ Some row → test row ≡ true → chosen places rows ≡ filter test (take i rows) → chosen (places ++ i ∷ []) rows ≡ filter test (take (i + 1) rows)
