@@ -1,5 +1,5 @@
 -- Tables' columns keep the rules through their lives: when a table is made, and when its columns change.
-use Rattle.std.proofs.Common.{◌≡◌, ℕ, ◌-◌, ◌<◌, List, [], ◌∷◌, ◌++◌, length, true, false, sym, Ok, ◌∙◌, ap, subst, arith, is_ok, nat_le, inl, inr, ℤ, nat_abs, refl}
+use Rattle.std.proofs.Common.{◌≡◌, ◌-◌, ◌<◌, List, [], ◌∷◌, ◌++◌, length, true, false, sym, Ok, ◌∙◌, ap, subst, arith, is_ok, nat_le, inl, inr, ℤ, nat_abs, refl}
 use Rattle.std.specs.Prelude.{Option, Some}
 use Rattle.std.specs.List.{list_all}
 use Rattle.std.proofs.lemmas.Bool.{cases_lt, eqb-true, leb-false, lt-leb}

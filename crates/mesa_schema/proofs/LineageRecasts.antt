@@ -1,5 +1,5 @@
 -- A table's columns keep the rules through a recast.
-use Rattle.std.proofs.Common.{◌≡◌, ℕ, ◌+◌, ◌-◌, ◌<◌, List, [], ◌∷◌, true, false, cond, refl, ◌∙◌, ap, arith, Option, Some, None, Result, Ok, Err, is_ok, find, nat_le}
+use Rattle.std.proofs.Common.{◌≡◌, ◌+◌, ◌-◌, ◌<◌, List, [], ◌∷◌, true, false, cond, refl, ◌∙◌, ap, arith, Option, Some, None, Result, Ok, Err, is_ok, find, nat_le}
 use Rattle.std.specs.Prelude.{not}
 use Rattle.std.specs.List.{AllByRecursion, list_all}
 use Rattle.std.proofs.lemmas.Bool.{and_from, and_parts, leb-false}

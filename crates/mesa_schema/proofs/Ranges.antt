@@ -1,5 +1,5 @@
 -- Values stay within the ranges of their columns, whatever rows go through.
-use Rattle.std.proofs.Common.{◌≡◌, ℕ, zero, suc, ◌+◌, List, [], ◌∷◌, ◌++◌, length, map, filter, cond, true, false, Option, Some, None, slice_get, sym, subst, arith}
+use Rattle.std.proofs.Common.{◌≡◌, ℕ, zero, suc, List, [], ◌∷◌, ◌++◌, length, map, filter, cond, true, false, Option, Some, None, slice_get, sym, subst, arith}
 use Rattle.std.specs.Prelude.{ℤ, ⊤, int_lt}
 use Rattle.std.specs.List.{AllByRecursion, cons_option}
 use Rattle.mesa_list.specs.Bytes.{same_bytes}
