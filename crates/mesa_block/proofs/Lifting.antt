@@ -11,10 +11,15 @@ use Rattle.mesa_block.proofs.Held.{over_more, rows_more}
 -- What two lists have are the first i of these rows, lifted, of n values each.
 pub record AreLifted (n : ℕ) (lift : Lift) (rows : List Row) (i : ℕ) (found : List (List ℕ)) (numbers : List ℤ) : Type 0 where
   pub over : AreOver n found numbers
-  pub rows : rows_over n found numbers ≡ map (lifted_with lift) (take i rows)
+  pub lifted : rows_over n found numbers ≡ map (lifted_with lift) (take i rows)
 
 pub lifted_none : (n : ℕ) (lift : Lift) (rows : List Row) → AreLifted n lift rows 0 [] []
-lifted_none n lift rows = record { over = refl; rows = refl }
+lifted_none n lift rows = record { over = refl; lifted = refl }
+
+-- rows that a lift leaves as they are
+pub unmoved : (lift : Lift) (rows : List Row) → ((row : Row) → lifted_with lift row ≡ row) → rows ≡ map (lifted_with lift) rows
+unmoved lift [] same = refl
+unmoved lift (row ∷ rows) same = λ i. sym (same row) i ∷ unmoved lift rows same i
 
 -- a row of a block has as many values as each
 pub values_count : (n : ℕ) (keys : List (List ℕ)) (values : List ℤ) (i : ℕ) (row : Row) → AreOver n keys values → slice_get (rows_over n keys values) i ≡ Some row → length row.values ≡ n
@@ -38,8 +43,8 @@ lifted_more n lift rows i found new numbers more row now h at count is put add =
     let size : length now.values ≡ n = ap (λ (r : Row). length r.values) is ∙ count in
     let one : rows_over n (found ++ now.key ∷ []) (numbers ++ now.values) ≡ map (lifted_with lift) (take (i + 1) rows) =
     rows_more n found now.key numbers now.values h.over size
-    ∙ (λ j. h.rows j ++ is j ∷ [])
+    ∙ (λ j. h.lifted j ++ is j ∷ [])
     ∙ sym (map-append (lifted_with lift) (take i rows) (row ∷ []))
     ∙ ap (map (lifted_with lift)) (sym (take_one rows i row at)) in
     subst (λ (l : List (List ℕ)). AreLifted n lift rows (i + 1) l more) (sym put)
-    (subst (AreLifted n lift rows (i + 1) (found ++ now.key ∷ [])) (sym add) (record { over = over_more n found now.key numbers now.values h.over size; rows = one }))
+    (subst (AreLifted n lift rows (i + 1) (found ++ now.key ∷ [])) (sym add) (record { over = over_more n found now.key numbers now.values h.over size; lifted = one }))

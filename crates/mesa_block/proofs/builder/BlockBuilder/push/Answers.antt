@@ -21,9 +21,8 @@ invariant_of-self-2 c =
     let row : Row = lent c.args.row in
     let h = subst (λ (x : Built). IsRow x.layout row) (sym c.self.view_is) c.requires.form in
     let g = subst (λ (x : Built). Rise (map key_of (x.rows ++ row ∷ []))) (sym c.self.view_is) c.requires.greater in
-    let more = held_more c.reads_back.ensures.passes (record { format = b.format; columns = b.schema }) b.kinds.items b.widths.items b.size b.keys c.push.new.self b.values.items c.extend_from_slice.new.self.items row b.len c.len-rows.result c.self.invariant h g c.len-rows.ensures
-    (sym c.is_full.ensures ∙ c.if-is_full.false) c.in_ok-push.ensures.ok c.in_default.ensures.items in
-    rw c.len.ensures more
+    held_more c.reads_back.ensures.passes (record { format = b.format; columns = b.schema }) b.kinds.items b.widths.items b.size b.keys c.push.new.self b.values.items c.extend_from_slice.new.self.items row b.len c.len-rows.result c.self.invariant h g c.len-rows.ensures
+    (sym c.is_full.ensures ∙ c.if-is_full.false) c.in_ok-push.ensures.ok c.in_default.ensures.items
 
 pub returns-clause-fits : goal.returns-clause-fits
 returns-clause-fits c =
