@@ -1,5 +1,5 @@
 -- The row at hand of a block.
-use Rattle.std.proofs.Common.{◌≡◌, ℕ, zero, suc, ◌+◌, ◌≤◌, List, [], ◌∷◌, length, drop, refl, ◌∙◌, ap, arith}
+use Rattle.std.proofs.Common.{◌≡◌, ℕ, zero, suc, ◌+◌, ◌<◌, ◌≤◌, List, [], ◌∷◌, length, drop, refl, ◌∙◌, ap, arith, length-drop}
 use Rattle.std.specs.Prelude.{Some, slice_get}
 use Rattle.mesa_schema.specs.declared.rows.Row.{Row}
 
@@ -18,10 +18,16 @@ past_end [] (suc at) le = refl
 past_end (x ∷ rows) zero le = absurd (omega (arith, le))
 past_end (x ∷ rows) (suc at) le = past_end rows at (omega (arith, le))
 
+-- before that there is one at least
+pub some_left : (rows : List Row) (at : ℕ) → at < length rows → drop at rows ≡ [] → ⊥
+some_left rows at lt none = omega (arith, lt, length-drop at rows, ap (λ (l : List Row). length l) none)
+
 -- all but the first
 pub one_behind : (rows : List Row) (at : ℕ) → drop (at + 1) rows ≡ drop 1 (drop at rows)
 one_behind [] zero = refl
-one_behind [] (suc at) = refl
+one_behind [] (suc at) =
+    let next : suc at + 1 ≡ suc (at + 1) = omega arith in
+    ap (λ (n : ℕ). drop {A = Row} n []) next
 one_behind (x ∷ rows) zero = refl
 one_behind (x ∷ rows) (suc at) =
     let next : suc at + 1 ≡ suc (at + 1) = omega arith in
