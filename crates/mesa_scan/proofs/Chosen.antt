@@ -35,14 +35,15 @@ place_there n [] i place all is = absurd cc
 place_there n (p ∷ places) zero place all is = let same : p ≡ place = cc in subst (λ k. k < n) same all.0
 place_there n (p ∷ places) (suc i) place all is = place_there n places i place all.1 is
 
+-- a row behind others stays behind them, whether a row stands before them or none
+stays_behind : (o : Option Row) (more rows : List Row) (row : Row) → more ≡ rows ++ row ∷ [] → cons_option o more ≡ cons_option o rows ++ row ∷ []
+stays_behind None more rows row is = is
+stays_behind (Some x) more rows row is = ap (λ xs. x ∷ xs) is
+
 -- a place more
 pub chosen_more : (places : List ℕ) (rows : List Row) (place : ℕ) (row : Row) → slice_get rows place ≡ Some row → chosen (places ++ place ∷ []) rows ≡ chosen places rows ++ row ∷ []
 chosen_more [] rows place row is = ap (λ o. cons_option o []) is
-chosen_more (p ∷ places) rows place row is = by (slice_get rows p)
-  where
-    by : (o : Option Row) → cons_option o (chosen (places ++ place ∷ []) rows) ≡ cons_option o (chosen places rows) ++ row ∷ []
-    by None = chosen_more places rows place row is
-    by (Some x) = ap (λ xs. x ∷ xs) (chosen_more places rows place row is)
+chosen_more (p ∷ places) rows place row is = stays_behind (slice_get rows p) (chosen (places ++ place ∷ []) rows) (chosen places rows) row (chosen_more places rows place row is)
 
 -- ---- those of matching rows
 

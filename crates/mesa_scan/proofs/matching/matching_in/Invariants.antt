@@ -8,5 +8,5 @@ use Rattle.mesa_scan.proofs.matching.matching_in.Given as goal
 abbrev pub invariant-loop-place : goal.invariant-loop-place
 invariant-loop-place l = record {
   within : AllByRecursion (λ place. place < l.place) l.places.items;
-  rows : chosen l.places.items l.block ≡ matching_rows l.filter (take l.place l.block);
+  rows : chosen l.places.items l.fn.block ≡ matching_rows l.filter (take l.place l.fn.block);
 }

@@ -5,25 +5,25 @@ use Rattle.mesa_schema.specs.declared.rows.Row.{Row}
 use Rattle.mesa_scan.proofs.Chosen.{chosen_at, chosen_count, place_there}
 use Rattle.mesa_scan.proofs.matching.Matching.row.Goals as goal
 
-pub bounds-places-i : goal.bounds-places-i
-bounds-places-i c =
+pub index-requires : goal.index-requires
+index-requires c =
     let b = c.self.inside in
-    omega (arith, c.requires, chosen_count b.places.items b.block c.self.invariant, ap (λ (rows : List Row). length rows) c.self.view_is)
+    omega (arith, c.requires, b.places.ok, chosen_count b.places.items b.block c.self.invariant, ap (λ (rows : List Row). length rows) c.self.view_is)
 
 pub row-requires : goal.row-requires
 row-requires c =
     let b = c.self.inside in
-    let place = c.index-places-i.result in
+    let place = c.index.result.now in
     let count = chosen_count b.places.items b.block c.self.invariant in
     let at : slice_get b.places.items c.args.i ≡ Some place =
-    slice_get_read b.places.items (length b.places.items) c.args.i place refl (omega (arith, c.requires, count, ap (λ (rows : List Row). length rows) c.self.view_is)) c.index-places-i.is in
+    slice_get_read b.places.items (length b.places.items) c.args.i place refl (omega (arith, c.requires, count, ap (λ (rows : List Row). length rows) c.self.view_is)) c.index.ensures in
     place_there (length b.block) b.places.items c.args.i place c.self.invariant at
 
 pub returns : goal.returns
 returns c =
     let b = c.self.inside in
-    let place = c.index-places-i.result in
+    let place = c.index.result.now in
     let count = chosen_count b.places.items b.block c.self.invariant in
     let at : slice_get b.places.items c.args.i ≡ Some place =
-    slice_get_read b.places.items (length b.places.items) c.args.i place refl (omega (arith, c.requires, count, ap (λ (rows : List Row). length rows) c.self.view_is)) c.index-places-i.is in
+    slice_get_read b.places.items (length b.places.items) c.args.i place refl (omega (arith, c.requires, count, ap (λ (rows : List Row). length rows) c.self.view_is)) c.index.ensures in
     ap (λ (rows : List Row). slice_get rows c.args.i) (sym c.self.view_is) ∙ chosen_at b.places.items b.block c.args.i place c.self.invariant at ∙ c.row.ensures

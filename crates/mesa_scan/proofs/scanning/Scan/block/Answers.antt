@@ -43,8 +43,14 @@ matching_in-requires g c =
     let spells = block_spells c.reads_back.ensures.passes c.lifts_to_present.ensures.form g.R.FileReader.bytes input scan c.requires.scanning.0 (next_of scan) c.in-Ok.block lineage c.requires.scanning.1 c.in-Ok.ensures.block in
     subst (AllByRecursion (λ (row : Row). IsTrue (is_spelling scan.filter.now.kinds row.key))) (sym c.in_ok-lifted.ensures) (all_map (λ (row : Row). IsTrue (is_spelling scan.filter.now.kinds row.key)) (lifted_with scan.lift) c.in-Ok.block spells)
 
-pub returns-in_err-matching_in-clause-input : goal.returns-in_err-matching_in-clause-input
-returns-in_err-matching_in-clause-input g c =
+pub returns-in_err-lifted-clause-input : goal.returns-in_err-lifted-clause-input
+returns-in_err-lifted-clause-input g c =
+    let old = c.args.input.now in
+    let same : IsSameInput g.R.FileReader.bytes old (record old { reader = c.block.new.self }) = record { index = c.block.ensures.index; evolving = refl; epoch = refl; told = c.block.ensures.bytes } in
+    input_more g.R.FileReader.bytes old (record old { reader = c.block.new.self }) (next_of c.args.self.now) c.in-Ok.block same c.in-Ok.ensures.first c.in-Ok.ensures.next c.in-Ok.ensures.other c.requires.scanning.1.input
+
+pub returns-in_err-rows-clause-input : goal.returns-in_err-rows-clause-input
+returns-in_err-rows-clause-input g c =
     let old = c.args.input.now in
     let same : IsSameInput g.R.FileReader.bytes old (record old { reader = c.block.new.self }) = record { index = c.block.ensures.index; evolving = refl; epoch = refl; told = c.block.ensures.bytes } in
     input_more g.R.FileReader.bytes old (record old { reader = c.block.new.self }) (next_of c.args.self.now) c.in-Ok.block same c.in-Ok.ensures.first c.in-Ok.ensures.next c.in-Ok.ensures.other c.requires.scanning.1.input
