@@ -10,7 +10,7 @@ use Rattle.mesa_filter.specs.Filter.{filtered}
 use Rattle.mesa_filter.specs.Query.{BuiltQuery, IsQueryOf}
 use Rattle.mesa_model.specs.Query.{answer_rows}
 
--- In each sum column the absolute values of the rows add up to at most 2^63 - 1, so that whichever of them are added up, the sum is an amount.
+-- In each sum column the absolute values of the rows add up to at most 2^127 - 1, so that whichever of them are added up, the sum is an amount.
 abbrev pub KeepsSums : Columns → List Row → Type 0
 KeepsSums s rows = (c : ℕ) → slice_get (aggs_of s) c ≡ Some Sum → abs_total c rows < sum_bound
 

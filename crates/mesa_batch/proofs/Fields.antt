@@ -13,7 +13,7 @@ use Rattle.mesa_schema.specs.declared.columns.KeyColumn.{KeyColumn}
 use Rattle.mesa_schema.specs.declared.columns.ValueColumn.{ValueColumn}
 use Rattle.mesa_key.specs.declared.KeyValue.{KeyValue}
 use Rattle.mesa_key.specs.Spelling.{value_spelling, key_spelling}
-use Rattle.mesa_schema.specs.Numbers.{key_value_of, signed_of}
+use Rattle.mesa_schema.specs.Numbers.{amount_of, key_value_of}
 use Rattle.mesa_schema.specs.Columns.{Columns}
 use Rattle.mesa_batch.specs.Batch.{key_from, row_of, values_from}
 use Rattle.mesa_batch.specs.Reading.{after, spelled, IsRefusal}
@@ -76,14 +76,14 @@ not_spelled (Err d) c e = cc
 
 -- ---- values
 
-pub values_stop : (a : Agg) (aggs : List Agg) (field : List ℕ) (fields : List (List ℕ)) (c : ℕ) → signed_of field ≡ None → values_from c (a ∷ aggs) (field ∷ fields) ≡ Err c
+pub values_stop : (a : Agg) (aggs : List Agg) (field : List ℕ) (fields : List (List ℕ)) (c : ℕ) → amount_of a field ≡ None → values_from c (a ∷ aggs) (field ∷ fields) ≡ Err c
 values_stop a aggs field fields c e = ap (λ o. ok_or o c >>= (λ value. values_from (c + 1) aggs fields >>= (λ values. Ok (value ∷ values)))) e
 
 read_cons : (value : ℤ) (r : Result (List ℤ) ℕ) → (r >>= (λ values. Ok (value ∷ values))) ≡ after (value ∷ []) r
 read_cons value (Ok values) = refl
 read_cons value (Err c) = refl
 
-pub values_go_on : (a : Agg) (aggs : List Agg) (field : List ℕ) (fields : List (List ℕ)) (c : ℕ) (value : ℤ) → signed_of field ≡ Some value
+pub values_go_on : (a : Agg) (aggs : List Agg) (field : List ℕ) (fields : List (List ℕ)) (c : ℕ) (value : ℤ) → amount_of a field ≡ Some value
     → values_from c (a ∷ aggs) (field ∷ fields) ≡ after (value ∷ []) (values_from (c + 1) aggs fields)
 values_go_on a aggs field fields c value e =
     ap (λ o. ok_or o c >>= (λ value. values_from (c + 1) aggs fields >>= (λ values. Ok (value ∷ values)))) e ∙ read_cons value (values_from (c + 1) aggs fields)
@@ -130,18 +130,16 @@ value_missing columns fields first i values h past kept =
     let (column, e) = there columns i h in
     kept ∙ λ j. after values (values_from (first + i) (cut_map (λ (c : ValueColumn). c.agg) columns i column h e j) (drop_all i fields past j))
 
-pub value_bad : (columns : List ValueColumn) (fields : List (List ℕ)) (first i : ℕ) (field : List ℕ) (values : List ℤ) → i < length columns → i < length fields → field ≡ get_or fields i field
-    → signed_of field ≡ None → AreRead columns fields first i values → values_from first (aggs columns) fields ≡ Err (first + i)
-value_bad columns fields first i field values h within at none kept =
-    let (column, e) = there columns i h in
+pub value_bad : (columns : List ValueColumn) (fields : List (List ℕ)) (first i : ℕ) (column : ValueColumn) (field : List ℕ) (values : List ℤ) → i < length columns → column ≡ get_or columns i column → i < length fields → field ≡ get_or fields i field
+    → amount_of column.agg field ≡ None → AreRead columns fields first i values → values_from first (aggs columns) fields ≡ Err (first + i)
+value_bad columns fields first i column field values h e within at none kept =
     kept
     ∙ (λ j. after values (values_from (first + i) (cut_map (λ (c : ValueColumn). c.agg) columns i column h e j) (cut fields i field within at j)))
     ∙ ap (after values) (values_stop column.agg (drop (i + 1) (aggs columns)) field (drop (i + 1) fields) (first + i) none)
 
-pub value_next : (columns : List ValueColumn) (fields : List (List ℕ)) (first i : ℕ) (field : List ℕ) (values : List ℤ) (value : ℤ) → i < length columns → i < length fields → field ≡ get_or fields i field
-    → signed_of field ≡ Some value → AreRead columns fields first i values → AreRead columns fields first (i + 1) (values ++ value ∷ [])
-value_next columns fields first i field values value h within at some kept =
-    let (column, e) = there columns i h in
+pub value_next : (columns : List ValueColumn) (fields : List (List ℕ)) (first i : ℕ) (column : ValueColumn) (field : List ℕ) (values : List ℤ) (value : ℤ) → i < length columns → column ≡ get_or columns i column → i < length fields → field ≡ get_or fields i field
+    → amount_of column.agg field ≡ Some value → AreRead columns fields first i values → AreRead columns fields first (i + 1) (values ++ value ∷ [])
+value_next columns fields first i column field values value h e within at some kept =
     kept
     ∙ (λ j. after values (values_from (first + i) (cut_map (λ (c : ValueColumn). c.agg) columns i column h e j) (cut fields i field within at j)))
     ∙ ap (after values) (values_go_on column.agg (drop (i + 1) (aggs columns)) field (drop (i + 1) fields) (first + i) value some)

@@ -9,16 +9,17 @@ use Rattle.std.specs.Option.{ok_or}
 use Rattle.std.proofs.lemmas.Bool.Decides.{nat_tests}
 use Rattle.mesa_list.specs.Checks.{◌>>=◌, ◌>>◌, refused_as}
 use Rattle.mesa_value.specs.declared.Agg.{Agg}
+use Rattle.mesa_value.specs.declared.Agg.TheVariants as agg
+use Rattle.mesa_value.specs.Agg.{IsOf}
 use Rattle.mesa_key.specs.declared.KeyType.{KeyType}
 use Rattle.mesa_key.specs.declared.KeyType.TheVariants as kind
 use Rattle.mesa_key.specs.declared.KeyValue.{KeyValue}
 use Rattle.mesa_key.specs.Spelling.{IsKey, IsValue, is_key_text, key_of, key_spelling}
 use Rattle.mesa_schema.specs.declared.rows.Row.{Row}
 use Rattle.mesa_schema.specs.Columns.{Columns, aggs_of, kinds_of, place_of}
-use Rattle.mesa_schema.specs.Numbers.{any_signed, is_i64, key_value_of, signed_of}
+use Rattle.mesa_schema.specs.Numbers.{amount_of, any_signed, is_i64, key_value_of, signed_of}
 use Rattle.mesa_schema.specs.Rows.{AreOf, AreRowsOf, IsRowOf}
 use Rattle.mesa_schema.proofs.Forms.{folded_form}
-use Rattle.mesa_schema.proofs.Ranges.{of_narrow}
 use Rattle.mesa_key.proofs.Keys.{key_again}
 use Rattle.mesa_schema.proofs.NumberWords.{is_i64-fits}
 use Rattle.mesa_batch.specs.declared.words.RowWords.{RowWords}
@@ -82,21 +83,28 @@ are_values c [] [] values e = let none : [] ≡ values = (cc) in ap length (sym 
 are_values c [] (field ∷ fields) values e = absurd (cc)
 are_values c (a ∷ aggs) [] values e = absurd (cc)
 are_values c (a ∷ aggs) (field ∷ fields) values e =
-    let value = bound (ok_or (signed_of field) c) (λ value. values_from (c + 1) aggs fields >>= (λ values. Ok (value ∷ values))) values e in
+    let value = bound (ok_or (amount_of a field) c) (λ value. values_from (c + 1) aggs fields >>= (λ values. Ok (value ∷ values))) values e in
     let rest = bound (values_from (c + 1) aggs fields) (λ values. Ok (value.0 ∷ values)) values value.2 in
     let whole : value.0 ∷ rest.0 ≡ values = same_ok (value.0 ∷ rest.0) values rest.2 in
     ap length (sym whole) ∙ ap (λ n. suc n) (are_values (c + 1) aggs fields rest.0 rest.1)
+
+-- a value that a field gives is one of its column
+pub is_of : (a : Agg) (field : List ℕ) (value : ℤ) → amount_of a field ≡ Some value → IsOf a value
+is_of agg.Sum field value e = tt
+is_of agg.Min field value e = then_fits (any_signed field) value e
+is_of agg.Max field value e = then_fits (any_signed field) value e
+is_of agg.Replace field value e = then_fits (any_signed field) value e
 
 -- each of them a value of its column
 are_ranges : (c : ℕ) (aggs : List Agg) (fields : List (List ℕ)) (values : List ℤ) → values_from c aggs fields ≡ Ok values → AreOf aggs values
 are_ranges c [] fields values e = tt
 are_ranges c (a ∷ aggs) [] values e = absurd (cc)
 are_ranges c (a ∷ aggs) (field ∷ fields) values e =
-    let value = bound (ok_or (signed_of field) c) (λ value. values_from (c + 1) aggs fields >>= (λ values. Ok (value ∷ values))) values e in
+    let value = bound (ok_or (amount_of a field) c) (λ value. values_from (c + 1) aggs fields >>= (λ values. Ok (value ∷ values))) values e in
     let rest = bound (values_from (c + 1) aggs fields) (λ values. Ok (value.0 ∷ values)) values value.2 in
     let whole : value.0 ∷ rest.0 ≡ values = same_ok (value.0 ∷ rest.0) values rest.2 in
-    let read : signed_of field ≡ Some value.0 = from_some (signed_of field) c value.0 value.1 in
-    subst (AreOf (a ∷ aggs)) whole (of_narrow a value.0 (then_fits (any_signed field) value.0 read), are_ranges (c + 1) aggs fields rest.0 rest.1)
+    let read : amount_of a field ≡ Some value.0 = from_some (amount_of a field) c value.0 value.1 in
+    subst (AreOf (a ∷ aggs)) whole (is_of a field value.0 read, are_ranges (c + 1) aggs fields rest.0 rest.1)
 
 -- A row that fields make has the form of its columns.
 pub is_row : (s : Columns) (fields : List (List ℕ)) (row : Row) → row_of s fields ≡ Ok row → IsRowOf s row

@@ -9,7 +9,7 @@ use Rattle.mesa_key.specs.declared.KeyValue.{KeyValue}
 use Rattle.mesa_key.specs.Spelling.{key_spelling}
 use Rattle.mesa_schema.specs.declared.rows.Row.{Row}
 use Rattle.mesa_schema.specs.Columns.{Columns, kinds_of, aggs_of, place_of}
-use Rattle.mesa_schema.specs.Numbers.{key_value_of, signed_of}
+use Rattle.mesa_schema.specs.Numbers.{amount_of, key_value_of}
 use Rattle.mesa_batch.specs.declared.words.RowWords.{RowWords}
 use Rattle.mesa_batch.specs.declared.words.BatchError.{BatchError}
 use Rattle.mesa_batch.specs.declared.words.BatchError.TheVariants.{NoTable, BadRow, DuplicateKey}
@@ -39,7 +39,7 @@ values_from c [] [] = Ok []
 values_from c [] (field ∷ fields) = Err c
 values_from c (agg ∷ aggs) [] = Err c
 values_from c (agg ∷ aggs) (field ∷ fields) = do
-  value ← ok_or (signed_of field) c
+  value ← ok_or (amount_of agg field) c
   values ← values_from (c + 1) aggs fields
   Ok (value ∷ values)
 

@@ -34,11 +34,11 @@ abs_totals s rows = map (λ column. abs_total column rows) (sum_places 0 (aggs_o
 abbrev pub totals_with : List ℕ → List ℕ → List ℕ
 totals_with totals more = map (λ (p : ℕ × ℕ). p.0 + p.1) (zip totals more)
 
--- The first sum column whose total would pass 2^63 - 1.
+-- The first sum column whose total would pass 2^127 - 1.
 abbrev pub over_bound : List ℕ → List ℕ → Option ℕ
 over_bound totals more = position (λ total. nat_le sum_bound total) (totals_with totals more)
 
--- the totals, in which one above 2^63 - 1 stands as 2^63
+-- the totals, in which one above 2^127 - 1 stands as 2^127
 abbrev pub capped : List ℕ → List ℕ
 capped totals = map (λ total. min sum_bound total) totals
 

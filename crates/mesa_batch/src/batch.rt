@@ -57,7 +57,7 @@ impl Batch {
         }
     }
 
-    /// For each sum column of a table the absolute values of its rows, added up; a total above 2^63 - 1 stands as 2^63.
+    /// For each sum column of a table the absolute values of its rows, added up; a total above 2^127 - 1 stands as 2^127.
     pub fn abs_totals(&self, table: u16) -> Result<Totals, AllocError>
         ensures { IfOk result (λ totals. totals ≡ capped (abs_totals (columns_for table self.now) (rows_at table self.now))) }
     {

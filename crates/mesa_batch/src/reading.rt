@@ -7,9 +7,9 @@ ghost use Rattle.mesa_schema.specs.Numbers.{key_value_of};
 ghost use Rattle.mesa_batch.specs.Batch.{key_from, row_of, values_from};
 ghost use Rattle.mesa_batch.specs.Reading.{IsRefusal, spelled};
 
-use mesa_key::{Amount, KeyText, KeyType, Values, encode_int, encode_text};
+use mesa_key::{KeyText, KeyType, Values, encode_int, encode_text};
 use mesa_list::FieldsView;
-use mesa_schema::{KeyColumn, Schema, ValueColumn, signed};
+use mesa_schema::{KeyColumn, Schema, ValueColumn, amount, signed};
 use std::alloc::{AllocError, Global};
 
 /// Why a row's fields make no row of its table.
@@ -113,15 +113,15 @@ fn read_values(
     ensures refused { IfErr result (IsRefusal (values_from first (map (λ (c : Value). c.agg) columns.now) fields.now)) }
 {
     let mut values = Values::from_vec(Vec::with_capacity(alloc, columns.len())?);
-    'columns: for place in 0..columns.len() {
+    'columns: for (place, column) in columns.iter().enumerate() {
         let number = first + place as u16;
         let Some(field) = fields.get(place) else {
             return Err(FieldError::Bad(number));
         };
-        let Some(value) = signed(field) else {
+        let Some(value) = amount(column.agg, field) else {
             return Err(FieldError::Bad(number));
         };
-        values.push(Amount::from(value))?;
+        values.push(value)?;
     }
     if fields.len() > columns.len() {
         return Err(FieldError::Bad(first + columns.len() as u16));

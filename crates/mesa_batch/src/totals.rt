@@ -7,10 +7,10 @@ use mesa_schema::{Row, Schema, Totals};
 use mesa_value::Agg;
 use std::alloc::{AllocError, Global};
 
-/// A total above 2^63 - 1, the bound of each sum, stands as this.
-pub const OVER_BOUND: u128 = 1 << 63;
+/// A total above 2^127 - 1, the bound of each sum, stands as this.
+pub const OVER_BOUND: u128 = 1 << 127;
 
-/// Whether totals and more of them keep the bound of 2^63 - 1 in each sum column, or the first column that doesn't.
+/// Whether totals and more of them keep the bound of 2^127 - 1 in each sum column, or the first column that doesn't.
 pub fn fits(totals: &Totals, more: &Totals) -> Result<(), u16>
     requires same_columns { length totals.now ≡ length more.now }
     requires few { length totals.now ≤ 2 ^ 16 }

@@ -7,7 +7,7 @@ use Rattle.mesa_schema.specs.Folded.{folded, rows_of}
 use Rattle.mesa_schema.specs.Laws.{AreFull}
 use Rattle.mesa_batch.specs.Totals.{abs_total, sum_bound}
 
--- in each sum column the absolute values of both add up to at most 2^63 - 1
+-- in each sum column the absolute values of both add up to at most 2^127 - 1
 abbrev pub KeepsBound : List Agg → List Row → List Row → Type 0
 KeepsBound aggs content rows = (c : ℕ) → slice_get aggs c ≡ Some Sum → abs_total c content + abs_total c rows < sum_bound
 

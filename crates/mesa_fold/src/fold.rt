@@ -77,7 +77,7 @@ pub fn fold_in(aggs: &[Agg], content: &mut Vec<Row>, batch: Vec<Row>) -> Result<
     requires fold { IsFold aggs.now content.old.items }
     requires content_full { AreFull aggs.now content.old.items }
     requires batch_full { AreFull aggs.now batch.items }
-    // The absolute values of each sum column add up to at most 2^63 - 1.
+    // The absolute values of each sum column add up to at most 2^127 - 1.
     requires bounded { KeepsBound aggs.now content.old.items batch.items }
     ensures ok { OnOk result (content.new.items ≡ folded aggs.now (content.old.items ∷ batch.items ∷ [])) }
     ensures fold { IsFold aggs.now content.new.items }

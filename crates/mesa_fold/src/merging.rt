@@ -24,7 +24,7 @@ pub fn merge(
     requires batch_fold { IsFold aggs.now batch.now }
     requires content_full { AreFull aggs.now content.now }
     requires batch_full { AreFull aggs.now batch.now }
-    // The absolute values of each sum column add up to at most 2^63 - 1.
+    // The absolute values of each sum column add up to at most 2^127 - 1.
     requires bounded { KeepsBound aggs.now content.now batch.now }
     ensures merged { IfOk result (λ rows. rows ≡ folded aggs.now (content.now ∷ batch.now ∷ [])) }
     ensures fold { IfOk result (λ rows. IsFold aggs.now rows) }

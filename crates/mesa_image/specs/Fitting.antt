@@ -160,7 +160,7 @@ view_fits c table name keys values =
 abbrev pub alter_fits : Catalog → ℕ → Change → Bool
 alter_fits c table change = is_there c table && is_ok (change_checked (stock_at c table).lineage change)
 
--- what a batch brings to a table has its present epoch, files that count its columns, and a total for each sum column, with which none of the table's totals passes 2^63 - 1
+-- what a batch brings to a table has its present epoch, files that count its columns, and a total for each sum column, with which none of the table's totals passes 2^127 - 1
 abbrev pub part_fits : Stock → Part → Bool
 part_fits t p =
     (p.epoch == epoch_of t.lineage) && files_fit t.lineage p.epoch p.files && (length p.totals == sums_in (aggs_of (columns_of t.lineage)))

@@ -18,12 +18,11 @@ use Rattle.mesa_schema.specs.declared.rows.Row.{Row}
 use Rattle.mesa_schema.specs.declared.columns.ValueColumn.{ValueColumn}
 use Rattle.mesa_schema.specs.Columns.{Columns, aggs_of, kinds_of, place_of}
 use Rattle.mesa_schema.specs.Changes.{columns_of}
-use Rattle.mesa_schema.specs.Numbers.{any_signed, is_i64, key_value_of, signed_of}
+use Rattle.mesa_schema.specs.Numbers.{amount_of, any_signed, is_i64, key_value_of, signed_of}
 use Rattle.mesa_schema.specs.Rows.{AreOf, AreRowsOf, IsRowOf}
 use Rattle.mesa_schema.proofs.NumberWords.{is_i64-fits}
 use Rattle.mesa_schema.proofs.Places.{place_named}
-use Rattle.mesa_schema.proofs.Ranges.{of_narrow}
-use Rattle.mesa_batch.proofs.RowForms.{then_fits}
+use Rattle.mesa_batch.proofs.RowForms.{is_of, then_fits}
 use Rattle.mesa_batch.specs.declared.words.RowWords.{RowWords}
 use Rattle.mesa_batch.specs.declared.words.BatchError.TheVariants.{BadRow, NoTable}
 use Rattle.mesa_batch.specs.Batch.{Named, Placed, batch_from, batch_of, columns_at, is_at, key_from, placed_of, refuse_twice, row_of, rows_for, values_from}
@@ -66,7 +65,7 @@ read_values c [] [] values h = let same : [] ≡ values = cc in ap length (sym s
 read_values c [] (field ∷ fields) values h = cc
 read_values c (agg ∷ aggs) [] values h = cc
 read_values c (agg ∷ aggs) (field ∷ fields) values h =
-    let first = bound_some (signed_of field) c (λ v. values_from (c + 1) aggs fields >>= (λ vs. Ok (v ∷ vs))) values h in
+    let first = bound_some (amount_of agg field) c (λ v. values_from (c + 1) aggs fields >>= (λ vs. Ok (v ∷ vs))) values h in
     let rest = bound (values_from (c + 1) aggs fields) (λ vs. Ok (first.0 ∷ vs)) values first.2 in
     let same : first.0 ∷ rest.0 ≡ values = cc rest.2 in
     sym (ap length same) ∙ (let more = read_values (c + 1) aggs fields rest.0 rest.1 in omega (arith, more))
@@ -75,10 +74,10 @@ read_ranges : (c : ℕ) (aggs : List Agg) (fields : List (List ℕ)) (values : L
 read_ranges c [] fields values h = tt
 read_ranges c (agg ∷ aggs) [] values h = cc
 read_ranges c (agg ∷ aggs) (field ∷ fields) values h =
-    let first = bound_some (signed_of field) c (λ v. values_from (c + 1) aggs fields >>= (λ vs. Ok (v ∷ vs))) values h in
+    let first = bound_some (amount_of agg field) c (λ v. values_from (c + 1) aggs fields >>= (λ vs. Ok (v ∷ vs))) values h in
     let rest = bound (values_from (c + 1) aggs fields) (λ vs. Ok (first.0 ∷ vs)) values first.2 in
     let same : first.0 ∷ rest.0 ≡ values = cc rest.2 in
-    subst (AreOf (agg ∷ aggs)) same (of_narrow agg first.0 (then_fits (any_signed field) first.0 first.1), read_ranges (c + 1) aggs fields rest.0 rest.1)
+    subst (AreOf (agg ∷ aggs)) same (is_of agg field first.0 first.1, read_ranges (c + 1) aggs fields rest.0 rest.1)
 
 spelled : (s : Columns) (key : List KeyValue) (values : List ℤ) → IsKey (kinds_of s) key → length values ≡ length s.values → AreOf (aggs_of s) values → IsRowOf s (record { key = key_spelling key; values = values })
 spelled s key values is n ranges =

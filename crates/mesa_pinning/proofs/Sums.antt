@@ -32,7 +32,7 @@ use Rattle.mesa_plans.proofs.mesa_image_laws.Lists.{all_back, all_take, all_unfl
 pub abs_append : (c : ℕ) (xs ys : List Row) → abs_total c (xs ++ ys) ≡ abs_total c xs + abs_total c ys
 abs_append c xs ys = sum_by-append (λ (row : Row). nat_abs (slice_index_or row.values c (pos 0))) xs ys
 
--- each of these is below 2^63 where it is at most one that is
+-- each of these is below 2^127 where it is at most one that is
 sums_below : (f : ℕ → ℕ) (places totals : List ℕ) → AreAtMost (map f places) totals → AllByRecursion (λ total. total < sum_bound) totals → AllByRecursion (λ c. f c < sum_bound) places
 sums_below f [] totals most all = tt
 sums_below f (c ∷ places) [] most all = absurd most

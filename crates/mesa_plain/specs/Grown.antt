@@ -27,7 +27,7 @@ pub record HasRows (placed : List Placed) (batch : Batched) : Type 0 where
   pub totals : (number : ℕ) (s : Columns) → abs_totals s (rows_at number batch) ≡ abs_totals s (rows_for number placed)
   pub count : batch.count ≡ length placed
 
--- These totals are the tables' totals with those of their rows of the batch, none above 2^63 - 1.
+-- These totals are the tables' totals with those of their rows of the batch, none above 2^127 - 1.
 pub record AreTotalsWith (tables : List Known) (totals : List (List ℕ)) (batch : Batched) (after : List (List ℕ)) : Type 0 where
   pub count : length after ≡ length tables
   pub more : (number : ℕ) (known : Known) → slice_get tables number ≡ Some known → totals_in number after ≡ totals_with (totals_in number totals) (abs_totals (columns_of known.lineage) (rows_at number batch))

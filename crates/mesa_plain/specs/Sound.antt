@@ -17,7 +17,7 @@ pub record IsHeld (s : Columns) (totals : List ℕ) (rows : List Row) : Type 0 w
   pub fold : IsFold (aggs_of s) rows
   pub sums : AreAtMost (abs_totals s rows) totals
 
--- A table has a total for each sum column, at most 2^63 - 1.
+-- A table has a total for each sum column, at most 2^127 - 1.
 pub record HasTotals (s : Columns) (totals : List ℕ) : Type 0 where
   pub count : length totals ≡ sums_in (aggs_of s)
   pub bound : AllByRecursion (λ total. total < sum_bound) totals

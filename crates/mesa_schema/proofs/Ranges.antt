@@ -13,13 +13,6 @@ use Rattle.mesa_schema.specs.Folded.{all_combined, combined_from, folded_at, row
 use Rattle.mesa_schema.specs.Rows.{AreOf, AreRowsOf}
 use Rattle.mesa_schema.proofs.Drops.{without-nil, without-suc}
 
--- a number of 64 bits is a value of every column
-pub of_narrow : (agg : Agg) (z : ℤ) → IsNarrow z → IsOf agg z
-of_narrow Sum z h = tt
-of_narrow Min z h = h
-of_narrow Max z h = h
-of_narrow Replace z h = h
-
 -- a default is a value of its column
 pub of_default : (agg : Agg) (z : ℤ) → IsDefault agg z → IsOf agg z
 of_default Sum z h = tt

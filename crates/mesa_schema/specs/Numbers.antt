@@ -1,6 +1,8 @@
 -- Numbers, key values and values as the bytes of a script spell them.
 use Rattle.std.specs.Prelude.{ℕ, ◌+◌, ◌-◌, ◌*◌, ◌^◌, ℤ, pos, neg_ℤ, int_le, int_lt, List, [], ◌∷◌, Bool, ◌&&◌, ◌==◌, if◌then◌else◌, Option, Some, None, option_map, option_and_then}
 use Rattle.std.specs.Bool.{then_some}
+use Rattle.mesa_value.specs.declared.Agg.{Agg}
+use Rattle.mesa_value.specs.declared.Agg.TheVariants as agg
 use Rattle.mesa_key.specs.declared.KeyType.{KeyType}
 use Rattle.mesa_key.specs.declared.KeyType.TheVariants as kind
 use Rattle.mesa_key.specs.declared.KeyValue.{KeyValue}
@@ -33,6 +35,17 @@ any_signed (b ∷ bytes) =
 -- A signed number: an optional sign and decimal digits, with a value of 64 bits.
 abbrev pub signed_of : List ℕ → Option ℤ
 signed_of bytes = option_and_then (λ z. then_some (is_i64 z) z) (any_signed bytes)
+
+-- the numbers of 128 bits
+abbrev pub is_i128 : ℤ → Bool
+is_i128 z = int_le (neg_ℤ (pos (2 ^ 127))) z && int_lt z (pos (2 ^ 127))
+
+-- A value column's value, as a row's field gives it: a signed number, of 128 bits in a sum column and of 64 bits in another.
+abbrev pub amount_of : Agg → List ℕ → Option ℤ
+amount_of agg.Sum bytes = option_and_then (λ z. then_some (is_i128 z) z) (any_signed bytes)
+amount_of agg.Min bytes = signed_of bytes
+amount_of agg.Max bytes = signed_of bytes
+amount_of agg.Replace bytes = signed_of bytes
 
 -- A key column's value, as a field or a literal gives it.
 abbrev pub key_value_of : KeyType → List ℕ → Option KeyValue

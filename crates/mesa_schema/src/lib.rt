@@ -31,7 +31,7 @@ pub use laws::{
 pub use lifting::Lift;
 pub use named::{Named, has_name, has_names, place_of, repeated_place};
 pub use names::{Name, NameError, is_name_byte};
-pub use numbers::{key_value, signed};
+pub use numbers::{amount, key_value, signed};
 pub use recasts::RecastError;
 pub use rows::{Fields, KeyList, LentRow, Row, RowList, Totals, Words};
 pub use schema::{MAX_COLUMNS, Schema, SchemaError};

@@ -1,9 +1,11 @@
 // Numbers and key values, as the bytes of a script spell them.
 ghost use Rattle.std.specs.Prelude.{◌≡◌, ◌<◌, ◌^◌, IfOk, IfSome};
-ghost use Rattle.mesa_schema.specs.Numbers.{key_value_of, number_of, signed_of};
+ghost use Rattle.mesa_value.specs.declared.Agg.TheVariants as agg;
+ghost use Rattle.mesa_schema.specs.Numbers.{amount_of, key_value_of, number_of, signed_of};
 
 use mesa_key::{KeyText, KeyType, KeyValue};
 use mesa_list::Items;
+use mesa_value::{Agg, Amount};
 use std::alloc::{AllocError, Global};
 
 /// The signed number that the bytes spell: an optional `+` or `-` and decimal digits, with a value of 64 bits.
@@ -46,6 +48,28 @@ fn small(bytes: &[u8]) -> Option<u64>
 // What std's parsing reads.
 fn parsed(bytes: &[u8]) -> Option<i64>
     ensures { result ≡ signed_of bytes.now }
+{
+    match str::from_utf8(bytes) {
+        Ok(text) => text.parse().ok(),
+        Err(_) => None,
+    }
+}
+
+/// The value of a value column that the bytes spell: a signed number, of 128 bits in a sum column and of 64 bits in another.
+pub fn amount(agg: Agg, bytes: &[u8]) -> Option<Amount>
+    ensures { result ≡ amount_of agg bytes.now }
+{
+    // (most sums are small numbers too, which are read without std)
+    match (signed(bytes), agg) {
+        (Some(number), _) => Some(Amount::from(number)),
+        (None, Agg::Sum) => wide(bytes),
+        (None, _) => None,
+    }
+}
+
+// What std's parsing reads of 128 bits.
+fn wide(bytes: &[u8]) -> Option<Amount>
+    ensures { result ≡ amount_of agg.Sum bytes.now }
 {
     match str::from_utf8(bytes) {
         Ok(text) => text.parse().ok(),

@@ -71,7 +71,7 @@ pub(crate) fn is_sum(agg: Agg) -> bool
     }
 }
 
-/// Whether none of the totals passes 2^63 - 1 with more.
+/// Whether none of the totals passes 2^127 - 1 with more.
 pub fn keeps_bound(totals: &[u128], more: &[u128]) -> bool
     ensures { result ≡ is_none (over_bound totals.now more.now) }
 {

@@ -43,7 +43,7 @@ shares_from batch table (t ∷ tables) = share_of table t.lineage (rows_for tabl
 abbrev pub shares : Sight → List Placed → List Share
 shares sight batch = shares_from batch 0 sight.tables
 
--- a total passes the bound of 2^63 - 1 by itself
+-- a total passes the bound of 2^127 - 1 by itself
 abbrev pub is_over : Share → Bool
 is_over share = list_any (λ total. nat_le sum_bound total) share.totals
 

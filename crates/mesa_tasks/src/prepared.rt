@@ -23,7 +23,7 @@ pub struct PreparedPart<M> {
     pub table: u16,
     /// None in every part where a total of the batch passes the bound by itself: such a batch is refused.
     pub files: Option<MadeFiles<M>>,
-    /// For each sum column the absolute values of the part's rows, added up; one above 2^63 - 1 stands as 2^63.
+    /// For each sum column the absolute values of the part's rows, added up; one above 2^127 - 1 stands as 2^127.
     pub totals: Totals,
 }
 

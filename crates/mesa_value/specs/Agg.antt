@@ -21,11 +21,11 @@ IsNarrow value = FitsSigned w64 value
 
 -- The absolute values of a sum column stay below this.
 abbrev pub sum_bound : ℕ
-sum_bound = 2 ^ 63
+sum_bound = 2 ^ 127
 
 -- a sum that keeps the bound
 abbrev pub IsSum : ℤ → Type 0
-IsSum value = FitsSigned w64 value
+IsSum value = FitsSigned w128 value
 
 -- What a value of a column is: any amount for a sum, and a number of 64 bits else.
 abbrev pub IsOf : Agg → ℤ → Type 0

@@ -44,10 +44,7 @@ pub fn combines(agg: Agg, old: Amount, new: Amount) -> bool
     ensures { IsTrue result ↔ Combines agg old new }
 {
     match agg {
-        Agg::Sum => match old.checked_add(new) {
-            Some(sum) => i64::try_from(sum).is_ok(),
-            None => false,
-        },
+        Agg::Sum => old.checked_add(new).is_some(),
         _ => true,
     }
 }
