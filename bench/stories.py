@@ -6,6 +6,8 @@ import itertools
 TEXTS = ("", "a,b", 'say "so"', "two\nlines", "\r", " x ", "é", "漢字", "a" * 40)
 AGGREGATIONS = ("sum", "min", "max", "replace")
 EDGES = (-(2**63), 2**63 - 1)
+# values of sums that have more than 64 bits; all rows of a story stay far within the bound
+WIDE = (-(2**100), -(2**63) - 1, 2**63, 2**100)
 
 
 def record(*fields):
@@ -87,8 +89,8 @@ class Story:
         return self.draw.choice(EDGES) if self.draw.random() < 0.05 else self.draw.randint(-4, 4)
 
     def value(self, word):
-        far = word != "sum" and self.draw.random() < 0.05
-        return self.draw.choice(EDGES) if far else self.draw.randint(-1000, 1000)
+        far = self.draw.random() < 0.05
+        return self.draw.choice(WIDE if word == "sum" else EDGES) if far else self.draw.randint(-1000, 1000)
 
     def rows(self, table, count):
         """Rows of different keys."""
