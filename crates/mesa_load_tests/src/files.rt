@@ -126,8 +126,8 @@ fn no_bench(rt: &impl Abort, alloc: Global) -> MemBench {
 
 static PAST_THE_BOUND: Case = (
     VIEW_OF_A,
-    b"t;1;1;9223372036854775807 t;1;2;-1",
-    "generation=7 table=0 total=9223372036854775808 no file",
+    b"t;1;1;170141183460469231731687303715884105727 t;1;2;-1",
+    "generation=7 table=0 total=170141183460469231731687303715884105728 no file",
 );
 
 #[test]

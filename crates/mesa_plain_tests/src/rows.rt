@@ -1,7 +1,7 @@
 // Worked rows.
 use crate::trial::{Case, expect_all};
 
-static CASES: [Case; 6] = [
+static CASES: [Case; 9] = [
     ("an empty script", "", ""),
     (
         "one row",
@@ -29,6 +29,77 @@ static CASES: [Case; 6] = [
          0.3@0 loaded version=1 rows=1\n\
          0.4@0 rows 1 version=1\n\
          7,0\n",
+    ),
+    (
+        "wide sums",
+        "table,t,k int,v sum\n\
+         row,t,1,9223372036854775807\n\
+         commit\n\
+         row,t,1,1\n\
+         commit\n\
+         query,t\n\
+         row,t,1,170141183460469231722463931679029329919\n\
+         commit\n\
+         row,t,1,1\n\
+         commit\n\
+         query,t\n",
+        "0.1@0 table t\n\
+         0.2@0 loaded version=0 rows=1\n\
+         0.3@0 loaded version=1 rows=1\n\
+         0.4@0 rows 1 version=1\n\
+         1,9223372036854775808\n\
+         0.5@0 loaded version=2 rows=1\n\
+         0.6@0 refused sum_bound table=t column=v\n\
+         0.7@0 rows 1 version=2\n\
+         1,170141183460469231731687303715884105727\n",
+    ),
+    (
+        "a sum bound",
+        "table,t,k int,v sum\n\
+         row,t,1,-170141183460469231731687303715884105728\n\
+         commit\n\
+         row,t,1,-9223372036854775808\n\
+         commit\n\
+         row,t,1,9223372036854775807\n\
+         row,t,2,170141183460469231713240559642174554112\n\
+         commit\n\
+         row,t,2,1\n\
+         commit\n\
+         query,t\n",
+        "0.1@0 table t\n\
+         0.2@0 refused sum_bound table=t column=v\n\
+         0.3@0 loaded version=0 rows=1\n\
+         0.4@0 loaded version=1 rows=2\n\
+         0.5@0 refused sum_bound table=t column=v\n\
+         0.6@0 rows 2 version=1\n\
+         1,-1\n\
+         2,170141183460469231713240559642174554112\n",
+    ),
+    // A value of a sum column has 128 bits, and every other value 64.
+    (
+        "values that are too wide",
+        "table,t,k int,v sum;m min;r replace\n\
+         row,t,1,170141183460469231731687303715884105728,0,0\n\
+         commit\n\
+         row,t,1,9223372036854775808,9223372036854775808,0\n\
+         commit\n\
+         row,t,1,9223372036854775808,0,-9223372036854775809\n\
+         commit\n\
+         row,t,9223372036854775808,0,0,0\n\
+         commit\n\
+         row,t,1,-170141183460469231731687303715884105727,-9223372036854775808,9223372036854775807\n\
+         commit\n\
+         alter,t,add_value,x max,9223372036854775808\n\
+         query,t\n",
+        "0.1@0 table t\n\
+         0.2@0 refused bad_row row=1 column=2\n\
+         0.3@0 refused bad_row row=1 column=3\n\
+         0.4@0 refused bad_row row=1 column=4\n\
+         0.5@0 refused bad_row row=1 column=1\n\
+         0.6@0 loaded version=0 rows=1\n\
+         0.7@0 refused bad_default column=x\n\
+         0.8@0 rows 1 version=0\n\
+         1,-170141183460469231731687303715884105727,-9223372036854775808,9223372036854775807\n",
     ),
     (
         "sales and a view",

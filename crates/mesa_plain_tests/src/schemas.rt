@@ -108,10 +108,10 @@ static CASES: [Case; 5] = [
     (
         "totals through changes",
         "table,t,k int,v sum\n\
-         row,t,1,9223372036854775807\n\
+         row,t,1,170141183460469231731687303715884105727\n\
          commit\n\
          alter,t,add_value,w sum,0\n\
-         row,t,2,0,9223372036854775807\n\
+         row,t,2,0,170141183460469231731687303715884105727\n\
          commit\n\
          row,t,3,0,1\n\
          commit\n\
@@ -121,7 +121,7 @@ static CASES: [Case; 5] = [
          alter,t,drop_value,w\n\
          alter,t,add_value,v sum,0\n\
          alter,t,drop_value,w\n\
-         row,t,3,9223372036854775807\n\
+         row,t,3,170141183460469231731687303715884105727\n\
          commit\n\
          query,t\n",
         "0.1@0 table t\n\
@@ -138,7 +138,7 @@ static CASES: [Case; 5] = [
          0.12@0 rows 3 version=2\n\
          1,0\n\
          2,0\n\
-         3,9223372036854775807\n",
+         3,170141183460469231731687303715884105727\n",
     ),
 ];
 

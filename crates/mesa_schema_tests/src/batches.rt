@@ -69,10 +69,18 @@ const BAD_5: Option<BatchError> = Some(BatchError::BadRow { row: 1, column: 5 })
 // A table's name, a row's fields, and why a load of that row makes no batch.
 type Load = (&'static [u8], &'static [u8], Option<BatchError>);
 
-static ROWS: [Load; 17] = [
+static ROWS: [Load; 24] = [
     (b"t", b"1;x;5;7", None),
     (b"t", b"+1;;-5;007", None),
-    (b"t", b"9223372036854775807;x;-9223372036854775808;0", None),
+    (b"t", b"9223372036854775807;x;5;-9223372036854775808", None),
+    (b"t", b"-9223372036854775808;x;5;9223372036854775807", None),
+    // A sum has 128 bits.
+    (b"t", b"1;x;170141183460469231731687303715884105727;0", None),
+    (
+        b"t",
+        b"1;x;-170141183460469231731687303715884105728;0",
+        None,
+    ),
     (b"u", b"1;x;5;7", NO_TABLE),
     (b"", b"1;x;5;7", NO_TABLE),
     (b"t", b";x;5;7", BAD_1),
@@ -84,7 +92,19 @@ static ROWS: [Load; 17] = [
     (b"t", b"-9223372036854775809;x;5;7", BAD_1),
     (b"t", b"1;a\x00b;5;7", BAD_2),
     (b"t", b"1;\xff;5;7", BAD_2),
-    (b"t", b"1;x;9223372036854775808;7", BAD_3),
+    (b"t", b"1;x;9223372036854775808;7", None),
+    (
+        b"t",
+        b"1;x;170141183460469231731687303715884105728;7",
+        BAD_3,
+    ),
+    (
+        b"t",
+        b"1;x;-170141183460469231731687303715884105729;7",
+        BAD_3,
+    ),
+    (b"t", b"1;x;5;9223372036854775808", BAD_4),
+    (b"t", b"1;x;5;-9223372036854775809", BAD_4),
     (b"t", b"1;x;5;", BAD_4),
     // The first bad column is told.
     (b"t", b";\xff;;", BAD_1),
@@ -192,10 +212,12 @@ fn a_key_comes_once(rt: HostRuntime) {
     expect_taken(&rt, &batch.copy().expect(&rt, "memory"));
 }
 
-// A total, one more, and whether both keep the bound.
-static BOUNDS: [(u128, u128, Result<(), u16>); 2] = [
-    (9_223_372_036_854_775_800, 7, Ok(())),
-    (9_223_372_036_854_775_800, 8, Err(1)),
+// A total, one more, and whether both keep the bound of 2^127 - 1. The last two add up to more than 128 bits.
+static BOUNDS: [(u128, u128, Result<(), u16>); 4] = [
+    ((1 << 127) - 8, 7, Ok(())),
+    ((1 << 127) - 8, 8, Err(1)),
+    (1 << 127, 1 << 127, Err(1)),
+    (u128::MAX, 1, Err(1)),
 ];
 
 // Whether totals of two columns, of which the first stays the same, keep the bound.
