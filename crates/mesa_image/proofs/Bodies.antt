@@ -1,7 +1,7 @@
 -- Fields of worked bodies, byte by byte.
 use Rattle.std.specs.Prelude.{ℕ, ◌+◌, ◌^◌, List, [], ◌∷◌, ◌++◌}
 
--- small numbers as fields of two, four and eight bytes
+-- small numbers as fields of two, four, eight and sixteen bytes
 abbrev pub half : ℕ → List ℕ
 half n = 0 ∷ n ∷ []
 
@@ -10,6 +10,9 @@ word n = 0 ∷ 0 ∷ 0 ∷ n ∷ []
 
 abbrev pub long : ℕ → List ℕ
 long n = 0 ∷ 0 ∷ 0 ∷ 0 ∷ 0 ∷ 0 ∷ 0 ∷ n ∷ []
+
+abbrev pub wide : ℕ → List ℕ
+wide n = long 0 ++ long n
 
 -- a small int as a key column
 abbrev pub key : ℕ → List ℕ

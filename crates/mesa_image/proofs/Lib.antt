@@ -3,6 +3,7 @@ pub use Rattle.mesa_record.proofs as mesa_record
 pub use Rattle.mesa_history.proofs.mesa_span as mesa_span
 mod Bodies
 mod OneRow
+mod SecondEdition
 mod AcrossBase
 mod DerivedView
 mod Apart

@@ -1,10 +1,11 @@
 -- Records that don't fit what stands before them.
-use Rattle.std.proofs.Common.{◌≡◌, refl, ℕ, List, [], ◌∷◌, ◌++◌, None}
+use Rattle.std.proofs.Common.{◌≡◌, refl, ℕ, List, [], ◌∷◌, ◌++◌, None, is_some, true}
 use Rattle.mesa_record.specs.Reading.{fields_of, file_ref_at, files_at}
 use Rattle.mesa_record.specs.Reading as reading
 use Rattle.mesa_image.specs.Fitting.{fits, catalog_from, catalog}
 use Rattle.mesa_image.proofs.Bodies.{half, word, long, run_1, empty_batch, expire}
 use Rattle.mesa_image.proofs.OneRow.{table_t, file_bytes, bodies}
+use Rattle.mesa_image.proofs.SecondEdition as second
 
 -- run 2
 abbrev run_2 : List ℕ
@@ -52,7 +53,14 @@ epoch_to_come : catalog (bodies ++ batch 2 (file_bytes 1 1) 1 (long 5) ∷ []) �
 unfolding fields_of file_ref_at files_at reading.rising fits catalog_from
 epoch_to_come = refl
 
--- with 2^63 - 6 the total is 2^63 - 1, and with one more it is past the bound
-past_the_bound : catalog (bodies ++ batch 2 (file_bytes 1 1) 0 (0x7f ∷ 0xff ∷ 0xff ∷ 0xff ∷ 0xff ∷ 0xff ∷ 0xff ∷ 0xfb ∷ []) ∷ []) ≡ None
+-- with 2^127 - 6 the total is 2^127 - 1, and with one more it is past the bound
+abbrev nearly : ℕ → List ℕ
+nearly last = 0x7f ∷ 0xff ∷ 0xff ∷ 0xff ∷ 0xff ∷ 0xff ∷ 0xff ∷ 0xff ∷ 0xff ∷ 0xff ∷ 0xff ∷ 0xff ∷ 0xff ∷ 0xff ∷ 0xff ∷ last ∷ []
+
+within_the_bound : is_some (catalog (bodies ++ second.batch 2 (second.file_bytes 1) (nearly 0xfa) ∷ [])) ≡ true
+unfolding fields_of file_ref_at files_at reading.rising fits catalog_from
+within_the_bound = refl
+
+past_the_bound : catalog (bodies ++ second.batch 2 (second.file_bytes 1) (nearly 0xfb) ∷ []) ≡ None
 unfolding fields_of file_ref_at files_at reading.rising fits catalog_from
 past_the_bound = refl
