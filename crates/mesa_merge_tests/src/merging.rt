@@ -10,19 +10,20 @@ use mesa_key::Format;
 use mesa_schema::Evolving;
 use mesa_span::Work;
 use mesa_tasks::{CompactError, NewDelta, Serials, Task, TaskView};
-use mesa_value::Agg;
+use mesa_value::{Agg, Amount};
 use std::alloc::{AllocError, Global};
 use std::process::Abort;
 use std::sync::Arc;
 
 type Merged = Result<NewDelta<MemMade>, CompactError>;
 
-/// Rows of an older and a newer file, whose ids are 1 and 2. The older is of the first format, the newer of the second.
+/// Rows of an older and a newer file, whose ids are 1 and 2, and the formats of both.
 #[derive(Clone, Copy)]
 pub struct Two<'a> {
     pub agg: Agg,
-    pub older: &'a [(i64, i64)],
-    pub newer: &'a [(i64, i64)],
+    pub formats: (Format, Format),
+    pub older: &'a [(i64, Amount)],
+    pub newer: &'a [(i64, Amount)],
 }
 
 // A table's views, none of which has files of its own.
@@ -82,11 +83,11 @@ pub fn merged(
     let mut bench = MemBench::new(alloc, calls);
     let agg = two.agg;
     let first = Form {
-        format: Format::One,
+        format: two.formats.0,
         agg,
     };
     let second = Form {
-        format: Format::Two,
+        format: two.formats.1,
         agg,
     };
     let older = source_of(rt, alloc, FileId::of(1), first, two.older, fails);

@@ -6,16 +6,29 @@ use mesa_delta::FileError;
 use mesa_disk::{Damage, FileId, Seen};
 use mesa_key::Format;
 use mesa_tasks::CompactError;
-use mesa_value::Agg;
+use mesa_value::{Agg, Amount};
 use std::alloc::Global;
 use std::process::Abort;
 
+// A file that was written before and a new one; a merged one and one behind it that was written before; two new ones.
+const OLD_NEW: (Format, Format) = (Format::One, Format::Two);
+
+const NEW_OLD: (Format, Format) = (Format::Two, Format::One);
+
+const BOTH_NEW: (Format, Format) = (Format::Two, Format::Two);
+
+// The greatest value and the least of 64 bits.
+const MOST: Amount = 9_223_372_036_854_775_807;
+
+const LEAST: Amount = -9_223_372_036_854_775_808;
+
 // Two files, and the rows that they merge to. Of a key the newest value stays or all are added up, and one with the
 // sum 0 stays too. The values 5, 6 and 4 come to the same whichever two are merged first.
-static MERGES: [(Two<'static>, &[(i64, i64)]); 3] = [
+static MERGES: [(Two<'static>, &[(i64, Amount)]); 6] = [
     (
         Two {
             agg: Agg::Replace,
+            formats: OLD_NEW,
             older: &[(1, 6)],
             newer: &[(1, 4)],
         },
@@ -24,6 +37,7 @@ static MERGES: [(Two<'static>, &[(i64, i64)]); 3] = [
     (
         Two {
             agg: Agg::Replace,
+            formats: NEW_OLD,
             older: &[(1, 5)],
             newer: &[(1, 4)],
         },
@@ -32,16 +46,45 @@ static MERGES: [(Two<'static>, &[(i64, i64)]); 3] = [
     (
         Two {
             agg: Agg::Sum,
+            formats: OLD_NEW,
             older: &[(-3, 2), (1, 5), (4, 1)],
             newer: &[(1, -5), (2, 7), (4, 2)],
         },
         &[(-3, 2), (1, 0), (2, 7), (4, 3)],
     ),
+    // Sums that have more than 64 bits.
+    (
+        Two {
+            agg: Agg::Sum,
+            formats: OLD_NEW,
+            older: &[(1, MOST), (2, LEAST), (3, 1)],
+            newer: &[(1, 1), (2, -1)],
+        },
+        &[(1, MOST + 1), (2, LEAST - 1), (3, 1)],
+    ),
+    (
+        Two {
+            agg: Agg::Sum,
+            formats: NEW_OLD,
+            older: &[(1, MOST + 1), (2, LEAST - 1)],
+            newer: &[(1, -1), (2, MOST), (3, LEAST)],
+        },
+        &[(1, MOST), (2, -2), (3, LEAST)],
+    ),
+    (
+        Two {
+            agg: Agg::Sum,
+            formats: BOTH_NEW,
+            older: &[(1, Amount::MAX - 2), (2, -1)],
+            newer: &[(1, 1)],
+        },
+        &[(1, Amount::MAX - 1), (2, -1)],
+    ),
 ];
 
 // Stops the test where the table's merged file, or that of the view of all its columns, isn't the file of these rows,
 // whose tail has the digests of its blocks.
-fn expect_rows(rt: &impl Abort, alloc: Global, two: &Two, rows: &[(i64, i64)]) {
+fn expect_rows(rt: &impl Abort, alloc: Global, two: &Two, rows: &[(i64, Amount)]) {
     let form = Form {
         format: Format::Two,
         agg: two.agg,
@@ -67,16 +110,24 @@ fn merges_in_version_order(rt: HostRuntime) {
 }
 
 // Files that aren't merged: the sum of a key leaves its bound, or the total of several keys' absolute values.
-static OVERFLOWS: [Two<'static>; 2] = [
+static OVERFLOWS: [Two<'static>; 3] = [
     Two {
         agg: Agg::Sum,
-        older: &[(5, i64::MAX)],
+        formats: BOTH_NEW,
+        older: &[(5, Amount::MAX)],
         newer: &[(5, 1), (6, 1)],
     },
     Two {
         agg: Agg::Sum,
-        older: &[(5, i64::MAX)],
-        newer: &[(6, i64::MAX), (7, 2)],
+        formats: OLD_NEW,
+        older: &[(5, -1)],
+        newer: &[(5, Amount::MIN)],
+    },
+    Two {
+        agg: Agg::Sum,
+        formats: BOTH_NEW,
+        older: &[(5, Amount::MAX)],
+        newer: &[(6, Amount::MAX), (7, 2)],
     },
 ];
 
@@ -111,7 +162,7 @@ fn tells_a_sum_of_the_newest_file(rt: HostRuntime) {
 }
 
 // Ten blocks of rows.
-fn ten_blocks(rt: &impl Abort, alloc: Global) -> Vec<(i64, i64)> {
+fn ten_blocks(rt: &impl Abort, alloc: Global) -> Vec<(i64, Amount)> {
     let mut rows = Vec::new(alloc);
     for key in 0..10240 {
         rows.push((key, 1)).expect(rt, "memory");
@@ -125,6 +176,7 @@ fn writes_as_it_reads(rt: HostRuntime) {
     let rows = ten_blocks(&rt, rt.alloc());
     let two = Two {
         agg: Agg::Sum,
+        formats: OLD_NEW,
         older: &rows,
         newer: &rows,
     };
@@ -143,6 +195,7 @@ fn writes_as_it_reads(rt: HostRuntime) {
 
 static ONE_ROW_EACH: Two<'static> = Two {
     agg: Agg::Sum,
+    formats: OLD_NEW,
     older: &[(1, 2)],
     newer: &[(1, 3)],
 };
