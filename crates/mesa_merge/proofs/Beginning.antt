@@ -1,6 +1,6 @@
 -- Inputs whose first blocks are read.
-use Rattle.std.proofs.Common.{◌≡◌, ℕ, List, [], ◌∷◌, sym, ◌∙◌, subst, length, get_or}
-use Rattle.std.specs.Prelude.{Option, Some, None, IfNone, IfSome}
+use Rattle.std.proofs.Common.{◌≡◌, ℕ, List, [], sym, subst, length, get_or}
+use Rattle.std.specs.Prelude.{Option}
 use Rattle.mesa_schema.specs.declared.rows.Row.{Row}
 use Rattle.mesa_schema.specs.Columns.{Columns}
 use Rattle.mesa_schema.specs.Laws.{AreUnder}
@@ -9,11 +9,6 @@ use Rattle.mesa_delta.specs.declared.input.Input.{Input}
 use Rattle.mesa_cursor.specs.declared.cursor.Cursor.{Cursor}
 use Rattle.mesa_merge.specs.Inputs.{AreAlike, knowns_of}
 use Rattle.mesa_merge.specs.Merging.{AreReady, HasGivens, IsMerging}
-
--- where none was at hand, none was taken
-pub none_taken : (o : Option Row) (hand : List Row) (G : Type 0) → hand ≡ [] → IfSome o (λ row. (rows : List Row) × (hand ≡ row ∷ rows)) → IfNone o G → G
-none_taken None hand G none there began = began
-none_taken (Some row) hand G none there began = let both : [] ≡ row ∷ there.0 = sym none ∙ there.1 in cc
 
 pub begun_merging : {R : Type 0} (bytes : R → Option (List ℕ)) (s : Columns) (inputs : List (Input R)) (cursors : List Cursor) (givens : List (List Row)) → AreAlike s (knowns_of bytes inputs) → HasGivens bytes inputs cursors givens → ((j : ℕ) → get_or givens j [] ≡ [])
     → AreReady (length inputs) inputs cursors → IsMerging bytes s inputs cursors givens

@@ -1,4 +1,4 @@
-use Rattle.std.proofs.Common.{◌≡◌, inl, inr, ◌<◌, ◌+◌, ◌++◌, ◌∷◌, [], ℕ, get_or, length, set, refl, sym, ◌∙◌, ap, subst, arith}
+use Rattle.std.proofs.Common.{◌≡◌, inl, inr, ◌<◌, ◌+◌, ◌++◌, ◌∷◌, [], ℕ, get_or, length, set, refl, sym, ◌∙◌, ap, subst, arith, rules}
 use Rattle.mesa_schema.specs.declared.rows.Row.{Row}
 use Rattle.mesa_schema.specs.Columns.{aggs_of}
 use Rattle.mesa_schema.specs.Folded.{AllCombine, row_combined}
@@ -16,7 +16,7 @@ use Rattle.mesa_merge.proofs.Causing.{cause_on, cause_other, cause_quiet}
 use Rattle.mesa_merge.proofs.Combining.{aggs_count, gather_done, gather_later, gather_more}
 use Rattle.mesa_merge.proofs.Damages.{leaves_bound, sum_of, taken_key}
 use Rattle.mesa_merge.proofs.Ending.{AreFronts, givens_fronts}
-use Rattle.mesa_merge.proofs.Hands.{hand_at}
+use Rattle.mesa_merge.proofs.Hands.{hand_of_get}
 use Rattle.mesa_merge.proofs.Inputs.{alike_at, given_at, givens_count, givens_inputs}
 use Rattle.mesa_merge.proofs.Taking.{hand_form}
 use Rattle.mesa_merge.proofs.gathering.gather.Goals as goal
@@ -31,8 +31,8 @@ same-preserved g c =
     let given = c.in-Ok.ensures.given more head.rows head.there in
     let form = c.in-Ok.ensures.form more head.rows head.there in
     let above = c.in-Ok.ensures.above more head.rows head.there in
-    let hand = sym (hand_at c.same.cursors i c.index-cursors-i.result c.in-Some.ensures.within c.index-cursors-i.is) ∙ head.there in
-    let combined = if_true _ _ c.if-not-combined.false c.combine_head.ensures.yes more head.rows hand in
+    let hand = sym (hand_of_get c.same.cursors i c.index-cursors-i-in-Some.result c.in-Some.ensures.within) ∙ head.there in
+    let combined = if_true _ _ c.if-not-combined.false c.combine_head-combined.ensures.yes more head.rows hand in
     let lt : i < length c.same.inputs = omega (arith, c.in-Some.ensures.within, inv.count) in
     record {
       within = omega (arith, lt, c.advance.auto.inputs);
@@ -44,7 +44,7 @@ same-preserved g c =
       stage = λ s front givens e start.
           let now = inv.stage s front givens e start in
           let least : IsLeastOf c.same.row.key i (hands_of c.same.cursors) = subst (λ k. IsLeastOf k i (hands_of c.same.cursors)) c.as_slice.ensures c.in-Some.ensures.least in
-          let made : c.combine_head.new.row ≡ record c.same.row { values = row_combined (aggs_of s) c.same.row.values more.values } =
+          let made : c.combine_head-combined.new.row ≡ record c.same.row { values = row_combined (aggs_of s) c.same.row.values more.values } =
           combined.1 ∙ ap (λ gs. record c.same.row { values = row_combined gs c.same.row.values more.values }) e in (
             set now.0 i (get_or now.0 i [] ++ more ∷ []),
             gather_more c.folds_go_on.ensures.given bytes s c.same.inputs c.advance.new.inputs c.same.cursors c.advance.new.cursors (c.same.from + 1) i c.same.row more _ front now.0 now.1 least
@@ -71,27 +71,33 @@ same-smaller g c =
     let later = gather_later g.R.FileReader.bytes start.0 c.same.inputs c.same.cursors (c.same.from + 1) c.in-Some.i c.same.row start.1 now.0 now.1 least in
     omega (arith, later, inv.within, inv.count, c.in-Some.ensures.within, c.advance.auto.inputs)
 
-pub combine_head-requires-clause-old_full : goal.combine_head-requires-clause-old_full
-combine_head-requires-clause-old_full g c =
+pub combine_head-combined-requires-clause-old_full : goal.combine_head-combined-requires-clause-old_full
+combine_head-combined-requires-clause-old_full g c =
     let start = c.requires.gathering in
     let now = c.same.invariant.stage start.0 start.1 start.2 start.3 start.4 in
     now.1.form.values ∙ sym (aggs_count start.0) ∙ sym (ap length start.3)
 
-pub combine_head-requires-clause-new_full : goal.combine_head-requires-clause-new_full
-combine_head-requires-clause-new_full g c =
+pub combine_head-combined-requires-clause-new_full : goal.combine_head-combined-requires-clause-new_full
+combine_head-combined-requires-clause-new_full g c =
     let bytes = g.R.FileReader.bytes in
     let i = c.in-Some.i in
     let start = c.requires.gathering in
     let s = start.0 in
     let now = c.same.invariant.stage s start.1 start.2 start.3 start.4 in
     let head = c.in-Some.ensures.least.least in
-    let hand = sym (hand_at c.same.cursors i c.index-cursors-i.result c.in-Some.ensures.within c.index-cursors-i.is) ∙ head.there in
+    let hand = sym (hand_of_get c.same.cursors i c.index-cursors-i.result c.in-Some.ensures.within) ∙ head.there in
+    let again = sym (hand_of_get c.same.cursors i c.index-cursors-i-in-Some.result c.in-Some.ensures.within) ∙ head.there in
     let lt : i < length c.same.inputs = omega (arith, c.in-Some.ensures.within, c.same.invariant.count) in
     let was = given_at bytes c.same.inputs c.same.cursors now.0 i c.index-inputs-i.result c.index-cursors-i.result now.1.given lt in
     let form = c.rises.ensures.form (get_or now.0 i []) was in
     let same = alike_at bytes s c.same.inputs i c.index-inputs-i.result now.1.alike lt in
-    let own = hand_form s (get_or now.0 i []) (at_hand c.index-cursors-i.result) head.row head.rows (subst (λ t. AreRowsOf t (get_or now.0 i [] ++ at_hand c.index-cursors-i.result)) same form) hand in
-    (head.row, head.rows, hand, own.values ∙ sym (aggs_count s) ∙ sym (ap length start.3))
+    let own = hand_form s (get_or now.0 i []) (at_hand (get_or c.same.cursors i c.index-cursors-i.result)) head.row head.rows (subst (λ t. AreRowsOf t (get_or now.0 i [] ++ at_hand (get_or c.same.cursors i c.index-cursors-i.result))) same form) hand in
+    (head.row, head.rows, again, own.values ∙ sym (aggs_count s) ∙ sym (ap length start.3))
+
+pub offset_bounds-inputs-i : goal.offset_bounds-inputs-i
+offset_bounds-inputs-i g c =
+    let within : c.in-Some.i < length c.args.inputs.now = omega (arith, c.in-Some.ensures.within, c.same.invariant.count, c.same.auto.inputs) in
+    search rules
 
 pub returns-in-Err-clause-accepts : goal.returns-in-Err-clause-accepts
 returns-in-Err-clause-accepts g c = λ d e s front givens columns start contents told bound.
@@ -108,7 +114,7 @@ returns-then-not-combined-clause-accepts g c = λ d e s front givens columns sta
     let i = c.in-Some.i in
     let head = c.in-Some.ensures.least.least in
     let more = head.row in
-    let hand = sym (hand_at c.same.cursors i c.index-cursors-i.result c.in-Some.ensures.within c.index-cursors-i.is) ∙ head.there in
+    let hand = sym (hand_of_get c.same.cursors i c.index-cursors-i-in-Some.result c.in-Some.ensures.within) ∙ head.there in
     let now = inv.stage s front givens columns start in
     let given = c.in-Ok.ensures.given more head.rows head.there in
     let known : knowns_of bytes c.advance.new.inputs ≡ knowns_of bytes c.args.inputs.now = c.in-Ok.ensures.known ∙ inv.known in
@@ -116,7 +122,7 @@ returns-then-not-combined-clause-accepts g c = λ d e s front givens columns sta
     let fronts : AreFronts (set now.0 i (get_or now.0 i [] ++ more ∷ [])) (lifted_parts (knowns_of bytes c.args.inputs.now) contents) =
     subst (λ ks. AreFronts (set now.0 i (get_or now.0 i [] ++ more ∷ [])) (lifted_parts ks contents)) known (givens_fronts bytes c.advance.new.inputs c.advance.new.cursors _ contents (given now.0 now.1.given) (subst (λ ks. AreTold ks contents) (sym known) told)) in
     let stays : AllCombine (aggs_of s) c.same.row.values more.values = sum_stays c.folds_totals.ensures s now.0 _ front c.same.row more i (aggs_count s) now.1.formed now.1.fold lt fronts bound in
-    absurd ((if_false _ _ c.if-not-combined.true c.combine_head.ensures.no).1 more head.rows hand (subst (λ gs. AllCombine gs c.same.row.values more.values) (sym columns) stays))
+    absurd ((if_false _ _ c.if-not-combined.true c.combine_head-combined.ensures.no).1 more head.rows hand (subst (λ gs. AllCombine gs c.same.row.values more.values) (sym columns) stays))
 
 pub returns-then-not-combined-clause-cause : goal.returns-then-not-combined-clause-cause
 returns-then-not-combined-clause-cause g c =
@@ -152,7 +158,7 @@ returns-then-not-combined-clause-damaged g c = λ d e.
     let i = c.in-Some.i in
     let head = c.in-Some.ensures.least.least in
     let more = head.row in
-    let hand = sym (hand_at c.same.cursors i c.index-cursors-i.result c.in-Some.ensures.within c.index-cursors-i.is) ∙ head.there in
+    let hand = sym (hand_of_get c.same.cursors i c.index-cursors-i-in-Some.result c.in-Some.ensures.within) ∙ head.there in
     let s = start.0 in
     let now = inv.stage s start.1 start.2 start.3 start.4 in
     let given = c.in-Ok.ensures.given more head.rows head.there in
@@ -175,7 +181,7 @@ returns-then-not-combined-clause-damaged g c = λ d e.
       known = c.in-Ok.ensures.known;
     }) refl in
     let file = c.file_at.ensures in
-    let no = if_false _ _ c.if-not-combined.true c.combine_head.ensures.no in
+    let no = if_false _ _ c.if-not-combined.true c.combine_head-combined.ensures.no in
     let newest = subst (λ k. IsNewest k i c.newest_with-newest.result (hands_of c.advance.new.cursors)) (c.as_slice-then-not-combined.ensures ∙ ap (λ (r : Row). r.key) no.0) c.newest_with-newest.ensures.newest in
     let told : d ≡ sum_damage file.0.file.file = let both : Damaged (sum_damage c.file_at.result) ≡ Damaged d = sym c.sum_fault.ensures ∙ e in let one : d ≡ sum_damage c.file_at.result = cc in one ∙ ap sum_damage file.2 in
     let off = leaves_bound (aggs_of s) c.same.row.values more.values (λ all. no.1 more head.rows hand (subst (λ gs. AllCombine gs c.same.row.values more.values) (sym start.3) all)) in

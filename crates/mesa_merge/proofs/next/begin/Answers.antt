@@ -1,9 +1,8 @@
 use Rattle.std.proofs.Common.{◌≡◌, ◌≢◌, ◌≤◌, [], get_or, length, refl, sym, ◌∙◌, subst, arith}
 use Rattle.mesa_merge.specs.Damaged.{IsBlockOf}
-use Rattle.mesa_merge.specs.Hands.{hands_of}
 use Rattle.mesa_merge.specs.Inputs.{AreAlike, AreTold}
 use Rattle.mesa_merge.specs.Merging.{AreReady}
-use Rattle.mesa_merge.proofs.Beginning.{begun_merging, none_taken}
+use Rattle.mesa_merge.proofs.Beginning.{begun_merging}
 use Rattle.mesa_merge.proofs.Causing.{cause_on, cause_quiet}
 use Rattle.mesa_merge.proofs.next.begin.Goals as goal
 
@@ -28,7 +27,7 @@ inputs-preserved g c =
       count = omega (arith, inv.count, c.advance.auto.inputs, c.advance.auto.cursors);
       tree = c.in-Ok.ensures.tree;
       none = λ j le. let ne : j ≢ i = omega (arith, le) in let was : i ≤ j = omega (arith, le) in c.in-Ok.ensures.others j ne ∙ inv.none j was;
-      given = λ givens h. none_taken c.in-Ok.field-0 (get_or (hands_of c.inputs.cursors) i []) _ (inv.none i (omega arith)) c.in-Ok.ensures.there c.in-Ok.ensures.began givens (inv.given givens h);
+      given = λ givens h. c.in-Ok.ensures.began (inv.none i (omega arith)) givens (inv.given givens h);
       ready = c.in-Ok.ensures.more inv.ready;
       known = c.in-Ok.ensures.known ∙ inv.known;
       kept = λ all. c.in-Ok.ensures.inputs (inv.kept all);

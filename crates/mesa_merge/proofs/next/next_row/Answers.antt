@@ -1,11 +1,13 @@
 use Rattle.std.proofs.Common.{inl, ◌≡◌, ◌<◌, ◌++◌, ◌∷◌, [], get_or, length, set, refl, sym, ◌∙◌, subst, arith}
+use Rattle.std.proofs.lemmas.Result.{err_from_is_err_and}
 use Rattle.mesa_schema.specs.Columns.{aggs_of}
 use Rattle.mesa_schema.specs.Folded.{folded, rows_of}
 use Rattle.mesa_fold.specs.Bound.{KeepsBound}
+use Rattle.mesa_delta.specs.declared.error.FileError.TheVariants.{Memory, Read}
 use Rattle.mesa_merge.specs.Damaged.{IsBlockOf}
 use Rattle.mesa_merge.specs.Inputs.{AreTold, knowns_of, lifted_parts}
 use Rattle.mesa_merge.specs.Merging.{AreReady}
-use Rattle.mesa_merge.proofs.Causing.{cause_on, cause_quiet}
+use Rattle.mesa_merge.proofs.Causing.{cause_on, cause_other, cause_quiet}
 use Rattle.mesa_merge.proofs.Combining.{gather_first}
 use Rattle.mesa_merge.proofs.Ending.{all_at_end}
 use Rattle.mesa_merge.proofs.Hands.{hand_of_get}
@@ -72,6 +74,11 @@ returns-in_default-clause-none g c = λ s givens m. (all_at_end g.R.FileReader.b
 
 pub returns-in_default-clause-cause : goal.returns-in_default-clause-cause
 returns-in_default-clause-cause g c = cause_quiet _ _ _ refl
+
+pub returns-in_err-take_head-clause-cause : goal.returns-in_err-take_head-clause-cause
+returns-in_err-take_head-clause-cause g c =
+    let p = err_from_is_err_and c.from_residual.result c.from_residual.ensures.1 in
+    rw (p.1, p.2) (cause_other _ _ Memory refl (λ read. let both : Memory ≡ Read = read in cc))
 
 pub returns-in-Err-clause-accepts : goal.returns-in-Err-clause-accepts
 returns-in-Err-clause-accepts g c = λ d e s givens columns m contents told bound.

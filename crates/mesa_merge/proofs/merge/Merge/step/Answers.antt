@@ -5,6 +5,7 @@ use Rattle.mesa_schema.specs.Folded.{rows_of}
 use Rattle.mesa_fold.specs.Bound.{KeepsBound}
 use Rattle.mesa_cursor.specs.declared.cursor.Cursor.{Cursor}
 use Rattle.mesa_cursor.specs.Cursors.{IsInput}
+use Rattle.mesa_merge.specs.Calls.{answer_of}
 use Rattle.mesa_merge.specs.Damaged.{IsBlockOf}
 use Rattle.mesa_merge.specs.Faults.{faults_of}
 use Rattle.mesa_merge.specs.Hands.{hands_of}
@@ -59,11 +60,11 @@ returns-in-Ok g c =
     let ec = refill m.cursors.len m.cursors.items c.begin.new.cursors (sym m.cursors.ok.0) (c.begin.auto.cursors ∙ ap length c.deref_mut-2.ensures.value) in
     record {
       some =
-          if_ok _ _ _ (λ o some. if_some o _ _ (λ row more s givens h. more s givens (merged_with bytes s _ c.begin.new.inputs c.begin.new.cursors c.begin.new.tree givens ei ec refl refl h.going (λ any. h.columns (omega (arith, any, c.begin.auto.inputs, ap length c.deref_mut.ensures.value))) c.in-Ok.ensures.tree
+          if_ok (answer_of c.further-in-Ok.result c.further-in-Ok.new.self) _ _ (λ o some. if_some o _ _ (λ row more s givens h. more s givens (merged_with bytes s _ c.begin.new.inputs c.begin.new.cursors c.begin.new.tree givens ei ec refl refl h.going (λ any. h.columns (omega (arith, any, c.begin.auto.inputs, ap length c.deref_mut.ensures.value))) c.in-Ok.ensures.tree
           (c.in-Ok.ensures.merging s givens (subst (λ xs. AreAlike s (knowns_of bytes xs)) (sym c.deref_mut.ensures.value) h.alike)
           (subst (λ xs. HasGivens bytes xs c.deref_mut-2.result.now givens) (sym c.deref_mut.ensures.value) (subst (λ cs. HasGivens bytes m.inputs.items cs givens) (sym c.deref_mut-2.ensures.value) h.given)) (h.fresh c.if-self.false)))) some) c.further-in-Ok.ensures.some;
       none =
-          if_ok _ _ _ (λ o none. if_none o _ _ (λ more s givens h. more s givens (merged_with bytes s _ c.begin.new.inputs c.begin.new.cursors c.begin.new.tree givens ei ec refl refl h.going (λ any. h.columns (omega (arith, any, c.begin.auto.inputs, ap length c.deref_mut.ensures.value))) c.in-Ok.ensures.tree
+          if_ok (answer_of c.further-in-Ok.result c.further-in-Ok.new.self) _ _ (λ o none. if_none o _ _ (λ more s givens h. more s givens (merged_with bytes s _ c.begin.new.inputs c.begin.new.cursors c.begin.new.tree givens ei ec refl refl h.going (λ any. h.columns (omega (arith, any, c.begin.auto.inputs, ap length c.deref_mut.ensures.value))) c.in-Ok.ensures.tree
           (c.in-Ok.ensures.merging s givens (subst (λ xs. AreAlike s (knowns_of bytes xs)) (sym c.deref_mut.ensures.value) h.alike)
           (subst (λ xs. HasGivens bytes xs c.deref_mut-2.result.now givens) (sym c.deref_mut.ensures.value) (subst (λ cs. HasGivens bytes m.inputs.items cs givens) (sym c.deref_mut-2.ensures.value) h.given)) (h.fresh c.if-self.false)))) none) c.further-in-Ok.ensures.none;
       known =
@@ -72,11 +73,11 @@ returns-in-Ok g c =
           λ all.
           c.further-in-Ok.ensures.inputs (subst (AllByRecursion (IsInput g.R.FileReader.bytes)) (sym ei) (c.in-Ok.ensures.inputs (subst (AllByRecursion (IsInput g.R.FileReader.bytes)) (sym c.deref_mut.ensures.value) all)));
       cause =
-          cause_kept _ _ _ _ _ (ap (faults_of faults) ei ∙ c.in-Ok.ensures.cause.quiet ∙ ap (faults_of faults) c.deref_mut.ensures.value) refl c.further-in-Ok.ensures.cause;
+          cause_kept (answer_of c.further-in-Ok.result c.further-in-Ok.new.self) _ _ _ _ (ap (faults_of faults) ei ∙ c.in-Ok.ensures.cause.quiet ∙ ap (faults_of faults) c.deref_mut.ensures.value) refl c.further-in-Ok.ensures.cause;
       damaged = c.further-in-Ok.ensures.damaged;
       accepts =
           let known = ap (knowns_of bytes) ei ∙ c.in-Ok.ensures.known ∙ ap (knowns_of bytes) c.deref_mut.ensures.value in
-          if_err _ _ _ (λ e accepts d is s givens h contents told bound. accepts d is s givens (merged_with bytes s _ c.begin.new.inputs c.begin.new.cursors c.begin.new.tree givens ei ec refl refl h.going (λ any. h.columns (omega (arith, any, c.begin.auto.inputs, ap length c.deref_mut.ensures.value))) c.in-Ok.ensures.tree
+          if_err (answer_of c.further-in-Ok.result c.further-in-Ok.new.self) _ _ (λ e accepts d is s givens h contents told bound. accepts d is s givens (merged_with bytes s _ c.begin.new.inputs c.begin.new.cursors c.begin.new.tree givens ei ec refl refl h.going (λ any. h.columns (omega (arith, any, c.begin.auto.inputs, ap length c.deref_mut.ensures.value))) c.in-Ok.ensures.tree
           (c.in-Ok.ensures.merging s givens (subst (λ xs. AreAlike s (knowns_of bytes xs)) (sym c.deref_mut.ensures.value) h.alike)
           (subst (λ xs. HasGivens bytes xs c.deref_mut-2.result.now givens) (sym c.deref_mut.ensures.value) (subst (λ cs. HasGivens bytes m.inputs.items cs givens) (sym c.deref_mut-2.ensures.value) h.given)) (h.fresh c.if-self.false))) contents
           (subst (λ ks. AreTold ks contents) (sym known) told) (subst (λ ks. KeepsBound (aggs_of s) [] (rows_of (lifted_parts ks contents))) (sym known) bound)) c.further-in-Ok.ensures.accepts;
