@@ -14,17 +14,17 @@ use Rattle.mesa_view.specs.SumDamage.{IsSumDamage}
 use Rattle.mesa_view.proofs.Blocks.{given_all, given_bounded, more_form, no_fault}
 use Rattle.mesa_view.proofs.gathering.gather.Goals as goal
 
-pub returns-in_err-block-clause-damaged : goal.returns-in_err-block-clause-damaged
-returns-in_err-block-clause-damaged g c =
-    let p = err_from_is_err_and c.from_residual-in_err-block.result c.from_residual-in_err-block.ensures.1 in
+pub returns-in_err-rows-clause-damaged : goal.returns-in_err-rows-clause-damaged
+returns-in_err-rows-clause-damaged g c =
+    let p = err_from_is_err_and c.from_residual-in_err-rows.result c.from_residual-in_err-rows.ensures.1 in
     let inv = c.each_block.invariant in
-    rw (p.1, p.2) (λ d e. inl (damaged_before g.R.FileReader.bytes g.R.FileReader.size c.args.input.now c.each_block.input d inv.same inv.size (c.in_err-block.ensures.damaged d e)))
+    rw (p.1, p.2) (λ d e. inl (damaged_before g.R.FileReader.bytes g.R.FileReader.size c.args.input.now c.each_block.input d inv.same inv.size (c.in_err-rows.ensures.damaged d e)))
 
-pub returns-in_err-block-clause-never : goal.returns-in_err-block-clause-never
-returns-in_err-block-clause-never g c =
-    let p = err_from_is_err_and c.from_residual-in_err-block.result c.from_residual-in_err-block.ensures.1 in
+pub returns-in_err-rows-clause-never : goal.returns-in_err-rows-clause-never
+returns-in_err-rows-clause-never g c =
+    let p = err_from_is_err_and c.from_residual-in_err-rows.result c.from_residual-in_err-rows.ensures.1 in
     let inv = c.each_block.invariant in
-    rw (p.1, p.2) (λ d e given h b all told indexed keeps. (damaged_before g.R.FileReader.bytes g.R.FileReader.size c.args.input.now c.each_block.input d inv.same inv.size (c.in_err-block.ensures.damaged d e)).unsound b all told indexed)
+    rw (p.1, p.2) (λ d e given h b all told indexed keeps. (damaged_before g.R.FileReader.bytes g.R.FileReader.size c.args.input.now c.each_block.input d inv.same inv.size (c.in_err-rows.ensures.damaged d e)).unsound b all told indexed)
 
 pub put_rows-requires-clause-gathering : goal.put_rows-requires-clause-gathering
 put_rows-requires-clause-gathering g c = (c.requires.gathering.0 ++ c.each_block.invariant.given, c.each_block.invariant.put c.requires.gathering.0 c.requires.gathering.1)
@@ -35,8 +35,8 @@ put_rows-requires-clause-form g c =
     let inv = c.each_block.invariant in
     let start = c.args.input.now in
     let now = c.block.new.input in
-    let rows : List Row = c.in_ok-block.rows in
-    let scanned = c.in_ok-block.ensures.more inv.given inv.scanned in
+    let rows : List Row = c.in_ok-rows.rows in
+    let scanned = c.in_ok-rows.ensures.more inv.given inv.scanned in
     let form : AreRowsOf (columns_of now.evolving.value) rows = more_form bytes now c.block.new.self inv.given rows scanned in
     let schema : (wanted_of c.each_block.groups).schema ≡ columns_of start.evolving.value = ap (λ (w : Wanted). w.schema) inv.wanted ∙ c.requires.columns in
     let same = same_input bytes start c.each_block.input now inv.same c.block.ensures.same in
@@ -47,7 +47,7 @@ pub returns-in_err-put_rows-clause-cause : goal.returns-in_err-put_rows-clause-c
 returns-in_err-put_rows-clause-cause g c =
     let p = err_from_is_err_and c.from_residual-in_err-put_rows.result c.from_residual-in_err-put_rows.ensures.1 in
     let faults = g.R.FileReader.faults in
-    rw (p.1, p.2) (no_fault {T = Unit {0}} c.in_err-put_rows.field-0.0 (faults (reader_in c.args.input.now)) (faults (reader_in c.block.new.input)) (c.in_ok-block.ensures.cause.quiet ∙ c.each_block.invariant.faults) c.in_err-put_rows.ensures.unread)
+    rw (p.1, p.2) (no_fault {T = Unit {0}} c.in_err-put_rows.field-0.0 (faults (reader_in c.args.input.now)) (faults (reader_in c.block.new.input)) (c.in_ok-rows.ensures.cause.quiet ∙ c.each_block.invariant.faults) c.in_err-put_rows.ensures.unread)
 
 pub returns-in_err-put_rows-clause-damaged : goal.returns-in_err-put_rows-clause-damaged
 returns-in_err-put_rows-clause-damaged g c =
@@ -62,12 +62,12 @@ returns-in_err-put_rows-clause-never g c =
     let inv = c.each_block.invariant in
     let start = c.args.input.now in
     let now = c.block.new.input in
-    let rows : List Row = c.in_ok-block.rows in
-    let scanned = c.in_ok-block.ensures.more inv.given inv.scanned in
+    let rows : List Row = c.in_ok-rows.rows in
+    let scanned = c.in_ok-rows.ensures.more inv.given inv.scanned in
     let schema : (wanted_of c.each_block.groups).schema ≡ columns_of start.evolving.value = ap (λ (w : Wanted). w.schema) inv.wanted ∙ c.requires.columns in
     let same = same_input bytes start c.each_block.input now inv.same c.block.ensures.same in
     rw (p.1, p.2) (λ d e given h b all told indexed keeps.
-    let bounded = given_bounded bytes start now c.args.filter.now c.block.new.self given (inv.given ++ rows) scanned (c.in_ok-block.ensures.filter ∙ inv.filter) same b all told indexed keeps in
+    let bounded = given_bounded bytes start now c.args.filter.now c.block.new.self given (inv.given ++ rows) scanned (c.in_ok-rows.ensures.filter ∙ inv.filter) same b all told indexed keeps in
     let here : KeepsSums (columns_of start.evolving.value) ((given ++ inv.given) ++ rows) = subst (KeepsSums (columns_of start.evolving.value)) (sym (append_assoc given inv.given rows)) bounded in
     c.in_err-put_rows.ensures.never d e (given ++ inv.given) (inv.put given h) (subst (λ (s : Columns). KeepsSums s ((given ++ inv.given) ++ rows)) (sym schema) here))
 
@@ -76,14 +76,14 @@ each_block-preserved g c =
     let bytes = g.R.FileReader.bytes in
     let inv = c.each_block.invariant in
     let now = c.block.new.input in
-    let rows : List Row = c.in_ok-block.rows in
+    let rows : List Row = c.in_ok-rows.rows in
     record {
       given = inv.given ++ rows;
-      scanned = c.in_ok-block.ensures.more inv.given inv.scanned;
-      filter = c.in_ok-block.ensures.filter ∙ inv.filter;
+      scanned = c.in_ok-rows.ensures.more inv.given inv.scanned;
+      filter = c.in_ok-rows.ensures.filter ∙ inv.filter;
       same = same_input bytes c.args.input.now c.each_block.input now inv.same c.block.ensures.same;
       size = c.block.ensures.size ∙ inv.size;
-      faults = c.in_ok-block.ensures.cause.quiet ∙ inv.faults;
+      faults = c.in_ok-rows.ensures.cause.quiet ∙ inv.faults;
       put = λ before h. subst (HasPut c.put_rows.new.groups) (append_assoc before inv.given rows)
           (c.in_ok-put_rows.ensures.put (before ++ inv.given) (inv.put before h));
       wanted = c.in_ok-put_rows.ensures.wanted ∙ inv.wanted;
