@@ -1,4 +1,4 @@
-use Rattle.std.proofs.Common.{◌≡◌, ◌∙◌, ◌++◌, ◌∷◌, [], List, map, subst, sym, take}
+use Rattle.std.proofs.Common.{◌≡◌, ◌<◌, ◌∙◌, ◌++◌, ◌∷◌, [], List, arith, get_or, length, map, subst, sym, take}
 use Rattle.std.specs.Prelude.{IsTrue}
 use Rattle.std.proofs.lemmas.List.Elements.{All-from_recursion}
 use Rattle.std.proofs.lemmas.Option.{get_or_from_slice_get}
@@ -20,8 +20,9 @@ take-requires c =
     let p = c.args.regrouping.now in
     let f = c.args.filter.now in
     let row : Row = lent c.row.result in
+    let lt : c.block.i < length c.args.block.now = omega arith in
     let Spells = λ (row : Row). IsTrue (is_spelling p.kinds row.key) × IsTrue (is_spelling f.kinds (row_under p row).key) in
-    (subst Spells (get_or_from_slice_get c.args.block.now c.block.i row row c.row.ensures) (All-from_recursion Spells c.args.block.now c.requires.spelled c.block.i row c.block-test.true)).0
+    (subst Spells (get_or_from_slice_get c.args.block.now c.block.i row row c.row.ensures) (All-from_recursion Spells c.args.block.now c.requires.spelled c.block.i row lt)).0
 
 pub put_matching-requires-clause-gathering : goal.put_matching-requires-clause-gathering
 put_matching-requires-clause-gathering c =
@@ -33,19 +34,21 @@ put_matching-requires-clause-spelled c =
     let p = c.args.regrouping.now in
     let f = c.args.filter.now in
     let row : Row = lent c.row.result in
-    let under : lent c.row-2.result ≡ row_under p row = c.row-2.ensures ∙ c.in_ok-take.ensures.regrouped in
+    let lt : c.block.i < length c.args.block.now = omega arith in
+    let under : lent c.row-in-block.result ≡ row_under p row = c.row-in-block.ensures ∙ c.in_ok-take.ensures.regrouped in
     let Spells = λ (row : Row). IsTrue (is_spelling p.kinds row.key) × IsTrue (is_spelling f.kinds (row_under p row).key) in
     subst (λ (r : Row). IsTrue (is_spelling f.kinds r.key)) (sym under)
-    (subst Spells (get_or_from_slice_get c.args.block.now c.block.i row row c.row.ensures) (All-from_recursion Spells c.args.block.now c.requires.spelled c.block.i row c.block-test.true)).1
+    (subst Spells (get_or_from_slice_get c.args.block.now c.block.i row row c.row.ensures) (All-from_recursion Spells c.args.block.now c.requires.spelled c.block.i row lt)).1
 
 pub put_matching-requires-clause-form : goal.put_matching-requires-clause-form
 put_matching-requires-clause-form c =
     let p = c.args.regrouping.now in
     let row : Row = lent c.row.result in
-    let under : lent c.row-2.result ≡ row_under p row = c.row-2.ensures ∙ c.in_ok-take.ensures.regrouped in
-    let at = sym (get_or_from_slice_get c.args.block.now c.block.i row row c.row.ensures) in
+    let lt : c.block.i < length c.args.block.now = omega arith in
+    let under : lent c.row-in-block.result ≡ row_under p row = c.row-in-block.ensures ∙ c.in_ok-take.ensures.regrouped in
+    let at : row ≡ get_or c.args.block.now c.block.i row = sym (get_or_from_slice_get c.args.block.now c.block.i row row c.row.ensures) in
     subst (IsRowOf (wanted_of c.block.groups).schema) (sym under)
-    (subst (λ (w : Wanted). IsRowOf w.schema (row_under p row)) (sym c.block.invariant.wanted) (form_at (wanted_of c.args.groups.now).schema p c.args.block.now c.block.i row c.block-test.true at c.requires.form))
+    (subst (λ (w : Wanted). IsRowOf w.schema (row_under p row)) (sym c.block.invariant.wanted) (form_at (wanted_of c.args.groups.now).schema p c.args.block.now c.block.i row lt at c.requires.form))
 
 pub block-preserved : goal.block-preserved
 block-preserved c =
@@ -55,10 +58,11 @@ block-preserved c =
     let rows : List Row = c.args.block.now in
     let i = c.block.i in
     let row : Row = lent c.row.result in
-    let at = sym (get_or_from_slice_get rows i row row c.row.ensures) in
-    let under : lent c.row-2.result ≡ row_under p row = c.row-2.ensures ∙ c.in_ok-take.ensures.regrouped in
+    let lt : c.block.i < length c.args.block.now = omega arith in
+    let at : row ≡ get_or rows i row = sym (get_or_from_slice_get rows i row row c.row.ensures) in
+    let under : lent c.row-in-block.result ≡ row_under p row = c.row-in-block.ensures ∙ c.in_ok-take.ensures.regrouped in
     record {
-      put = λ given h. put_next c.put_matching.new.groups f p given rows i row c.block-test.true at
+      put = λ given h. put_next c.put_matching.new.groups f p given rows i row lt at
           (subst (λ (r : Row). HasPut c.put_matching.new.groups ((given ++ matching_rows f (map (row_under p) (take i rows))) ++ matching_rows f (r ∷ []))) under
           (c.in_ok-put_matching.ensures.put (given ++ matching_rows f (map (row_under p) (take i rows))) (inv.put given h)));
       wanted = c.in_ok-put_matching.ensures.wanted ∙ inv.wanted;
@@ -73,11 +77,12 @@ returns-in_err-put_matching-clause-never c =
     let rows : List Row = c.args.block.now in
     let i = c.block.i in
     let row : Row = lent c.row.result in
-    let at = sym (get_or_from_slice_get rows i row row c.row.ensures) in
-    let under : lent c.row-2.result ≡ row_under p row = c.row-2.ensures ∙ c.in_ok-take.ensures.regrouped in
+    let lt : c.block.i < length c.args.block.now = omega arith in
+    let at : row ≡ get_or rows i row = sym (get_or_from_slice_get rows i row row c.row.ensures) in
+    let under : lent c.row-in-block.result ≡ row_under p row = c.row-in-block.ensures ∙ c.in_ok-take.ensures.regrouped in
     rw (r.1, r.2) (λ d e given h keeps.
     let front : List Row = given ++ matching_rows f (map (row_under p) (take i rows)) in
     let whole = subst (λ (w : Wanted). KeepsSums w.schema (given ++ matching_rows f (map (row_under p) rows))) (sym inv.wanted) keeps in
-    let next = keeps_front (wanted_of c.block.groups).schema f p given rows i row c.block-test.true at whole in
+    let next = keeps_front (wanted_of c.block.groups).schema f p given rows i row lt at whole in
     c.in_err-put_matching.ensures.never d e front (inv.put given h)
     (subst (λ (r : Row). KeepsSums (wanted_of c.block.groups).schema (front ++ matching_rows f (r ∷ []))) (sym under) next))
