@@ -4,6 +4,7 @@ use Rattle.std.specs.Prelude.{◌≢◌, flat_map, is_some, IfSome}
 use Rattle.sha2.specs.Sha256.{sha256}
 use Rattle.mesa_file.specs.declared.file_ref.FileRef.{FileRef}
 use Rattle.mesa_tasks.specs.mesa_delta.Reading.{IsTailDamage}
+use Rattle.mesa_tasks.specs.mesa_delta.Summary.{file_layout}
 use Rattle.std.specs.List.{AllByRecursion}
 use Rattle.mesa_file.specs.declared.damage.Damage.{Damage}
 use Rattle.mesa_schema.specs.Columns.{Columns}
@@ -79,7 +80,7 @@ differs told s file d is = elim is.shown [
   | inr marred ↦ by marred.content marred.size marred.shown
 ]
   where
-    by : (content : Option (List ℕ)) (size : ℕ) → IsTailDamage content size s file d → d.want ≢ d.found
+    by : (content : Option (List ℕ)) (size : ℕ) → IsTailDamage content size (file_layout s file) file d → d.want ≢ d.found
     by content size shown = elim shown [
       | inl wrong ↦ subst (λ (x : Damage). x.want ≢ x.found) (sym wrong.0) (λ e. wrong.1 (let same : size ≡ file.len = cc in same))
       | inr piece ↦ elim piece.1.2 [
