@@ -86,6 +86,10 @@ brought_ids_are l epoch id made = ap (λ ids. id ∷ ids) (view_ids l (id + 1) m
 pub layout_under : {M : Type 0} (id : ℕ) (s : Columns) (f : MadeFile M) → f.file.format ≡ format.Two → new_layout s ≡ file_layout s (ref_under id f)
 layout_under id s f is = λ i. record { format = sym is i; columns = s }
 
+-- a made file's reference, under another id
+referred : {M : Type 0} (s : Layout) (number id : ℕ) (its : List Row) (f : MadeFile M) → IsReferenceOf s number its f.file → IsReferenceOf s id its (ref_under id f)
+referred s number id its f is = record { format = is.format; id = refl; len = is.len; rows = is.rows; blocks = is.blocks; first = is.first; last = is.last; aggregates = is.aggregates; digest = is.digest }
+
 -- a made file under its id is told
 pub told_one : {M : Type 0} (bytes : M → Option (List ℕ)) (id_of : M → ℕ) (rows : Rows) (id : ℕ) (s : Columns) (its : List Row) (f : MadeFile M) → IsMadeFile bytes id_of (record { columns = s; rows = its }) f → rows id ≡ its
     → IsTold rows (record { columns = s; file = ref_under id f })
@@ -93,7 +97,7 @@ told_one bytes id_of rows id s its f made at =
     subst (λ (its : List Row). IsMadeFile bytes id_of (record { columns = s; rows = its }) f → IsTold rows (record { columns = s; file = ref_under id f })) at
     (λ made. record {
       file = subst (λ (x : Layout). IsFile x (rows id) (file_bytes x (rows id))) (layout_under id s f made.reference.format) made.rows;
-      true = subst (λ (x : Layout). IsReferenceOf x id (rows id) (ref_under id f)) (layout_under id s f made.reference.format) (record made.reference { id = refl });
+      true = subst (λ (x : Layout). IsReferenceOf x id (rows id) (ref_under id f)) (layout_under id s f made.reference.format) (referred (new_layout s) (id_of f.made) id (rows id) f made.reference);
     }) made
 
 module _ {M : Type 0} (bytes : M → Option (List ℕ)) (id_of : M → ℕ) (rows : Rows) (l : Lineage) (its : List Row) where
