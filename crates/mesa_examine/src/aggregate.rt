@@ -9,7 +9,7 @@ use mesa_value::{Agg, Amount};
 use std::marker::Model;
 
 /// An aggregate. A sum may pass 128 bits before all rows are in: 2^128 was carried so often, and this is left.
-#[derive(Clone, Copy)]
+#[derive(Drop)]
 pub(crate) struct Aggregate {
     left: Amount,
     carries: i64,
@@ -33,8 +33,8 @@ impl Aggregate {
     }
 
     /// With a value more. None where 2^128 is carried more often than can be counted, which takes 2^63 rows.
-    pub fn with(self, agg: Agg, value: Amount) -> Option<Self>
-        ensures { IfSome result (λ x. x ≡ noted agg (combined agg self value)) }
+    pub fn with(&self, agg: Agg, value: Amount) -> Option<Self>
+        ensures { IfSome result (λ x. x ≡ noted agg (combined agg self.now value)) }
     {
         match agg {
             Agg::Sum => self.plus(value),
@@ -45,10 +45,10 @@ impl Aggregate {
     }
 
     /// Whether it is this number.
-    pub fn is(self, number: Amount) -> bool
-        ensures { IsTrue result ↔ (number ≡ self) }
+    pub fn is(&self, number: Amount) -> bool
+        ensures { IsTrue result ↔ (number ≡ self.now) }
     {
-        self.carries == 0 && self.left == number
+        self.left == number && self.carries == 0
     }
 
     // A number of 128 bits.
@@ -61,9 +61,19 @@ impl Aggregate {
         }
     }
 
+    // The same again.
+    fn same(&self) -> Self
+        ensures { result ≡ self.now }
+    {
+        Aggregate {
+            left: self.left,
+            carries: self.carries,
+        }
+    }
+
     // The sum of it and a value.
-    fn plus(self, value: Amount) -> Option<Self>
-        ensures { IfSome result (λ x. x ≡ self +ℤ value) }
+    fn plus(&self, value: Amount) -> Option<Self>
+        ensures { IfSome result (λ x. x ≡ self.now +ℤ value) }
     {
         let (left, more) = sum(self.left, value);
         let carries = self.carries.checked_add(more)?;
@@ -71,33 +81,34 @@ impl Aggregate {
     }
 
     // The lesser of it and a value.
-    fn lesser(self, value: Amount) -> Self
-        ensures { result ≡ int_min self value }
+    fn lesser(&self, value: Amount) -> Self
+        ensures { result ≡ int_min self.now value }
     {
         if self.is_above(value) {
             Self::plain(value)
         } else {
-            self
+            self.same()
         }
     }
 
     // The greater of it and a value.
-    fn greater(self, value: Amount) -> Self
-        ensures { result ≡ int_max self value }
+    fn greater(&self, value: Amount) -> Self
+        ensures { result ≡ int_max self.now value }
     {
         if self.is_above(value) {
-            self
+            self.same()
         } else {
             Self::plain(value)
         }
     }
 
     // Whether it is greater than a number.
-    fn is_above(self, number: Amount) -> bool
-        ensures { result ≡ int_lt number self }
+    fn is_above(&self, number: Amount) -> bool
+        ensures { result ≡ int_lt number self.now }
     {
+        let above = self.left > number;
         if self.carries == 0 {
-            self.left > number
+            above
         } else {
             self.carries > 0
         }
