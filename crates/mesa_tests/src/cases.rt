@@ -73,12 +73,21 @@ pub fn expect_cases<R: Abort + Threads + Wait + Sync>(rt: &R, alloc: Global, cas
     }
 }
 
-/// The same of one case after the other over one disk, which is empty at first.
-pub fn expect_in_turn<R: Abort + Threads + Wait + Sync>(rt: &R, alloc: Global, cases: &[Case<'_>]) {
-    let mut disk = empty_disk(alloc);
+/// The same of one case after the other over one disk.
+pub fn expect_in_turn_over<R: Abort + Threads + Wait + Sync>(
+    rt: &R,
+    alloc: Global,
+    mut disk: MemDisk,
+    cases: &[Case<'_>],
+) {
     for case in cases {
         disk = expect_over(rt, alloc, disk, case);
     }
+}
+
+/// The same over a disk that is empty at first.
+pub fn expect_in_turn<R: Abort + Threads + Wait + Sync>(rt: &R, alloc: Global, cases: &[Case<'_>]) {
+    expect_in_turn_over(rt, alloc, empty_disk(alloc), cases);
 }
 
 /// A script by templates, and what its run over an empty store prints.

@@ -4,6 +4,7 @@ mod damage;
 mod failed_loads;
 mod failing;
 mod faults;
+mod formats;
 mod fronts;
 mod older;
 mod reopening;

@@ -2,7 +2,7 @@
 use crate::call::{Case, PLAIN};
 use crate::cases::expect_cases;
 
-static CASES: [Case<'static>; 11] = [
+static CASES: [Case<'static>; 14] = [
     Case {
         name: "sales and view",
         script: b"table,a,day int;pub int;country text,clicks sum;cost sum\n\
@@ -101,13 +101,13 @@ static CASES: [Case<'static>; 11] = [
          row,t,1,-1\n\
          commit\n\
          query,t\n",
-        status: 1,
+        status: 0,
         turns: Some(7),
         text: "0.1@0 table t\n\
          0.2@2 loaded version=0 rows=1\n\
-         0.3@4 refused sum_bound table=t column=v\n\
-         0.4@5 rows 1 version=0\n\
-         1,9223372036854775807\n",
+         0.3@4 loaded version=1 rows=1\n\
+         0.4@5 rows 1 version=1\n\
+         1,9223372036854775806\n",
         ..PLAIN
     },
     Case {
@@ -115,10 +115,95 @@ static CASES: [Case<'static>; 11] = [
         script: b"table,t,k int,v sum\n\
          row,t,1,-9223372036854775808\n\
          commit\n",
-        status: 1,
+        status: 0,
         turns: Some(3),
         text: "0.1@0 table t\n\
-         0.2@2 refused sum_bound table=t column=v\n",
+         0.2@2 loaded version=0 rows=1\n",
+        ..PLAIN
+    },
+    // The least number of 128 bits is one of a sum column, and its absolute value passes the bound by one.
+    Case {
+        name: "sum bound",
+        script: b"table,t,k int,v sum\n\
+         row,t,1,-170141183460469231731687303715884105728\n\
+         commit\n\
+         row,t,1,-170141183460469231731687303715884105727\n\
+         commit\n\
+         query,t\n",
+        status: 1,
+        turns: Some(7),
+        text: "0.1@0 table t\n\
+         0.2@2 refused sum_bound table=t column=v\n\
+         0.3@4 loaded version=0 rows=1\n\
+         0.4@5 rows 1 version=0\n\
+         1,-170141183460469231731687303715884105727\n",
+        ..PLAIN
+    },
+    Case {
+        name: "wide sums",
+        script: b"table,t,k int,v sum\n\
+         row,t,1,9223372036854775807\n\
+         commit\n\
+         row,t,1,1\n\
+         commit\n\
+         query,t\n\
+         row,t,1,170141183460469231722463931679029329919\n\
+         commit\n\
+         row,t,1,1\n\
+         commit\n\
+         query,t\n",
+        status: 1,
+        turns: Some(13),
+        text: "0.1@0 table t\n\
+         0.2@2 loaded version=0 rows=1\n\
+         0.3@4 loaded version=1 rows=1\n\
+         0.4@5 rows 1 version=1\n\
+         1,9223372036854775808\n\
+         0.5@8 loaded version=2 rows=1\n\
+         0.6@10 refused sum_bound table=t column=v\n\
+         0.7@11 rows 1 version=2\n\
+         1,170141183460469231731687303715884105727\n",
+        ..PLAIN
+    },
+    // A value of a sum column has 128 bits, and every other value, a key and a default 64.
+    Case {
+        name: "values that are too wide",
+        script: b"table,t,k int,v sum;m min;x max;r replace\n\
+         row,t,1,170141183460469231731687303715884105728,0,0,0\n\
+         commit\n\
+         row,t,1,-170141183460469231731687303715884105729,0,0,0\n\
+         commit\n\
+         row,t,1,9223372036854775808,-9223372036854775809,0,0\n\
+         commit\n\
+         row,t,1,9223372036854775808,0,9223372036854775808,0\n\
+         commit\n\
+         row,t,1,9223372036854775808,0,0,9223372036854775808\n\
+         commit\n\
+         row,t,9223372036854775808,9223372036854775808,0,0,0\n\
+         commit\n\
+         row,t,1,9223372036854775808,-9223372036854775808,9223372036854775807,9223372036854775807\n\
+         row,t,2,-9223372036854775809,0,0,0\n\
+         commit\n\
+         alter,t,add_value,n max,9223372036854775808\n\
+         query,t\n\
+         query,t,,,-,v\n\
+         query,t,,k=9223372036854775808\n",
+        status: 1,
+        text: "0.1@0 table t\n\
+         0.2@2 refused bad_row row=1 column=2\n\
+         0.3@4 refused bad_row row=1 column=2\n\
+         0.4@6 refused bad_row row=1 column=3\n\
+         0.5@8 refused bad_row row=1 column=4\n\
+         0.6@10 refused bad_row row=1 column=5\n\
+         0.7@12 refused bad_row row=1 column=1\n\
+         0.8@14 loaded version=0 rows=2\n\
+         0.9@15 refused bad_default column=n\n\
+         0.10@16 rows 2 version=0\n\
+         1,9223372036854775808,-9223372036854775808,9223372036854775807,9223372036854775807\n\
+         2,-9223372036854775809,0,0,0\n\
+         0.11@18 rows 1 version=0\n\
+         -1\n\
+         0.12@20 refused bad_filter term=1\n",
         ..PLAIN
     },
     Case {
@@ -164,7 +249,7 @@ static CASES: [Case<'static>; 11] = [
         text: "0.1@0 table t\n\
          0.2@2 refused no_table row=2\n\
          0.3@4 refused bad_row row=1 column=3\n\
-         0.4@6 refused bad_row row=1 column=3\n\
+         0.4@6 loaded version=0 rows=1\n\
          0.5@7 refused table_exists\n\
          0.6@8 refused bad_schema reason=name_twice\n\
          0.7@9 refused no_column\n\

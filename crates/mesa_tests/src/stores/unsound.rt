@@ -107,7 +107,7 @@ const FIRST_CUMULATIVE: [(&str, &str); 3] = [
     ),
 ];
 
-static CASES: [Changed; 17] = [
+static CASES: [Changed; 20] = [
     Changed {
         name: "an empty store",
         script: "",
@@ -156,6 +156,29 @@ static CASES: [Changed; 17] = [
                 "00000000000000061fb97d36f8f5158936330a5cf401fc64abea0614bddb86b42ea91a56f510b4c0",
             ),
         ],
+        status: 1,
+        text: "unsound table=t range=[0,0] key=-\n",
+    },
+    Changed {
+        name: "a version with the greatest total",
+        script: ONE_ROW,
+        changes: &[(
+            "c81c296f0f6edacf6039963d5def2a2dba052cfcdd802539023abf3c861cc736000100000000000000000000000000000005",
+            "c81c296f0f6edacf6039963d5def2a2dba052cfcdd802539023abf3c861cc73600017fffffffffffffffffffffffffffffff",
+        )],
+        status: 1,
+        text: "unsound table=t range=[0,0] key=-\n",
+    },
+    // The reference's least value is 2^64 and 5, which no value of such a column is.
+    Changed {
+        name: "a reference with a least value of more than 64 bits",
+        script: "table,t,k int,v min\n\
+         row,t,1,5\n\
+         commit\n",
+        changes: &[(
+            "80000000000000010100000000000000000000000000000005",
+            "80000000000000010100000000000000010000000000000005",
+        )],
         status: 1,
         text: "unsound table=t range=[0,0] key=-\n",
     },
@@ -348,6 +371,32 @@ static CASES: [Changed; 17] = [
         )],
         status: 1,
         text: "unsound table=t range=[1,1] key=-\n",
+    },
+    // Sums of more than 64 bits in versions, in a view, in a cumulative and in a base, up to the bound.
+    Changed {
+        name: "a store of wide sums",
+        script: "table,t,a int;b int,v sum;m min\n\
+         view,w,t,a,v\n\
+         row,t,1,1,9223372036854775807,9223372036854775807\n\
+         row,t,1,2,9223372036854775807,-9223372036854775808\n\
+         commit\n\
+         row,t,1,1,-100000000000000000000000000000000000000,5\n\
+         row,t,2,1,-70141183460469231713240559642174554113,6\n\
+         commit\n\
+         commit\n\
+         commit\n\
+         commit\n\
+         commit\n\
+         commit\n\
+         commit\n\
+         commit\n\
+         commit\n\
+         work,t\n\
+         expire,1\n\
+         work,t\n",
+        changes: &[],
+        status: 0,
+        text: "sound\n",
     },
     // Two tables with bases, cumulatives and a view that is made later, columns that come and go, and sums below 0.
     Changed {
