@@ -12,13 +12,17 @@ fn fault_of(alloc: Global, digits: &[u8]) -> Option<RecordError> {
 
 #[test]
 fn each_refusal_names_its_place(rt: HostRuntime) {
-    let refusals: [(&[u8], RecordError); 28] = [
+    let refusals: [(&[u8], RecordError); 32] = [
         // nothing
         (b"", RecordError::Truncated { at: 0 }),
         // no kind
         (b"00", RecordError::BadKind { at: 0 }),
         // no kind yet
         (b"08000000", RecordError::BadKind { at: 0 }),
+        (b"0b000000", RecordError::BadKind { at: 0 }),
+        // a kind of the second edition alone, and a version of it
+        (b"09", RecordError::Truncated { at: 1 }),
+        (b"0900000001", RecordError::Truncated { at: 5 }),
         // a number of three bytes
         (b"01000000", RecordError::Truncated { at: 1 }),
         // a byte behind a record
@@ -76,6 +80,10 @@ fn each_refusal_names_its_place(rt: HostRuntime) {
         // no format
         (
             b"0900000003000100000000000003",
+            RecordError::BadKind { at: 13 },
+        ),
+        (
+            b"0900000003000100000000000000",
             RecordError::BadKind { at: 13 },
         ),
         // no flag
