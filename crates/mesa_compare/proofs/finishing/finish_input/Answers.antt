@@ -12,6 +12,14 @@ returns-in-Err-clause-never g c = λ d is b all told indexed.
     let inv = c.rows.invariant in
     c.in-Err.ensures.accepts d is inv.input b all (inv.same.told ∙ told) (subst (λ x. IsIndexed x all b) (sym inv.same.index) indexed)
 
+pub rows-init : goal.rows-init
+rows-init g c = record {
+  input = c.requires;
+  same = record { index = refl; evolving = refl; epoch = refl; told = refl };
+  faults = refl;
+  given = λ before h. ([], subst (HasGiven g.R.FileReader.bytes c.args.input.now c.args.cursor.now) (sym (append-nil before)) h);
+}
+
 pub rows-preserved : goal.rows-preserved
 rows-preserved g c =
     let inv = c.rows.invariant in

@@ -27,7 +27,7 @@ loop-row-preserved g c =
     let row : Row = c.row-item.result in
     let beside : Option Row = then_some c.in-Ok.read c.next_row.new.row in
     let by = gives_on bytes c.loop-row.input c.next_row.new.input c.loop-row.cursor c.next_row.new.cursor (columns_of c.loop-row.input.evolving.value) (take i rows) beside inv.read c.in-Ok.ensures.some c.in-Ok.ensures.none in
-    let lends : option_map lent c.then_some-other.result ≡ beside = lent_some _ _ _ _ c.then_some-other.ensures c.lend-2.ensures in
+    let lends : option_map lent c.then_some-other.result ≡ beside = lent_some _ _ _ _ c.then_some-other.ensures c.lend-in-loop-row.ensures in
     let alike : Some row ≡ beside = ap Some (sym c.lend.ensures) ∙ (rw c.in_default.is at c.in_ok-difference.ensures.same) ∙ lends in
     let more : take i rows ++ option_to_list beside ≡ take (i + 1) rows = ap (λ (o : Option Row). take i rows ++ option_to_list o) (sym alike) ∙ sym (one_more_row i rows row c.loop-row-test.true c.row-item.is) in
     record {
@@ -69,7 +69,7 @@ returns-in-Some-clause-difference g c = λ b all rises read indexed.
     let same : IsSameInput bytes c.args.input.now c.finish_input.new.input =
     same_input bytes c.args.input.now c.next_row.new.input c.finish_input.new.input (same_input bytes c.args.input.now c.loop-row.input c.next_row.new.input inv.same c.in-Ok.ensures.same) c.in_ok-finish_input.ensures.same in
     let whole : map (lift_by c.args.input.now) all ≡ given = whole_of bytes c.args.input.now c.finish_input.new.input given all b same more.2 read indexed in
-    let lends : option_map lent c.then_some-other.result ≡ beside = lent_some _ _ _ _ c.then_some-other.ensures c.lend-2.ensures in
+    let lends : option_map lent c.then_some-other.result ≡ beside = lent_some _ _ _ _ c.then_some-other.ensures c.lend-in-loop-row.ensures in
     let first : Shows c.in-Some.key (Some (lent c.lend.result)) (option_map lent c.then_some-other.result) = rw c.in-Some.is at c.in_ok-difference.ensures.first in
     let shows : Shows c.in-Some.key (Some row) beside = λ before ones others one other rises rise. first before ones others (one ∙ ap Some (sym c.lend.ensures)) (other ∙ sym lends) rises rise in
     let rise : IsTrue (keys_rise (map (lift_by c.args.input.now) all)) = subst (λ (l : List Row). IsTrue (keys_rise l)) (sym whole) (front_rises given (at_hand c.finish_input.new.cursor) (c.rises.ensures.rise given more.1)) in
