@@ -9,6 +9,7 @@ use Rattle.std.proofs.lemmas.Bool.{cases_order}
 use Rattle.std.proofs.lemmas.Int.{ints as int_rules}
 use Rattle.std.proofs.Math.Numerals.{add-one}
 use Rattle.std.proofs.lemmas.List.{append-nil, length-append, length-map}
+use Rattle.mesa_value.specs.Agg.{IsSum}
 use Rattle.mesa_value.specs.declared.Agg.{Agg}
 use Rattle.mesa_value.specs.declared.Agg.TheVariants.{Sum, Max}
 use Rattle.mesa_key.specs.declared.KeyType.{KeyType}
@@ -55,7 +56,7 @@ CombinesOn = (aggs : List Agg) (rows : List Row) (row : Row) → 0 < length rows
 small : (n : ℕ) → n < 2 ^ 32 → FitsSigned w64 (pos n)
 small n h = omega (arith, int_rules)
 
-small_sum : (a b : ℕ) → a + b < 2 ^ 62 → FitsSigned w64 (pos (a + b))
+small_sum : (a b : ℕ) → a + b < 2 ^ 62 → IsSum (pos (a + b))
 small_sum a b h = omega (arith, int_rules)
 
 is_key : (i : ℕ) → i < 2 ^ 32 → IsKey ints (key_at i)

@@ -4,10 +4,11 @@ use crate::failure::Failure;
 use mesa_delta::{DeltaReader, FileError};
 use mesa_disk::{Disk, FileId, FileReader, FileRef, MemDisk, MemMade, MemReader, OpenFault};
 use mesa_schema::Schema;
+use mesa_value::Amount;
 use std::alloc::Global;
 
 /// The amounts of all rows of a file, added up.
-pub fn read_file(alloc: Global, made: MemMade, file: &FileRef) -> Result<i64, Failure> {
+pub fn read_file(alloc: Global, made: MemMade, file: &FileRef) -> Result<Amount, Failure> {
     let reader = adopted(alloc, made, file.id)?;
     let schema = schema(alloc)?;
     match read_all(alloc, reader, file, &schema) {
@@ -43,7 +44,7 @@ fn read_all<R: FileReader + Drop>(
     reader: R,
     file: &FileRef,
     schema: &Schema,
-) -> Result<i64, FileError> {
+) -> Result<Amount, FileError> {
     let mut reader = match DeltaReader::attach(alloc, reader, file, schema) {
         Ok(reader) => reader,
         Err((error, reader)) => {
@@ -57,13 +58,13 @@ fn read_all<R: FileReader + Drop>(
 }
 
 // The amounts of all rows, block by block.
-fn add_up<R: FileReader>(reader: &mut DeltaReader<R>) -> Result<i64, FileError> {
-    let mut total: i64 = 0;
+fn add_up<R: FileReader>(reader: &mut DeltaReader<R>) -> Result<Amount, FileError> {
+    let mut total: Amount = 0;
     for i in 0..reader.blocks() {
         let block = reader.block(i)?;
         for place in 0..block.len() {
             if let Some(amount) = block.row(place).values.first() {
-                total = total.wrapping_add(*amount as i64);
+                total = total.wrapping_add(*amount);
             }
         }
     }

@@ -44,11 +44,11 @@ pub fn row(alloc: Global, number: u32) -> Result<Row, AllocError>
 }
 
 /// Makes so many rows, one after the other, and adds up their amounts.
-pub fn add_up_rows(alloc: Global, rows: u32) -> Result<i64, AllocError> {
-    let mut total: i64 = 0;
+pub fn add_up_rows(alloc: Global, rows: u32) -> Result<Amount, AllocError> {
+    let mut total: Amount = 0;
     for number in 0..rows {
         let row = row(alloc, number)?;
-        total = total.wrapping_add(row.values.as_slice()[0] as i64);
+        total = total.wrapping_add(row.values.as_slice()[0]);
     }
     Ok(total)
 }
