@@ -21,6 +21,7 @@ use Rattle.mesa_schema.proofs.RisingRows.{folded_rise}
 use Rattle.mesa_fold.specs.Bound.{KeepsBound}
 use Rattle.mesa_fold.proofs.Merged.{folds_totals}
 use Rattle.mesa_disk.specs.Image.{Image}
+use Rattle.mesa_delta.specs.Summary.{file_layout}
 use Rattle.mesa_record.specs.declared.record.Files.{Files}
 use Rattle.mesa_difference.specs.Difference.{first_difference}
 use Rattle.mesa_difference.proofs.Differing.{same_where_none}
@@ -79,7 +80,7 @@ present_rises rows l d is told = by d.files d.epoch told
     by : (files : Option Files) (epoch : ℕ) → AllByRecursion (IsTold rows) (files_shelved l epoch files) → keys_rise (map (lifted l epoch (epoch_of l)) (rows_if_any rows files)) ≡ true
     by None epoch told = refl
     by (Some f) epoch told =
-        let forms : AreRowsOf (columns_at l epoch) (rows f.file.id) = all_so (IsRow (columns_at l epoch)) (IsRowOf (columns_at l epoch)) (rows f.file.id) (λ row good. good.form) told.0.file.good in
+        let forms : AreRowsOf (columns_at l epoch) (rows f.file.id) = all_so (IsRow (file_layout (columns_at l epoch) f.file)) (IsRowOf (columns_at l epoch)) (rows f.file.id) (λ row good. good.form) told.0.file.good in
         present_rise l epoch (rows f.file.id) is forms ∙ rising (rows f.file.id) told.0.file.rise
 
 are_full : (s : Columns) (rows : List Row) → AreRowsOf s rows → AreFull (aggs_of s) rows

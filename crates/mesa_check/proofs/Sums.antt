@@ -25,7 +25,7 @@ counted_both (c ∷ places) xs ys =
     let one : min most (min most (abs_total c xs) + min most (abs_total c ys)) ≡ min most (abs_total c (xs ++ ys)) = cap_both most (abs_total c xs) (abs_total c ys) ∙ ap (min most) (sym (sum_by-append _ xs ys)) in
     λ i. one i ∷ counted_both places xs ys i
 
--- ---- compared with totals of 64 bits
+-- ---- compared with totals that are within the bound
 
 below : (y : ℕ) → y < sum_bound → y < most
 below y h = omega (arith, h)

@@ -51,5 +51,5 @@ returns-clause-test g c =
     (λ xs is. c.agree-totalled.ensures xs (c.as_slice-2.ensures ∙ is) ∙ ap (λ (o : Option (List ℕ)). agrees_if_any o xs) c.totals.ensures)
     refl)
 
-pub agree-requires : goal.agree-requires
-agree-requires g c = subst (λ (o : Option (List ℕ)). IfSome o (λ totals. AllByRecursion (λ total. total < sum_bound) totals)) (sym c.totals.ensures) c.requires.totals
+pub agree-totalled-requires : goal.agree-totalled-requires
+agree-totalled-requires g c = subst (λ (o : Option (List ℕ)). IfSome o (λ totals. AllByRecursion (λ total. total < sum_bound) totals)) (sym c.totals.ensures) c.requires.totals

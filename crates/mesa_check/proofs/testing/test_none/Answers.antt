@@ -20,5 +20,5 @@ returns-clause-test c = λ told.
     (c.agree-totalled.ensures xs (c.deref-3.ensures.value ∙ c.in_ok-sums.ensures ∙ (λ k. counted (abs_totals (own_is k) []))) ∙ ap (λ (o : Option (List ℕ)). agrees_if_any o xs) c.totals.ensures)
     (c.from_vec.ensures ∙ c.in_ok-now.ensures ∙ (λ k. counted (abs_totals (now_is k) [])))
 
-pub agree-requires : goal.agree-requires
-agree-requires c = subst (λ (o : Option (List ℕ)). IfSome o (λ totals. AllByRecursion (λ total. total < sum_bound) totals)) (sym c.totals.ensures) c.requires.totals
+pub agree-totalled-requires : goal.agree-totalled-requires
+agree-totalled-requires c = subst (λ (o : Option (List ℕ)). IfSome o (λ totals. AllByRecursion (λ total. total < sum_bound) totals)) (sym c.totals.ensures) c.requires.totals
