@@ -29,7 +29,7 @@ fn schema(rt: &impl Abort, alloc: Global, kind: KeyType, agg: Agg) -> Schema {
 }
 
 // The block of the row with key 1 and value 5, of the first format; of the second too where the value is no sum.
-static ONE: [u8; 19] = [0, 0, 1, 0x80, 0, 0, 0, 0, 0, 0, 1, 0, 0, 0, 0, 0, 0, 0, 5];
+const ONE: [u8; 19] = [0, 0, 1, 0x80, 0, 0, 0, 0, 0, 0, 1, 0, 0, 0, 0, 0, 0, 0, 5];
 
 // The same and a byte more.
 const LONGER: [u8; 20] = [
