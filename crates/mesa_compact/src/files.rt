@@ -31,7 +31,7 @@ use std::alloc::Global;
 use std::mem;
 
 /// Merges inputs in version order into one file, through a new draft under this id, and puts the rows into groups as they come. The inputs are there still, whatever becomes of the file.
-/// A total that leaves its bound is told as damage of the newest input.
+/// A total that leaves its type is told as damage of the newest input.
 pub fn merged_file<M: Made, B: Bench<M>, R: FileReader>(
     alloc: Global,
     bench: &mut B,

@@ -17,7 +17,7 @@ use mesa_file::FileId;
 use mesa_schema::LentRow;
 use mesa_view::put_row;
 
-// Puts a row more into each gatherer. A sum that would leave its bound is told of this file.
+// Puts a row more into each gatherer. A sum that would leave its type is told of this file.
 pub(crate) fn put_all(
     groups: &mut [Option<Groups>],
     file: FileId,

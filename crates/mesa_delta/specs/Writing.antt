@@ -27,7 +27,7 @@ id_of w = w.id
 abbrev pub draft_of : {M T : Type 0} → DeltaWriter M T → T
 draft_of w = w.blocks.draft
 
--- A row may follow others: it has the columns' form, its key is greater than theirs, and each sum over all of them keeps its bound.
+-- A row may follow others: it has the columns' form, its key is greater than theirs, and no sum over all of them leaves its type.
 pub record MayFollow (s : Columns) (rows : List Row) (row : Row) : Type 0 where
   pub form : IsRowOf s row
   pub greater : Rise (map key_of (rows ++ row ∷ []))

@@ -74,7 +74,7 @@ impl<M: Made, T: Draft<M>> DeltaWriter<M, T> {
         })
     }
 
-    /// Whether the sums over the rows so far and the row keep their bound.
+    /// Whether the sums over the rows so far and the row stay in their type.
     pub fn allows(&self, row: LentRow) -> bool
         ensures { (rows : List AnyRow) → HasTaken T.bytes self.now rows
             → IsTrue result ↔ (0 < length rows → AllCombine (aggs_of (columns_of self.now)) (aggregates (aggs_of (columns_of self.now)) rows) row.entry.values.now) }

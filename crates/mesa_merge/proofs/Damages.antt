@@ -51,7 +51,7 @@ taken_key key i hands givens more rows least there lt =
     let same : more.key ≡ key = ap (λ (r : Row). r.key) (heads_same _ _ _ _ (sym there ∙ least.least.there)) ∙ least.is in
     subst (HasKey key) (sym (get_or-set_same givens i (get_or givens i [] ++ more ∷ []) [] lt)) (key_behind key (get_or givens i []) (more ∷ []) (inl same))
 
--- where all values of a combined row keep the bound of sums, all values combine
+-- where all values of a combined row are within the type of sums, all values combine
 combine : (aggs : List Agg) (old new : List ℤ) → AllByRecursion IsSum (row_combined aggs old new) → AllCombine aggs old new
 combine [] old new all = tt
 combine (agg ∷ aggs) [] new all = tt
@@ -61,7 +61,7 @@ combine (agg.Min ∷ aggs) (a ∷ old) (b ∷ new) all = (tt, combine aggs old n
 combine (agg.Max ∷ aggs) (a ∷ old) (b ∷ new) all = (tt, combine aggs old new all.1)
 combine (agg.Replace ∷ aggs) (a ∷ old) (b ∷ new) all = (tt, combine aggs old new all.1)
 
--- a row that doesn't combine with another has a value in the combined row that doesn't keep it
+-- a row that doesn't combine with another has a value in the combined row that isn't within it
 pub leaves_bound : (aggs : List Agg) (old new : List ℤ) → (AllCombine aggs old new → ⊥) → AllByRecursion IsSum (row_combined aggs old new) → ⊥
 leaves_bound aggs old new off all = off (combine aggs old new all)
 

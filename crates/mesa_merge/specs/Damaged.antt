@@ -27,7 +27,7 @@ pub record IsBlockOf {R : Type 0} (bytes : R → Option (List ℕ)) (size : R �
   pub one : slice_get knowns at ≡ Some (known_of bytes input)
   pub damaged : IsDamaged bytes size input d
 
--- A sum of the rows of a key leaves its bound: the fold of what was given ends with a row of the key that has a value which doesn't keep it. It is told of the newest file that holds the key: it has given a row of it or has one at hand, and each newer one has given lesser keys alone, and has a greater one at hand or is at its end.
+-- A sum of the rows of a key leaves its type: the fold of what was given ends with a row of the key that has a value which isn't within it. It is told of the newest file that holds the key: it has given a row of it or has one at hand, and each newer one has given lesser keys alone, and has a greater one at hand or is at its end.
 pub record IsSumOf {R : Type 0} (bytes : R → Option (List ℕ)) (inputs : List (Input R)) (d : Damage) : Type 0 where
   pub cursors : List Cursor
   pub givens : List (List Row)

@@ -22,7 +22,7 @@ pub(crate) fn take_head(cursor: &Cursor, row: &mut Row) -> Result<(), AllocError
     row.fill(head)
 }
 
-// Combines the row at hand with an older one, where each sum keeps its bound; else the older one stays as it is.
+// Combines the row at hand with an older one, where no sum leaves its type; else the older one stays as it is.
 pub(crate) fn combine_head(cursor: &Cursor, aggs: &[Agg], row: &mut Row) -> bool
     requires old_full { length row.old.values ≡ length aggs.now }
     requires new_full { (head : AnyRow) × (rows : List AnyRow) × (at_hand cursor.now ≡ head ∷ rows) × (length head.values ≡ length aggs.now) }

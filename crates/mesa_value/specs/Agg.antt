@@ -23,7 +23,7 @@ IsNarrow value = FitsSigned w64 value
 abbrev pub sum_bound : ℕ
 sum_bound = 2 ^ 127
 
--- a sum that keeps the bound
+-- a sum that has 128 bits, so that it can be a value
 abbrev pub IsSum : ℤ → Type 0
 IsSum value = FitsSigned w128 value
 
@@ -34,7 +34,7 @@ IsOf Min value = IsNarrow value
 IsOf Max value = IsNarrow value
 IsOf Replace value = IsNarrow value
 
--- The two values have one together: a sum has to keep the bound.
+-- The two values have one together: a sum has to fit its type.
 abbrev pub Combines : Agg → ℤ → ℤ → Type 0
 Combines Sum old new = IsSum (old +ℤ new)
 Combines Min old new = ⊤

@@ -39,7 +39,7 @@ pub fn combine(agg: Agg, old: Amount, new: Amount) -> Amount
     }
 }
 
-/// Whether the two values have one together: a sum may leave its bound.
+/// Whether the two values have one together: a sum may leave its type.
 pub fn combines(agg: Agg, old: Amount, new: Amount) -> bool
     ensures { IsTrue result ↔ Combines agg old new }
 {

@@ -162,7 +162,7 @@ returns-then-not-more-clause-inputs g c = λ all.
     let inv = c.rows.invariant in
     (c.in-Ok.ensures.next (inv.poured start.0 start.1 start.2 start.3).1.going).inputs (inv.inputs all)
 
--- ---- a total that leaves its bound
+-- ---- a total that leaves its type
 
 pub returns-then-not-allows-clause-accepts : goal.returns-then-not-allows-clause-accepts
 returns-then-not-allows-clause-accepts g c = λ d e givens h taken put contents told bound.
@@ -202,7 +202,7 @@ returns-then-not-allows-clause-inputs g c = λ all.
     let inv = c.rows.invariant in
     (c.in-Ok.ensures.next (inv.poured start.0 start.1 start.2 start.3).1.going).inputs (inv.inputs all)
 
--- ---- a sum of a group that leaves its bound
+-- ---- a sum of a group that leaves its type
 
 pub returns-in-Err-put_all-clause-accepts : goal.returns-in-Err-put_all-clause-accepts
 returns-in-Err-put_all-clause-accepts g c = λ d e givens h taken put contents told bound.
