@@ -1,4 +1,4 @@
--- The bytes of a block of rows: each list of rows that makes a block has one spelling.
+-- The bytes of a block of rows: each list of rows that makes a block has one spelling in each format.
 use Rattle.std.specs.Prelude.{ℕ, ◌+◌, ◌-◌, pos, List, [], ◌∷◌, ◌++◌, length, map, take, drop, flat_map, get_or}
 use Rattle.std.specs.Int.{w16, to_be_bytes}
 use Rattle.std.specs.List.{concat}

@@ -1,4 +1,4 @@
-//! Blocks of rows as bytes: each list of rows that makes a block has one spelling.
+//! Blocks of rows as bytes: each list of rows that makes a block has one spelling in each format.
 #![tactic(auto)]
 
 mod builder;

@@ -1,4 +1,4 @@
--- The bytes of a record: each record has one spelling.
+-- The bytes of a record: each record has one spelling in each edition that has room for it.
 use Rattle.std.specs.Prelude.{ℕ, ℤ, List, [], ◌∷◌, ◌++◌, length, flat_map, Bool, true, false, Option, None, Some}
 use Rattle.std.specs.Int.{w16, w32, w64, w128, to_be_bytes, cast_unsigned}
 use Rattle.mesa_key.specs.declared.Format.{Format}
@@ -81,6 +81,7 @@ abbrev pub total : Edition → ℕ → List ℕ
 total First n = long n
 total Second n = wide n
 
+-- a format as a byte: its number
 abbrev pub format_byte : Format → ℕ
 format_byte format.One = 1
 format_byte format.Two = 2
@@ -90,13 +91,15 @@ abbrev pub format_field : Edition → Format → List ℕ
 format_field First format = []
 format_field Second format = format_byte format ∷ []
 
--- a reference to a file: its format, id, length, rows and blocks; its first and its last key; the aggregates and the digest
+-- a file's id, length, rows and blocks
 unfoldable pub file_sizes : FileRef → List ℕ
 file_sizes f = long f.id ++ (long f.len ++ (long f.rows ++ word f.blocks))
 
+-- a file's first and last key
 unfoldable pub file_keys : FileRef → List ℕ
 file_keys f = key f.first ++ key f.last
 
+-- a reference to a file: its format, id, length, rows and blocks; its first and its last key; the aggregates and the digest
 unfoldable pub file_ref : Edition → FileRef → List ℕ
 file_ref e f = format_field e f.format ++ (file_sizes f ++ (file_keys f ++ (counted (aggregate e) f.aggregates ++ f.digest)))
 

@@ -1,4 +1,4 @@
-//! Records of the journal and their bytes: each record has one spelling.
+//! Records of the journal and their bytes: each record has one spelling in each edition that has room for it.
 #![tactic(auto)]
 
 mod copies;
