@@ -26,13 +26,15 @@ width_of Two agg.Min = Eight
 width_of Two agg.Max = Eight
 width_of Two agg.Replace = Eight
 
+-- the widths of these value columns in a format
 abbrev pub widths_in : Format → List ValueColumn → List Width
 widths_in format columns = map (λ (c : ValueColumn). width_of format c.agg) columns
 
--- the widths of the value columns
+-- the widths of a layout's value columns
 abbrev pub widths_of : Layout → List Width
 widths_of l = widths_in l.format l.columns.values
 
+-- how many bytes a value of a width takes
 abbrev pub size_of : Width → ℕ
 size_of Eight = 8
 size_of Sixteen = 16

@@ -25,6 +25,7 @@ abbrev pub entries : Layout → ℕ → List (List Row) → List ℕ
 entries s offset [] = []
 entries s offset (rows ∷ blocks) = entry (short_key (first_key rows)) offset (block s rows) ++ entries s (offset + length (block s rows)) blocks
 
+-- a format's number as a digit
 abbrev pub format_digit : Format → ℕ
 format_digit One = 0x31
 format_digit Two = 0x32

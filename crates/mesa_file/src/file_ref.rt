@@ -6,6 +6,7 @@ use std::alloc::AllocError;
 /// All that is kept of a file of rows, to find it again and to tell whether it is whole.
 #[derive(Drop)]
 pub struct FileRef {
+    /// How its blocks spell sums: format 1 for files that records of the first edition name.
     pub format: Format,
     pub id: FileId,
     /// In bytes.

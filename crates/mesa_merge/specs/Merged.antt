@@ -20,7 +20,7 @@ failed_of m = m.failed
 abbrev pub hands_in : {R : Type 0} → Merge R → List (List Row)
 hands_in m = hands_of m.cursors.items
 
--- the row that was given last
+-- the row of the last `next` that answered true; after an Err it may be any row
 abbrev pub row_in : {R : Type 0} → Merge R → Row
 row_in m = m.row
 

@@ -80,7 +80,7 @@ impl<R: FileReader> Merge<R> {
         }
     }
 
-    /// The row that was given last.
+    /// The row of the last `next` that answered true. After an Err it may be any row.
     pub fn row(&self) -> LentRow<'_>
         ensures { lent result ≡ row_in self.now }
     {

@@ -167,6 +167,7 @@ abbrev pub total_at : Edition → Left → Read ℕ
 total_at First = long_at
 total_at Second = wide_at
 
+-- the format of a number
 abbrev pub format_of : ℕ → Option Format
 format_of b = if b == 1 then Some format.One else if b == 2 then Some format.Two else None
 

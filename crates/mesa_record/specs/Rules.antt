@@ -85,6 +85,7 @@ IsWord n = n < 2 ^ 32
 abbrev pub IsLong : ℕ → Type 0
 IsLong n = n < 2 ^ 64
 
+-- a total of absolute values has 128 bits
 abbrev pub IsTotal : ℕ → Type 0
 IsTotal n = n < 2 ^ 128
 
@@ -139,10 +140,12 @@ IsTyped (record_of.ExpireTable table version) = IsHalf table × IsWord version
 
 -- ---- what has room in an edition
 
+-- a file that the first edition names is of format 1, and its aggregates are numbers of 64 bits
 abbrev pub FitsRef : Edition → FileRef → Type 0
 FitsRef First f = (f.format ≡ format.One) × AllByRecursion IsNarrow f.aggregates
 FitsRef Second f = Unit {0}
 
+-- so is a view's file
 abbrev pub FitsView : Edition → ViewRef → Type 0
 FitsView e v = FitsRef e v.file
 
@@ -150,6 +153,7 @@ pub record FitsFiles (e : Edition) (f : Files) : Type 0 where
   pub file : FitsRef e f.file
   pub views : AllByRecursion (FitsView e) f.views
 
+-- totals have 64 bits in the first edition
 abbrev pub FitsTotals : Edition → List ℕ → Type 0
 FitsTotals First totals = AllByRecursion IsLong totals
 FitsTotals Second totals = Unit {0}

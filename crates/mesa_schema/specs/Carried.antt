@@ -37,6 +37,7 @@ abbrev pub IsTurnOf : Columns → Turn → Type 0
 IsTurnOf s (Changed change) = HasDefault change
 IsTurnOf s (Recasted r) = IsRecastOf s r
 
+-- what they say of turns, in order: each is one of the columns that those before it leave
 abbrev pub AreTurnsOf : Columns → List Turn → Type 0
 AreTurnsOf s [] = ⊤
 AreTurnsOf s (turn ∷ turns) = IsTurnOf s turn × AreTurnsOf (columns_then s turn) turns

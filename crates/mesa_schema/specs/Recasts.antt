@@ -20,10 +20,11 @@ pub record Recast : Type 0 where
   pub keys : List (List ℕ)
   pub values : List (List ℕ)
 
--- the places of its columns among the table's
+-- the places of its key columns among the table's
 abbrev pub recast_keys : Columns → Recast → List ℕ
 recast_keys s r = places_in (key_names s) r.keys
 
+-- the places of its value columns among the table's
 abbrev pub recast_values : Columns → Recast → List ℕ
 recast_values s r = places_in (value_names s) r.values
 
@@ -68,10 +69,12 @@ choice_refusal view.NameTwice = no.NameTwice
 choice_refusal (view.ReplaceInView column) = no.ReplaceGroup column
 choice_refusal view.Memory = no.Memory
 
+-- refused by a replace column that is asked for while a key column is left out
 abbrev pub refuse_left : Option ValueColumn → Result (Unit {0}) RecastError
 refuse_left None = Ok tt
 refuse_left (Some column) = Err (no.ReplaceGroup column.name)
 
+-- refused by a view that loses a column
 abbrev pub refuse_losing : Option View → Result (Unit {0}) RecastError
 refuse_losing None = Ok tt
 refuse_losing (Some v) = Err (no.InView v.name)

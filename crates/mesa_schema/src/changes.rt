@@ -48,7 +48,7 @@ pub enum ChangeError {
     /// The first view that uses the column.
     InView { view: Name },
     TooManyColumns,
-    /// The table has had 1,000 changes.
+    /// The table has had 1,000 changes and recasts.
     EpochsFull,
     Memory,
 }

@@ -24,7 +24,7 @@ pub fn signed(bytes: &[u8]) -> Option<i64>
     }
 }
 
-// The number that digits alone spell, where each step to it keeps far below 2 ^ 63.
+// The number that digits alone spell, where each step to it keeps below 2 ^ 63.
 fn small(bytes: &[u8]) -> Option<u64>
     ensures read { IfSome result (λ n. number_of bytes.now ≡ Some n) }
     ensures below { IfSome result (λ n. n < 2 ^ 63) }
@@ -59,7 +59,7 @@ fn parsed(bytes: &[u8]) -> Option<i64>
 pub fn amount(agg: Agg, bytes: &[u8]) -> Option<Amount>
     ensures { result ≡ amount_of agg bytes.now }
 {
-    // (most sums are small numbers too, which are read without std)
+    // Most sums are small numbers too, which are read without std.
     match (signed(bytes), agg) {
         (Some(number), _) => Some(Amount::from(number)),
         (None, Agg::Sum) => wide(bytes),

@@ -10,7 +10,7 @@ use Rattle.mesa_shelf.specs.declared.table.Table.{Table}
 use Rattle.mesa_shelf.specs.declared.ready.ReadyPart.{ReadyPart}
 use Rattle.mesa_shelf.specs.Meaning.{start_of_base}
 
--- what stands for files that aren't there
+-- what stands for files that aren't there; the format of one that isn't there is arbitrary
 abbrev no_files : Files
 no_files = record { file = record { format = format.Two; id = 0; len = 0; rows = 0; blocks = 0; first = []; last = []; aggregates = []; digest = [] }; views = [] }
 
