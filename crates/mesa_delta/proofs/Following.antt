@@ -1,4 +1,6 @@
 -- What a read block adds to what was read.
+use Rattle.std.specs.Prelude.{IfErr, IfOk, Result, Ok, Err, Vec}
+use Rattle.std.specs.declared.alloc.Global.{Global}
 use Rattle.std.proofs.Common.{◌≡◌, ◌⊎◌, inl, inr, ℕ, ◌<◌, List, [], ◌∷◌, ◌++◌, length, take, refl, sym, ap, subst, ◌∙◌, arith, Option, Some}
 use Rattle.mesa_disk.specs.mesa_file.declared.damage.Damage.{Damage}
 use Rattle.mesa_disk.specs.mesa_file.declared.damage.Seen.TheVariants as seen
@@ -64,3 +66,15 @@ none_left (p ∷ parts) e = absurd (omega arith)
 -- the first block is the only one behind none
 pub onto_none : {R : Type 0} (bytes : R → Option (List ℕ)) (new : DeltaReader R) (parts : List (List Row)) (part : List Row) → parts ≡ [] → HasRead bytes new (part ∷ []) → HasRead bytes new (parts ++ part ∷ [])
 onto_none bytes new parts part none h = subst (λ (l : List (List Row)). HasRead bytes new (l ++ part ∷ [])) (sym none) h
+
+-- what was read stays so where only what it reads from moves, and the buffer
+pub read_moved : {R : Type 0} (bytes : R → Option (List ℕ)) (old : DeltaReader R) (reader : R) (buffer : Vec ℕ Global) (parts : List (List Row)) → bytes reader ≡ bytes old.reader → HasRead bytes old parts → HasRead bytes (record old { reader = reader; bytes = buffer }) parts
+read_moved bytes old reader buffer parts same h = record { run = h.run; places = h.places; counted = h.counted; told = λ b at. h.told b (sym same ∙ at) }
+
+pub each_ok : {T E : Type 0} {P Q : T → Type 0} (r : Result T E) → ((x : T) → P x → Q x) → IfOk r P → IfOk r Q
+each_ok (Ok x) f h = f x h
+each_ok (Err e) f h = tt
+
+pub each_err : {T E : Type 0} {P Q : E → Type 0} (r : Result T E) → ((e : E) → P e → Q e) → IfErr r P → IfErr r Q
+each_err (Ok x) f h = tt
+each_err (Err e) f h = f e h

@@ -18,3 +18,4 @@ pub mod Accepting
 pub mod Following
 pub mod Bounding
 pub mod Once
+pub mod Waiting

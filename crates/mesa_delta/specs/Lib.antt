@@ -14,5 +14,6 @@ pub mod Writing
 pub mod Places
 pub mod Indexed
 pub mod Damages
+pub mod Ahead
 pub mod Packing
 pub mod Reading

@@ -1,6 +1,7 @@
 //! Delta files: rows in blocks, one after the other, and a tail by which blocks are found and checked.
 #![tactic(auto)]
 
+mod ahead;
 mod blocks;
 mod error;
 mod index;
@@ -15,6 +16,7 @@ mod tail;
 mod tally;
 mod writer;
 
+pub use ahead::Ahead;
 pub use error::{FileError, WriteError};
 pub use index::Index;
 pub use input::Input;

@@ -30,12 +30,16 @@ pub fn read_piece<R: FileReader>(
     Ok(())
 }
 
-/// Refuses bytes of another digest.
-pub fn check_digest(file: FileId, place: u64, digest: &[u8; 32], bytes: &[u8]) -> Result<(), Damage>
-    ensures ok { OnOk result (sha256 bytes.now ≡ digest.now) }
-    ensures err { IfErr result (λ d. IsWrongDigest file place digest.now bytes.now d) }
+/// Refuses a digest that isn't the recorded one.
+pub fn check_found(
+    file: FileId,
+    place: u64,
+    digest: &[u8; 32],
+    found: [u8; 32],
+) -> Result<(), Damage>
+    ensures ok { OnOk result (found ≡ digest.now) }
+    ensures err { IfErr result (λ d. (d ≡ record { file = file; place = place; want = Seen.Digest digest.now; found = Seen.Digest found }) × (found ≢ digest.now)) }
 {
-    let found = Sha256::digest(bytes);
     if found == *digest {
         return Ok(());
     }
@@ -45,6 +49,14 @@ pub fn check_digest(file: FileId, place: u64, digest: &[u8; 32], bytes: &[u8]) -
         want: Seen::Digest(*digest),
         found: Seen::Digest(found),
     })
+}
+
+/// Refuses bytes of another digest.
+pub fn check_digest(file: FileId, place: u64, digest: &[u8; 32], bytes: &[u8]) -> Result<(), Damage>
+    ensures ok { OnOk result (sha256 bytes.now ≡ digest.now) }
+    ensures err { IfErr result (λ d. IsWrongDigest file place digest.now bytes.now d) }
+{
+    check_found(file, place, digest, Sha256::digest(bytes))
 }
 
 /// Bytes of the right digest that aren't in the grammar.

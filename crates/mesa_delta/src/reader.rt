@@ -10,7 +10,8 @@ ghost use Rattle.mesa_block.specs.Spelling.{block};
 ghost use Rattle.mesa_schema.specs.Folded.{rows_of};
 ghost use Rattle.mesa_schema.specs.declared.rows.Row.{Row as AnyRow};
 ghost use Rattle.mesa_delta.specs.declared.error.FileError.TheVariants as file_error;
-ghost use Rattle.mesa_delta.specs.Damages.{IsPieceDamage, IsWrongLength};
+ghost use Rattle.mesa_delta.specs.Ahead.{AreOfFile};
+ghost use Rattle.mesa_delta.specs.Damages.{IsPiece, IsPieceDamage, IsWrongLength};
 ghost use Rattle.mesa_delta.specs.Indexed.{IsIndexOf, tail_length};
 ghost use Rattle.mesa_delta.specs.File.{IsFile};
 ghost use Rattle.mesa_delta.specs.Places.{entry_of, shorts_of};
@@ -20,14 +21,17 @@ ghost use Rattle.mesa_delta.specs.Spread.{blocks_of};
 ghost use Rattle.mesa_delta.specs.Summary.{IsReferenceOf};
 ghost use Rattle.mesa_delta.specs.Tail.{first_key};
 
-use crate::piece::{check_digest, misfit, read_piece};
+use crate::ahead::Ahead;
+use crate::piece::{check_digest, check_found, misfit, read_piece};
 use crate::run::Run;
 use crate::{FileError, Index, begins_before};
 use mesa_block::{Block, BlockError, fits_alone, grows_by_rows, read_block, reads_blocks};
 use mesa_disk::{Damage, FileId, FileReader, FileRef, Seen};
 use mesa_key::{Format, short};
 use mesa_schema::Schema;
+use sha2::{Digest, Sha256};
 use std::alloc::{AllocError, Global};
+use std::mem::replace;
 
 /// A file that is read block by block. The tail was read once, and a block is read by one read.
 pub struct DeltaReader<R> {
@@ -146,32 +150,53 @@ fn begins(rows: &Block, wanted: &[u8; 16]) -> bool
     short(rows.row(0).key) == *wanted
 }
 
-// A block, tested by itself, by one read.
-fn fetch<R: FileReader>(
-    alloc: Global,
+// The bytes of a block, by one read.
+pub(crate) fn read_block_bytes<R: FileReader>(
     reader: &mut R,
     index: &Index,
     i: u32,
     bytes: &mut Vec<u8>,
-) -> Result<Block, FileError>
+) -> Result<(), FileError>
     requires { i < length index.now.entries }
-    ensures block { IfOk result (λ rows. IsBlock index.now i rows) }
-    ensures told { IfOk result (λ rows. (b : List ℕ) → R.bytes reader.old ≡ Some b → piece_of index.now i b ≡ block index.now.layout rows) }
+    ensures piece { OnOk result (IsPiece (R.bytes reader.old) (entry_of index.now.entries i).offset (entry_of index.now.entries i).len bytes.new.items) }
     ensures bytes { R.bytes reader.new ≡ R.bytes reader.old }
     ensures size { R.size reader.new ≡ R.size reader.old }
     ensures reads { R.reads reader.new ≤ R.reads reader.old + 1 }
     ensures cause { HasFaultCause (λ e. e ≡ file_error.Read) (R.faults reader.old) (R.faults reader.new) result }
-    ensures damaged { IfErr result (λ e. (d : AnyDamage) → e ≡ file_error.Damaged d → IsWrongLength index.now.file index.now.len (R.size reader.old) d
-        ⊎ ((R.size reader.old ≡ index.now.len) × IsPieceDamage (R.bytes reader.old) index.now.file (entry_of index.now.entries i).offset (entry_of index.now.entries i).len (entry_of index.now.entries i).digest (IsNoBlock index.now i) d)) }
-    ensures sized { OnOk result (R.size reader.old ≡ index.now.len) }
+    ensures damaged { IfErr result (λ e. (d : AnyDamage) → e ≡ file_error.Damaged d → IsWrongLength index.now.file index.now.len (R.size reader.old) d) }
+{
+    let entry = index.entry(i);
+    if let Err(damage) = check_length(reader, index.file(), index.len()) {
+        return Err(FileError::Damaged(damage));
+    }
+    read_piece(reader, entry.offset, entry.len as u64, bytes)
+}
+
+// The block of these bytes, tested by itself.
+fn test<R: FileReader>(
+    alloc: Global,
+    reader: &R,
+    index: &Index,
+    i: u32,
+    bytes: &[u8],
+    digest: &[u8; 32],
+) -> Result<Block, FileError>
+    requires within { i < length index.now.entries }
+    requires piece { IsPiece (R.bytes reader.now) (entry_of index.now.entries i).offset (entry_of index.now.entries i).len bytes.now }
+    requires digest { digest.now ≡ sha256 bytes.now }
+    ensures block { IfOk result (λ rows. IsBlock index.now i rows) }
+    ensures told { IfOk result (λ rows. (b : List ℕ) → R.bytes reader.now ≡ Some b → piece_of index.now i b ≡ block index.now.layout rows) }
+    ensures unread { IfErr result (λ e. e ≢ file_error.Read) }
+    ensures damaged { IfErr result (λ e. (d : AnyDamage) → e ≡ file_error.Damaged d → IsWrongLength index.now.file index.now.len (R.size reader.now) d
+        ⊎ ((R.size reader.now ≡ index.now.len) × IsPieceDamage (R.bytes reader.now) index.now.file (entry_of index.now.entries i).offset (entry_of index.now.entries i).len (entry_of index.now.entries i).digest (IsNoBlock index.now i) d)) }
+    ensures sized { OnOk result (R.size reader.now ≡ index.now.len) }
 {
     fits_alone();
     let entry = index.entry(i);
     if let Err(damage) = check_length(reader, index.file(), index.len()) {
         return Err(FileError::Damaged(damage));
     }
-    read_piece(reader, entry.offset, entry.len as u64, bytes)?;
-    if let Err(damage) = check_digest(index.file(), entry.offset, &entry.digest, bytes) {
+    if let Err(damage) = check_found(index.file(), entry.offset, &entry.digest, *digest) {
         return Err(FileError::Damaged(damage));
     }
     match block_in(alloc, index.format(), index.schema(), &entry.short, bytes)? {
@@ -301,13 +326,90 @@ impl<R: FileReader> DeltaReader<R> {
         ensures accepts { IfErr result (λ e. (d : AnyDamage) → e ≡ file_error.Damaged d → (parts : List (List AnyRow)) → HasRead R.bytes self.old parts
             → (b : List ℕ) (all : List AnyRow) → R.bytes (reader_of self.old) ≡ Some b → IsIndexed (index_of self.old) all b → ⊥) }
     {
+        let alloc = self.index.allocator();
+        let mut bytes = replace(&mut self.bytes, Vec::new(alloc));
+        if let Err(error) = read_block_bytes(&mut self.reader, &self.index, i, &mut bytes) {
+            self.bytes = bytes;
+            return Err(error);
+        }
+        let digest = Sha256::digest(bytes.as_slice());
+        let block = self.accept(i, &bytes, &digest);
+        self.bytes = bytes;
+        block
+    }
+
+    /// A block as `block` gives it, from what was read ahead if it is the first that waits, else by one read.
+    pub fn take_block(&mut self, i: u32, file: usize, ahead: &mut Ahead) -> Result<Block, FileError>
+        requires within { i < length (index_of self.old).entries }
+        requires ahead { AreOfFile (R.bytes (reader_of self.old)) (index_of self.old) file ahead.old }
+        ensures taken { (ahead.new ≡ ahead.old) ⊎ (ahead.new ≡ drop 1 ahead.old) }
+
+        // The block is the one that the entry tells, read from the bytes at its place.
+        ensures block { IfOk result (λ rows. IsBlock (index_of self.old) i rows) }
+        ensures told { IfOk result (λ rows. (b : List ℕ) → R.bytes (reader_of self.old) ≡ Some b → piece_of (index_of self.old) i b ≡ block (index_of self.old).layout rows) }
+
+        // What was written is read again.
+        ensures again { IfOk result (λ rows. (b : List ℕ) (all : List AnyRow) → R.bytes (reader_of self.old) ≡ Some b → IsIndexed (index_of self.old) all b
+            → rows ≡ get_or (blocks_of (index_of self.old).layout all) i []) }
+
+        // Which blocks were read one after the other from the first on.
+        ensures first { IfOk result (λ rows. i ≡ 0 → HasRead R.bytes self.new (rows ∷ [])) }
+        ensures next { IfOk result (λ rows. (parts : List (List AnyRow)) → HasRead R.bytes self.old parts → i ≡ length parts → HasRead R.bytes self.new (parts ++ rows ∷ [])) }
+        ensures other { OnOk result ((parts : List (List AnyRow)) → HasRead R.bytes self.old parts → 0 < i → i ≢ length parts → HasRead R.bytes self.new parts) }
+
+        // Once all were, they are those of a file.
+        ensures whole { OnOk result ((parts : List (List AnyRow)) → HasRead R.bytes self.new parts → length parts ≡ length (index_of self.new).entries
+            → IsReaderOf R.bytes (reader_of self.new) (index_of self.new) → IsWhole (index_of self.new) (rows_of parts) (R.bytes (reader_of self.new))) }
+        ensures index { index_of self.new ≡ index_of self.old }
+        ensures bytes { R.bytes (reader_of self.new) ≡ R.bytes (reader_of self.old) }
+        ensures size { R.size (reader_of self.new) ≡ R.size (reader_of self.old) }
+        ensures reads { R.reads (reader_of self.new) ≤ R.reads (reader_of self.old) + 1 }
+        ensures err { OnErr result (self.new ≡ record self.old { reader = reader_of self.new; bytes = buffer_of self.new }) }
+
+        // Read comes where the count of faults rose, and Damaged where the file isn't the recorded one.
+        ensures cause { HasFaultCause (λ e. e ≡ file_error.Read) (R.faults (reader_of self.old)) (R.faults (reader_of self.new)) result }
+        ensures damaged { IfErr result (λ e. (d : AnyDamage) → e ≡ file_error.Damaged d → (parts : List (List AnyRow)) → HasRead R.bytes self.old parts → IsBlockDamage (R.bytes (reader_of self.old)) (R.size (reader_of self.old)) (index_of self.old) i parts d) }
+        ensures accepts { IfErr result (λ e. (d : AnyDamage) → e ≡ file_error.Damaged d → (parts : List (List AnyRow)) → HasRead R.bytes self.old parts
+            → (b : List ℕ) (all : List AnyRow) → R.bytes (reader_of self.old) ≡ Some b → IsIndexed (index_of self.old) all b → ⊥) }
+    {
+        let taken = match ahead.first(file, i) {
+            Some(block) => self.accept(i, block.bytes(), &block.digest()),
+            None => return self.block(i),
+        };
+        ahead.step();
+        taken
+    }
+
+    // Tests a block of these bytes and of this digest, by itself and behind those that were read.
+    fn accept(&mut self, i: u32, bytes: &[u8], digest: &[u8; 32]) -> Result<Block, FileError>
+        requires within { i < length (index_of self.old).entries }
+        requires piece { IsPiece (R.bytes (reader_of self.old)) (entry_of (index_of self.old).entries i).offset (entry_of (index_of self.old).entries i).len bytes.now }
+        requires digest { digest.now ≡ sha256 bytes.now }
+        ensures block { IfOk result (λ rows. IsBlock (index_of self.old) i rows) }
+        ensures told { IfOk result (λ rows. (b : List ℕ) → R.bytes (reader_of self.old) ≡ Some b → piece_of (index_of self.old) i b ≡ block (index_of self.old).layout rows) }
+        ensures again { IfOk result (λ rows. (b : List ℕ) (all : List AnyRow) → R.bytes (reader_of self.old) ≡ Some b → IsIndexed (index_of self.old) all b
+            → rows ≡ get_or (blocks_of (index_of self.old).layout all) i []) }
+        ensures first { IfOk result (λ rows. i ≡ 0 → HasRead R.bytes self.new (rows ∷ [])) }
+        ensures next { IfOk result (λ rows. (parts : List (List AnyRow)) → HasRead R.bytes self.old parts → i ≡ length parts → HasRead R.bytes self.new (parts ++ rows ∷ [])) }
+        ensures other { OnOk result ((parts : List (List AnyRow)) → HasRead R.bytes self.old parts → 0 < i → i ≢ length parts → HasRead R.bytes self.new parts) }
+        ensures whole { OnOk result ((parts : List (List AnyRow)) → HasRead R.bytes self.new parts → length parts ≡ length (index_of self.new).entries
+            → IsReaderOf R.bytes (reader_of self.new) (index_of self.new) → IsWhole (index_of self.new) (rows_of parts) (R.bytes (reader_of self.new))) }
+        ensures damaged { IfErr result (λ e. (d : AnyDamage) → e ≡ file_error.Damaged d → (parts : List (List AnyRow)) → HasRead R.bytes self.old parts → IsBlockDamage (R.bytes (reader_of self.old)) (R.size (reader_of self.old)) (index_of self.old) i parts d) }
+        ensures accepts { IfErr result (λ e. (d : AnyDamage) → e ≡ file_error.Damaged d → (parts : List (List AnyRow)) → HasRead R.bytes self.old parts
+            → (b : List ℕ) (all : List AnyRow) → R.bytes (reader_of self.old) ≡ Some b → IsIndexed (index_of self.old) all b → ⊥) }
+        ensures reader { reader_of self.new ≡ reader_of self.old }
+        ensures index { index_of self.new ≡ index_of self.old }
+        ensures buffer { buffer_of self.new ≡ buffer_of self.old }
+        ensures err { OnErr result (self.new ≡ self.old) }
+        ensures unread { IfErr result (λ e. e ≢ file_error.Read) }
+    {
         told_sizes(&self.reader);
         fits_alone();
         grows_by_rows();
         reads_blocks();
         let _blocks = self.index.blocks();
         let alloc = self.index.allocator();
-        let block = match fetch(alloc, &mut self.reader, &self.index, i, &mut self.bytes) {
+        let block = match test(alloc, &self.reader, &self.index, i, bytes, digest) {
             Ok(block) => block,
             Err(error) => return Err(error),
         };

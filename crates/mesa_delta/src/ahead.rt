@@ -1,0 +1,275 @@
+// Blocks that are read before they are tested, so that their digests are taken side by side.
+ghost use Rattle.std.specs.Prelude.{◌≡◌, ◌<◌, ◌≤◌, ◌+◌, ◌↔◌, [], ◌∷◌, ◌++◌, List, length, drop, OnOk, OnErr, IfOk, IfSome, IsTrue, true, false};
+ghost use Rattle.sha2.specs.Sha256.{sha256};
+ghost use Rattle.mesa_disk.specs.mesa_fault.Causes.{HasCause, HasFaultCause};
+ghost use Rattle.mesa_delta.specs.declared.error.FileError.TheVariants as file_error;
+ghost use Rattle.mesa_delta.specs.Ahead.{IsOfFile, Untested as AnyUntested};
+ghost use Rattle.mesa_delta.specs.Reading.{index_of, reader_of};
+
+use crate::reader::read_block_bytes;
+use crate::{DeltaReader, FileError};
+use mesa_digests::digests;
+use mesa_disk::{FileReader, ReadFailed};
+use sha2::{Digest, Sha256};
+use std::alloc::{AllocError, Global};
+use std::marker::Model;
+
+/// How many blocks are read ahead, for as many digests are taken side by side.
+const MOST_AHEAD: usize = 4;
+
+/// A block's bytes as they were read.
+#[derive(Drop)]
+pub(crate) struct Untested {
+    file: usize,
+    block: u32,
+    bytes: Vec<u8>,
+    // The SHA-256 of the bytes, once it was taken.
+    digest: Option<[u8; 32]>,
+}
+
+impl Model for Untested {
+    ghost use Rattle.std.specs.Prelude.{◌≡◌, IfSome};
+    ghost use Rattle.sha2.specs.Sha256.{sha256};
+    ghost use Rattle.mesa_delta.specs.Ahead.{Untested};
+
+    ghost Value = { Untested };
+
+    ghost view = { λ u. record { file = u.file; block = u.block; bytes = u.bytes.items } };
+
+    ghost invariant = { λ u. IfSome u.digest (λ d. d ≡ sha256 u.bytes.items) };
+}
+
+impl Untested {
+    // No bytes.
+    fn empty(alloc: Global) -> Self {
+        Untested {
+            file: 0,
+            block: 0,
+            bytes: Vec::new(alloc),
+            digest: None,
+        }
+    }
+
+    // Reads a block in place of what is there.
+    fn fill<R: FileReader>(
+        &mut self,
+        file: usize,
+        reader: &mut DeltaReader<R>,
+        block: u32,
+    ) -> Result<(), FileError>
+        requires { block < length (index_of reader.old).entries }
+        ensures file { OnOk result (self.new.file ≡ file) }
+        ensures read { OnOk result (IsOfFile (R.bytes (reader_of reader.old)) (index_of reader.old) self.new) }
+        ensures reader { reader.new ≡ record reader.old { reader = reader_of reader.new } }
+        ensures bytes { R.bytes (reader_of reader.new) ≡ R.bytes (reader_of reader.old) }
+        ensures size { R.size (reader_of reader.new) ≡ R.size (reader_of reader.old) }
+        ensures reads { R.reads (reader_of reader.new) ≤ R.reads (reader_of reader.old) + 1 }
+        ensures cause { HasFaultCause (λ e. e ≡ file_error.Read) (R.faults (reader_of reader.old)) (R.faults (reader_of reader.new)) result }
+    {
+        self.digest = None;
+        read_block_bytes(&mut reader.reader, &reader.index, block, &mut self.bytes)?;
+        self.file = file;
+        self.block = block;
+        Ok(())
+    }
+
+    /// Whether these are the bytes of a block of the file of a place.
+    fn is_of(&self, file: usize, block: u32) -> bool
+        ensures file { IsTrue result → self.now.file ≡ file }
+        ensures block { IsTrue result → self.now.block ≡ block }
+    {
+        self.file == file && self.block == block
+    }
+
+    /// The bytes.
+    pub(crate) fn bytes(&self) -> &[u8]
+        ensures { result.now ≡ self.now.bytes }
+    {
+        &self.bytes
+    }
+
+    /// The digest of the bytes.
+    pub(crate) fn digest(&self) -> [u8; 32]
+        ensures { result ≡ sha256 self.now.bytes }
+    {
+        match self.digest {
+            Some(digest) => digest,
+            None => Sha256::digest(self.bytes.as_slice()),
+        }
+    }
+
+    // Keeps the digest of the bytes.
+    fn keep(&mut self, digest: [u8; 32])
+        requires { digest ≡ sha256 self.old.bytes }
+        ensures { self.new ≡ self.old }
+    {
+        self.digest = Some(digest);
+    }
+}
+
+/// Blocks that were read ahead, of one file or of several, at most four. Each is taken once, in the order in which they were read, and nothing of it is believed before it is tested then.
+///
+/// A file is known by its place among those that are read. The buffers stay for the next blocks.
+#[derive(Drop)]
+pub struct Ahead {
+    slots: Vec<Untested>,
+    // How many slots are filled, and how many of these were taken.
+    filled: usize,
+    taken: usize,
+}
+
+impl Model for Ahead {
+    ghost use Rattle.std.specs.Prelude.{◌≤◌, List, length, take, drop};
+    ghost use Rattle.mesa_delta.specs.Ahead.{Untested};
+
+    ghost Value = { List Untested };
+
+    ghost view = { λ a. drop a.taken (take a.filled a.slots.items) };
+
+    ghost invariant = { λ a. (a.taken ≤ a.filled) × (a.filled ≤ length a.slots.items) };
+}
+
+impl Ahead {
+    /// Nothing.
+    pub fn new(alloc: Global) -> Self
+        ensures { result ≡ [] }
+    {
+        Ahead {
+            slots: Vec::new(alloc),
+            filled: 0,
+            taken: 0,
+        }
+    }
+
+    /// Whether nothing waits.
+    pub fn is_empty(&self) -> bool
+        ensures { IsTrue result ↔ (self.now ≡ []) }
+    {
+        self.taken == self.filled
+    }
+
+    /// Whether no more may be read ahead.
+    pub fn is_full(&self) -> bool {
+        self.filled - self.taken >= MOST_AHEAD
+    }
+
+    /// Reads a block of the file of this place, by one read, and says whether it did. It isn't tested yet. A file of another length than the recorded one and want of memory are left to who takes the block.
+    pub fn read<R: FileReader>(
+        &mut self,
+        file: usize,
+        reader: &mut DeltaReader<R>,
+        block: u32,
+    ) -> Result<bool, ReadFailed>
+        requires { block < length (index_of reader.old).entries }
+
+        // One block more waits, read from the bytes at its place.
+        ensures more { IfOk result (λ read. read ≡ true → (u : AnyUntested) × (self.new ≡ self.old ++ u ∷ []) × (u.file ≡ file) × IsOfFile (R.bytes (reader_of reader.old)) (index_of reader.old) u) }
+        ensures same { IfOk result (λ read. read ≡ false → self.new ≡ self.old) }
+        ensures err { OnErr result (self.new ≡ self.old) }
+
+        // Of the reader only what it reads from moved.
+        ensures reader { reader.new ≡ record reader.old { reader = reader_of reader.new } }
+        ensures bytes { R.bytes (reader_of reader.new) ≡ R.bytes (reader_of reader.old) }
+        ensures size { R.size (reader_of reader.new) ≡ R.size (reader_of reader.old) }
+        ensures reads { R.reads (reader_of reader.new) ≤ R.reads (reader_of reader.old) + 1 }
+        ensures cause { HasCause (R.faults (reader_of reader.old)) (R.faults (reader_of reader.new)) result }
+    {
+        self.rewind();
+        if self.filled == self.slots.len() {
+            let slot = Untested::empty(*self.slots.allocator());
+            if self.slots.push(slot).is_err() {
+                return Ok(false);
+            }
+        }
+        match self.slots[self.filled].fill(file, reader, block) {
+            Ok(()) => {
+                self.filled += 1;
+                Ok(true)
+            }
+            Err(FileError::Read) => Err(ReadFailed),
+            Err(_) => Ok(false),
+        }
+    }
+
+    // Begins with the first slot again where nothing waits.
+    fn rewind(&mut self)
+        ensures { self.new ≡ self.old }
+    {
+        if self.taken == self.filled {
+            self.taken = 0;
+            self.filled = 0;
+        }
+    }
+
+    /// Takes the digests of what waits side by side, where that is less work than one by one. Where memory is short, each is taken when its block is.
+    pub fn digest(&mut self)
+        ensures { self.new ≡ self.old }
+    {
+        let alloc = *self.slots.allocator();
+        let _taken = take_digests(alloc, &mut self.slots[self.taken..self.filled]);
+    }
+
+    /// The first that waits, if it is this block.
+    pub(crate) fn first(&self, file: usize, block: u32) -> Option<&Untested>
+        ensures first { IfSome result (λ u. (rest : List AnyUntested) × (self.now ≡ u.now ∷ rest)) }
+        ensures file { IfSome result (λ u. u.now.file ≡ file) }
+        ensures block { IfSome result (λ u. u.now.block ≡ block) }
+    {
+        if self.taken == self.filled {
+            return None;
+        }
+        let first = &self.slots[self.taken];
+        if !first.is_of(file, block) {
+            return None;
+        }
+        Some(first)
+    }
+
+    /// The first that waits was taken.
+    pub(crate) fn step(&mut self)
+        ensures { self.new ≡ drop 1 self.old }
+    {
+        if self.taken < self.filled {
+            self.taken += 1;
+        }
+    }
+}
+
+// Takes the digests of two to four blocks side by side, where that is less work than one by one.
+fn take_digests(alloc: Global, blocks: &mut [Untested]) -> Result<(), AllocError>
+    ensures { blocks.new ≡ blocks.old }
+{
+    if blocks.len() < 2 || !gains(blocks) {
+        return Ok(());
+    }
+    let last = blocks.len() - 1;
+    let four = digests(
+        alloc,
+        blocks[0].bytes(),
+        blocks[1].bytes(),
+        blocks[last.min(2)].bytes(),
+        blocks[last.min(3)].bytes(),
+    )?;
+    blocks[0].keep(four.a);
+    blocks[1].keep(four.b);
+    if last >= 2 {
+        blocks[2].keep(four.c);
+    }
+    if last >= 3 {
+        blocks[3].keep(four.d);
+    }
+    Ok(())
+}
+
+// Whether digests side by side are less work: as long as the shortest block lasts they cost as much as two, and what is left of a longer one twice as much as it would alone.
+fn gains(blocks: &[Untested]) -> bool {
+    let mut all: usize = 0;
+    let mut least = usize::MAX;
+    for block in blocks {
+        let len = block.bytes().len();
+        all = all.saturating_add(len);
+        least = least.min(len);
+    }
+    let left = all.saturating_sub(least.saturating_mul(blocks.len()));
+    least.saturating_add(left).saturating_mul(2) <= all
+}
