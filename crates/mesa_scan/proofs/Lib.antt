@@ -4,3 +4,4 @@ pub mod Skipping
 pub mod Going
 pub mod Onwards
 pub mod Chosen
+pub mod Moving

@@ -1,19 +1,22 @@
 // An input scanned block by block.
-ghost use Rattle.std.specs.Prelude.{◌≡◌, ◌<◌, ◌≤◌, ◌+◌, ◌++◌, ◌↔◌, [], List, length, IfOk, OnOk, OnErr, IfErr, IsTrue};
-ghost use Rattle.mesa_fault.specs.Causes.{HasFaultCause};
+ghost use Rattle.std.specs.Prelude.{◌≡◌, ◌<◌, ◌≤◌, ◌+◌, ◌++◌, ◌↔◌, [], List, length, IfOk, OnOk, OnErr, IfErr, IsTrue, Some, slice_get};
+ghost use Rattle.mesa_fault.specs.Causes.{HasCause, HasFaultCause};
 ghost use Rattle.mesa_file.specs.declared.damage.Damage.{Damage as AnyDamage};
 ghost use Rattle.mesa_schema.specs.declared.rows.Row.{Row as AnyRow};
 ghost use Rattle.mesa_delta.specs.declared.error.FileError.TheVariants as file_error;
+ghost use Rattle.mesa_delta.specs.Ahead.{AreAhead, AreOfFile, Told as AnyTold};
 ghost use Rattle.mesa_delta.specs.Reading.{index_of};
 ghost use Rattle.mesa_cursor.specs.Cursors.{IsInput, IsSameInput, reader_in};
 ghost use Rattle.mesa_scan.specs.Damaged.{IsDamaged};
+ghost use Rattle.mesa_scan.specs.Moving.{moved_to, told_in};
 ghost use Rattle.mesa_scan.specs.Scanning.{HasScanned, IsFilterOf, filter_of, next_of, read_of};
 
+use crate::ahead::read_on;
 use crate::allowing::may_have;
 use crate::matching::{Matching, matching_in};
 use mesa_block::fits_alone;
-use mesa_delta::{FileError, Input, keys_between};
-use mesa_disk::FileReader;
+use mesa_delta::{Ahead, FileError, Input, keys_between};
+use mesa_disk::{FileReader, ReadFailed};
 use mesa_filter::Filter;
 use mesa_key::reads_back;
 use mesa_schema::{Lift, lifts_to_present};
@@ -109,5 +112,84 @@ impl<'a> Scan<'a> {
         self.blocks_read += 1;
         self.next += 1;
         Ok(rows)
+    }
+
+    /// Goes on by a block as `block` does: the first that waits, or else it is read. Where none waits, those behind it are read ahead. The input is known by its place among those that are scanned.
+    pub fn next_block<R: FileReader>(
+        &mut self,
+        input: &mut Input<R>,
+        place: usize,
+        ahead: &mut Ahead,
+    ) -> Result<Matching, FileError>
+        requires scanning { (given : List AnyRow) × HasScanned R.bytes input.old self.old given }
+        requires left { next_of self.old < length (index_of input.old.reader).entries }
+        requires ahead { AreOfFile (R.bytes (reader_in input.old)) (index_of input.old.reader) place ahead.old }
+        ensures more { IfOk result (λ more. (given : List AnyRow) → HasScanned R.bytes input.old self.old given → HasScanned R.bytes input.new self.new (given ++ more)) }
+        ensures next { OnOk result (next_of self.new ≡ next_of self.old + 1) }
+        ensures filter { filter_of self.new ≡ filter_of self.old }
+        ensures stays { OnErr result (self.new ≡ self.old) }
+
+        // What waits is of this input, or waited before.
+        ensures own { AreOfFile (R.bytes (reader_in input.old)) (index_of input.old.reader) place ahead.new }
+        ensures ahead { (files : List AnyTold) → slice_get files place ≡ Some (told_in R.bytes input.old) → AreAhead files ahead.old → AreAhead files ahead.new }
+
+        // The input stays one, of the same file.
+        ensures input { IsInput R.bytes input.new }
+        ensures same { IsSameInput R.bytes input.old input.new }
+        ensures size { R.size (reader_in input.new) ≡ R.size (reader_in input.old) }
+
+        // Read comes where the count of faults rose, and Damaged where the file isn't the recorded one.
+        ensures cause { HasFaultCause (λ e. e ≡ file_error.Read) (R.faults (reader_in input.old)) (R.faults (reader_in input.new)) result }
+        ensures damaged { IfErr result (λ e. (d : AnyDamage) → e ≡ file_error.Damaged d → IsDamaged R.bytes R.size input.old d) }
+    {
+        fits_alone();
+        keys_between();
+        lifts_to_present();
+        reads_back();
+        let _columns = input.evolving.present();
+        let index = input.reader.index();
+        let _blocks = index.blocks();
+        if !may_have(self.filter, self.columns, index, self.next) {
+            self.next += 1;
+            return Ok(Matching::none(self.alloc));
+        }
+        self.fill(input, place, ahead)?;
+        let block = match input.reader.take_block(self.next, place, ahead) {
+            Ok(block) => block,
+            Err(error) => return Err(error),
+        };
+        let rows = matching_in(self.alloc, self.filter, block.lifted(&self.lift)?)?;
+        self.blocks_read += 1;
+        self.next += 1;
+        Ok(rows)
+    }
+
+    // Reads ahead from the next block on, where none waits.
+    fn fill<R: FileReader>(
+        &self,
+        input: &mut Input<R>,
+        place: usize,
+        ahead: &mut Ahead,
+    ) -> Result<(), ReadFailed>
+        ensures own { AreOfFile (R.bytes (reader_in input.old)) (index_of input.old.reader) place ahead.old → AreOfFile (R.bytes (reader_in input.old)) (index_of input.old.reader) place ahead.new }
+        ensures ahead { (files : List AnyTold) → slice_get files place ≡ Some (told_in R.bytes input.old) → AreAhead files ahead.old → AreAhead files ahead.new }
+        ensures input { input.new ≡ moved_to (reader_in input.new) input.old }
+        ensures bytes { R.bytes (reader_in input.new) ≡ R.bytes (reader_in input.old) }
+        ensures size { R.size (reader_in input.new) ≡ R.size (reader_in input.old) }
+        ensures cause { HasCause (R.faults (reader_in input.old)) (R.faults (reader_in input.new)) result }
+    {
+        if !ahead.is_empty() {
+            return Ok(());
+        }
+        read_on(
+            input,
+            place,
+            Some(self.filter),
+            self.columns,
+            self.next,
+            ahead,
+        )?;
+        ahead.digest();
+        Ok(())
     }
 }
