@@ -1,39 +1,76 @@
--- A batch of gathered rows.
-use Rattle.std.proofs.Common.{◌≡◌, ℕ, List, [], ◌∷◌, length, map, sym, ◌∙◌, ap}
-use Rattle.std.specs.Prelude.{slice_index_or, nat_abs, pos}
-use Rattle.std.specs.Map.{keys_of}
-use Rattle.std.specs.List.Sorted.{IsStrictlySortedBy}
+-- A batch of rows in their order.
+use Rattle.std.proofs.Common.{◌≡◌, ℕ, zero, suc, ◌<◌, List, [], ◌∷◌, length, map, get_or, refl, sym, ◌∙◌, ap, subst, arith, None, Some}
+use Rattle.std.specs.Prelude.{◌==◌, filter, option_map, slice_get, slice_index_or}
+use Rattle.std.specs.List.{All, range_with_len}
+use Rattle.std.specs.List.Sorted.{IsPermutation, IsStrictlySortedBy}
+use Rattle.std.proofs.lemmas.List.{length-map}
+use Rattle.std.proofs.lemmas.Option.{slice_get-get_or, slice_get-map}
+use Rattle.std.proofs.lemmas.List.Elements.{All-from_get_or}
+use Rattle.std.proofs.lemmas.List.FromFn.{fill_by_all}
+use Rattle.std.proofs.lemmas.List.Sorted.{IsPermutation-map}
 use Rattle.mesa_value.specs.declared.Agg.{Agg}
 use Rattle.mesa_schema.specs.declared.rows.Row.{Row}
-use Rattle.mesa_schema.specs.Columns.{Columns, aggs_of}
+use Rattle.mesa_schema.specs.Columns.{Columns}
 use Rattle.mesa_schema.specs.Folded.{folded}
 use Rattle.mesa_batch.specs.Batch.{Placed, rows_for}
+use Rattle.mesa_batch.specs.Flat.{IsFirstTwice, placed_at, placed_cmp, rows_over}
 use Rattle.mesa_batch.specs.Gathered.{Batched, rows_at}
-use Rattle.mesa_batch.specs.Kept.{AreCounted, gathered_rows, kept_rows, place_cmp}
-use Rattle.mesa_batch.specs.Totals.{abs_total, abs_totals, sum_places}
-use Rattle.mesa_batch.proofs.InOrder.{length-in_order}
-use Rattle.mesa_batch.proofs.Entries.{Entries, numbered, one_each}
-use Rattle.mesa_batch.proofs.KeptRows.{kept-fold, kept-folded, kept-weight}
+use Rattle.mesa_batch.specs.Totals.{abs_totals}
+use Rattle.mesa_batch.proofs.Reordered.{filter_map, sorted-fold, sorted-folded, sorted-totals}
+use Rattle.mesa_batch.proofs.Twice.{IsOrder, in_range, strict_order}
 
--- the batch has each table's kept rows
-abbrev pub Has : Entries → Batched → Type 0
-Has es b = (table : ℕ) → rows_at table b ≡ kept_rows table es
+-- the rows of all tables in their order
+abbrev in_order : List Placed → List ℕ → List Placed
+in_order rows order = map (placed_at rows) order
 
-pub finished-rows : (es : Entries) (b : Batched) (rows : List Placed) (count table : ℕ) (aggs : List Agg) → Has es b → AreCounted count es → IsStrictlySortedBy place_cmp (keys_of es) → gathered_rows es ≡ rows
-    → rows_at table b ≡ folded aggs (rows_for table rows ∷ [])
-finished-rows es b rows count table aggs has counted sorted same = has table ∙ sym (kept-folded count table aggs es counted sorted) ∙ ap (λ rs. folded aggs (rows_for table rs ∷ [])) same
+reordered : (rows : List Placed) (order : List ℕ) → IsOrder rows order → IsPermutation rows (in_order rows order)
+reordered rows order ordered =
+    let all : rows ≡ map (placed_at rows) (range_with_len 0 (length rows)) = fill_by_all (placed_at rows) rows (length rows) (record { table = 0; row = record { key = []; values = [] } }) refl (λ k h. refl) in
+    subst (λ l. IsPermutation l (in_order rows order)) (sym all) (IsPermutation-map (placed_at rows) (range_with_len 0 (length rows)) order ordered.0)
 
-pub finished-fold : (es : Entries) (b : Batched) (table : ℕ) (aggs : List Agg) → Has es b → IsStrictlySortedBy place_cmp (keys_of es) → folded aggs (rows_at table b ∷ []) ≡ rows_at table b
-finished-fold es b table aggs has sorted = ap (λ rs. folded aggs (rs ∷ [])) (has table) ∙ kept-fold table aggs es sorted ∙ sym (has table)
+mapped-at : (rows : List Placed) (tables : List (List ℕ)) (table : ℕ) → get_or (map (rows_over rows) tables) table [] ≡ rows_over rows (get_or tables table [])
+mapped-at rows [] table = refl
+mapped-at rows (places ∷ tables) zero = refl
+mapped-at rows (places ∷ tables) (suc table) = mapped-at rows tables table
 
-same_totals : (s : Columns) (xs ys : List Row) → ((column : ℕ) → abs_total column xs ≡ abs_total column ys) → abs_totals s xs ≡ abs_totals s ys
-same_totals s xs ys same = λ i. map (λ column. same column i) (sum_places 0 (aggs_of s))
+rows-again : (rows : List Placed) (places : List ℕ) → rows_over rows places ≡ map (λ (p : Placed). p.row) (in_order rows places)
+rows-again rows [] = refl
+rows-again rows (place ∷ places) = ap (λ l. (placed_at rows place).row ∷ l) (rows-again rows places)
 
-pub finished-totals : (es : Entries) (b : Batched) (rows : List Placed) (count table : ℕ) (s : Columns) → Has es b → AreCounted count es → gathered_rows es ≡ rows → abs_totals s (rows_at table b) ≡ abs_totals s (rows_for table rows)
-finished-totals es b rows count table s has counted same =
-    ap (abs_totals s) (has table)
-    ∙ same_totals s (kept_rows table es) (rows_for table (gathered_rows es)) (λ column. sym (kept-weight (λ (row : Row). nat_abs (slice_index_or row.values column (pos 0))) count table es counted))
-    ∙ ap (λ rs. abs_totals s (rows_for table rs)) same
+-- the row of a table at a place
+pub row_there : (rows : List Placed) (tables : List (List ℕ)) (table place : ℕ) (places : List ℕ) → places ≡ slice_index_or tables table [] → place < length (slice_index_or (map (rows_over rows) tables) table [])
+    → slice_get (slice_index_or (map (rows_over rows) tables) table []) place ≡ Some ((placed_at rows (get_or places place 0)).row)
+row_there rows tables table place places e h =
+    let row : ℕ → Row = λ place. (placed_at rows place).row in
+    let whole : get_or (map (rows_over rows) tables) table [] ≡ rows_over rows places = mapped-at rows tables table ∙ ap (rows_over rows) (sym e) in
+    let within : place < length places = omega (arith, h, ap length whole, length-map places row) in
+    ap (λ l. slice_get l place) whole ∙ slice_get-map row places place ∙ ap (option_map row) (slice_get-get_or places place 0 within)
 
-pub finished-count : (es : Entries) (rows : List Placed) (tables : ℕ) → AreCounted tables es → gathered_rows es ≡ rows → length es ≡ length rows
-finished-count es rows tables counted same = sym (length-in_order (length es) (numbered es) (one_each tables es counted)) ∙ ap length same
+-- the places of each table's rows, in this order
+abbrev pub AreParts : List Placed → List ℕ → List (List ℕ) → Type 0
+AreParts rows order tables = (table : ℕ) → slice_index_or tables table [] ≡ filter (λ place. (placed_at rows place).table == table) order
+
+module _ (rows : List Placed) (order : List ℕ) (tables : List (List ℕ)) (b : Batched) (ordered : IsOrder rows order) (first : IsFirstTwice rows order (length order) None) (parts : AreParts rows order tables) (made : b.tables ≡ map (rows_over rows) tables) where
+  strict : IsStrictlySortedBy placed_cmp (in_order rows order)
+  strict = strict_order rows order ordered first
+
+  has : (table : ℕ) → rows_at table b ≡ rows_for table (in_order rows order)
+  has table =
+      ap (λ (l : List (List Row)). slice_index_or l table []) made
+      ∙ mapped-at rows tables table
+      ∙ ap (rows_over rows) (parts table)
+      ∙ rows-again rows (filter (λ place. (placed_at rows place).table == table) order)
+      ∙ ap (map (λ (p : Placed). p.row)) (sym (filter_map (placed_at rows) (λ (p : Placed). p.table == table) order))
+
+  pub finished-rows : (table : ℕ) (aggs : List Agg) → rows_at table b ≡ folded aggs (rows_for table rows ∷ [])
+  finished-rows table aggs = has table ∙ sym (sorted-folded table aggs rows (in_order rows order) (reordered rows order ordered) strict)
+
+  pub finished-fold : (table : ℕ) (aggs : List Agg) → folded aggs (rows_at table b ∷ []) ≡ rows_at table b
+  finished-fold table aggs = ap (λ rs. folded aggs (rs ∷ [])) (has table) ∙ sorted-fold table aggs (in_order rows order) strict ∙ sym (has table)
+
+  pub finished-totals : (table : ℕ) (s : Columns) → abs_totals s (rows_at table b) ≡ abs_totals s (rows_for table rows)
+  finished-totals table s = ap (abs_totals s) (has table) ∙ sorted-totals s table rows (in_order rows order) (reordered rows order ordered)
+
+-- each row's table is there
+pub parts-there : (count : ℕ) (rows : List Placed) (order : List ℕ) → IsOrder rows order → All (λ (p : Placed). p.table < count) rows → All (λ place. (placed_at rows place).table < count) order
+parts-there count rows order ordered all = All-from_get_or (λ place. (placed_at rows place).table < count) order 0 (λ k h. all (get_or order k 0) _ (in_range rows order ordered k h))

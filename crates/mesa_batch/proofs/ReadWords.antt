@@ -10,11 +10,10 @@ use Rattle.mesa_schema.specs.Columns.{Columns, place_of}
 use Rattle.mesa_schema.specs.Changes.{Lineage, columns_of}
 use Rattle.mesa_batch.specs.declared.words.RowWords.{RowWords}
 use Rattle.mesa_batch.specs.declared.words.BatchError.{BatchError}
-use Rattle.mesa_batch.specs.declared.words.BatchError.TheVariants.{NoTable, BadRow, DuplicateKey}
+use Rattle.mesa_batch.specs.declared.words.BatchError.TheVariants.{NoTable, BadRow}
 use Rattle.mesa_batch.specs.Batch.{Named, Placed, columns_at, is_at, placed_of, refuse_twice, row_of}
-use Rattle.mesa_batch.specs.Gathered.{with_row}
+use Rattle.mesa_batch.specs.Gathered.{read_of, with_row}
 use Rattle.mesa_batch.specs.Glance.{Known, Sight, names_in, tables_of}
-use Rattle.mesa_batch.specs.Kept.{read_of}
 
 names_of : (tables : List Known) → map (λ (n : Named). n.name) (map (λ (t : Known). record { name = t.name; columns = columns_of t.lineage }) tables) ≡ map (λ (t : Known). t.name) tables
 names_of [] = refl
@@ -59,7 +58,7 @@ then-then (Ok x) f g = refl
 then-then (Err e) f g = refl
 
 -- what is read, and then its key
-abbrev key_checked : List Placed → Placed → Result Placed BatchError
+abbrev pub key_checked : List Placed → Placed → Result Placed BatchError
 key_checked before placed = refuse_twice (position (is_at placed.table placed.row.key) before) (length before + 1) >> Ok placed
 
 pub placed_read : (tables : List Named) (before : List Placed) (words : RowWords) → placed_of tables before words ≡ (read_of tables (length before + 1) words >>= key_checked before)
@@ -72,14 +71,8 @@ placed_read tables before words =
 
 -- a row that can't be read is refused
 pub row_unread : (tables : List Named) (before : List Placed) (words : RowWords) (e : BatchError) → read_of tables (length before + 1) words ≡ Err e → with_row tables before words ≡ Err e
-row_unread tables before words e h = rw (placed_read tables before words, h) refl
+row_unread tables before words e h = rw h refl
 
--- one whose key stands is refused
-pub row_twice : (tables : List Named) (before : List Placed) (words : RowWords) (placed : Placed) (place : ℕ) → read_of tables (length before + 1) words ≡ Ok placed → position (is_at placed.table placed.row.key) before ≡ Some place
-    → with_row tables before words ≡ Err (DuplicateKey (place + 1) (length before + 1))
-row_twice tables before words placed place h k = rw (placed_read tables before words, h, k) refl
-
--- and another one is kept
-pub row_kept : (tables : List Named) (before : List Placed) (words : RowWords) (placed : Placed) → read_of tables (length before + 1) words ≡ Ok placed → position (is_at placed.table placed.row.key) before ≡ None
-    → with_row tables before words ≡ Ok (before ++ placed ∷ [])
-row_kept tables before words placed h k = rw (placed_read tables before words, h, k) refl
+-- and another one stands at the end
+pub row_kept : (tables : List Named) (before : List Placed) (words : RowWords) (placed : Placed) → read_of tables (length before + 1) words ≡ Ok placed → with_row tables before words ≡ Ok (before ++ placed ∷ [])
+row_kept tables before words placed h = rw h refl

@@ -26,7 +26,7 @@ use Rattle.mesa_batch.specs.declared.words.RowWords.{RowWords}
 use Rattle.mesa_batch.specs.declared.words.BatchError.{BatchError}
 use Rattle.mesa_batch.specs.declared.words.BatchError.TheVariants.{NoTable, BadRow}
 use Rattle.mesa_batch.specs.Batch.{Named, Placed, batch_from, columns_at, is_at, key_from, placed_of, refuse_twice, row_of, rows_for, values_from}
-use Rattle.mesa_batch.specs.Kept.{read_of}
+use Rattle.mesa_batch.specs.Gathered.{read_of}
 use Rattle.mesa_batch.specs.Laws.{KeepsForms}
 use Rattle.mesa_batch.proofs.ReadWords.{placed_read}
 

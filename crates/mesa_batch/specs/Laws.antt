@@ -1,6 +1,7 @@
 -- Laws of batches.
-use Rattle.std.specs.Prelude.{◌≡◌, ℕ, List, [], ◌∷◌, map, Ok}
-use Rattle.mesa_list.specs.Checks.{◌>>=◌}
+use Rattle.std.specs.Prelude.{◌≡◌, ℕ, List, [], ◌∷◌, map, Ok, Err}
+use Rattle.std.specs.Result.{MatchResult}
+use Rattle.mesa_list.specs.Checks.{◌>>◌}
 use Rattle.mesa_schema.specs.declared.changes.Change.{Change}
 use Rattle.mesa_schema.specs.declared.rows.Row.{Row}
 use Rattle.mesa_schema.specs.Columns.{Columns, aggs_of}
@@ -11,16 +12,18 @@ use Rattle.mesa_schema.specs.Rows.{AreRowsOf}
 use Rattle.mesa_batch.specs.declared.words.RowWords.{RowWords}
 use Rattle.mesa_batch.specs.Totals.{AreAtMost, abs_totals, totals_after}
 use Rattle.mesa_batch.specs.Batch.{Named, Placed, batch_from, batch_of, columns_at, rows_for}
-use Rattle.mesa_batch.specs.Gathered.{with_row}
+use Rattle.mesa_batch.specs.Gathered.{each_once, with_row}
 
 -- A table's rows of a batch have the form of its columns, and so has their fold.
 abbrev pub KeepsForms : Type 0
 KeepsForms = (tables : List Named) (words : List RowWords) (batch : List Placed) (table : ℕ) → batch_of tables words ≡ Ok batch
     → AreRowsOf (columns_at table tables) (rows_for table batch) × AreRowsOf (columns_at table tables) (folded (aggs_of (columns_at table tables)) (rows_for table batch ∷ []))
 
--- Rows and then others give what the others give after the next row.
+-- Rows may be read one after another, and their keys compared once all are read, or those before the first that can't be.
 abbrev pub GoesRowByRow : Type 0
-GoesRowByRow = (tables : List Named) (before : List Placed) (words : RowWords) (rest : List RowWords) → batch_from tables before (words ∷ rest) ≡ (with_row tables before words >>= (λ rows. batch_from tables rows rest))
+GoesRowByRow = (tables : List Named) (before : List Placed) (words : RowWords) (rest : List RowWords)
+    → MatchResult (with_row tables before words) (λ rows. (each_once before >> batch_from tables before (words ∷ rest)) ≡ (each_once rows >> batch_from tables rows rest))
+    (λ refusal. (each_once before >> batch_from tables before (words ∷ rest)) ≡ (each_once before >> Err refusal))
 
 -- Totals that bound those of rows bound, after a change whose default is one of its column, those of the lifted rows.
 abbrev pub TotalsLast : Type 0

@@ -1,11 +1,10 @@
 pub mod Batch
+pub mod Flat
 pub mod Gathered
 pub mod Glance
-pub mod Kept
 pub mod Load
 pub mod Laws
 pub mod Numbers
-pub mod Taken
 pub mod Reading
 pub mod Shared
 pub mod Totals

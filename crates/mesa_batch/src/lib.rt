@@ -3,10 +3,11 @@
 
 mod batch;
 mod builder;
+mod flat;
 mod glance;
-mod keeping;
 mod laws;
 mod loading;
+mod ordering;
 mod reading;
 mod shared;
 mod totals;
@@ -16,6 +17,6 @@ pub use batch::Batch;
 pub use builder::BatchBuilder;
 pub use glance::{Glance, Glanced};
 pub use laws::{goes_row_by_row, keeps_forms, totals_last};
-pub use loading::{LoadRows, RowView};
+pub use loading::{LoadRows, RowView, Words};
 pub use totals::{OVER_BOUND, fits};
 pub use words::{BatchError, RowWords};

@@ -1,11 +1,40 @@
 // The rows of a load, kept in one buffer.
-ghost use Rattle.std.specs.Prelude.{◌≡◌, ◌<◌, ◌≤◌, ◌↔◌, IsTrue, Some, [], ◌∷◌, ◌++◌, length, take, OnErr, OnOk, slice_get};
-ghost use Rattle.mesa_list.specs.Pieces.{last_end};
+ghost use Rattle.std.specs.Prelude.{◌≡◌, ◌<◌, ◌≤◌, ◌↔◌, IsTrue, Some, [], ◌∷◌, ◌++◌, length, take, ℕ, List, OnErr, OnOk, slice_get, slice_index_or};
 ghost use Rattle.mesa_batch.specs.Load.{row_from};
 
+use crate::flat::begin_of;
 use mesa_list::{Fields, FieldsView, TryCopy};
 use std::alloc::{AllocError, Global};
 use std::marker::Model;
+
+/// The words of a row where they were read: its table's name, and then its fields.
+pub trait Words {
+    ghost words: { Self → List (List ℕ) };
+
+    /// How many there are.
+    fn count(&self) -> usize
+        ensures { result ≡ length (words self.now) };
+
+    /// The word at a place, counted from 0.
+    fn word(&self, place: usize) -> &[u8]
+        requires { place < length (words self.now) }
+        ensures { result.now ≡ slice_index_or (words self.now) place [] };
+}
+
+impl Words for Fields {
+    ghost words = { λ fields. fields };
+
+    fn count(&self) -> usize {
+        self.len()
+    }
+
+    fn word(&self, place: usize) -> &[u8] {
+        match self.get(place) {
+            Some(word) => word,
+            None => unreachable!(),
+        }
+    }
+}
 
 /// The rows of a load, as a script has them. Their words stand in one buffer, so that a row takes no list of its own: it costs four bytes, and four for each word beside the word's own.
 #[derive(Drop)]
@@ -52,13 +81,13 @@ impl LoadRows {
         self.ends.as_slice().is_empty()
     }
 
-    /// Adds a row at the end: its table's name, and then its fields. They are copied into the buffer.
-    pub fn push(&mut self, words: &Fields) -> Result<(), AllocError>
-        ensures ok { OnOk result (self.new ≡ self.old ++ row_from words.now ∷ []) }
+    /// Adds a row at the end: its table's name, and then its fields. They are copied into the buffer, and nowhere else.
+    pub fn push<W: Words>(&mut self, words: &W) -> Result<(), AllocError>
+        ensures ok { OnOk result (self.new ≡ self.old ++ row_from (W.words words.now) ∷ []) }
         ensures err { OnErr result (self.new ≡ self.old) }
     {
         let start = self.words.len();
-        let end = start.saturating_add(words.len());
+        let end = start.saturating_add(words.count());
         if end > u32::MAX as usize {
             return Err(AllocError);
         }
@@ -92,23 +121,14 @@ impl TryCopy for LoadRows {
 }
 
 // Adds fields behind others; without memory a part of them may stand there.
-fn push_all(to: &mut Fields, words: &Fields) -> Result<(), AllocError>
-    ensures ok { OnOk result (to.new ≡ to.old ++ words.now) }
+fn push_all<W: Words>(to: &mut Fields, words: &W) -> Result<(), AllocError>
+    ensures ok { OnOk result (to.new ≡ to.old ++ W.words words.now) }
     ensures kept { take (length to.old) to.new ≡ to.old }
 {
-    let mut rest = words.view();
-    'words: while let Some(word) = rest.take_next() {
-        to.push(word)?;
+    'words: for place in 0..words.count() {
+        to.push(words.word(place))?;
     }
     Ok(())
-}
-
-// Where the row at a place begins.
-fn begin_of(ends: &[u32], i: usize) -> u32
-    requires { i ≤ length ends.now }
-    ensures { result ≡ last_end 0 (take i ends.now) }
-{
-    if i == 0 { 0 } else { ends[i - 1] }
 }
 
 /// A row of a load, lent.

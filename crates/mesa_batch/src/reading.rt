@@ -3,14 +3,16 @@ ghost use Rattle.std.specs.Prelude.{◌≡◌, ◌≤◌, ◌^◌, ◌+◌, ℕ,
 ghost use Rattle.mesa_key.specs.Spelling.{value_spelling};
 ghost use Rattle.mesa_schema.specs.declared.columns.KeyColumn.{KeyColumn as Key};
 ghost use Rattle.mesa_schema.specs.declared.columns.ValueColumn.{ValueColumn as Value};
+ghost use Rattle.mesa_schema.specs.Lent.{lent};
 ghost use Rattle.mesa_schema.specs.Numbers.{key_value_of};
 ghost use Rattle.mesa_batch.specs.Batch.{key_from, row_of, values_from};
 ghost use Rattle.mesa_batch.specs.Reading.{IsRefusal, spelled};
 
-use mesa_key::{KeyText, KeyType, Values, encode_int, encode_text};
+use mesa_key::{KeyText, KeyType, encode_int, encode_text};
 use mesa_list::FieldsView;
-use mesa_schema::{KeyColumn, Schema, ValueColumn, amount, signed};
-use std::alloc::{AllocError, Global};
+use mesa_schema::{KeyColumn, LentRow, Schema, ValueColumn, amount, signed};
+use mesa_value::Amount;
+use std::alloc::{AllocError, AllocFailed};
 
 /// Why a row's fields make no row of its table.
 #[derive(Clone, Copy, Debug, PartialEq, Eq)]
@@ -31,52 +33,75 @@ impl From<AllocError> for FieldError {
     }
 }
 
+impl<T: Drop> From<AllocFailed<T>> for FieldError {
+    ghost use Rattle.std.specs.Prelude.{◌≡◌};
+    ghost use Rattle.mesa_batch.specs.declared.reading.FieldError.TheVariants.{Memory};
+
+    ghost from_gives = { λ _ e. e ≡ Memory };
+
+    fn from(_: AllocFailed<T>) -> Self {
+        FieldError::Memory
+    }
+}
+
 /// The bytes of a row's key, and its values.
 #[derive(Drop)]
 pub(crate) struct ReadRow {
     pub(crate) key: Vec<u8>,
-    pub(crate) values: Values,
+    pub(crate) values: Vec<Amount>,
 }
 
-// The row that the fields make.
+impl ReadRow {
+    /// The row, lent.
+    pub(crate) fn lend(&self) -> LentRow<'_>
+        ensures { lent result ≡ record { key = self.now.key.items; values = self.now.values.items } }
+    {
+        LentRow {
+            key: &self.key,
+            values: &self.values,
+        }
+    }
+}
+
+// Puts the row that the fields make in place of the one that is there.
 pub(crate) fn read_row(
-    alloc: Global,
     schema: &Schema,
     fields: &FieldsView,
-) -> Result<ReadRow, FieldError>
-    ensures read { IfOk result (λ row. row_of schema.now fields.now ≡ Ok (record { key = row.key.items; values = row.values })) }
+    row: &mut ReadRow,
+) -> Result<(), FieldError>
+    ensures read { OnOk result (row_of schema.now fields.now ≡ Ok (record { key = row.new.key.items; values = row.new.values.items })) }
     ensures refused { IfErr result (IsRefusal (row_of schema.now fields.now)) }
 {
     let columns = schema.keys();
-    let key = read_key(alloc, columns, fields)?;
+    read_key(columns, fields, &mut row.key)?;
     let first = columns.len() as u16 + 1;
     let rest = fields.range(columns.len(), fields.len());
-    let values = read_values(alloc, first, schema.values(), &rest)?;
-    Ok(ReadRow { key, values })
+    read_values(first, schema.values(), &rest, &mut row.values)?;
+    Ok(())
 }
 
 // The spelling of the key that the first fields make.
 fn read_key(
-    alloc: Global,
     columns: &[KeyColumn],
     fields: &FieldsView,
-) -> Result<Vec<u8>, FieldError>
+    bytes: &mut Vec<u8>,
+) -> Result<(), FieldError>
     requires few { length columns.now ≤ 16 }
-    ensures read { IfOk result (λ bytes. spelled (key_from 1 (map (λ (c : Key). c.kind) columns.now) fields.now) ≡ Ok bytes.items) }
+    ensures read { OnOk result (spelled (key_from 1 (map (λ (c : Key). c.kind) columns.now) fields.now) ≡ Ok bytes.new.items) }
     ensures enough { OnOk result (length columns.now ≤ length fields.now) }
     ensures refused { IfErr result (IsRefusal (key_from 1 (map (λ (c : Key). c.kind) columns.now) fields.now)) }
 {
-    let mut bytes = Vec::with_capacity(alloc, columns.len() * 8)?;
+    bytes.clear();
     'columns: for (place, column) in columns.iter().enumerate() {
         let number = place as u16 + 1;
         let Some(field) = fields.get(place) else {
             return Err(FieldError::Bad(number));
         };
-        if !push_value(column.kind, field, &mut bytes)? {
+        if !push_value(column.kind, field, bytes)? {
             return Err(FieldError::Bad(number));
         }
     }
-    Ok(bytes)
+    Ok(())
 }
 
 // Adds the spelling of a key column's value, where the field is one.
@@ -103,16 +128,16 @@ fn push_value(kind: KeyType, field: &[u8], bytes: &mut Vec<u8>) -> Result<bool, 
 
 // The values that the other fields make; the first of the columns has this number.
 fn read_values(
-    alloc: Global,
     first: u16,
     columns: &[ValueColumn],
     fields: &FieldsView,
-) -> Result<Values, FieldError>
+    values: &mut Vec<Amount>,
+) -> Result<(), FieldError>
     requires few { first + length columns.now < 2 ^ 16 }
-    ensures read { IfOk result (λ values. values_from first (map (λ (c : Value). c.agg) columns.now) fields.now ≡ Ok values) }
+    ensures read { OnOk result (values_from first (map (λ (c : Value). c.agg) columns.now) fields.now ≡ Ok values.new.items) }
     ensures refused { IfErr result (IsRefusal (values_from first (map (λ (c : Value). c.agg) columns.now) fields.now)) }
 {
-    let mut values = Values::from_vec(Vec::with_capacity(alloc, columns.len())?);
+    values.clear();
     'columns: for (place, column) in columns.iter().enumerate() {
         let number = first + place as u16;
         let Some(field) = fields.get(place) else {
@@ -126,5 +151,5 @@ fn read_values(
     if fields.len() > columns.len() {
         return Err(FieldError::Bad(first + columns.len() as u16));
     }
-    Ok(values)
+    Ok(())
 }

@@ -1,10 +1,12 @@
 // Absolute totals of batches, and the bound on them.
 ghost use Rattle.std.specs.Prelude.{◌≡◌, ◌≤◌, ◌+◌, ◌^◌, ℕ, min, nat_le, nat_abs, pos, length, map, position, slice_index_or, zip, IfOk, IfSome, OnOk, ◌<◌, [], ◌∷◌, ◌++◌, cond};
 ghost use Rattle.std.specs.Result.{result_err};
+ghost use Rattle.mesa_batch.specs.Flat.{rows_over};
 ghost use Rattle.mesa_batch.specs.Totals.{abs_total, abs_totals, capped, is_sum, over_bound, sum_bound};
 
-use mesa_schema::{Row, Schema, Totals};
-use mesa_value::Agg;
+use crate::flat::FlatRows;
+use mesa_schema::{Schema, Totals};
+use mesa_value::{Agg, Amount};
 use std::alloc::{AllocError, Global};
 
 /// A total above 2^127 - 1, the bound of each sum, stands as this.
@@ -44,43 +46,51 @@ fn first_pair_over(totals: &[u128], more: &[u128]) -> Option<usize>
 pub(crate) fn absolute_totals(
     alloc: Global,
     schema: &Schema,
-    rows: &[Row],
+    rows: &FlatRows,
+    places: &[u32],
 ) -> Result<Totals, AllocError>
-    ensures { IfOk result (λ totals. totals ≡ capped (abs_totals schema.now rows.now)) }
+    ensures { IfOk result (λ totals. totals ≡ capped (abs_totals schema.now (rows_over rows.now places.now))) }
 {
     let mut totals = Totals::new(alloc);
     'columns: for (place, column) in schema.values().iter().enumerate() {
-        push_total(&mut totals, place, column.agg, rows)?;
+        push_total(&mut totals, place, column.agg, rows, places)?;
     }
     Ok(totals)
 }
 
 // Adds the total of a column, where it is a sum.
-fn push_total(totals: &mut Totals, place: usize, agg: Agg, rows: &[Row]) -> Result<(), AllocError>
-    ensures { OnOk result (totals.new ≡ totals.old ++ capped (cond (is_sum agg) (abs_total place rows.now ∷ []) [])) }
+fn push_total(
+    totals: &mut Totals,
+    place: usize,
+    agg: Agg,
+    rows: &FlatRows,
+    places: &[u32],
+) -> Result<(), AllocError>
+    ensures { OnOk result (totals.new ≡ totals.old ++ capped (cond (is_sum agg) (abs_total place (rows_over rows.now places.now) ∷ []) [])) }
 {
     match agg {
-        Agg::Sum => totals.push(absolute_total(place, rows)),
+        Agg::Sum => totals.push(absolute_total(place, rows, places)),
         _ => Ok(()),
     }
 }
 
 // The absolute values of a column, added up as far as the bound.
-fn absolute_total(column: usize, rows: &[Row]) -> u128
-    ensures { result ≡ min sum_bound (abs_total column rows.now) }
+fn absolute_total(column: usize, rows: &FlatRows, places: &[u32]) -> u128
+    ensures { result ≡ min sum_bound (abs_total column (rows_over rows.now places.now)) }
 {
     let mut total = 0u128;
-    'rows: for row in rows {
-        total = OVER_BOUND.min(total.saturating_add(absolute_value(column, row)));
+    'places: for place in places {
+        let value = absolute_value(column, rows.values(*place as usize));
+        total = OVER_BOUND.min(total.saturating_add(value));
     }
     total
 }
 
-fn absolute_value(column: usize, row: &Row) -> u128
-    ensures value { result ≡ nat_abs (slice_index_or row.now.values column (pos 0)) }
+fn absolute_value(column: usize, values: &[Amount]) -> u128
+    ensures value { result ≡ nat_abs (slice_index_or values.now column (pos 0)) }
     ensures small { result ≤ 2 ^ 127 }
 {
-    match row.values.as_slice().get(column) {
+    match values.get(column) {
         Some(value) => value.unsigned_abs(),
         None => 0,
     }

@@ -14,7 +14,7 @@ pub returns-in-Ok-clause-read : goal.returns-in-Ok-clause-read
 returns-in-Ok-clause-read c =
     let at = ap (λ name. place_of name (names_in c.args.glance.now)) (sym c.table.ensures) ∙ sym c.find.ensures.place ∙ c.in-Some.is in
     let columns = columns_found c.args.glance.now c.in-Some.table c.evolving.result.now.value c.in-Some.ensures.there c.evolving.ensures in
-    read_row_of c.args.glance.now c.args.number c.args.words.now c.in-Some.table (record { key = c.in-Ok.row.key.items; values = c.in-Ok.row.values }) c.present-schema.result.now
+    read_row_of c.args.glance.now c.args.number c.args.words.now c.in-Some.table (record { key = c.read_row.new.row.key.items; values = c.read_row.new.row.values.items }) c.present-schema.result.now
     at (columns ∙ ap columns_of (sym c.deref.ensures) ∙ sym c.present-schema.ensures.columns) (ap (row_of c.present-schema.result.now) (sym c.fields.ensures) ∙ c.in-Ok.ensures.read)
 
 pub returns-in-Err-Bad-clause-refused : goal.returns-in-Err-Bad-clause-refused

@@ -1,12 +1,9 @@
 use Rattle.std.proofs.Common.{◌≡◌, ◌++◌, length, take}
 use Rattle.mesa_batch.proofs.loading.push_all.Given as goal
 
--- the fields so far and those that are left are all, behind those that were there
+-- the words so far, behind those that were there
 abbrev pub invariant-words : goal.invariant-words
-invariant-words l = record {
-  all : l.to ++ l.rest ≡ l.fn.to ++ l.fn.words;
+invariant-words g l = record {
+  all : l.to ≡ l.fn.to ++ take l.place (g.W.Words.words l.words);
   kept : take (length l.fn.to) l.to ≡ l.fn.to;
 }
-
-abbrev pub decreases-words : goal.decreases-words
-decreases-words l = length l.rest
