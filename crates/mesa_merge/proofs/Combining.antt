@@ -17,7 +17,8 @@ use Rattle.mesa_merge.specs.Inputs.{AreAlike, knowns_of}
 use Rattle.mesa_merge.specs.Merging.{AreReady, HasGivens, IsGathering, IsMerging, IsStage}
 use Rattle.mesa_merge.proofs.Inputs.{givens_count}
 use Rattle.mesa_merge.proofs.Stages.{stage_last, stage_later}
-use Rattle.mesa_merge.proofs.Steps.{first_step, next_step}
+use Rattle.mesa_merge.proofs.Lasting.{key_given}
+use Rattle.mesa_merge.proofs.Steps.{first_step, heads_same, next_step}
 use Rattle.mesa_merge.proofs.Trees.{beyond, same_or_not}
 
 -- as many aggregations as value columns
@@ -74,6 +75,7 @@ gather_first laws bytes s olds news oldc newc i givens row m least t =
       formed = formed_more s givens i row lt m.formed t.form;
       fold = step.1;
       below = step.2;
+      here = key_given row.key i givens row refl lt;
       form = t.form;
     }
 
@@ -94,6 +96,7 @@ gather_more laws bytes s olds news oldc newc n i row more next front givens g le
     let lt : i < length givens = subst (λ k. i < k) (sym (givens_count bytes olds oldc givens g.given)) t.within in
     let step = next_step laws (aggs_of s) row.key i n (hands_of oldc) (hands_of newc) givens front row more next t.rows g.stage least t.there lt t.ahead t.others g.fold g.below refl made in
     let key : row.key ≡ next.key = ap (λ (r : Row). r.key) (sym made) in
+    let same : more.key ≡ row.key = ap (λ (r : Row). r.key) (heads_same _ _ _ _ (sym t.there ∙ least.least.there)) ∙ least.is in
     record {
       alike = subst (AreAlike s) (sym t.known) g.alike;
       given = t.given;
@@ -102,6 +105,7 @@ gather_more laws bytes s olds news oldc newc n i row more next front givens g le
       formed = formed_more s givens i more lt g.formed t.form;
       fold = step.1;
       below = subst (λ k. AreUnder k front) key g.below;
+      here = key_given next.key i givens more (same ∙ key) lt;
       form = combined_form s row more next g.form t.form made;
     }
 

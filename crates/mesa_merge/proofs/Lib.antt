@@ -11,6 +11,7 @@ pub mod Steps
 pub mod Ending
 pub mod Bounds
 pub mod Parts
+pub mod Lasting
 pub mod Combining
 pub mod Beginning
 pub mod Handing

@@ -14,7 +14,8 @@ use Rattle.mesa_cursor.specs.Cursors.{IsInput}
 use Rattle.mesa_merge.specs.Damaged.{IsDamageOf}
 use Rattle.mesa_merge.specs.Faults.{HaveFaultCause, faults_of}
 use Rattle.mesa_merge.specs.Inputs.{AreAll, AreTold, knowns_of, lifted_parts}
-use Rattle.mesa_merge.specs.Merged.{HasMerged, inputs_of, row_in}
+use Rattle.mesa_merge.specs.Merged.{HasMerged, inputs_of, last_in, row_in}
+use Rattle.mesa_merge.specs.Sums.{IsLastOf}
 use Rattle.mesa_merge.specs.declared.merge.Merge.{Merge}
 
 -- What a call answers: the row that the merge then lends, none, or an error.
@@ -24,9 +25,9 @@ answer_of (Err e) m = Err e
 
 -- The answer of a merge that has not failed.
 pub record IsNextOf {R : Type 0} (bytes : R → Option (List ℕ)) (faults size : R → ℕ) (old new : Merge R) (answer : Result (Option Row) FileError) : Type 0 where
-  -- What was given folds to one row more.
+  -- What was given folds to one row more, whose key the input that is kept is the newest to have given.
   pub some : IfOk answer (λ o. IfSome o (λ row. (s : Columns) (givens : List (List Row)) → HasMerged bytes s old givens
-      → (after : List (List Row)) × HasMerged bytes s new after × (folded (aggs_of s) after ≡ folded (aggs_of s) givens ++ row ∷ []) × IsRowOf s row))
+      → (after : List (List Row)) × HasMerged bytes s new after × (folded (aggs_of s) after ≡ folded (aggs_of s) givens ++ row ∷ []) × IsRowOf s row × IsLastOf row.key (last_in new) after))
   -- Or each input has given all of its rows.
   pub none : IfOk answer (λ o. IfNone o ((s : Columns) (givens : List (List Row)) → HasMerged bytes s old givens
       → HasMerged bytes s new givens × AreAll (knowns_of bytes (inputs_of new)) givens))

@@ -1,6 +1,7 @@
 -- What damage a merge tells of.
-use Rattle.std.specs.Prelude.{◌≡◌, ◌⊎◌, ℕ, ◌<◌, List, [], ◌∷◌, ◌++◌, length, get_or, slice_get, Option, Some}
-use Rattle.std.specs.List.{AllByRecursion}
+use Rattle.std.specs.Prelude.{◌≡◌, ◌⊎◌, ℕ, ℤ, ◌<◌, List, [], ◌∷◌, ◌++◌, length, get_or, slice_get, Option, Some, ⊤}
+use Rattle.mesa_value.specs.declared.Agg.{Agg}
+use Rattle.mesa_value.specs.declared.Agg.TheVariants.{Sum, Min, Max, Replace}
 use Rattle.mesa_value.specs.Agg.{IsSum}
 use Rattle.mesa_file.specs.declared.damage.Damage.{Damage}
 use Rattle.mesa_schema.specs.declared.rows.Row.{Row}
@@ -11,14 +12,9 @@ use Rattle.mesa_delta.specs.declared.input.Input.{Input}
 use Rattle.mesa_cursor.specs.declared.cursor.Cursor.{Cursor}
 use Rattle.mesa_scan.specs.Damaged.{IsDamaged}
 use Rattle.mesa_merge.specs.Hands.{IsAhead, hands_of}
-use Rattle.mesa_merge.specs.Inputs.{Known, known_of, knowns_of}
+use Rattle.mesa_merge.specs.Inputs.{AreAlike, Known, known_of, knowns_of}
 use Rattle.mesa_merge.specs.Merging.{AreReady, HasGivens}
-use Rattle.mesa_merge.specs.Sums.{sum_damage}
-
--- one of the rows has this key
-abbrev pub HasKey : List ℕ → List Row → Type 0
-HasKey key [] = ⊥
-HasKey key (row ∷ rows) = (row.key ≡ key) ⊎ HasKey key rows
+use Rattle.mesa_merge.specs.Sums.{HasKey, sum_damage}
 
 -- Damage of a block of one of the inputs: as its reader told it when the block was read, and never of a file whose index is true of it.
 pub record IsBlockOf {R : Type 0} (bytes : R → Option (List ℕ)) (size : R → ℕ) (knowns : List Known) (d : Damage) : Type 0 where
@@ -27,24 +23,40 @@ pub record IsBlockOf {R : Type 0} (bytes : R → Option (List ℕ)) (size : R �
   pub one : slice_get knowns at ≡ Some (known_of bytes input)
   pub damaged : IsDamaged bytes size input d
 
--- A sum of the rows of a key leaves its type: the fold of what was given ends with a row of the key that has a value which isn't within it. It is told of the newest file that holds the key: it has given a row of it or has one at hand, and each newer one has given lesser keys alone, and has a greater one at hand or is at its end.
-pub record IsSumOf {R : Type 0} (bytes : R → Option (List ℕ)) (inputs : List (Input R)) (d : Damage) : Type 0 where
+-- a value of a sum column is within the type of sums
+abbrev pub SumKeeps : Agg → ℤ → Type 0
+SumKeeps Sum value = IsSum value
+SumKeeps Min value = ⊤
+SumKeeps Max value = ⊤
+SumKeeps Replace value = ⊤
+
+-- column by column
+abbrev pub SumsKeep : List Agg → List ℤ → Type 0
+SumsKeep [] values = ⊤
+SumsKeep (agg ∷ aggs) [] = ⊤
+SumsKeep (agg ∷ aggs) (value ∷ values) = SumKeeps agg value × SumsKeep aggs values
+
+-- Of inputs that are being merged, this is the newest file that holds a key: where just these rows were given, it has given a row of the key or has one at hand, and each newer one has given lesser keys alone, and has a greater one at hand or is at its end.
+pub record IsNewestWith {R : Type 0} (bytes : R → Option (List ℕ)) (inputs : List (Input R)) (key : List ℕ) (givens : List (List Row)) (file : Known) : Type 0 where
   pub cursors : List Cursor
-  pub givens : List (List Row)
   pub given : HasGivens bytes inputs cursors givens
   pub ready : AreReady (length inputs) inputs cursors
-  pub columns : Columns
-  pub front : List Row
-  pub sum : Row
-  pub fold : folded (aggs_of columns) givens ≡ front ++ sum ∷ []
-  pub leaves : AllByRecursion IsSum sum.values → ⊥
-  pub key : List ℕ
-  pub is : sum.key ≡ key
   pub at : ℕ
   pub holds : HasKey key (get_or givens at [] ++ get_or (hands_of cursors) at [])
   pub newer : (j : ℕ) → at < j → AreUnder key (get_or givens j []) × IsAhead key (get_or (hands_of cursors) j [])
-  pub file : Known
   pub one : slice_get (knowns_of bytes inputs) at ≡ Some file
+
+-- A sum of the rows of a key leaves its type: the fold of what was given, in the columns to which all inputs are lifted, ends with a row that has a value of a sum column which isn't within it. It is told of the newest file that holds the row's key.
+pub record IsSumOf {R : Type 0} (bytes : R → Option (List ℕ)) (inputs : List (Input R)) (d : Damage) : Type 0 where
+  pub columns : Columns
+  pub alike : AreAlike columns (knowns_of bytes inputs)
+  pub givens : List (List Row)
+  pub front : List Row
+  pub sum : Row
+  pub fold : folded (aggs_of columns) givens ≡ front ++ sum ∷ []
+  pub leaves : SumsKeep (aggs_of columns) sum.values → ⊥
+  pub file : Known
+  pub newest : IsNewestWith bytes inputs sum.key givens file
   pub told : d ≡ sum_damage file.file.file
 
 -- which damage a merge tells of: a block's of one of the inputs, or a sum's

@@ -24,6 +24,10 @@ hands_in m = hands_of m.cursors.items
 abbrev pub row_in : {R : Type 0} → Merge R → Row
 row_in m = m.row
 
+-- the place of the newest input that gave a row of that row's key
+abbrev pub last_in : {R : Type 0} → Merge R → ℕ
+last_in m = m.last
+
 -- the first blocks were read
 abbrev pub IsBegun : {R : Type 0} → Merge R → Type 0
 IsBegun m = m.begun ≡ true

@@ -1,5 +1,5 @@
 -- Merging inputs row by row.
-use Rattle.std.specs.Prelude.{◌≡◌, ℕ, zero, suc, ◌<◌, ◌≤◌, List, [], ◌∷◌, ◌++◌, length, get_or, Option, true, ⊤}
+use Rattle.std.specs.Prelude.{◌≡◌, ℕ, zero, suc, ◌+◌, ◌<◌, ◌≤◌, List, [], ◌∷◌, ◌++◌, length, get_or, Option, true, ⊤}
 use Rattle.std.specs.List.{AllByRecursion}
 use Rattle.std.specs.Ordering.{is_ge}
 use Rattle.mesa_key.specs.Order.{byte_cmp}
@@ -13,6 +13,7 @@ use Rattle.mesa_cursor.specs.declared.cursor.Cursor.{Cursor}
 use Rattle.mesa_cursor.specs.Cursors.{HasGiven, IsReady}
 use Rattle.mesa_merge.specs.Hands.{IsAhead, IsFrom, hands_of}
 use Rattle.mesa_merge.specs.Inputs.{AreAlike, knowns_of}
+use Rattle.mesa_merge.specs.Sums.{HasKey}
 
 -- each input has given just these rows
 abbrev pub HasGivens : {R : Type 0} → (R → Option (List ℕ)) → List (Input R) → List Cursor → List (List Row) → Type 0
@@ -45,7 +46,7 @@ pub record IsStage (key : List ℕ) (n : ℕ) (hands givens : List (List Row)) :
   pub under : (j : ℕ) → n ≤ j → AreUnder key (get_or givens j [])
   pub upto : (j : ℕ) → AreUpTo key (get_or givens j [])
 
--- A row is the last of the fold of what was given: the rows of its key are being combined in it.
+-- A row is the last of the fold of what was given: the rows of its key are being combined in it, of which the last of the first n inputs gave one.
 pub record IsGathering {R : Type 0} (bytes : R → Option (List ℕ)) (s : Columns) (inputs : List (Input R)) (cursors : List Cursor) (n : ℕ) (row : Row) (front : List Row) (givens : List (List Row)) : Type 0 where
   pub alike : AreAlike s (knowns_of bytes inputs)
   pub given : HasGivens bytes inputs cursors givens
@@ -54,6 +55,7 @@ pub record IsGathering {R : Type 0} (bytes : R → Option (List ℕ)) (s : Colum
   pub formed : (j : ℕ) → AreRowsOf s (get_or givens j [])
   pub fold : folded (aggs_of s) givens ≡ front ++ row ∷ []
   pub below : AreUnder row.key front
+  pub here : (j : ℕ) → n ≡ j + 1 → HasKey row.key (get_or givens j [])
   pub form : IsRowOf s row
 
 -- Of inputs that are lifted to these columns just these rows were given, so that all rows to come are above them.

@@ -1,5 +1,5 @@
 // Rows of one key, combined.
-ghost use Rattle.std.specs.Prelude.{◌≡◌, ◌<◌, ◌+◌, ◌++◌, ◌∷◌, [], ℕ, List, length, IfErr, IfSome, IfNone, OnOk, get_or};
+ghost use Rattle.std.specs.Prelude.{◌≡◌, ◌<◌, ◌+◌, ◌++◌, ◌∷◌, [], ℕ, List, length, IfErr, IfOk, IfSome, IfNone, OnOk, get_or};
 ghost use Rattle.std.specs.List.{AllByRecursion};
 ghost use Rattle.mesa_file.specs.declared.damage.Damage.{Damage as AnyDamage};
 ghost use Rattle.mesa_schema.specs.declared.rows.Row.{Row as AnyRow};
@@ -15,6 +15,7 @@ ghost use Rattle.mesa_merge.specs.Hands.{IsAhead, IsFrom, IsLeastOf, hands_of};
 ghost use Rattle.mesa_merge.specs.Inputs.{AreTold, knowns_of, lifted_parts};
 ghost use Rattle.mesa_merge.specs.Matches.{IsTree};
 ghost use Rattle.mesa_merge.specs.Merging.{IsGathering, IsMerging};
+ghost use Rattle.mesa_merge.specs.Sums.{IsLastOf};
 
 use crate::heads::combine_head;
 use crate::matches::{Tree, least};
@@ -43,7 +44,7 @@ fn same_key(tree: &Tree, cursors: &[Cursor], key: &[u8]) -> Option<usize>
     if is_same(row.key, key) { Some(i) } else { None }
 }
 
-// Combines a row with the further rows of its key, in the order of the inputs. It was taken from this input. After an error it may be any row.
+// Combines a row with the further rows of its key, in the order of the inputs. It was taken from this input; the last that it was combined with is told. After an error it may be any row.
 pub(crate) fn gather<R: FileReader>(
     inputs: &mut [Input<R>],
     cursors: &mut [Cursor],
@@ -51,14 +52,14 @@ pub(crate) fn gather<R: FileReader>(
     aggs: &[Agg],
     row: &mut Row,
     mut from: usize,
-) -> Result<(), FileError>
+) -> Result<usize, FileError>
     requires within { from < length inputs.old }
     requires count { length cursors.old ≡ length inputs.old }
     requires tree { IsTree (hands_of cursors.old) tree.old }
     requires gathering { (s : Columns) × (front : List AnyRow) × (givens : List (List AnyRow)) × (aggs.now ≡ aggs_of s) × IsGathering R.bytes s inputs.old cursors.old (from + 1) row.old front givens }
     ensures tree { OnOk result (IsTree (hands_of cursors.new) tree.new) }
-    ensures merging { OnOk result ((s : Columns) (front : List AnyRow) (givens : List (List AnyRow)) → aggs.now ≡ aggs_of s → IsGathering R.bytes s inputs.old cursors.old (from + 1) row.old front givens
-        → (after : List (List AnyRow)) × IsMerging R.bytes s inputs.new cursors.new after × (folded (aggs_of s) after ≡ front ++ row.new ∷ []) × IsRowOf s row.new) }
+    ensures merging { IfOk result (λ last. (s : Columns) (front : List AnyRow) (givens : List (List AnyRow)) → aggs.now ≡ aggs_of s → IsGathering R.bytes s inputs.old cursors.old (from + 1) row.old front givens
+        → (after : List (List AnyRow)) × IsMerging R.bytes s inputs.new cursors.new after × (folded (aggs_of s) after ≡ front ++ row.new ∷ []) × IsRowOf s row.new × IsLastOf row.new.key last after) }
     ensures known { knowns_of R.bytes inputs.new ≡ knowns_of R.bytes inputs.old }
     ensures inputs { AllByRecursion (IsInput R.bytes) inputs.old → AllByRecursion (IsInput R.bytes) inputs.new }
     ensures cause { HaveFaultCause (λ e. e ≡ file_error.Read) (faults_of R.faults inputs.old) (faults_of R.faults inputs.new) result }
@@ -81,5 +82,5 @@ pub(crate) fn gather<R: FileReader>(
             return Err(sum_fault(file_at(inputs, newest)));
         }
     }
-    Ok(())
+    Ok(from)
 }

@@ -1,5 +1,5 @@
 // The fold of inputs as a stream.
-ghost use Rattle.std.specs.Prelude.{◌≡◌, ◌≤◌, ◌*◌, ◌-◌, ◌^◌, [], List, length, min, sum_by, IfOk, IfErr, IfNone, None, Some, Err};
+ghost use Rattle.std.specs.Prelude.{◌≡◌, ◌<◌, ◌≤◌, ◌*◌, ◌-◌, ◌^◌, [], List, length, min, sum_by, slice_get, IfOk, IfErr, IfNone, None, Some, Err};
 ghost use Rattle.std.specs.List.{AllByRecursion};
 ghost use Rattle.mesa_value.specs.declared.Agg.{Agg as AnyAgg};
 ghost use Rattle.mesa_schema.specs.declared.rows.Row.{Row as AnyRow};
@@ -8,15 +8,16 @@ ghost use Rattle.mesa_schema.specs.Folded.{folded};
 ghost use Rattle.mesa_schema.specs.Lent.{lent};
 ghost use Rattle.mesa_delta.specs.declared.error.FileError.{FileError as AnyError};
 ghost use Rattle.mesa_cursor.specs.Cursors.{IsInput};
-ghost use Rattle.mesa_merge.specs.Inputs.{AreInputs};
+ghost use Rattle.mesa_merge.specs.Inputs.{AreInputs, Known as AnyKnown, knowns_of};
 
 use crate::making::{Parts, parts_of};
 use crate::matches::Tree;
 use crate::next::{begin, next_row};
 use crate::streams::held_by;
+use crate::sums::file_at;
 use mesa_cursor::Cursor;
 use mesa_delta::{FileError, Input};
-use mesa_disk::FileReader;
+use mesa_disk::{FileId, FileReader};
 use mesa_schema::{LentRow, Row};
 use mesa_value::Agg;
 use std::alloc::{AllocError, Global};
@@ -31,6 +32,8 @@ pub struct Merge<R> {
     aggs: Vec<Agg>,
     // The row that was given last, in room that is used again for the next one.
     row: Row,
+    // The place of the newest input that gave a row of its key.
+    last: usize,
     // Whether the first blocks were read.
     begun: bool,
     failed: Option<FileError>,
@@ -38,7 +41,7 @@ pub struct Merge<R> {
 
 impl<R: FileReader> Merge<R> {
     ghost use Rattle.mesa_merge.specs.Calls.{IsNextOf, answer_of};
-    ghost use Rattle.mesa_merge.specs.Merged.{HasMerged, IsBegun, failed_of, hands_in, inputs_of, nothing_given, row_in};
+    ghost use Rattle.mesa_merge.specs.Merged.{HasMerged, IsBegun, failed_of, hands_in, inputs_of, last_in, nothing_given, row_in};
 
     /// A merge of inputs in version order, whose rows are lifted to one schema. Nothing is read yet.
     pub fn new(alloc: Global, inputs: Vec<Input<R>>) -> Result<Self, (AllocError, Vec<Input<R>>)>
@@ -62,6 +65,7 @@ impl<R: FileReader> Merge<R> {
             tree,
             aggs,
             row: Row::empty(alloc),
+            last: 0,
             begun: false,
             failed: None,
         })
@@ -85,6 +89,14 @@ impl<R: FileReader> Merge<R> {
         ensures { lent result ≡ row_in self.now }
     {
         self.row.lend()
+    }
+
+    /// The newest file that has a row of the key that was given last.
+    pub fn last_file(&self) -> FileId
+        requires { last_in self.now < length (inputs_of self.now) }
+        ensures { (k : AnyKnown) × (slice_get (knowns_of R.bytes (inputs_of self.now)) (last_in self.now) ≡ Some k) × (result ≡ k.file.file) }
+    {
+        file_at(&self.inputs, self.last)
     }
 
     // The next row of a merge that has not failed. An Err is kept.
@@ -130,6 +142,7 @@ impl<R: FileReader> Merge<R> {
             &mut self.tree,
             &self.aggs,
             &mut self.row,
+            &mut self.last,
         )
     }
 
@@ -151,6 +164,7 @@ impl<R: FileReader> Merge<R> {
             tree: _tree,
             aggs: _aggs,
             row: _row,
+            last: _last,
             begun: _begun,
             failed: _failed,
         } = self;

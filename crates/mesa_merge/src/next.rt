@@ -16,6 +16,7 @@ ghost use Rattle.mesa_merge.specs.Hands.{hands_of};
 ghost use Rattle.mesa_merge.specs.Inputs.{AreAlike, AreAll, AreTold, knowns_of, lifted_parts};
 ghost use Rattle.mesa_merge.specs.Matches.{IsTree};
 ghost use Rattle.mesa_merge.specs.Merging.{HasGivens, IsMerging};
+ghost use Rattle.mesa_merge.specs.Sums.{IsLastOf};
 
 use crate::gathering::gather;
 use crate::heads::take_head;
@@ -54,19 +55,20 @@ pub(crate) fn begin<R: FileReader>(
     Ok(())
 }
 
-// Whether there is a next row of the fold, which then stands in this one. After an error it may hold anything.
+// Whether there is a next row of the fold, which then stands in this one, with the last input that gave a row of its key. After an error it may hold anything.
 pub(crate) fn next_row<R: FileReader>(
     inputs: &mut [Input<R>],
     cursors: &mut [Cursor],
     tree: &mut Tree,
     aggs: &[Agg],
     row: &mut Row,
+    last: &mut usize,
 ) -> Result<bool, FileError>
     requires tree { IsTree (hands_of cursors.old) tree.old }
     requires merging { (s : Columns) × (givens : List (List AnyRow)) × (0 < length inputs.old → aggs.now ≡ aggs_of s) × IsMerging R.bytes s inputs.old cursors.old givens }
     ensures tree { OnOk result (IsTree (hands_of cursors.new) tree.new) }
     ensures some { IfOk result (λ more. IfSome (then_some more row.new) (λ given. (s : Columns) (givens : List (List AnyRow)) → (0 < length inputs.old → aggs.now ≡ aggs_of s) → IsMerging R.bytes s inputs.old cursors.old givens
-        → (after : List (List AnyRow)) × IsMerging R.bytes s inputs.new cursors.new after × (folded (aggs_of s) after ≡ folded (aggs_of s) givens ++ given ∷ []) × IsRowOf s given)) }
+        → (after : List (List AnyRow)) × IsMerging R.bytes s inputs.new cursors.new after × (folded (aggs_of s) after ≡ folded (aggs_of s) givens ++ given ∷ []) × IsRowOf s given × IsLastOf given.key last.new after)) }
     ensures none { IfOk result (λ more. IfNone (then_some more row.new) ((s : Columns) (givens : List (List AnyRow)) → IsMerging R.bytes s inputs.old cursors.old givens → AreAll (knowns_of R.bytes inputs.new) givens × IsMerging R.bytes s inputs.new cursors.new givens)) }
     ensures known { knowns_of R.bytes inputs.new ≡ knowns_of R.bytes inputs.old }
     ensures inputs { AllByRecursion (IsInput R.bytes) inputs.old → AllByRecursion (IsInput R.bytes) inputs.new }
@@ -85,7 +87,10 @@ pub(crate) fn next_row<R: FileReader>(
         Err(error) => return Err(error),
     }
     match gather(inputs, cursors, tree, aggs, row, i) {
-        Ok(()) => Ok(true),
+        Ok(newest) => {
+            *last = newest;
+            Ok(true)
+        }
         Err(error) => Err(error),
     }
 }

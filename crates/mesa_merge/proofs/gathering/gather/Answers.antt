@@ -14,10 +14,11 @@ use Rattle.mesa_merge.proofs.Bounds.{sum_stays}
 use Rattle.mesa_merge.proofs.Cases.{if_false, if_true}
 use Rattle.mesa_merge.proofs.Causing.{cause_on, cause_other, cause_quiet}
 use Rattle.mesa_merge.proofs.Combining.{aggs_count, gather_done, gather_later, gather_more}
-use Rattle.mesa_merge.proofs.Damages.{leaves_bound, sum_of, taken_key}
+use Rattle.mesa_merge.proofs.Damages.{leaves_bound, sum_of}
 use Rattle.mesa_merge.proofs.Ending.{AreFronts, givens_fronts}
 use Rattle.mesa_merge.proofs.Hands.{hand_of_get}
 use Rattle.mesa_merge.proofs.Inputs.{alike_at, given_at, givens_count, givens_inputs}
+use Rattle.mesa_merge.proofs.Lasting.{last_of}
 use Rattle.mesa_merge.proofs.Taking.{hand_form}
 use Rattle.mesa_merge.proofs.gathering.gather.Goals as goal
 
@@ -136,7 +137,7 @@ returns-clause-merging g c = λ s front givens columns start.
     let now = c.same.invariant.stage s front givens columns start in
     let hands = hands_of c.same.cursors in
     let none : ((j : ℕ) → IsFrom c.same.row.key (get_or hands j [])) → (j : ℕ) → IsAhead c.same.row.key (get_or hands j []) = subst (λ k. ((j : ℕ) → IsFrom k (get_or hands j [])) → (j : ℕ) → IsAhead k (get_or hands j [])) c.as_slice.ensures c.in_default.ensures.none in
-    (now.0, gather_done g.R.FileReader.bytes s c.same.inputs c.same.cursors (c.same.from + 1) c.same.row front now.0 now.1 none, now.1.fold, now.1.form)
+    (now.0, gather_done g.R.FileReader.bytes s c.same.inputs c.same.cursors (c.same.from + 1) c.same.row front now.0 now.1 none, now.1.fold, now.1.form, last_of g.R.FileReader.bytes s c.same.inputs c.same.cursors c.same.from c.same.row front now.0 now.1)
 
 pub returns-clause-cause : goal.returns-clause-cause
 returns-clause-cause g c = cause_quiet _ _ _ c.same.invariant.faults
@@ -165,7 +166,6 @@ returns-then-not-combined-clause-damaged g c = λ d e.
     let form = c.in-Ok.ensures.form more head.rows head.there in
     let above = c.in-Ok.ensures.above more head.rows head.there in
     let lt : i < length c.same.inputs = omega (arith, c.in-Some.ensures.within, inv.count) in
-    let within : i < length now.0 = omega (arith, lt, givens_count bytes c.same.inputs c.same.cursors now.0 now.1.given) in
     let least : IsLeastOf c.same.row.key i (hands_of c.same.cursors) = subst (λ k. IsLeastOf k i (hands_of c.same.cursors)) c.as_slice.ensures c.in-Some.ensures.least in
     let next : Row = record c.same.row { values = row_combined (aggs_of s) c.same.row.values more.values } in
     let after = gather_more c.folds_go_on.ensures.given bytes s c.same.inputs c.advance.new.inputs c.same.cursors c.advance.new.cursors (c.same.from + 1) i c.same.row more next start.1 now.0 now.1 least
@@ -185,4 +185,4 @@ returns-then-not-combined-clause-damaged g c = λ d e.
     let newest = subst (λ k. IsNewest k i c.newest_with-newest.result (hands_of c.advance.new.cursors)) (c.as_slice-then-not-combined.ensures ∙ ap (λ (r : Row). r.key) no.0) c.newest_with-newest.ensures.newest in
     let told : d ≡ sum_damage file.0.file.file = let both : Damaged (sum_damage c.file_at.result) ≡ Damaged d = sym c.sum_fault.ensures ∙ e in let one : d ≡ sum_damage c.file_at.result = cc in one ∙ ap sum_damage file.2 in
     let off = leaves_bound (aggs_of s) c.same.row.values more.values (λ all. no.1 more head.rows hand (subst (λ gs. AllCombine gs c.same.row.values more.values) (sym start.3) all)) in
-    inr (sum_of bytes s c.advance.new.inputs c.advance.new.cursors i c.newest_with-newest.result next start.1 _ file.0 d after off (taken_key c.same.row.key i (hands_of c.same.cursors) now.0 more head.rows least head.there within) newest file.1 told)
+    inr (sum_of bytes s c.advance.new.inputs c.advance.new.cursors i c.newest_with-newest.result next start.1 _ file.0 d after off newest file.1 told)

@@ -1,4 +1,4 @@
-use Rattle.std.proofs.Common.{◌≡◌, ◌≢◌, ◌≤◌, [], get_or, length, refl, sym, ◌∙◌, subst, arith}
+use Rattle.std.proofs.Common.{◌≡◌, ◌≢◌, ◌≤◌, length, refl, sym, ◌∙◌, subst, arith}
 use Rattle.mesa_merge.specs.Damaged.{IsBlockOf}
 use Rattle.mesa_merge.specs.Inputs.{AreAlike, AreTold}
 use Rattle.mesa_merge.specs.Merging.{AreReady}

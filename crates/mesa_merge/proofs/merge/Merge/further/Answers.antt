@@ -47,7 +47,7 @@ returns g c =
           let merging = subst (λ is. IsMerging bytes s is c.deref_mut-2.result.now givens) (sym c.deref_mut.ensures.value) (subst (λ cs. IsMerging bytes s m.inputs.items cs givens) (sym c.deref_mut-2.ensures.value) (h.merging c.requires.3)) in
           let next = some s givens (λ any. c.deref.ensures.value ∙ h.columns (subst (λ is. 0 < length is) c.deref_mut.ensures.value any)) merging in
           let columns : 0 < length c.next_row.new.inputs → m.aggs.items ≡ aggs_of s = λ any. h.columns (omega (arith, any, c.next_row.auto.inputs, ap length c.deref_mut.ensures.value)) in
-          (next.0, merged_with bytes s _ c.next_row.new.inputs c.next_row.new.cursors c.next_row.new.tree next.0 ei ec refl c.requires.3 h.going columns tree next.1, next.2, next.3)) some) c.next_row.ensures.tree c.next_row.ensures.some);
+          (next.0, merged_with bytes s _ c.next_row.new.inputs c.next_row.new.cursors c.next_row.new.tree next.0 ei ec refl c.requires.3 h.going columns tree next.1, next.2, next.3, next.4)) some) c.next_row.ensures.tree c.next_row.ensures.some);
       none =
           answered c.next_row.result _ _ (if_ok2 c.next_row.result _ _ _ (λ more tree none. if_none (then_some more c.next_row.new.row) _ _ (λ none s givens h.
           let merging = subst (λ is. IsMerging bytes s is c.deref_mut-2.result.now givens) (sym c.deref_mut.ensures.value) (subst (λ cs. IsMerging bytes s m.inputs.items cs givens) (sym c.deref_mut-2.ensures.value) (h.merging c.requires.3)) in
