@@ -18,7 +18,7 @@ ghost use Rattle.mesa_view.specs.SumDamage.{IsSumDamage};
 use crate::filters::every_row;
 use crate::gathering::gather;
 use mesa_answer::{Groups, Regrouping};
-use mesa_delta::{FileError, Input};
+use mesa_delta::{Ahead, FileError, Input};
 use mesa_disk::FileReader;
 use mesa_list::TryCopy;
 use mesa_schema::{RowList, Schema};
@@ -77,6 +77,7 @@ fn group_file<R: FileReader>(
 {
     let filter = every_row(alloc, table)?;
     let mut groups = Groups::all(alloc, table, columns, values)?;
-    gather(alloc, &mut groups, input, &filter)?;
+    let mut ahead = Ahead::new(alloc);
+    gather(alloc, &mut groups, input, 0, &filter, &mut ahead)?;
     Ok(groups.into_rows()?)
 }

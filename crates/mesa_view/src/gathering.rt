@@ -1,14 +1,16 @@
 // A file's matching rows put into groups as they are read.
-ghost use Rattle.std.specs.Prelude.{◌≡◌, ◌⊎◌, ◌++◌, ℕ, List, map, OnOk, IfErr, Some};
+ghost use Rattle.std.specs.Prelude.{◌≡◌, ◌⊎◌, ◌++◌, ℕ, List, map, slice_get, OnOk, IfErr, Some};
 ghost use Rattle.mesa_fault.specs.Causes.{HasFaultCause};
 ghost use Rattle.mesa_file.specs.declared.damage.Damage.{Damage as AnyDamage};
 ghost use Rattle.mesa_schema.specs.declared.rows.Row.{Row as AnyRow};
 ghost use Rattle.mesa_schema.specs.Changes.{columns_of};
 ghost use Rattle.mesa_filter.specs.Filter.{filtered};
 ghost use Rattle.mesa_delta.specs.declared.error.FileError.TheVariants as file_error;
+ghost use Rattle.mesa_delta.specs.Ahead.{AreAhead, AreOfFile, Told as AnyTold};
 ghost use Rattle.mesa_delta.specs.Reading.{IsIndexed, index_of};
 ghost use Rattle.mesa_scan.specs.mesa_cursor.Cursors.{IsInput, IsSameInput, lift_by, reader_in};
 ghost use Rattle.mesa_scan.specs.Damaged.{IsDamaged};
+ghost use Rattle.mesa_scan.specs.Moving.{told_in};
 ghost use Rattle.mesa_scan.specs.Scanning.{IsFilterOf};
 ghost use Rattle.mesa_answer.specs.Answering.{KeepsSums};
 ghost use Rattle.mesa_answer.specs.Gathered.{HasPut, wanted_of};
@@ -16,29 +18,35 @@ ghost use Rattle.mesa_view.specs.SumDamage.{IsSumDamage};
 
 use crate::putting::put_rows;
 use mesa_answer::Groups;
-use mesa_delta::{FileError, Input};
+use mesa_delta::{Ahead, FileError, Input};
 use mesa_disk::FileReader;
 use mesa_filter::Filter;
 use mesa_scan::Scan;
 use std::alloc::Global;
 
-/// Puts an input's rows that match a filter, lifted to the present, into groups. The groups are of the columns to which the rows are lifted.
+/// Puts an input's rows that match a filter, lifted to the present, into groups. The groups are of the columns to which the rows are lifted. The input is known by its place among those that are read, and blocks of it may have been read ahead.
 pub fn gather<R: FileReader>(
     alloc: Global,
     groups: &mut Groups,
     input: &mut Input<R>,
+    place: usize,
     filter: &Filter,
+    ahead: &mut Ahead,
 ) -> Result<(), FileError>
     requires gathering { (given : List AnyRow) × HasPut groups.old given }
     requires columns { (wanted_of groups.old).schema ≡ columns_of input.old.evolving.value }
     requires input { IsInput R.bytes input.old }
     requires filter { IsFilterOf input.old filter.now }
+    requires ahead { AreOfFile (R.bytes (reader_in input.old)) (index_of input.old.reader) place ahead.old }
 
     // Some rows are put in; where the file is told and its index is true of it, its matching rows.
     ensures put { OnOk result ((given : List AnyRow) → HasPut groups.old given → (more : List AnyRow) × HasPut groups.new (given ++ more)
         × ((b : List ℕ) (all : List AnyRow) → R.bytes (reader_in input.old) ≡ Some b → IsIndexed (index_of input.old.reader) all b
         → more ≡ filtered (columns_of input.old.evolving.value) filter.now.terms (map (lift_by input.old) all))) }
     ensures wanted { wanted_of groups.new ≡ wanted_of groups.old }
+
+    // What waits is of this input, or waited before.
+    ensures ahead { (files : List AnyTold) → slice_get files place ≡ Some (told_in R.bytes input.old) → AreAhead files ahead.old → AreAhead files ahead.new }
 
     // The input stays one, of the same file.
     ensures input { IsInput R.bytes input.new }
@@ -55,7 +63,7 @@ pub fn gather<R: FileReader>(
     let file = input.reader.index().file();
     let mut scan = Scan::of(alloc, input, filter)?;
     'each_block: while !scan.is_over(input) {
-        let rows = scan.block(input)?;
+        let rows = scan.next_block(input, place, ahead)?;
         put_rows(groups, file, &rows)?;
     }
     Ok(())
