@@ -2,12 +2,10 @@
 use Rattle.std.proofs.Common.{◌≡◌, ◌<◌, ◌≤◌, ◌+◌, ℕ, zero, suc, List, [], ◌∷◌, ◌++◌, length, map, take, get_or, true, false, Bool, cond, refl, sym, ◌∙◌, ap, subst, arith, zero-add, Option, Some, None}
 use Rattle.std.specs.Prelude.{pos, nat_abs, nat_lt, filter, slice_get, sum_by}
 use Rattle.std.specs.List.{list_all}
-use Rattle.std.specs.Ordering.{is_lt}
 use Rattle.std.proofs.lemmas.List.{append-nil, length-map, map-append}
 use Rattle.std.proofs.lemmas.List.Sums.{sum_by-append, sum_by-cons}
 use Rattle.mesa_value.specs.declared.Agg.{Agg}
 use Rattle.mesa_value.specs.declared.Agg.TheVariants.{Sum}
-use Rattle.mesa_key.specs.Order.{byte_cmp}
 use Rattle.mesa_schema.specs.declared.rows.Row.{Row}
 use Rattle.mesa_schema.specs.declared.columns.ValueColumn.{ValueColumn}
 use Rattle.mesa_schema.specs.Columns.{Columns, aggs_of, chosen}
@@ -18,9 +16,9 @@ use Rattle.mesa_model.specs.mesa_batch.Totals.{abs_total, sum_bound}
 use Rattle.mesa_fold.specs.Bound.{KeepsBound}
 use Rattle.mesa_fold.proofs.Merged.{folds_totals}
 use Rattle.mesa_filter.specs.Query.{are_places}
-use Rattle.mesa_model.specs.Page.{rows_after}
 use Rattle.mesa_answer.specs.Answering.{KeepsSums, grouped_columns}
-use Rattle.mesa_answer.specs.Gathering.{Wanted, first_groups}
+use Rattle.mesa_answer.specs.Gathering.{Wanted, first_groups, rows_behind}
+use Rattle.mesa_answer.specs.Held.{is_behind}
 use Rattle.mesa_answer.proofs.Picked.{From, chosen-map, length-chosen, picked}
 
 -- ---- fewer rows
@@ -34,9 +32,9 @@ fewer weigh test (row ∷ rows) =
       | false ↦ omega (arith, rest, sum_by-cons weigh row rows)
     ]
 
-fewer_after : (weigh : Row → ℕ) (resume : Option (List ℕ)) (rows : List Row) → sum_by weigh (rows_after resume rows) ≤ sum_by weigh rows
-fewer_after weigh None rows = omega arith
-fewer_after weigh (Some key) rows = fewer weigh (λ (row : Row). is_lt (byte_cmp key row.key)) rows
+fewer_after : (weigh : Row → ℕ) (closed : Bool) (resume : Option (List ℕ)) (rows : List Row) → sum_by weigh (rows_behind closed resume rows) ≤ sum_by weigh rows
+fewer_after weigh closed None rows = omega arith
+fewer_after weigh closed (Some key) rows = fewer weigh (λ (row : Row). is_behind closed (Some key) row.key) rows
 
 fewer_taken : (weigh : Row → ℕ) (n : ℕ) (rows : List Row) → sum_by weigh (take n rows) ≤ sum_by weigh rows
 fewer_taken weigh zero rows = omega arith
@@ -95,7 +93,7 @@ first_bound w rows row there form part keeps c p =
     let all : 0 + sum_by weigh (map f (rows ++ row ∷ [])) < sum_bound = bound_regrouped w.schema w.columns w.values (rows ++ row ∷ []) (places_of_aggs w.schema w.values there) form keeps c p in
     let parts : sum_by weigh (map f (rows ++ row ∷ [])) ≡ sum_by weigh (map f rows) + sum_by weigh (f row ∷ []) = ap (sum_by weigh) (map-append f rows (row ∷ [])) ∙ sum_by-append weigh (map f rows) (f row ∷ []) in
     let put : sum_by weigh groups ≤ sum_by weigh (map f rows) = total_grouped w.schema w.columns w.values rows c p part in
-    omega (arith, all, parts, put, fewer_after weigh w.resume groups, fewer_taken weigh w.most (rows_after w.resume groups))
+    omega (arith, all, parts, put, fewer_after weigh w.inclusive w.resume groups, fewer_taken weigh w.most (rows_behind w.inclusive w.resume groups))
 
 -- ---- rows of a list, put in one by one
 

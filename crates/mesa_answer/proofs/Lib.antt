@@ -3,10 +3,12 @@ pub mod ColumnCuts
 pub mod Entries
 pub mod Firsts
 pub mod Forms
+pub mod Leaving
 pub mod Paging
 pub mod Parts
 pub mod Passing
 pub mod Picked
 pub mod Results
+pub mod Seeking
 pub mod Steps
 pub mod ViewColumns

@@ -1,6 +1,7 @@
 -- Pages of rows.
-use Rattle.std.proofs.Common.{◌≡◌, ℕ, zero, suc, ◌-◌, ◌<◌, List, [], ◌∷◌, length, take, get_or, cond, refl, sym, ◌∙◌, ap, subst, add-one, arith, Some, None, inl, inr}
+use Rattle.std.proofs.Common.{◌≡◌, ℕ, zero, suc, ◌+◌, ◌-◌, ◌<◌, List, [], ◌∷◌, length, take, get_or, cond, false, refl, sym, ◌∙◌, ap, subst, add-one, arith, Some, None, inl, inr}
 use Rattle.std.specs.Prelude.{nat_lt, slice_get}
+use Rattle.std.specs.List.{AllByRecursion}
 use Rattle.std.proofs.lemmas.Bool.{cases_lt, le-ltb, lt-ltb}
 use Rattle.std.proofs.lemmas.Option.{get_or_from_slice_get, slice_get_within}
 use Rattle.mesa_schema.specs.declared.rows.Row.{Row}
@@ -14,7 +15,7 @@ use Rattle.mesa_model.specs.Page.{last_key, page_from, page_of, rows_after}
 use Rattle.mesa_answer.specs.Answering.{grouped_columns}
 use Rattle.mesa_answer.specs.Gathering.{Wanted, first_groups, wanted_by}
 use Rattle.mesa_answer.proofs.Firsts.{take-shorter}
-use Rattle.mesa_answer.proofs.Steps.{all_after, all_taken}
+use Rattle.mesa_answer.proofs.Steps.{all_after, all_taken, behind_after}
 
 -- the last row's key
 pub last_row : (rows : List Row) (d : Row) → 0 < length rows → (get_or rows (length rows - 1) d).key ≡ last_key rows
@@ -55,7 +56,7 @@ pub page_found : (w : Wanted) (s : Columns) (q : BuiltQuery) (rows given : List 
     → page ≡ page_of q.version q.limit q.resume (grouped s q.asked.columns q.asked.values given)
 page_found w s q rows given page wanted first made =
     let groups : List Row = rows_after q.resume (grouped s q.asked.columns q.asked.values given) in
-    made ∙ ap (page_from q.version q.limit) (first ∙ ap (λ v. first_groups v given) wanted ∙ ap (λ n. take n groups) (add-one q.limit)) ∙ page_of_first q.version q.limit groups
+    made ∙ ap (page_from q.version q.limit) (first ∙ ap (λ v. first_groups v given) wanted ∙ ap (take (q.limit + 1)) (behind_after q.resume (grouped s q.asked.columns q.asked.values given)) ∙ ap (λ n. take n groups) (add-one q.limit)) ∙ page_of_first q.version q.limit groups
 
 -- Its rows have the form of the group columns and the chosen value columns.
 pub page_form : (s : Columns) (q : BuiltQuery) (given : List Row) (page : Page) → AreRowsOf s given → page ≡ page_of q.version q.limit q.resume (grouped s q.asked.columns q.asked.values given)
@@ -63,4 +64,4 @@ pub page_form : (s : Columns) (q : BuiltQuery) (given : List Row) (page : Page) 
 page_form s q given page form made =
     let wide : Columns = grouped_columns s q.asked.columns q.asked.values in
     let groups : List Row = grouped s q.asked.columns q.asked.values given in
-    subst (λ (p : Page). AreRowsOf wide p.rows) (sym made) (all_taken (IsRowOf wide) q.limit (rows_after q.resume groups) (all_after (IsRowOf wide) q.resume groups (groups_form s q.asked.columns q.asked.values given form)))
+    subst (λ (p : Page). AreRowsOf wide p.rows) (sym made) (all_taken (IsRowOf wide) q.limit (rows_after q.resume groups) (subst (AllByRecursion (IsRowOf wide)) (behind_after q.resume groups) (all_after (IsRowOf wide) false q.resume groups (groups_form s q.asked.columns q.asked.values given form))))

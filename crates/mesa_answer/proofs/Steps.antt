@@ -2,7 +2,7 @@
 use Rattle.std.proofs.Common.{◌≡◌, ◌<◌, ◌≤◌, ℕ, zero, suc, List, [], ◌∷◌, ◌++◌, length, map, take, get_or, true, false, Bool, cond, refl, sym, ◌∙◌, ap, subst, arith, Option, Some, None}
 use Rattle.std.specs.Prelude.{ℤ, filter}
 use Rattle.std.specs.List.{AllByRecursion}
-use Rattle.std.specs.Ordering.{is_lt, is_eq}
+use Rattle.std.specs.Ordering.{is_eq}
 use Rattle.std.specs.declared.cmp.Ordering.TheVariants.{Less, Equal, Greater}
 use Rattle.std.proofs.lemmas.List.{append-nil, map-append}
 use Rattle.std.proofs.lemmas.List.Elements.{filter-append}
@@ -22,7 +22,7 @@ use Rattle.mesa_model.specs.Page.{rows_after}
 use Rattle.mesa_fold.specs.Bound.{KeepsBound}
 use Rattle.mesa_fold.proofs.Sums.{AllCombine-at}
 use Rattle.mesa_answer.specs.Answering.{KeepsSums}
-use Rattle.mesa_answer.specs.Gathering.{Wanted, first_groups}
+use Rattle.mesa_answer.specs.Gathering.{Wanted, first_groups, rows_behind}
 use Rattle.mesa_answer.specs.Held.{is_behind, rows_in, value_at}
 use Rattle.mesa_answer.proofs.Bounds.{first_bound, full_regrouped}
 use Rattle.mesa_answer.proofs.Entries.{Entry, length-rows_in}
@@ -30,46 +30,51 @@ use Rattle.mesa_answer.proofs.Firsts.{take-put_row}
 
 -- ---- one row more
 
-after_behind : (resume : Option (List ℕ)) (rows : List Row) (row : Row) → is_behind resume row.key ≡ true → rows_after resume (rows ++ row ∷ []) ≡ rows_after resume rows ++ row ∷ []
-after_behind None rows row e = refl
-after_behind (Some key) rows row e = filter-append (λ (r : Row). is_lt (byte_cmp key r.key)) rows (row ∷ []) ∙ ap (λ b. rows_after (Some key) rows ++ cond b (row ∷ []) []) e
+after_behind : (closed : Bool) (resume : Option (List ℕ)) (rows : List Row) (row : Row) → is_behind closed resume row.key ≡ true → rows_behind closed resume (rows ++ row ∷ []) ≡ rows_behind closed resume rows ++ row ∷ []
+after_behind closed None rows row e = refl
+after_behind closed (Some key) rows row e = filter-append (λ (r : Row). is_behind closed (Some key) r.key) rows (row ∷ []) ∙ ap (λ b. rows_behind closed (Some key) rows ++ cond b (row ∷ []) []) e
 
-after_before : (resume : Option (List ℕ)) (rows : List Row) (row : Row) → is_behind resume row.key ≡ false → rows_after resume (rows ++ row ∷ []) ≡ rows_after resume rows
-after_before None rows row e = cc
-after_before (Some key) rows row e = filter-append (λ (r : Row). is_lt (byte_cmp key r.key)) rows (row ∷ []) ∙ ap (λ b. rows_after (Some key) rows ++ cond b (row ∷ []) []) e ∙ append-nil _
+after_before : (closed : Bool) (resume : Option (List ℕ)) (rows : List Row) (row : Row) → is_behind closed resume row.key ≡ false → rows_behind closed resume (rows ++ row ∷ []) ≡ rows_behind closed resume rows
+after_before closed None rows row e = cc
+after_before closed (Some key) rows row e = filter-append (λ (r : Row). is_behind closed (Some key) r.key) rows (row ∷ []) ∙ ap (λ b. rows_behind closed (Some key) rows ++ cond b (row ∷ []) []) e ∙ append-nil _
 
 -- The groups behind a resume key are the groups of the rows whose group key is.
-after_folded : (resume : Option (List ℕ)) (aggs : List Agg) (rows : List Row) → rows_after resume (folded aggs (rows ∷ [])) ≡ folded aggs (rows_after resume rows ∷ [])
-after_folded None aggs rows = refl
-after_folded (Some key) aggs rows = filtered_folds (λ k. is_lt (byte_cmp key k)) aggs (rows ∷ [])
+after_folded : (closed : Bool) (resume : Option (List ℕ)) (aggs : List Agg) (rows : List Row) → rows_behind closed resume (folded aggs (rows ∷ [])) ≡ folded aggs (rows_behind closed resume rows ∷ [])
+after_folded closed None aggs rows = refl
+after_folded closed (Some key) aggs rows = filtered_folds (is_behind closed (Some key)) aggs (rows ∷ [])
 
-folded-behind : (resume : Option (List ℕ)) (aggs : List Agg) (rows : List Row) (row : Row) → is_behind resume row.key ≡ true
-    → rows_after resume (folded aggs ((rows ++ row ∷ []) ∷ [])) ≡ put_row aggs row (rows_after resume (folded aggs (rows ∷ [])))
-folded-behind resume aggs rows row e =
-    after_folded resume aggs (rows ++ row ∷ []) ∙ ap (λ (xs : List Row). folded aggs (xs ∷ [])) (after_behind resume rows row e)
-    ∙ puts_one aggs (rows_after resume rows) row ∙ ap (put_row aggs row) (sym (after_folded resume aggs rows))
+folded-behind : (closed : Bool) (resume : Option (List ℕ)) (aggs : List Agg) (rows : List Row) (row : Row) → is_behind closed resume row.key ≡ true
+    → rows_behind closed resume (folded aggs ((rows ++ row ∷ []) ∷ [])) ≡ put_row aggs row (rows_behind closed resume (folded aggs (rows ∷ [])))
+folded-behind closed resume aggs rows row e =
+    after_folded closed resume aggs (rows ++ row ∷ []) ∙ ap (λ (xs : List Row). folded aggs (xs ∷ [])) (after_behind closed resume rows row e)
+    ∙ puts_one aggs (rows_behind closed resume rows) row ∙ ap (put_row aggs row) (sym (after_folded closed resume aggs rows))
 
-folded-before : (resume : Option (List ℕ)) (aggs : List Agg) (rows : List Row) (row : Row) → is_behind resume row.key ≡ false
-    → rows_after resume (folded aggs ((rows ++ row ∷ []) ∷ [])) ≡ rows_after resume (folded aggs (rows ∷ []))
-folded-before resume aggs rows row e = after_folded resume aggs (rows ++ row ∷ []) ∙ ap (λ (xs : List Row). folded aggs (xs ∷ [])) (after_before resume rows row e) ∙ sym (after_folded resume aggs rows)
+folded-before : (closed : Bool) (resume : Option (List ℕ)) (aggs : List Agg) (rows : List Row) (row : Row) → is_behind closed resume row.key ≡ false
+    → rows_behind closed resume (folded aggs ((rows ++ row ∷ []) ∷ [])) ≡ rows_behind closed resume (folded aggs (rows ∷ []))
+folded-before closed resume aggs rows row e = after_folded closed resume aggs (rows ++ row ∷ []) ∙ ap (λ (xs : List Row). folded aggs (xs ∷ [])) (after_before closed resume rows row e) ∙ sym (after_folded closed resume aggs rows)
 
 -- THE STEP: the first groups of rows with one more are the first of the first groups of the rows with it.
-pub first_groups-behind : (w : Wanted) (rows : List Row) (row : Row) → is_behind w.resume (regrouped w.schema w.columns w.values row).key ≡ true
+pub first_groups-behind : (w : Wanted) (rows : List Row) (row : Row) → is_behind w.inclusive w.resume (regrouped w.schema w.columns w.values row).key ≡ true
     → first_groups w (rows ++ row ∷ []) ≡ take w.most (put_row (chosen w.values (aggs_of w.schema)) (regrouped w.schema w.columns w.values row) (first_groups w rows))
 first_groups-behind w rows row e =
     let aggs : List Agg = chosen w.values (aggs_of w.schema) in
     let f : Row → Row = regrouped w.schema w.columns w.values in
-    ap (λ (xs : List Row). take w.most (rows_after w.resume (folded aggs (xs ∷ [])))) (map-append f rows (row ∷ []))
-    ∙ ap (take w.most) (folded-behind w.resume aggs (map f rows) (f row) e)
-    ∙ sym (take-put_row w.most aggs (f row) (rows_after w.resume (folded aggs (map f rows ∷ []))))
+    ap (λ (xs : List Row). take w.most (rows_behind w.inclusive w.resume (folded aggs (xs ∷ [])))) (map-append f rows (row ∷ []))
+    ∙ ap (take w.most) (folded-behind w.inclusive w.resume aggs (map f rows) (f row) e)
+    ∙ sym (take-put_row w.most aggs (f row) (rows_behind w.inclusive w.resume (folded aggs (map f rows ∷ []))))
 
 -- A row that isn't behind the resume key changes none.
-pub first_groups-before : (w : Wanted) (rows : List Row) (row : Row) → is_behind w.resume (regrouped w.schema w.columns w.values row).key ≡ false → first_groups w (rows ++ row ∷ []) ≡ first_groups w rows
+pub first_groups-before : (w : Wanted) (rows : List Row) (row : Row) → is_behind w.inclusive w.resume (regrouped w.schema w.columns w.values row).key ≡ false → first_groups w (rows ++ row ∷ []) ≡ first_groups w rows
 first_groups-before w rows row e =
     let aggs : List Agg = chosen w.values (aggs_of w.schema) in
     let f : Row → Row = regrouped w.schema w.columns w.values in
-    ap (λ (xs : List Row). take w.most (rows_after w.resume (folded aggs (xs ∷ [])))) (map-append f rows (row ∷ []))
-    ∙ ap (take w.most) (folded-before w.resume aggs (map f rows) (f row) e)
+    ap (λ (xs : List Row). take w.most (rows_behind w.inclusive w.resume (folded aggs (xs ∷ [])))) (map-append f rows (row ∷ []))
+    ∙ ap (take w.most) (folded-before w.inclusive w.resume aggs (map f rows) (f row) e)
+
+-- behind a resume key alone they are the rows that a page goes on with
+pub behind_after : (resume : Option (List ℕ)) (rows : List Row) → rows_behind false resume rows ≡ rows_after resume rows
+behind_after None rows = refl
+behind_after (Some key) rows = refl
 
 -- ---- what the first groups keep
 
@@ -81,9 +86,9 @@ all_filtered P test (row ∷ rows) all =
       | false ↦ all_filtered P test rows all.1
     ]
 
-pub all_after : (P : Row → Type 0) (resume : Option (List ℕ)) (rows : List Row) → AllByRecursion P rows → AllByRecursion P (rows_after resume rows)
-all_after P None rows all = all
-all_after P (Some key) rows all = all_filtered P (λ (row : Row). is_lt (byte_cmp key row.key)) rows all
+pub all_after : (P : Row → Type 0) (closed : Bool) (resume : Option (List ℕ)) (rows : List Row) → AllByRecursion P rows → AllByRecursion P (rows_behind closed resume rows)
+all_after P closed None rows all = all
+all_after P closed (Some key) rows all = all_filtered P (λ (row : Row). is_behind closed (Some key) row.key) rows all
 
 pub all_taken : (P : Row → Type 0) (n : ℕ) (rows : List Row) → AllByRecursion P rows → AllByRecursion P (take n rows)
 all_taken P zero rows all = tt
@@ -101,7 +106,7 @@ first_full w rows form =
     let groups : List Row = grouped w.schema w.columns w.values rows in
     let P : Row → Type 0 = λ (row : Row). length row.values ≡ length aggs in
     let under : AreFull aggs (map f rows ++ []) = subst (AreFull aggs) (sym (append-nil (map f rows))) (full_regrouped w.schema w.columns w.values rows form) in
-    all_taken P w.most (rows_after w.resume groups) (all_after P w.resume groups (folds_full aggs (map f rows ∷ []) under))
+    all_taken P w.most (rows_behind w.inclusive w.resume groups) (all_after P w.inclusive w.resume groups (folds_full aggs (map f rows ∷ []) under))
 
 shorter : (n : ℕ) (rows : List Row) → length (take n rows) ≤ n
 shorter zero rows = omega arith
@@ -110,7 +115,7 @@ shorter (suc n) (row ∷ rows) = omega (arith, shorter n rows)
 
 -- as many entries as are wanted, at most
 pub first_short : (w : Wanted) (rows : List Row) (es : List Entry) → rows_in es ≡ first_groups w rows → length es ≤ w.most
-first_short w rows es held = omega (arith, length-rows_in es, ap length held, shorter w.most (rows_after w.resume (grouped w.schema w.columns w.values rows)))
+first_short w rows es held = omega (arith, length-rows_in es, ap length held, shorter w.most (rows_behind w.inclusive w.resume (grouped w.schema w.columns w.values rows)))
 
 -- fewer than are wanted are all
 pub first_all : (n : ℕ) (rows : List Row) → length (take n rows) < n → take n rows ≡ rows
@@ -119,7 +124,7 @@ first_all (suc n) [] l = refl
 first_all (suc n) (row ∷ rows) l = ap (λ xs. row ∷ xs) (first_all n rows (omega arith))
 
 -- so where as many are wanted as no list has, they are the groups
-pub all_groups : (s : Columns) (columns values : List ℕ) (most : ℕ) (w : Wanted) (rows found : List Row) → w ≡ record { schema = s; columns = columns; values = values; resume = None; most = most } → found ≡ first_groups w rows → length found < most
+pub all_groups : (s : Columns) (columns values : List ℕ) (most : ℕ) (w : Wanted) (rows found : List Row) → w ≡ record { schema = s; columns = columns; values = values; resume = None; inclusive = false; most = most } → found ≡ first_groups w rows → length found < most
     → found ≡ grouped s columns values rows
 all_groups s columns values most w rows found wanted first few =
     let here : found ≡ take most (grouped s columns values rows) = first ∙ ap (λ v. first_groups v rows) wanted in

@@ -1,5 +1,5 @@
 -- What a gatherer of groups holds of the rows that were put in.
-use Rattle.std.specs.Prelude.{◌≡◌, ◌<◌, List, slice_index, EachIndex, IsTrue}
+use Rattle.std.specs.Prelude.{◌≡◌, ℕ, ◌<◌, List, slice_index, EachIndex, IsTrue}
 use Rattle.std.specs.Option.{option_copied}
 use Rattle.mesa_schema.specs.declared.rows.Row.{Row}
 use Rattle.mesa_schema.specs.Columns.{aggs_of, chosen, kinds_of}
@@ -11,7 +11,11 @@ use Rattle.mesa_answer.specs.declared.groups.Groups.{Groups}
 
 -- what groups a gatherer was made for
 abbrev pub wanted_of : Groups → Wanted
-wanted_of g = record { schema = g.schema.now; columns = g.columns.now; values = g.values.now; resume = option_copied g.resume; most = g.most }
+wanted_of g = record { schema = g.schema.now; columns = g.columns.now; values = g.values.now; resume = option_copied g.resume; inclusive = g.inclusive; most = g.most }
+
+-- the group key of the row that was taken in hand last
+abbrev pub key_at_hand : Groups → List ℕ
+key_at_hand g = g.hand.key
 
 -- Just these rows were put into a gatherer, in this order: it holds their first groups.
 pub record HasPut (g : Groups) (given : List Row) : Type 0 where

@@ -3,3 +3,4 @@ pub mod Gathered
 pub mod Gathering
 pub mod Held
 pub mod Regrouping
+pub mod Sums

@@ -1,5 +1,5 @@
 // Grouping rows.
-ghost use Rattle.std.specs.Prelude.{◌≡◌, None, IsTrue, IfOk};
+ghost use Rattle.std.specs.Prelude.{◌≡◌, None, IsTrue, IfOk, false};
 ghost use Rattle.mesa_schema.specs.Rows.{AreRowsOf};
 ghost use Rattle.mesa_schema.specs.Folded.{grouped};
 ghost use Rattle.mesa_filter.specs.Query.{are_places};
@@ -46,7 +46,7 @@ fn gathered<'a>(
     requires of_schema { AreRowsOf schema.now rows.now }
     requires bounded { KeepsSums schema.now rows.now }
     ensures put { IfOk result (λ groups. HasPut groups rows.now) }
-    ensures wanted { IfOk result (λ groups. wanted_of groups ≡ record { schema = schema.now; columns = columns.now; values = values.now; resume = None; most = usize.MAX }) }
+    ensures wanted { IfOk result (λ groups. wanted_of groups ≡ record { schema = schema.now; columns = columns.now; values = values.now; resume = None; inclusive = false; most = usize.MAX }) }
 {
     let mut groups = Groups::all(alloc, schema, columns, values)?;
     for row in rows {

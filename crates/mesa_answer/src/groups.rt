@@ -1,5 +1,5 @@
 // The first groups of rows that are put in one by one.
-ghost use Rattle.std.specs.Prelude.{◌≡◌, ◌<◌, ◌≤◌, ◌^◌, List, [], ◌∷◌, ◌++◌, length, map, slice_index, EachIndex, None, IsTrue, IfOk, OnOk, OnErr, IfErr, MatchOption};
+ghost use Rattle.std.specs.Prelude.{◌≡◌, ◌<◌, ◌≤◌, ◌^◌, List, [], ◌∷◌, ◌++◌, length, map, slice_index, EachIndex, None, IsTrue, IfOk, OnOk, OnErr, IfErr, MatchOption, false, ◌↔◌};
 ghost use Rattle.std.specs.Option.{option_copied};
 ghost use Rattle.mesa_schema.specs.declared.columns.KeyColumn.{KeyColumn as Column};
 ghost use Rattle.mesa_schema.specs.declared.rows.Row.{Row as AnyRow};
@@ -10,9 +10,10 @@ ghost use Rattle.mesa_schema.specs.Rows.{AreRowsOf, IsRowOf};
 ghost use Rattle.mesa_filter.specs.Query.{IsQueryOf, are_places};
 ghost use Rattle.mesa_model.specs.Page.{page_of};
 ghost use Rattle.mesa_answer.specs.Answering.{KeepsSums, grouped_columns};
-ghost use Rattle.mesa_answer.specs.Gathered.{HasPut, wanted_of};
-ghost use Rattle.mesa_answer.specs.Gathering.{first_groups, wanted_by};
+ghost use Rattle.mesa_answer.specs.Gathered.{HasPut, key_at_hand, wanted_of};
+ghost use Rattle.mesa_answer.specs.Gathering.{first_groups, group_from, wanted_by};
 ghost use Rattle.mesa_answer.specs.Held.{is_behind as comes_after, rows_in};
+ghost use Rattle.mesa_answer.specs.Sums.{HasGroup, SumLeaves};
 
 use crate::error::GroupError;
 use crate::hand::Hand;
@@ -33,6 +34,8 @@ pub struct Groups<'a> {
     columns: &'a [u16],
     values: &'a [u16],
     resume: Option<&'a [u8]>,
+    // Whether the group of the resume key itself is wanted too.
+    inclusive: bool,
     most: usize,
     // What is looked up for each row: the types of the key columns, how many of them are looked at, and the aggregations of the chosen values.
     kinds: Vec<KeyType>,
@@ -50,6 +53,7 @@ impl Drop for Groups<'_> {
             columns: _,
             values: _,
             resume: _,
+            inclusive: _,
             most: _,
             kinds: _,
             depth: _,
@@ -69,7 +73,8 @@ impl<'a> Groups<'a> {
     {
         let most = query.limit() as usize + 1;
         let resume = query.resume();
-        Self::new(alloc, schema, query.columns(), query.values(), resume, most)
+        let columns = query.columns();
+        Self::new(alloc, schema, columns, query.values(), false, resume, most)
     }
 
     /// For all groups by the key columns at these places, with the value columns at those.
@@ -82,9 +87,9 @@ impl<'a> Groups<'a> {
         requires columns_there { IsTrue (are_places schema.now.keys columns.now) }
         requires values_there { IsTrue (are_places schema.now.values values.now) }
         ensures none { IfOk result (λ g. HasPut g []) }
-        ensures wanted { IfOk result (λ g. wanted_of g ≡ record { schema = schema.now; columns = columns.now; values = values.now; resume = None; most = usize.MAX }) }
+        ensures wanted { IfOk result (λ g. wanted_of g ≡ record { schema = schema.now; columns = columns.now; values = values.now; resume = None; inclusive = false; most = usize.MAX }) }
     {
-        Self::new(alloc, schema, columns, values, None, usize::MAX)
+        Self::new(alloc, schema, columns, values, false, None, usize::MAX)
     }
 
     fn new(
@@ -92,13 +97,14 @@ impl<'a> Groups<'a> {
         schema: &'a Schema,
         columns: &'a [u16],
         values: &'a [u16],
+        inclusive: bool,
         resume: Option<&'a [u8]>,
         most: usize,
     ) -> Result<Self, AllocError>
         requires columns_there { IsTrue (are_places schema.now.keys columns.now) }
         requires values_there { IsTrue (are_places schema.now.values values.now) }
         ensures none { IfOk result (λ g. HasPut g []) }
-        ensures wanted { IfOk result (λ g. wanted_of g ≡ record { schema = schema.now; columns = columns.now; values = values.now; resume = option_copied resume.entry; most = most }) }
+        ensures wanted { IfOk result (λ g. wanted_of g ≡ record { schema = schema.now; columns = columns.now; values = values.now; resume = option_copied resume.entry; inclusive = inclusive; most = most }) }
     {
         let kinds = kinds_in(alloc, schema.keys())?;
         let aggs = chosen_aggs(alloc, schema, values)?;
@@ -107,6 +113,7 @@ impl<'a> Groups<'a> {
             columns,
             values,
             resume,
+            inclusive,
             most,
             kinds,
             depth: depth_of(columns),
@@ -123,12 +130,14 @@ impl<'a> Groups<'a> {
         ensures put { OnOk result ((given : List AnyRow) → HasPut self.old given → HasPut self.new (given ++ lent row.entry ∷ [])) }
         ensures same { OnErr result ((given : List AnyRow) → HasPut self.old given → HasPut self.new given) }
         ensures wanted { wanted_of self.new ≡ wanted_of self.old }
-        // A sum leaves its type only where the absolute values of the rows may add up to more than it holds.
+        // A sum really leaves its type, that of the group whose key is at hand then,
+        ensures sum { IfErr result (λ e. e ≡ GroupError.Sum → (given : List AnyRow) → HasPut self.old given → SumLeaves (wanted_of self.old) given (lent row.entry) (key_at_hand self.new)) }
+        // and only where the absolute values of the rows may add up to more than it holds.
         ensures cause { IfErr result (λ e. e ≡ GroupError.Sum → (given : List AnyRow) → HasPut self.old given → KeepsSums (wanted_of self.old).schema (given ++ lent row.entry ∷ []) → ⊥) }
     {
         self.hand
             .take(&self.kinds, self.depth, self.columns, self.values, row)?;
-        if !is_behind(self.resume, self.hand.key()) {
+        if !is_behind(self.inclusive, self.resume, self.hand.key()) {
             return Ok(());
         }
         put_first(
@@ -139,6 +148,33 @@ impl<'a> Groups<'a> {
             self.hand.key(),
             self.hand.values(),
         )
+    }
+
+    /// The group key of the row that was put in or refused last.
+    pub fn key_at_hand(&self) -> &[u8]
+        ensures { result.now ≡ key_at_hand self.now }
+    {
+        self.hand.key()
+    }
+
+    /// For the first group at the key at hand or behind it, by the same key columns and without values. So no sum is formed, and `holds` tells whether a row of the group was put in.
+    pub fn seek_group(&self) -> Result<Groups<'_>, AllocError>
+        requires columns_there { IsTrue (are_places (wanted_of self.now).schema.keys (wanted_of self.now).columns) }
+        ensures none { IfOk result (λ g. HasPut g []) }
+        ensures wanted { IfOk result (λ g. wanted_of g ≡ group_from (wanted_of self.now).schema (wanted_of self.now).columns (key_at_hand self.now)) }
+    {
+        let alloc = *self.aggs.allocator();
+        let key = Some(self.hand.key());
+        Groups::new(alloc, self.schema, self.columns, &[], true, key, 1)
+    }
+
+    /// Whether a row of a group was put in, where these groups begin at that group's key.
+    pub fn holds(&self, key: &[u8]) -> bool
+        requires gathering { (given : List AnyRow) × HasPut self.now given }
+        requires begins { wanted_of self.now ≡ group_from (wanted_of self.now).schema (wanted_of self.now).columns key.now }
+        ensures { (given : List AnyRow) → HasPut self.now given → IsTrue result ↔ HasGroup (wanted_of self.now).schema (wanted_of self.now).columns key.now given }
+    {
+        self.held.contains_key(key)
     }
 
     /// The groups of the rows that were put in, in the order of their keys.
@@ -153,6 +189,7 @@ impl<'a> Groups<'a> {
             columns: _,
             values: _,
             resume: _,
+            inclusive: _,
             most: _,
             kinds: _,
             depth: _,
@@ -175,13 +212,18 @@ impl<'a> Groups<'a> {
     }
 }
 
-// Whether a group key is behind the resume key.
-fn is_behind(resume: Option<&[u8]>, key: &[u8]) -> bool
-    ensures { result ≡ comes_after (option_copied resume.entry) key.now }
+// Whether a group key is behind the resume key, or is that key where it is wanted too.
+fn is_behind(inclusive: bool, resume: Option<&[u8]>, key: &[u8]) -> bool
+    ensures { result ≡ comes_after inclusive (option_copied resume.entry) key.now }
 {
-    match resume {
-        Some(resume) => resume.cmp(key).is_lt(),
-        None => true,
+    let Some(resume) = resume else {
+        return true;
+    };
+    let order = resume.cmp(key);
+    if inclusive {
+        order.is_le()
+    } else {
+        order.is_lt()
     }
 }
 

@@ -1,5 +1,5 @@
-use Rattle.std.proofs.Common.{◌≡◌, ◌∙◌, ◌∷◌, [], List, length, take, ap, sym, subst, true, false}
-use Rattle.std.specs.Prelude.{ℤ}
+use Rattle.std.proofs.Common.{◌≡◌, ◌∙◌, ◌∷◌, [], ℕ, List, Some, length, take, ap, sym, subst, true, false}
+use Rattle.std.specs.Prelude.{ℤ, slice_get}
 use Rattle.std.specs.List.{concat}
 use Rattle.mesa_value.specs.declared.Agg.{Agg}
 use Rattle.mesa_key.specs.Spelling.{columns_of}
@@ -11,10 +11,12 @@ use Rattle.mesa_schema.specs.Lent.{lent}
 use Rattle.mesa_schema.specs.Put.{put_row}
 use Rattle.mesa_schema.specs.Rows.{IsRowOf}
 use Rattle.mesa_answer.specs.Gathered.{wanted_of}
+use Rattle.mesa_answer.specs.Gathering.{first_groups}
 use Rattle.mesa_answer.specs.Held.{is_behind, rows_in}
 use Rattle.mesa_answer.proofs.Bounds.{full_regrouped}
 use Rattle.mesa_answer.proofs.Forms.{row_spells}
 use Rattle.mesa_answer.proofs.Results.{if_err, on_ok}
+use Rattle.mesa_answer.proofs.Seeking.{group_at}
 use Rattle.mesa_answer.proofs.Steps.{all_more, first_full, first_groups-before, first_groups-behind, group_combines}
 use Rattle.mesa_answer.proofs.groups.Groups.put.Goals as goal
 
@@ -28,8 +30,8 @@ returns-then-not-is_behind-clause-put c = λ given put.
     let row : Row = lent c.args.row in
     let kinds = c.deref.ensures.value ∙ put.kinds in
     let filled : c.take.new.self ≡ regrouped g.schema.now g.columns.now g.values.now row = c.in_ok-take.ensures ∙ (λ i. record { key = concat (chosen g.columns.now (columns_of (kinds i) row.key)); values = chosen g.values.now row.values }) in
-    let before : is_behind (wanted_of g).resume (regrouped g.schema.now g.columns.now g.values.now row).key ≡ false =
-    ap (λ (r : Row). is_behind (wanted_of g).resume r.key) (sym filled) ∙ ap (is_behind (wanted_of g).resume) (sym c.key.ensures) ∙ sym c.is_behind.ensures ∙ c.if-not-is_behind.true in
+    let before : is_behind (wanted_of g).inclusive (wanted_of g).resume (regrouped g.schema.now g.columns.now g.values.now row).key ≡ false =
+    ap (λ (r : Row). is_behind (wanted_of g).inclusive (wanted_of g).resume r.key) (sym filled) ∙ ap (is_behind (wanted_of g).inclusive (wanted_of g).resume) (sym c.key.ensures) ∙ sym c.is_behind.ensures ∙ c.if-not-is_behind.true in
     record {
       columns = put.columns;
       values = put.values;
@@ -64,8 +66,8 @@ returns-clause-put c =
     on_ok c.put_first.result _ _ (λ held given put.
     let kinds = c.deref.ensures.value ∙ put.kinds in
     let filled : c.take.new.self ≡ regrouped g.schema.now g.columns.now g.values.now row = c.in_ok-take.ensures ∙ (λ i. record { key = concat (chosen g.columns.now (columns_of (kinds i) row.key)); values = chosen g.values.now row.values }) in
-    let behind : is_behind (wanted_of g).resume (regrouped g.schema.now g.columns.now g.values.now row).key ≡ true =
-    ap (λ (r : Row). is_behind (wanted_of g).resume r.key) (sym filled) ∙ ap (is_behind (wanted_of g).resume) (sym c.key.ensures) ∙ sym c.is_behind.ensures ∙ c.if-not-is_behind.false in
+    let behind : is_behind (wanted_of g).inclusive (wanted_of g).resume (regrouped g.schema.now g.columns.now g.values.now row).key ≡ true =
+    ap (λ (r : Row). is_behind (wanted_of g).inclusive (wanted_of g).resume r.key) (sym filled) ∙ ap (is_behind (wanted_of g).inclusive (wanted_of g).resume) (sym c.key.ensures) ∙ sym c.is_behind.ensures ∙ c.if-not-is_behind.false in
     let aggs : c.deref-2.result.now ≡ chosen g.values.now (aggs_of g.schema.now) = c.deref-2.ensures.value ∙ put.aggs in
     let hand : record { key = c.key-2.result.now; values = c.values.result.now } ≡ regrouped g.schema.now g.columns.now g.values.now row = (λ i. record { key = c.key-2.ensures i; values = c.values.ensures i }) ∙ filled in
     record {
@@ -90,3 +92,22 @@ returns-clause-cause c =
     let values : c.values.result.now ≡ (regrouped g.schema.now g.columns.now g.values.now row).values = c.values.ensures ∙ ap (λ (r : Row). r.values) filled in
     let combine = group_combines (wanted_of g) given row g.held.entries c.key-2.result.now group.0 put.values put.form c.requires.form keeps put.held group.1 in
     group.2 (subst (λ (vs : List ℤ). AllCombine c.deref-2.result.now group.0 vs) (sym values) (subst (λ (gs : List Agg). AllCombine gs group.0 (regrouped g.schema.now g.columns.now g.values.now row).values) (sym aggs) combine))) c.put_first.ensures.cause
+
+pub returns-clause-sum : goal.returns-clause-sum
+returns-clause-sum c =
+    let g = c.args.self.now in
+    let row : Row = lent c.args.row in
+    if_err c.put_first.result _ _ (λ e why is given put.
+    let group = why is in
+    let kinds = c.deref.ensures.value ∙ put.kinds in
+    let filled : c.take.new.self ≡ regrouped g.schema.now g.columns.now g.values.now row = c.in_ok-take.ensures ∙ (λ i. record { key = concat (chosen g.columns.now (columns_of (kinds i) row.key)); values = chosen g.values.now row.values }) in
+    let aggs : c.deref-2.result.now ≡ chosen g.values.now (aggs_of g.schema.now) = c.deref-2.ensures.value ∙ put.aggs in
+    let values : c.values.result.now ≡ chosen g.values.now row.values = c.values.ensures ∙ ap (λ (r : Row). r.values) filled in
+    let there = group_at g.held.entries c.key-2.result.now group.0 group.1 in
+    record {
+      of_group = sym (ap (λ (r : Row). r.key) filled);
+      place = there.0;
+      old = group.0;
+      group = subst (λ (key : List ℕ). slice_get (first_groups (wanted_of g) given) there.0 ≡ Some (record { key = key; values = group.0 })) c.key-2.ensures (subst (λ (rows : List Row). slice_get rows there.0 ≡ Some (record { key = c.key-2.result.now; values = group.0 })) put.held there.1);
+      leaves = λ combine. group.2 (subst (λ (vs : List ℤ). AllCombine c.deref-2.result.now group.0 vs) (sym values) (subst (λ (gs : List Agg). AllCombine gs group.0 (chosen g.values.now row.values)) (sym aggs) combine));
+    }) c.put_first.ensures.cause

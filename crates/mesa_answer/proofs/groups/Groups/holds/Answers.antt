@@ -1,0 +1,12 @@
+use Rattle.std.proofs.Common.{◌∙◌, ap, sym}
+use Rattle.mesa_answer.specs.Gathered.{wanted_of}
+use Rattle.mesa_answer.specs.Gathering.{Wanted, first_groups}
+use Rattle.mesa_answer.proofs.Seeking.{group_there}
+use Rattle.mesa_answer.proofs.groups.Groups.holds.Goals as goal
+
+pub returns : goal.returns
+returns c = λ given put.
+    let w = wanted_of c.args.self.now in
+    let es = c.args.self.now.held.entries in
+    let there = group_there w.schema w.columns c.args.key.now given es (put.held ∙ ap (λ (v : Wanted). first_groups v given) c.requires.begins) in
+    (λ yes. there.0 (sym c.contains_key.ensures ∙ yes), λ has. c.contains_key.ensures ∙ there.1 has)
