@@ -1,22 +1,34 @@
 -- Pinned files, one of which is read.
-use Rattle.std.proofs.Common.{◌≡◌, ℕ, zero, suc, ◌<◌, List, [], ◌∷◌, length, drop, get_or, set, refl, sym, ◌∙◌, ap, subst, arith, add-zero, inl, inr}
-use Rattle.std.specs.Prelude.{Option, Result}
+use Rattle.std.proofs.Common.{◌≡◌, ℕ, zero, suc, ◌<◌, List, [], ◌∷◌, length, drop, get_or, set, refl, sym, ◌∙◌, ap, subst, arith, inl, inr}
+use Rattle.std.specs.Prelude.{IfSome, Option, Result, Some, slice_get}
 use Rattle.std.specs.List.{AllByRecursion}
 use Rattle.std.proofs.Math.ListN.{get_or-map}
 use Rattle.std.proofs.Math.Seq.{map-set_same}
-use Rattle.std.proofs.lemmas.List.{drop-set-lt, get_or-drop, length-map, map-set}
+use Rattle.std.proofs.lemmas.List.{length-map, map-set}
 use Rattle.mesa_fault.specs.Causes.{HasFaultCause}
 use Rattle.mesa_file.specs.declared.damage.Damage.{Damage}
+use Rattle.mesa_schema.specs.declared.rows.Row.{Row}
+use Rattle.mesa_schema.specs.Columns.{Columns}
+use Rattle.mesa_delta.specs.Ahead.{AreAhead, AreOfFile, IsOfFile, Told, Untested}
+use Rattle.mesa_delta.specs.Indexed.{Indexed}
+use Rattle.mesa_delta.specs.Reading.{IsIndexed, index_of}
 use Rattle.mesa_delta.specs.declared.error.FileError.{FileError}
 use Rattle.mesa_delta.specs.declared.error.FileError.TheVariants.{Read}
 use Rattle.mesa_delta.specs.declared.input.Input.{Input}
 use Rattle.mesa_scan.specs.mesa_cursor.Cursors.{IsSameInput, reader_in}
+use Rattle.mesa_scan.specs.Moving.{moved_to, told_in}
+use Rattle.mesa_scan.proofs.Moving.{stays_input}
+use Rattle.mesa_scan.proofs.Onwards.{damaged_before}
 use Rattle.mesa_merge.specs.Faults.{HaveFaultCause, faults_of}
-use Rattle.mesa_merge.specs.Inputs.{knowns_of}
+use Rattle.mesa_merge.specs.Inputs.{IsTold, Known, known_of, knowns_of}
 use Rattle.mesa_merge.proofs.Causing.{cause_kept}
 use Rattle.mesa_merge.proofs.Inputs.{SameEnd, cause_at, faults_same, known_set}
 use Rattle.mesa_tasks.specs.declared.querying.PinnedInput.{PinnedInput}
-use Rattle.mesa_query.specs.Files.{IsDamageIn, IsDamageOf, inputs_in, owns_in}
+use Rattle.mesa_tasks.specs.Pins.{IsPinnedInput}
+use Rattle.mesa_view.specs.SumDamage.{IsSumDamage}
+use Rattle.mesa_query.specs.Files.{AreMoved, IsDamageIn, IsDamageOf, IsMoved, inputs_in, owns_in, tolds_of}
+use Rattle.mesa_query.specs.Relation.{rows_ungrouped}
+use Rattle.mesa_query.proofs.Owned.{pinned_after}
 
 -- ---- the file at a place
 
@@ -31,27 +43,106 @@ all_at P [] n x h lt is = absurd (omega (arith, lt))
 all_at {X = X} P (y ∷ xs) zero x h lt is = subst P (sym is) h.0
 all_at P (y ∷ xs) (suc n) x h lt is = all_at P xs n x h.1 (omega (arith, lt)) is
 
--- ---- the files that are left
+-- ---- files of which blocks were read ahead
 
-rest : {X : Type 0} → List X → List X
-rest [] = []
-rest (x ∷ xs) = xs
+pub moved_same : {R : Type 0} (bytes : R → Option (List ℕ)) (size : R → ℕ) (old new : PinnedInput R) → IsMoved bytes size old new → IsSameInput bytes old.input new.input
+moved_same {R = R} bytes size old new m = record {
+  index = ap (λ (file : PinnedInput R). index_of file.input.reader) m.file;
+  evolving = ap (λ (file : PinnedInput R). file.input.evolving) m.file;
+  epoch = ap (λ (file : PinnedInput R). file.input.epoch) m.file;
+  told = m.told;
+}
 
-rest_drop : {X : Type 0} (n : ℕ) (xs : List X) → rest (drop n xs) ≡ drop (suc n) xs
-unfolding rest
-rest_drop zero [] = refl
-rest_drop zero (x ∷ xs) = refl
-rest_drop (suc n) [] = refl
-rest_drop (suc n) (x ∷ xs) = rest_drop n xs
+moved_own : {R : Type 0} (bytes : R → Option (List ℕ)) (size : R → ℕ) (old new : PinnedInput R) → IsMoved bytes size old new → new.own ≡ old.own
+moved_own {R = R} bytes size old new m = ap (λ (file : PinnedInput R). file.own) m.file
 
--- the next of those that are left is what it was
-pub left_here : {X : Type 0} (n : ℕ) (start now : List X) (d : X) → drop n now ≡ drop n start → d ≡ get_or now n d → d ≡ get_or start n d
-left_here n start now d left is =
-    is ∙ sym (get_or-drop n now 0 d ∙ ap (λ m. get_or now m d) (add-zero n)) ∙ ap (λ xs. get_or xs 0 d) left ∙ get_or-drop n start 0 d ∙ ap (λ m. get_or start m d) (add-zero n)
+moved_twice : {R : Type 0} (bytes : R → Option (List ℕ)) (size : R → ℕ) (a b c : PinnedInput R) → IsMoved bytes size a b → IsMoved bytes size b c → IsMoved bytes size a c
+moved_twice {R = R} bytes size a b c p q = record {
+  file = q.file ∙ ap (λ (file : PinnedInput R). record file { input = moved_to (reader_in c.input) file.input }) p.file;
+  told = q.told ∙ p.told;
+  size = q.size ∙ p.size;
+}
 
--- and those behind it are
-pub left_more : {X : Type 0} (n : ℕ) (start now : List X) (x : X) → drop n now ≡ drop n start → drop (suc n) (set now n x) ≡ drop (suc n) start
-left_more n start now x left = drop-set-lt (suc n) now n x (omega arith) ∙ sym (rest_drop n now) ∙ ap rest left ∙ rest_drop n start
+pub moved_none : {R : Type 0} (bytes : R → Option (List ℕ)) (size : R → ℕ) (files : List (PinnedInput R)) → AreMoved bytes size files files
+moved_none bytes size [] = tt
+moved_none bytes size (file ∷ files) = (record { file = refl; told = refl; size = refl }, moved_none bytes size files)
+
+pub moved_further : {R : Type 0} (bytes : R → Option (List ℕ)) (size : R → ℕ) (first between last : List (PinnedInput R)) → AreMoved bytes size first between → AreMoved bytes size between last → AreMoved bytes size first last
+moved_further bytes size [] [] last p q = q
+moved_further bytes size [] (b ∷ between) last p q = absurd p
+moved_further bytes size (a ∷ first) [] last p q = absurd p
+moved_further bytes size (a ∷ first) (b ∷ between) [] p q = absurd q
+moved_further bytes size (a ∷ first) (b ∷ between) (c ∷ last) p q = (moved_twice bytes size a b c p.0 q.0, moved_further bytes size first between last p.1 q.1)
+
+pub moved_set : {R : Type 0} (bytes : R → Option (List ℕ)) (size : R → ℕ) (files : List (PinnedInput R)) (n : ℕ) (x d : PinnedInput R) → n < length files → d ≡ get_or files n d → IsMoved bytes size d x → AreMoved bytes size files (set files n x)
+moved_set bytes size [] n x d lt is m = absurd (omega (arith, lt))
+moved_set {R = R} bytes size (file ∷ files) zero x d lt is m = (subst (λ (f : PinnedInput R). IsMoved bytes size f x) is m, moved_none bytes size files)
+moved_set bytes size (file ∷ files) (suc n) x d lt is m = (record { file = refl; told = refl; size = refl }, moved_set bytes size files n x d (omega (arith, lt)) is m)
+
+pub moved_drop : {R : Type 0} (bytes : R → Option (List ℕ)) (size : R → ℕ) (n : ℕ) (old new : List (PinnedInput R)) → AreMoved bytes size old new → AreMoved bytes size (drop n old) (drop n new)
+moved_drop bytes size zero old new m = m
+moved_drop bytes size (suc n) [] [] m = tt
+moved_drop bytes size (suc n) [] (y ∷ new) m = absurd m
+moved_drop bytes size (suc n) (file ∷ old) [] m = absurd m
+moved_drop bytes size (suc n) (file ∷ old) (y ∷ new) m = moved_drop bytes size n old new m.1
+
+pub moved_count : {R : Type 0} (bytes : R → Option (List ℕ)) (size : R → ℕ) (old new : List (PinnedInput R)) → AreMoved bytes size old new → length new ≡ length old
+moved_count bytes size [] [] m = refl
+moved_count bytes size [] (y ∷ new) m = absurd m
+moved_count bytes size (file ∷ old) [] m = absurd m
+moved_count bytes size (file ∷ old) (y ∷ new) m = ap suc (moved_count bytes size old new m.1)
+
+pub moved_known : {R : Type 0} (bytes : R → Option (List ℕ)) (size : R → ℕ) (old new : List (PinnedInput R)) → AreMoved bytes size old new → knowns_of bytes (inputs_in new) ≡ knowns_of bytes (inputs_in old)
+moved_known bytes size [] [] m = refl
+moved_known bytes size [] (y ∷ new) m = absurd m
+moved_known bytes size (file ∷ old) [] m = absurd m
+moved_known bytes size (file ∷ old) (y ∷ new) m =
+    let same = moved_same bytes size file y m.0 in
+    let rest = moved_known bytes size old new m.1 in
+    λ k. record { file = same.index k; table = (same.evolving k).value; epoch = same.epoch k; told = same.told k } ∷ rest k
+
+pub moved_owns : {R : Type 0} (bytes : R → Option (List ℕ)) (size : R → ℕ) (old new : List (PinnedInput R)) → AreMoved bytes size old new → owns_in new ≡ owns_in old
+moved_owns bytes size [] [] m = refl
+moved_owns bytes size [] (y ∷ new) m = absurd m
+moved_owns bytes size (file ∷ old) [] m = absurd m
+moved_owns bytes size (file ∷ old) (y ∷ new) m =
+    let own = moved_own bytes size file y m.0 in
+    let rest = moved_owns bytes size old new m.1 in
+    λ k. own k ∷ rest k
+
+pub moved_pinned : {R : Type 0} (bytes : R → Option (List ℕ)) (size : R → ℕ) (s : Columns) (view : Option ℕ) (old new : List (PinnedInput R)) → AreMoved bytes size old new → AllByRecursion (IsPinnedInput bytes s view) old → AllByRecursion (IsPinnedInput bytes s view) new
+moved_pinned bytes size s view [] [] m all = tt
+moved_pinned bytes size s view [] (y ∷ new) m all = absurd m
+moved_pinned bytes size s view (file ∷ old) [] m all = absurd m
+moved_pinned {R = R} bytes size s view (file ∷ old) (y ∷ new) m all = (
+  pinned_after bytes s view file y (moved_same bytes size file y m.0) (moved_own bytes size file y m.0)
+  (stays_input bytes file.input y.input (ap (λ (f : PinnedInput R). f.input) m.0.file) m.0.told all.0.input) all.0,
+  moved_pinned bytes size s view old new m.1 all.1,
+)
+
+pub moved_here : {R : Type 0} (bytes : R → Option (List ℕ)) (size : R → ℕ) (n : ℕ) (start now : List (PinnedInput R)) (d e : PinnedInput R) → n < length start → length now ≡ length start → AreMoved bytes size (drop n start) (drop n now) → IsMoved bytes size (get_or start n d) (get_or now n e)
+moved_here bytes size n [] now d e lt long m = absurd (omega (arith, lt))
+moved_here bytes size n (s ∷ start) [] d e lt long m = absurd (omega (arith, long))
+moved_here bytes size zero (s ∷ start) (y ∷ now) d e lt long m = m.0
+moved_here bytes size (suc n) (s ∷ start) (y ∷ now) d e lt long m = moved_here bytes size n start now d e (omega (arith, lt)) (omega (arith, long)) m
+
+pub left_more : {R : Type 0} (bytes : R → Option (List ℕ)) (size : R → ℕ) (n : ℕ) (start now : List (PinnedInput R)) (x : PinnedInput R) → length now ≡ length start → AreMoved bytes size (drop n start) (drop n now) → AreMoved bytes size (drop (suc n) start) (drop (suc n) (set now n x))
+left_more bytes size n [] (y ∷ now) x long m = absurd (omega (arith, long))
+left_more bytes size n (s ∷ start) [] x long m = absurd (omega (arith, long))
+left_more bytes size zero [] [] x long m = tt
+left_more bytes size zero (s ∷ start) (y ∷ now) x long m = m.1
+left_more bytes size (suc n) [] [] x long m = tt
+left_more bytes size (suc n) (s ∷ start) (y ∷ now) x long m = left_more bytes size n start now x (omega (arith, long)) m
+
+-- a file's rows in the relation are what they were
+pub moved_rows : {R : Type 0} (bytes : R → Option (List ℕ)) (size : R → ℕ) (view : Option ℕ) (old new : PinnedInput R) (rows : List Row) → IsMoved bytes size old new → rows_ungrouped view new rows ≡ rows_ungrouped view old rows
+moved_rows {R = R} bytes size view old new rows m = ap (λ (file : PinnedInput R). rows_ungrouped view file rows) m.file
+
+-- and so is what is told of it
+pub moved_told : {R : Type 0} (bytes : R → Option (List ℕ)) (size : R → ℕ) (old new : PinnedInput R) (rows : List Row) → IsMoved bytes size old new → IsTold (known_of bytes old.input) rows → IsTold (known_of bytes new.input) rows
+moved_told bytes size old new rows m told =
+    let same = moved_same bytes size old new m in
+    (told.0, same.told ∙ told.1, subst (λ (x : Indexed). IsIndexed x rows told.0) (sym same.index) told.2)
 
 -- ---- a file that was read
 
@@ -86,13 +177,57 @@ file_cause {R = R} faults start files n x d r q lt is stay cause same =
     (ap (faults_of faults) (sym (map-set (λ (file : PinnedInput R). file.input) files n x)))
     (cause_at faults (inputs_in files) n x.input d.input r q (input_within files n lt) here same)
 
--- damage of one file, the first that isn't as it was, is damage of the files
+damage_before : {R : Type 0} (bytes : R → Option (List ℕ)) (size : R → ℕ) (d : Damage) (old new : PinnedInput R) → IsMoved bytes size old new → IsDamageOf bytes size d new → IsDamageOf bytes size d old
+damage_before bytes size d old new m (inl damaged) = inl (damaged_before bytes size old.input new.input d (moved_same bytes size old new m) m.size damaged)
+damage_before bytes size d old new m (inr sum) = inr (subst (λ (x : Indexed). IsSumDamage x.file d) (moved_same bytes size old new m).index sum)
+
+-- damage of one file, behind which no block was taken, is damage of the files
 pub file_damage : {R : Type 0} (bytes : R → Option (List ℕ)) (size : R → ℕ) (d : Damage) (start files : List (PinnedInput R)) (n : ℕ) (x i : PinnedInput R) → n < length files → length files ≡ length start → i ≡ get_or files n i
-    → drop n files ≡ drop n start → IsDamageOf bytes size d i → IsDamageIn bytes size d start (set files n x)
+    → AreMoved bytes size (drop n start) (drop n files) → IsDamageOf bytes size d i → IsDamageIn bytes size d start (set files n x)
 file_damage bytes size d start [] n x i lt long is left h = absurd (omega (arith, lt))
 file_damage bytes size d [] (y ∷ files) n x i lt long is left h = absurd (omega (arith, long))
-file_damage {R = R} bytes size d (file ∷ start) (y ∷ files) zero x i lt long is left h =
-    let first : y ≡ file = cc left in
-    let others : files ≡ start = cc left in
-    inl (subst (IsDamageOf bytes size d) (is ∙ first) h, others)
+file_damage {R = R} bytes size d (file ∷ start) (y ∷ files) zero x i lt long is left h = inl (damage_before bytes size d file y left.0 (subst (IsDamageOf bytes size d) is h), left.1)
 file_damage bytes size d (file ∷ start) (y ∷ files) (suc n) x i lt long is left h = inr (file_damage bytes size d start files n x i (omega (arith, lt)) (omega (arith, long)) is left h)
+
+-- ---- what waits of them
+
+told_there : {R : Type 0} (bytes : R → Option (List ℕ)) (files : List (PinnedInput R)) (n : ℕ) (d : PinnedInput R) → n < length files → d ≡ get_or files n d → slice_get (tolds_of (knowns_of bytes (inputs_in files))) n ≡ Some (told_in bytes d.input)
+told_there bytes [] n d lt is = absurd (omega (arith, lt))
+told_there {R = R} bytes (file ∷ files) zero d lt is = ap (λ (one : PinnedInput R). Some (told_in bytes one.input)) (sym is)
+told_there bytes (file ∷ files) (suc n) d lt is = told_there bytes files n d (omega (arith, lt)) is
+
+of_file : (files : List Told) (place : ℕ) (f : Told) (ahead : List Untested) → slice_get files place ≡ Some f → AreAhead files ahead → AreOfFile f.content f.index place ahead
+of_file files place f [] at h = tt
+of_file files place f (u ∷ ahead) at h = (λ is. subst (λ (o : Option Told). IfSome o (λ (f : Told). IsOfFile f.content f.index u)) (ap (slice_get files) is ∙ at) h.0, of_file files place f ahead at h.1)
+
+-- The files before a place were read, and those from it on are as they were but for what was read ahead.
+pub record Looked {R : Type 0} (bytes : R → Option (List ℕ)) (size_of fault_of : R → ℕ) (s : Columns) (view : Option ℕ) (start now : List (PinnedInput R)) (n : ℕ) (waiting : List Untested) : Type 0 where
+  pub pinned : AllByRecursion (IsPinnedInput bytes s view) now
+  pub known : knowns_of bytes (inputs_in now) ≡ knowns_of bytes (inputs_in start)
+  pub own : owns_in now ≡ owns_in start
+  pub faults : faults_of fault_of (inputs_in now) ≡ faults_of fault_of (inputs_in start)
+  pub count : length now ≡ length start
+  pub left : AreMoved bytes size_of (drop n start) (drop n now)
+  pub ahead : AreAhead (tolds_of (knowns_of bytes (inputs_in start))) waiting
+
+pub looked_on : {R : Type 0} (bytes : R → Option (List ℕ)) (size faults : R → ℕ) (s : Columns) (view : Option ℕ) (start now next : List (PinnedInput R)) (n : ℕ) (ahead after : List Untested) → Looked bytes size faults s view start now n ahead
+    → AreMoved bytes size now next → faults_of faults (inputs_in next) ≡ faults_of faults (inputs_in now) → (AreAhead (tolds_of (knowns_of bytes (inputs_in now))) ahead → AreAhead (tolds_of (knowns_of bytes (inputs_in now))) after)
+    → Looked bytes size faults s view start next n after
+looked_on bytes size faults s view start now next n ahead after h moved stay waits = record {
+  pinned = moved_pinned bytes size s view now next moved h.pinned;
+  known = moved_known bytes size now next moved ∙ h.known;
+  own = moved_owns bytes size now next moved ∙ h.own;
+  faults = stay ∙ h.faults;
+  count = moved_count bytes size now next moved ∙ h.count;
+  left = moved_further bytes size (drop n start) (drop n now) (drop n next) h.left (moved_drop bytes size n now next moved);
+  ahead = subst (λ (ks : List Known). AreAhead (tolds_of ks) after) h.known (waits (subst (λ (ks : List Known). AreAhead (tolds_of ks) ahead) (sym h.known) h.ahead));
+}
+
+-- what waits of the file at a place
+pub there_of_file : {R : Type 0} (bytes : R → Option (List ℕ)) (start now : List (PinnedInput R)) (n : ℕ) (d : PinnedInput R) → knowns_of bytes (inputs_in now) ≡ knowns_of bytes (inputs_in start) → n < length now → d ≡ get_or now n d
+    → slice_get (tolds_of (knowns_of bytes (inputs_in start))) n ≡ Some (told_in bytes d.input)
+there_of_file bytes start now n d known lt is = ap (λ (ks : List Known). slice_get (tolds_of ks) n) (sym known) ∙ told_there bytes now n d lt is
+
+pub own_ahead : {R : Type 0} (bytes : R → Option (List ℕ)) (start now : List (PinnedInput R)) (n : ℕ) (d : PinnedInput R) (ahead : List Untested) → knowns_of bytes (inputs_in now) ≡ knowns_of bytes (inputs_in start) → n < length now → d ≡ get_or now n d
+    → AreAhead (tolds_of (knowns_of bytes (inputs_in start))) ahead → AreOfFile (bytes (reader_in d.input)) (index_of d.input.reader) n ahead
+own_ahead bytes start now n d ahead known lt is h = of_file (tolds_of (knowns_of bytes (inputs_in start))) n (told_in bytes d.input) ahead (there_of_file bytes start now n d known lt is) h

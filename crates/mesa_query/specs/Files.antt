@@ -1,9 +1,13 @@
 -- The files of a pinned query, and what damage is told of them.
-use Rattle.std.specs.Prelude.{◌≡◌, ◌⊎◌, ℕ, List, [], ◌∷◌, map, Bool, Option}
+use Rattle.std.specs.Prelude.{◌≡◌, ◌⊎◌, ℕ, List, [], ◌∷◌, map, Bool, Option, ⊤}
 use Rattle.mesa_file.specs.declared.damage.Damage.{Damage}
+use Rattle.mesa_delta.specs.Ahead.{Told}
 use Rattle.mesa_delta.specs.Reading.{index_of}
 use Rattle.mesa_delta.specs.declared.input.Input.{Input}
+use Rattle.mesa_scan.specs.mesa_cursor.Cursors.{reader_in}
 use Rattle.mesa_scan.specs.Damaged.{IsDamaged}
+use Rattle.mesa_scan.specs.Moving.{moved_to}
+use Rattle.mesa_merge.specs.Inputs.{Known}
 use Rattle.mesa_view.specs.SumDamage.{IsSumDamage}
 use Rattle.mesa_tasks.specs.declared.querying.PinnedInput.{PinnedInput}
 
@@ -19,8 +23,25 @@ owns_in files = map (λ file. file.own) files
 abbrev pub IsDamageOf : {R : Type 0} → (R → Option (List ℕ)) → (R → ℕ) → Damage → PinnedInput R → Type 0
 IsDamageOf bytes size d file = IsDamaged bytes size file.input d ⊎ IsSumDamage (index_of file.input.reader).file d
 
--- Damage of one of the files, at which reading ended: those behind it are as they were.
+-- what is known of the files that are read
+abbrev pub tolds_of : List Known → List Told
+tolds_of knowns = map (λ (k : Known). record { index = k.file; content = k.told }) knowns
+
+-- A file is as it was but for what it reads from: blocks of it may have been read ahead, and none of them was taken.
+pub record IsMoved {R : Type 0} (bytes : R → Option (List ℕ)) (size_of : R → ℕ) (old new : PinnedInput R) : Type 0 where
+  pub file : new ≡ record old { input = moved_to (reader_in new.input) old.input }
+  pub told : bytes (reader_in new.input) ≡ bytes (reader_in old.input)
+  pub size : size_of (reader_in new.input) ≡ size_of (reader_in old.input)
+
+-- each file is
+abbrev pub AreMoved : {R : Type 0} → (R → Option (List ℕ)) → (R → ℕ) → List (PinnedInput R) → List (PinnedInput R) → Type 0
+AreMoved bytes size [] [] = ⊤
+AreMoved bytes size [] (now ∷ new) = ⊥
+AreMoved bytes size (file ∷ old) [] = ⊥
+AreMoved bytes size (file ∷ old) (now ∷ new) = IsMoved bytes size file now × AreMoved bytes size old new
+
+-- Damage of one of the files, at which reading ended: of those behind it no block was taken, though some may have been read ahead.
 abbrev pub IsDamageIn : {R : Type 0} → (R → Option (List ℕ)) → (R → ℕ) → Damage → List (PinnedInput R) → List (PinnedInput R) → Type 0
 IsDamageIn bytes size d [] new = ⊥
 IsDamageIn bytes size d (file ∷ old) [] = ⊥
-IsDamageIn bytes size d (file ∷ old) (now ∷ new) = (IsDamageOf bytes size d file × (new ≡ old)) ⊎ IsDamageIn bytes size d old new
+IsDamageIn bytes size d (file ∷ old) (now ∷ new) = (IsDamageOf bytes size d file × AreMoved bytes size old new) ⊎ IsDamageIn bytes size d old new

@@ -1,5 +1,5 @@
 // Pinned files put into the groups of a query, one after the other.
-ghost use Rattle.std.specs.Prelude.{◌≡◌, ◌++◌, [], List, OnOk, IfErr};
+ghost use Rattle.std.specs.Prelude.{◌≡◌, ◌++◌, [], List, slice_get, OnOk, IfErr, Some};
 ghost use Rattle.std.specs.List.{AllByRecursion};
 ghost use Rattle.mesa_fault.specs.Causes.{HasFaultCause};
 ghost use Rattle.mesa_file.specs.declared.damage.Damage.{Damage as AnyDamage};
@@ -7,21 +7,25 @@ ghost use Rattle.mesa_schema.specs.declared.rows.Row.{Row as AnyRow};
 ghost use Rattle.mesa_schema.specs.Columns.{kinds_of};
 ghost use Rattle.mesa_schema.specs.Folded.{rows_of};
 ghost use Rattle.mesa_filter.specs.Filter.{filtered};
+ghost use Rattle.mesa_delta.specs.Ahead.{AreAhead, AreOfFile, Told as AnyTold};
+ghost use Rattle.mesa_delta.specs.Reading.{index_of};
 ghost use Rattle.mesa_delta.specs.declared.error.FileError.TheVariants as file_error;
 ghost use Rattle.mesa_scan.specs.mesa_cursor.Cursors.{IsSameInput, reader_in};
+ghost use Rattle.mesa_scan.specs.Moving.{told_in};
 ghost use Rattle.mesa_merge.specs.Faults.{HaveFaultCause, faults_of};
 ghost use Rattle.mesa_merge.specs.Inputs.{AreTold, IsTold, known_of, knowns_of};
 ghost use Rattle.mesa_answer.specs.Answering.{KeepsSums};
 ghost use Rattle.mesa_answer.specs.Gathered.{HasPut, wanted_of};
 ghost use Rattle.mesa_tasks.specs.Pins.{IsPinnedInput};
-ghost use Rattle.mesa_query.specs.Files.{IsDamageIn, IsDamageOf, inputs_in, owns_in};
+ghost use Rattle.mesa_query.specs.Files.{AreMoved, IsDamageIn, IsDamageOf, IsMoved, inputs_in, owns_in, tolds_of};
 ghost use Rattle.mesa_query.specs.Relation.{parts_ungrouped, rows_ungrouped};
 
 use crate::regrouped::gather_regrouped;
 use mesa_answer::Groups;
-use mesa_delta::FileError;
+use mesa_delta::{Ahead, FileError};
 use mesa_disk::FileReader;
 use mesa_filter::Filter;
+use mesa_scan::read_ahead;
 use mesa_tasks::PinnedInput;
 use mesa_view::gather;
 use std::alloc::Global;
@@ -48,10 +52,73 @@ pub(crate) fn gather_all<R: FileReader>(
     ensures never { IfErr result (λ e. (d : AnyDamage) → e ≡ file_error.Damaged d → (contents : List (List AnyRow)) → AreTold (knowns_of R.bytes (inputs_in files.old)) contents
         → KeepsSums (wanted_of groups.old).schema (filtered (wanted_of groups.old).schema filter.now.terms (rows_of (parts_ungrouped view files.old contents))) → ⊥) }
 {
+    let mut ahead = Ahead::new(alloc);
+    let mut looked = 0;
     'each_file: for i in 0..files.len() {
-        gather_one(alloc, groups, view, &mut files[i], filter)?;
+        look_ahead(files, i, filter, &mut looked, &mut ahead)?;
+        gather_one(alloc, groups, view, &mut files[i], i, filter, &mut ahead)?;
     }
     Ok(())
+}
+
+// Where no block waits, reads ahead the first ones of the files from a place on, and keeps the place up to which files were looked at.
+fn look_ahead<R: FileReader>(
+    files: &mut [PinnedInput<R>],
+    from: usize,
+    filter: &Filter,
+    looked: &mut usize,
+    ahead: &mut Ahead,
+) -> Result<(), FileError>
+    ensures ahead { AreAhead (tolds_of (knowns_of R.bytes (inputs_in files.old))) ahead.old → AreAhead (tolds_of (knowns_of R.bytes (inputs_in files.old))) ahead.new }
+    ensures moved { AreMoved R.bytes R.size files.old files.new }
+    ensures cause { HaveFaultCause (λ e. e ≡ file_error.Read) (faults_of R.faults (inputs_in files.old)) (faults_of R.faults (inputs_in files.new)) result }
+    ensures fault { IfErr result (λ e. e ≡ file_error.Read) }
+{
+    if !ahead.is_empty() || from < *looked {
+        return Ok(());
+    }
+    *looked = read_first(files, from, filter, ahead)?;
+    ahead.digest();
+    Ok(())
+}
+
+// Reads ahead the first blocks of the files from a place on that may have a matching row, until no more may be, and gives the place at which it ended.
+fn read_first<R: FileReader>(
+    files: &mut [PinnedInput<R>],
+    from: usize,
+    filter: &Filter,
+    ahead: &mut Ahead,
+) -> Result<usize, FileError>
+    ensures ahead { AreAhead (tolds_of (knowns_of R.bytes (inputs_in files.old))) ahead.old → AreAhead (tolds_of (knowns_of R.bytes (inputs_in files.old))) ahead.new }
+    ensures moved { AreMoved R.bytes R.size files.old files.new }
+    ensures cause { HaveFaultCause (λ e. e ≡ file_error.Read) (faults_of R.faults (inputs_in files.old)) (faults_of R.faults (inputs_in files.new)) result }
+    ensures fault { IfErr result (λ e. e ≡ file_error.Read) }
+{
+    'next_files: for i in from..files.len() {
+        if ahead.is_full() {
+            return Ok(i);
+        }
+        read_of_file(&mut files[i], i, filter, ahead)?;
+    }
+    Ok(files.len())
+}
+
+// Reads ahead the first blocks of a file. Of a table's file a view's filter leaves none out.
+fn read_of_file<R: FileReader>(
+    file: &mut PinnedInput<R>,
+    place: usize,
+    filter: &Filter,
+    ahead: &mut Ahead,
+) -> Result<(), FileError>
+    ensures ahead { (files : List AnyTold) → slice_get files place ≡ Some (told_in R.bytes file.old.input) → AreAhead files ahead.old → AreAhead files ahead.new }
+    ensures moved { IsMoved R.bytes R.size file.old file.new }
+    ensures cause { HasFaultCause (λ e. e ≡ file_error.Read) (R.faults (reader_in file.old.input)) (R.faults (reader_in file.new.input)) result }
+    ensures fault { IfErr result (λ e. e ≡ file_error.Read) }
+{
+    if file.own {
+        return read_ahead(&mut file.input, place, Some(filter), ahead);
+    }
+    read_ahead(&mut file.input, place, None, ahead)
 }
 
 // Puts the matching rows of a file into groups: the relation's own, or its table's.
@@ -60,14 +127,18 @@ fn gather_one<R: FileReader>(
     groups: &mut Groups,
     view: Option<u8>,
     file: &mut PinnedInput<R>,
+    place: usize,
     filter: &Filter,
+    ahead: &mut Ahead,
 ) -> Result<(), FileError>
     requires gathering { (given : List AnyRow) × HasPut groups.old given }
     requires file { IsPinnedInput R.bytes (wanted_of groups.old).schema view file.old }
     requires filter { filter.now.kinds ≡ kinds_of (wanted_of groups.old).schema }
+    requires ahead { AreOfFile (R.bytes (reader_in file.old.input)) (index_of file.old.input.reader) place ahead.old }
     ensures put { OnOk result ((given : List AnyRow) → HasPut groups.old given → (more : List AnyRow) × HasPut groups.new (given ++ more)
         × ((rows : List AnyRow) → IsTold (known_of R.bytes file.old.input) rows → more ≡ filtered (wanted_of groups.old).schema filter.now.terms (rows_ungrouped view file.old rows))) }
     ensures wanted { wanted_of groups.new ≡ wanted_of groups.old }
+    ensures ahead { (files : List AnyTold) → slice_get files place ≡ Some (told_in R.bytes file.old.input) → AreAhead files ahead.old → AreAhead files ahead.new }
     ensures pinned { IsPinnedInput R.bytes (wanted_of groups.old).schema view file.new }
     ensures same { IsSameInput R.bytes file.old.input file.new.input }
     ensures own { file.new.own ≡ file.old.own }
@@ -77,10 +148,10 @@ fn gather_one<R: FileReader>(
         → KeepsSums (wanted_of groups.old).schema (given ++ filtered (wanted_of groups.old).schema filter.now.terms (rows_ungrouped view file.old rows)) → ⊥) }
 {
     if file.own {
-        return gather(alloc, groups, &mut file.input, filter);
+        return gather(alloc, groups, &mut file.input, place, filter, ahead);
     }
     match view {
-        Some(view) => gather_regrouped(alloc, groups, &mut file.input, view, filter),
+        Some(view) => gather_regrouped(alloc, groups, &mut file.input, place, view, filter, ahead),
         None => unreachable!(),
     }
 }

@@ -13,11 +13,13 @@ ghost use Rattle.mesa_schema.specs.Rows.{AreRowsOf, IsRowOf};
 ghost use Rattle.mesa_schema.specs.Views.{view_columns};
 ghost use Rattle.mesa_filter.specs.Filter.{filtered};
 ghost use Rattle.mesa_delta.specs.declared.error.FileError.TheVariants as file_error;
+ghost use Rattle.mesa_delta.specs.Ahead.{AreAhead, AreOfFile, Told as AnyTold};
 ghost use Rattle.mesa_delta.specs.Reading.{index_of};
 ghost use Rattle.mesa_scan.specs.mesa_cursor.Cursors.{IsInput, IsSameInput, lift_by, reader_in};
 ghost use Rattle.mesa_merge.specs.Inputs.{IsTold, known_of};
 ghost use Rattle.mesa_scan.specs.Damaged.{IsDamaged};
 ghost use Rattle.mesa_scan.specs.Matching.{matching_rows};
+ghost use Rattle.mesa_scan.specs.Moving.{told_in};
 ghost use Rattle.mesa_scan.specs.Scanning.{IsFilterOf};
 ghost use Rattle.mesa_answer.specs.Answering.{KeepsSums};
 ghost use Rattle.mesa_answer.specs.Gathered.{HasPut, wanted_of};
@@ -26,7 +28,7 @@ ghost use Rattle.mesa_view.specs.SumDamage.{IsSumDamage};
 ghost use Rattle.mesa_query.specs.Relation.{under_view};
 
 use mesa_answer::{Groups, Hand, Regrouping};
-use mesa_delta::{FileError, Input};
+use mesa_delta::{Ahead, FileError, Input};
 use mesa_disk::FileReader;
 use mesa_file::FileId;
 use mesa_filter::Filter;
@@ -40,17 +42,21 @@ pub(crate) fn gather_regrouped<R: FileReader>(
     alloc: Global,
     groups: &mut Groups,
     input: &mut Input<R>,
+    place: usize,
     view: u8,
     filter: &Filter,
+    ahead: &mut Ahead,
 ) -> Result<(), FileError>
     requires gathering { (given : List AnyRow) × HasPut groups.old given }
     requires columns { (v : Chosen) × (slice_get input.old.evolving.value.views view ≡ Some v) × (view_columns (columns_of input.old.evolving.value) v ≡ (wanted_of groups.old).schema) }
     requires input { IsInput R.bytes input.old }
     requires filter { filter.now.kinds ≡ kinds_of (wanted_of groups.old).schema }
+    requires ahead { AreOfFile (R.bytes (reader_in input.old)) (index_of input.old.reader) place ahead.old }
     ensures put { OnOk result ((given : List AnyRow) → HasPut groups.old given → (more : List AnyRow) × HasPut groups.new (given ++ more)
         × ((v : Chosen) → slice_get input.old.evolving.value.views view ≡ Some v → (rows : List AnyRow) → IsTold (known_of R.bytes input.old) rows
         → more ≡ filtered (wanted_of groups.old).schema filter.now.terms (under_view (columns_of input.old.evolving.value) v (map (lift_by input.old) rows)))) }
     ensures wanted { wanted_of groups.new ≡ wanted_of groups.old }
+    ensures ahead { (files : List AnyTold) → slice_get files place ≡ Some (told_in R.bytes input.old) → AreAhead files ahead.old → AreAhead files ahead.new }
     ensures input { IsInput R.bytes input.new }
     ensures same { IsSameInput R.bytes input.old input.new }
     ensures cause { HasFaultCause (λ e. e ≡ file_error.Read) (R.faults (reader_in input.old)) (R.faults (reader_in input.new)) result }
@@ -61,7 +67,16 @@ pub(crate) fn gather_regrouped<R: FileReader>(
 {
     let every = every_row(alloc, input.evolving.present())?;
     let regrouping = Regrouping::of(alloc, &input.evolving, view)?;
-    gather_each_block(alloc, groups, input, &every, &regrouping, filter)
+    gather_each_block(
+        alloc,
+        groups,
+        input,
+        place,
+        &every,
+        &regrouping,
+        filter,
+        ahead,
+    )
 }
 
 // Puts the rows of each block that match, regrouped, into groups. The first filter leaves nothing out.
@@ -69,9 +84,11 @@ fn gather_each_block<R: FileReader>(
     alloc: Global,
     groups: &mut Groups,
     input: &mut Input<R>,
+    place: usize,
     every: &Filter,
     regrouping: &Regrouping,
     filter: &Filter,
+    ahead: &mut Ahead,
 ) -> Result<(), FileError>
     requires gathering { (given : List AnyRow) × HasPut groups.old given }
     requires input { IsInput R.bytes input.old }
@@ -79,9 +96,11 @@ fn gather_each_block<R: FileReader>(
     requires terms { every.now.terms ≡ [] }
     requires seen { (v : Chosen) × (regrouping.now ≡ places_seen (columns_of input.old.evolving.value) v) × (view_columns (columns_of input.old.evolving.value) v ≡ (wanted_of groups.old).schema) }
     requires filter { filter.now.kinds ≡ kinds_of (wanted_of groups.old).schema }
+    requires ahead { AreOfFile (R.bytes (reader_in input.old)) (index_of input.old.reader) place ahead.old }
     ensures put { OnOk result ((given : List AnyRow) → HasPut groups.old given → (more : List AnyRow) × HasPut groups.new (given ++ more)
         × ((rows : List AnyRow) → IsTold (known_of R.bytes input.old) rows → more ≡ matching_rows filter.now (map (row_under regrouping.now) (map (lift_by input.old) rows)))) }
     ensures wanted { wanted_of groups.new ≡ wanted_of groups.old }
+    ensures ahead { (files : List AnyTold) → slice_get files place ≡ Some (told_in R.bytes input.old) → AreAhead files ahead.old → AreAhead files ahead.new }
     ensures input { IsInput R.bytes input.new }
     ensures same { IsSameInput R.bytes input.old input.new }
     ensures cause { HasFaultCause (λ e. e ≡ file_error.Read) (R.faults (reader_in input.old)) (R.faults (reader_in input.new)) result }
@@ -93,7 +112,7 @@ fn gather_each_block<R: FileReader>(
     let mut scan = Scan::of(alloc, input, every)?;
     let mut hand = Hand::new(alloc);
     'each_block: while !scan.is_over(input) {
-        let block = scan.block(input)?;
+        let block = scan.next_block(input, place, ahead)?;
         put_regrouped(groups, file, &block, regrouping, filter, &mut hand)?;
     }
     Ok(())

@@ -10,7 +10,7 @@ use Rattle.mesa_delta.specs.declared.input.Input.{Input}
 use Rattle.mesa_model.specs.mesa_file.declared.damage.Damage.{Damage}
 use Rattle.mesa_model.specs.mesa_schema.declared.rows.Row.{Row}
 use Rattle.mesa_model.specs.mesa_schema.Columns.{Columns}
-use Rattle.mesa_query.specs.Files.{IsDamageIn, IsDamageOf, inputs_in, owns_in}
+use Rattle.mesa_query.specs.Files.{AreMoved, IsDamageIn, IsDamageOf, inputs_in, owns_in}
 use Rattle.mesa_query.specs.Relation.{parts_pinned, parts_ungrouped, rows_ungrouped}
 use Rattle.mesa_query.specs.mesa_merge.Faults.{faults_of}
 use Rattle.mesa_query.specs.mesa_merge.Inputs.{known_of, knowns_of}
@@ -84,7 +84,13 @@ module _ {R : Type 0} where
   damage_of : (bytes : R → Option (List ℕ)) (size : R → ℕ) (d : Damage) (file : PinnedInput (Reading R)) → IsDamageOf (through bytes) (through size) d file → IsDamageOf bytes size d (cooled_file file)
   damage_of bytes size d file = ⊎_map (λ h. record { block = h.block; before = h.before; shown = h.shown; unsound = h.unsound }) (λ h. h)
 
+  moved_cooled : (bytes : R → Option (List ℕ)) (size : R → ℕ) (old new : List (PinnedInput (Reading R))) → AreMoved (through bytes) (through size) old new → AreMoved bytes size (map cooled_file old) (map cooled_file new)
+  moved_cooled bytes size [] [] h = tt
+  moved_cooled bytes size [] (now ∷ new) h = absurd h
+  moved_cooled bytes size (file ∷ old) [] h = absurd h
+  moved_cooled bytes size (file ∷ old) (now ∷ new) h = (record { file = ap cooled_file h.0.file; told = h.0.told; size = h.0.size }, moved_cooled bytes size old new h.1)
+
   pub damage_cooled : (bytes : R → Option (List ℕ)) (size : R → ℕ) (d : Damage) (old new : List (PinnedInput (Reading R))) → IsDamageIn (through bytes) (through size) d old new → IsDamageIn bytes size d (map cooled_file old) (map cooled_file new)
   damage_cooled bytes size d [] new h = h
   damage_cooled bytes size d (file ∷ old) [] h = h
-  damage_cooled bytes size d (file ∷ old) (now ∷ new) h = ⊎_map (λ here. (damage_of bytes size d file here.0, ap (map cooled_file) here.1)) (damage_cooled bytes size d old new) h
+  damage_cooled bytes size d (file ∷ old) (now ∷ new) h = ⊎_map (λ here. (damage_of bytes size d file here.0, moved_cooled bytes size old new here.1)) (damage_cooled bytes size d old new) h
