@@ -3,6 +3,7 @@ pub mod Causing
 pub mod Putting
 pub mod Viewing
 pub mod Poured
+pub mod Totals
 pub mod Whole
 pub mod Regrouped
 pub mod Tasking

@@ -76,8 +76,8 @@ caused_views faults IsTold Told a b c is js vs ws r q stay stays h same more =
 pub files_damage : {R : Type 0} (bytes : R → Option (List ℕ)) (size : R → ℕ) (is js : List (Input R)) (ws : List (TaskView R)) (newest : ℕ) (d : Damage) → knowns_of bytes js ≡ knowns_of bytes is → IsNewestOf (knowns_of bytes is) newest
     → IsViewDamage bytes size ws d ⊎ (d ≡ sum_damage newest) → IsFilesDamage bytes size js ws d
 files_damage bytes size is js ws newest d known last told = elim told [
-  | inl view ↦ inr view
-  | inr total ↦ inl (inr (record { newest = newest; last = newest_kept bytes is js newest known last; told = total }))
+  | inl view ↦ inr (inl view)
+  | inr total ↦ inr (inr (record { newest = newest; last = newest_kept bytes is js newest known last; told = total }))
 ]
 
 -- the same of views that were lent, and came back

@@ -9,7 +9,7 @@ use Rattle.mesa_tasks.specs.declared.made.MadeFiles.{MadeFiles}
 use Rattle.mesa_tasks.specs.declared.made.MadeView.{MadeView}
 use Rattle.mesa_tasks.specs.declared.merging.Task.{Task}
 use Rattle.mesa_tasks.specs.declared.merging.TaskView.{TaskView}
-use Rattle.mesa_compact.specs.Damaged.{IsMergeDamage}
+use Rattle.mesa_compact.specs.Damaged.{IsGroupsTotalOf, IsMergeDamage}
 
 -- What is known of a view of a task: its number, and its own files.
 pub record KnownView : Type 0 where
@@ -49,9 +49,9 @@ pub record IsViewDamage {R : Type 0} (bytes : R → Option (List ℕ)) (size : R
   pub one : slice_get views at ≡ Some view
   pub told : IsMergeDamage bytes size (own_inputs view) d
 
--- damage that is told where a table's inputs, and the own inputs of its views, are merged into files
+-- damage that is told where a table's inputs, and the own inputs of its views, are merged into files, or where the groups of a view are written
 abbrev pub IsFilesDamage : {R : Type 0} → (R → Option (List ℕ)) → (R → ℕ) → List (Input R) → List (TaskView R) → Damage → Type 0
-IsFilesDamage bytes size inputs views d = IsMergeDamage bytes size inputs d ⊎ IsViewDamage bytes size views d
+IsFilesDamage bytes size inputs views d = IsMergeDamage bytes size inputs d ⊎ (IsViewDamage bytes size views d ⊎ IsGroupsTotalOf (knowns_of bytes inputs) d)
 
 -- Which damage a task's merge tells, by the task before and after: the damage that was met when its files were opened, and only where there was none, one that was met in merging them.
 abbrev pub IsTaskDamage : {R : Type 0} → (R → Option (List ℕ)) → (R → ℕ) → Task R → Task R → Damage → Type 0

@@ -31,7 +31,7 @@ use std::alloc::Global;
 use std::mem;
 
 /// Merges inputs in version order into one file, through a new draft under this id, and puts the rows into groups as they come. The inputs are there still, whatever becomes of the file.
-/// A total that leaves its type is told as damage of the newest input.
+/// A total that leaves its type is told as damage of the newest input that holds the key with which it leaves.
 pub fn merged_file<M: Made, B: Bench<M>, R: FileReader>(
     alloc: Global,
     bench: &mut B,
@@ -54,9 +54,8 @@ pub fn merged_file<M: Made, B: Bench<M>, R: FileReader>(
     ensures accepts { IfErr result (λ e. (d : AnyDamage) → e ≡ damaged_by d → (contents : List (List AnyRow)) → AreTold (knowns_of R.bytes inputs.old.items) contents
         → KeepsBound (aggs_of schema.now) [] (rows_of (lifted_parts (knowns_of R.bytes inputs.old.items) contents)) → ⊥) }
 {
-    let newest = newest_of(inputs);
     let taken = mem::replace(inputs, Vec::new(alloc));
-    let (back, made) = merge_into(alloc, bench, id, schema, taken, groups, newest);
+    let (back, made) = merge_into(alloc, bench, id, schema, taken, groups);
     let empty = mem::replace(inputs, back);
     empty.destroy_empty();
     made
@@ -78,13 +77,11 @@ fn merge_into<M: Made, B: Bench<M>, R: FileReader>(
     schema: &Schema,
     inputs: Vec<Input<R>>,
     groups: &mut [Option<Groups>],
-    newest: FileId,
 ) -> (Vec<Input<R>>, Result<MadeFile<M>, CompactError>)
     requires some { 0 < length inputs.items }
     requires inputs { AreInputs R.bytes schema.now inputs.items }
     requires none { HavePut groups.old [] }
     requires takes { AllByRecursion (TakesRows schema.now) groups.old }
-    requires newest { IsNewestOf (knowns_of R.bytes inputs.items) newest }
     ensures known { knowns_of R.bytes result.0.items ≡ knowns_of R.bytes inputs.items }
     ensures kept { AllByRecursion (IsInput R.bytes) result.0.items }
     ensures made { IfOk result.1 (λ made. (rows : List AnyRow) × IsMergeOf R.bytes schema.now inputs.items rows × IsMadeFile M.bytes M.id_of (record { columns = schema.now; rows = rows }) made × HavePut groups.new rows
@@ -97,7 +94,7 @@ fn merge_into<M: Made, B: Bench<M>, R: FileReader>(
 {
     match Merge::new(alloc, inputs) {
         Ok(mut merge) => {
-            let made = file_of(alloc, bench, id, schema, &mut merge, groups, newest);
+            let made = file_of(alloc, bench, id, schema, &mut merge, groups);
             (merge.into_inputs(), made)
         }
         Err((_, inputs)) => (inputs, Err(CompactError::File(FileError::Memory))),
@@ -112,13 +109,11 @@ fn file_of<M: Made, B: Bench<M>, R: FileReader>(
     schema: &Schema,
     merge: &mut Merge<R>,
     groups: &mut [Option<Groups>],
-    newest: FileId,
 ) -> Result<MadeFile<M>, CompactError>
     requires some { 0 < length (inputs_of merge.old) }
     requires merging { (givens : List (List AnyRow)) × HasMerged R.bytes schema.now merge.old givens × (folded (aggs_of schema.now) givens ≡ []) }
     requires none { HavePut groups.old [] }
     requires takes { AllByRecursion (TakesRows schema.now) groups.old }
-    requires newest { IsNewestOf (knowns_of R.bytes (inputs_of merge.old)) newest }
     ensures known { knowns_of R.bytes (inputs_of merge.new) ≡ knowns_of R.bytes (inputs_of merge.old) }
     ensures kept { AllByRecursion (IsInput R.bytes) (inputs_of merge.old) → AllByRecursion (IsInput R.bytes) (inputs_of merge.new) }
     ensures made { IfOk result (λ made. (after : List (List AnyRow)) × AreAll (knowns_of R.bytes (inputs_of merge.new)) after
@@ -134,7 +129,7 @@ fn file_of<M: Made, B: Bench<M>, R: FileReader>(
         Ok(writer) => writer,
         Err(error) => return Err(error),
     };
-    match pour(merge, &mut writer, groups, newest) {
+    match pour(merge, &mut writer, groups) {
         Ok(()) => end_file(bench, writer),
         Err(error) => {
             give_up(bench, writer);

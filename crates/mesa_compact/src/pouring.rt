@@ -1,5 +1,5 @@
 // Rows that are written as they are merged.
-ghost use Rattle.std.specs.Prelude.{◌≡◌, ◌⊎◌, ℕ, List, [], map, IfErr, OnOk};
+ghost use Rattle.std.specs.Prelude.{◌≡◌, ℕ, List, [], map, IfErr, OnOk};
 ghost use Rattle.std.specs.List.{AllByRecursion};
 ghost use Rattle.mesa_file.specs.declared.damage.Damage.{Damage as AnyDamage};
 ghost use Rattle.mesa_schema.specs.declared.rows.Row.{Row as AnyRow};
@@ -9,12 +9,12 @@ ghost use Rattle.mesa_fold.specs.Bound.{KeepsBound};
 ghost use Rattle.mesa_delta.specs.Writing.{HasTaken, columns_of, draft_of, id_of};
 ghost use Rattle.mesa_answer.specs.Answering.{KeepsSums};
 ghost use Rattle.mesa_tasks.specs.mesa_cursor.Cursors.{IsInput};
-ghost use Rattle.mesa_merge.specs.Damaged.{IsDamageOf};
 ghost use Rattle.mesa_merge.specs.Faults.{faults_of};
 ghost use Rattle.mesa_merge.specs.Inputs.{AreAll, AreTold, knowns_of, lifted_parts};
 ghost use Rattle.mesa_merge.specs.Merged.{HasMerged, inputs_of};
 ghost use Rattle.mesa_merge.specs.Sums.{sum_damage};
 ghost use Rattle.mesa_compact.specs.Bounded.{AreBounded};
+ghost use Rattle.mesa_compact.specs.Damaged.{IsMergeDamage};
 ghost use Rattle.mesa_compact.specs.Grouping.{HavePut, TakesRows, wanted_in};
 ghost use Rattle.mesa_compact.specs.Writing.{HasCauses, damaged_by};
 
@@ -28,12 +28,11 @@ use mesa_merge::Merge;
 use mesa_schema::folds_by_key;
 use mesa_tasks::CompactError;
 
-// Gives a writer all rows of a merge, and puts them into the groups. A file has fewer rows than a number of 64 bits can count.
+// Gives a writer all rows of a merge, and puts them into the groups. A total that leaves its type is told of the newest file that holds the key with which it leaves. A file has fewer rows than a number of 64 bits can count.
 pub(crate) fn pour<M: Made, T: Draft<M>, R: FileReader>(
     merge: &mut Merge<R>,
     writer: &mut DeltaWriter<M, T>,
     groups: &mut [Option<Groups>],
-    newest: FileId,
 ) -> Result<(), CompactError>
     requires pouring { (givens : List (List AnyRow)) × HasMerged R.bytes (columns_of writer.old) merge.old givens × HasTaken T.bytes writer.old (folded (aggs_of (columns_of writer.old)) givens) × HavePut groups.old (folded (aggs_of (columns_of writer.old)) givens) }
     requires takes { AllByRecursion (TakesRows (columns_of writer.old)) groups.old }
@@ -48,7 +47,7 @@ pub(crate) fn pour<M: Made, T: Draft<M>, R: FileReader>(
     ensures wanted { map wanted_in groups.new ≡ map wanted_in groups.old }
     ensures known { knowns_of R.bytes (inputs_of merge.new) ≡ knowns_of R.bytes (inputs_of merge.old) }
     ensures inputs { AllByRecursion (IsInput R.bytes) (inputs_of merge.old) → AllByRecursion (IsInput R.bytes) (inputs_of merge.new) }
-    ensures causes { HasCauses (T.faults (draft_of writer.old)) (T.faults (draft_of writer.new)) (faults_of R.faults (inputs_of merge.old)) (faults_of R.faults (inputs_of merge.new)) (λ d. IsDamageOf R.bytes R.size (inputs_of merge.new) d ⊎ (d ≡ sum_damage newest)) result }
+    ensures causes { HasCauses (T.faults (draft_of writer.old)) (T.faults (draft_of writer.new)) (faults_of R.faults (inputs_of merge.old)) (faults_of R.faults (inputs_of merge.new)) (IsMergeDamage R.bytes R.size (inputs_of merge.new)) result }
     ensures accepts { IfErr result (λ e. (d : AnyDamage) → e ≡ damaged_by d → (givens : List (List AnyRow)) → HasMerged R.bytes (columns_of writer.old) merge.old givens
         → HasTaken T.bytes writer.old (folded (aggs_of (columns_of writer.old)) givens) → HavePut groups.old (folded (aggs_of (columns_of writer.old)) givens)
         → (contents : List (List AnyRow)) → AreTold (knowns_of R.bytes (inputs_of merge.old)) contents → KeepsBound (aggs_of (columns_of writer.old)) [] (rows_of (lifted_parts (knowns_of R.bytes (inputs_of merge.old)) contents)) → ⊥) }
@@ -64,6 +63,7 @@ pub(crate) fn pour<M: Made, T: Draft<M>, R: FileReader>(
             return Ok(());
         }
         let row = merge.row();
+        let newest = merge.last_file();
         if !writer.allows(row) {
             return Err(sum_fault(newest));
         }

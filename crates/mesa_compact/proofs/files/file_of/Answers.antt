@@ -1,4 +1,4 @@
-use Rattle.std.proofs.Common.{◌≡◌, ◌<◌, List, [], inl, inr, length, refl, sym, ◌∙◌, ap, subst}
+use Rattle.std.proofs.Common.{◌≡◌, ◌<◌, List, [], length, refl, sym, ◌∙◌, ap, subst}
 use Rattle.std.specs.List.{AllByRecursion}
 use Rattle.mesa_schema.specs.declared.rows.Row.{Row}
 use Rattle.mesa_schema.specs.Columns.{Columns, aggs_of}
@@ -13,7 +13,7 @@ use Rattle.mesa_answer.specs.Answering.{KeepsSums}
 use Rattle.mesa_compact.specs.Bounded.{AreBounded}
 use Rattle.mesa_compact.specs.Grouping.{HavePut, TakesRows}
 use Rattle.mesa_compact.proofs.Causing.{caused_bench, caused_on, same_end}
-use Rattle.mesa_compact.proofs.Whole.{if_err_map, if_ok_map, newest_kept, some_all, some_known}
+use Rattle.mesa_compact.proofs.Whole.{if_err_map, if_ok_map, some_all, some_known}
 use Rattle.mesa_compact.proofs.files.file_of.Goals as goal
 
 pub pour-requires-clause-pouring : goal.pour-requires-clause-pouring
@@ -93,10 +93,7 @@ returns-in-Ok-pour-clause-accepts g c = if_err_map c.end_file.result _ _ (λ e n
 
 pub returns-in-Err-pour-clause-causes : goal.returns-in-Err-pour-clause-causes
 returns-in-Err-pour-clause-causes g c =
-    let bytes = g.R.FileReader.bytes in
-    let newest = newest_kept bytes (inputs_of c.args.merge.now) (inputs_of c.pour.new.merge) c.args.newest c.in-Err-pour.ensures.known c.requires.newest in
-    caused_bench _ _ _ _ _ _ _ _ _ c.in-Err-pour.error (c.in-Ok.ensures.causes []).drafts.quiet c.in-Ok.ensures.fresh c.in-Err-pour.ensures.causes c.give_up.ensures.counted c.give_up.ensures.quiet c.give_up.ensures.later
-    (λ d told. elim told [ inl merge ↦ inl merge | inr total ↦ inr (record { newest = c.args.newest; last = newest; told = total }) ])
+    caused_bench _ _ _ _ _ _ _ _ _ c.in-Err-pour.error (c.in-Ok.ensures.causes []).drafts.quiet c.in-Ok.ensures.fresh c.in-Err-pour.ensures.causes c.give_up.ensures.counted c.give_up.ensures.quiet c.give_up.ensures.later (λ d told. told)
 
 pub returns-in-Err-pour-clause-accepts : goal.returns-in-Err-pour-clause-accepts
 returns-in-Err-pour-clause-accepts g c = λ d e givens h none contents told bound.

@@ -1,4 +1,4 @@
-use Rattle.std.proofs.Common.{◌≡◌, ◌<◌, ◌++◌, ◌∷◌, [], inl, inr, ℕ, List, map, refl, sym, ◌∙◌, subst, true, false}
+use Rattle.std.proofs.Common.{◌≡◌, ◌<◌, ◌++◌, ◌∷◌, [], inl, inr, ℕ, List, map, refl, sym, ◌∙◌, ap, subst, true, false}
 use Rattle.std.specs.List.{AllByRecursion}
 use Rattle.std.specs.Prelude.{slice_get, Some}
 use Rattle.mesa_value.specs.declared.Agg.TheVariants.{Sum}
@@ -17,6 +17,7 @@ use Rattle.mesa_merge.specs.Inputs.{AreTold, knowns_of, lifted_parts}
 use Rattle.mesa_merge.specs.Merged.{HasMerged, failed_of, inputs_of}
 use Rattle.mesa_merge.specs.Sums.{sum_damage}
 use Rattle.mesa_merge.proofs.Ending.{AreFronts, givens_fronts}
+use Rattle.mesa_merge.proofs.Lasting.{last_there}
 use Rattle.mesa_compact.specs.Grouping.{HavePut, TakesRows}
 use Rattle.mesa_compact.proofs.Causing.{caused_damage, caused_file, caused_memory, caused_ok, caused_unread, caused_write, no_write_damage}
 use Rattle.mesa_compact.proofs.Following.{folded_bound, rises, sums_follow, taken_form}
@@ -24,6 +25,7 @@ use Rattle.mesa_compact.specs.Bounded.{AreBounded}
 use Rattle.mesa_compact.proofs.Whole.{told_sums}
 use Rattle.mesa_compact.proofs.Poured.{goes_on, if_none_from, merged_formed}
 use Rattle.mesa_compact.proofs.Putting.{takes_kept}
+use Rattle.mesa_compact.proofs.Totals.{total_of}
 use Rattle.mesa_compact.proofs.pouring.pour.Goals as goal
 
 pub next-requires-after_bounds : goal.next-requires-after_bounds
@@ -32,6 +34,14 @@ next-requires-after_bounds g c = λ _ _.
     let now = c.rows.invariant.poured start.0 start.1 start.2 start.3 in
     let all : (s : Columns) × (givens : List (List Row)) × HasMerged g.R.FileReader.bytes s c.rows.merge givens = (columns_of c.rows.writer, now.0, now.1) in
     (if_none_from (failed_of c.rows.merge) ((s : Columns) × (givens : List (List Row)) × HasMerged g.R.FileReader.bytes s c.rows.merge givens) all)
+
+pub last_file-newest-requires-after_bounds : goal.last_file-newest-requires-after_bounds
+last_file-newest-requires-after_bounds g c = λ _ _.
+    let start = c.requires.pouring in
+    let s = columns_of c.rows.writer in
+    let now = c.rows.invariant.poured start.0 start.1 start.2 start.3 in
+    let next = goes_on g.R.FileReader.bytes _ _ _ _ _ _ (c.in-Ok.ensures.next now.1.going) c.if-not-more.false c.row-row.ensures s now.0 now.1 in
+    last_there g.R.FileReader.bytes s c.next.new.self next.0 _ _ next.1 next.4
 
 pub put_all-requires-clause-gathering : goal.put_all-requires-clause-gathering
 put_all-requires-clause-gathering g c =
@@ -188,7 +198,14 @@ returns-then-not-allows-clause-causes g c =
     let start = c.requires.pouring in
     let inv = c.rows.invariant in
     let now = inv.poured start.0 start.1 start.2 start.3 in
-    caused_damage _ _ _ _ _ _ (sum_damage c.args.newest) inv.faults ((c.in-Ok.ensures.next now.1.going).cause.quiet ∙ inv.reads) c.sum_fault.ensures (inr refl)
+    let s : Columns = columns_of c.rows.writer in
+    let row = lent c.row-row.result in
+    let next = goes_on g.R.FileReader.bytes _ _ _ _ _ _ (c.in-Ok.ensures.next now.1.going) c.if-not-more.false c.row-row.ensures s now.0 now.1 in
+    let file = c.last_file-newest.ensures in
+    let leaves : KeepsSums s (folded (aggs_of s) now.0 ++ row ∷ []) → ⊥ = λ all.
+    (let no : false ≡ true = sym c.if-not-allows.true ∙ (c.allows.ensures (folded (aggs_of s) now.0) now.2).1 (λ _. sums_follow s (folded (aggs_of s) now.0) row (taken_form s _ now.2.good) all) in cc) in
+    caused_damage _ _ _ _ _ _ (sum_damage c.last_file-newest.result) inv.faults ((c.in-Ok.ensures.next now.1.going).cause.quiet ∙ inv.reads) c.sum_fault.ensures
+    (inr (total_of g.R.FileReader.bytes s c.next.new.self next.0 (folded (aggs_of s) now.0) row file.0 _ next.1 next.2 next.4 leaves file.1 (ap sum_damage file.2)))
 
 pub returns-then-not-allows-clause-known : goal.returns-then-not-allows-clause-known
 returns-then-not-allows-clause-known g c =
@@ -228,7 +245,14 @@ returns-in-Err-put_all-clause-causes g c =
     let start = c.requires.pouring in
     let inv = c.rows.invariant in
     let now = inv.poured start.0 start.1 start.2 start.3 in
-    caused_unread _ _ _ _ _ c.in-Err-put_all.unfit inv.faults ((c.in-Ok.ensures.next now.1.going).cause.quiet ∙ inv.reads) c.in-Err-put_all.ensures.unread (λ d is. inr (c.in-Err-put_all.ensures.damaged d is))
+    let s : Columns = columns_of c.rows.writer in
+    let row = lent c.row-row.result in
+    let next = goes_on g.R.FileReader.bytes _ _ _ _ _ _ (c.in-Ok.ensures.next now.1.going) c.if-not-more.false c.row-row.ensures s now.0 now.1 in
+    let file = c.last_file-newest.ensures in
+    let takes = takes_kept s c.args.groups.now c.rows.groups inv.wanted (subst (λ (t : Columns). AllByRecursion (TakesRows t) c.args.groups.now) (sym inv.columns) c.requires.takes) in
+    caused_unread _ _ _ _ _ c.in-Err-put_all.unfit inv.faults ((c.in-Ok.ensures.next now.1.going).cause.quiet ∙ inv.reads) c.in-Err-put_all.ensures.unread
+    (λ d is. inr (total_of g.R.FileReader.bytes s c.next.new.self next.0 (folded (aggs_of s) now.0) row file.0 d next.1 next.2 next.4
+    (λ all. c.in-Err-put_all.ensures.never d is s (folded (aggs_of s) now.0) now.3 takes all) file.1 (c.in-Err-put_all.ensures.damaged d is ∙ ap sum_damage file.2)))
 
 pub returns-in-Err-put_all-clause-known : goal.returns-in-Err-put_all-clause-known
 returns-in-Err-put_all-clause-known g c =
