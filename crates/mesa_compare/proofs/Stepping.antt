@@ -13,7 +13,8 @@ use Rattle.mesa_delta.specs.declared.input.Input.{Input}
 use Rattle.mesa_cursor.specs.Cursors.{HasGiven, IsAllOf}
 use Rattle.mesa_cursor.specs.declared.cursor.Cursor.{Cursor}
 use Rattle.mesa_merge.specs.Inputs.{AreAll, knowns_of}
-use Rattle.mesa_merge.specs.Merged.{HasMerged, inputs_of}
+use Rattle.mesa_merge.specs.Merged.{HasMerged, inputs_of, last_in}
+use Rattle.mesa_merge.specs.Sums.{IsLastOf}
 use Rattle.mesa_merge.specs.declared.merge.Merge.{Merge}
 
 pub if_none_from : {X : Type 0} (o : Option X) (P : Type 0) → P → IfNone o P
@@ -41,7 +42,7 @@ pub record GoesOn {R : Type 0} (bytes : R → Option (List ℕ)) (s : Columns) (
   pub ends : row ≡ None → AreAll (knowns_of bytes (inputs_of new)) after
 
 pub goes_on : {R : Type 0} (bytes : R → Option (List ℕ)) (s : Columns) (old new : Merge R) (givens : List (List Row)) (row : Option Row) → HasMerged bytes s old givens
-    → IfSome row (λ r. (s : Columns) (givens : List (List Row)) → HasMerged bytes s old givens → (after : List (List Row)) × HasMerged bytes s new after × (folded (aggs_of s) after ≡ folded (aggs_of s) givens ++ r ∷ []) × IsRowOf s r)
+    → IfSome row (λ r. (s : Columns) (givens : List (List Row)) → HasMerged bytes s old givens → (after : List (List Row)) × HasMerged bytes s new after × (folded (aggs_of s) after ≡ folded (aggs_of s) givens ++ r ∷ []) × IsRowOf s r × IsLastOf r.key (last_in new) after)
     → IfNone row ((s : Columns) (givens : List (List Row)) → HasMerged bytes s old givens → HasMerged bytes s new givens × AreAll (knowns_of bytes (inputs_of new)) givens)
     → GoesOn bytes s new (folded (aggs_of s) givens) row
 goes_on bytes s old new givens None h some none =
