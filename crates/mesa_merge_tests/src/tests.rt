@@ -131,10 +131,10 @@ static OVERFLOWS: [Two<'static>; 3] = [
     },
 ];
 
-// The damage that is told of the newer file.
-fn overflow() -> CompactError {
+// The damage that is told of this file.
+fn overflow(file: u64) -> CompactError {
     CompactError::File(FileError::Damaged(Damage {
-        file: FileId::of(2),
+        file: FileId::of(file),
         place: 0,
         want: Seen::Fits,
         found: Seen::Misfit(0),
@@ -157,8 +157,21 @@ fn expect_fault(
 #[test]
 fn tells_a_sum_of_the_newest_file(rt: HostRuntime) {
     for two in &OVERFLOWS {
-        expect_fault(&rt, rt.alloc(), two, &[], None, Some(overflow()));
+        expect_fault(&rt, rt.alloc(), two, &[], None, Some(overflow(2)));
     }
+}
+
+// Files whose total over several keys leaves its type with a key that only the older file holds.
+static OLDER_KEY: Two<'static> = Two {
+    agg: Agg::Sum,
+    formats: BOTH_NEW,
+    older: &[(6, Amount::MAX)],
+    newer: &[(5, Amount::MAX)],
+};
+
+#[test]
+fn tells_a_total_of_the_newest_file_that_holds_its_key(rt: HostRuntime) {
+    expect_fault(&rt, rt.alloc(), &OLDER_KEY, &[], None, Some(overflow(1)));
 }
 
 // Ten blocks of rows.
