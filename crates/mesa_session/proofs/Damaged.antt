@@ -96,4 +96,5 @@ some_differs o d met is = subst (λ (p : Option Damage). IfSome p Differs) is me
 pub task_differs : {R : Type 0} (bytes : R → Option (List ℕ)) (size : R → ℕ) (old new : Task R) (d : Damage) → IfSome old.damage Differs → IsTaskDamage bytes size old new d → Differs d
 task_differs bytes size old new d met (inl is) = some_differs old.damage d met is
 task_differs bytes size old new d met (inr (none, inl files)) = merge_differs bytes size new.inputs.items d files
-task_differs bytes size old new d met (inr (none, inr view)) = merge_differs bytes size _ d view.told
+task_differs bytes size old new d met (inr (none, inr (inl view))) = merge_differs bytes size _ d view.told
+task_differs bytes size old new d met (inr (none, inr (inr total))) = told_as d _ total.told (λ same. unlike_fits 0 same)
