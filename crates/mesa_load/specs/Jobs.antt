@@ -4,6 +4,7 @@ use Rattle.mesa_fault.specs.Causes.{Rose}
 use Rattle.mesa_schema.specs.declared.rows.Row.{Row}
 use Rattle.mesa_schema.specs.declared.views.View.{View}
 use Rattle.mesa_schema.specs.Changes.{Lineage, columns_of}
+use Rattle.mesa_batch.specs.Gathered.{rows_at}
 use Rattle.mesa_delta.specs.declared.error.WriteError.TheVariants.{Draft as DraftFault}
 use Rattle.mesa_tasks.specs.Made.{Content, IsMadeFile, content_of}
 use Rattle.mesa_load.specs.Filing.{AreFileRows}
@@ -25,13 +26,13 @@ content_at l rows (Some view) = content_of (columns_of l) rows (view_in l view)
 
 -- whose rows a job's file is to have
 abbrev pub content_in : Job → Content
-content_in j = content_at j.evolving.now j.rows.now j.view
+content_in j = content_at j.evolving.now (rows_at j.table j.batch.now) j.view
 
 -- A job's view is there, its table has rows, and a file may have them.
 pub record IsFit (j : Job) : Type 0 where
   pub view : IfSome j.view (λ view. view < length j.evolving.now.views)
-  pub some : 0 < length j.rows.now
-  pub rows : AreFileRows (columns_of j.evolving.now) j.rows.now
+  pub some : 0 < length (rows_at j.table j.batch.now)
+  pub rows : AreFileRows (columns_of j.evolving.now) (rows_at j.table j.batch.now)
 
 -- A job may be done: its draft is empty and has its id.
 abbrev pub IsReady : {M T : Type 0} → (T → Option (List ℕ)) → (T → ℕ) → Job → Progress M T → Type 0

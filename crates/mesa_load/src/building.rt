@@ -3,19 +3,22 @@ ghost use Rattle.std.specs.Prelude.{◌≡◌, ◌<◌, ℕ, List, [], Some, len
 ghost use Rattle.std.specs.List.{AllByRecursion};
 ghost use Rattle.std.specs.Thread.{IsSend};
 ghost use Rattle.mesa_schema.specs.Rows.{AreRowsOf};
+ghost use Rattle.mesa_batch.specs.Gathered.{rows_at};
 ghost use Rattle.mesa_load.specs.declared.building.Job.{Job as AnyJob};
 ghost use Rattle.mesa_load.specs.Collected.{HasCause, IsBegun};
-ghost use Rattle.mesa_load.specs.Filing.{AreFileRows};
+ghost use Rattle.mesa_load.specs.Filing.{AreFileRows, file_rows};
 ghost use Rattle.mesa_load.specs.Jobs.{AreDone, HasFiled, HasWritten, IsFit, IsReady, ProgressOf, content_in, view_in};
 ghost use Rattle.mesa_schema.specs.Changes.{columns_of};
 ghost use Rattle.mesa_schema.specs.Views.{view_columns, view_rows as content_of};
 
+use crate::file_rows::FileRows;
 use crate::writing::write_file;
 use mesa_answer::view_rows;
+use mesa_batch::Batch;
 use mesa_delta::WriteError;
 use mesa_disk::{Draft, Made};
 use mesa_file::FileId;
-use mesa_schema::{Evolving, Row, RowList, Schema, groups_rise};
+use mesa_schema::{Evolving, RowList, Schema, groups_rise};
 use mesa_tasks::MadeFile;
 use std::alloc::{AllocError, Global};
 use std::thread::Threads;
@@ -29,7 +32,8 @@ const THREADS: usize = 8;
 pub(crate) struct Job<'a> {
     pub evolving: &'a Evolving,
     pub view: Option<u8>,
-    pub rows: &'a [Row],
+    pub batch: &'a Batch,
+    pub table: u16,
 }
 
 /// How far a file is.
@@ -48,13 +52,13 @@ fn write_rows<M: Made, T: Draft<M>>(
     id: FileId,
     draft: T,
     schema: &Schema,
-    rows: &[Row],
+    rows: FileRows,
 ) -> Progress<M, T>
     requires empty { (bytes : List ℕ) → T.bytes draft ≡ Some bytes → bytes ≡ [] }
     requires own { T.id_of draft ≡ id }
-    requires some { 0 < length rows.now }
-    requires rows { AreFileRows schema.now rows.now }
-    ensures { HasWritten M.bytes M.id_of T.faults (record { columns = schema.now; rows = rows.now }) draft result }
+    requires some { 0 < length (file_rows rows) }
+    requires rows { AreFileRows schema.now (file_rows rows) }
+    ensures { HasWritten M.bytes M.id_of T.faults (record { columns = schema.now; rows = file_rows rows.entry }) draft result }
 {
     match write_file(alloc, draft, id, schema, rows) {
         Ok(file) => Progress::Finished(file),
@@ -67,19 +71,21 @@ fn view_content(
     alloc: Global,
     evolving: &Evolving,
     view: u8,
-    rows: &[Row],
+    batch: &Batch,
+    table: u16,
 ) -> Result<(Schema, RowList), AllocError>
     requires there { view < length evolving.now.views }
-    requires some { 0 < length rows.now }
-    requires rows { AreFileRows (columns_of evolving.now) rows.now }
+    requires some { 0 < length (rows_at table batch.now) }
+    requires rows { AreFileRows (columns_of evolving.now) (rows_at table batch.now) }
     ensures columns { IfOk result (λ x. x.0 ≡ view_columns (columns_of evolving.now) (view_in evolving.now view)) }
-    ensures content { IfOk result (λ x. x.1 ≡ content_of (columns_of evolving.now) (view_in evolving.now view) rows.now) }
+    ensures content { IfOk result (λ x. x.1 ≡ content_of (columns_of evolving.now) (view_in evolving.now view) (rows_at table batch.now)) }
     ensures some { IfOk result (λ x. 0 < length x.1) }
     ensures rows { IfOk result (λ x. AreFileRows x.0 x.1) }
 {
     groups_rise();
     let schema = evolving.view_schema(view)?;
-    let found = view_rows(alloc, evolving, view, rows)?;
+    let rows = batch.rows(table)?;
+    let found = view_rows(alloc, evolving, view, rows.as_slice())?;
     Ok((schema, found))
 }
 
@@ -97,10 +103,17 @@ fn write_draft<M: Made, T: Draft<M>>(
 {
     let evolving = job.evolving;
     let Some(view) = job.view else {
-        return write_rows(alloc, id, draft, evolving.present(), job.rows);
+        let rows = FileRows::Batched {
+            batch: job.batch,
+            table: job.table,
+        };
+        return write_rows(alloc, id, draft, evolving.present(), rows);
     };
-    match view_content(alloc, evolving, view, job.rows) {
-        Ok((schema, found)) => write_rows(alloc, id, draft, &schema, found.as_slice()),
+    match view_content(alloc, evolving, view, job.batch, job.table) {
+        Ok((schema, found)) => {
+            let rows = FileRows::Listed(found.as_slice());
+            write_rows(alloc, id, draft, &schema, rows)
+        }
         Err(_) => Progress::Failed(WriteError::Memory, draft),
     }
 }

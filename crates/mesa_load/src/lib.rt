@@ -4,6 +4,7 @@
 mod building;
 mod collecting;
 mod drafts;
+mod file_rows;
 mod parts;
 mod planning;
 mod preparing;

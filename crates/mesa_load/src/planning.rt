@@ -3,6 +3,7 @@ ghost use Rattle.std.specs.Prelude.{◌≡◌, ◌<◌, ◌+◌, ◌++◌, List,
 ghost use Rattle.std.specs.List.{AllByRecursion, list_any};
 ghost use Rattle.mesa_schema.specs.Changes.{columns_of};
 ghost use Rattle.mesa_batch.specs.Batch.{Placed as PlacedRow};
+ghost use Rattle.mesa_batch.specs.Gathered.{rows_at};
 ghost use Rattle.mesa_batch.specs.Totals.{sum_bound};
 ghost use Rattle.mesa_load.specs.Filing.{AreFileRows};
 ghost use Rattle.mesa_load.specs.Jobs.{IsFit, content_in};
@@ -10,7 +11,7 @@ ghost use Rattle.mesa_load.specs.Plans.{IsBatched, IsPlan, table_contents};
 
 use crate::building::Job;
 use mesa_batch::{Batch, Glance, OVER_BOUND};
-use mesa_schema::{Evolving, Row, Totals, folds_by_key};
+use mesa_schema::{Evolving, Totals, folds_by_key};
 use std::alloc::{AllocError, Global};
 
 /// A table's part of a batch, before its files are written.
@@ -65,8 +66,8 @@ fn add_table<'a>(
     ensures { OnOk result ((rows : List PlacedRow) → IsBatched glance.now rows batch.now → IsPlan rows (take table glance.now.tables) plan.old → IsPlan rows (take (table + 1) glance.now.tables) plan.new) }
 {
     folds_by_key();
-    let rows = batch.rows(table);
-    if rows.is_empty() {
+    let count = batch.count(table);
+    if count == 0 {
         return Ok(());
     }
     let evolving: &Evolving = glance.evolving(table);
@@ -77,7 +78,7 @@ fn add_table<'a>(
         views: evolving.views(),
         totals,
     })?;
-    add_jobs(&mut plan.jobs, evolving, rows)
+    add_jobs(&mut plan.jobs, evolving, batch, table)
 }
 
 // Whether one of these totals passes the bound by itself.
@@ -91,22 +92,25 @@ fn is_over(totals: &Totals) -> bool
 fn add_jobs<'a>(
     jobs: &mut Vec<Job<'a>>,
     evolving: &'a Evolving,
-    rows: &'a [Row],
+    batch: &'a Batch,
+    table: u16,
 ) -> Result<(), AllocError>
-    requires { 0 < length rows.now }
-    ensures contents { OnOk result (map content_in jobs.new.items ≡ map content_in jobs.old.items ++ table_contents evolving.now rows.now) }
-    ensures fit { OnOk result (AreFileRows (columns_of evolving.now) rows.now → AllByRecursion IsFit jobs.old.items → AllByRecursion IsFit jobs.new.items) }
+    requires { 0 < length (rows_at table batch.now) }
+    ensures contents { OnOk result (map content_in jobs.new.items ≡ map content_in jobs.old.items ++ table_contents evolving.now (rows_at table batch.now)) }
+    ensures fit { OnOk result (AreFileRows (columns_of evolving.now) (rows_at table batch.now) → AllByRecursion IsFit jobs.old.items → AllByRecursion IsFit jobs.new.items) }
 {
     jobs.push(Job {
         evolving,
         view: None,
-        rows,
+        batch,
+        table,
     })?;
     'views: for view in 0..evolving.views() {
         jobs.push(Job {
             evolving,
             view: Some(view),
-            rows,
+            batch,
+            table,
         })?;
     }
     Ok(())

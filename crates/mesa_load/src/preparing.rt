@@ -62,10 +62,12 @@ fn read_batch(alloc: Global, glance: &Glance, rows: &LoadRows) -> Result<Batch, 
     'rows: for i in 0..rows.len() {
         match builder.row(glance, &rows.row(i)) {
             Ok(()) => {}
-            Err(error) => return Err(error),
+            // A key that came twice before the row goes first.
+            Err(error) => return Err(builder.finish().err().unwrap_or(error)),
         }
     }
-    Ok(builder.finish()?)
+    let batch = builder.finish()?;
+    Ok(batch)
 }
 
 // The parts of a batch that was read by the tables of a glance, with their files.

@@ -5,12 +5,13 @@ ghost use Rattle.mesa_delta.specs.declared.error.WriteError.TheVariants.{Draft a
 ghost use Rattle.mesa_delta.specs.Writing.{HasTaken, columns_of, draft_of, id_of};
 ghost use Rattle.mesa_schema.specs.declared.rows.Row.{Row as AnyRow};
 ghost use Rattle.mesa_tasks.specs.Made.{IsMadeFile};
-ghost use Rattle.mesa_load.specs.Filing.{AreFileRows};
+ghost use Rattle.mesa_load.specs.Filing.{AreFileRows, file_rows};
 
+use crate::file_rows::FileRows;
 use mesa_delta::{DeltaWriter, WriteError};
 use mesa_disk::{Draft, Made};
 use mesa_file::FileId;
-use mesa_schema::{Row, Schema};
+use mesa_schema::Schema;
 use mesa_tasks::MadeFile;
 use std::alloc::Global;
 
@@ -20,13 +21,13 @@ pub(crate) fn write_file<M: Made, T: Draft<M>>(
     draft: T,
     id: FileId,
     schema: &Schema,
-    rows: &[Row],
+    rows: FileRows,
 ) -> Result<MadeFile<M>, (WriteError, T)>
     requires empty { (bytes : List ℕ) → T.bytes draft ≡ Some bytes → bytes ≡ [] }
     requires own { T.id_of draft ≡ id }
-    requires some { 0 < length rows.now }
-    requires rows { AreFileRows schema.now rows.now }
-    ensures made { IfOk result (λ made. IsMadeFile M.bytes M.id_of (record { columns = schema.now; rows = rows.now }) made) }
+    requires some { 0 < length (file_rows rows) }
+    requires rows { AreFileRows schema.now (file_rows rows) }
+    ensures made { IfOk result (λ made. IsMadeFile M.bytes M.id_of (record { columns = schema.now; rows = file_rows rows.entry }) made) }
     ensures cause { IfErr result (λ e. (T.faults draft ≤ T.faults e.1) × (e.0 ≡ DraftFault → Rose (T.faults draft) (T.faults e.1))) }
 {
     let mut writer = match DeltaWriter::new(alloc, draft, id, schema) {
@@ -42,18 +43,18 @@ pub(crate) fn write_file<M: Made, T: Draft<M>>(
 // Gives a writer the rows.
 fn push_rows<M: Made, T: Draft<M>>(
     writer: &mut DeltaWriter<M, T>,
-    rows: &[Row],
+    rows: FileRows,
 ) -> Result<(), WriteError>
     requires none { HasTaken T.bytes writer.old [] }
-    requires rows { AreFileRows (columns_of writer.old) rows.now }
-    ensures taken { OnOk result (HasTaken T.bytes writer.new rows.now) }
+    requires rows { AreFileRows (columns_of writer.old) (file_rows rows) }
+    ensures taken { OnOk result (HasTaken T.bytes writer.new (file_rows rows.entry)) }
     ensures columns { columns_of writer.new ≡ columns_of writer.old }
     ensures id { id_of writer.new ≡ id_of writer.old }
     ensures draft { T.id_of (draft_of writer.new) ≡ T.id_of (draft_of writer.old) }
     ensures cause { HasFaultCause (λ e. e ≡ DraftFault) (T.faults (draft_of writer.old)) (T.faults (draft_of writer.new)) result }
 {
-    'rows: for row in rows {
-        writer.push(row.lend())?;
+    'rows: for place in 0..rows.len() {
+        writer.push(rows.row(place))?;
     }
     Ok(())
 }

@@ -145,7 +145,7 @@ fn a_load_without_rows_has_no_part(rt: HostRuntime) {
 }
 
 // Loads that make no batch, and why.
-static REFUSED: [(&[u8], BatchError); 2] = [
+static REFUSED: [(&[u8], BatchError); 4] = [
     (
         b"t;1;1;5 t;1;1;7",
         BatchError::DuplicateKey {
@@ -154,6 +154,15 @@ static REFUSED: [(&[u8], BatchError); 2] = [
         },
     ),
     (b"t;1;1;5 u;1;2;7", BatchError::NoTable { row: 2 }),
+    // The row that comes first is told.
+    (
+        b"t;1;1;5 t;1;1;7 u;1;2;7",
+        BatchError::DuplicateKey {
+            first: 1,
+            second: 2,
+        },
+    ),
+    (b"t;1;1;5 u;1;2;7 t;1;1;7", BatchError::NoTable { row: 2 }),
 ];
 
 #[test]

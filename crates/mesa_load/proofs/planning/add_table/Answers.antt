@@ -18,16 +18,9 @@ use Rattle.mesa_load.specs.declared.planning.Planned.{Planned}
 use Rattle.mesa_load.proofs.planning.add_table.Goals as goal
 use Rattle.mesa_load.proofs.planning.add_table.Goals.{then-plan, else-plan}
 
-none_of : (rows : List Row) → (length rows == 0) ≡ true → rows ≡ []
-none_of rows none = nil_from_length rows (eqb-true (length rows) 0 none)
-
-some_of : (rows : List Row) → (length rows == 0) ≡ false → 0 < length rows
-some_of [] none = absurd cc
-some_of (row ∷ rows) none = omega arith
-
-pub returns-then-is_empty : goal.returns-then-is_empty
-returns-then-is_empty c =
-    λ rows batched plan. plan_same c.args.glance.now rows c.args.batch.now c.args.table c.args.plan.now c.requires batched (sym c.rows-rows.ensures ∙ none_of c.rows-rows.result.now (sym c.if-is_empty.ensures)) plan
+pub returns-then-count-eq0 : goal.returns-then-count-eq0
+returns-then-count-eq0 c =
+    λ rows batched plan. plan_same c.args.glance.now rows c.args.batch.now c.args.table c.args.plan.now c.requires batched (nil_from_length (rows_at c.args.table c.args.batch.now) (sym c.count-count.ensures ∙ c.if-count-eq0.true)) plan
 
 either : (x y z : Bool) → x ≡ true → z ≡ true → z ≡ (x || y)
 either true y z a b = b
@@ -52,8 +45,7 @@ returns c =
       | else-plan w ↦ w.plan-is ∙ w.is_over-plan.ensures ∙ neither c.args.plan.now.over _ w.if-plan.false
     ] in
     both c.add_jobs.result _ _ _ c.add_jobs.ensures.contents c.add_jobs.ensures.fit (λ contents fit rows batched plan.
-    let rows_are = c.rows-rows.ensures in
-    let some : 0 < length (rows_at table b) = subst (λ (rs : List Row). 0 < length rs) rows_are (some_of c.rows-rows.result.now (sym c.if-is_empty.ensures)) in
+    let some : 0 < length (rows_at table b) = omega (arith, c.count-count.ensures, c.if-count-eq0.false) in
     let s = splits_at table sight.tables c.requires in
     let known = if_some (λ (t : Known). c.evolving.result.now.value ≡ t.lineage) _ s.x s.at c.evolving.ensures in
     let lineage : l ≡ s.x.lineage = c.deref-evolving.ensures ∙ known in
@@ -61,5 +53,4 @@ returns c =
     let p : Planned = record { table = table; views = c.views.result; totals = c.in_ok-totals.totals } in
     let new : Plan = record { parts = c.push.new.self; jobs = c.add_jobs.new.jobs; over = c.if-plan.plan } in
     plan_next c.folds_by_key.ensures.rise sight rows b table l c.args.plan.now new p next plan c.in_ok-push.ensures.items refl c.views.ensures c.in_ok-totals.ensures
-    (subst (λ (rs : List Row). map content_in c.add_jobs.new.jobs.items ≡ map content_in c.args.plan.now.jobs.items ++ table_contents l rs) rows_are contents) over
-    (subst (λ (rs : List Row). AreFileRows (columns_of l) rs → AllByRecursion IsFit c.args.plan.now.jobs.items → AllByRecursion IsFit c.add_jobs.new.jobs.items) rows_are fit))
+    contents over fit)
