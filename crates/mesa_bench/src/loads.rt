@@ -49,5 +49,8 @@ pub fn read_load(alloc: Global, glance: &Glance, load: &LoadRows) -> Result<usiz
             return Err(Failure::Refused);
         }
     }
-    Ok(builder.finish()?.len())
+    match builder.finish() {
+        Ok(batch) => Ok(batch.len()),
+        Err(_) => Err(Failure::Refused),
+    }
 }

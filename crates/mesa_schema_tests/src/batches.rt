@@ -161,11 +161,6 @@ fn texts_of_255_bytes_at_most(rt: HostRuntime) {
     expect_lengths(&rt, rt.alloc(), &glance);
 }
 
-const TWICE: Option<BatchError> = Some(BatchError::DuplicateKey {
-    first: 1,
-    second: 3,
-});
-
 // Stops the test of a next row that makes a batch with those before it, or none, otherwise.
 fn expect_next(
     rt: &impl Abort,
@@ -183,19 +178,31 @@ fn expect_next(
     expect_same(rt, &found, &wanted, &fields);
 }
 
-// The batch of two rows that are taken; between them and its end a third is refused that has the key of the first.
-fn taken(rt: &impl Abort, alloc: Global, glance: &Glance) -> Batch {
+// A builder of two rows; between them and its end a third is refused, which leaves it as it was.
+fn gathered(rt: &impl Abort, alloc: Global, glance: &Glance) -> BatchBuilder
+    ensures { IsReadBy glance.now result }
+{
     let mut builder = BatchBuilder::new(alloc);
     expect_next(rt, alloc, glance, &mut builder, b"2;x;5;7", None);
     expect_next(rt, alloc, glance, &mut builder, b"1;x;-6;8", None);
-    expect_next(rt, alloc, glance, &mut builder, b"02;x;0;0", TWICE);
-    builder.finish().expect(rt, "memory")
+    let bad = Some(BatchError::BadRow { row: 3, column: 4 });
+    expect_next(rt, alloc, glance, &mut builder, b"3;x;5;", bad);
+    builder
 }
 
-// Stops the test of a batch that hasn't the two rows that were taken, or has one of a second table.
+// Stops the test of a batch that hasn't the two rows that were taken, in the order of their keys, or has one of a second table.
 fn expect_taken(rt: &impl Abort, batch: &Batch) {
-    let rows = (batch.len(), batch.rows(0).len(), batch.rows(1).len());
-    expect_same(rt, &rows, &(2, 2, 0), &"rows");
+    let counts = (batch.len(), batch.count(0), batch.count(1));
+    expect_same(rt, &counts, &(2, 2, 0), &"rows");
+    let rows = batch.rows(0).expect(rt, "memory");
+    if let Some(row) = rows.as_slice().first() {
+        expect_same(
+            rt,
+            &row.values.as_slice(),
+            &[-6, 8].as_slice(),
+            &"values of the least key",
+        );
+    }
     let totals = batch.abs_totals(0).expect(rt, "memory");
     expect_same(
         rt,
@@ -206,10 +213,73 @@ fn expect_taken(rt: &impl Abort, batch: &Batch) {
 }
 
 #[test]
-fn a_key_comes_once(rt: HostRuntime) {
+fn a_refused_row_changes_nothing(rt: HostRuntime) {
     let glance = glance(&rt, rt.alloc()).copy().expect(&rt, "memory");
-    let batch = taken(&rt, rt.alloc(), &glance);
+    let batch = gathered(&rt, rt.alloc(), &glance)
+        .finish()
+        .expect(&rt, "rows with keys of their own");
     expect_taken(&rt, &batch.copy().expect(&rt, "memory"));
+}
+
+// Four rows of a load, and why they make no batch.
+type Four = ([&'static [u8]; 4], Option<BatchError>);
+
+// Of all rows whose key stands already the first one is told.
+static FOURS: [Four; 5] = [
+    ([b"2;x;5;7", b"1;x;5;7", b"2;y;5;7", b"3;x;5;7"], None),
+    (
+        [b"2;x;5;7", b"1;x;5;7", b"3;x;5;7", b"02;x;0;0"],
+        Some(BatchError::DuplicateKey {
+            first: 1,
+            second: 4,
+        }),
+    ),
+    (
+        [b"2;x;5;7", b"1;x;5;7", b"1;x;5;7", b"2;x;5;7"],
+        Some(BatchError::DuplicateKey {
+            first: 2,
+            second: 3,
+        }),
+    ),
+    (
+        [b"2;x;5;7", b"1;x;5;7", b"2;x;5;7", b"1;x;5;7"],
+        Some(BatchError::DuplicateKey {
+            first: 1,
+            second: 3,
+        }),
+    ),
+    (
+        [b"2;x;5;7", b"1;x;5;7", b"1;x;5;7", b"1;x;5;7"],
+        Some(BatchError::DuplicateKey {
+            first: 2,
+            second: 3,
+        }),
+    ),
+];
+
+// Why these rows make no batch.
+fn fault_of_four(
+    rt: &impl Abort,
+    alloc: Global,
+    glance: &Glance,
+    rows: &[&'static [u8]; 4],
+) -> Option<BatchError> {
+    let [a, b, c, d] = rows;
+    let mut builder = BatchBuilder::new(alloc);
+    expect_next(rt, alloc, glance, &mut builder, a, None);
+    expect_next(rt, alloc, glance, &mut builder, b, None);
+    expect_next(rt, alloc, glance, &mut builder, c, None);
+    expect_next(rt, alloc, glance, &mut builder, d, None);
+    builder.finish().err()
+}
+
+#[test]
+fn a_key_comes_once(rt: HostRuntime) {
+    let glance = glance(&rt, rt.alloc());
+    for (rows, wanted) in &FOURS {
+        let found = fault_of_four(&rt, rt.alloc(), &glance, rows);
+        expect_same(&rt, &found, wanted, rows);
+    }
 }
 
 // A total, one more, and whether both keep the bound of 2^127 - 1. The last two add up to more than 128 bits.
