@@ -1,8 +1,9 @@
 -- What a load's rows come to as a batch.
 use Rattle.std.proofs.Common.{◌≡◌, ◌≢◌, ℕ, List, [], ◌∷◌, ◌++◌, sym, ◌∙◌, ap, subst, Result, Ok, Err, Some, get_or}
-use Rattle.std.specs.Prelude.{slice_get, option_map}
+use Rattle.std.specs.Prelude.{slice_get, option_map, unwrap_or, OnOk, IfErr}
+use Rattle.std.specs.Result.{MatchResult, result_err}
 use Rattle.std.proofs.lemmas.Option.{get_or_from_slice_get, slice_get-map}
-use Rattle.mesa_list.specs.Checks.{◌>>=◌, refused_as}
+use Rattle.mesa_list.specs.Checks.{◌>>◌, refused_as}
 use Rattle.mesa_schema.specs.Columns.{Columns, aggs_of}
 use Rattle.mesa_schema.specs.Changes.{columns_of}
 use Rattle.mesa_schema.specs.Folded.{folded}
@@ -10,31 +11,31 @@ use Rattle.mesa_schema.specs.Rows.{AreRowsOf}
 use Rattle.mesa_batch.specs.declared.words.RowWords.{RowWords}
 use Rattle.mesa_batch.specs.declared.words.BatchError.{BatchError}
 use Rattle.mesa_batch.specs.declared.words.BatchError.TheVariants as error
-use Rattle.mesa_batch.specs.Batch.{Named, Placed, batch_from, batch_of, columns_at, placed_of, rows_for}
-use Rattle.mesa_batch.specs.Gathered.{Batched, rows_at, with_row}
+use Rattle.mesa_batch.specs.Batch.{Named, Placed, batch_from, batch_of, columns_at, rows_for}
+use Rattle.mesa_batch.specs.Gathered.{Batched, each_once, rows_at, with_row}
 use Rattle.mesa_batch.specs.Glance.{Known, Sight, columns_in, tables_of}
+use Rattle.mesa_batch.proofs.RowByRow.{row_by_row}
 use Rattle.mesa_batch.proofs.RowForms.{batch_forms}
 use Rattle.mesa_model.specs.Refusals.{batch_refusal}
 use Rattle.mesa_asked.specs.declared.failure.Failure.{Failure}
 use Rattle.mesa_asked.specs.Told.{IsDue, batch_failure}
 use Rattle.mesa_plain.specs.Grown.{IsBatchOf}
 
--- a refused row refuses the load
-stops : (r : Result Placed BatchError) (before : List Placed) (rest : List Placed → Result (List Placed) BatchError) (e : BatchError)
-    → (r >>= (λ placed. Ok (before ++ placed ∷ []))) ≡ Err e → (r >>= (λ placed. rest (before ++ placed ∷ []))) ≡ Err e
-stops (Ok placed) before rest e p = absurd (cc)
-stops (Err d) before rest e p = ap (λ (r : Result (List Placed) BatchError). r >>= rest) p
-
-pub row_stops : (tables : List Named) (before : List Placed) (words : RowWords) (rows : List RowWords) (e : BatchError) → with_row tables before words ≡ Err e → batch_from tables before (words ∷ rows) ≡ Err e
-row_stops tables before words rows e p = stops (placed_of tables before words) before (λ more. batch_from tables more rows) e p
+-- what keys compared behind rows and then other rows give
+abbrev pub given : List Named → List Placed → List RowWords → Result (List Placed) BatchError
+given tables before rows = each_once before >> batch_from tables before rows
 
 -- A row that is kept leaves it to the others.
-pub row_goes_on : (tables : List Named) (before after : List Placed) (words : RowWords) (rows : List RowWords) → with_row tables before words ≡ Ok after → batch_from tables before (words ∷ rows) ≡ batch_from tables after rows
-row_goes_on tables before after words rows e = by (placed_of tables before words) e
-  where
-    by : (r : Result Placed BatchError) → (r >>= (λ placed. Ok (before ++ placed ∷ []))) ≡ Ok after → (r >>= (λ placed. batch_from tables (before ++ placed ∷ []) rows)) ≡ batch_from tables after rows
-    by (Ok placed) e = let same : before ++ placed ∷ [] ≡ after = cc in ap (λ all. batch_from tables all rows) same
-    by (Err error) e = cc
+pub row_goes_on : (tables : List Named) (before after : List Placed) (words : RowWords) (rows : List RowWords) → with_row tables before words ≡ Ok after → given tables before (words ∷ rows) ≡ given tables after rows
+row_goes_on tables before after words rows e = subst (λ (r : Result (List Placed) BatchError). MatchResult r (λ placed. given tables before (words ∷ rows) ≡ given tables placed rows) (λ d. given tables before (words ∷ rows) ≡ (each_once before >> Err d))) e (row_by_row tables before words rows)
+
+-- A refused row refuses the load, where no key came twice before it.
+pub row_stops : (tables : List Named) (before : List Placed) (words : RowWords) (rows : List RowWords) (e : BatchError) (last : Result Batched BatchError) → (e ≢ error.Memory → with_row tables before words ≡ Err e) → OnOk last (each_once before ≡ Ok tt)
+    → IfErr last (λ d. d ≢ error.Memory → each_once before ≡ Err d) → unwrap_or (result_err last) e ≢ error.Memory → given tables before (words ∷ rows) ≡ Err (unwrap_or (result_err last) e)
+row_stops tables before words rows e (Ok b) refused once twice other =
+    subst (λ (r : Result (List Placed) BatchError). MatchResult r (λ placed. given tables before (words ∷ rows) ≡ given tables placed rows) (λ d. given tables before (words ∷ rows) ≡ (each_once before >> Err d))) (refused other) (row_by_row tables before words rows)
+    ∙ ap (λ (r : Result (Unit {0}) BatchError). r >> Err e) once
+row_stops tables before words rows e (Err d) refused once twice other = ap (λ (r : Result (Unit {0}) BatchError). r >> batch_from tables before (words ∷ rows)) (twice other)
 
 -- and is told
 pub is_told : (e : BatchError) (due : Result (List Placed) BatchError) (failure : Failure) → failure ≡ batch_failure e → (e ≢ error.Memory → due ≡ Err e) → IsDue (refused_as batch_refusal due) failure

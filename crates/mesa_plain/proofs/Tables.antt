@@ -1,8 +1,9 @@
 -- Tables, one after another, with their rows of a batch.
-use Rattle.std.proofs.Common.{◌≡◌, ◌<◌, ◌+◌, ℕ, List, [], drop, length, true, false, Ok, Err, Result, None, Some, sym, ◌∙◌, ap, subst}
+use Rattle.std.proofs.Common.{◌≡◌, ◌<◌, ◌+◌, ℕ, List, [], drop, length, true, false, Ok, Err, Result, None, Some, sym, ◌∙◌, ap, subst, arith}
 use Rattle.std.specs.Prelude.{◌==◌, Option, slice_get}
 use Rattle.std.specs.List.{AllByRecursion}
 use Rattle.std.proofs.lemmas.Bool.{eqb-true}
+use Rattle.std.proofs.lemmas.Bool.Decides.{nat_tests}
 use Rattle.std.proofs.lemmas.List.{length-map, nil_from_length}
 use Rattle.mesa_list.specs.Checks.{◌>>◌}
 use Rattle.mesa_schema.specs.declared.rows.Row.{Row}
@@ -64,6 +65,13 @@ due_here tables totals batch i k own failure there is due before placed has =
     (ap (λ r. r >> rest) (sym here) ∙ sym (ap (λ ks. bounds_checked placed i (tables_in nowhere i totals [] ks)) (drop_from tables i k there)) ∙ before placed has)
 
 -- ---- a table's rows of a batch
+
+-- no rows, or some, by their number
+pub counted_none : (rows : List Row) (n : ℕ) → n ≡ length rows → n ≡ 0 → true ≡ (length rows == 0)
+counted_none rows n e none = grind (arith, nat_tests)
+
+pub counted_some : (rows : List Row) (n : ℕ) → n ≡ length rows → (n ≡ 0 → ⊥) → false ≡ (length rows == 0)
+counted_some rows n e some = grind (arith, nat_tests)
 
 pub is_nil : (shown rows : List Row) → shown ≡ rows → true ≡ (length shown == 0) → rows ≡ []
 is_nil shown rows e t = sym e ∙ nil_from_length shown (eqb-true (length shown) 0 (sym t))

@@ -21,10 +21,15 @@ pub(crate) fn gather(alloc: Global, glance: &Glance, rows: &LoadRows) -> Result<
     let mut builder = BatchBuilder::new(alloc);
     'rows: for place in 0..rows.len() {
         if let Err(error) = builder.row(glance, &rows.row(place)) {
-            return Err(refusal_of(error));
+            // A key that came twice before the row goes first.
+            let first = builder.finish().err().unwrap_or(error);
+            return Err(refusal_of(first));
         }
     }
-    Ok(builder.finish()?)
+    match builder.finish() {
+        Ok(batch) => Ok(batch),
+        Err(error) => Err(refusal_of(error)),
+    }
 }
 
 fn refusal_of(error: BatchError) -> Failure

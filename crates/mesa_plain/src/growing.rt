@@ -67,7 +67,8 @@ fn table_totals(
     ensures bound { OnOk result (over_bound totals.now (abs_totals (columns_of table.now.evolving.value) (rows_at number batch.now)) ≡ None) }
     ensures refused { IfErr result (IsDue (bound_checked (with_totals (known_of table.now) totals.now) (rows_at number batch.now))) }
 {
-    if batch.rows(number).is_empty() {
+    let count = batch.count(number);
+    if count == 0 {
         return Ok(totals.copy()?);
     }
     let more = batch.abs_totals(number)?;
@@ -139,8 +140,8 @@ pub(crate) fn contents_with_batch(
     let mut after = Contents::new(alloc);
     'tables: for (number, table) in tables.iter().enumerate() {
         let schema = table.evolving.present();
-        let rows = batch.rows(number as u16);
-        after.push(table_content(alloc, schema, versions, number, rows)?)?;
+        let rows = batch.rows(number as u16)?;
+        after.push(table_content(alloc, schema, versions, number, rows.as_slice())?)?;
     }
     Ok(after)
 }

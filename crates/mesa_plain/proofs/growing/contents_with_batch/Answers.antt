@@ -28,12 +28,12 @@ table_content-requires-clause-fold c =
 pub table_content-requires-clause-rows_forms : goal.table_content-requires-clause-rows_forms
 table_content-requires-clause-rows_forms c =
     let there = map_there known_of c.args.tables.now c.tables.number c.index-tables-number.result c.tables-test.true c.index-tables-number.is in
-    rw (c.present-schema.ensures.columns, c.deref.ensures, c.rows-rows.ensures) (c.requires.batch.forms c.tables.number _ there)
+    rw (c.present-schema.ensures.columns, c.deref.ensures, c.as_slice.ensures, c.in_ok-rows.ensures) (c.requires.batch.forms c.tables.number _ there)
 
 pub table_content-requires-clause-bounded : goal.table_content-requires-clause-bounded
 table_content-requires-clause-bounded c =
     let there = map_there known_of c.args.tables.now c.tables.number c.index-tables-number.result c.tables-test.true c.index-tables-number.is in
-    rw (c.present-schema.ensures.columns, c.deref.ensures, c.rows-rows.ensures) (c.requires.can.bounded c.tables.number _ there)
+    rw (c.present-schema.ensures.columns, c.deref.ensures, c.as_slice.ensures, c.in_ok-rows.ensures) (c.requires.can.bounded c.tables.number _ there)
 
 pub tables-preserved : goal.tables-preserved
 tables-preserved c =
@@ -45,7 +45,7 @@ tables-preserved c =
     let next = c.in_ok-table_content.field-0 in
     let value : Arc (List Row) Global → List Row = λ a. a.value in
     let there = map_there known_of c.args.tables.now number table c.tables-test.true c.index-tables-number.is in
-    let own : next.value ≡ folded (aggs_of (columns_of table.evolving.value)) (newest_content (contents_in number versions) ∷ rows_at number batch ∷ []) = c.in_ok-table_content.ensures ∙ (λ i. folded (aggs_of ((c.present-schema.ensures.columns ∙ ap columns_of c.deref.ensures) i)) (newest_content (contents_in number versions) ∷ c.rows-rows.ensures i ∷ [])) in
+    let own : next.value ≡ folded (aggs_of (columns_of table.evolving.value)) (newest_content (contents_in number versions) ∷ rows_at number batch ∷ []) = c.in_ok-table_content.ensures ∙ (λ i. folded (aggs_of ((c.present-schema.ensures.columns ∙ ap columns_of c.deref.ensures) i)) (newest_content (contents_in number versions) ∷ (c.as_slice.ensures ∙ c.in_ok-rows.ensures) i ∷ [])) in
     record {
       count = omega (arith, ap length c.in_ok-push.ensures.ok, length-append c.tables.after (next ∷ []), inv.count);
       folds = λ n k lt e. rw (c.in_ok-push.ensures.ok, map-append value c.tables.after (next ∷ []))

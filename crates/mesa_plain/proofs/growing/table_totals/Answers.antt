@@ -1,22 +1,22 @@
-use Rattle.std.proofs.Common.{◌∙◌, ◌≡◌, ap, sym}
+use Rattle.std.proofs.Common.{◌∙◌, ◌≡◌, ap, refl, sym}
 use Rattle.mesa_schema.specs.Changes.{columns_of}
 use Rattle.mesa_batch.specs.Gathered.{rows_at}
 use Rattle.mesa_batch.specs.Numbers.{known_of}
 use Rattle.mesa_batch.specs.Totals.{abs_totals, totals_with}
 use Rattle.mesa_plain.specs.Grown.{with_totals}
 use Rattle.mesa_plain.proofs.Bounds.{few_totals, over_within, same-capped, with_bound}
-use Rattle.mesa_plain.proofs.Tables.{as_many, bound_over, more_is, no_more, no_more-bound, is_nil, over_is}
+use Rattle.mesa_plain.proofs.Tables.{as_many, bound_over, counted_none, counted_some, more_is, no_more, no_more-bound, is_nil, over_is}
 use Rattle.mesa_plain.proofs.growing.table_totals.Goals as goal
 
-pub returns-then-is_empty-clause-more : goal.returns-then-is_empty-clause-more
-returns-then-is_empty-clause-more c =
+pub returns-then-count-eq0-clause-more : goal.returns-then-count-eq0-clause-more
+returns-then-count-eq0-clause-more c =
     let rows = rows_at c.args.number c.args.batch.now in
-    c.in_ok-copy.ensures ∙ sym (no_more (columns_of c.args.table.now.evolving.value) c.args.totals.now rows c.requires.totals (is_nil c.rows.result.now rows c.rows.ensures c.if-is_empty.ensures))
+    c.in_ok-copy.ensures ∙ sym (no_more (columns_of c.args.table.now.evolving.value) c.args.totals.now rows c.requires.totals (is_nil rows rows refl (counted_none rows c.count-count.result c.count-count.ensures c.if-count-eq0.true)))
 
-pub returns-then-is_empty-clause-bound : goal.returns-then-is_empty-clause-bound
-returns-then-is_empty-clause-bound c =
+pub returns-then-count-eq0-clause-bound : goal.returns-then-count-eq0-clause-bound
+returns-then-count-eq0-clause-bound c =
     let rows = rows_at c.args.number c.args.batch.now in
-    no_more-bound (columns_of c.args.table.now.evolving.value) c.args.totals.now rows c.requires.totals (is_nil c.rows.result.now rows c.rows.ensures c.if-is_empty.ensures)
+    no_more-bound (columns_of c.args.table.now.evolving.value) c.args.totals.now rows c.requires.totals (is_nil rows rows refl (counted_none rows c.count-count.result c.count-count.ensures c.if-count-eq0.true))
 
 pub fits-requires-clause-few : goal.fits-requires-clause-few
 fits-requires-clause-few c =
@@ -36,7 +36,7 @@ returns-in-Err-clause-refused c =
     let rows = rows_at c.args.number c.args.batch.now in
     let totals = c.args.totals.now in
     let schema : c.present-schema.result.now ≡ s = c.present-schema.ensures.columns ∙ ap columns_of c.deref.ensures in
-    let more = more_is s c.args.batch.now c.args.number c.rows.result.now c.in_ok-more.more c.rows.ensures c.if-is_empty.ensures c.requires.columns c.in_ok-more.ensures in
+    let more = more_is s c.args.batch.now c.args.number (rows_at c.args.number c.args.batch.now) c.in_ok-more.more refl (counted_some (rows_at c.args.number c.args.batch.now) c.count-count.result c.count-count.ensures c.if-count-eq0.false) c.requires.columns c.in_ok-more.ensures in
     let over = over_is totals c.in_ok-more.more (abs_totals s rows) _ c.in-Err.ensures more in
     rw (c.in_ok-copy-2.ensures, c.in_ok-copy-3.ensures, c.sum_column.ensures, schema) (bound_over (with_totals (known_of c.args.table.now) totals) rows c.in-Err.column over)
 
@@ -48,7 +48,7 @@ returns-clause-more c =
     let s = columns_of c.args.table.now.evolving.value in
     let rows = rows_at c.args.number c.args.batch.now in
     let totals = c.args.totals.now in
-    let more = more_is s c.args.batch.now c.args.number c.rows.result.now c.in_ok-more.more c.rows.ensures c.if-is_empty.ensures c.requires.columns c.in_ok-more.ensures in
+    let more = more_is s c.args.batch.now c.args.number (rows_at c.args.number c.args.batch.now) c.in_ok-more.more refl (counted_some (rows_at c.args.number c.args.batch.now) c.count-count.result c.count-count.ensures c.if-count-eq0.false) c.requires.columns c.in_ok-more.ensures in
     let over = over_is totals c.in_ok-more.more (abs_totals s rows) _ c.in_default.ensures more in
     let same = more ∙ same-capped totals (abs_totals s rows) (as_many s totals rows c.requires.totals) over in
     c.in_ok-sums.ensures ∙ (λ i. totals_with (c.as_slice.ensures i) (c.as_slice-2.ensures i)) ∙ ap (totals_with totals) same
@@ -56,5 +56,5 @@ returns-clause-more c =
 pub returns-clause-bound : goal.returns-clause-bound
 returns-clause-bound c =
     let s = columns_of c.args.table.now.evolving.value in
-    let more = more_is s c.args.batch.now c.args.number c.rows.result.now c.in_ok-more.more c.rows.ensures c.if-is_empty.ensures c.requires.columns c.in_ok-more.ensures in
+    let more = more_is s c.args.batch.now c.args.number (rows_at c.args.number c.args.batch.now) c.in_ok-more.more refl (counted_some (rows_at c.args.number c.args.batch.now) c.count-count.result c.count-count.ensures c.if-count-eq0.false) c.requires.columns c.in_ok-more.ensures in
     over_is c.args.totals.now c.in_ok-more.more (abs_totals s (rows_at c.args.number c.args.batch.now)) _ c.in_default.ensures more
