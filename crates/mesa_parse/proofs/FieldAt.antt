@@ -1,5 +1,5 @@
 -- Fields by their places.
-use Rattle.std.proofs.Common.{◌≡◌, ℕ, zero, suc, List, [], ◌∷◌, refl, Some, None, length, get_or, ◌<◌, ◌+◌, drop, drop-cons, sym, ap, ◌∙◌, add-one}
+use Rattle.std.proofs.Common.{◌≡◌, ℕ, zero, suc, List, [], ◌∷◌, refl, Some, None, get_or, ◌+◌, drop, sym, ap, ◌∙◌, add-one}
 use Rattle.csv.specs.Records.{field_at}
 use Rattle.mesa_script.specs.Records.{field}
 
@@ -23,6 +23,10 @@ field-get place [] = refl
 field-get zero (f ∷ fields) = refl
 field-get (suc place) (f ∷ fields) = field-get place fields
 
--- a field and those behind it
-pub drop_field : (place : ℕ) (fields : List (List ℕ)) → place < length fields → drop place fields ≡ field place fields ∷ drop (place + 1) fields
-drop_field place fields l = drop-cons fields place [] l ∙ ap (λ f. f ∷ drop (suc place) fields) (sym (field-get place fields)) ∙ ap (λ k. field place fields ∷ drop k fields) (sym (add-one place))
+-- the fields behind the first
+pub field_behind_first : (place : ℕ) (fields : List (List ℕ)) → field (place + 1) fields ≡ get_or (drop 1 fields) place []
+field_behind_first place fields = ap (λ n. field n fields) (add-one place) ∙ by fields
+  where
+    by : (fields : List (List ℕ)) → field (suc place) fields ≡ get_or (drop 1 fields) place []
+    by [] = refl
+    by (f ∷ fields) = field-get place fields

@@ -1,4 +1,6 @@
 -- What records say, in the words of the definition.
+use Rattle.std.specs.Prelude.{drop}
+use Rattle.csv.specs.Records.{fields_of}
 use Rattle.mesa_batch.specs.Load.{row_from}
 use Rattle.mesa_script.specs.Records.{Name, Lease, Session, Table, View, Alter, Row, Commit, Query, Explain, Pin, Release, Expire, Work, Change, AddValue, DropValue, AddKey}
 use Rattle.mesa_script.specs.Items.{Item, LeaseOf, NextSession, RowOf, EndOfLoad, Single}
@@ -35,6 +37,6 @@ change_as change.AddKey = AddKey
 abbrev pub item_as : Said → Item
 item_as (said.LeaseOf turns) = LeaseOf turns
 item_as said.NextSession = NextSession
-item_as (said.Row words) = RowOf (row_from words)
+item_as (said.Row words) = RowOf (row_from (drop 1 (fields_of words.fields.now)))
 item_as said.EndOfLoad = EndOfLoad
 item_as (said.Single command) = Single command

@@ -1,5 +1,5 @@
 // What each record says, a function for each kind.
-ghost use Rattle.std.specs.Prelude.{◌≡◌, IfErr, IfOk, Ok};
+ghost use Rattle.std.specs.Prelude.{◌≡◌, drop, IfErr, IfOk, Ok};
 ghost use Rattle.csv.specs.Records.{fields_of};
 ghost use Rattle.mesa_batch.specs.Load.{row_from};
 ghost use Rattle.mesa_script.specs.Records.{Lease, Table, View, Alter, Row, Query, Explain, Pin, Release, Expire, Work};
@@ -12,23 +12,22 @@ use crate::columns::{key_columns, names, value_columns};
 use crate::failed::Failed;
 use crate::kinds::Kind;
 use crate::numbers::{MAX_NUMBER, limit, number_in};
-use crate::records::{field, words, words_from};
+use crate::records::{RowFields, field, words};
 use crate::versions::version;
 use csv::ByteRecord;
 use mesa_filter::QueryWords;
-use mesa_list::Fields;
 use mesa_model::{AlterWords, Command, ExplainWords, TableWords, ViewWords};
 use mesa_script::Reason;
 use std::alloc::{AllocError, Global};
 
 /// What a record says.
 #[derive(Drop)]
-pub(crate) enum Said {
+pub(crate) enum Said<'a> {
     /// How many turns a lease lasts.
     LeaseOf(u32),
     NextSession,
     /// A row of a load: its table's name, and then its fields.
-    Row(Fields),
+    Row(RowFields<'a>),
     EndOfLoad,
     /// A command by itself.
     Single(Command),
@@ -81,10 +80,10 @@ fn alter(alloc: Global, fields: &ByteRecord) -> Result<Command, Failed>
 
 // The words of a row of a load.
 #[tactic(auto, using(crate::proofs::RowItems::row_item))]
-fn row(alloc: Global, fields: &ByteRecord) -> Result<Fields, AllocError>
-    ensures { IfOk result (λ words. item_of Row (fields_of fields.now) ≡ Ok (RowOf (row_from words))) }
+fn row(fields: &ByteRecord) -> RowFields<'_>
+    ensures { item_of Row (fields_of fields.now) ≡ Ok (RowOf (row_from (drop 1 (fields_of result.fields.now)))) }
 {
-    words_from(alloc, fields, 1)
+    RowFields { fields }
 }
 
 // A query; the fields that it leaves out are empty.
@@ -158,14 +157,18 @@ fn work(alloc: Global, fields: &ByteRecord) -> Result<Command, AllocError>
 }
 
 /// What a record of a kind says, or what is wrong with its words and numbers.
-pub(crate) fn read_item(alloc: Global, kind: Kind, fields: &ByteRecord) -> Result<Said, Failed>
+pub(crate) fn read_item<'a>(
+    alloc: Global,
+    kind: Kind,
+    fields: &'a ByteRecord,
+) -> Result<Said<'a>, Failed>
     ensures read { IfOk result (λ said. item_of (name_as kind) (fields_of fields.now) ≡ Ok (item_as said)) }
     ensures refused { IfErr result (λ e. Tells e (item_of (name_as kind) (fields_of fields.now))) }
 {
     let command = match kind {
         Kind::Lease => return Ok(Said::LeaseOf(lease(fields)?)),
         Kind::Session => return Ok(Said::NextSession),
-        Kind::Row => return Ok(Said::Row(row(alloc, fields)?)),
+        Kind::Row => return Ok(Said::Row(row(fields))),
         Kind::Commit => return Ok(Said::EndOfLoad),
         Kind::Table => table(alloc, fields)?,
         Kind::View => view(alloc, fields)?,

@@ -74,7 +74,12 @@ impl Reading {
     }
 
     // What the next record says, or what is wrong with it.
-    fn next_said(&self, alloc: Global, place: u64, fields: &ByteRecord) -> Result<Said, Failed>
+    fn next_said<'a>(
+        &self,
+        alloc: Global,
+        place: u64,
+        fields: &'a ByteRecord,
+    ) -> Result<Said<'a>, Failed>
         ensures read { IfOk result (λ said. item_at place (fields_of fields.now) self.now.rows ≡ Ok (item_as said)) }
         ensures refused { IfErr result (λ e. Tells e (item_at place (fields_of fields.now) self.now.rows)) }
     {
@@ -128,8 +133,8 @@ impl Reading {
 
     // Adds what a record says.
     fn add(&mut self, alloc: Global, place: u64, said: Said) -> Result<(), ScriptError>
-        ensures read { OnOk result (with_item place (item_as said) self.old ≡ Ok self.new) }
-        ensures refused { IfErr result (λ e. e ≢ ScriptError.Memory → with_item place (item_as said) self.old ≡ Err e) }
+        ensures read { OnOk result (with_item place (item_as said.entry) self.old ≡ Ok self.new) }
+        ensures refused { IfErr result (λ e. e ≢ ScriptError.Memory → with_item place (item_as said.entry) self.old ≡ Err e) }
     {
         match said {
             Said::LeaseOf(turns) => {

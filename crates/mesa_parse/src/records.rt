@@ -1,5 +1,5 @@
 // The records of a script, as csv reads them, one after another.
-ghost use Rattle.std.specs.Prelude.{◌≡◌, [], ◌∷◌, if◌then◌else◌, IfOk, IfErr, drop};
+ghost use Rattle.std.specs.Prelude.{◌≡◌, [], ◌∷◌, if◌then◌else◌, IfOk, IfErr};
 ghost use Rattle.std.specs.Bool.{OnTrue};
 ghost use Rattle.csv.specs.Records.{fields_of};
 ghost use Rattle.mesa_script.specs.Records.{field as field_at};
@@ -7,7 +7,7 @@ ghost use Rattle.mesa_script.specs.Script.{records_of};
 ghost use Rattle.mesa_parse.specs.Left.{IsBetween, records_left};
 
 use csv::{ByteRecord, Reader, ReaderBuilder};
-use mesa_list::{Fields, Items};
+use mesa_list::Items;
 use mesa_schema::Words;
 use mesa_script::ScriptError;
 use std::alloc::{AllocError, Global};
@@ -57,17 +57,27 @@ pub(crate) fn words(alloc: Global, fields: &ByteRecord, place: usize) -> Result<
     Items::from_bytes(alloc, field(fields, place))
 }
 
-/// Copies of the fields from a place on, in one buffer.
-pub(crate) fn words_from(
-    alloc: Global,
-    fields: &ByteRecord,
-    start: usize,
-) -> Result<Fields, AllocError>
-    ensures { IfOk result (λ copies. copies ≡ drop start (fields_of fields.now)) }
-{
-    let mut copies = Fields::new(alloc);
-    'fields: for place in start..fields.len() {
-        copies.push(field(fields, place))?;
+/// The fields of a record behind its first one, lent.
+#[derive(Drop)]
+pub(crate) struct RowFields<'a> {
+    pub(crate) fields: &'a ByteRecord,
+}
+
+impl mesa_batch::Words for RowFields<'_> {
+    ghost use Rattle.std.specs.Prelude.{drop};
+    ghost use Rattle.csv.specs.Records.{fields_of};
+
+    ghost words = { λ r. drop 1 (fields_of r.fields.now) };
+
+    fn count(&self) -> usize {
+        self.fields.len().saturating_sub(1)
     }
-    Ok(copies)
+
+    fn word(&self, place: usize) -> &[u8] {
+        // A place behind the last field has no bytes, as in `field`.
+        if place >= self.fields.len() {
+            return b"";
+        }
+        field(self.fields, place + 1)
+    }
 }
