@@ -1,3 +1,4 @@
+pub use Rattle.mesa_writing.proofs as mesa_writing
 pub mod Closings
 pub mod Claims
 pub mod Refusing

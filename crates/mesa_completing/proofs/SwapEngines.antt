@@ -31,7 +31,7 @@ use Rattle.mesa_ledger.specs.mesa_walk.Turns.{entry}
 use Rattle.mesa_ledger.specs.mesa_walk.Walk.{Counts, run_at}
 use Rattle.mesa_ledger.proofs.mesa_walk.Working.{checked_open}
 use Rattle.mesa_ledger.specs.Ledger.{books_of, first_id, next_id, past_id}
-use Rattle.mesa_ledger.specs.Recorded.{failed_ledger, recorded_ledger, removed_by}
+use Rattle.mesa_ledger.specs.Recorded.{failed_ledger, left_by, recorded_ledger, removed_by}
 use Rattle.mesa_ledger.specs.Vault.{IsReady, IsVault, Starts, outset_of, written_by}
 use Rattle.mesa_log.specs.declared.log.Log.{Log}
 use Rattle.mesa_log.specs.Printing.{PrintsBlock}
@@ -78,7 +78,7 @@ module _ {K : Type 0} (held : K → Option (List ℕ)) (faults : K → ℕ) (n :
 
     -- The device work is done, and the record is applied and told.
     pub swapped_engine : (end : ℕ) → IsWhole story new m.ledger.end body (files_of bytes s.made.items) (removed_by m.ledger (length log.history.items) (dropped_ids m.ledger.catalogue s.entry)) end → Counts story new false
-        → after.ledger ≡ recorded_ledger m.ledger (length log.history.items) (applied m.ledger.catalogue s.entry) (generation_of (applied m.ledger.catalogue s.entry)) (dropped_ids m.ledger.catalogue s.entry) (ended t.table t.lease m.ledger.leases) s.adopted end
+        → after.ledger ≡ recorded_ledger m.ledger (applied m.ledger.catalogue s.entry) (generation_of (applied m.ledger.catalogue s.entry)) (left_by m.ledger (length log.history.items) (dropped_ids m.ledger.catalogue s.entry)) (ended t.table t.lease m.ledger.leases) s.adopted end
         → generation_of (applied m.ledger.catalogue s.entry) ≡ m.ledger.generation + turns_generation s.entry → after.leased ≡ m.leased
         → later.history.items ≡ log.history.items ++ entry session number kind.Close outcome.Stands moment ∷ [] → vec_capacity log.history ≤ vec_capacity later.history
         → PrintsBlock held faults log.printer later.printer (entry session number kind.Close outcome.Stands moment) (told_at (length log.history.items) (swapped_reply t.work)) → later.refused ≡ (log.refused || is_refusal (swapped_reply t.work))

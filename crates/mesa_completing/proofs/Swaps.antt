@@ -52,10 +52,11 @@ use Rattle.mesa_ledger.specs.mesa_walk.Walk.{Counts, Passes, StandsForEither, Wr
 use Rattle.mesa_ledger.specs.mesa_walk.Works.{Swaps}
 use Rattle.mesa_ledger.proofs.mesa_walk.Working.{checked_open}
 use Rattle.mesa_ledger.specs.Ledger.{Ledger, books_of, first_id, holders, ids_held, next_id}
-use Rattle.mesa_ledger.specs.Recorded.{IsRecorded, failed_ledger, recorded_ledger, removed_by, waiting}
+use Rattle.mesa_ledger.specs.Recorded.{IsRecorded, failed_ledger, left_by, recorded_ledger, removed_by, waiting}
 use Rattle.mesa_ledger.specs.Vault.{IsVault, Starts, outset_of, written_by}
 use Rattle.mesa_ledger.proofs.Agreeing.{named_agree, same_kept}
 use Rattle.mesa_ledger.proofs.Filing.{filed_moved, holds_are}
+use Rattle.mesa_ledger.proofs.Recording.{Clears, clears_freed}
 use Rattle.mesa_ledger.proofs.Renaming.{record_brings, record_renames}
 use Rattle.mesa_ledger.proofs.Sources.{sources_stay}
 use Rattle.mesa_ledger.proofs.Swapping.{swap_accepts, swap_is, swapped_as}
@@ -150,6 +151,10 @@ module _ (n : Starts) (w : Rows) (sound : Bool) (l : Ledger) (story : Story) (he
     own = own_ids c r rules fit v.own;
   }
 
+  -- the files go that no hold is on, and the others wait
+  clears : Clears v.seen l (length h) s.adopted (applied c r) (left_by l (length h) gone) removed
+  clears = clears_freed (outset_of n w) (n.origin w) sound l story held h running refused v made s.adopted is.adopts (applied c r) gone renames
+
   -- nothing that is removed is named then
   unnamed : AllByRecursion (IsUnnamed (applied c r)) removed
   unnamed = all_among (IsUnnamed (applied c r)) removed (λ id among. not_among id (shelved (applied c r)) (freed_unnamed (length h + 1) (first_id c.run + s.adopted) (named (applied c r)) (waiting l (length h) gone) (map ids_held (holders v.seen l))
@@ -208,15 +213,15 @@ module _ (n : Starts) (w : Rows) (sound : Bool) (l : Ledger) (story : Story) (he
         (swap_within c t.table (is_base t.work) (first_of t.work) (last_of t.work) t.epoch is.refs (kind_of c r fit)) replaces
 
     abbrev after : Ledger
-    after = recorded_ledger l (length h) (applied c r) (generation_of (applied c r)) gone (ended t.table t.lease l.leases) s.adopted end
+    after = recorded_ledger l (applied c r) (generation_of (applied c r)) (left_by l (length h) gone) (ended t.table t.lease l.leases) s.adopted end
 
     stands_so : Counts story new false → (bodies : List (List ℕ)) → (IsTrue sound → IsHeld new bodies end (applied c r) later) → ((i : Image) → new.told ≡ Some i → AreGone removed i) → end < new.len Zero
         → generation_of (applied c r) ≡ l.generation + turns_generation r → IsPut (block (entry session number kind.Close outcome.Stands m) (Some (told_at at (swapped_reply t.work)))) now held new_held
         → IsVault (outset_of n w) (n.origin w) sound after new new_held (h ++ entry session number kind.Close outcome.Stands m ∷ []) now (refused || false)
     stands_so counts bodies holds gone_now long rises put =
-        swapped_vault n w sound l story held h running refused v session number low few m ran at place opened later (applied c r) made gone s.adopted is.adopts recorded new moment passes only writes now new_held
+        swapped_vault n w sound l story held h running refused v session number low few m ran at place opened later (applied c r) made gone s.adopted is.adopts recorded (left_by l (length h) gone) removed clears new moment passes only writes now new_held
         name claim due checked (generation_of (applied c r)) end swaps
-        (swapped_as (outset_of n w) (n.origin w) sound l story held h running refused v later agree claim (is_base t.work) (first_of t.work) (last_of t.work) t.epoch is.refs (work_same t.work) (length h) (generation_of (applied c r)) gone s.adopted end)
+        (swapped_as (outset_of n w) (n.origin w) sound l story held h running refused v later agree claim (is_base t.work) (first_of t.work) (last_of t.work) t.epoch is.refs (work_same t.work) (generation_of (applied c r)) (left_by l (length h) gone) s.adopted end)
         counts bodies holds gone_now (λ ok. (moves ok).stocked) long (omega (arith, rises))
         (λ told ok. sources_stay (outset_of n w) (n.origin w) sound l story held h running refused v later agree (entry session number kind.Close outcome.Stands m) _ (swapped_reply t.work) told (swap_accepts t.work) (applied c r)
         (λ has. swap_sourced later written c v.shaped has t.table (is_base t.work) (first_of t.work) (last_of t.work) t.epoch is.refs fit (made_of ok)) ok) put
@@ -224,9 +229,9 @@ module _ (n : Starts) (w : Rows) (sound : Bool) (l : Ledger) (story : Story) (he
     fails_so : Counts story new true → IsPut (block (entry session number kind.Close outcome.WriteFault m) (Some (told_at at (reply_of Unwritten)))) now held new_held
         → IsVault (outset_of n w) (n.origin w) sound (failed_ledger l at (ended t.table t.lease l.leases) s.adopted) new new_held (h ++ entry session number kind.Close outcome.WriteFault m ∷ []) now (refused || true)
     fails_so counts put =
-        unswapped_vault n w sound l story held h running refused v session number low few m ran at place opened later (applied c r) made gone s.adopted is.adopts recorded new moment passes only writes now new_held
+        unswapped_vault n w sound l story held h running refused v session number low few m ran at place opened later (applied c r) made gone s.adopted is.adopts recorded (left_by l (length h) gone) removed clears new moment passes only writes now new_held
         name claim due checked (generation_of (applied c r)) end swaps
-        (swapped_as (outset_of n w) (n.origin w) sound l story held h running refused v later agree claim (is_base t.work) (first_of t.work) (last_of t.work) t.epoch is.refs (work_same t.work) (length h) (generation_of (applied c r)) gone s.adopted end)
+        (swapped_as (outset_of n w) (n.origin w) sound l story held h running refused v later agree claim (is_base t.work) (first_of t.work) (last_of t.work) t.epoch is.refs (work_same t.work) (generation_of (applied c r)) (left_by l (length h) gone) s.adopted end)
         counts put
 
 -- ---- on every store
@@ -243,7 +248,7 @@ module _ (n : Starts) (w : Rows) (sound : Bool) (l : Ledger) (story : Story) (he
   Ends e = record_at body ≡ Ok e → IsWorked story new l.end body (files_of bytes s.made.items) (removed_by l (length h) (dropped_ids l.catalogue e)) → (end : ℕ)
       → IsWhole story new l.end body (files_of bytes s.made.items) (removed_by l (length h) (dropped_ids l.catalogue e)) end → Counts story new false → generation_of (applied l.catalogue e) ≡ l.generation + turns_generation e
       → IsPut (block (entry session number kind.Close outcome.Stands m) (Some (told_at at (swapped_reply t.work)))) now held new_held
-      → IsVault (outset_of n w) (n.origin w) sound (recorded_ledger l (length h) (applied l.catalogue e) (generation_of (applied l.catalogue e)) (dropped_ids l.catalogue e) (ended t.table t.lease l.leases) s.adopted end) new new_held
+      → IsVault (outset_of n w) (n.origin w) sound (recorded_ledger l (applied l.catalogue e) (generation_of (applied l.catalogue e)) (left_by l (length h) (dropped_ids l.catalogue e)) (ended t.table t.lease l.leases) s.adopted end) new new_held
       (h ++ entry session number kind.Close outcome.Stands m ∷ []) now (refused || false)
 
   abbrev Fails : Record → Type 0

@@ -1,5 +1,6 @@
 pub use Rattle.mesa_asking.specs as mesa_asking
 pub use Rattle.mesa_asking.specs.mesa_pinning as mesa_pinning
+pub use Rattle.mesa_writing.specs as mesa_writing
 pub mod Unmerged
 pub mod Merged
 pub mod Swept

@@ -130,7 +130,7 @@ fn swap_in<N: Naming, M: Made, D: Disk<M>, K: Sink>(
     let end = engine.metadata.end();
     match write_record(&mut engine.disk, made, end, &framed, &removed) {
         Ok(end) => {
-            engine.metadata.apply(entry, at, &gone, adopted, end);
+            engine.metadata.apply_swap(entry, at, &gone, adopted, end);
             engine.metadata.end_lease(task.table, task.lease);
             let reply = range_of(task.work);
             let turn = who.turn(Kind::Close, Outcome::Stands, engine.disk.clock());

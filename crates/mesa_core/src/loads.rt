@@ -1,6 +1,8 @@
 // The turns of a load.
 ghost use Rattle.std.specs.Prelude.{◌≡◌, ◌<◌, List, true, Err, Some, IfOk, OnOk, length};
 ghost use Rattle.mesa_batch.specs.declared.words.RowWords.{RowWords as AnyWords};
+ghost use Rattle.mesa_completing.specs.mesa_writing.Writing.{KeepsFiles};
+ghost use Rattle.mesa_disk.specs.Story.{Steps};
 ghost use Rattle.mesa_history.specs.Run.{Finished, First, Looked, command_at};
 ghost use Rattle.mesa_model.specs.declared.commands.Command.TheVariants as command;
 ghost use Rattle.mesa_model.specs.declared.entries.Kind.TheVariants as kind;
@@ -46,6 +48,7 @@ impl<'s, N: Naming, M: Made, D: Disk<M>, K: Sink> Vault<'s, N, M, D, K> {
             → HasPrepared M.bytes M.id_of (sight_after N.script (N.start no_rows) (N.origin no_rows).generation self.old.shown.history) rows made }
         requires room { length self.old.shown.history < N.room }
         ensures turn { Takes N.script (N.start no_rows) self.old.shown self.new.shown who.session who.command kind.Decide Finished }
+        ensures keeps { Steps KeepsFiles self.old.told self.new.told }
         ensures draft { AnswersDraft N.script (N.start no_rows) self.old.shown self.new.shown who.session (made ≡ Err load.Draft) }
     {
         catalogue(&self.engine);

@@ -25,6 +25,7 @@ impl<N: Naming, M: Made, D: Disk<M>, K: Sink> Engine<N, M, D, K> {
         ensures turn { (stage : Stage) → Takes N.script (N.start no_rows) self.old.shown self.new.shown who.session who.command kind stage }
         ensures draft { AnswersDraft N.script (N.start no_rows) self.old.shown self.new.shown who.session ⊥ }
         ensures ledger { self.new.ledger ≡ self.old.ledger }
+        ensures told { self.new.told ≡ self.old.told }
     {
         let turn = who.turn(kind, Outcome::Skipped, self.disk.clock());
         self.log.pass(turn);
@@ -38,6 +39,7 @@ impl<N: Naming, M: Made, D: Disk<M>, K: Sink> Engine<N, M, D, K> {
         ensures turn { Takes N.script (N.start no_rows) self.old.shown self.new.shown who.session who.command kind Finished }
         ensures draft { AnswersDraft N.script (N.start no_rows) self.old.shown self.new.shown who.session ⊥ }
         ensures ledger { self.new.ledger ≡ self.old.ledger }
+        ensures told { self.new.told ≡ self.old.told }
         ensures reply { result ≡ reply_of (cause_in failure) }
     {
         let moment = self.disk.clock();

@@ -10,6 +10,7 @@ use Rattle.mesa_image_laws.specs.mesa_schema.declared.views.View.{View}
 use Rattle.mesa_image_laws.specs.mesa_schema.Columns.{Columns}
 use Rattle.mesa_image_laws.specs.mesa_schema.Changes.{Lineage, columns_of, epoch_of}
 use Rattle.mesa_image_laws.specs.mesa_schema.Views.{with_view}
+use Rattle.mesa_trash.specs.declared.trash.Dropped.{Dropped}
 use Rattle.mesa_walk.specs.mesa_disk.Story.{Story}
 use Rattle.mesa_image_laws.specs.mesa_model.declared.commands.AlterWords.{AlterWords}
 use Rattle.mesa_image_laws.specs.mesa_model.declared.commands.TableWords.{TableWords}
@@ -106,7 +107,7 @@ read_same : (a b : List Placed) (x y : List Named) (words : List RowWords) → x
 read_same a b x y words same one two = let both : Ok a ≡ Ok b = sym one ∙ ap (λ n. batch_of n words) same ∙ two in cc
 
 module _ (o : Outset) (g : Origin) (sound : Bool) (l : Ledger) (story : Story) (held : Option (List ℕ)) (h : List Entry) (running refused : Bool) (v : IsVault o g sound l story held h running refused)
-    (later : Rows) (agree : (id : ℕ) → id < next_id l → later id ≡ v.rows id) (was_open : l.closed ≡ None) (position generation : ℕ) (gone : List ℕ) (adopted end : ℕ) where
+    (later : Rows) (agree : (id : ℕ) → id < next_id l → later id ≡ v.rows id) (was_open : l.closed ≡ None) (generation : ℕ) (waits : List Dropped) (adopted end : ℕ) where
   abbrev c : Catalog
   c = l.catalogue
 
@@ -114,7 +115,7 @@ module _ (o : Outset) (g : Origin) (sound : Bool) (l : Ledger) (story : Story) (
   old = books_of v.rows l
 
   abbrev new_of : Catalog → Books
-  new_of x = books_of later (recorded_ledger l position x generation gone l.leases adopted end)
+  new_of x = books_of later (recorded_ledger l x generation waits l.leases adopted end)
 
   kept_same : kept_of later c ≡ old.kept
   kept_same = same_kept o g sound l story held h running refused v later agree

@@ -2,7 +2,7 @@
 use Rattle.std.proofs.Common.{◌≡◌, ◌⊎◌, inl, inr, ⊎_elim, ℕ, ◌+◌, ◌<◌, ◌≤◌, List, [], ◌∷◌, ◌++◌, map, Option, Bool, true, false, cond, not, refl, sym, ◌∙◌, subst, arith}
 use Rattle.std.specs.Prelude.{filter}
 use Rattle.std.specs.List.{AllByRecursion}
-use Rattle.std.proofs.lemmas.List.{map-append}
+use Rattle.std.proofs.lemmas.List.{append-nil, map-append}
 use Rattle.std.proofs.lemmas.Simd.{map-map}
 use Rattle.mesa_walk.specs.mesa_disk.Image.{Image}
 use Rattle.mesa_trash.specs.mesa_commit.Images.{Has}
@@ -18,7 +18,7 @@ use Rattle.mesa_trash.specs.declared.trash.Dropped.{Dropped}
 use Rattle.mesa_trash.specs.Filed.{AreGiven, Renames, waits_after}
 use Rattle.mesa_trash.specs.Holding.{Among, is_held, ids_of, freed, kept, dropped_at, Held, holds_of, AreFiled}
 use Rattle.mesa_trash.proofs.Adopting.{pin_stays, had_apart}
-use Rattle.mesa_trash.proofs.Filing.{filed_later, filed_brought, filed_dropped, filed_removed}
+use Rattle.mesa_trash.proofs.Filing.{filed_later, filed_brought, filed_dropped, filed_removed, freed_unheld}
 use Rattle.mesa_trash.proofs.Waiting.{among_front, among_back, dropped_among}
 use Rattle.mesa_ledger.specs.Ledger.{Ledger, Holder, pin_holder, query_holder, holders, ids_held}
 use Rattle.mesa_ledger.specs.Recorded.{holds_in}
@@ -55,6 +55,12 @@ holds_are seen l =
 
 -- ---- ids, whatever a read tells
 
+-- A turn at a position removes files, and leaves others waiting: no hold is on those that it removes; the holds tell their files still; and each file that was named or waited is named now, waits, or is removed.
+pub record IsCleared (position later_id : ℕ) (named : List ℕ) (trash : List Dropped) (pins : List Held) (later : List ℕ) (waits : List Dropped) (removed : List ℕ) : Type 0 where
+  pub unheld : (id : ℕ) → Among id removed → AllByRecursion (λ (p : Held). Among id p.1 → ⊥) pins
+  pub filed : AreFiled (position + 1) later_id later waits pins
+  pub goes : (id : ℕ) → Among id named ⊎ Among id (ids_of trash) → Among id later ⊎ (Among id (ids_of waits) ⊎ Among id removed)
+
 module _ (position next : ℕ) (named : List ℕ) (trash : List Dropped) (pins : List Held) (f : AreFiled position next named trash pins) (made : List (ℕ × Option (List ℕ))) (later_id : ℕ) (given : AreGiven next later_id made) (le : next ≤ later_id) where
   -- files were brought, or not, and no record names them
   pub filed_lost : AreFiled (position + 1) later_id named trash pins
@@ -83,6 +89,18 @@ module _ (position next : ℕ) (named : List ℕ) (trash : List Dropped) (pins :
         (λ (one : Among id named). ⊎_elim (λ (still : Among id later). inl still)
         (λ (out : Among id gone). inr (kept_or_freed (is_held (holds_of pins)) id waits (among_back id trash (map (dropped_at position) gone) (dropped_among position id gone out)))) (renames.split id (among_left id named (made_ids made) one)))
         (λ two. inr (kept_or_freed (is_held (holds_of pins)) id waits (among_front id trash (map (dropped_at position) gone) two))) had
+
+    -- all files go that no hold is on
+    pub freed_cleared : IsCleared position later_id named trash pins later (kept (holds_of pins) waits) (ids_of (freed (holds_of pins) waits))
+    freed_cleared = record { unheld = freed_unheld (position + 1) later_id later waits pins filed_moved; filed = filed_recorded; goes = still_waits }
+
+  -- a record drops no file, and all that waited wait still
+  pub none_cleared : (later : List ℕ) → Renames named made later [] → IsCleared position later_id named trash pins later trash []
+  none_cleared later renames = record {
+    unheld = λ id is. absurd is;
+    filed = subst (λ ds. AreFiled (position + 1) later_id later ds pins) (append-nil trash) (filed_moved later [] renames);
+    goes = λ id had. ⊎_elim (λ (one : Among id named). ⊎_elim (λ (still : Among id later). inl still) (λ out. absurd out) (renames.split id (among_left id named (made_ids made) one))) (λ two. inr (inl two)) had;
+  }
 
 -- ---- files of holds
 

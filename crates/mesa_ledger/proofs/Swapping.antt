@@ -8,6 +8,7 @@ use Rattle.mesa_image_laws.proofs.mesa_schema.Lists.{map_at}
 use Rattle.mesa_span.specs.declared.works.Work.{Work}
 use Rattle.mesa_span.specs.declared.works.Work.TheVariants as range
 use Rattle.mesa_span.specs.Work.{swapped}
+use Rattle.mesa_trash.specs.declared.trash.Dropped.{Dropped}
 use Rattle.mesa_walk.specs.mesa_disk.Story.{Story}
 use Rattle.mesa_image_laws.specs.mesa_model.declared.entries.Entry.{Entry}
 use Rattle.mesa_image_laws.specs.mesa_history.Machine.{Claim, swapped_reply}
@@ -80,8 +81,8 @@ module _ (o : Outset) (g : Origin) (sound : Bool) (l : Ledger) (story : Story) (
       ∙ ap (slice_set (map ranges_of c.tables) claim.table) (ranges_swapped t base from to (merged_delta epoch files) ∙ (λ i. swapped (work_is i) (sym (map_at ranges_of c.tables claim.table no_stock) i)))
 
   -- and the books are those of the ledger.
-  pub swapped_as : (position generation : ℕ) (gone : List ℕ) (adopted end : ℕ) → books_of later (recorded_ledger l position x generation gone (ended claim.table claim.lease l.leases) adopted end) ≡ swapped_books claim (kept_of later x) old
-  swapped_as position generation gone adopted end = λ i. record (books_of later (recorded_ledger l position x generation gone (ended claim.table claim.lease l.leases) adopted end)) {
+  pub swapped_as : (generation : ℕ) (waits : List Dropped) (adopted end : ℕ) → books_of later (recorded_ledger l x generation waits (ended claim.table claim.lease l.leases) adopted end) ≡ swapped_books claim (kept_of later x) old
+  swapped_as generation waits adopted end = λ i. record (books_of later (recorded_ledger l x generation waits (ended claim.table claim.lease l.leases) adopted end)) {
     bare = record old.bare { store = record { tables = skeletons i; floor = c.floor } };
     machine = record { ranges = ranges i; leases = ended claim.table claim.lease l.leases };
     pins = same_pins o g sound l story held h running refused v later agree i;

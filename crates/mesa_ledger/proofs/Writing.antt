@@ -5,6 +5,7 @@ use Rattle.mesa_walk.specs.mesa_disk.Image.{Image}
 use Rattle.mesa_walk.specs.mesa_disk.Story.{Story, Steps}
 use Rattle.mesa_walk.specs.mesa_disk.declared.area.Area.TheVariants.{Zero}
 use Rattle.mesa_trash.specs.mesa_commit.Turn.{MovesOnly}
+use Rattle.mesa_trash.specs.declared.trash.Dropped.{Dropped}
 use Rattle.mesa_lease.specs.Book.{ended}
 use Rattle.mesa_span.specs.declared.works.Work.{Work}
 use Rattle.mesa_span.specs.declared.works.Work.TheVariants as range
@@ -40,9 +41,9 @@ use Rattle.mesa_walk.specs.Works.{Swaps}
 use Rattle.mesa_walk.proofs.Changing.{unwritten_turn, written_turn}
 use Rattle.mesa_walk.proofs.Working.{swapped_turn, unswapped_turn}
 use Rattle.mesa_ledger.specs.Ledger.{Ledger, books_of}
-use Rattle.mesa_ledger.specs.Recorded.{Adopts, IsRecorded, failed_ledger, recorded_ledger, removed_by}
+use Rattle.mesa_ledger.specs.Recorded.{Adopts, IsRecorded, failed_ledger, recorded_ledger}
 use Rattle.mesa_ledger.specs.Vault.{Origin, IsVault, Starts, outset_of, written_by}
-use Rattle.mesa_ledger.proofs.Recording.{failed_vault, recorded_vault}
+use Rattle.mesa_ledger.proofs.Recording.{Clears, failed_vault, recorded_vault}
 use Rattle.mesa_ledger.proofs.Staying.{stands_now}
 use Rattle.mesa_ledger.proofs.Swapping.{ended_granted}
 use Rattle.mesa_ledger.proofs.Standing.{held_stand}
@@ -51,7 +52,8 @@ use Rattle.mesa_ledger.proofs.Standing.{held_stand}
 module _ (n : Starts) (w : Rows) (sound : Bool) (l : Ledger) (story : Story) (held : Option (List ℕ)) (h : List Entry) (running refused : Bool) (v : IsVault (outset_of n w) (n.origin w) sound l story held h running refused)
     (session number : ℕ) (low : session < 2 ^ 16) (few : number < 2 ^ 32) (m : ℕ) (ran : running ≡ true) (at : ℕ) (place : at ≡ length h) (was_open : l.closed ≡ None)
     (later : Rows) (x : Catalog) (made : List (ℕ × Option (List ℕ))) (gone : List ℕ) (adopted : ℕ) (adopts : Adopts l made adopted) (recorded : IsRecorded l v.rows later x made gone)
-    (new : Story) (moment : m ≡ new.moment) (passes : Passes story new) (only : Steps (MovesOnly made (removed_by l (length h) gone)) story.told new.told) (writes : IsTrue sound → Writes StandsFor story new (kept_of v.rows l.catalogue) (kept_of later x)) (now : Bool) (new_held : Option (List ℕ)) where
+    (waits : List Dropped) (removed : List ℕ) (clears : Clears v.seen l (length h) adopted x waits removed)
+    (new : Story) (moment : m ≡ new.moment) (passes : Passes story new) (only : Steps (MovesOnly made removed) story.told new.told) (writes : IsTrue sound → Writes StandsFor story new (kept_of v.rows l.catalogue) (kept_of later x)) (now : Bool) (new_held : Option (List ℕ)) where
   abbrev o : Outset
   o = outset_of n w
 
@@ -59,19 +61,19 @@ module _ (n : Starts) (w : Rows) (sound : Bool) (l : Ledger) (story : Story) (he
   g = n.origin w
 
   module _ (c : Command) (stage : Stage) (f : Doing) (d : IsDecided session c stage f) (due : IsDue (outset_of n w).script (run_of (outset_of n w) h) session number c stage) (generation end : ℕ) (rep : Reply) (writes_is : is_written rep ≡ true)
-      (change : IsChange sound (books_of v.rows l) (books_of later (recorded_ledger l (length h) x generation gone l.leases adopted end)) f rep) where
+      (change : IsChange sound (books_of v.rows l) (books_of later (recorded_ledger l x generation waits l.leases adopted end)) f rep) where
     abbrev turn_with : Outcome → Entry
     turn_with out = entry session number kind.Decide out m
 
     abbrev after : Ledger
-    after = recorded_ledger l (length h) x generation gone l.leases adopted end
+    after = recorded_ledger l x generation waits l.leases adopted end
 
     -- Its device work is done.
-    pub written_vault : Counts story new false → (bodies : List (List ℕ)) → (IsTrue sound → IsHeld new bodies end x later) → ((i : Image) → new.told ≡ Some i → AreGone (removed_by l (length h) gone) i) → (IsTrue sound → AreStocked later x) → end < new.len Zero
+    pub written_vault : Counts story new false → (bodies : List (List ℕ)) → (IsTrue sound → IsHeld new bodies end x later) → ((i : Image) → new.told ≡ Some i → AreGone removed i) → (IsTrue sound → AreStocked later x) → end < new.len Zero
         → generation ≡ l.generation + one_if (is_of_schemas rep) → (told_by o.script (run_of o h) (turn_with outcome.Stands) ≡ Some (told_at (run_of o h).position rep) → IsTrue sound → HasSources later (written_by o g.found (h ++ turn_with outcome.Stands ∷ [])) x)
         → IsPut (block (turn_with outcome.Stands) (Some (told_at at rep))) now held new_held → IsVault o g sound after new new_held (h ++ turn_with outcome.Stands ∷ []) now (refused || is_refusal rep)
     written_vault counts bodies holds gone_now stocked long risen sources put =
-        recorded_vault o g sound l story held h running refused v (turn_with outcome.Stands) new new_held now (refused || is_refusal rep) made gone adopted adopts only later x recorded gone_now generation l.leases end bodies rep
+        recorded_vault o g sound l story held h running refused v (turn_with outcome.Stands) new new_held now (refused || is_refusal rep) made adopted adopts x waits removed clears only later gone recorded gone_now generation l.leases end bodies rep
         on (λ ok is. holds ok) stocked (λ is. long) (omega arith) risen (sources on.tells)
       where
         on : WalksWith o sound (books_of later after) new new_held h (turn_with outcome.Stands) now (refused || is_refusal rep) rep
@@ -82,7 +84,7 @@ module _ (n : Starts) (w : Rows) (sound : Bool) (l : Ledger) (story : Story) (he
     pub unwritten_vault : is_writing c ≡ true → Counts story new true → IsPut (block (turn_with outcome.WriteFault) (Some (told_at at (reply_of Unwritten)))) now held new_held
         → IsVault o g sound (failed_ledger l at l.leases adopted) new new_held (h ++ turn_with outcome.WriteFault ∷ []) now (refused || true)
     unwritten_vault can counts put =
-        failed_vault o g sound l story held h running refused v (turn_with outcome.WriteFault) new new_held now (refused || true) made gone adopted adopts only at l.leases x recorded.renames
+        failed_vault o g sound l story held h running refused v (turn_with outcome.WriteFault) new new_held now (refused || true) made adopted adopts x waits removed clears only at l.leases
         (unwritten_turn o sound (books_of v.rows l) story held h running refused v.walk session number low few c stage f d due m ran at place (books_of later after) rep change writes_is new moment passes (λ ok low. stands_now o g sound l story held h running refused v was_open ok) writes now new_held can counts put)
         (omega arith)
 
@@ -90,19 +92,19 @@ module _ (n : Starts) (w : Rows) (sound : Bool) (l : Ledger) (story : Story) (he
 
   module _ (name : List ℕ) (claim : Claim) (due : IsDue (outset_of n w).script (run_of (outset_of n w) h) session number (command.Work name) (Renewed claim)) (checked : claim_checked (books_of v.rows l).bare (books_of v.rows l).machine at claim ≡ Ok tt) (generation end : ℕ)
       (swaps : Swaps sound (books_of v.rows l) claim (kept_of later x))
-      (books_are : books_of later (recorded_ledger l (length h) x generation gone (ended claim.table claim.lease l.leases) adopted end) ≡ swapped_books claim (kept_of later x) (books_of v.rows l)) where
+      (books_are : books_of later (recorded_ledger l x generation waits (ended claim.table claim.lease l.leases) adopted end) ≡ swapped_books claim (kept_of later x) (books_of v.rows l)) where
     abbrev closes_with : Outcome → Entry
     closes_with out = entry session number kind.Close out m
 
     abbrev swapped_ledger : Ledger
-    swapped_ledger = recorded_ledger l (length h) x generation gone (ended claim.table claim.lease l.leases) adopted end
+    swapped_ledger = recorded_ledger l x generation waits (ended claim.table claim.lease l.leases) adopted end
 
     -- Its device work is done: the lease has ended.
-    pub swapped_vault : Counts story new false → (bodies : List (List ℕ)) → (IsTrue sound → IsHeld new bodies end x later) → ((i : Image) → new.told ≡ Some i → AreGone (removed_by l (length h) gone) i) → (IsTrue sound → AreStocked later x) → end < new.len Zero
+    pub swapped_vault : Counts story new false → (bodies : List (List ℕ)) → (IsTrue sound → IsHeld new bodies end x later) → ((i : Image) → new.told ≡ Some i → AreGone removed i) → (IsTrue sound → AreStocked later x) → end < new.len Zero
         → generation ≡ l.generation → (told_by o.script (run_of o h) (closes_with outcome.Stands) ≡ Some (told_at (run_of o h).position (swapped_reply claim.work)) → IsTrue sound → HasSources later (written_by o g.found (h ++ closes_with outcome.Stands ∷ [])) x)
         → IsPut (block (closes_with outcome.Stands) (Some (told_at at (swapped_reply claim.work)))) now held new_held → IsVault o g sound swapped_ledger new new_held (h ++ closes_with outcome.Stands ∷ []) now (refused || false)
     swapped_vault counts bodies holds gone_now stocked long same sources put =
-        recorded_vault o g sound l story held h running refused v (closes_with outcome.Stands) new new_held now (refused || false) made gone adopted adopts only later x recorded gone_now generation (ended claim.table claim.lease l.leases) end bodies (swapped_reply claim.work)
+        recorded_vault o g sound l story held h running refused v (closes_with outcome.Stands) new new_held now (refused || false) made adopted adopts x waits removed clears only later gone recorded gone_now generation (ended claim.table claim.lease l.leases) end bodies (swapped_reply claim.work)
         on (λ ok is. holds ok) stocked (λ is. long) (subst (λ q. q ≤ l.leases.granted) (sym (ended_granted claim.table claim.lease l.leases)) (omega arith)) (same ∙ no_schemas claim.work) (sources on.tells)
       where
         on : WalksWith o sound (books_of later swapped_ledger) new new_held h (closes_with outcome.Stands) now (refused || false) (swapped_reply claim.work)
@@ -118,6 +120,6 @@ module _ (n : Starts) (w : Rows) (sound : Bool) (l : Ledger) (story : Story) (he
     pub unswapped_vault : Counts story new true → IsPut (block (closes_with outcome.WriteFault) (Some (told_at at (reply_of Unwritten)))) now held new_held
         → IsVault o g sound (failed_ledger l at (ended claim.table claim.lease l.leases) adopted) new new_held (h ++ closes_with outcome.WriteFault ∷ []) now (refused || true)
     unswapped_vault counts put =
-        failed_vault o g sound l story held h running refused v (closes_with outcome.WriteFault) new new_held now (refused || true) made gone adopted adopts only at (ended claim.table claim.lease l.leases) x recorded.renames
+        failed_vault o g sound l story held h running refused v (closes_with outcome.WriteFault) new new_held now (refused || true) made adopted adopts x waits removed clears only at (ended claim.table claim.lease l.leases)
         (unswapped_turn o sound (books_of v.rows l) story held h running refused v.walk session number low few name m ran at place claim due checked new moment passes (λ ok low. stands_now o g sound l story held h running refused v was_open ok) (kept_of later x) swaps writes now new_held counts put)
         (subst (λ q. q ≤ l.leases.granted) (sym (ended_granted claim.table claim.lease l.leases)) (omega arith))

@@ -26,9 +26,13 @@ holds_in l = map hold_of_pin l.pins ++ map hold_of_query l.queries
 abbrev pub waiting : Ledger → ℕ → List ℕ → List Dropped
 waiting l position gone = waits_after position l.trash gone
 
--- those of them that the turn removes, since no hold is on them
+-- those of them that the swap of a work removes, since no hold is on them
 abbrev pub removed_by : Ledger → ℕ → List ℕ → List ℕ
 removed_by l position gone = ids_of (freed (holds_in l) (waiting l position gone))
+
+-- those that it leaves waiting
+abbrev pub left_by : Ledger → ℕ → List ℕ → List Dropped
+left_by l position gone = kept (holds_in l) (waiting l position gone)
 
 -- A turn brings files under the next ids, and no more of them than a turn may.
 pub record Adopts (l : Ledger) (made : List (ℕ × Option (List ℕ))) (adopted : ℕ) : Type 0 where
@@ -45,12 +49,12 @@ pub record IsRecorded (l : Ledger) (rows later : Rows) (c : Catalog) (made : Lis
   pub shaped : IsCatalog c
   pub own : HasOwnIds c
 
--- The ledger behind the record of a turn at a position.
-abbrev pub recorded_ledger : Ledger → ℕ → Catalog → ℕ → List ℕ → Book → ℕ → ℕ → Ledger
-recorded_ledger l position c generation gone leases adopted end = record l {
+-- The ledger behind the record of a turn, with the files that wait then.
+abbrev pub recorded_ledger : Ledger → Catalog → ℕ → List Dropped → Book → ℕ → ℕ → Ledger
+recorded_ledger l c generation trash leases adopted end = record l {
   catalogue = c;
   generation = generation;
-  trash = kept (holds_in l) (waiting l position gone);
+  trash = trash;
   leases = leases;
   adopted = adopted;
   end = end;

@@ -3,7 +3,7 @@ ghost use Rattle.std.specs.Prelude.{◌≡◌, ◌+◌, ◌<◌, ◌^◌, length
 ghost use Rattle.mesa_catalog.specs.mesa_image.Catalog.{applied};
 ghost use Rattle.mesa_catalog.specs.mesa_image.Fitting.{fits};
 ghost use Rattle.mesa_catalog.specs.Lookups.{generation_of, turns_generation};
-ghost use Rattle.mesa_ledger.specs.Recorded.{failed_ledger, recorded_ledger, removed_by};
+ghost use Rattle.mesa_ledger.specs.Recorded.{failed_ledger, left_by, recorded_ledger, removed_by};
 ghost use Rattle.mesa_metadata.specs.Memory.{HasRoomFor, with_ledger};
 
 use crate::Metadata;
@@ -25,7 +25,7 @@ impl Metadata {
         Ok(())
     }
 
-    /// The ids of the files that a turn at the position may remove once it drops these: no pin and no open query holds them.
+    /// The ids of the files that the swap of a work may remove in the turn at the position once it drops these: no pin and no open query holds them.
     pub fn removable(&self, position: u64, gone: &[FileId]) -> Result<Vec<FileId>, AllocError>
         ensures { IfOk result (λ ids. ids.items ≡ removed_by self.now.ledger position gone.now) }
     {
@@ -35,23 +35,38 @@ impl Metadata {
         Ok(ids)
     }
 
-    /// Takes in the record of a turn at the position that dropped these files and removed what it could of the trash. The run has then adopted so many files, and the journal's next body goes to `end`. Takes no memory.
-    pub fn apply(&mut self, r: Record, position: u64, gone: &[FileId], adopted: u64, end: u64)
-        requires room { HasRoomFor r (length gone.now) self.old.reserved }
+    /// Takes in the record of a turn that dropped no file and removed none. The run has then adopted so many files, and the journal's next body goes to `end`. Takes no memory.
+    pub fn apply(&mut self, r: Record, adopted: u64, end: u64)
+        requires room { HasRoomFor r 0 self.old.reserved }
         requires few { adopted < 2 ^ 40 }
         ensures applied { let later = applied self.old.ledger.catalogue r in
             self.new ≡ record self.old {
-              ledger = recorded_ledger self.old.ledger position later (generation_of later) gone.now self.old.ledger.leases adopted end;
+              ledger = recorded_ledger self.old.ledger later (generation_of later) self.old.ledger.trash self.old.ledger.leases adopted end;
               reserved = None;
             } }
         ensures generation { self.new.ledger.generation ≡ self.old.ledger.generation + turns_generation r }
     {
         self.catalog.apply(r);
-        drop_files(&mut self.trash, position, gone);
-        keep_held(&mut self.trash, &self.holders);
         self.room = 0;
         self.adopted = adopted;
         self.end = end;
+    }
+
+    /// Takes in the record of a swap, whose turn at the position dropped these files and removed what it could of the trash; else as `apply`.
+    pub fn apply_swap(&mut self, r: Record, position: u64, gone: &[FileId], adopted: u64, end: u64)
+        requires room { HasRoomFor r (length gone.now) self.old.reserved }
+        requires few { adopted < 2 ^ 40 }
+        ensures applied { let later = applied self.old.ledger.catalogue r in
+            self.new ≡ record self.old {
+              ledger = recorded_ledger self.old.ledger later (generation_of later) (left_by self.old.ledger position gone.now) self.old.ledger.leases adopted end;
+              reserved = None;
+            } }
+        ensures generation { self.new.ledger.generation ≡ self.old.ledger.generation + turns_generation r }
+    {
+        drop_files(&mut self.trash, position, gone);
+        keep_held(&mut self.trash, &self.holders);
+        self.room = 0;
+        self.apply(r, adopted, end);
     }
 
     /// Closes the vault in the turn at the position, whose device work failed: what it adopted is lost.

@@ -43,6 +43,7 @@ pub fn release<N: Naming, M: Made, D: Disk<M>, K: Sink>(
     requires due { IsDue N.script (run_at N.script (N.start no_rows) engine.old.shown.history) who.session who.command (command.Release token) First }
     requires room { length engine.old.shown.history < N.room }
     ensures turn { Takes N.script (N.start no_rows) engine.old.shown engine.new.shown who.session who.command kind.Decide Finished }
+    ensures told { engine.new.told ≡ engine.old.told }
     ensures catalogue { engine.new.ledger.catalogue ≡ engine.old.ledger.catalogue }
 {
     if !engine.running() {

@@ -58,11 +58,11 @@ use Rattle.mesa_ledger.proofs.Sources.{batch_sources, sources_stay}
 use Rattle.mesa_engine.specs.Failing.{deciding_stage}
 use Rattle.mesa_writing.specs.Writing.{Does, HasRecord}
 
--- A record, once it is written at a position, has done a command with this reply: the books are those behind the command; what is to hold of rows holds, and what was written of each table is told; no file is dropped, and the run stays; and the generation rises where the reply tells of schemas.
-pub record IsDone (o : Outset) (g : Origin) (sound : Bool) (l : Ledger) (h : List Entry) (rows later : Rows) (session : ℕ) (c : Command) (r : Record) (rep : Reply) (position adopted end : ℕ) : Type 0 where
+-- A record, once it is written, has done a command with this reply: the books are those behind the command; what is to hold of rows holds, and what was written of each table is told; no file is dropped, and the run stays; and the generation rises where the reply tells of schemas.
+pub record IsDone (o : Outset) (g : Origin) (sound : Bool) (l : Ledger) (h : List Entry) (rows later : Rows) (session : ℕ) (c : Command) (r : Record) (rep : Reply) (adopted end : ℕ) : Type 0 where
   pub f : Doing
   pub decided : IsDecided session c (deciding_stage c) f
-  pub change : IsChange sound (books_of rows l) (books_of later (recorded_ledger l position (applied l.catalogue r) (generation_of (applied l.catalogue r)) [] l.leases adopted end)) f rep
+  pub change : IsChange sound (books_of rows l) (books_of later (recorded_ledger l (applied l.catalogue r) (generation_of (applied l.catalogue r)) l.trash l.leases adopted end)) f rep
   pub moves : AreStocked later l.catalogue → (after : Kept) × Moves later l.catalogue r after
   pub sources : (e : Entry) (p : ℕ) → command_of o.script e ≡ Some c → told_by o.script (run_of o h) e ≡ Some (told_at p rep) → IsTrue sound → HasSources later (written_by o g.found (h ++ e ∷ [])) (applied l.catalogue r)
   pub gone : dropped_ids l.catalogue r ≡ []
@@ -72,7 +72,7 @@ pub record IsDone (o : Outset) (g : Origin) (sound : Bool) (l : Ledger) (h : Lis
   pub writing : is_writing c ≡ true
 
 module _ (o : Outset) (g : Origin) (sound : Bool) (l : Ledger) (story : Story) (held : Option (List ℕ)) (h : List Entry) (running refused : Bool) (v : IsVault o g sound l story held h running refused)
-    (later : Rows → Rows) (agree : (rows : Rows) (id : ℕ) → id < next_id l → later rows id ≡ rows id) (opened : l.closed ≡ None) (session position adopted end : ℕ) where
+    (later : Rows → Rows) (agree : (rows : Rows) (id : ℕ) → id < next_id l → later rows id ≡ rows id) (opened : l.closed ≡ None) (session adopted end : ℕ) where
   abbrev c : Catalog
   c = l.catalogue
 
@@ -80,7 +80,7 @@ module _ (o : Outset) (g : Origin) (sound : Bool) (l : Ledger) (story : Story) (
   new = later v.rows
 
   abbrev Done : Command → Record → Reply → Type 0
-  Done k r rep = IsDone o g sound l h v.rows (later v.rows) session k r rep position adopted end
+  Done k r rep = IsDone o g sound l h v.rows (later v.rows) session k r rep adopted end
 
   abbrev generation_after : Record → ℕ
   generation_after r = generation_of (applied c r)
@@ -103,7 +103,7 @@ module _ (o : Outset) (g : Origin) (sound : Bool) (l : Ledger) (story : Story) (
       record {
         f = λ w. expire_all w version;
         decided = expire_decided session None version;
-        change = expire_change o g sound l story held h running refused v new (agree v.rows) opened position (generation_after r) [] adopted end version (version_there c.floor version (kind_of c r fit)) does.after does.is;
+        change = expire_change o g sound l story held h running refused v new (agree v.rows) opened (generation_after r) l.trash adopted end version (version_there c.floor version (kind_of c r fit)) does.after does.is;
         moves = λ stocked. (_, expire_step new c stocked version fit);
         sources = λ e p known told ok.
             sources_stay o g sound l story held h running refused v new (agree v.rows) e p (reply.Expired None version) told (λ s k. refl) (applied c r) (λ has. expire_sourced new (written_by o g.found h) c has version) ok;
@@ -122,7 +122,7 @@ module _ (o : Outset) (g : Origin) (sound : Bool) (l : Ledger) (story : Story) (
       record {
         f = λ w. expire_table w name version;
         decided = expire_decided session (Some name) version;
-        change = expire_table_change o g sound l story held h running refused v new (agree v.rows) opened position (generation_after r) [] adopted end name number version (number_seen name ∙ found) (is_less number (length c.tables) both.0) (version_there (stock_at c number).oldest version both.1) does.after does.is;
+        change = expire_table_change o g sound l story held h running refused v new (agree v.rows) opened (generation_after r) l.trash adopted end name number version (number_seen name ∙ found) (is_less number (length c.tables) both.0) (version_there (stock_at c number).oldest version both.1) does.after does.is;
         moves = λ stocked. (_, expire_table_step new c stocked number version fit);
         sources = λ e p known told ok.
             sources_stay o g sound l story held h running refused v new (agree v.rows) e p (reply.Expired (Some name) version) told (λ s k. refl) (applied c r)
@@ -141,7 +141,7 @@ module _ (o : Outset) (g : Origin) (sound : Bool) (l : Ledger) (story : Story) (
       record {
         f = λ w. make_table w words;
         decided = table_decided session words;
-        change = table_change o g sound l story held h running refused v new (agree v.rows) opened position (generation_after r) [] adopted end words does.after does.is;
+        change = table_change o g sound l story held h running refused v new (agree v.rows) opened (generation_after r) l.trash adopted end words does.after does.is;
         moves = λ stocked. (_, table_step new c stocked words.table (columns_asked words).keys (columns_asked words).values);
         sources = λ e p known told ok.
             sources_stay o g sound l story held h running refused v new (agree v.rows) e p (reply.Table words.table) told (λ s k. refl) (applied c r)
@@ -167,7 +167,7 @@ module _ (o : Outset) (g : Origin) (sound : Bool) (l : Ledger) (story : Story) (
       record {
         f = λ w. make_view w words;
         decided = view_decided session words;
-        change = view_change o g sound l story held h running refused v new (agree v.rows) opened position (generation_after r) [] adopted end words number (number_seen words.table ∙ found) (view_there number words.view words.keys words.values fit) does.after does.is;
+        change = view_change o g sound l story held h running refused v new (agree v.rows) opened (generation_after r) l.trash adopted end words number (number_seen words.table ∙ found) (view_there number words.view words.keys words.values fit) does.after does.is;
         moves = λ stocked. (_, view_step new c stocked number words.view words.keys words.values fit);
         sources = λ e p known told ok.
             sources_stay o g sound l story held h running refused v new (agree v.rows) e p (reply.View words.view) told (λ s k. refl) (applied c r)
@@ -186,7 +186,7 @@ module _ (o : Outset) (g : Origin) (sound : Bool) (l : Ledger) (story : Story) (
       record {
         f = λ w. alter_table w words;
         decided = alter_decided session words;
-        change = alter_change o g sound l story held h running refused v new (agree v.rows) opened position (generation_after r) [] adopted end words number (number_seen words.table ∙ found) change asked (kind_of c r fit) typed does.after does.is;
+        change = alter_change o g sound l story held h running refused v new (agree v.rows) opened (generation_after r) l.trash adopted end words number (number_seen words.table ∙ found) change asked (kind_of c r fit) typed does.after does.is;
         moves = λ stocked. (_, alter_step new c stocked v.shaped number change fit typed);
         sources = λ e p known told ok.
             sources_stay o g sound l story held h running refused v new (agree v.rows) e p (reply.Altered words.table (epoch_of (stock_at c number).lineage + 1)) told (λ s k. refl) (applied c r)
@@ -205,7 +205,7 @@ module _ (o : Outset) (g : Origin) (sound : Bool) (l : Ledger) (story : Story) (
       record {
         f = λ w. load_batch w words;
         decided = load_decided session words;
-        change = load_change o g sound l story held h running refused v new (agree v.rows) opened position (generation_after r) [] adopted end words batch read c.next parts brings does.after does.is;
+        change = load_change o g sound l story held h running refused v new (agree v.rows) opened (generation_after r) l.trash adopted end words batch read c.next parts brings does.after does.is;
         moves = λ stocked. (_, publish_step new c stocked v.shaped c.next parts batch told_of brings);
         sources = λ e p known told ok. batch_sources o g sound l story held h running refused v new (agree v.rows) e p words batch read known told c.next parts brings ok;
         gone = refl;
@@ -222,7 +222,7 @@ module _ (o : Outset) (g : Origin) (sound : Bool) (l : Ledger) (story : Story) (
   does_as f rep says is does = subst (λ q. Does l f q) is does
 
   -- Whatever is to be written for a command does it.
-  pub command_done : (k : Command) (r : Record) (rep : Reply) → fits l.catalogue r ≡ true → IsTyped r → ((rows : Rows) → AreTold (later rows) l.catalogue r) → HasRecord l later k r rep → IsDone o g sound l h v.rows (later v.rows) session k r rep position adopted end
+  pub command_done : (k : Command) (r : Record) (rep : Reply) → fits l.catalogue r ≡ true → IsTyped r → ((rows : Rows) → AreTold (later rows) l.catalogue r) → HasRecord l later k r rep → IsDone o g sound l h v.rows (later v.rows) session k r rep adopted end
   command_done (command.Table words) r rep fit typed told has = as_told (command.Table words) r _ rep _ has.0 has.1 (table_done words (subst (λ q. fits c q ≡ true) has.0 fit) (does_as (λ w. make_table w words) rep _ has.1 has.2))
   command_done (command.View words) r rep fit typed told has =
       as_told (command.View words) r _ rep _ has.2 has.3 (view_done words has.0 has.1 (subst (λ q. fits c q ≡ true) has.2 fit) (does_as (λ w. make_view w words) rep _ has.3 has.4))

@@ -1,6 +1,5 @@
 -- How a turn that writes keeps a vault.
-use Rattle.std.proofs.Common.{◌≡◌, inl, inr, ℕ, ◌+◌, ◌<◌, ◌≤◌, ◌^◌, List, [], ◌∷◌, ◌++◌, map, length, Bool, true, false, ◌||◌, refl, sym, ◌∙◌, ap, subst, arith, Option, None, Some, Ok, IsTrue}
-use Rattle.std.specs.List.{AllByRecursion}
+use Rattle.std.proofs.Common.{◌≡◌, ℕ, ◌+◌, ◌<◌, ◌≤◌, ◌^◌, List, [], ◌∷◌, ◌++◌, map, length, Bool, true, false, ◌||◌, refl, sym, ◌∙◌, ap, subst, arith, Option, None, Some, Ok, IsTrue}
 use Rattle.mesa_key.specs.Spelling.{AreBytes}
 use Rattle.mesa_disk.specs.Files.{AreAbsent, AreGone, files_of}
 use Rattle.mesa_disk.specs.Image.{Image, file_of}
@@ -20,8 +19,8 @@ use Rattle.mesa_record.specs.Reading.{record_at}
 use Rattle.mesa_record.specs.Rules.{IsTyped}
 use Rattle.mesa_catalog.specs.mesa_image.Catalog.{Catalog, applied}
 use Rattle.mesa_catalog.specs.mesa_image.Contents.{kept_of}
-use Rattle.mesa_catalog.specs.mesa_image.Fitting.{Shelved, shelved, shelved_id}
-use Rattle.mesa_catalog.specs.mesa_image.Held.{IsHeld, IsUnnamed, StandsForEither as EitherOf}
+use Rattle.mesa_catalog.specs.mesa_image.Fitting.{shelved}
+use Rattle.mesa_catalog.specs.mesa_image.Held.{IsHeld, StandsForEither as EitherOf}
 use Rattle.mesa_catalog.specs.mesa_image.Sound.{StandsFor}
 use Rattle.mesa_ledger.proofs.mesa_image_laws.Agreeing.{agree_wants}
 use Rattle.mesa_ledger.proofs.mesa_image_laws.Ids.{own_ids}
@@ -31,18 +30,16 @@ use Rattle.mesa_catalog.specs.Lookups.{generation_of, turns_generation}
 use Rattle.mesa_store.specs.Store.{Writes as IsWritten}
 use Rattle.mesa_output.specs.Output.{block}
 use Rattle.mesa_skeleton.specs.Rows.{Rows}
-use Rattle.mesa_trash.proofs.Filing.{freed_unnamed}
 use Rattle.mesa_trash.specs.Filed.{AreGiven, Renames}
-use Rattle.mesa_trash.specs.Holding.{Among, freed, ids_of}
 use Rattle.mesa_ledger.specs.mesa_walk.Causes.{Unwritten, reply_of, told_at}
 use Rattle.mesa_ledger.specs.mesa_walk.Printing.{IsPut}
 use Rattle.mesa_ledger.specs.mesa_walk.Turns.{entry}
 use Rattle.mesa_ledger.specs.mesa_walk.Walk.{Counts, Passes, StandsForEither, Writes, run_of}
-use Rattle.mesa_ledger.specs.Ledger.{Ledger, first_id, holders, ids_held, next_id}
-use Rattle.mesa_ledger.specs.Recorded.{IsRecorded, failed_ledger, recorded_ledger, removed_by, waiting}
+use Rattle.mesa_ledger.specs.Ledger.{Ledger, next_id}
+use Rattle.mesa_ledger.specs.Recorded.{IsRecorded, failed_ledger, recorded_ledger}
 use Rattle.mesa_ledger.specs.Vault.{IsVault, Starts, outset_of}
 use Rattle.mesa_ledger.proofs.Agreeing.{named_agree, same_kept}
-use Rattle.mesa_ledger.proofs.Filing.{filed_moved, holds_are}
+use Rattle.mesa_ledger.proofs.Recording.{Clears, clears_none}
 use Rattle.mesa_ledger.proofs.Renaming.{record_brings, record_renames}
 use Rattle.mesa_ledger.proofs.Writing.{unwritten_vault, written_vault}
 use Rattle.mesa_engine.specs.Failing.{deciding_stage}
@@ -66,14 +63,6 @@ pub record IsWhole (story new : Story) (end : ℕ) (body : List ℕ) (made : Lis
 
 -- ---- ids
 
-all_among : (P : ℕ → Type 0) (ids : List ℕ) → ((id : ℕ) → Among id ids → P id) → AllByRecursion P ids
-all_among P [] each = tt
-all_among P (x ∷ ids) each = (each x (inl refl), all_among P ids (λ id is. each id (inr is)))
-
-not_among : (id : ℕ) (files : List Shelved) → (Among id (map shelved_id files) → ⊥) → AllByRecursion (λ (x : Shelved). x.file.id ≡ id → ⊥) files
-not_among id [] none = tt
-not_among id (x ∷ files) none = (λ same. none (inl same), not_among id files (λ is. none (inr is)))
-
 -- files that get ids from the next one on aren't there yet
 pub absent_yet : (next later past : ℕ) (made : List (ℕ × Option (List ℕ))) (image : Image) → later ≤ past → AreGiven next later made → ((id : ℕ) → next ≤ id → id < past → file_of image id ≡ None) → AreAbsent made image
 absent_yet next later past [] image le given fresh = tt
@@ -95,11 +84,8 @@ module _ (n : Starts) (w : Rows) (sound : Bool) (l : Ledger) (story : Story) (he
   abbrev made : List (ℕ × Option (List ℕ))
   made = files_of bytes change.made.items
 
-  abbrev removed : List ℕ
-  removed = removed_by l (length h) []
-
-  done : (end : ℕ) → IsDone (outset_of n w) (n.origin w) sound l h v.rows (to.can.later v.rows) session to.asked change.writes change.tells (length h) change.adopted end
-  done end = command_done (outset_of n w) (n.origin w) sound l story held h running refused v to.can.later to.can.brings.agree to.can.opened session (length h) change.adopted end to.asked change.writes change.tells to.can.fit typed to.can.brings.told to.can.does
+  done : (end : ℕ) → IsDone (outset_of n w) (n.origin w) sound l h v.rows (to.can.later v.rows) session to.asked change.writes change.tells change.adopted end
+  done end = command_done (outset_of n w) (n.origin w) sound l story held h running refused v to.can.later to.can.brings.agree to.can.opened session change.adopted end to.asked change.writes change.tells to.can.fit typed to.can.brings.told to.can.does
 
   renames : Renames (named c) made (named x) []
   renames = subst (λ gone. Renames (named c) made (named x) gone) (done 0).gone (record_renames c change.writes to.can.rules to.can.fit v.own made to.can.brings.ids)
@@ -114,17 +100,15 @@ module _ (n : Starts) (w : Rows) (sound : Bool) (l : Ledger) (story : Story) (he
     own = own_ids c change.writes to.can.rules to.can.fit v.own;
   }
 
-  -- nothing that is removed is named then
-  unnamed : AllByRecursion (IsUnnamed x) removed
-  unnamed = all_among (IsUnnamed x) removed (λ id is. not_among id (shelved x) (freed_unnamed (length h + 1) (first_id c.run + change.adopted) (named x) (waiting l (length h) []) (map ids_held (holders v.seen l))
-      (filed_moved (length h) (next_id l) (named c) l.trash (map ids_held (holders v.seen l)) v.filed made (first_id c.run + change.adopted) to.can.brings.adopts.given (let more = to.can.brings.adopts.more in omega (arith, more)) (named x) [] renames)
-      id (subst (λ hs. Among id (ids_of (freed hs (waiting l (length h) [])))) (sym (holds_are v.seen l)) is)))
+  -- the files that wait wait still
+  clears : Clears v.seen l (length h) change.adopted x l.trash []
+  clears = clears_none (outset_of n w) (n.origin w) sound l story held h running refused v made change.adopted to.can.brings.adopts x renames
 
   module _ (body : List ℕ) (are : AreBytes body) (reads : record_at body ≡ Ok change.writes) where
-    to_write : IsTrue sound → AllTell bytes change.made.items → IsWritten story v.bodies l.end c later change.writes body made removed
+    to_write : IsTrue sound → AllTell bytes change.made.items → IsWritten story v.bodies l.end c later change.writes body made []
     to_write ok tell =
         let is = v.stands ok to.can.opened in
-        let stocked = stocked_later (outset_of n w) (n.origin w) sound l story held h running refused v to.can.later to.can.brings.agree to.can.opened session (length h) change.adopted 0 ok in
+        let stocked = stocked_later (outset_of n w) (n.origin w) sound l story held h running refused v to.can.later to.can.brings.agree to.can.opened session change.adopted 0 ok in
         let moved = ((done 0).moves stocked).1 in
         record {
           held = record {
@@ -135,38 +119,38 @@ module _ (n : Starts) (w : Rows) (sound : Bool) (l : Ledger) (story : Story) (he
           };
           step = record { bytes = are; reads = reads; fitting = to.can.fit; stocked = moved.stocked; grows = moved.grows };
           brings = to.can.brings.files v.rows tell;
-          unnamed = unnamed;
+          unnamed = tt;
         }
 
     -- each image stands for what was kept, or for what is to be kept
-    pub store_writes : (new : Story) → IsWorked story new l.end body made removed → IsTrue sound → AllTell bytes change.made.items → Writes StandsFor story new (kept_of v.rows l.catalogue) (kept_of (to.can.later v.rows) (applied l.catalogue change.writes))
+    pub store_writes : (new : Story) → IsWorked story new l.end body made [] → IsTrue sound → AllTell bytes change.made.items → Writes StandsFor story new (kept_of v.rows l.catalogue) (kept_of (to.can.later v.rows) (applied l.catalogue change.writes))
     store_writes new worked ok tell below all =
         subst (λ k. Spans (StandsForEither StandsFor k (kept_of later x)) story new) (same_kept (outset_of n w) (n.origin w) sound l story held h running refused v later (to.can.brings.agree v.rows))
         (worked.images v.bodies c later change.writes (to_write ok tell))
 
-    pub store_holds : (new : Story) (end : ℕ) → IsWorked story new l.end body made removed → IsWhole story new l.end body made removed end → IsTrue sound → AllTell bytes change.made.items
+    pub store_holds : (new : Story) (end : ℕ) → IsWorked story new l.end body made [] → IsWhole story new l.end body made [] end → IsTrue sound → AllTell bytes change.made.items
         → IsHeld new (v.bodies ++ body ∷ []) end (applied l.catalogue change.writes) (to.can.later v.rows)
     store_holds new end worked whole ok tell =
         subst (λ e. IsHeld new (v.bodies ++ body ∷ []) e x later) (sym whole.ends) (whole.holds v.bodies c later change.writes (to_write ok tell))
 
-  module _ (new : Story) (m : ℕ) (moment : m ≡ new.moment) (passes : Passes story new) (only : Steps (MovesOnly made removed) story.told new.told) (at : ℕ) (place : at ≡ length h) (now : Bool) (new_held : Option (List ℕ))
+  module _ (new : Story) (m : ℕ) (moment : m ≡ new.moment) (passes : Passes story new) (only : Steps (MovesOnly made []) story.told new.told) (at : ℕ) (place : at ≡ length h) (now : Bool) (new_held : Option (List ℕ))
       (writes : IsTrue sound → Writes StandsFor story new (kept_of v.rows l.catalogue) (kept_of (to.can.later v.rows) (applied l.catalogue change.writes))) where
     pub stands_so : (end : ℕ) → Counts story new false → (bodies : List (List ℕ)) → (IsTrue sound → IsHeld new bodies end (applied l.catalogue change.writes) (to.can.later v.rows))
-        → ((i : Image) → new.told ≡ Some i → AreGone (removed_by l (length h) []) i) → end < new.len Zero → generation_of (applied l.catalogue change.writes) ≡ l.generation + turns_generation change.writes
+        → ((i : Image) → new.told ≡ Some i → AreGone [] i) → end < new.len Zero → generation_of (applied l.catalogue change.writes) ≡ l.generation + turns_generation change.writes
         → IsPut (block (entry session number kind.Decide outcome.Stands m) (Some (told_at at change.tells))) now held new_held
-        → IsVault (outset_of n w) (n.origin w) sound (recorded_ledger l (length h) (applied l.catalogue change.writes) (generation_of (applied l.catalogue change.writes)) [] l.leases change.adopted end) new new_held (h ++ entry session number kind.Decide outcome.Stands m ∷ []) now (refused || is_refusal change.tells)
+        → IsVault (outset_of n w) (n.origin w) sound (recorded_ledger l (applied l.catalogue change.writes) (generation_of (applied l.catalogue change.writes)) l.trash l.leases change.adopted end) new new_held (h ++ entry session number kind.Decide outcome.Stands m ∷ []) now (refused || is_refusal change.tells)
     stands_so end counts bodies holds gone long rises put =
         let d = done end in
-        written_vault n w sound l story held h running refused v session number low few m ran at place to.can.opened later x made [] change.adopted to.can.brings.adopts recorded new moment passes only writes now new_held
+        written_vault n w sound l story held h running refused v session number low few m ran at place to.can.opened later x made [] change.adopted to.can.brings.adopts recorded l.trash [] clears new moment passes only writes now new_held
         to.asked (deciding_stage to.asked) d.f d.decided due (generation_of x) end change.tells d.writes d.change counts bodies holds gone
-        (λ ok. (d.moves (stocked_later (outset_of n w) (n.origin w) sound l story held h running refused v to.can.later to.can.brings.agree to.can.opened session (length h) change.adopted end ok)).1.stocked) long
+        (λ ok. (d.moves (stocked_later (outset_of n w) (n.origin w) sound l story held h running refused v to.can.later to.can.brings.agree to.can.opened session change.adopted end ok)).1.stocked) long
         (rises ∙ ap (λ k. l.generation + k) d.rises) (λ told ok. d.sources (entry session number kind.Decide outcome.Stands m) _ due.known told ok) put
 
     pub fails_so : Counts story new true → IsPut (block (entry session number kind.Decide outcome.WriteFault m) (Some (told_at at (reply_of Unwritten)))) now held new_held
         → IsVault (outset_of n w) (n.origin w) sound (failed_ledger l at l.leases change.adopted) new new_held (h ++ entry session number kind.Decide outcome.WriteFault m ∷ []) now (refused || true)
     fails_so counts put =
         let d = done 0 in
-        unwritten_vault n w sound l story held h running refused v session number low few m ran at place to.can.opened later x made [] change.adopted to.can.brings.adopts recorded new moment passes only writes now new_held
+        unwritten_vault n w sound l story held h running refused v session number low few m ran at place to.can.opened later x made [] change.adopted to.can.brings.adopts recorded l.trash [] clears new moment passes only writes now new_held
         to.asked (deciding_stage to.asked) d.f d.decided due (generation_of x) 0 change.tells d.writes d.change d.writing counts put
 
 -- ---- on every store
@@ -175,12 +159,12 @@ module _ (n : Starts) (w : Rows) (sound : Bool) (l : Ledger) (story : Story) (he
     (session number : ℕ) (low : session < 2 ^ 16) (few : number < 2 ^ 32) (ran : running ≡ true)
     {M : Type 0} (bytes : M → Option (List ℕ)) (change : Change M) (script : Script) (r : Run) (to : IsToWrite bytes script r l session number change)
     (due : IsDue n.script (run_of (outset_of n w) h) session number to.asked (deciding_stage to.asked)) (typed : IsTyped change.writes) (tell : IsTrue sound → AllTell bytes change.made.items)
-    (body : List ℕ) (are : AreBytes body) (reads : record_at body ≡ Ok change.writes) (new : Story) (worked : IsWorked story new l.end body (files_of bytes change.made.items) (removed_by l (length h) []))
+    (body : List ℕ) (are : AreBytes body) (reads : record_at body ≡ Ok change.writes) (new : Story) (worked : IsWorked story new l.end body (files_of bytes change.made.items) [])
     (m : ℕ) (moment : m ≡ new.moment) (at : ℕ) (place : at ≡ length h) (now : Bool) (new_held : Option (List ℕ)) where
   -- The device work is done, and the vault has the record.
-  pub write_stands : (end : ℕ) → IsWhole story new l.end body (files_of bytes change.made.items) (removed_by l (length h) []) end → Counts story new false → generation_of (applied l.catalogue change.writes) ≡ l.generation + turns_generation change.writes
+  pub write_stands : (end : ℕ) → IsWhole story new l.end body (files_of bytes change.made.items) [] end → Counts story new false → generation_of (applied l.catalogue change.writes) ≡ l.generation + turns_generation change.writes
       → IsPut (block (entry session number kind.Decide outcome.Stands m) (Some (told_at at change.tells))) now held new_held
-      → IsVault (outset_of n w) (n.origin w) sound (recorded_ledger l (length h) (applied l.catalogue change.writes) (generation_of (applied l.catalogue change.writes)) [] l.leases change.adopted end) new new_held (h ++ entry session number kind.Decide outcome.Stands m ∷ []) now (refused || is_refusal change.tells)
+      → IsVault (outset_of n w) (n.origin w) sound (recorded_ledger l (applied l.catalogue change.writes) (generation_of (applied l.catalogue change.writes)) l.trash l.leases change.adopted end) new new_held (h ++ entry session number kind.Decide outcome.Stands m ∷ []) now (refused || is_refusal change.tells)
   write_stands end whole counts rises put =
       stands_so n w sound l story held h running refused v session number low few ran bytes change script r to due typed new m moment worked.passes worked.only at place now new_held
       (λ ok. store_writes n w sound l story held h running refused v session number low few ran bytes change script r to due typed body are reads new worked ok (tell ok)) end counts (v.bodies ++ body ∷ [])

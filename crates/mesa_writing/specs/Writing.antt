@@ -4,6 +4,7 @@ use Rattle.mesa_batch.specs.Batch.{Placed, batch_of}
 use Rattle.mesa_schema.specs.declared.changes.Change.{Change as ColumnChange}
 use Rattle.mesa_schema.specs.Changes.{columns_of, epoch_of}
 use Rattle.mesa_disk.specs.Files.{HasDistinctIds, files_of}
+use Rattle.mesa_disk.specs.Image.{Image, file_of}
 use Rattle.mesa_disk.specs.declared.moving.Adoption.{Adoption}
 use Rattle.mesa_commit.specs.Turn.{made_ids, told_files}
 use Rattle.mesa_model.specs.declared.commands.Command.{Command}
@@ -75,6 +76,10 @@ pub record CanWrite {M : Type 0} (bytes : M → Option (List ℕ)) (l : Ledger) 
   pub later : Rows → Rows
   pub brings : Brings bytes l change.writes later change.made.items change.adopted
   pub does : HasRecord l later c change.writes change.tells
+
+-- Each file that was there is there still, as it was.
+abbrev pub KeepsFiles : Image → Image → Type 0
+KeepsFiles old new = (id : ℕ) → (file_of old id ≡ None → ⊥) → file_of new id ≡ file_of old id
 
 -- A session's command is to be decided, and this does what it asks.
 pub record IsToWrite {M : Type 0} (bytes : M → Option (List ℕ)) (script : Script) (r : Run) (l : Ledger) (session number : ℕ) (change : Change M) : Type 0 where

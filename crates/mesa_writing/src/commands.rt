@@ -1,5 +1,6 @@
 // The turns of a table, a view, a change of columns and an expiry.
 ghost use Rattle.std.specs.Prelude.{◌≡◌, ◌<◌, length};
+ghost use Rattle.mesa_disk.specs.Story.{Steps};
 ghost use Rattle.mesa_history.specs.Run.{First, Finished};
 ghost use Rattle.mesa_history.specs.Turns.{IsDue};
 ghost use Rattle.mesa_model.specs.declared.commands.Command.TheVariants as command;
@@ -7,6 +8,7 @@ ghost use Rattle.mesa_model.specs.declared.entries.Kind.TheVariants as kind;
 ghost use Rattle.mesa_skeleton.specs.Rows.{no_rows};
 ghost use Rattle.mesa_ledger.specs.mesa_walk.Turns.{Takes};
 ghost use Rattle.mesa_ledger.specs.mesa_walk.Walk.{run_at};
+ghost use Rattle.mesa_writing.specs.Writing.{KeepsFiles};
 
 use crate::deciding::decide;
 use crate::ruling::{rule_alter, rule_expire, rule_table, rule_view};
@@ -29,6 +31,7 @@ pub fn table<N: Naming, M: Made, D: Disk<M>, K: Sink>(
     requires due { IsDue N.script (run_at N.script (N.start no_rows) engine.old.shown.history) who.session who.command (command.Table words.now) First }
     requires room { length engine.old.shown.history < N.room }
     ensures turn { Takes N.script (N.start no_rows) engine.old.shown engine.new.shown who.session who.command kind.Decide Finished }
+    ensures keeps { Steps KeepsFiles engine.old.told engine.new.told }
 {
     decide(
         alloc,
@@ -48,6 +51,7 @@ pub fn view<N: Naming, M: Made, D: Disk<M>, K: Sink>(
     requires due { IsDue N.script (run_at N.script (N.start no_rows) engine.old.shown.history) who.session who.command (command.View words.now) First }
     requires room { length engine.old.shown.history < N.room }
     ensures turn { Takes N.script (N.start no_rows) engine.old.shown engine.new.shown who.session who.command kind.Decide Finished }
+    ensures keeps { Steps KeepsFiles engine.old.told engine.new.told }
 {
     decide(
         alloc,
@@ -67,6 +71,7 @@ pub fn alter<N: Naming, M: Made, D: Disk<M>, K: Sink>(
     requires due { IsDue N.script (run_at N.script (N.start no_rows) engine.old.shown.history) who.session who.command (command.Alter words.now) First }
     requires room { length engine.old.shown.history < N.room }
     ensures turn { Takes N.script (N.start no_rows) engine.old.shown engine.new.shown who.session who.command kind.Decide Finished }
+    ensures keeps { Steps KeepsFiles engine.old.told engine.new.told }
 {
     decide(
         alloc,
@@ -87,6 +92,7 @@ pub fn expire<N: Naming, M: Made, D: Disk<M>, K: Sink>(
     requires due { IsDue N.script (run_at N.script (N.start no_rows) engine.old.shown.history) who.session who.command (command.Expire table.now version) First }
     requires room { length engine.old.shown.history < N.room }
     ensures turn { Takes N.script (N.start no_rows) engine.old.shown engine.new.shown who.session who.command kind.Decide Finished }
+    ensures keeps { Steps KeepsFiles engine.old.told engine.new.told }
 {
     decide(
         alloc,

@@ -1,6 +1,7 @@
 // A load's deciding turn.
 ghost use Rattle.std.specs.Prelude.{◌≡◌, ◌+◌, ◌<◌, ◌≤◌, ◌^◌, true, ℕ, List, Some, Err, IfErr, IfOk, length};
 ghost use Rattle.mesa_catalog.specs.Lookups.{sight_of};
+ghost use Rattle.mesa_disk.specs.Story.{Steps};
 ghost use Rattle.mesa_history.specs.Run.{Finished, Looked};
 ghost use Rattle.mesa_history.specs.Turns.{IsDue};
 ghost use Rattle.mesa_catalog.specs.mesa_image.Shape.{IsCatalog};
@@ -21,7 +22,7 @@ ghost use Rattle.mesa_writing.specs.Loading.{cause_of, unready_as};
 ghost use Rattle.mesa_tasks.specs.Batches.{HasPrepared};
 ghost use Rattle.mesa_tasks.specs.declared.prepared.LoadError.TheVariants as load;
 ghost use Rattle.mesa_writing.specs.declared.publishing.Unready.TheVariants as why;
-ghost use Rattle.mesa_writing.specs.Writing.{CanWrite};
+ghost use Rattle.mesa_writing.specs.Writing.{CanWrite, KeepsFiles};
 
 use crate::writing::{Change, write};
 use mesa_batch::{BatchError, LoadRows};
@@ -133,6 +134,7 @@ fn undrafted<N: Naming, M: Made, D: Disk<M>, K: Sink>(
     requires room { length engine.old.shown.history < N.room }
     requires runs { engine.old.shown.running ≡ true }
     ensures turn { Takes N.script (N.start no_rows) engine.old.shown engine.new.shown who.session who.command kind.Decide Finished }
+    ensures keeps { Steps KeepsFiles engine.old.told engine.new.told }
 {
     let at = engine.log.position();
     let moment = engine.disk.clock();
@@ -161,6 +163,7 @@ pub fn publish<N: Naming, M: Made, D: Disk<M>, K: Sink>(
     requires told { (w : Rows) → N.sound w → (file : M) → (bytes : List ℕ) × (M.bytes file ≡ Some bytes) }
     requires room { length engine.old.shown.history < N.room }
     ensures turn { Takes N.script (N.start no_rows) engine.old.shown engine.new.shown who.session who.command kind.Decide Finished }
+    ensures keeps { Steps KeepsFiles engine.old.told engine.new.told }
     ensures draft { AnswersDraft N.script (N.start no_rows) engine.old.shown engine.new.shown who.session (made ≡ Err load.Draft) }
 {
     if !engine.running() {

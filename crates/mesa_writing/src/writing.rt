@@ -1,9 +1,9 @@
 // A turn that writes.
 ghost use Rattle.std.specs.Prelude.{◌≡◌, ◌<◌, [], true, length, None, Some, Ok, IsTrue, IfOk, OnErr, OnOk};
+ghost use Rattle.mesa_disk.specs.Story.{Steps};
 ghost use Rattle.mesa_history.specs.Run.{Finished};
 ghost use Rattle.mesa_catalog.specs.mesa_image.Fitting.{fits};
 ghost use Rattle.mesa_key.specs.Spelling.{AreBytes};
-ghost use Rattle.mesa_ledger.specs.Recorded.{removed_by};
 ghost use Rattle.mesa_model.specs.declared.entries.Kind.TheVariants as kind;
 ghost use Rattle.mesa_publishing.specs.Published.{AllTell};
 ghost use Rattle.mesa_record.specs.Reading.{record_at};
@@ -11,11 +11,10 @@ ghost use Rattle.mesa_record.specs.Rules.{keeps_rules};
 ghost use Rattle.mesa_skeleton.specs.Rows.{Rows, no_rows};
 ghost use Rattle.mesa_ledger.specs.mesa_walk.Turns.{AnswersDraft, Takes};
 ghost use Rattle.mesa_ledger.specs.mesa_walk.Walk.{run_at};
-ghost use Rattle.mesa_writing.specs.Writing.{IsToWrite};
+ghost use Rattle.mesa_writing.specs.Writing.{IsToWrite, KeepsFiles};
 
 use mesa_disk::{Adoption, Disk, Made};
 use mesa_engine::Engine;
-use mesa_file::FileId;
 use mesa_io::Sink;
 use mesa_journal::Framed;
 use mesa_ledger::Naming;
@@ -37,30 +36,22 @@ pub struct Change<M: Drop> {
     pub tells: Reply,
 }
 
-// All memory that it takes to write a record in the turn at the position: its frame, and the ids of
-// the files that may be removed.
-fn prepare(
-    alloc: Global,
-    metadata: &mut Metadata,
-    at: u64,
-    writes: &Record,
-) -> Result<(Framed, Vec<FileId>), AllocError>
+// All memory that it takes to write a record: its frame, and its place in the vault's memory.
+fn prepare(alloc: Global, metadata: &mut Metadata, writes: &Record) -> Result<Framed, AllocError>
     requires rules { IsTrue (keeps_rules writes.now) }
     requires fit { IsTrue (fits metadata.old.ledger.catalogue writes.now) }
-    ensures reads { IfOk result (λ r. record_at r.0 ≡ Ok writes.now) }
-    ensures bytes { IfOk result (λ r. AreBytes r.0) }
-    ensures removes { IfOk result (λ r. r.1.items ≡ removed_by metadata.old.ledger at []) }
+    ensures reads { IfOk result (λ r. record_at r ≡ Ok writes.now) }
+    ensures bytes { IfOk result (λ r. AreBytes r) }
     ensures reserved { OnOk result (metadata.new ≡ record metadata.old { reserved = Some (record { entry = writes.now; dropped = 0 }) }) }
     ensures err { OnErr result (metadata.new ≡ metadata.old) }
 {
     let framed = frame(alloc, writes)?;
-    let removed = metadata.removable(at, &[])?;
     metadata.reserve(writes, 0)?;
-    Ok((framed, removed))
+    Ok(framed)
 }
 
 /// The turn that decides a command by writing what it asks for. Where the store can't be written the
-/// vault closes.
+/// vault closes. Files that wait are left to the swap of a work.
 pub fn write<N: Naming, M: Made, D: Disk<M>, K: Sink>(
     alloc: Global,
     engine: &mut Engine<N, M, D, K>,
@@ -72,11 +63,12 @@ pub fn write<N: Naming, M: Made, D: Disk<M>, K: Sink>(
     requires room { length engine.old.shown.history < N.room }
     requires runs { engine.old.shown.running ≡ true }
     ensures turn { Takes N.script (N.start no_rows) engine.old.shown engine.new.shown who.session who.command kind.Decide Finished }
+    ensures keeps { Steps KeepsFiles engine.old.told engine.new.told }
     ensures draft { AnswersDraft N.script (N.start no_rows) engine.old.shown engine.new.shown who.session ⊥ }
 {
     let at = engine.log.position();
-    let (framed, removed) = match prepare(alloc, &mut engine.metadata, at, &change.writes) {
-        Ok(ready) => ready,
+    let framed = match prepare(alloc, &mut engine.metadata, &change.writes) {
+        Ok(framed) => framed,
         Err(AllocError) => {
             drop(change);
             return engine.fail(who, Kind::Decide, Failure::Memory);
@@ -89,9 +81,9 @@ pub fn write<N: Naming, M: Made, D: Disk<M>, K: Sink>(
         tells,
     } = change;
     let end = engine.metadata.end();
-    match write_record(&mut engine.disk, made, end, &framed, &removed) {
+    match write_record(&mut engine.disk, made, end, &framed, &[]) {
         Ok(end) => {
-            engine.metadata.apply(writes, at, &[], adopted, end);
+            engine.metadata.apply(writes, adopted, end);
             let turn = who.turn(Kind::Decide, Outcome::Stands, engine.disk.clock());
             engine.log.tell(turn, at, &tells, b"");
             tells

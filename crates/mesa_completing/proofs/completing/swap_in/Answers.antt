@@ -29,7 +29,7 @@ use Rattle.mesa_ledger.proofs.mesa_walk.Alike.{due_alike}
 use Rattle.mesa_ledger.proofs.mesa_walk.Clock.{closing}
 use Rattle.mesa_ledger.proofs.mesa_walk.Working.{checked_open}
 use Rattle.mesa_ledger.specs.Ledger.{Ledger, books_of}
-use Rattle.mesa_ledger.specs.Recorded.{failed_ledger, holds_in, recorded_ledger, removed_by, waiting}
+use Rattle.mesa_ledger.specs.Recorded.{failed_ledger, holds_in, left_by, recorded_ledger, removed_by, waiting}
 use Rattle.mesa_ledger.specs.Turned.{leased_ledger}
 use Rattle.mesa_ledger.specs.Vault.{Starts, outset_of, written_by}
 use Rattle.mesa_ledger.proofs.Beginning.{vault_at_seen}
@@ -142,8 +142,8 @@ write_record-requires-clause-room g c κs within =
     let ready = ready_still g.K.Sink.held g.K.Sink.faults n N.room N.sink_faults i.metadata story i.log c.engine.invariant bytes read was t s is holds in
     subst (λ e. e < story.len Zero) (sym end_is) ready.long
 
-pub apply-requires-clause-few : goal.apply-requires-clause-few
-apply-requires-clause-few g c =
+pub apply_swap-requires-clause-few : goal.apply_swap-requires-clause-few
+apply_swap-requires-clause-few g c =
     let N = g.N.Naming in
     let n : Starts = starts_of N.script N.start N.sound N.origin N.since N.counted N.at_start in
     let i = c.engine.inside in
@@ -200,21 +200,21 @@ fail-requires g c =
 
 -- the ledger behind it, its lease not ended yet
 applied_done : (g : _) (c : goal.After-drop-gone g)
-    → c.apply.new.self.ledger ≡ recorded_ledger c.engine.inside.metadata.ledger (length c.engine.inside.log.history.items) (applied c.engine.inside.metadata.ledger.catalogue c.in-Ok.ready.swapped.entry) (generation_of (applied c.engine.inside.metadata.ledger.catalogue c.in-Ok.ready.swapped.entry))
-    (dropped_ids c.engine.inside.metadata.ledger.catalogue c.in-Ok.ready.swapped.entry) c.engine.inside.metadata.ledger.leases c.in-Ok.ready.swapped.adopted c.in-Ok-write_record.end
+    → c.apply_swap.new.self.ledger ≡ recorded_ledger c.engine.inside.metadata.ledger (applied c.engine.inside.metadata.ledger.catalogue c.in-Ok.ready.swapped.entry) (generation_of (applied c.engine.inside.metadata.ledger.catalogue c.in-Ok.ready.swapped.entry))
+    (left_by c.engine.inside.metadata.ledger (length c.engine.inside.log.history.items) (dropped_ids c.engine.inside.metadata.ledger.catalogue c.in-Ok.ready.swapped.entry)) c.engine.inside.metadata.ledger.leases c.in-Ok.ready.swapped.adopted c.in-Ok-write_record.end
 applied_done g c =
     let s = c.in-Ok.ready.swapped in
     let place = c.position-at.ensures in
     let reserved = c.in-Ok.ensures.reserved in
     let end = c.in-Ok-write_record.end in
     let gone_is : c.deref-in-Ok-write_record.result.now ≡ dropped_ids c.engine.inside.metadata.ledger.catalogue s.entry = c.deref-in-Ok-write_record.ensures.value ∙ c.in-Ok.ensures.gone in
-    ap (λ (m : Memory). m.ledger) c.apply.ensures.applied
-    ∙ (λ j. recorded_ledger (reserved j).ledger (place j) (applied (reserved j).ledger.catalogue s.entry) (generation_of (applied (reserved j).ledger.catalogue s.entry)) (gone_is j) (reserved j).ledger.leases s.adopted end)
+    ap (λ (m : Memory). m.ledger) c.apply_swap.ensures.applied
+    ∙ (λ j. recorded_ledger (reserved j).ledger (applied (reserved j).ledger.catalogue s.entry) (generation_of (applied (reserved j).ledger.catalogue s.entry)) (left_by (reserved j).ledger (place j) (gone_is j)) (reserved j).ledger.leases s.adopted end)
 
 -- the ledger behind it
 ledger_done : (g : _) (c : goal.After-drop-gone g)
-    → c.end_lease.new.self.ledger ≡ recorded_ledger c.engine.inside.metadata.ledger (length c.engine.inside.log.history.items) (applied c.engine.inside.metadata.ledger.catalogue c.in-Ok.ready.swapped.entry) (generation_of (applied c.engine.inside.metadata.ledger.catalogue c.in-Ok.ready.swapped.entry))
-    (dropped_ids c.engine.inside.metadata.ledger.catalogue c.in-Ok.ready.swapped.entry) (ended c.args.task.now.table c.args.task.now.lease c.engine.inside.metadata.ledger.leases) c.in-Ok.ready.swapped.adopted c.in-Ok-write_record.end
+    → c.end_lease.new.self.ledger ≡ recorded_ledger c.engine.inside.metadata.ledger (applied c.engine.inside.metadata.ledger.catalogue c.in-Ok.ready.swapped.entry) (generation_of (applied c.engine.inside.metadata.ledger.catalogue c.in-Ok.ready.swapped.entry))
+    (left_by c.engine.inside.metadata.ledger (length c.engine.inside.log.history.items) (dropped_ids c.engine.inside.metadata.ledger.catalogue c.in-Ok.ready.swapped.entry)) (ended c.args.task.now.table c.args.task.now.lease c.engine.inside.metadata.ledger.leases) c.in-Ok.ready.swapped.adopted c.in-Ok-write_record.end
 ledger_done g c =
     let t = c.args.task.now in
     ap (λ (m : Memory). m.ledger) c.end_lease.ensures ∙ ap (λ (k : Ledger). leased_ledger k (ended t.table t.lease k.leases)) (applied_done g c)
@@ -286,8 +286,8 @@ kept_done g c =
     let applied_is = applied_done g c in
     let ledger_is = ledger_done g c in
     let rises : generation_of (applied l.catalogue s.entry) ≡ l.generation + turns_generation s.entry =
-    sym (ap (λ (k : Ledger). k.generation) applied_is) ∙ c.apply.ensures.generation ∙ ap (λ (m : Memory). m.ledger.generation + turns_generation s.entry) reserved in
-    let leased : c.end_lease.new.self.leased ≡ i.metadata.leased = ap (λ (m : Memory). m.leased) c.end_lease.ensures ∙ ap (λ (m : Memory). m.leased) c.apply.ensures.applied ∙ ap (λ (m : Memory). m.leased) reserved in
+    sym (ap (λ (k : Ledger). k.generation) applied_is) ∙ c.apply_swap.ensures.generation ∙ ap (λ (m : Memory). m.ledger.generation + turns_generation s.entry) reserved in
+    let leased : c.end_lease.new.self.leased ≡ i.metadata.leased = ap (λ (m : Memory). m.leased) c.end_lease.ensures ∙ ap (λ (m : Memory). m.leased) c.apply_swap.ensures.applied ∙ ap (λ (m : Memory). m.leased) reserved in
     let grew = c.tell.ensures.items ∙ ap (λ x. h ++ x ∷ []) c.turn-turn.ensures.same in
     let told = c.tell.ensures.told no_lines (swap_prints t.work ∙ ap (body_of no_lines) (sym c.range_of-reply.ensures)) in
     let prints = subst (λ p. PrintsBlock g.K.Sink.held g.K.Sink.faults i.log.printer later.printer (entry session number kind.Close outcome.Stands c.clock.result) (told_at p (swapped_reply t.work))) place

@@ -7,6 +7,7 @@ use Rattle.mesa_engine.specs.Engine.{Standing}
 use Rattle.mesa_engine.specs.Failing.{deciding_stage}
 use Rattle.mesa_engine.proofs.Undone.{deciding_unanswered}
 use Rattle.mesa_writing.specs.Ruling.{IsAllowed, IsRefused}
+use Rattle.mesa_writing.proofs.Keeping.{same_keep}
 use Rattle.mesa_writing.proofs.Rulings.{allowed_writes, deciding_comes}
 use Rattle.mesa_writing.proofs.deciding.decide.Goals as goal
 
@@ -22,7 +23,7 @@ skip-requires-clause-due g c κs within w =
     }
 
 pub returns-then-not-running : goal.returns-then-not-running
-returns-then-not-running g c = record { turn = c.skip.ensures.turn Finished }
+returns-then-not-running g c = record { turn = c.skip.ensures.turn Finished; keeps = same_keep c.args.engine.now.told c.skip.new.self.told c.skip.ensures.told }
 
 pub write-requires-clause-change : goal.write-requires-clause-change
 write-requires-clause-change g c κs within =
@@ -47,3 +48,6 @@ fail-requires-clause-fails g c κs within =
     let here : IsRefused m.ledger to.asked c.in-Err.failure = subst (λ r. IfErr r (IsRefused m.ledger to.asked)) c.in-Err.is said.1 in
     let refused : IsRefused c.args.engine.now.ledger to.asked c.in-Err.failure = subst (λ (s : Standing). IsRefused s.ledger to.asked c.in-Err.failure) c.engine.view_is here in
     record { asked = to.asked; due = to.due; decides = to.decides; why = refused.failed (length c.args.engine.now.shown.history) c.args.who.session; quiet = refused.quiet }
+
+pub returns-in-Err-clause-keeps : goal.returns-in-Err-clause-keeps
+returns-in-Err-clause-keeps g c = same_keep c.args.engine.now.told c.fail.new.self.told c.fail.ensures.told

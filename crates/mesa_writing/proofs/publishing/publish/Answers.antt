@@ -4,6 +4,7 @@ use Rattle.mesa_model.specs.declared.commands.Command.TheVariants as command
 use Rattle.mesa_skeleton.specs.Rows.{no_rows}
 use Rattle.mesa_ledger.proofs.mesa_walk.Alike.{due_alike}
 use Rattle.mesa_engine.specs.Engine.{Standing}
+use Rattle.mesa_writing.proofs.Keeping.{same_keep}
 use Rattle.mesa_writing.proofs.Loads.{all_tell}
 use Rattle.mesa_writing.proofs.publishing.publish.Goals as goal
 
@@ -18,7 +19,7 @@ skip-requires-clause-due g c κs within w =
     }
 
 pub returns-then-not-running : goal.returns-then-not-running
-returns-then-not-running g c = record { turn = c.skip.ensures.turn Finished; draft = λ low e grew is. absurd (c.skip.ensures.draft low e grew is) }
+returns-then-not-running g c = record { turn = c.skip.ensures.turn Finished; draft = λ low e grew is. absurd (c.skip.ensures.draft low e grew is); keeps = same_keep c.args.engine.now.told c.skip.new.self.told c.skip.ensures.told }
 
 pub ready-requires-clause-shaped : goal.ready-requires-clause-shaped
 ready-requires-clause-shaped g c κs within = (c.engine.invariant.vault no_rows false (λ is. absurd cc)).shaped
@@ -37,3 +38,9 @@ ready-requires-clause-room g c κs within =
 
 pub write-requires-clause-told : goal.write-requires-clause-told
 write-requires-clause-told g c κs within w sound = all_tell g.M.Made.bytes (c.requires.told w sound) c.in-Ok.change.made.items
+
+pub returns-in-Err-Refused-clause-keeps : goal.returns-in-Err-Refused-clause-keeps
+returns-in-Err-Refused-clause-keeps g c = same_keep c.args.engine.now.told c.fail.new.self.told c.fail.ensures.told
+
+pub returns-in-Err-Memory-clause-keeps : goal.returns-in-Err-Memory-clause-keeps
+returns-in-Err-Memory-clause-keeps g c = same_keep c.args.engine.now.told c.fail-in-Err-Memory.new.self.told c.fail-in-Err-Memory.ensures.told

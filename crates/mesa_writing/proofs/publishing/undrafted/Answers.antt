@@ -1,5 +1,6 @@
 use Rattle.std.proofs.Common.{◌≡◌, inl, inr, ◌<◌, [], ◌∷◌, ◌++◌, true, not, refl, sym, ◌∙◌, ap, subst, arith}
 use Rattle.mesa_fault.specs.Causes.{last}
+use Rattle.mesa_disk.specs.Story.{Steps}
 use Rattle.mesa_history.specs.Run.{Finished, Looked}
 use Rattle.mesa_history.specs.Turns.{IsDue}
 use Rattle.mesa_model.specs.declared.commands.Command.TheVariants as command
@@ -19,6 +20,8 @@ use Rattle.mesa_ledger.proofs.Beginning.{vault_at_seen}
 use Rattle.mesa_log.specs.Printing.{PrintsBlock}
 use Rattle.mesa_metadata.specs.Memory.{Memory}
 use Rattle.mesa_engine.specs.Engine.{Standing, starts_of}
+use Rattle.mesa_writing.specs.Writing.{KeepsFiles}
+use Rattle.mesa_writing.proofs.Keeping.{same_keep}
 use Rattle.mesa_writing.proofs.Loads.{undrafted_engine}
 use Rattle.mesa_writing.proofs.publishing.undrafted.Goals as goal
 
@@ -74,6 +77,7 @@ returns-then-moment-lt18446744073709551615 g c =
           (publish_takes N.script (N.start no_rows) (record { history = h; running = not i.log.printer.broken; clock = story.moment }) new s number (record { asked = command.Load rows; is = refl; due = due })
           (record { outcome = outcome.WriteFault; grew = told.items ∙ ap (λ x. h ++ entry s number kind.Decide outcome.WriteFault x ∷ []) moment; skipped = ap not (sym ran); still = λ on. ran })
           (vault_at_seen n i.metadata.ledger story (g.K.Sink.held later.printer.sink) later.history.items (not later.printer.broken) later.refused story.moment kept.vault));
+      keeps = subst (λ (x : Standing). Steps KeepsFiles x.told story.told) c.engine.view_is (same_keep story.told story.told refl);
     }
 
 pub invariant_of-engine-2 : goal.invariant_of-engine-2
@@ -136,4 +140,5 @@ returns g c =
           (publish_takes N.script (N.start no_rows) (record { history = h; running = not i.log.printer.broken; clock = story.moment }) new s number (record { asked = command.Load rows; is = refl; due = due })
           (record { outcome = outcome.WriteFault; grew = told.items ∙ ap (λ x. h ++ entry s number kind.Decide outcome.WriteFault x ∷ []) moment; skipped = ap not (sym ran); still = λ on. ran })
           (vault_at_seen n c.close.new.self.ledger story (g.K.Sink.held later.printer.sink) later.history.items (not later.printer.broken) later.refused story.moment kept.vault));
+      keeps = subst (λ (x : Standing). Steps KeepsFiles x.told story.told) c.engine.view_is (same_keep story.told story.told refl);
     }

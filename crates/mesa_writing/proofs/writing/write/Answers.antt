@@ -1,6 +1,7 @@
 use Rattle.std.proofs.Common.{◌≡◌, inl, ◌+◌, ◌<◌, [], ◌∷◌, ◌++◌, length, true, false, not, refl, sym, ◌∙◌, ap, subst, arith}
 use Rattle.mesa_fault.specs.Causes.{Rose}
 use Rattle.mesa_disk.specs.Files.{files_of}
+use Rattle.mesa_disk.specs.Story.{Steps}
 use Rattle.mesa_disk.specs.declared.area.Area.TheVariants.{Zero}
 use Rattle.mesa_history.specs.Replay.{no_rows as no_lines}
 use Rattle.mesa_history.specs.Run.{Finished}
@@ -16,15 +17,16 @@ use Rattle.mesa_ledger.specs.mesa_walk.Turns.{AnswersDraft, Shown, Takes, entry}
 use Rattle.mesa_ledger.specs.mesa_walk.Walk.{Counts, run_at}
 use Rattle.mesa_ledger.proofs.mesa_walk.Clock.{closing}
 use Rattle.mesa_ledger.specs.Ledger.{Ledger}
-use Rattle.mesa_ledger.specs.Recorded.{failed_ledger, recorded_ledger, removed_by}
+use Rattle.mesa_ledger.specs.Recorded.{failed_ledger, recorded_ledger}
 use Rattle.mesa_ledger.specs.Vault.{Starts}
 use Rattle.mesa_ledger.proofs.Beginning.{vault_at_seen}
 use Rattle.mesa_log.specs.Printing.{PrintsBlock}
 use Rattle.mesa_metadata.specs.Memory.{Memory}
 use Rattle.mesa_engine.specs.Engine.{Standing, starts_of}
 use Rattle.mesa_engine.proofs.Drafting.{answers_none}
-use Rattle.mesa_writing.specs.Writing.{IsToWrite}
+use Rattle.mesa_writing.specs.Writing.{IsToWrite, KeepsFiles}
 use Rattle.mesa_writing.proofs.Engines.{absent_now, ready_now, unwritten_engine, written_engine}
+use Rattle.mesa_writing.proofs.Keeping.{moves_keep, same_keep}
 use Rattle.mesa_writing.proofs.Rulings.{writes_print, writes_take}
 use Rattle.mesa_writing.proofs.Written.{IsWhole, IsWorked}
 use Rattle.mesa_writing.proofs.writing.write.Goals as goal
@@ -75,18 +77,16 @@ invariant_of-engine-in-Ok-write_record g c =
     let change = c.args.change in
     let to : IsToWrite bytes N.script (run_at N.script (N.start no_rows) h) l s number change = subst (λ (st : Standing). IsToWrite bytes N.script (run_at N.script (N.start no_rows) st.shown.history) st.ledger s number change) (sym c.engine.view_is) c.requires.change in
     let new = g.D.Disk.story c.write_record.new.disk in
-    let body = c.in-Ok.ready.0 in
+    let body = c.in-Ok.framed in
     let at = c.position-at.result in
     let place = c.position-at.ensures in
     let reserved = c.in-Ok.ensures.reserved in
     let does = c.write_record.ensures in
     let ran : not i.log.printer.broken ≡ true = ap (λ (st : Standing). st.shown.running) c.engine.view_is ∙ c.requires.runs in
     let end_is : c.end-end.result ≡ l.end = c.end-end.ensures ∙ ap (λ (m : Memory). m.ledger.end) reserved in
-    let removed_is : c.deref.result.now ≡ removed_by l (length h) [] = c.deref.ensures.value ∙ c.in-Ok.ensures.removes ∙ ap (λ p. removed_by l p []) place in
     let laws = g.met.D.Disk g.world.𝓛 g.world.𝓜 g.world.𝓡 ((λ s x. x), (λ x. x), (λ x. x), λ x. x) in
-    let worked : IsWorked story new l.end body (files_of bytes change.made.items) (removed_by l (length h) []) =
-    subst (λ e. IsWorked story new e body (files_of bytes change.made.items) (removed_by l (length h) [])) end_is
-    (subst (λ d. IsWorked story new c.end-end.result body (files_of bytes change.made.items) d) removed_is
+    let worked : IsWorked story new l.end body (files_of bytes change.made.items) [] =
+    subst (λ e. IsWorked story new e body (files_of bytes change.made.items) []) end_is
     (record {
       images = does.images;
       only = does.only;
@@ -99,20 +99,20 @@ invariant_of-engine-in-Ok-write_record g c =
           earlier = λ a t x le had. laws.earlier c.write_record.new.disk a t x le had;
         };
       };
-    })) in
+    }) in
     let typed = (record_found body change.writes c.in-Ok.ensures.bytes c.in-Ok.ensures.reads).0.typed in
     let read = does.read_cause in
     let end = c.in-Ok-write_record.end in
     let later = c.tell.new.self in
     let short : IsShort (entry s number kind.Decide outcome.Stands c.clock.result) = subst IsShort c.turn-turn.ensures.same c.turn-turn.ensures.short in
     let done = c.in-Ok-write_record.ensures in
-    let whole : IsWhole story new l.end body (files_of bytes change.made.items) (removed_by l (length h) []) end =
-    subst (λ e. IsWhole story new e body (files_of bytes change.made.items) (removed_by l (length h) []) end) end_is
-    (subst (λ d. IsWhole story new c.end-end.result body (files_of bytes change.made.items) d end) removed_is (record { holds = done.done; gone = done.gone; ends = done.end; long = done.longer })) in
+    let whole : IsWhole story new l.end body (files_of bytes change.made.items) [] end =
+    subst (λ e. IsWhole story new e body (files_of bytes change.made.items) [] end) end_is
+    (record { holds = done.done; gone = done.gone; ends = done.end; long = done.longer }) in
     let counts : Counts story new false = record { faults = does.cause.later; reads = omega (arith, read); rose = λ low is. absurd cc } in
-    let ledger_is : c.apply.new.self.ledger ≡ recorded_ledger l (length h) (applied l.catalogue change.writes) (generation_of (applied l.catalogue change.writes)) [] l.leases change.adopted end =
+    let ledger_is : c.apply.new.self.ledger ≡ recorded_ledger l (applied l.catalogue change.writes) (generation_of (applied l.catalogue change.writes)) l.trash l.leases change.adopted end =
     ap (λ (m : Memory). m.ledger) c.apply.ensures.applied
-    ∙ (λ j. recorded_ledger (reserved j).ledger (place j) (applied (reserved j).ledger.catalogue change.writes) (generation_of (applied (reserved j).ledger.catalogue change.writes)) [] (reserved j).ledger.leases change.adopted end) in
+    ∙ (λ j. recorded_ledger (reserved j).ledger (applied (reserved j).ledger.catalogue change.writes) (generation_of (applied (reserved j).ledger.catalogue change.writes)) (reserved j).ledger.trash (reserved j).ledger.leases change.adopted end) in
     let rises : generation_of (applied l.catalogue change.writes) ≡ l.generation + turns_generation change.writes =
     sym (ap (λ (k : Ledger). k.generation) ledger_is) ∙ c.apply.ensures.generation ∙ ap (λ (m : Memory). m.ledger.generation + turns_generation change.writes) reserved in
     let leased : c.apply.new.self.leased ≡ i.metadata.leased = ap (λ (m : Memory). m.leased) c.apply.ensures.applied ∙ ap (λ (m : Memory). m.leased) reserved in
@@ -136,18 +136,16 @@ returns-in-Ok-write_record g c =
     let change = c.args.change in
     let to : IsToWrite bytes N.script (run_at N.script (N.start no_rows) h) l s number change = subst (λ (st : Standing). IsToWrite bytes N.script (run_at N.script (N.start no_rows) st.shown.history) st.ledger s number change) (sym c.engine.view_is) c.requires.change in
     let new = g.D.Disk.story c.write_record.new.disk in
-    let body = c.in-Ok.ready.0 in
+    let body = c.in-Ok.framed in
     let at = c.position-at.result in
     let place = c.position-at.ensures in
     let reserved = c.in-Ok.ensures.reserved in
     let does = c.write_record.ensures in
     let ran : not i.log.printer.broken ≡ true = ap (λ (st : Standing). st.shown.running) c.engine.view_is ∙ c.requires.runs in
     let end_is : c.end-end.result ≡ l.end = c.end-end.ensures ∙ ap (λ (m : Memory). m.ledger.end) reserved in
-    let removed_is : c.deref.result.now ≡ removed_by l (length h) [] = c.deref.ensures.value ∙ c.in-Ok.ensures.removes ∙ ap (λ p. removed_by l p []) place in
     let laws = g.met.D.Disk g.world.𝓛 g.world.𝓜 g.world.𝓡 ((λ s x. x), (λ x. x), (λ x. x), λ x. x) in
-    let worked : IsWorked story new l.end body (files_of bytes change.made.items) (removed_by l (length h) []) =
-    subst (λ e. IsWorked story new e body (files_of bytes change.made.items) (removed_by l (length h) [])) end_is
-    (subst (λ d. IsWorked story new c.end-end.result body (files_of bytes change.made.items) d) removed_is
+    let worked : IsWorked story new l.end body (files_of bytes change.made.items) [] =
+    subst (λ e. IsWorked story new e body (files_of bytes change.made.items) []) end_is
     (record {
       images = does.images;
       only = does.only;
@@ -160,20 +158,20 @@ returns-in-Ok-write_record g c =
           earlier = λ a t x le had. laws.earlier c.write_record.new.disk a t x le had;
         };
       };
-    })) in
+    }) in
     let typed = (record_found body change.writes c.in-Ok.ensures.bytes c.in-Ok.ensures.reads).0.typed in
     let read = does.read_cause in
     let end = c.in-Ok-write_record.end in
     let later = c.tell.new.self in
     let short : IsShort (entry s number kind.Decide outcome.Stands c.clock.result) = subst IsShort c.turn-turn.ensures.same c.turn-turn.ensures.short in
     let done = c.in-Ok-write_record.ensures in
-    let whole : IsWhole story new l.end body (files_of bytes change.made.items) (removed_by l (length h) []) end =
-    subst (λ e. IsWhole story new e body (files_of bytes change.made.items) (removed_by l (length h) []) end) end_is
-    (subst (λ d. IsWhole story new c.end-end.result body (files_of bytes change.made.items) d end) removed_is (record { holds = done.done; gone = done.gone; ends = done.end; long = done.longer })) in
+    let whole : IsWhole story new l.end body (files_of bytes change.made.items) [] end =
+    subst (λ e. IsWhole story new e body (files_of bytes change.made.items) [] end) end_is
+    (record { holds = done.done; gone = done.gone; ends = done.end; long = done.longer }) in
     let counts : Counts story new false = record { faults = does.cause.later; reads = omega (arith, read); rose = λ low is. absurd cc } in
-    let ledger_is : c.apply.new.self.ledger ≡ recorded_ledger l (length h) (applied l.catalogue change.writes) (generation_of (applied l.catalogue change.writes)) [] l.leases change.adopted end =
+    let ledger_is : c.apply.new.self.ledger ≡ recorded_ledger l (applied l.catalogue change.writes) (generation_of (applied l.catalogue change.writes)) l.trash l.leases change.adopted end =
     ap (λ (m : Memory). m.ledger) c.apply.ensures.applied
-    ∙ (λ j. recorded_ledger (reserved j).ledger (place j) (applied (reserved j).ledger.catalogue change.writes) (generation_of (applied (reserved j).ledger.catalogue change.writes)) [] (reserved j).ledger.leases change.adopted end) in
+    ∙ (λ j. recorded_ledger (reserved j).ledger (applied (reserved j).ledger.catalogue change.writes) (generation_of (applied (reserved j).ledger.catalogue change.writes)) (reserved j).ledger.trash (reserved j).ledger.leases change.adopted end) in
     let rises : generation_of (applied l.catalogue change.writes) ≡ l.generation + turns_generation change.writes =
     sym (ap (λ (k : Ledger). k.generation) ledger_is) ∙ c.apply.ensures.generation ∙ ap (λ (m : Memory). m.ledger.generation + turns_generation change.writes) reserved in
     let leased : c.apply.new.self.leased ≡ i.metadata.leased = ap (λ (m : Memory). m.leased) c.apply.ensures.applied ∙ ap (λ (m : Memory). m.leased) reserved in
@@ -189,6 +187,8 @@ returns-in-Ok-write_record g c =
           (vault_at_seen n c.apply.new.self.ledger new (g.K.Sink.held later.printer.sink) later.history.items (not later.printer.broken) later.refused new.moment kept.vault) to.asked to.can.does to.due);
       draft = subst (λ (x : Standing). AnswersDraft N.script (N.start no_rows) x.shown seen s ⊥) c.engine.view_is
           (answers_none N.script (N.start no_rows) (record { history = h; running = not i.log.printer.broken; clock = story.moment }) seen s (entry s number kind.Decide outcome.Stands c.clock.result) grew refl);
+      keeps = subst (λ (x : Standing). Steps KeepsFiles x.told new.told) c.engine.view_is
+          (moves_keep (files_of bytes change.made.items) story.told new.told worked.only (λ image told. absent_now g.K.Sink.held g.K.Sink.faults n N.room N.sink_faults i.metadata story i.log c.engine.invariant bytes change N.script (run_at N.script (N.start no_rows) h) s number to image told));
     }
 
 pub invariant_of-engine-in-Err-write_record : goal.invariant_of-engine-in-Err-write_record
@@ -205,18 +205,16 @@ invariant_of-engine-in-Err-write_record g c =
     let change = c.args.change in
     let to : IsToWrite bytes N.script (run_at N.script (N.start no_rows) h) l s number change = subst (λ (st : Standing). IsToWrite bytes N.script (run_at N.script (N.start no_rows) st.shown.history) st.ledger s number change) (sym c.engine.view_is) c.requires.change in
     let new = g.D.Disk.story c.write_record.new.disk in
-    let body = c.in-Ok.ready.0 in
+    let body = c.in-Ok.framed in
     let at = c.position-at.result in
     let place = c.position-at.ensures in
     let reserved = c.in-Ok.ensures.reserved in
     let does = c.write_record.ensures in
     let ran : not i.log.printer.broken ≡ true = ap (λ (st : Standing). st.shown.running) c.engine.view_is ∙ c.requires.runs in
     let end_is : c.end-end.result ≡ l.end = c.end-end.ensures ∙ ap (λ (m : Memory). m.ledger.end) reserved in
-    let removed_is : c.deref.result.now ≡ removed_by l (length h) [] = c.deref.ensures.value ∙ c.in-Ok.ensures.removes ∙ ap (λ p. removed_by l p []) place in
     let laws = g.met.D.Disk g.world.𝓛 g.world.𝓜 g.world.𝓡 ((λ s x. x), (λ x. x), (λ x. x), λ x. x) in
-    let worked : IsWorked story new l.end body (files_of bytes change.made.items) (removed_by l (length h) []) =
-    subst (λ e. IsWorked story new e body (files_of bytes change.made.items) (removed_by l (length h) [])) end_is
-    (subst (λ d. IsWorked story new c.end-end.result body (files_of bytes change.made.items) d) removed_is
+    let worked : IsWorked story new l.end body (files_of bytes change.made.items) [] =
+    subst (λ e. IsWorked story new e body (files_of bytes change.made.items) []) end_is
     (record {
       images = does.images;
       only = does.only;
@@ -229,7 +227,7 @@ invariant_of-engine-in-Err-write_record g c =
           earlier = λ a t x le had. laws.earlier c.write_record.new.disk a t x le had;
         };
       };
-    })) in
+    }) in
     let typed = (record_found body change.writes c.in-Ok.ensures.bytes c.in-Ok.ensures.reads).0.typed in
     let read = does.read_cause in
     let later = c.fail-in-Err-write_record-2.new.self in
@@ -257,18 +255,16 @@ returns g c =
     let change = c.args.change in
     let to : IsToWrite bytes N.script (run_at N.script (N.start no_rows) h) l s number change = subst (λ (st : Standing). IsToWrite bytes N.script (run_at N.script (N.start no_rows) st.shown.history) st.ledger s number change) (sym c.engine.view_is) c.requires.change in
     let new = g.D.Disk.story c.write_record.new.disk in
-    let body = c.in-Ok.ready.0 in
+    let body = c.in-Ok.framed in
     let at = c.position-at.result in
     let place = c.position-at.ensures in
     let reserved = c.in-Ok.ensures.reserved in
     let does = c.write_record.ensures in
     let ran : not i.log.printer.broken ≡ true = ap (λ (st : Standing). st.shown.running) c.engine.view_is ∙ c.requires.runs in
     let end_is : c.end-end.result ≡ l.end = c.end-end.ensures ∙ ap (λ (m : Memory). m.ledger.end) reserved in
-    let removed_is : c.deref.result.now ≡ removed_by l (length h) [] = c.deref.ensures.value ∙ c.in-Ok.ensures.removes ∙ ap (λ p. removed_by l p []) place in
     let laws = g.met.D.Disk g.world.𝓛 g.world.𝓜 g.world.𝓡 ((λ s x. x), (λ x. x), (λ x. x), λ x. x) in
-    let worked : IsWorked story new l.end body (files_of bytes change.made.items) (removed_by l (length h) []) =
-    subst (λ e. IsWorked story new e body (files_of bytes change.made.items) (removed_by l (length h) [])) end_is
-    (subst (λ d. IsWorked story new c.end-end.result body (files_of bytes change.made.items) d) removed_is
+    let worked : IsWorked story new l.end body (files_of bytes change.made.items) [] =
+    subst (λ e. IsWorked story new e body (files_of bytes change.made.items) []) end_is
     (record {
       images = does.images;
       only = does.only;
@@ -281,7 +277,7 @@ returns g c =
           earlier = λ a t x le had. laws.earlier c.write_record.new.disk a t x le had;
         };
       };
-    })) in
+    }) in
     let typed = (record_found body change.writes c.in-Ok.ensures.bytes c.in-Ok.ensures.reads).0.typed in
     let read = does.read_cause in
     let later = c.fail-in-Err-write_record-2.new.self in
@@ -305,4 +301,11 @@ returns g c =
           subst (λ (x : Standing). AnswersDraft N.script (N.start no_rows) x.shown seen s ⊥) c.engine.view_is
           (answers_none N.script (N.start no_rows) (record { history = h; running = not i.log.printer.broken; clock = story.moment }) seen s e told.items
           (ap not (closing (run_at N.script (N.start no_rows) h).moment story.moment e (c.engine.invariant.vault no_rows false (λ z. absurd cc)).walk.at rose refl)));
+      keeps = subst (λ (x : Standing). Steps KeepsFiles x.told new.told) c.engine.view_is
+          (moves_keep (files_of bytes change.made.items) story.told new.told worked.only (λ image is. absent_now g.K.Sink.held g.K.Sink.faults n N.room N.sink_faults i.metadata story i.log c.engine.invariant bytes change N.script (run_at N.script (N.start no_rows) h) s number to image is));
     }
+
+pub returns-in-Err-clause-keeps : goal.returns-in-Err-clause-keeps
+returns-in-Err-clause-keeps g c =
+    let now = c.fail.new.self.told in
+    subst (λ (x : Standing). Steps KeepsFiles x.told now) c.engine.view_is (same_keep (g.D.Disk.story c.engine.inside.disk).told now c.fail.ensures.told)

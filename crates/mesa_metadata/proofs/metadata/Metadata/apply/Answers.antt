@@ -1,4 +1,4 @@
-use Rattle.std.proofs.Common.{◌≡◌, ◌<◌, ◌^◌, ℕ, true, arith, length, subst, sym, Option, None, Some, IsTrue}
+use Rattle.std.proofs.Common.{◌≡◌, ◌<◌, ◌^◌, ℕ, true, arith, subst, sym, Option, None, Some, IsTrue}
 use Rattle.std.specs.Prelude.{IfSome, option_map}
 use Rattle.mesa_record.specs.declared.record.Record.{Record}
 use Rattle.mesa_catalog.specs.mesa_image.Catalog.{Catalog}
@@ -16,11 +16,11 @@ fits_there c (Some q) room n r has fitting = subst (λ q. fits c q ≡ true) has
 pub invariant_of-self : goal.invariant_of-self
 invariant_of-self c =
     let m = c.self.inside in
-    let room = subst (λ (k : Memory). HasRoomFor c.args.r (length c.args.gone.now) k.reserved) (sym c.self.view_is) c.requires.room in
-    let fitting = fits_there m.catalog.catalogue m.catalog.reserved m.room (length c.args.gone.now) c.args.r room c.self.invariant.fitting in
+    let room = subst (λ (k : Memory). HasRoomFor c.args.r 0 k.reserved) (sym c.self.view_is) c.requires.room in
+    let fitting = fits_there m.catalog.catalogue m.catalog.reserved m.room 0 c.args.r room c.self.invariant.fitting in
     record {
       run = subst (λ (k : Catalog). k.run < 2 ^ 24) (sym c.apply.ensures.applied) (run_stays m.catalog.catalogue c.args.r fitting c.self.invariant.run);
       few = c.requires.few;
       fitting = subst (λ (o : Option Record). IfSome o (λ q. IsTrue (fits c.apply.new.self.catalogue q))) (sym c.apply.ensures.spent) tt;
-      spare = (let ok = c.keep_held.new.trash.ok in omega arith);
+      spare = (let ok = m.trash.ok in omega arith);
     }
