@@ -5,12 +5,14 @@ use Rattle.std.specs.List.{AllByRecursion}
 use Rattle.mesa_asking.specs.Closing.{IsPageOf, IsToClose, cause_if, closing_entry, closing_text}
 use Rattle.mesa_cursor.specs.Cursors.{reader_in}
 use Rattle.mesa_delta.specs.declared.error.FileError.{FileError}
+use Rattle.mesa_delta.specs.declared.error.FileError.TheVariants as file_error
 use Rattle.mesa_delta.specs.declared.input.Input.{Input}
 use Rattle.mesa_disk.specs.Story.{Story, Unmoved}
 use Rattle.mesa_engine.proofs.Turning.{turned_engine}
 use Rattle.mesa_engine.proofs.Undone.{not_skipped}
 use Rattle.mesa_engine.specs.Engine.{IsEngine}
 use Rattle.mesa_fault.specs.Causes.{last, Rose}
+use Rattle.mesa_history.specs.Counting.{answers_disk}
 use Rattle.mesa_history.specs.Replay.{is_skip}
 use Rattle.mesa_history.specs.Run.{State, Finished}
 use Rattle.mesa_ledger.proofs.Staying.{answered_vault}
@@ -51,6 +53,13 @@ given_counts faults inputs old new answers given failed = record {
   reads = given.later;
   rose = λ low is. inr (some_counted faults old.read_faults new.read_faults inputs given.counted (failed is));
 }
+
+-- the outcome of a close answers a fault of the disk exactly where the answer says so
+pub closing_answers : {T : Type 0} (closing : Bool) (answered : Result T FileError) → answers_disk closing (closing_outcome (cause_if answered)) ≡ closing_fault (cause_if answered)
+closing_answers closing (Ok page) = refl
+closing_answers closing (Err file_error.Read) = refl
+closing_answers closing (Err (file_error.Damaged damage)) = refl
+closing_answers closing (Err file_error.Memory) = refl
 
 -- the vault behind the close
 pub closed_query : (o : Outset) (g : Origin) (sound : Bool) (l : Ledger) (story : Story) (held : Option (List ℕ)) (h : List Entry) (running refused : Bool) → IsVault o g sound l story held h running refused

@@ -13,7 +13,7 @@ ghost use Rattle.mesa_skeleton.specs.Rows.{Rows, no_rows};
 ghost use Rattle.mesa_tasks.specs.GivingBack.{SomeFailed, pinned_inputs};
 ghost use Rattle.mesa_ledger.specs.mesa_walk.Printing.{IsPut};
 ghost use Rattle.mesa_ledger.specs.mesa_walk.Queries.{closing_fault, closing_outcome};
-ghost use Rattle.mesa_ledger.specs.mesa_walk.Turns.{Takes};
+ghost use Rattle.mesa_ledger.specs.mesa_walk.Turns.{AnswersDisk, SomeRose, Takes};
 ghost use Rattle.mesa_ledger.specs.mesa_walk.Undamaged.{is_damaged};
 ghost use Rattle.mesa_ledger.specs.mesa_walk.Walk.{run_at};
 
@@ -87,6 +87,7 @@ pub fn close_query<N: Naming, M: Made, D: Disk<M>, K: Sink>(
     requires undamaged { (w : Rows) → N.sound w → is_damaged (closing_outcome (cause_if answered)) ≡ false }
     requires room { length engine.old.shown.history < N.room }
     ensures turn { Takes N.script (N.start no_rows) engine.old.shown engine.new.shown who.session who.command kind.Close Finished }
+    ensures disk { AnswersDisk N.script (N.start no_rows) engine.old.shown engine.new.shown (SomeRose engine.old.faults engine.new.faults) }
     // It ends as its answer says: with want of memory, a fault or damage only where that has it.
     ensures outcome { engine.old.shown.running ≡ true → engine.new.shown.history ≡ engine.old.shown.history ++ closing_entry who.session who.command answered engine.new.shown.clock ∷ [] }
     // What the query held is given back, unless the sink had failed.

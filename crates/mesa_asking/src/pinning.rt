@@ -10,7 +10,7 @@ ghost use Rattle.mesa_schema.specs.Columns.{Columns};
 ghost use Rattle.mesa_skeleton.specs.Rows.{no_rows};
 ghost use Rattle.mesa_tasks.specs.Pins.{IsPinned};
 ghost use Rattle.mesa_ledger.specs.mesa_walk.Queries.{IsOpen};
-ghost use Rattle.mesa_ledger.specs.mesa_walk.Turns.{IsSeen, IsTurn, Takes};
+ghost use Rattle.mesa_ledger.specs.mesa_walk.Turns.{AnswersDisk, IsSeen, IsTurn, SomeRose, Takes};
 ghost use Rattle.mesa_ledger.specs.mesa_walk.Walk.{run_at};
 
 use crate::holding::hold_files;
@@ -43,6 +43,7 @@ pub fn pin_query<N: Naming, M: Made, D: Disk<M>, K: Sink>(
     // Or it is over.
     ensures over { OnErr result (Takes N.script (N.start no_rows) engine.old.shown engine.new.shown who.session who.command kind.Decide Finished) }
     ensures kept { OnErr result (engine.new.ledger ≡ engine.old.ledger) }
+    ensures disk { AnswersDisk N.script (N.start no_rows) engine.old.shown engine.new.shown (SomeRose engine.old.faults engine.new.faults) }
 {
     if !engine.running() {
         engine.skip(who, Kind::Decide);

@@ -151,6 +151,11 @@ only_draft None (compact.File file_error.Read) closing is = absurd cc
 only_draft None (compact.File (file_error.Damaged damage)) closing is = absurd cc
 only_draft None (compact.File file_error.Memory) closing is = absurd cc
 
+-- It answers a read that failed only where the merge met one.
+pub closing_read : (closed : Option ℕ) (error : CompactError) → is_read_fault (closing_cause closed error) ≡ true → is_read_fault (cause_of error) ≡ true
+closing_read (Some position) error is = absurd cc
+closing_read None error is = is
+
 -- ---- its reply
 
 -- It is a refusal.

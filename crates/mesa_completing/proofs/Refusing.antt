@@ -2,7 +2,7 @@
 use Rattle.std.proofs.Common.{◌≡◌, ◌∙◌, ℕ, ◌+◌, ◌<◌, ◌≤◌, ◌^◌, List, [], ◌∷◌, ◌++◌, length, Bool, true, false, ◌||◌, not, refl, sym, ap, subst, arith, Option, Some}
 use Rattle.std.specs.Prelude.{vec_capacity}
 use Rattle.mesa_disk.specs.Story.{Story}
-use Rattle.mesa_history.specs.Counting.{answers_bench}
+use Rattle.mesa_history.specs.Counting.{answers_bench, answers_disk}
 use Rattle.mesa_history.specs.Machine.{Claim}
 use Rattle.mesa_history.specs.Refused.{is_refusal}
 use Rattle.mesa_history.specs.Run.{Renewed, Finished}
@@ -85,3 +85,8 @@ closed_takes n w old new s number name claim due cause grew ran seen =
 pub no_draft : (closing : Bool) (u : Unswapped) → answers_bench closing (outcome_of (cause_met u)) ≡ false
 no_draft closing (why.Refused refusal) = refl
 no_draft closing why.Memory = refl
+
+-- nor a fault of the disk
+pub no_fault : (closing : Bool) (u : Unswapped) → answers_disk closing (outcome_of (cause_met u)) ≡ false
+no_fault closing (why.Refused refusal) = refl
+no_fault closing why.Memory = refl

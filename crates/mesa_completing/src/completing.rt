@@ -14,7 +14,7 @@ ghost use Rattle.mesa_schema.specs.Changes.{Lineage};
 ghost use Rattle.mesa_skeleton.specs.Rows.{Rows, no_rows};
 ghost use Rattle.mesa_swapping.specs.Finished.{HasRange, IsFinished};
 ghost use Rattle.mesa_ledger.specs.mesa_walk.Causes.{reply_of};
-ghost use Rattle.mesa_ledger.specs.mesa_walk.Turns.{AnswersDraft, Takes};
+ghost use Rattle.mesa_ledger.specs.mesa_walk.Turns.{AnswersDisk, AnswersDraft, SomeRose, Takes};
 ghost use Rattle.mesa_ledger.specs.mesa_walk.Walk.{run_at};
 ghost use Rattle.mesa_tasks.specs.Tasks.{claim_in};
 ghost use Rattle.mesa_ledger.specs.Written.{written_at};
@@ -83,6 +83,7 @@ fn refuse<N: Naming, M: Made, D: Disk<M>, K: Sink>(
     requires room { length engine.old.shown.history < N.room }
     requires runs { engine.old.shown.running ≡ true }
     ensures turn { Takes N.script (N.start no_rows) engine.old.shown engine.new.shown who.session who.command kind.Close Finished }
+    ensures disk { AnswersDisk N.script (N.start no_rows) engine.old.shown engine.new.shown ⊥ }
     ensures draft { AnswersDraft N.script (N.start no_rows) engine.old.shown engine.new.shown who.session ⊥ }
     ensures ledger { engine.new.ledger ≡ unswapped_ledger why task.now.table task.now.lease engine.old.ledger }
     ensures reply { result ≡ reply_of (cause_met why) }
@@ -109,6 +110,7 @@ fn swap_in<N: Naming, M: Made, D: Disk<M>, K: Sink>(
     requires room { length engine.old.shown.history < N.room }
     requires runs { engine.old.shown.running ≡ true }
     ensures turn { Takes N.script (N.start no_rows) engine.old.shown engine.new.shown who.session who.command kind.Close Finished }
+    ensures disk { AnswersDisk N.script (N.start no_rows) engine.old.shown engine.new.shown (SomeRose engine.old.faults engine.new.faults) }
     ensures draft { AnswersDraft N.script (N.start no_rows) engine.old.shown engine.new.shown who.session ⊥ }
     ensures swept { (from to : ℕ) → result ≡ reply.Swapped from to → IsSwept engine.new.told engine.new.ledger engine.new.shown.history }
 {
@@ -165,6 +167,7 @@ fn close<N: Naming, M: Made, D: Disk<M>, K: Sink>(
     requires room { length engine.old.shown.history < N.room }
     requires runs { engine.old.shown.running ≡ true }
     ensures turn { Takes N.script (N.start no_rows) engine.old.shown engine.new.shown who.session who.command kind.Close Finished }
+    ensures disk { AnswersDisk N.script (N.start no_rows) engine.old.shown engine.new.shown (SomeRose engine.old.faults engine.new.faults) }
     ensures draft { AnswersDraft N.script (N.start no_rows) engine.old.shown engine.new.shown who.session ⊥ }
     ensures swept { (from to : ℕ) → result ≡ reply.Swapped from to → IsSwept engine.new.told engine.new.ledger engine.new.shown.history }
 {
@@ -194,6 +197,7 @@ pub fn complete<N: Naming, M: Made, D: Disk<M>, K: Sink>(
     requires told { (w : Rows) → N.sound w → (file : M) → (bytes : List ℕ) × (M.bytes file ≡ Some bytes) }
     requires room { length engine.old.shown.history < N.room }
     ensures turn { Takes N.script (N.start no_rows) engine.old.shown engine.new.shown who.session who.command kind.Close Finished }
+    ensures disk { AnswersDisk N.script (N.start no_rows) engine.old.shown engine.new.shown (SomeRose engine.old.faults engine.new.faults) }
     ensures draft { AnswersDraft N.script (N.start no_rows) engine.old.shown engine.new.shown who.session ⊥ }
 
     // Where the range is swapped in, each file that is there is one that the catalogue, a held pin or an open query names.

@@ -12,7 +12,7 @@ ghost use Rattle.mesa_skeleton.specs.Rows.{Rows, no_rows};
 ghost use Rattle.mesa_tasks.specs.GivingBack.{SomeFailed, task_inputs};
 ghost use Rattle.mesa_tasks.specs.declared.merging.CompactError.TheVariants as compact;
 ghost use Rattle.mesa_ledger.specs.mesa_walk.Causes.{is_read_fault, outcome_of};
-ghost use Rattle.mesa_ledger.specs.mesa_walk.Turns.{AnswersDraft, Takes};
+ghost use Rattle.mesa_ledger.specs.mesa_walk.Turns.{AnswersDisk, AnswersDraft, SomeRose, Takes};
 ghost use Rattle.mesa_ledger.specs.mesa_walk.Undamaged.{is_damaged};
 ghost use Rattle.mesa_ledger.specs.mesa_walk.Walk.{run_at};
 ghost use Rattle.mesa_tasks.specs.Tasks.{claim_in};
@@ -109,6 +109,7 @@ pub fn give_up<N: Naming, M: Made, D: Disk<M>, K: Sink>(
     requires undamaged { (w : Rows) → N.sound w → is_damaged (outcome_of (cause_of error)) ≡ false }
     requires room { length engine.old.shown.history < N.room }
     ensures turn { Takes N.script (N.start no_rows) engine.old.shown engine.new.shown who.session who.command kind.Close Finished }
+    ensures disk { AnswersDisk N.script (N.start no_rows) engine.old.shown engine.new.shown (SomeRose engine.old.faults engine.new.faults) }
     ensures draft { AnswersDraft N.script (N.start no_rows) engine.old.shown engine.new.shown who.session (error ≡ compact.Draft) }
     ensures ledger { engine.old.shown.running ≡ true → engine.new.ledger ≡ closing_ledger engine.old.ledger.closed error (engine.old.shown.clock == last) (length engine.old.shown.history) task.table task.lease engine.old.ledger }
     ensures reply { is_refusal result ≡ true }

@@ -5,7 +5,7 @@ ghost use Rattle.mesa_disk.specs.Story.{Steps};
 ghost use Rattle.mesa_history.specs.Run.{Finished, First};
 ghost use Rattle.mesa_model.specs.declared.entries.Kind.TheVariants as kind;
 ghost use Rattle.mesa_skeleton.specs.Rows.{no_rows};
-ghost use Rattle.mesa_walk.specs.Turns.{Asks, Takes, is_simple};
+ghost use Rattle.mesa_walk.specs.Turns.{AnswersDisk, Asks, SomeRose, Takes, is_simple};
 ghost use Rattle.mesa_walk.specs.Walk.{run_at};
 
 use crate::Vault;
@@ -25,6 +25,7 @@ impl<'s, N: Naming, M: Made, D: Disk<M>, K: Sink> Vault<'s, N, M, D, K> {
         requires due { Asks N.script (run_at N.script (N.start no_rows) self.old.shown.history) who.session who.command First is_simple }
         requires room { length self.old.shown.history < N.room }
         ensures turn { Takes N.script (N.start no_rows) self.old.shown self.new.shown who.session who.command kind.Decide Finished }
+        ensures disk { AnswersDisk N.script (N.start no_rows) self.old.shown self.new.shown (SomeRose self.old.faults self.new.faults) }
         ensures keeps { Steps KeepsFiles self.old.told self.new.told }
     {
         let alloc = allocator(&self.engine);

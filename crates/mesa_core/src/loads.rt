@@ -10,7 +10,7 @@ ghost use Rattle.mesa_granted.specs.mesa_service.Sight.{sight_after};
 ghost use Rattle.mesa_skeleton.specs.Rows.{no_rows};
 ghost use Rattle.mesa_tasks.specs.Batches.{HasPrepared};
 ghost use Rattle.mesa_tasks.specs.declared.prepared.LoadError.TheVariants as load;
-ghost use Rattle.mesa_walk.specs.Turns.{AnswersDraft, Asks, Takes, is_load};
+ghost use Rattle.mesa_walk.specs.Turns.{AnswersDisk, AnswersDraft, Asks, SomeRose, Takes, is_load};
 ghost use Rattle.mesa_walk.specs.Walk.{run_at};
 
 use crate::Vault;
@@ -33,6 +33,7 @@ impl<'s, N: Naming, M: Made, D: Disk<M>, K: Sink> Vault<'s, N, M, D, K> {
         requires due { Asks N.script (run_at N.script (N.start no_rows) self.old.shown.history) who.session who.command First is_load }
         requires room { length self.old.shown.history < N.room }
         ensures turn { Takes N.script (N.start no_rows) self.old.shown self.new.shown who.session who.command kind.Look Looked }
+        ensures disk { AnswersDisk N.script (N.start no_rows) self.old.shown self.new.shown (SomeRose self.old.faults self.new.faults) }
         ensures ran { OnOk result (self.old.shown.running ≡ true) }
         ensures glance { IfOk result (λ g. g ≡ sight_after N.script (N.start no_rows) (N.origin no_rows).generation self.new.shown.history) }
     {
@@ -48,6 +49,7 @@ impl<'s, N: Naming, M: Made, D: Disk<M>, K: Sink> Vault<'s, N, M, D, K> {
             → HasPrepared M.bytes M.id_of (sight_after N.script (N.start no_rows) (N.origin no_rows).generation self.old.shown.history) rows made }
         requires room { length self.old.shown.history < N.room }
         ensures turn { Takes N.script (N.start no_rows) self.old.shown self.new.shown who.session who.command kind.Decide Finished }
+        ensures disk { AnswersDisk N.script (N.start no_rows) self.old.shown self.new.shown (SomeRose self.old.faults self.new.faults) }
         ensures keeps { Steps KeepsFiles self.old.told self.new.told }
         ensures draft { AnswersDraft N.script (N.start no_rows) self.old.shown self.new.shown who.session (made ≡ Err load.Draft) }
     {

@@ -9,7 +9,7 @@ ghost use Rattle.mesa_model.specs.declared.commands.Command.TheVariants as comma
 ghost use Rattle.mesa_model.specs.declared.entries.Kind.TheVariants as kind;
 ghost use Rattle.mesa_granted.specs.mesa_service.Pins.{HasAnswered, IsOpenQuery, TakesQuery, known_pin};
 ghost use Rattle.mesa_skeleton.specs.Rows.{no_rows};
-ghost use Rattle.mesa_walk.specs.Turns.{Asks, Takes};
+ghost use Rattle.mesa_walk.specs.Turns.{AnswersDisk, Asks, SomeRose, Takes};
 ghost use Rattle.mesa_walk.specs.Walk.{run_at};
 
 use crate::Vault;
@@ -30,6 +30,7 @@ impl<'s, N: Naming, M: Made, D: Disk<M>, K: Sink> Vault<'s, N, M, D, K> {
         requires due { Asks N.script (run_at N.script (N.start no_rows) self.old.shown.history) who.session who.command First is_query }
         requires room { length self.old.shown.history < N.room }
         ensures turn { TakesQuery D.Reader.bytes N.script N.start (λ past. Tells N.sound) self.old.shown self.new.shown who.session who.command result }
+        ensures disk { AnswersDisk N.script (N.start no_rows) self.old.shown self.new.shown (SomeRose self.old.faults self.new.faults) }
         // They are those of the plan at the version asked, by the tables that the query saw before the turn.
         ensures files { (words : QueryWords) → command_at N.script who.session who.command ≡ Some (command.Query words) → IfOk result (HasItsFiles D.Reader.bytes D.Reader.faults self.old.told self.old.ledger who.session words) }
     {
@@ -48,6 +49,7 @@ impl<'s, N: Naming, M: Made, D: Disk<M>, K: Sink> Vault<'s, N, M, D, K> {
         requires answer { HasAnswered D.Reader.bytes D.Reader.faults pinned answer }
         requires room { length self.old.shown.history < N.room }
         ensures turn { Takes N.script (N.start no_rows) self.old.shown self.new.shown who.session who.command kind.Close Finished }
+        ensures disk { AnswersDisk N.script (N.start no_rows) self.old.shown self.new.shown (SomeRose self.old.faults self.new.faults) }
     {
         close_query(&mut self.engine, who, pinned, answer);
     }

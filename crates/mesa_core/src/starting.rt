@@ -13,6 +13,7 @@ ghost use Rattle.mesa_engine.specs.mesa_metadata.Memory.{opened_ledger};
 ghost use Rattle.mesa_passes.specs.Passes.{turns_of as turns_in};
 ghost use Rattle.mesa_skeleton.specs.Rows.{Rows};
 ghost use Rattle.mesa_walk.specs.Printing.{IsPrinted};
+ghost use Rattle.mesa_walk.specs.Turns.{faults_of};
 ghost use Rattle.mesa_walk.specs.Undamaged.{NoneDamaged};
 ghost use Rattle.mesa_walk.specs.Walk.{AllFound, HasCounted, faults_in, run_at};
 
@@ -47,6 +48,7 @@ impl<'s, N: Naming, M: Made, D: Disk<M>, K: Sink> Vault<'s, N, M, D, K> {
           run = begun.catalog.catalogue.run;
           ledger = opened_ledger begun.catalog.catalogue begun.end script.now.lease;
           told = (D.story begun.disk).told;
+          faults = faults_of (D.story begun.disk);
         }) }
         ensures given_back { IfErr result (λ e. (e.1 ≡ begun) × (e.2 ≡ out)) }
     {

@@ -10,7 +10,7 @@ ghost use Rattle.mesa_granted.specs.mesa_service.Works.{CanBeMerged, HasMerged, 
 ghost use Rattle.mesa_skeleton.specs.Rows.{no_rows};
 ghost use Rattle.mesa_tasks.specs.Tasks.{claim_in};
 ghost use Rattle.mesa_tasks.specs.declared.merging.CompactError.TheVariants as compact;
-ghost use Rattle.mesa_walk.specs.Turns.{AnswersDraft, Asks, Takes};
+ghost use Rattle.mesa_walk.specs.Turns.{AnswersDisk, AnswersDraft, Asks, SomeRose, Takes};
 ghost use Rattle.mesa_walk.specs.Walk.{run_at};
 ghost use Rattle.mesa_walk.specs.Works.{closing_stage, stage_if};
 
@@ -32,6 +32,7 @@ impl<'s, N: Naming, M: Made, D: Disk<M>, K: Sink> Vault<'s, N, M, D, K> {
         requires due { Asks N.script (run_at N.script (N.start no_rows) self.old.shown.history) who.session who.command First is_work }
         requires room { length self.old.shown.history < N.room }
         ensures turn { Takes N.script (N.start no_rows) self.old.shown self.new.shown who.session who.command kind.Grant (stage_if claim_in Granted result) }
+        ensures disk { AnswersDisk N.script (N.start no_rows) self.old.shown self.new.shown (SomeRose self.old.faults self.new.faults) }
         ensures ran { OnOk result (self.old.shown.running ≡ true) }
         ensures task { IfOk result (CanBeMerged D.Reader.bytes) }
         ensures granted { IfOk result (λ t. IsGranted D.Reader.bytes N.script N.start N.origin N.sound self.new.shown.history (known_task D.Reader.bytes t)) }
@@ -48,6 +49,7 @@ impl<'s, N: Naming, M: Made, D: Disk<M>, K: Sink> Vault<'s, N, M, D, K> {
         requires granted { WasGranted (IsGranted D.Reader.bytes N.script N.start N.origin N.sound) self.old.shown.history (known_task D.Reader.bytes task) }
         requires room { length self.old.shown.history < N.room }
         ensures turn { Takes N.script (N.start no_rows) self.old.shown self.new.shown who.session who.command kind.Renew (stage_if claim_in Renewed result) }
+        ensures disk { AnswersDisk N.script (N.start no_rows) self.old.shown self.new.shown (SomeRose self.old.faults self.new.faults) }
         ensures ran { OnOk result (self.old.shown.running ≡ true) }
         ensures same { IfOk result (λ t. t ≡ task) }
     {
@@ -67,6 +69,7 @@ impl<'s, N: Naming, M: Made, D: Disk<M>, K: Sink> Vault<'s, N, M, D, K> {
         requires merged { HasMerged M.bytes M.id_of D.Reader.bytes D.Reader.faults task merged }
         requires room { length self.old.shown.history < N.room }
         ensures turn { Takes N.script (N.start no_rows) self.old.shown self.new.shown who.session who.command kind.Close Finished }
+        ensures disk { AnswersDisk N.script (N.start no_rows) self.old.shown self.new.shown (SomeRose self.old.faults self.new.faults) }
         ensures draft { AnswersDraft N.script (N.start no_rows) self.old.shown self.new.shown who.session (merged ≡ Err compact.Draft) }
 
         // Where the range is swapped in, each file that is there is one that the catalogue, a held pin or an open query names.

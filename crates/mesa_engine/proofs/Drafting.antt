@@ -1,10 +1,10 @@
--- Which turns answer a draft that failed.
+-- Which turns answer a draft that failed, and which causes a fault of the disk.
 use Rattle.std.proofs.Common.{◌≡◌, ℕ, ◌<◌, List, [], ◌∷◌, ◌++◌, Bool, true, false, ◌&&◌, ◌==◌, refl, sym, ◌∙◌, subst, IsTrue}
 use Rattle.std.proofs.lemmas.List.{append_cancel_left}
 use Rattle.mesa_fault.specs.Causes.{last}
 use Rattle.mesa_model.specs.declared.commands.Script.{Script}
 use Rattle.mesa_model.specs.declared.entries.Entry.{Entry}
-use Rattle.mesa_catalog.specs.mesa_history.Counting.{answers_bench, is_bench_fault}
+use Rattle.mesa_catalog.specs.mesa_history.Counting.{answers_bench, answers_disk, is_bench_fault}
 use Rattle.mesa_catalog.specs.mesa_history.Replay.{closes}
 use Rattle.mesa_catalog.specs.mesa_history.Run.{State}
 use Rattle.mesa_ledger.specs.mesa_walk.Causes.{Cause, Replies, Unread, Damaged, Unwritten, NoMemory, outcome_of}
@@ -39,3 +39,11 @@ quiet_cause closing Unread is = refl
 quiet_cause closing (Damaged d) is = refl
 quiet_cause closing Unwritten is = absurd cc
 quiet_cause closing NoMemory is = refl
+
+-- nor is it a fault of the disk
+pub quiet_disk : (closing : Bool) (cause : Cause) → is_of_device cause ≡ false → answers_disk closing (outcome_of cause) ≡ false
+quiet_disk closing (Replies r) is = refl
+quiet_disk closing Unread is = absurd cc
+quiet_disk closing (Damaged d) is = refl
+quiet_disk closing Unwritten is = absurd cc
+quiet_disk closing NoMemory is = refl

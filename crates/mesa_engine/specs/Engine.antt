@@ -7,7 +7,7 @@ use Rattle.mesa_disk.specs.Story.{Story}
 use Rattle.mesa_model.specs.declared.commands.Script.{Script}
 use Rattle.mesa_catalog.specs.mesa_history.Run.{State}
 use Rattle.mesa_ledger.specs.mesa_skeleton.Rows.{Rows}
-use Rattle.mesa_ledger.specs.mesa_walk.Turns.{Shown}
+use Rattle.mesa_ledger.specs.mesa_walk.Turns.{Faults, Shown}
 use Rattle.mesa_ledger.specs.mesa_walk.Undamaged.{NoneDamaged}
 use Rattle.mesa_log.specs.declared.log.Log.{Log}
 use Rattle.mesa_ledger.specs.Ledger.{Ledger}
@@ -18,11 +18,12 @@ use Rattle.mesa_metadata.specs.Memory.{Memory}
 abbrev pub starts_of : Script → (Rows → State) → (Rows → Type 0) → (Rows → Origin) → ℕ → ℕ → Option (List ℕ) → Starts
 starts_of script start sound origin since counted at_start = record { script = script; start = start; sound = sound; since = since; counted = counted; at_start = at_start; origin = origin }
 
--- What is seen of an engine: what a caller sees of a vault, the ledger, and what a read of the disk gives, where that is told.
+-- What is seen of an engine: what a caller sees of a vault, the ledger, what a read of the disk gives, where that is told, and both counts of the disk's faults.
 pub record Standing : Type 0 where
   pub shown : Shown
   pub ledger : Ledger
   pub told : Option Image
+  pub faults : Faults
 
 -- how many turns a run has at most
 abbrev pub most_turns : ℕ

@@ -32,6 +32,7 @@ impl<N: Naming, M: Made, D: Disk<M>, K: Sink> Model for Engine<N, M, D, K> {
     ghost use Rattle.std.specs.FinMap.{code as coded_map};
     ghost use Rattle.std.specs.Ordering.{nat_cmp};
     ghost use Rattle.mesa_engine.specs.Engine.{IsEngine, Standing, starts_of};
+    ghost use Rattle.mesa_ledger.specs.mesa_walk.Turns.{faults_of};
 
     ghost Value = { Standing };
 
@@ -41,6 +42,7 @@ impl<N: Naming, M: Made, D: Disk<M>, K: Sink> Model for Engine<N, M, D, K> {
       shown = record { history = e.log.history.items; running = not e.log.printer.broken; clock = (D.story e.disk).moment };
       ledger = e.metadata.ledger;
       told = (D.story e.disk).told;
+      faults = faults_of (D.story e.disk);
     } };
 
     ghost invariant = { λ e. IsEngine K.held K.faults (starts_of N.script N.start N.sound N.origin N.since N.counted N.at_start) N.room N.sink_faults e.metadata (D.story e.disk) e.log };

@@ -6,7 +6,7 @@ ghost use Rattle.mesa_ledger.specs.Ledger.{books_of};
 ghost use Rattle.mesa_log.specs.Failure.{cause_in};
 ghost use Rattle.mesa_ledger.specs.mesa_skeleton.Rows.{Rows, no_rows};
 ghost use Rattle.mesa_ledger.specs.mesa_walk.Causes.{reply_of};
-ghost use Rattle.mesa_ledger.specs.mesa_walk.Turns.{AnswersDraft, Takes};
+ghost use Rattle.mesa_ledger.specs.mesa_walk.Turns.{AnswersDisk, AnswersDraft, Takes};
 ghost use Rattle.mesa_ledger.specs.mesa_walk.Walk.{run_at};
 
 use crate::Engine;
@@ -24,6 +24,7 @@ impl<N: Naming, M: Made, D: Disk<M>, K: Sink> Engine<N, M, D, K> {
         requires failed { self.old.shown.running ≡ false }
         ensures turn { (stage : Stage) → Takes N.script (N.start no_rows) self.old.shown self.new.shown who.session who.command kind stage }
         ensures draft { AnswersDraft N.script (N.start no_rows) self.old.shown self.new.shown who.session ⊥ }
+        ensures disk { AnswersDisk N.script (N.start no_rows) self.old.shown self.new.shown ⊥ }
         ensures ledger { self.new.ledger ≡ self.old.ledger }
         ensures told { self.new.told ≡ self.old.told }
     {
@@ -38,6 +39,7 @@ impl<N: Naming, M: Made, D: Disk<M>, K: Sink> Engine<N, M, D, K> {
         requires runs { self.old.shown.running ≡ true }
         ensures turn { Takes N.script (N.start no_rows) self.old.shown self.new.shown who.session who.command kind Finished }
         ensures draft { AnswersDraft N.script (N.start no_rows) self.old.shown self.new.shown who.session ⊥ }
+        ensures disk { AnswersDisk N.script (N.start no_rows) self.old.shown self.new.shown ⊥ }
         ensures ledger { self.new.ledger ≡ self.old.ledger }
         ensures told { self.new.told ≡ self.old.told }
         ensures reply { result ≡ reply_of (cause_in failure) }

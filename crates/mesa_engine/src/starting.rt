@@ -11,6 +11,7 @@ ghost use Rattle.mesa_ledger.specs.Vault.{outset_of};
 ghost use Rattle.mesa_metadata.specs.Memory.{opened_ledger};
 ghost use Rattle.mesa_ledger.specs.mesa_skeleton.Rows.{Rows, no_rows};
 ghost use Rattle.mesa_ledger.specs.mesa_walk.Printing.{IsPrinted};
+ghost use Rattle.mesa_ledger.specs.mesa_walk.Turns.{faults_of};
 ghost use Rattle.mesa_ledger.specs.mesa_walk.Undamaged.{NoneDamaged};
 ghost use Rattle.mesa_ledger.specs.mesa_walk.Walk.{AllFound, HasCounted, faults_in, run_at};
 
@@ -48,6 +49,7 @@ impl<N: Naming, M: Made, D: Disk<M>, K: Sink> Engine<N, M, D, K> {
         ensures shown { result.shown ≡ record { history = []; running = true; clock = (D.story disk).moment } }
         ensures ledger { result.ledger ≡ opened_ledger catalog.catalogue end lease }
         ensures told { result.told ≡ (D.story disk).told }
+        ensures counts { result.faults ≡ faults_of (D.story disk) }
     {
         Engine {
             metadata: Metadata::new(alloc, catalog, end, lease),

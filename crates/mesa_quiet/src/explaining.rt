@@ -14,7 +14,7 @@ ghost use Rattle.mesa_quiet.specs.Asked.{cause_asked};
 ghost use Rattle.mesa_script.specs.Rows.{body_of};
 ghost use Rattle.mesa_skeleton.specs.Rows.{no_rows};
 ghost use Rattle.mesa_ledger.specs.mesa_walk.Changes.{HasNoPlan};
-ghost use Rattle.mesa_ledger.specs.mesa_walk.Turns.{Takes};
+ghost use Rattle.mesa_ledger.specs.mesa_walk.Turns.{AnswersDisk, Takes};
 ghost use Rattle.mesa_ledger.specs.mesa_walk.Walk.{run_at};
 
 use crate::spans::lines_of;
@@ -74,6 +74,7 @@ pub fn explain<N: Naming, M: Made, D: Disk<M>, K: Sink>(
     requires due { IsDue N.script (run_at N.script (N.start no_rows) engine.old.shown.history) who.session who.command (command.Explain words.now) First }
     requires room { length engine.old.shown.history < N.room }
     ensures turn { Takes N.script (N.start no_rows) engine.old.shown engine.new.shown who.session who.command kind.Decide Finished }
+    ensures disk { AnswersDisk N.script (N.start no_rows) engine.old.shown engine.new.shown ⊥ }
     ensures told { engine.new.told ≡ engine.old.told }
     ensures ledger { engine.new.ledger ≡ engine.old.ledger }
 {

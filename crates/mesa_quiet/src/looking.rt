@@ -7,7 +7,7 @@ ghost use Rattle.mesa_model.specs.declared.entries.Kind.TheVariants as kind;
 ghost use Rattle.mesa_skeleton.specs.Rows.{no_rows};
 ghost use Rattle.mesa_ledger.specs.mesa_walk.Sight.{tables_seen};
 ghost use Rattle.mesa_ledger.specs.mesa_walk.Turns as spec;
-ghost use Rattle.mesa_ledger.specs.mesa_walk.Turns.{Asks, Takes, is_load};
+ghost use Rattle.mesa_ledger.specs.mesa_walk.Turns.{AnswersDisk, Asks, Takes, is_load};
 ghost use Rattle.mesa_ledger.specs.mesa_walk.Walk.{run_at};
 
 use mesa_batch::Glance;
@@ -41,6 +41,7 @@ pub fn look<N: Naming, M: Made, D: Disk<M>, K: Sink>(
     requires due { Asks N.script (run_at N.script (N.start no_rows) engine.old.shown.history) who.session who.command First is_load }
     requires room { length engine.old.shown.history < N.room }
     ensures turn { Takes N.script (N.start no_rows) engine.old.shown engine.new.shown who.session who.command kind.Look Looked }
+    ensures disk { AnswersDisk N.script (N.start no_rows) engine.old.shown engine.new.shown ⊥ }
     ensures glance { IfOk result (λ g. g ≡ sight_of engine.new.ledger.catalogue) }
     ensures tables { IfOk result (λ g. tables_of g ≡ tables_seen (run_at N.script (N.start no_rows) engine.new.shown.history)) }
     ensures ran { OnOk result (engine.old.shown.running ≡ true) }

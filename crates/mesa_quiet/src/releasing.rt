@@ -8,7 +8,7 @@ ghost use Rattle.mesa_model.specs.declared.commands.Command.TheVariants as comma
 ghost use Rattle.mesa_model.specs.declared.entries.Kind.TheVariants as kind;
 ghost use Rattle.mesa_skeleton.specs.Rows.{no_rows};
 ghost use Rattle.mesa_ledger.specs.mesa_walk.Changes.{ReleasesPin};
-ghost use Rattle.mesa_ledger.specs.mesa_walk.Turns.{Takes};
+ghost use Rattle.mesa_ledger.specs.mesa_walk.Turns.{AnswersDisk, Takes};
 ghost use Rattle.mesa_ledger.specs.mesa_walk.Walk.{run_at};
 
 use mesa_disk::{Disk, Made};
@@ -43,6 +43,7 @@ pub fn release<N: Naming, M: Made, D: Disk<M>, K: Sink>(
     requires due { IsDue N.script (run_at N.script (N.start no_rows) engine.old.shown.history) who.session who.command (command.Release token) First }
     requires room { length engine.old.shown.history < N.room }
     ensures turn { Takes N.script (N.start no_rows) engine.old.shown engine.new.shown who.session who.command kind.Decide Finished }
+    ensures disk { AnswersDisk N.script (N.start no_rows) engine.old.shown engine.new.shown ⊥ }
     ensures told { engine.new.told ≡ engine.old.told }
     ensures catalogue { engine.new.ledger.catalogue ≡ engine.old.ledger.catalogue }
 {

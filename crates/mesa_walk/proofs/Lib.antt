@@ -14,3 +14,4 @@ pub mod Beginning
 pub mod Going
 pub mod Alike
 pub mod Making
+pub mod Faulting

@@ -1,7 +1,8 @@
 -- One turn of a vault, as its caller sees it.
-use Rattle.std.specs.Prelude.{◌≡◌, ℕ, ◌<◌, List, [], ◌∷◌, ◌++◌, Bool, true, false, ◌||◌, not, IsTrue}
+use Rattle.std.specs.Prelude.{◌≡◌, ◌⊎◌, ℕ, ◌<◌, ◌≤◌, List, [], ◌∷◌, ◌++◌, Bool, true, false, ◌||◌, not, IsTrue}
 use Rattle.std.specs.List.{AllByRecursion}
-use Rattle.mesa_fault.specs.Causes.{last}
+use Rattle.mesa_fault.specs.Causes.{last, Rose}
+use Rattle.mesa_disk.specs.Story.{Story}
 use Rattle.mesa_skeleton.specs.mesa_model.declared.commands.Command.{Command}
 use Rattle.mesa_skeleton.specs.mesa_model.declared.commands.Command.TheVariants as command
 use Rattle.mesa_skeleton.specs.mesa_model.declared.commands.Script.{Script}
@@ -11,7 +12,7 @@ use Rattle.mesa_skeleton.specs.mesa_model.declared.entries.Outcome.{Outcome}
 use Rattle.mesa_skeleton.specs.mesa_model.declared.entries.Outcome.TheVariants as outcome
 use Rattle.mesa_skeleton.specs.mesa_model.Entry.{IsShort}
 use Rattle.mesa_skeleton.specs.mesa_history.Run.{State, Stage, Run, place_of, begins}
-use Rattle.mesa_skeleton.specs.mesa_history.Counting.{is_bench_fault}
+use Rattle.mesa_skeleton.specs.mesa_history.Counting.{is_bench_fault, is_disk_fault}
 use Rattle.mesa_skeleton.specs.mesa_history.Replay.{is_skip}
 use Rattle.mesa_skeleton.specs.mesa_history.Legal.{AllFit, fits_sink, is_query, is_work}
 use Rattle.mesa_skeleton.specs.mesa_history.Turns.{IsDue, place_then}
@@ -49,6 +50,27 @@ pub record Takes (script : Script) (start : State) (old new : Shown) (session nu
 -- While the clock is below its last value, the entry that a turn added answers a fault of a file that its session was building only where this is so.
 abbrev pub AnswersDraft : Script → State → Shown → Shown → ℕ → Type 0 → Type 0
 AnswersDraft script start old new session Failed = new.clock < last → (e : Entry) → new.history ≡ old.history ++ e ∷ [] → IsTrue (is_bench_fault session (run_at script start old.history) e) → Failed
+
+-- both counts of a disk's faults: of its calls, and of its readers
+pub record Faults : Type 0 where
+  pub calls : ℕ
+  pub reads : ℕ
+
+abbrev pub faults_of : Story → Faults
+faults_of story = record { calls = story.faults; reads = story.read_faults }
+
+-- Neither count fell.
+pub record NoneFell (old new : Faults) : Type 0 where
+  pub calls : old.calls ≤ new.calls
+  pub reads : old.reads ≤ new.reads
+
+-- One of both counts rose, or stands at its last value.
+abbrev pub SomeRose : Faults → Faults → Type 0
+SomeRose old new = Rose old.calls new.calls ⊎ Rose old.reads new.reads
+
+-- While the clock is below its last value, the entry that a turn added answers a fault of the disk only where this is so.
+abbrev pub AnswersDisk : Script → State → Shown → Shown → Type 0 → Type 0
+AnswersDisk script start old new Failed = new.clock < last → (e : Entry) → new.history ≡ old.history ++ e ∷ [] → IsTrue (is_disk_fault (run_at script start old.history) e) → Failed
 
 -- ---- what a call asks of its command
 

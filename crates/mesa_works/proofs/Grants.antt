@@ -26,7 +26,7 @@ use Rattle.mesa_skeleton.specs.Rows.{Rows, no_rows}
 use Rattle.mesa_tasks.specs.Opening.{Counted}
 use Rattle.mesa_tasks.specs.declared.opening.Unopened.{Unopened}
 use Rattle.mesa_tasks.specs.declared.opening.Unopened.TheVariants as un
-use Rattle.mesa_ledger.specs.mesa_walk.Causes.{Cause, Replies, Unread, Damaged, Unwritten, NoMemory, is_read_fault, outcome_of, reply_of, told_at}
+use Rattle.mesa_ledger.specs.mesa_walk.Causes.{Cause, Damaged, NoMemory, Replies, Unread, Unwritten, is_read_fault, outcome_of, reply_of, told_at}
 use Rattle.mesa_ledger.specs.mesa_walk.Printing.{IsPut}
 use Rattle.mesa_ledger.specs.mesa_walk.Turns.{Shown, IsSeen, Takes, entry}
 use Rattle.mesa_ledger.specs.mesa_walk.Books.{Books}
@@ -71,6 +71,11 @@ fault_counts old new fault c = record { faults = c.faults; reads = c.read_faults
 pub unopened_counts : (T : Type 0) (old new : Story) (e : Unopened) → Counted old new (is_fault_among {T = T} (Err e)) → Counts old new (is_read_fault (cause_met e))
 unopened_counts T old new un.Fault c = fault_counts old new true c
 unopened_counts T old new un.Memory c = fault_counts old new false c
+
+-- no file is written at a grant
+pub never_unwritten : (u : Unopened) → cause_met u ≡ Unwritten → ⊥
+never_unwritten un.Fault is = cc
+never_unwritten un.Memory is = cc
 
 -- why a work isn't granted then
 pub has_no_claim : (l : Ledger) (at : ℕ) (name : List ℕ) (claim : Claim) (e : Unopened) → l.closed ≡ None → claim_of (books_of no_rows l).bare (books_of no_rows l).machine at name ≡ Ok claim → HasNoClaim (books_of no_rows l) at name (cause_met e)

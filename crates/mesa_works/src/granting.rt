@@ -18,7 +18,7 @@ ghost use Rattle.mesa_span.specs.Ranges.{base_before};
 ghost use Rattle.mesa_span.specs.Work.{next_work};
 ghost use Rattle.mesa_swapping.specs.Finished.{HasRange};
 ghost use Rattle.mesa_tasks.specs.Tasks.{IsTask, claim_in};
-ghost use Rattle.mesa_ledger.specs.mesa_walk.Turns.{Takes};
+ghost use Rattle.mesa_ledger.specs.mesa_walk.Turns.{AnswersDisk, SomeRose, Takes};
 ghost use Rattle.mesa_ledger.specs.mesa_walk.Walk.{run_at};
 ghost use Rattle.mesa_ledger.specs.mesa_walk.Works.{stage_if};
 ghost use Rattle.mesa_works.specs.Claims.{cause_met, claim_as};
@@ -46,6 +46,7 @@ pub fn grant<N: Naming, M: Made, D: Disk<M>, K: Sink>(
     requires due { IsDue N.script (run_at N.script (N.start no_rows) engine.old.shown.history) who.session who.command (command.Work name.now) First }
     requires room { length engine.old.shown.history < N.room }
     ensures turn { Takes N.script (N.start no_rows) engine.old.shown engine.new.shown who.session who.command kind.Grant (stage_if claim_in Granted result) }
+    ensures disk { AnswersDisk N.script (N.start no_rows) engine.old.shown engine.new.shown (SomeRose engine.old.faults engine.new.faults) }
     ensures ran { OnOk result (engine.old.shown.running ≡ true) }
     ensures catalogue { engine.new.ledger.catalogue ≡ engine.old.ledger.catalogue }
     ensures low { IfOk result (λ t. t.table < TABLES) }
@@ -88,6 +89,7 @@ fn take<N: Naming, M: Made, D: Disk<M>, K: Sink>(
     requires runs { engine.old.shown.running ≡ true }
     requires room { length engine.old.shown.history < N.room }
     ensures turn { Takes N.script (N.start no_rows) engine.old.shown engine.new.shown who.session who.command kind.Grant (stage_if claim_in Granted result) }
+    ensures disk { AnswersDisk N.script (N.start no_rows) engine.old.shown engine.new.shown (SomeRose engine.old.faults engine.new.faults) }
     ensures catalogue { engine.new.ledger.catalogue ≡ engine.old.ledger.catalogue }
     ensures table { IfOk result (λ t. t.table ≡ claimed.table) }
     ensures there { IfOk result (λ t. t.table < length (run_at N.script (N.start no_rows) engine.new.shown.history).state.warehouse.store.tables) }

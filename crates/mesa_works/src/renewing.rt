@@ -9,7 +9,7 @@ ghost use Rattle.mesa_metadata.specs.Memory.{with_leases};
 ghost use Rattle.mesa_model.specs.declared.commands.Command.TheVariants as command;
 ghost use Rattle.mesa_model.specs.declared.entries.Kind.TheVariants as kind;
 ghost use Rattle.mesa_skeleton.specs.Rows.{no_rows};
-ghost use Rattle.mesa_ledger.specs.mesa_walk.Turns.{Takes};
+ghost use Rattle.mesa_ledger.specs.mesa_walk.Turns.{AnswersDisk, SomeRose, Takes};
 ghost use Rattle.mesa_ledger.specs.mesa_walk.Walk.{run_at};
 ghost use Rattle.mesa_ledger.specs.mesa_walk.Works.{stage_if};
 ghost use Rattle.mesa_tasks.specs.Tasks.{claim_in};
@@ -60,6 +60,7 @@ pub fn renew<N: Naming, M: Made, D: Disk<M>, K: Sink>(
     requires table { task.table < TABLES }
     requires room { length engine.old.shown.history < N.room }
     ensures turn { Takes N.script (N.start no_rows) engine.old.shown engine.new.shown who.session who.command kind.Renew (stage_if claim_in Renewed result) }
+    ensures disk { AnswersDisk N.script (N.start no_rows) engine.old.shown engine.new.shown (SomeRose engine.old.faults engine.new.faults) }
     ensures same { IfOk result (λ t. t ≡ task) }
     ensures ran { OnOk result (engine.old.shown.running ≡ true) }
     ensures catalogue { engine.new.ledger.catalogue ≡ engine.old.ledger.catalogue }

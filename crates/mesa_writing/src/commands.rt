@@ -6,7 +6,7 @@ ghost use Rattle.mesa_history.specs.Turns.{IsDue};
 ghost use Rattle.mesa_model.specs.declared.commands.Command.TheVariants as command;
 ghost use Rattle.mesa_model.specs.declared.entries.Kind.TheVariants as kind;
 ghost use Rattle.mesa_skeleton.specs.Rows.{no_rows};
-ghost use Rattle.mesa_ledger.specs.mesa_walk.Turns.{Takes};
+ghost use Rattle.mesa_ledger.specs.mesa_walk.Turns.{AnswersDisk, SomeRose, Takes};
 ghost use Rattle.mesa_ledger.specs.mesa_walk.Walk.{run_at};
 ghost use Rattle.mesa_writing.specs.Writing.{KeepsFiles};
 
@@ -31,6 +31,7 @@ pub fn table<N: Naming, M: Made, D: Disk<M>, K: Sink>(
     requires due { IsDue N.script (run_at N.script (N.start no_rows) engine.old.shown.history) who.session who.command (command.Table words.now) First }
     requires room { length engine.old.shown.history < N.room }
     ensures turn { Takes N.script (N.start no_rows) engine.old.shown engine.new.shown who.session who.command kind.Decide Finished }
+    ensures disk { AnswersDisk N.script (N.start no_rows) engine.old.shown engine.new.shown (SomeRose engine.old.faults engine.new.faults) }
     ensures keeps { Steps KeepsFiles engine.old.told engine.new.told }
 {
     decide(
@@ -51,6 +52,7 @@ pub fn view<N: Naming, M: Made, D: Disk<M>, K: Sink>(
     requires due { IsDue N.script (run_at N.script (N.start no_rows) engine.old.shown.history) who.session who.command (command.View words.now) First }
     requires room { length engine.old.shown.history < N.room }
     ensures turn { Takes N.script (N.start no_rows) engine.old.shown engine.new.shown who.session who.command kind.Decide Finished }
+    ensures disk { AnswersDisk N.script (N.start no_rows) engine.old.shown engine.new.shown (SomeRose engine.old.faults engine.new.faults) }
     ensures keeps { Steps KeepsFiles engine.old.told engine.new.told }
 {
     decide(
@@ -71,6 +73,7 @@ pub fn alter<N: Naming, M: Made, D: Disk<M>, K: Sink>(
     requires due { IsDue N.script (run_at N.script (N.start no_rows) engine.old.shown.history) who.session who.command (command.Alter words.now) First }
     requires room { length engine.old.shown.history < N.room }
     ensures turn { Takes N.script (N.start no_rows) engine.old.shown engine.new.shown who.session who.command kind.Decide Finished }
+    ensures disk { AnswersDisk N.script (N.start no_rows) engine.old.shown engine.new.shown (SomeRose engine.old.faults engine.new.faults) }
     ensures keeps { Steps KeepsFiles engine.old.told engine.new.told }
 {
     decide(
@@ -92,6 +95,7 @@ pub fn expire<N: Naming, M: Made, D: Disk<M>, K: Sink>(
     requires due { IsDue N.script (run_at N.script (N.start no_rows) engine.old.shown.history) who.session who.command (command.Expire table.now version) First }
     requires room { length engine.old.shown.history < N.room }
     ensures turn { Takes N.script (N.start no_rows) engine.old.shown engine.new.shown who.session who.command kind.Decide Finished }
+    ensures disk { AnswersDisk N.script (N.start no_rows) engine.old.shown engine.new.shown (SomeRose engine.old.faults engine.new.faults) }
     ensures keeps { Steps KeepsFiles engine.old.told engine.new.told }
 {
     decide(

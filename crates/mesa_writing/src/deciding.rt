@@ -5,7 +5,7 @@ ghost use Rattle.mesa_disk.specs.Story.{Steps};
 ghost use Rattle.mesa_history.specs.Run.{Finished};
 ghost use Rattle.mesa_model.specs.declared.entries.Kind.TheVariants as kind;
 ghost use Rattle.mesa_skeleton.specs.Rows.{no_rows};
-ghost use Rattle.mesa_ledger.specs.mesa_walk.Turns.{Takes};
+ghost use Rattle.mesa_ledger.specs.mesa_walk.Turns.{AnswersDisk, SomeRose, Takes};
 ghost use Rattle.mesa_ledger.specs.mesa_walk.Walk.{run_at};
 ghost use Rattle.mesa_writing.specs.Ruling.{IsRuledBy};
 ghost use Rattle.mesa_writing.specs.Writing.{KeepsFiles};
@@ -33,6 +33,7 @@ pub(crate) fn decide<
     requires ruled { IsRuledBy N.script (run_at N.script (N.start no_rows) engine.old.shown.history) who.session who.command (FnOnceReturnsAt F.FnOnce rule) }
     requires room { length engine.old.shown.history < N.room }
     ensures turn { Takes N.script (N.start no_rows) engine.old.shown engine.new.shown who.session who.command kind.Decide Finished }
+    ensures disk { AnswersDisk N.script (N.start no_rows) engine.old.shown engine.new.shown (SomeRose engine.old.faults engine.new.faults) }
     ensures keeps { Steps KeepsFiles engine.old.told engine.new.told }
 {
     if !engine.running() {

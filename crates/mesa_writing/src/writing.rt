@@ -9,7 +9,7 @@ ghost use Rattle.mesa_publishing.specs.Published.{AllTell};
 ghost use Rattle.mesa_record.specs.Reading.{record_at};
 ghost use Rattle.mesa_record.specs.Rules.{keeps_rules};
 ghost use Rattle.mesa_skeleton.specs.Rows.{Rows, no_rows};
-ghost use Rattle.mesa_ledger.specs.mesa_walk.Turns.{AnswersDraft, Takes};
+ghost use Rattle.mesa_ledger.specs.mesa_walk.Turns.{AnswersDisk, AnswersDraft, SomeRose, Takes};
 ghost use Rattle.mesa_ledger.specs.mesa_walk.Walk.{run_at};
 ghost use Rattle.mesa_writing.specs.Writing.{IsToWrite, KeepsFiles};
 
@@ -63,6 +63,7 @@ pub fn write<N: Naming, M: Made, D: Disk<M>, K: Sink>(
     requires room { length engine.old.shown.history < N.room }
     requires runs { engine.old.shown.running ≡ true }
     ensures turn { Takes N.script (N.start no_rows) engine.old.shown engine.new.shown who.session who.command kind.Decide Finished }
+    ensures disk { AnswersDisk N.script (N.start no_rows) engine.old.shown engine.new.shown (SomeRose engine.old.faults engine.new.faults) }
     ensures keeps { Steps KeepsFiles engine.old.told engine.new.told }
     ensures draft { AnswersDraft N.script (N.start no_rows) engine.old.shown engine.new.shown who.session ⊥ }
 {

@@ -1,4 +1,5 @@
 use Rattle.std.proofs.Common.{◌≡◌, ◌∷◌, ◌++◌, [], true, false, not, refl, sym, ◌∙◌, ap, subst}
+use Rattle.mesa_history.specs.Replay.{closes}
 use Rattle.mesa_history.specs.Run.{Answered, Finished}
 use Rattle.mesa_model.specs.Query.{Answer}
 use Rattle.mesa_model.specs.declared.commands.Command.TheVariants as command
@@ -8,11 +9,12 @@ use Rattle.mesa_ledger.specs.Vault.{Starts}
 use Rattle.mesa_ledger.proofs.Beginning.{vault_at_seen}
 use Rattle.mesa_tasks.specs.GivingBack.{pinned_inputs}
 use Rattle.mesa_ledger.specs.mesa_walk.Queries.{closing_fault}
-use Rattle.mesa_ledger.specs.mesa_walk.Turns.{Shown, Takes}
-use Rattle.mesa_ledger.specs.mesa_walk.Walk.{run_at}
+use Rattle.mesa_ledger.specs.mesa_walk.Turns.{AnswersDisk, Shown, SomeRose, Takes, faults_of}
+use Rattle.mesa_ledger.specs.mesa_walk.Walk.{Counts, run_at}
+use Rattle.mesa_ledger.proofs.mesa_walk.Faulting.{disk_counted}
 use Rattle.mesa_engine.specs.Engine.{Standing, IsEngine, starts_of}
 use Rattle.mesa_asking.specs.Closing.{IsPageOf, IsToClose, cause_if, closing_entry, closing_text}
-use Rattle.mesa_asking.proofs.Closes.{closed_engine, closed_takes, given_counts, tells_answer}
+use Rattle.mesa_asking.proofs.Closes.{closed_engine, closed_takes, closing_answers, given_counts, tells_answer}
 use Rattle.mesa_asking.proofs.closing.close_query.Goals as goal
 
 pub skip-requires-clause-due : goal.skip-requires-clause-due
@@ -23,7 +25,12 @@ skip-requires-clause-due g c κs within w =
 pub returns-then-not-running-clause-turn : goal.returns-then-not-running-clause-turn
 returns-then-not-running-clause-turn g c =
     let N = g.N.Naming in
-    subst (λ (x : Standing). Takes N.script (N.start no_rows) c.args.engine.now.shown x.shown c.args.who.session c.args.who.command kind.Close Finished) (sym c.give_back.ensures) (c.skip.ensures.turn Finished)
+    subst (λ (x : Shown). Takes N.script (N.start no_rows) c.args.engine.now.shown x c.args.who.session c.args.who.command kind.Close Finished) (sym c.give_back.ensures.shown) (c.skip.ensures.turn Finished)
+
+pub returns-then-not-running-clause-disk : goal.returns-then-not-running-clause-disk
+returns-then-not-running-clause-disk g c =
+    let N = g.N.Naming in
+    subst (λ (x : Shown). AnswersDisk N.script (N.start no_rows) c.args.engine.now.shown x (SomeRose c.args.engine.now.faults c.give_back.new.engine.faults)) (sym c.give_back.ensures.shown) (λ low e grew is. absurd (c.skip.ensures.disk low e grew is))
 
 due_at : (g : _) (c : goal.After-print g) (w : Rows)
     → IsToClose g.N.Naming.script (run_at g.N.Naming.script (g.N.Naming.start w) c.engine.inside.log.history.items) c.args.who.session c.args.who.command c.args.pinned.at
@@ -91,3 +98,19 @@ returns-clause-outcome g c on =
     let now = (g.D.Disk.story c.retire_pinned.new.disk).moment in
     subst (λ (x : Standing). c.print.new.log.history.items ≡ x.shown.history ++ closing_entry s number c.args.answered now ∷ []) c.engine.view_is
     (c.print.ensures.items ∙ ap (λ x. h ++ closing_entry s number c.args.answered x ∷ []) c.clock-moment.ensures)
+
+pub returns-clause-disk : goal.returns-clause-disk
+returns-clause-disk g c =
+    let N = g.N.Naming in
+    let i = c.engine.inside in
+    let h = i.log.history.items in
+    let answered = c.args.answered in
+    let story = g.D.Disk.story i.disk in
+    let new_story = g.D.Disk.story c.retire_pinned.new.disk in
+    let later = c.print.new.log in
+    let e = closing_entry c.args.who.session c.args.who.command answered c.clock-moment.result in
+    let counts = given_counts g.D.Reader.FileReader.faults (pinned_inputs c.args.pinned) story new_story (closing_fault (cause_if answered)) c.retire_pinned.ensures.given c.requires.read in
+    let new : Shown = record { history = later.history.items; running = not later.printer.broken; clock = new_story.moment } in
+    subst (λ (x : Standing). AnswersDisk N.script (N.start no_rows) x.shown new (SomeRose x.faults (faults_of new_story))) c.engine.view_is
+    (disk_counted N.script (N.start no_rows) (record { history = h; running = not i.log.printer.broken; clock = story.moment }) new e c.print.ensures.items story new_story refl
+    (subst (Counts story new_story) (sym (closing_answers (closes (run_at N.script (N.start no_rows) h).moment e) answered)) counts))

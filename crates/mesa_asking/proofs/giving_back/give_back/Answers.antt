@@ -1,6 +1,7 @@
-use Rattle.std.proofs.Common.{arith}
+use Rattle.std.proofs.Common.{arith, subst}
 use Rattle.mesa_ledger.specs.Vault.{Starts}
-use Rattle.mesa_engine.specs.Engine.{starts_of}
+use Rattle.mesa_ledger.specs.mesa_walk.Turns.{NoneFell, faults_of}
+use Rattle.mesa_engine.specs.Engine.{Standing, starts_of}
 use Rattle.mesa_engine.proofs.Turning.{unmoved_engine}
 use Rattle.mesa_asking.proofs.giving_back.give_back.Goals as goal
 
@@ -11,3 +12,8 @@ invariant_of-engine g c =
     let i = c.engine.inside in
     unmoved_engine g.K.Sink.held g.K.Sink.faults n N.room N.sink_faults i.metadata (g.D.Disk.story i.disk) (g.D.Disk.story c.retire_pinned.new.disk) i.log c.retire_pinned.ensures.unmoved
     (record { faults = omega (arith, c.retire_pinned.ensures.given.calls); reads = c.retire_pinned.ensures.given.later; rose = λ low is. absurd cc }) c.engine.invariant
+
+pub returns-clause-faults : goal.returns-clause-faults
+returns-clause-faults g c =
+    let given = c.retire_pinned.ensures.given in
+    subst (λ (x : Standing). NoneFell x.faults (faults_of (g.D.Disk.story c.retire_pinned.new.disk))) c.engine.view_is (record { calls = omega (arith, given.calls); reads = given.later })

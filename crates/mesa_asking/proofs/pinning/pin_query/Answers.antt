@@ -7,6 +7,7 @@ use Rattle.mesa_engine.specs.Engine.{Standing, IsEngine, starts_of}
 use Rattle.mesa_history.specs.Run.{First, Finished}
 use Rattle.mesa_history.specs.Turns.{IsDue}
 use Rattle.mesa_ledger.proofs.Beginning.{vault_at_seen}
+use Rattle.mesa_ledger.specs.Ledger.{books_of}
 use Rattle.mesa_ledger.specs.Vault.{Starts, outset_of}
 use Rattle.mesa_log.specs.Failure.{cause_in}
 use Rattle.mesa_metadata.specs.Memory.{Memory}
@@ -18,9 +19,10 @@ use Rattle.mesa_model.specs.declared.entries.Outcome.TheVariants as outcome
 use Rattle.mesa_pinning.specs.Told.{Tells}
 use Rattle.mesa_skeleton.specs.Rows.{Rows, no_rows}
 use Rattle.mesa_ledger.proofs.mesa_walk.Alike.{due_alike}
-use Rattle.mesa_ledger.specs.mesa_walk.Causes.{outcome_of}
-use Rattle.mesa_ledger.specs.mesa_walk.Queries.{IsOpen}
-use Rattle.mesa_ledger.specs.mesa_walk.Turns.{Shown, Takes, entry}
+use Rattle.mesa_ledger.proofs.mesa_walk.Faulting.{disk_caused, disk_counted}
+use Rattle.mesa_ledger.specs.mesa_walk.Causes.{Unwritten, outcome_of}
+use Rattle.mesa_ledger.specs.mesa_walk.Queries.{HasNoAnswer, IsOpen}
+use Rattle.mesa_ledger.specs.mesa_walk.Turns.{AnswersDisk, Shown, SomeRose, Takes, entry, faults_of}
 use Rattle.mesa_ledger.specs.mesa_walk.Walk.{run_at}
 
 pub skip-requires-clause-due : goal.skip-requires-clause-due
@@ -46,6 +48,9 @@ hold_files-held-requires-after_bounds g c κs within = λ k is.
     let i = c.engine.inside in
     asked_shaped (outset_of n no_rows) (n.origin no_rows) false i.metadata.ledger (g.D.Disk.story i.disk) (g.K.Sink.held i.log.printer.sink) i.log.history.items (not i.log.printer.broken) i.log.refused (c.engine.invariant.vault no_rows false (λ z. absurd cc))
     c.args.who.session c.args.words.now.version k is
+
+pub returns-then-not-running-clause-disk : goal.returns-then-not-running-clause-disk
+returns-then-not-running-clause-disk g c = λ low e grew is. absurd (c.skip.ensures.disk low e grew is)
 
 -- ---- it is answered
 
@@ -123,6 +128,20 @@ pub returns-in-Ok-clause-files : goal.returns-in-Ok-clause-files
 returns-in-Ok-clause-files g c =
     subst (λ (x : Standing). HasItsFiles g.D.Reader.FileReader.bytes g.D.Reader.FileReader.faults x.told x.ledger c.args.who.session c.args.words.now c.in-Ok.pinned) c.engine.view_is c.in-Ok.ensures.files
 
+pub returns-in-Ok-clause-disk : goal.returns-in-Ok-clause-disk
+returns-in-Ok-clause-disk g c =
+    let N = g.N.Naming in
+    let i = c.engine.inside in
+    let who = c.args.who in
+    let h = i.log.history.items in
+    let story = g.D.Disk.story i.disk in
+    let new = g.D.Disk.story c.hold_files-held.new.disk in
+    let later = c.pass.new.self in
+    let shown : Shown = record { history = later.history.items; running = not later.printer.broken; clock = new.moment } in
+    subst (λ (x : Standing). AnswersDisk N.script (N.start no_rows) x.shown shown (SomeRose x.faults (faults_of new))) c.engine.view_is
+    (disk_counted N.script (N.start no_rows) (record { history = h; running = not i.log.printer.broken; clock = story.moment }) shown (entry who.session who.command kind.Decide outcome.Stands c.clock-moment.result)
+    (c.pass.ensures.items ∙ ap (λ x. h ++ x ∷ []) c.turn-turn.ensures.same) story new refl c.in-Ok.ensures.counts)
+
 -- ---- it isn't
 
 due_then : (g : _) (c : goal.After-fail g) (w : Rows) → IsDue g.N.Naming.script (run_at g.N.Naming.script (g.N.Naming.start w) c.engine.inside.log.history.items) c.args.who.session c.args.who.command (command.Query c.args.words.now) First
@@ -180,3 +199,19 @@ returns-in-Err-clause-over g c =
     (unopened_takes (outset_of n no_rows) (n.origin no_rows) false i.metadata.ledger story (g.K.Sink.held i.log.printer.sink) h (not i.log.printer.broken) i.log.refused (c.engine.invariant.vault no_rows false (λ z. absurd cc))
     s number short.session short.command c.args.words.now c.clock-moment.result (c.clock-moment.ensures ∙ c.hold_files-held.ensures.unmoved.moment) (ran_then g c) new c.hold_files-held.ensures.unmoved (due_then g c no_rows)
     cause c.in-Err.ensures.refused story.moment shown (sym c.clock-moment.ensures) (returns-in-Err-clause-seen g c) (c.fail.ensures.items ∙ ap (λ x. h ++ entry s number kind.Decide (outcome_of cause) x ∷ []) c.clock-moment.ensures))
+
+pub returns-in-Err-clause-disk : goal.returns-in-Err-clause-disk
+returns-in-Err-clause-disk g c =
+    let N = g.N.Naming in
+    let i = c.engine.inside in
+    let who = c.args.who in
+    let h = i.log.history.items in
+    let story = g.D.Disk.story i.disk in
+    let new = g.D.Disk.story c.hold_files-held.new.disk in
+    let later = c.fail.new.self in
+    let cause = cause_in c.in-Err.failure in
+    let shown : Shown = record { history = later.history.items; running = not later.printer.broken; clock = new.moment } in
+    subst (λ (x : Standing). AnswersDisk N.script (N.start no_rows) x.shown shown (SomeRose x.faults (faults_of new))) c.engine.view_is
+    (disk_caused N.script (N.start no_rows) (record { history = h; running = not i.log.printer.broken; clock = story.moment }) shown (entry who.session who.command kind.Decide (outcome_of cause) c.clock-moment.result)
+    c.fail.ensures.items story new refl cause refl c.in-Err.ensures.counts
+    (λ low (is : cause ≡ Unwritten). absurd (subst (HasNoAnswer (books_of no_rows i.metadata.ledger) who.session c.args.words.now) is c.in-Err.ensures.refused)))

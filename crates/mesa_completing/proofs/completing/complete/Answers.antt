@@ -5,9 +5,9 @@ use Rattle.mesa_model.specs.declared.entries.Kind.TheVariants as kind
 use Rattle.mesa_model.specs.declared.replies.Refusal.TheVariants as no
 use Rattle.mesa_model.specs.declared.replies.Reply.TheVariants as reply
 use Rattle.mesa_skeleton.specs.Rows.{no_rows}
-use Rattle.mesa_ledger.specs.mesa_walk.Turns.{AnswersDraft, Takes}
+use Rattle.mesa_ledger.specs.mesa_walk.Turns.{AnswersDisk, AnswersDraft, Shown, SomeRose, Takes}
 use Rattle.mesa_ledger.proofs.mesa_walk.Alike.{due_alike}
-use Rattle.mesa_engine.specs.Engine.{Standing}
+use Rattle.mesa_ledger.proofs.mesa_walk.Faulting.{disk_also, rose_still}
 use Rattle.mesa_tasks.specs.Tasks.{claim_in}
 use Rattle.mesa_completing.proofs.completing.complete.Goals as goal
 
@@ -25,7 +25,17 @@ pub returns-then-not-running : goal.returns-then-not-running
 returns-then-not-running g c =
     let N = g.N.Naming in
     record {
-      turn = subst (λ (x : Standing). Takes N.script (N.start no_rows) c.args.engine.now.shown x.shown c.args.who.session c.args.who.command kind.Close Finished) (sym c.give_back.ensures) (c.skip.ensures.turn Finished);
-      draft = subst (λ (x : Standing). AnswersDraft N.script (N.start no_rows) c.args.engine.now.shown x.shown c.args.who.session ⊥) (sym c.give_back.ensures) c.skip.ensures.draft;
+      turn = subst (λ (x : Shown). Takes N.script (N.start no_rows) c.args.engine.now.shown x c.args.who.session c.args.who.command kind.Close Finished) (sym c.give_back.ensures.shown) (c.skip.ensures.turn Finished);
+      draft = subst (λ (x : Shown). AnswersDraft N.script (N.start no_rows) c.args.engine.now.shown x c.args.who.session ⊥) (sym c.give_back.ensures.shown) c.skip.ensures.draft;
+      disk = subst (λ (x : Shown). AnswersDisk N.script (N.start no_rows) c.args.engine.now.shown x (SomeRose c.args.engine.now.faults c.give_back.new.engine.faults)) (sym c.give_back.ensures.shown) (λ low e grew is. absurd (c.skip.ensures.disk low e grew is));
       swept = λ from to is. absurd (let never : reply.Refused no.Memory ≡ reply.Swapped from to = is in cc);
     }
+
+pub returns-clause-disk : goal.returns-clause-disk
+returns-clause-disk g c =
+    let N = g.N.Naming in
+    let old = c.args.engine.now in
+    let met = c.close-reply.new.engine in
+    let now = c.give_back-2.new.engine in
+    subst (λ (x : Shown). AnswersDisk N.script (N.start no_rows) old.shown x (SomeRose old.faults now.faults)) (sym c.give_back-2.ensures.shown)
+    (disk_also N.script (N.start no_rows) old.shown met.shown (λ (rose : SomeRose old.faults met.faults). rose_still old.faults met.faults now.faults rose c.give_back-2.ensures.faults) c.close-reply.ensures.disk)

@@ -1,5 +1,5 @@
 use Rattle.std.proofs.Common.{◌≡◌, ◌∷◌, ◌++◌, [], length, true, not, refl, sym, ◌∙◌, ap, subst}
-use Rattle.mesa_history.specs.Counting.{answers_bench}
+use Rattle.mesa_history.specs.Counting.{answers_bench, answers_disk}
 use Rattle.mesa_history.specs.Replay.{closes}
 use Rattle.mesa_history.specs.Run.{Renewed, Finished}
 use Rattle.mesa_history.specs.Turns.{IsDue}
@@ -12,14 +12,15 @@ use Rattle.mesa_log.specs.Failure.{cause_in}
 use Rattle.mesa_metadata.specs.Memory.{Memory}
 use Rattle.mesa_skeleton.specs.Rows.{no_rows}
 use Rattle.mesa_ledger.specs.mesa_walk.Causes.{outcome_of}
-use Rattle.mesa_ledger.specs.mesa_walk.Turns.{AnswersDraft, Shown, Takes, entry}
+use Rattle.mesa_ledger.specs.mesa_walk.Turns.{AnswersDisk, AnswersDraft, Shown, Takes, entry}
 use Rattle.mesa_ledger.specs.mesa_walk.Walk.{run_at}
 use Rattle.mesa_ledger.proofs.mesa_walk.Alike.{due_alike}
+use Rattle.mesa_ledger.proofs.mesa_walk.Faulting.{disk_never}
 use Rattle.mesa_engine.specs.Engine.{Standing, IsEngine, starts_of}
 use Rattle.mesa_engine.proofs.Drafting.{answers_none}
 use Rattle.mesa_tasks.specs.Tasks.{claim_in}
 use Rattle.mesa_completing.specs.Merged.{HasNotSwapped, unswapped_ledger}
-use Rattle.mesa_completing.proofs.Refusing.{closed_takes, no_draft, unswapped_engine}
+use Rattle.mesa_completing.proofs.Refusing.{closed_takes, no_draft, no_fault, unswapped_engine}
 use Rattle.mesa_completing.proofs.completing.refuse.Goals as goal
 
 due_at : (g : _) (c : goal.After-fail g)
@@ -87,3 +88,18 @@ returns-clause-draft g c =
     subst (λ (x : Standing). AnswersDraft N.script (N.start no_rows) x.shown new s ⊥) c.engine.view_is
     (answers_none N.script (N.start no_rows) (record { history = h; running = not i.log.printer.broken; clock = story.moment }) new s e c.fail.ensures.items
     (ap (λ k. answers_bench closing (outcome_of k)) c.fall-failure.ensures.cause ∙ no_draft closing c.args.why))
+
+pub returns-clause-disk : goal.returns-clause-disk
+returns-clause-disk g c =
+    let N = g.N.Naming in
+    let i = c.engine.inside in
+    let who = c.args.who in
+    let story = g.D.Disk.story i.disk in
+    let h = i.log.history.items in
+    let later = c.fail.new.self in
+    let new : Shown = record { history = later.history.items; running = not later.printer.broken; clock = story.moment } in
+    let e = entry who.session who.command kind.Close (outcome_of (cause_in c.fall-failure.result)) c.clock-moment.result in
+    let closing = closes (run_at N.script (N.start no_rows) h).moment e in
+    subst (λ (x : Standing). AnswersDisk N.script (N.start no_rows) x.shown new ⊥) c.engine.view_is
+    (disk_never N.script (N.start no_rows) (record { history = h; running = not i.log.printer.broken; clock = story.moment }) new e c.fail.ensures.items
+    (ap (λ k. answers_disk closing (outcome_of k)) c.fall-failure.ensures.cause ∙ no_fault closing c.args.why))

@@ -23,10 +23,11 @@ use Rattle.mesa_skeleton.specs.Rows.{Rows, no_rows}
 use Rattle.mesa_swapping.specs.Finished.{HasRange, IsFinished}
 use Rattle.mesa_swapping.specs.Swapped.{IsSwapped}
 use Rattle.mesa_ledger.specs.mesa_walk.Causes.{Replies, Unwritten, told_at}
-use Rattle.mesa_ledger.specs.mesa_walk.Turns.{AnswersDraft, Shown, Takes, entry}
+use Rattle.mesa_ledger.specs.mesa_walk.Turns.{AnswersDisk, AnswersDraft, Shown, SomeRose, Takes, entry, faults_of}
 use Rattle.mesa_ledger.specs.mesa_walk.Walk.{Counts, run_at}
 use Rattle.mesa_ledger.proofs.mesa_walk.Alike.{due_alike}
 use Rattle.mesa_ledger.proofs.mesa_walk.Clock.{closing}
+use Rattle.mesa_ledger.proofs.mesa_walk.Faulting.{disk_counted, disk_where}
 use Rattle.mesa_ledger.proofs.mesa_walk.Working.{checked_open}
 use Rattle.mesa_ledger.specs.Ledger.{Ledger, books_of}
 use Rattle.mesa_ledger.specs.Recorded.{failed_ledger, holds_in, left_by, recorded_ledger, removed_by, waiting}
@@ -337,6 +338,12 @@ returns-in-Ok-write_record g c =
           (vault_at_seen n c.end_lease.new.self.ledger new (g.K.Sink.held later.printer.sink) later.history.items (not later.printer.broken) later.refused new.moment (kept_done g c).vault));
       draft = subst (λ (x : Standing). AnswersDraft N.script (N.start no_rows) x.shown seen session ⊥) c.engine.view_is
           (answers_none N.script (N.start no_rows) (record { history = h; running = not i.log.printer.broken; clock = (g.D.Disk.story i.disk).moment }) seen session (entry session number kind.Close outcome.Stands c.clock.result) grew refl);
+      disk =
+          let does = c.write_record.ensures in
+          let calls = does.read_cause in
+          let counts : Counts (g.D.Disk.story i.disk) new false = record { faults = does.cause.later; reads = omega (arith, calls); rose = λ low is. absurd cc } in
+          subst (λ (x : Standing). AnswersDisk N.script (N.start no_rows) x.shown seen (SomeRose x.faults (faults_of new))) c.engine.view_is
+          (disk_counted N.script (N.start no_rows) (record { history = h; running = not i.log.printer.broken; clock = (g.D.Disk.story i.disk).moment }) seen (entry session number kind.Close outcome.Stands c.clock.result) grew (g.D.Disk.story i.disk) new refl counts);
       swept = λ from to is. swept_done g c;
     }
 
@@ -490,5 +497,8 @@ returns g c =
           subst (λ (x : Standing). AnswersDraft N.script (N.start no_rows) x.shown seen session ⊥) c.engine.view_is
           (answers_none N.script (N.start no_rows) (record { history = h; running = not i.log.printer.broken; clock = story.moment }) seen session e told.items
           (ap not (closing (run_at N.script (N.start no_rows) h).moment story.moment e (c.engine.invariant.vault no_rows false (λ z. absurd cc)).walk.at rose refl)));
+      disk = subst (λ (x : Standing). AnswersDisk N.script (N.start no_rows) x.shown seen (SomeRose x.faults (faults_of new))) c.engine.view_is
+          (disk_where N.script (N.start no_rows) (record { history = h; running = not i.log.printer.broken; clock = story.moment }) seen (entry session number kind.Close outcome.WriteFault c.clock-moment.result) told.items
+          (SomeRose (faults_of story) (faults_of new)) (λ below is. inl c.in-Err-write_record.ensures.cause.failed));
       swept = λ from to is. absurd (let never : reply.Refused no.WriteFault ≡ reply.Swapped from to = sym c.fail-in-Err-write_record.ensures.reply ∙ is in cc);
     }

@@ -16,16 +16,19 @@ use Rattle.mesa_log.specs.Printing.{PrintsBlock}
 use Rattle.mesa_metadata.specs.Memory.{Memory}
 use Rattle.mesa_skeleton.specs.Rows.{no_rows}
 use Rattle.mesa_tasks.specs.GivingBack.{task_inputs}
-use Rattle.mesa_ledger.specs.mesa_walk.Causes.{outcome_of, reply_of, told_at}
-use Rattle.mesa_ledger.specs.mesa_walk.Turns.{AnswersDraft, Shown, Takes, entry}
+use Rattle.mesa_ledger.specs.mesa_walk.Causes.{is_read_fault, outcome_of, reply_of, told_at}
+use Rattle.mesa_ledger.specs.mesa_walk.Turns.{AnswersDisk, AnswersDraft, Shown, SomeRose, Takes, entry, faults_of}
 use Rattle.mesa_ledger.specs.mesa_walk.Walk.{run_at}
 use Rattle.mesa_ledger.proofs.mesa_walk.Alike.{due_alike}
+use Rattle.mesa_ledger.proofs.mesa_walk.Clock.{begun_moment, not_closing}
+use Rattle.mesa_ledger.proofs.mesa_walk.Faulting.{disk_caused}
 use Rattle.mesa_engine.specs.Engine.{Standing, IsEngine, starts_of}
 use Rattle.mesa_engine.proofs.Drafting.{answers_where}
 use Rattle.mesa_tasks.specs.Tasks.{claim_in}
 use Rattle.mesa_tasks.specs.declared.merging.CompactError.TheVariants as compact
+use Rattle.mesa_asking.proofs.Closes.{given_counts}
 use Rattle.mesa_completing.specs.Unmerged.{closing_ledger}
-use Rattle.mesa_completing.proofs.Closings.{closing_refuses, given_up_engine, given_up_takes, only_draft}
+use Rattle.mesa_completing.proofs.Closings.{closing_read, closing_refuses, given_up_engine, given_up_takes, only_draft}
 use Rattle.mesa_completing.proofs.unmerged.give_up.Goals as goal
 
 abbrev closed_of : Ledger → Option ℕ
@@ -44,12 +47,17 @@ skip-requires-clause-due g c κs within w =
 pub returns-then-not-running-clause-turn : goal.returns-then-not-running-clause-turn
 returns-then-not-running-clause-turn g c =
     let N = g.N.Naming in
-    subst (λ (x : Standing). Takes N.script (N.start no_rows) c.args.engine.now.shown x.shown c.args.who.session c.args.who.command kind.Close Finished) (sym c.give_back.ensures) (c.skip.ensures.turn Finished)
+    subst (λ (x : Shown). Takes N.script (N.start no_rows) c.args.engine.now.shown x c.args.who.session c.args.who.command kind.Close Finished) (sym c.give_back.ensures.shown) (c.skip.ensures.turn Finished)
+
+pub returns-then-not-running-clause-disk : goal.returns-then-not-running-clause-disk
+returns-then-not-running-clause-disk g c =
+    let N = g.N.Naming in
+    subst (λ (x : Shown). AnswersDisk N.script (N.start no_rows) c.args.engine.now.shown x (SomeRose c.args.engine.now.faults c.give_back.new.engine.faults)) (sym c.give_back.ensures.shown) (λ low e grew is. absurd (c.skip.ensures.disk low e grew is))
 
 pub returns-then-not-running-clause-draft : goal.returns-then-not-running-clause-draft
 returns-then-not-running-clause-draft g c =
     let N = g.N.Naming in
-    subst (λ (x : Standing). AnswersDraft N.script (N.start no_rows) c.args.engine.now.shown x.shown c.args.who.session (c.args.error ≡ compact.Draft)) (sym c.give_back.ensures) (λ low e grew is. absurd (c.skip.ensures.draft low e grew is))
+    subst (λ (x : Shown). AnswersDraft N.script (N.start no_rows) c.args.engine.now.shown x c.args.who.session (c.args.error ≡ compact.Draft)) (sym c.give_back.ensures.shown) (λ low e grew is. absurd (c.skip.ensures.draft low e grew is))
 
 due_at : (g : _) (c : goal.After-fail g)
     → IsDue g.N.Naming.script (run_at g.N.Naming.script (g.N.Naming.start no_rows) c.engine.inside.log.history.items) c.args.who.session c.args.who.command (command.Work c.args.name.now) (Granted (claim_in c.args.task))
@@ -130,3 +138,25 @@ returns-clause-draft g c =
 pub returns-clause-reply : goal.returns-clause-reply
 returns-clause-reply g c =
     ap is_refusal c.fail.ensures.reply ∙ ap (λ k. is_refusal (reply_of k)) c.fall-failure.ensures.cause ∙ closing_refuses c.engine.inside.metadata.ledger.closed c.args.error
+
+pub returns-clause-disk : goal.returns-clause-disk
+returns-clause-disk g c =
+    let N = g.N.Naming in
+    let i = c.engine.inside in
+    let s = c.args.who.session in
+    let number = c.args.who.command in
+    let story = g.D.Disk.story i.disk in
+    let new_story = g.D.Disk.story c.retire_task.new.disk in
+    let h = i.log.history.items in
+    let later = c.fail.new.self in
+    let cause = cause_in c.fall-failure.result in
+    let e = entry s number kind.Close (outcome_of cause) c.clock-moment.result in
+    let claim = claim_in c.args.task in
+    let same = c.retire_task.ensures.unmoved.moment in
+    let there = begun_moment N.script (N.start no_rows) h s number (command.Work c.args.name.now) (Granted claim) (due_at g c) (λ first. absurd cc) in
+    let counts = given_counts g.D.Reader.FileReader.faults (task_inputs c.args.task) story new_story (is_read_fault cause) c.retire_task.ensures.given
+    (λ is. c.requires.read (closing_read i.metadata.ledger.closed c.args.error (sym (ap is_read_fault c.fall-failure.ensures.cause) ∙ is))) in
+    let new : Shown = record { history = later.history.items; running = not later.printer.broken; clock = new_story.moment } in
+    subst (λ (x : Standing). AnswersDisk N.script (N.start no_rows) x.shown new (SomeRose x.faults (faults_of new_story))) c.engine.view_is
+    (disk_caused N.script (N.start no_rows) (record { history = h; running = not i.log.printer.broken; clock = story.moment }) new e c.fail.ensures.items story new_story refl cause refl counts
+    (λ below unwritten. not_closing (run_at N.script (N.start no_rows) h).moment story.moment e (c.engine.invariant.vault no_rows false (λ z. absurd cc)).walk.at there (c.clock-moment.ensures ∙ same) (omega (arith, below, same))))

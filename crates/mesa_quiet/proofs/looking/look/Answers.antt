@@ -4,6 +4,8 @@ use Rattle.mesa_batch.specs.Glance.{Sight, tables_of}
 use Rattle.mesa_rules.specs.mesa_catalog.Lookups.{sight_of}
 use Rattle.mesa_ledger.specs.mesa_walk.Sight.{tables_seen}
 use Rattle.mesa_engine.proofs.Seeing.{ok_also, tables_are_seen}
+use Rattle.mesa_history.specs.Counting.{answers_disk}
+use Rattle.mesa_history.specs.Replay.{closes}
 use Rattle.mesa_history.specs.Run.{First, Looked}
 use Rattle.mesa_history.specs.Turns.{IsDue}
 use Rattle.mesa_model.specs.Entry.{IsShort}
@@ -13,10 +15,11 @@ use Rattle.mesa_model.specs.declared.entries.Kind.TheVariants as kind
 use Rattle.mesa_ledger.specs.Vault.{Starts, outset_of}
 use Rattle.mesa_ledger.proofs.Beginning.{vault_at_seen}
 use Rattle.mesa_skeleton.specs.Rows.{no_rows}
-use Rattle.mesa_ledger.specs.mesa_walk.Turns.{Asks, Shown, Takes, entry, is_load, looking}
+use Rattle.mesa_ledger.specs.mesa_walk.Turns.{AnswersDisk, Asks, Shown, Takes, entry, is_load, looking}
 use Rattle.mesa_ledger.specs.mesa_walk.Undamaged.{is_damaged}
 use Rattle.mesa_ledger.specs.mesa_walk.Walk.{run_at}
 use Rattle.mesa_ledger.proofs.mesa_walk.Alike.{due_alike}
+use Rattle.mesa_ledger.proofs.mesa_walk.Faulting.{disk_never}
 use Rattle.mesa_ledger.proofs.mesa_walk.Going.{look_takes}
 use Rattle.mesa_engine.specs.Engine.{Standing, IsEngine, starts_of}
 use Rattle.mesa_engine.proofs.Turning.{passed_engine}
@@ -36,6 +39,11 @@ look_undamaged : (running found : Bool) → is_damaged (looking running found) �
 look_undamaged false found = refl
 look_undamaged true true = refl
 look_undamaged true false = refl
+
+look_unfaulted : (closing running found : Bool) → answers_disk closing (looking running found) ≡ false
+look_unfaulted closing false found = refl
+look_unfaulted closing true true = refl
+look_unfaulted closing true false = refl
 
 kept : (g : _) (c : goal.After-pass g)
     → IsEngine g.K.Sink.held g.K.Sink.faults (starts_of g.N.Naming.script g.N.Naming.start g.N.Naming.sound g.N.Naming.origin g.N.Naming.since g.N.Naming.counted g.N.Naming.at_start) g.N.Naming.room g.N.Naming.sink_faults c.engine.inside.metadata (g.D.Disk.story c.engine.inside.disk) c.pass.new.self
@@ -100,3 +108,18 @@ returns-clause-tables g c =
           (ok_also w.glance-glance.result (λ x. x ≡ sight_of c.args.engine.now.ledger.catalogue) sees (λ (x : Sight) is. (let same : tables_of x ≡ tables_of (sight_of l.catalogue) = ap tables_of (is ∙ sym (ap (λ (s : Standing). sight_of s.ledger.catalogue) c.engine.view_is)) in same ∙ seen)) w.glance-glance.ensures.catalogue)
       | else-running w ↦ subst (λ r. IfOk r sees) (sym w.glance-is) tt
     ]
+
+pub returns-clause-disk : goal.returns-clause-disk
+returns-clause-disk g c =
+    let N = g.N.Naming in
+    let i = c.engine.inside in
+    let who = c.args.who in
+    let story = g.D.Disk.story i.disk in
+    let h = i.log.history.items in
+    let running = not i.log.printer.broken in
+    let later = c.pass.new.self in
+    let new : Shown = record { history = later.history.items; running = not later.printer.broken; clock = story.moment } in
+    let e : Entry = entry who.session who.command kind.Look (looking running c.is_ok.result) c.clock.result in
+    subst (λ (x : Standing). AnswersDisk N.script (N.start no_rows) x.shown new ⊥) c.engine.view_is
+    (disk_never N.script (N.start no_rows) (record { history = h; running = running; clock = story.moment }) new e (c.pass.ensures.items ∙ ap (λ x. h ++ x ∷ []) (turn_is g c))
+    (look_unfaulted (closes (run_at N.script (N.start no_rows) h).moment e) running c.is_ok.result))

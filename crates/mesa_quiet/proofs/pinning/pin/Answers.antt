@@ -16,9 +16,10 @@ use Rattle.mesa_log.specs.Printing.{PrintsBlock}
 use Rattle.mesa_metadata.specs.Memory.{Memory, hold_now, with_ledger}
 use Rattle.mesa_skeleton.specs.Rows.{no_rows}
 use Rattle.mesa_ledger.specs.mesa_walk.Causes.{told_at}
-use Rattle.mesa_ledger.specs.mesa_walk.Turns.{Shown, Takes, entry}
+use Rattle.mesa_ledger.specs.mesa_walk.Turns.{AnswersDisk, Shown, Takes, entry}
 use Rattle.mesa_ledger.specs.mesa_walk.Walk.{run_at}
 use Rattle.mesa_ledger.proofs.mesa_walk.Alike.{due_alike}
+use Rattle.mesa_ledger.proofs.mesa_walk.Faulting.{disk_never}
 use Rattle.mesa_ledger.proofs.mesa_walk.Going.{simple_takes}
 use Rattle.mesa_engine.specs.Engine.{Standing, IsEngine, starts_of}
 use Rattle.mesa_engine.proofs.Turning.{told_engine}
@@ -102,3 +103,16 @@ returns-clause-turn g c =
       still = λ on. runs g c;
     })
     (vault_at_seen n c.pin.new.self.ledger story (g.K.Sink.held later.printer.sink) later.history.items (not later.printer.broken) later.refused story.moment (kept g c).vault))
+
+pub returns-clause-disk : goal.returns-clause-disk
+returns-clause-disk g c =
+    let N = g.N.Naming in
+    let i = c.engine.inside in
+    let who = c.args.who in
+    let story = g.D.Disk.story i.disk in
+    let h = i.log.history.items in
+    let later = c.tell.new.self in
+    let new : Shown = record { history = later.history.items; running = not later.printer.broken; clock = story.moment } in
+    subst (λ (x : Standing). AnswersDisk N.script (N.start no_rows) x.shown new ⊥) c.engine.view_is
+    (disk_never N.script (N.start no_rows) (record { history = h; running = not i.log.printer.broken; clock = story.moment }) new (entry who.session who.command kind.Decide outcome.Stands c.clock.result)
+    (c.tell.ensures.items ∙ ap (λ x. h ++ x ∷ []) c.turn-turn.ensures.same) refl)

@@ -20,3 +20,9 @@ returns-then-not-running-clause-turn g c = c.skip.ensures.turn Finished
 
 pub claim-requires : goal.claim-requires
 claim-requires g c = let few : length c.engine.inside.metadata.ledger.catalogue.tables ≤ 32 = (c.engine.invariant.vault no_rows false (λ is. absurd cc)).shaped.few in few
+
+pub returns-then-not-running-clause-disk : goal.returns-then-not-running-clause-disk
+returns-then-not-running-clause-disk g c = λ low e grew is. absurd (c.skip.ensures.disk low e grew is)
+
+pub returns-in-Err-clause-disk : goal.returns-in-Err-clause-disk
+returns-in-Err-clause-disk g c = λ low e grew is. absurd (c.fail.ensures.disk low e grew is)

@@ -28,18 +28,19 @@ use Rattle.mesa_skeleton.specs.Rows.{Rows, no_rows}
 use Rattle.mesa_swapping.specs.Finished.{HasRange}
 use Rattle.mesa_tasks.specs.Tasks.{IsTask}
 use Rattle.mesa_tasks.specs.declared.merging.Task.{Task}
-use Rattle.mesa_ledger.specs.mesa_walk.Causes.{is_read_fault, outcome_of}
-use Rattle.mesa_ledger.specs.mesa_walk.Turns.{Shown, Takes, entry}
+use Rattle.mesa_ledger.specs.mesa_walk.Causes.{Unwritten, is_read_fault, outcome_of}
+use Rattle.mesa_ledger.specs.mesa_walk.Turns.{AnswersDisk, Shown, SomeRose, Takes, entry, faults_of}
 use Rattle.mesa_ledger.specs.mesa_walk.Walk.{Counts, run_at}
 use Rattle.mesa_ledger.specs.mesa_walk.Works.{HasNoClaim}
 use Rattle.mesa_ledger.proofs.mesa_walk.Alike.{due_alike}
+use Rattle.mesa_ledger.proofs.mesa_walk.Faulting.{disk_caused, disk_counted}
 use Rattle.mesa_engine.specs.Engine.{Standing, IsEngine, starts_of}
 use Rattle.mesa_works.specs.Claims.{claim_as}
 use Rattle.mesa_ledger.specs.Written.{written_at}
 use Rattle.mesa_works.proofs.Bounded.{is_bounded}
 use Rattle.mesa_works.proofs.Claims.{work_ends}
 use Rattle.mesa_works.proofs.Ranges.{has_no_damage, has_range}
-use Rattle.mesa_works.proofs.Grants.{answers, fault_counts, granted_engine, granted_takes, has_no_claim, next_there, shaped_at, tables_there, ungranted_engine, ungranted_takes, unopened_counts}
+use Rattle.mesa_works.proofs.Grants.{answers, fault_counts, granted_engine, granted_takes, has_no_claim, never_unwritten, next_there, shaped_at, tables_there, ungranted_engine, ungranted_takes, unopened_counts}
 use Rattle.mesa_works.proofs.granting.take.Goals as goal
 
 pub gather-gathered-requires-after_bounds : goal.gather-gathered-requires-after_bounds
@@ -221,6 +222,20 @@ returns-in-Ok-clause-views g c =
     ∙ ap (λ (u : Stock). unread_views 0 (length u.lineage.views)) (stock_is g c)
     ∙ ap (λ (x : Standing). unread_views 0 (length (stock_at x.ledger.catalogue c.in-Ok.task.table).lineage.views)) c.engine.view_is
 
+pub returns-in-Ok-clause-disk : goal.returns-in-Ok-clause-disk
+returns-in-Ok-clause-disk g c =
+    let N = g.N.Naming in
+    let i = c.engine.inside in
+    let who = c.args.who in
+    let h = i.log.history.items in
+    let story = g.D.Disk.story i.disk in
+    let new = g.D.Disk.story c.gather-gathered.new.disk in
+    let later = c.pass.new.self in
+    let shown : Shown = record { history = later.history.items; running = not later.printer.broken; clock = new.moment } in
+    subst (λ (x : Standing). AnswersDisk N.script (N.start no_rows) x.shown shown (SomeRose x.faults (faults_of new))) c.engine.view_is
+    (disk_counted N.script (N.start no_rows) (record { history = h; running = not i.log.printer.broken; clock = story.moment }) shown (entry who.session who.command kind.Grant outcome.Stands c.clock-moment.result)
+    (c.pass.ensures.items ∙ ap (λ x. h ++ x ∷ []) c.turn-turn.ensures.same) story new refl (fault_counts story new false c.in-Ok.ensures.counted))
+
 -- ---- it isn't
 
 pub invariant_of-engine-in-Err : goal.invariant_of-engine-in-Err
@@ -282,3 +297,19 @@ returns-in-Err-clause-turn g c =
     (ungranted_takes (outset_of n no_rows) (n.origin no_rows) false l story (g.K.Sink.held i.log.printer.sink) h (not i.log.printer.broken) i.log.refused (c.engine.invariant.vault no_rows false (λ z. absurd cc)) s number short.session short.command name ran at refl due new c.gather-gathered.ensures.unmoved story.moment shown refl
     (vault_at_seen n i.metadata.ledger new (g.K.Sink.held later.printer.sink) later.history.items (not later.printer.broken) later.refused new.moment kept.vault)
     cause has (ap (λ x. is_skip (outcome_of x)) c.failure_of.ensures ∙ answers c.in-Err.unopened) (c.fail-reply.ensures.items ∙ ap (λ x. h ++ entry s number kind.Grant (outcome_of cause) x ∷ []) c.clock-moment.ensures))
+
+pub returns-in-Err-clause-disk : goal.returns-in-Err-clause-disk
+returns-in-Err-clause-disk g c =
+    let N = g.N.Naming in
+    let i = c.engine.inside in
+    let who = c.args.who in
+    let h = i.log.history.items in
+    let story = g.D.Disk.story i.disk in
+    let new = g.D.Disk.story c.gather-gathered.new.disk in
+    let later = c.fail-reply.new.self in
+    let cause = cause_in c.failure_of.result in
+    let counts = subst (λ x. Counts story new (is_read_fault x)) (sym c.failure_of.ensures) (unopened_counts (Task g.row.D-Reader.Denot) story new c.in-Err.unopened c.in-Err.ensures.counted) in
+    let shown : Shown = record { history = later.history.items; running = not later.printer.broken; clock = new.moment } in
+    subst (λ (x : Standing). AnswersDisk N.script (N.start no_rows) x.shown shown (SomeRose x.faults (faults_of new))) c.engine.view_is
+    (disk_caused N.script (N.start no_rows) (record { history = h; running = not i.log.printer.broken; clock = story.moment }) shown (entry who.session who.command kind.Grant (outcome_of cause) c.clock-moment.result)
+    c.fail-reply.ensures.items story new refl cause refl counts (λ low (is : cause ≡ Unwritten). absurd (never_unwritten c.in-Err.unopened (sym c.failure_of.ensures ∙ is))))

@@ -12,9 +12,10 @@ use Rattle.mesa_ledger.proofs.Beginning.{vault_at_seen}
 use Rattle.mesa_log.specs.Printing.{PrintsBlock}
 use Rattle.mesa_skeleton.specs.Rows.{no_rows}
 use Rattle.mesa_ledger.specs.mesa_walk.Causes.{told_at}
-use Rattle.mesa_ledger.specs.mesa_walk.Turns.{Shown, Takes, entry}
+use Rattle.mesa_ledger.specs.mesa_walk.Turns.{AnswersDisk, Shown, SomeRose, Takes, entry}
 use Rattle.mesa_ledger.specs.mesa_walk.Walk.{run_at}
 use Rattle.mesa_ledger.proofs.mesa_walk.Alike.{due_alike}
+use Rattle.mesa_ledger.proofs.mesa_walk.Faulting.{disk_also, disk_never}
 use Rattle.mesa_engine.specs.Engine.{Standing, starts_of}
 use Rattle.mesa_tasks.specs.Tasks.{claim_in}
 use Rattle.mesa_works.proofs.Renewals.{lost_engine, lost_takes, renewed_engine, renewed_takes}
@@ -33,7 +34,12 @@ skip-requires-clause-due g c κs within w =
 pub returns-then-not-running-clause-turn : goal.returns-then-not-running-clause-turn
 returns-then-not-running-clause-turn g c =
     let N = g.N.Naming in
-    subst (λ (x : Standing). Takes N.script (N.start no_rows) c.args.engine.now.shown x.shown c.args.who.session c.args.who.command kind.Renew Finished) (sym c.give_back.ensures) (c.skip.ensures.turn Finished)
+    subst (λ (x : Shown). Takes N.script (N.start no_rows) c.args.engine.now.shown x c.args.who.session c.args.who.command kind.Renew Finished) (sym c.give_back.ensures.shown) (c.skip.ensures.turn Finished)
+
+pub returns-then-not-running-clause-disk : goal.returns-then-not-running-clause-disk
+returns-then-not-running-clause-disk g c =
+    let N = g.N.Naming in
+    subst (λ (x : Shown). AnswersDisk N.script (N.start no_rows) c.args.engine.now.shown x (SomeRose c.args.engine.now.faults c.give_back.new.engine.faults)) (sym c.give_back.ensures.shown) (λ low e grew is. absurd (c.skip.ensures.disk low e grew is))
 
 pub invariant_of-engine : goal.invariant_of-engine
 invariant_of-engine g c =
@@ -119,8 +125,35 @@ returns-in-Err-clause-turn g c =
     (λ w. due_alike N.script (N.start no_rows) (N.start w) h s number (command.Work name) (Granted claim) (N.alike w) refl due)
     grew c.tell.ensures.room c.in-Err.refusal c.in-Err.ensures.refused c.in-Err.ensures.same c.claims-claimed.ensures.leased prints c.tell.ensures.refused in
     let new : Shown = record { history = later.history.items; running = not later.printer.broken; clock = story.moment } in
-    subst (λ (x : Standing). Takes N.script (N.start no_rows) c.args.engine.now.shown x.shown s number kind.Renew Finished) (sym c.give_back-in-Err.ensures)
+    subst (λ (x : Shown). Takes N.script (N.start no_rows) c.args.engine.now.shown x s number kind.Renew Finished) (sym c.give_back-in-Err.ensures.shown)
     (subst (λ (x : Standing). Takes N.script (N.start no_rows) x.shown new s number kind.Renew Finished) c.engine.view_is
     (lost_takes (outset_of n no_rows) (n.origin no_rows) false i.metadata.ledger story held h (not i.log.printer.broken) i.log.refused (c.engine.invariant.vault no_rows false (λ is. absurd cc)) s number short.session short.command name ran c.position-at.result c.position-at.ensures claim due story.moment new refl
     (vault_at_seen n c.claims-claimed.new.metadata.ledger story (g.K.Sink.held later.printer.sink) later.history.items (not later.printer.broken) later.refused story.moment kept.vault)
     (grew ∙ ap (λ x. h ++ entry s number kind.Renew outcome.Stands x ∷ []) c.clock.ensures) c.in-Err.refusal c.in-Err.ensures.refused))
+
+pub returns-in-Ok-clause-disk : goal.returns-in-Ok-clause-disk
+returns-in-Ok-clause-disk g c =
+    let N = g.N.Naming in
+    let i = c.engine.inside in
+    let who = c.args.who in
+    let h = i.log.history.items in
+    let clock = (g.D.Disk.story i.disk).moment in
+    let later = c.pass.new.self in
+    let old : Shown = record { history = h; running = not i.log.printer.broken; clock = clock } in
+    let new : Shown = record { history = later.history.items; running = not later.printer.broken; clock = clock } in
+    let never : AnswersDisk N.script (N.start no_rows) old new ⊥ = disk_never N.script (N.start no_rows) old new (entry who.session who.command kind.Renew outcome.Stands c.clock.result) (c.pass.ensures.items ∙ ap (λ x. h ++ x ∷ []) c.turn-turn.ensures.same) refl in
+    disk_also N.script (N.start no_rows) c.args.engine.now.shown new (λ (no : ⊥). absurd no) (subst (λ (x : Standing). AnswersDisk N.script (N.start no_rows) x.shown new ⊥) c.engine.view_is never)
+
+pub returns-in-Err-clause-disk : goal.returns-in-Err-clause-disk
+returns-in-Err-clause-disk g c =
+    let N = g.N.Naming in
+    let i = c.engine.inside in
+    let who = c.args.who in
+    let h = i.log.history.items in
+    let clock = (g.D.Disk.story i.disk).moment in
+    let later = c.tell.new.self in
+    let old : Shown = record { history = h; running = not i.log.printer.broken; clock = clock } in
+    let new : Shown = record { history = later.history.items; running = not later.printer.broken; clock = clock } in
+    let never : AnswersDisk N.script (N.start no_rows) old new ⊥ = disk_never N.script (N.start no_rows) old new (entry who.session who.command kind.Renew outcome.Stands c.clock.result) (c.tell.ensures.items ∙ ap (λ x. h ++ x ∷ []) c.turn-turn.ensures.same) refl in
+    subst (λ (x : Shown). AnswersDisk N.script (N.start no_rows) c.args.engine.now.shown x (SomeRose c.args.engine.now.faults c.give_back-in-Err.new.engine.faults)) (sym c.give_back-in-Err.ensures.shown)
+    (disk_also N.script (N.start no_rows) c.args.engine.now.shown new (λ (no : ⊥). absurd no) (subst (λ (x : Standing). AnswersDisk N.script (N.start no_rows) x.shown new ⊥) c.engine.view_is never))

@@ -23,7 +23,7 @@ skip-requires-clause-due g c κs within w =
     }
 
 pub returns-then-not-running : goal.returns-then-not-running
-returns-then-not-running g c = record { turn = c.skip.ensures.turn Finished; keeps = same_keep c.args.engine.now.told c.skip.new.self.told c.skip.ensures.told }
+returns-then-not-running g c = record { turn = c.skip.ensures.turn Finished; disk = λ low e grew is. absurd (c.skip.ensures.disk low e grew is); keeps = same_keep c.args.engine.now.told c.skip.new.self.told c.skip.ensures.told }
 
 pub write-requires-clause-change : goal.write-requires-clause-change
 write-requires-clause-change g c κs within =
@@ -51,3 +51,6 @@ fail-requires-clause-fails g c κs within =
 
 pub returns-in-Err-clause-keeps : goal.returns-in-Err-clause-keeps
 returns-in-Err-clause-keeps g c = same_keep c.args.engine.now.told c.fail.new.self.told c.fail.ensures.told
+
+pub returns-in-Err-clause-disk : goal.returns-in-Err-clause-disk
+returns-in-Err-clause-disk g c = λ low e grew is. absurd (c.fail.ensures.disk low e grew is)

@@ -19,7 +19,7 @@ skip-requires-clause-due g c κs within w =
     }
 
 pub returns-then-not-running : goal.returns-then-not-running
-returns-then-not-running g c = record { turn = c.skip.ensures.turn Finished; draft = λ low e grew is. absurd (c.skip.ensures.draft low e grew is); keeps = same_keep c.args.engine.now.told c.skip.new.self.told c.skip.ensures.told }
+returns-then-not-running g c = record { turn = c.skip.ensures.turn Finished; draft = λ low e grew is. absurd (c.skip.ensures.draft low e grew is); disk = λ low e grew is. absurd (c.skip.ensures.disk low e grew is); keeps = same_keep c.args.engine.now.told c.skip.new.self.told c.skip.ensures.told }
 
 pub ready-requires-clause-shaped : goal.ready-requires-clause-shaped
 ready-requires-clause-shaped g c κs within = (c.engine.invariant.vault no_rows false (λ is. absurd cc)).shaped

@@ -1,4 +1,4 @@
-use Rattle.std.proofs.Common.{◌≡◌, inl, inr, ◌<◌, [], ◌∷◌, ◌++◌, true, not, refl, sym, ◌∙◌, ap, subst, arith}
+use Rattle.std.proofs.Common.{◌≡◌, inl, inr, ◌<◌, [], ◌∷◌, ◌++◌, true, false, not, refl, sym, ◌∙◌, ap, subst, arith}
 use Rattle.mesa_fault.specs.Causes.{last}
 use Rattle.mesa_disk.specs.Story.{Steps}
 use Rattle.mesa_history.specs.Run.{Finished, Looked}
@@ -10,9 +10,12 @@ use Rattle.mesa_model.specs.Load.{load_batch}
 use Rattle.mesa_skeleton.specs.Rows.{no_rows}
 use Rattle.mesa_ledger.specs.mesa_walk.Causes.{Unwritten, reply_of, told_at}
 use Rattle.mesa_ledger.specs.mesa_walk.Changes.{HasFailed}
-use Rattle.mesa_ledger.specs.mesa_walk.Turns.{Shown, Takes, entry}
+use Rattle.mesa_ledger.specs.mesa_walk.Turns.{AnswersDisk, Shown, SomeRose, Takes, entry, faults_of}
 use Rattle.mesa_ledger.specs.mesa_walk.Walk.{run_at}
+use Rattle.mesa_ledger.proofs.mesa_walk.Clock.{begun_moment, not_closing}
+use Rattle.mesa_ledger.proofs.mesa_walk.Faulting.{disk_caused}
 use Rattle.mesa_ledger.proofs.mesa_walk.Going.{publish_takes}
+use Rattle.mesa_ledger.proofs.mesa_walk.Turning.{counts_same}
 use Rattle.mesa_ledger.specs.Ledger.{books_of}
 use Rattle.mesa_ledger.specs.Turned.{closed_ledger}
 use Rattle.mesa_ledger.specs.Vault.{Starts}
@@ -77,6 +80,12 @@ returns-then-moment-lt18446744073709551615 g c =
           (publish_takes N.script (N.start no_rows) (record { history = h; running = not i.log.printer.broken; clock = story.moment }) new s number (record { asked = command.Load rows; is = refl; due = due })
           (record { outcome = outcome.WriteFault; grew = told.items ∙ ap (λ x. h ++ entry s number kind.Decide outcome.WriteFault x ∷ []) moment; skipped = ap not (sym ran); still = λ on. ran })
           (vault_at_seen n i.metadata.ledger story (g.K.Sink.held later.printer.sink) later.history.items (not later.printer.broken) later.refused story.moment kept.vault));
+      disk =
+          let e = entry s number kind.Decide outcome.WriteFault m in
+          let there = begun_moment N.script (N.start no_rows) h s number (command.Load rows) Looked due (λ first. absurd cc) in
+          subst (λ (x : Standing). AnswersDisk N.script (N.start no_rows) x.shown new (SomeRose x.faults (faults_of story))) c.engine.view_is
+          (disk_caused N.script (N.start no_rows) (record { history = h; running = not i.log.printer.broken; clock = story.moment }) new e told.items story story refl Unwritten refl (counts_same story)
+          (λ below is. not_closing (run_at N.script (N.start no_rows) h).moment story.moment e (c.engine.invariant.vault no_rows false (λ z. absurd cc)).walk.at there moment below));
       keeps = subst (λ (x : Standing). Steps KeepsFiles x.told story.told) c.engine.view_is (same_keep story.told story.told refl);
     }
 
@@ -140,5 +149,11 @@ returns g c =
           (publish_takes N.script (N.start no_rows) (record { history = h; running = not i.log.printer.broken; clock = story.moment }) new s number (record { asked = command.Load rows; is = refl; due = due })
           (record { outcome = outcome.WriteFault; grew = told.items ∙ ap (λ x. h ++ entry s number kind.Decide outcome.WriteFault x ∷ []) moment; skipped = ap not (sym ran); still = λ on. ran })
           (vault_at_seen n c.close.new.self.ledger story (g.K.Sink.held later.printer.sink) later.history.items (not later.printer.broken) later.refused story.moment kept.vault));
+      disk =
+          let e = entry s number kind.Decide outcome.WriteFault m in
+          let there = begun_moment N.script (N.start no_rows) h s number (command.Load rows) Looked due (λ first. absurd cc) in
+          subst (λ (x : Standing). AnswersDisk N.script (N.start no_rows) x.shown new (SomeRose x.faults (faults_of story))) c.engine.view_is
+          (disk_caused N.script (N.start no_rows) (record { history = h; running = not i.log.printer.broken; clock = story.moment }) new e told.items story story refl Unwritten refl (counts_same story)
+          (λ below is. not_closing (run_at N.script (N.start no_rows) h).moment story.moment e (c.engine.invariant.vault no_rows false (λ z. absurd cc)).walk.at there moment below));
       keeps = subst (λ (x : Standing). Steps KeepsFiles x.told story.told) c.engine.view_is (same_keep story.told story.told refl);
     }

@@ -13,9 +13,10 @@ use Rattle.mesa_model.specs.declared.entries.Outcome.TheVariants as outcome
 use Rattle.mesa_record.proofs.RecordsBoth.{record_found}
 use Rattle.mesa_skeleton.specs.Rows.{no_rows}
 use Rattle.mesa_ledger.specs.mesa_walk.Causes.{Unwritten, reply_of, told_at}
-use Rattle.mesa_ledger.specs.mesa_walk.Turns.{AnswersDraft, Shown, Takes, entry}
+use Rattle.mesa_ledger.specs.mesa_walk.Turns.{AnswersDisk, AnswersDraft, Shown, SomeRose, Takes, entry, faults_of}
 use Rattle.mesa_ledger.specs.mesa_walk.Walk.{Counts, run_at}
 use Rattle.mesa_ledger.proofs.mesa_walk.Clock.{closing}
+use Rattle.mesa_ledger.proofs.mesa_walk.Faulting.{disk_counted, disk_where}
 use Rattle.mesa_ledger.specs.Ledger.{Ledger}
 use Rattle.mesa_ledger.specs.Recorded.{failed_ledger, recorded_ledger}
 use Rattle.mesa_ledger.specs.Vault.{Starts}
@@ -187,6 +188,8 @@ returns-in-Ok-write_record g c =
           (vault_at_seen n c.apply.new.self.ledger new (g.K.Sink.held later.printer.sink) later.history.items (not later.printer.broken) later.refused new.moment kept.vault) to.asked to.can.does to.due);
       draft = subst (λ (x : Standing). AnswersDraft N.script (N.start no_rows) x.shown seen s ⊥) c.engine.view_is
           (answers_none N.script (N.start no_rows) (record { history = h; running = not i.log.printer.broken; clock = story.moment }) seen s (entry s number kind.Decide outcome.Stands c.clock.result) grew refl);
+      disk = subst (λ (x : Standing). AnswersDisk N.script (N.start no_rows) x.shown seen (SomeRose x.faults (faults_of new))) c.engine.view_is
+          (disk_counted N.script (N.start no_rows) (record { history = h; running = not i.log.printer.broken; clock = story.moment }) seen (entry s number kind.Decide outcome.Stands c.clock.result) grew story new refl counts);
       keeps = subst (λ (x : Standing). Steps KeepsFiles x.told new.told) c.engine.view_is
           (moves_keep (files_of bytes change.made.items) story.told new.told worked.only (λ image told. absent_now g.K.Sink.held g.K.Sink.faults n N.room N.sink_faults i.metadata story i.log c.engine.invariant bytes change N.script (run_at N.script (N.start no_rows) h) s number to image told));
     }
@@ -301,6 +304,9 @@ returns g c =
           subst (λ (x : Standing). AnswersDraft N.script (N.start no_rows) x.shown seen s ⊥) c.engine.view_is
           (answers_none N.script (N.start no_rows) (record { history = h; running = not i.log.printer.broken; clock = story.moment }) seen s e told.items
           (ap not (closing (run_at N.script (N.start no_rows) h).moment story.moment e (c.engine.invariant.vault no_rows false (λ z. absurd cc)).walk.at rose refl)));
+      disk = subst (λ (x : Standing). AnswersDisk N.script (N.start no_rows) x.shown seen (SomeRose x.faults (faults_of new))) c.engine.view_is
+          (disk_where N.script (N.start no_rows) (record { history = h; running = not i.log.printer.broken; clock = story.moment }) seen (entry s number kind.Decide outcome.WriteFault c.clock-moment.result) told.items
+          (SomeRose (faults_of story) (faults_of new)) (λ below is. inl c.in-Err-write_record.ensures.cause.failed));
       keeps = subst (λ (x : Standing). Steps KeepsFiles x.told new.told) c.engine.view_is
           (moves_keep (files_of bytes change.made.items) story.told new.told worked.only (λ image is. absent_now g.K.Sink.held g.K.Sink.faults n N.room N.sink_faults i.metadata story i.log c.engine.invariant bytes change N.script (run_at N.script (N.start no_rows) h) s number to image is));
     }
@@ -309,3 +315,10 @@ pub returns-in-Err-clause-keeps : goal.returns-in-Err-clause-keeps
 returns-in-Err-clause-keeps g c =
     let now = c.fail.new.self.told in
     subst (λ (x : Standing). Steps KeepsFiles x.told now) c.engine.view_is (same_keep (g.D.Disk.story c.engine.inside.disk).told now c.fail.ensures.told)
+
+pub returns-in-Err-clause-disk : goal.returns-in-Err-clause-disk
+returns-in-Err-clause-disk g c =
+    let N = g.N.Naming in
+    let now = c.fail.new.self.shown in
+    let never : AnswersDisk N.script (N.start no_rows) c.args.engine.now.shown now ⊥ = subst (λ (x : Standing). AnswersDisk N.script (N.start no_rows) x.shown now ⊥) c.engine.view_is c.fail.ensures.disk in
+    λ low e grew is. absurd (never low e grew is)

@@ -3,6 +3,8 @@ use Rattle.mesa_core.specs.Handing.{Tells}
 use Rattle.mesa_core.specs.Vault.{Stand}
 use Rattle.mesa_core.proofs.Handed.{has_differed, has_failed, none_damaged, to_close}
 use Rattle.mesa_granted.specs.mesa_service.Pins.{IsOpenQuery, known_pin}
+use Rattle.mesa_walk.specs.Turns.{AnswersDisk, SomeRose}
+use Rattle.mesa_skeleton.specs.Rows.{no_rows}
 use Rattle.mesa_core.proofs.vault.Vault.close_query.Goals as goal
 
 pub close_query-requires-clause-due : goal.close_query-requires-clause-due
@@ -25,3 +27,9 @@ pub close_query-requires-clause-undamaged : goal.close_query-requires-clause-und
 close_query-requires-clause-undamaged g c κs within w ok =
     let o = c.requires.open.opened w in
     none_damaged g.D.Reader.FileReader.bytes g.D.Reader.FileReader.faults c.args.pinned c.args.answer o.answer c.requires.answer (o.told ok)
+
+pub returns-clause-disk : goal.returns-clause-disk
+returns-clause-disk g c =
+    let N = g.N.Naming in
+    let now = c.close_query.new.engine in
+    subst (λ (s : Stand). AnswersDisk N.script (N.start no_rows) s.shown now.shown (SomeRose s.faults now.faults)) c.self.view_is c.close_query.ensures.disk

@@ -8,7 +8,7 @@ use Rattle.mesa_granted.specs.mesa_service.Works.{HasMerged, WasGranted, known_t
 use Rattle.mesa_skeleton.specs.Rows.{no_rows}
 use Rattle.mesa_tasks.specs.Tasks.{claim_in}
 use Rattle.mesa_tasks.specs.declared.merging.CompactError.TheVariants as compact
-use Rattle.mesa_walk.specs.Turns.{AnswersDraft, Asks}
+use Rattle.mesa_walk.specs.Turns.{AnswersDisk, AnswersDraft, Asks, SomeRose}
 use Rattle.mesa_walk.specs.Walk.{run_at}
 use Rattle.mesa_walk.specs.Works.{closing_stage}
 use Rattle.mesa_core.specs.Handing.{IsGranted}
@@ -91,3 +91,15 @@ returns-in-Err-clause-draft g c =
 pub returns-in-Err-clause-swept : goal.returns-in-Err-clause-swept
 returns-in-Err-clause-swept g c from to is =
     absurd (let never : true ≡ false = sym c.give_up.ensures.reply ∙ ap is_refusal is in cc)
+
+pub returns-in-Ok-clause-disk : goal.returns-in-Ok-clause-disk
+returns-in-Ok-clause-disk g c =
+    let N = g.N.Naming in
+    let now = c.complete.new.engine in
+    subst (λ (s : Stand). AnswersDisk N.script (N.start no_rows) s.shown now.shown (SomeRose s.faults now.faults)) c.self.view_is c.complete.ensures.disk
+
+pub returns-in-Err-clause-disk : goal.returns-in-Err-clause-disk
+returns-in-Err-clause-disk g c =
+    let N = g.N.Naming in
+    let now = c.give_up.new.engine in
+    subst (λ (s : Stand). AnswersDisk N.script (N.start no_rows) s.shown now.shown (SomeRose s.faults now.faults)) c.self.view_is c.give_up.ensures.disk

@@ -8,7 +8,7 @@ use Rattle.mesa_model.specs.declared.commands.Command.TheVariants as command
 use Rattle.mesa_model.specs.declared.commands.Script.{Script}
 use Rattle.mesa_granted.specs.mesa_service.Pins.{TakesQuery}
 use Rattle.mesa_skeleton.specs.Rows.{no_rows}
-use Rattle.mesa_walk.specs.Turns.{Asks}
+use Rattle.mesa_walk.specs.Turns.{AnswersDisk, Asks, SomeRose}
 use Rattle.mesa_walk.specs.Walk.{run_at}
 use Rattle.mesa_core.specs.Handing.{Tells}
 use Rattle.mesa_core.specs.Vault.{Stand}
@@ -38,6 +38,7 @@ returns g c =
     record {
       turn = subst (λ (s : Stand). TakesQuery bytes N.script N.start (λ past. Tells N.sound) s.shown new who.session who.command c.pin_query.result) c.self.view_is
           (takes_query bytes N.script N.start N.sound old new who.session who.command c.words_of-words.result.now c.pin_query.result e.opened e.pinned e.turn e.seen e.ran e.over);
+      disk = subst (λ (s : Stand). AnswersDisk N.script (N.start no_rows) s.shown new (SomeRose s.faults c.pin_query.new.engine.faults)) c.self.view_is e.disk;
       files = λ words known.
           let both : Some (command.Query c.words_of-words.result.now) ≡ Some (command.Query words) =
           sym c.words_of-words.ensures ∙ ap (λ (script : Script). command_at script who.session who.command) c.self.invariant.script ∙ known in

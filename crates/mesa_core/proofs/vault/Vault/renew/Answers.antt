@@ -4,7 +4,7 @@ use Rattle.mesa_history.specs.Run.{Granted}
 use Rattle.mesa_model.specs.declared.commands.Command.TheVariants as command
 use Rattle.mesa_skeleton.specs.Rows.{no_rows}
 use Rattle.mesa_tasks.specs.Tasks.{claim_in}
-use Rattle.mesa_walk.specs.Turns.{Asks}
+use Rattle.mesa_walk.specs.Turns.{AnswersDisk, Asks, SomeRose}
 use Rattle.mesa_walk.specs.Walk.{run_at}
 use Rattle.mesa_core.specs.Vault.{Stand}
 use Rattle.mesa_core.proofs.Due.{due_of, sort_of}
@@ -23,3 +23,9 @@ renew-requires-clause-due g c κs within =
 
 pub renew-requires-clause-table : goal.renew-requires-clause-table
 renew-requires-clause-table g c κs within = c.requires.granted.was.low
+
+pub returns-clause-disk : goal.returns-clause-disk
+returns-clause-disk g c =
+    let N = g.N.Naming in
+    let now = c.renew.new.engine in
+    subst (λ (s : Stand). AnswersDisk N.script (N.start no_rows) s.shown now.shown (SomeRose s.faults now.faults)) c.self.view_is c.renew.ensures.disk

@@ -10,12 +10,13 @@ use Rattle.mesa_ledger.specs.mesa_output.Output.{block}
 use Rattle.mesa_ledger.specs.mesa_skeleton.Rows.{no_rows}
 use Rattle.mesa_ledger.specs.mesa_walk.Causes.{outcome_of, reply_of, told_at}
 use Rattle.mesa_ledger.specs.mesa_walk.Printing.{IsPut}
-use Rattle.mesa_ledger.specs.mesa_walk.Turns.{AnswersDraft, Shown, Takes, entry}
+use Rattle.mesa_ledger.specs.mesa_walk.Turns.{AnswersDisk, AnswersDraft, Shown, Takes, entry}
 use Rattle.mesa_ledger.specs.mesa_walk.Walk.{run_at}
 use Rattle.mesa_ledger.proofs.mesa_walk.Alike.{due_alike}
+use Rattle.mesa_ledger.proofs.mesa_walk.Faulting.{disk_never}
 use Rattle.mesa_engine.specs.Engine.{Standing, IsEngine, starts_of}
 use Rattle.mesa_engine.specs.Failing.{Fails, deciding_stage, deciding_kind}
-use Rattle.mesa_engine.proofs.Drafting.{answers_none, quiet_cause}
+use Rattle.mesa_engine.proofs.Drafting.{answers_none, quiet_cause, quiet_disk}
 use Rattle.mesa_engine.proofs.Undone.{deciding_unanswered, failing_vault, failing_takes, quiet_undamaged}
 use Rattle.mesa_engine.proofs.Turning.{told_engine}
 use Rattle.mesa_engine.proofs.engine.Engine.fail.Goals as goal
@@ -96,3 +97,18 @@ returns-clause-draft g c =
     subst (λ (s : Standing). AnswersDraft N.script (N.start no_rows) s.shown new who.session ⊥) c.self.view_is
     (answers_none N.script (N.start no_rows) (record { history = h; running = not i.log.printer.broken; clock = story.moment }) new who.session e c.fail.ensures.items
     (quiet_cause (closes (run_at N.script (N.start no_rows) h).moment e) cause (fails_at g c).quiet))
+
+pub returns-clause-disk : goal.returns-clause-disk
+returns-clause-disk g c =
+    let N = g.N.Naming in
+    let i = c.self.inside in
+    let who = c.args.who in
+    let story = g.D.Disk.story i.disk in
+    let h = i.log.history.items in
+    let cause = cause_in c.args.failure in
+    let later = c.fail.new.self in
+    let new : Shown = record { history = later.history.items; running = not later.printer.broken; clock = story.moment } in
+    let e = entry who.session who.command c.args.kind (outcome_of cause) c.clock-moment.result in
+    subst (λ (s : Standing). AnswersDisk N.script (N.start no_rows) s.shown new ⊥) c.self.view_is
+    (disk_never N.script (N.start no_rows) (record { history = h; running = not i.log.printer.broken; clock = story.moment }) new e c.fail.ensures.items
+    (quiet_disk (closes (run_at N.script (N.start no_rows) h).moment e) cause (fails_at g c).quiet))

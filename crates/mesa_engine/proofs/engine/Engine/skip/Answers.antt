@@ -4,8 +4,9 @@ use Rattle.mesa_model.specs.declared.entries.Outcome.TheVariants as outcome
 use Rattle.mesa_ledger.specs.Vault.{Starts, outset_of}
 use Rattle.mesa_ledger.proofs.Beginning.{vault_at_seen}
 use Rattle.mesa_ledger.specs.mesa_skeleton.Rows.{Rows, no_rows}
-use Rattle.mesa_ledger.specs.mesa_walk.Turns.{AnswersDraft, Shown, Takes, entry}
+use Rattle.mesa_ledger.specs.mesa_walk.Turns.{AnswersDisk, AnswersDraft, Shown, Takes, entry}
 use Rattle.mesa_ledger.specs.mesa_walk.Walk.{run_at}
+use Rattle.mesa_ledger.proofs.mesa_walk.Faulting.{disk_never}
 use Rattle.mesa_engine.specs.Engine.{Standing, IsEngine, starts_of}
 use Rattle.mesa_engine.specs.Failing.{Comes}
 use Rattle.mesa_engine.proofs.Drafting.{answers_none}
@@ -67,4 +68,17 @@ returns-clause-draft g c =
     let new : Shown = record { history = later.history.items; running = not later.printer.broken; clock = story.moment } in
     subst (λ (s : Standing). AnswersDraft N.script (N.start no_rows) s.shown new who.session ⊥) c.self.view_is
     (answers_none N.script (N.start no_rows) (record { history = h; running = not i.log.printer.broken; clock = story.moment }) new who.session (entry who.session who.command c.args.kind outcome.Skipped c.clock.result)
+    (c.pass.ensures.items ∙ ap (λ x. h ++ x ∷ []) c.turn-turn.ensures.same) refl)
+
+pub returns-clause-disk : goal.returns-clause-disk
+returns-clause-disk g c =
+    let N = g.N.Naming in
+    let i = c.self.inside in
+    let who = c.args.who in
+    let story = g.D.Disk.story i.disk in
+    let h = i.log.history.items in
+    let later = c.pass.new.self in
+    let new : Shown = record { history = later.history.items; running = not later.printer.broken; clock = story.moment } in
+    subst (λ (s : Standing). AnswersDisk N.script (N.start no_rows) s.shown new ⊥) c.self.view_is
+    (disk_never N.script (N.start no_rows) (record { history = h; running = not i.log.printer.broken; clock = story.moment }) new (entry who.session who.command c.args.kind outcome.Skipped c.clock.result)
     (c.pass.ensures.items ∙ ap (λ x. h ++ x ∷ []) c.turn-turn.ensures.same) refl)
