@@ -90,6 +90,8 @@ pub fn close_query<N: Naming, M: Made, D: Disk<M>, K: Sink>(
     ensures disk { AnswersDisk N.script (N.start no_rows) engine.old.shown engine.new.shown (SomeRose engine.old.faults engine.new.faults) }
     // It ends as its answer says: with want of memory, a fault or damage only where that has it.
     ensures outcome { engine.old.shown.running ≡ true → engine.new.shown.history ≡ engine.old.shown.history ++ closing_entry who.session who.command answered engine.new.shown.clock ∷ [] }
+    // And it prints that answer, or of what kept it back what was handed in: no other damage.
+    ensures prints { engine.old.shown.running ≡ true → IsPut (closing_text (closing_entry who.session who.command answered engine.new.shown.clock) pinned.at pinned.version answered) engine.new.shown.running engine.old.sink engine.new.sink }
     // What the query held is given back, unless the sink had failed.
     ensures ledger { engine.old.shown.running ≡ true → engine.new.ledger ≡ answered_ledger engine.old.ledger (is_of_another who.session) }
     ensures catalogue { engine.new.ledger.catalogue ≡ engine.old.ledger.catalogue }

@@ -16,6 +16,7 @@ pub fn give_back<N: Naming, M: Made, D: Disk<M>, K: Sink>(
     ensures shown { engine.new.shown ≡ engine.old.shown }
     ensures ledger { engine.new.ledger ≡ engine.old.ledger }
     ensures told { engine.new.told ≡ engine.old.told }
+    ensures sink { engine.new.sink ≡ engine.old.sink }
     ensures faults { NoneFell engine.old.faults engine.new.faults }
 {
     retire_pinned(&mut engine.disk, pinned);

@@ -1,5 +1,5 @@
 // A work's last turn where its merge failed.
-ghost use Rattle.std.specs.Prelude.{◌≡◌, ◌<◌, ◌==◌, true, false, length};
+ghost use Rattle.std.specs.Prelude.{◌≡◌, ◌<◌, ◌==◌, ◌++◌, ◌∷◌, [], true, false, length, Some};
 ghost use Rattle.mesa_fault.specs.Causes.{last};
 ghost use Rattle.mesa_history.specs.Refused.{is_refusal};
 ghost use Rattle.mesa_history.specs.Run.{Finished, Granted};
@@ -8,11 +8,13 @@ ghost use Rattle.mesa_log.specs.Failure.{cause_in};
 ghost use Rattle.mesa_metadata.specs.Memory.{with_ledger};
 ghost use Rattle.mesa_model.specs.declared.commands.Command.TheVariants as command;
 ghost use Rattle.mesa_model.specs.declared.entries.Kind.TheVariants as kind;
+ghost use Rattle.mesa_output.specs.Output.{block};
 ghost use Rattle.mesa_skeleton.specs.Rows.{Rows, no_rows};
 ghost use Rattle.mesa_tasks.specs.GivingBack.{SomeFailed, task_inputs};
 ghost use Rattle.mesa_tasks.specs.declared.merging.CompactError.TheVariants as compact;
-ghost use Rattle.mesa_ledger.specs.mesa_walk.Causes.{is_read_fault, outcome_of};
-ghost use Rattle.mesa_ledger.specs.mesa_walk.Turns.{AnswersDisk, AnswersDraft, SomeRose, Takes};
+ghost use Rattle.mesa_ledger.specs.mesa_walk.Causes.{is_read_fault, outcome_of, reply_of, told_at};
+ghost use Rattle.mesa_ledger.specs.mesa_walk.Printing.{IsPut};
+ghost use Rattle.mesa_ledger.specs.mesa_walk.Turns.{AnswersDisk, AnswersDraft, SomeRose, Takes, entry};
 ghost use Rattle.mesa_ledger.specs.mesa_walk.Undamaged.{is_damaged};
 ghost use Rattle.mesa_ledger.specs.mesa_walk.Walk.{run_at};
 ghost use Rattle.mesa_tasks.specs.Tasks.{claim_in};
@@ -112,6 +114,10 @@ pub fn give_up<N: Naming, M: Made, D: Disk<M>, K: Sink>(
     ensures disk { AnswersDisk N.script (N.start no_rows) engine.old.shown engine.new.shown (SomeRose engine.old.faults engine.new.faults) }
     ensures draft { AnswersDraft N.script (N.start no_rows) engine.old.shown engine.new.shown who.session (error ≡ compact.Draft) }
     ensures ledger { engine.old.shown.running ≡ true → engine.new.ledger ≡ closing_ledger engine.old.ledger.closed error (engine.old.shown.clock == last) (length engine.old.shown.history) task.table task.lease engine.old.ledger }
+    // It ends as its argument says, unless the vault has closed: with want of memory, a fault or damage only where that has it.
+    ensures outcome { engine.old.shown.running ≡ true → engine.new.shown.history ≡ engine.old.shown.history ++ entry who.session who.command kind.Close (outcome_of (closing_cause engine.old.ledger.closed error)) engine.new.shown.clock ∷ [] }
+    // And that is what it prints: no other damage.
+    ensures prints { engine.old.shown.running ≡ true → IsPut (block (entry who.session who.command kind.Close (outcome_of (closing_cause engine.old.ledger.closed error)) engine.new.shown.clock) (Some (told_at (length engine.old.shown.history) (reply_of (closing_cause engine.old.ledger.closed error))))) engine.new.shown.running engine.old.sink engine.new.sink }
     ensures reply { is_refusal result ≡ true }
 {
     if !engine.running() {

@@ -6,13 +6,14 @@ use Rattle.mesa_model.specs.declared.commands.Script.{Script}
 use Rattle.mesa_skeleton.specs.Rows.{Rows}
 use Rattle.mesa_walk.specs.Turns.{Faults, Shown}
 
--- What a caller sees of a vault between turns, and the run's number; and, by which it is said what becomes of files, the ledger, and what a read of the disk gives, where that is told; and both counts of the disk's faults.
+-- What a caller sees of a vault between turns, and the run's number; and, by which it is said what becomes of files, the ledger, and what a read of the disk gives, where that is told; both counts of the disk's faults, and what the sink has been given, where that is known.
 pub record Stand : Type 0 where
   pub shown : Shown
   pub run : ℕ
   pub ledger : Ledger
   pub told : Option Image
   pub faults : Faults
+  pub sink : Option (List ℕ)
 
 -- Where the store was sound when the run began, each finished file tells its bytes.
 abbrev pub AllTold : {M : Type 0} → (M → Option (List ℕ)) → (Rows → Type 0) → Type 0

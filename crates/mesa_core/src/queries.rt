@@ -1,5 +1,6 @@
 // The turns of a query.
-ghost use Rattle.std.specs.Prelude.{◌≡◌, ◌<◌, length, IfOk, Some};
+ghost use Rattle.std.specs.Prelude.{◌≡◌, ◌<◌, ◌++◌, ◌∷◌, [], true, length, IfOk, Some};
+ghost use Rattle.mesa_completing.specs.mesa_asking.Closing.{closing_entry, closing_text};
 ghost use Rattle.mesa_completing.specs.mesa_asking.Opening.{HasItsFiles};
 ghost use Rattle.mesa_core.specs.Handing.{Tells};
 ghost use Rattle.mesa_history.specs.Legal.{is_query};
@@ -9,6 +10,7 @@ ghost use Rattle.mesa_model.specs.declared.commands.Command.TheVariants as comma
 ghost use Rattle.mesa_model.specs.declared.entries.Kind.TheVariants as kind;
 ghost use Rattle.mesa_granted.specs.mesa_service.Pins.{HasAnswered, IsOpenQuery, TakesQuery, known_pin};
 ghost use Rattle.mesa_skeleton.specs.Rows.{no_rows};
+ghost use Rattle.mesa_walk.specs.Printing.{IsPut};
 ghost use Rattle.mesa_walk.specs.Turns.{AnswersDisk, Asks, SomeRose, Takes};
 ghost use Rattle.mesa_walk.specs.Walk.{run_at};
 
@@ -50,6 +52,9 @@ impl<'s, N: Naming, M: Made, D: Disk<M>, K: Sink> Vault<'s, N, M, D, K> {
         requires room { length self.old.shown.history < N.room }
         ensures turn { Takes N.script (N.start no_rows) self.old.shown self.new.shown who.session who.command kind.Close Finished }
         ensures disk { AnswersDisk N.script (N.start no_rows) self.old.shown self.new.shown (SomeRose self.old.faults self.new.faults) }
+        // It ends as its answer says, with want of memory, a fault or damage only where that has it, and prints it: its page, or what kept it back.
+        ensures outcome { self.old.shown.running ≡ true → self.new.shown.history ≡ self.old.shown.history ++ closing_entry who.session who.command answer self.new.shown.clock ∷ [] }
+        ensures prints { self.old.shown.running ≡ true → IsPut (closing_text (closing_entry who.session who.command answer self.new.shown.clock) pinned.at pinned.version answer) self.new.shown.running self.old.sink self.new.sink }
     {
         close_query(&mut self.engine, who, pinned, answer);
     }

@@ -49,6 +49,7 @@ impl<'s, N: Naming, M: Made, D: Disk<M>, K: Sink> Vault<'s, N, M, D, K> {
           ledger = opened_ledger begun.catalog.catalogue begun.end script.now.lease;
           told = (D.story begun.disk).told;
           faults = faults_of (D.story begun.disk);
+          sink = K.held out;
         }) }
         ensures given_back { IfErr result (λ e. (e.1 ≡ begun) × (e.2 ≡ out)) }
     {

@@ -34,7 +34,7 @@ impl<'s, N: Naming, M: Made, D: Disk<M>, K: Sink> Model for Vault<'s, N, M, D, K
 
     ghost coded = { Prim.hlevel (codes, coded_map {R = nat_cmp} coded_ℕ (coded_list coded_ℕ)) };
 
-    ghost view = { λ v. record { shown = v.engine.shown; run = v.engine.ledger.catalogue.run; ledger = v.engine.ledger; told = v.engine.told; faults = v.engine.faults } };
+    ghost view = { λ v. record { shown = v.engine.shown; run = v.engine.ledger.catalogue.run; ledger = v.engine.ledger; told = v.engine.told; faults = v.engine.faults; sink = v.engine.sink } };
 
     ghost invariant = { λ v. IsOfRun M.bytes N.sound N.script v.script.now };
 }

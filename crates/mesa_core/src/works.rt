@@ -1,6 +1,7 @@
 // The turns of a work.
-ghost use Rattle.std.specs.Prelude.{◌≡◌, ◌<◌, ℕ, true, not, Err, IfOk, OnOk, is_ok, length};
+ghost use Rattle.std.specs.Prelude.{◌≡◌, ◌<◌, ◌++◌, ◌∷◌, [], ℕ, true, not, Err, IfErr, IfOk, OnOk, Some, is_ok, length};
 ghost use Rattle.mesa_completing.specs.Swept.{IsSwept};
+ghost use Rattle.mesa_completing.specs.Unmerged.{closing_cause};
 ghost use Rattle.mesa_core.specs.Handing.{IsGranted};
 ghost use Rattle.mesa_history.specs.Legal.{is_work};
 ghost use Rattle.mesa_history.specs.Run.{Finished, First, Granted, Renewed};
@@ -8,9 +9,12 @@ ghost use Rattle.mesa_model.specs.declared.entries.Kind.TheVariants as kind;
 ghost use Rattle.mesa_model.specs.declared.replies.Reply.TheVariants as reply;
 ghost use Rattle.mesa_granted.specs.mesa_service.Works.{CanBeMerged, HasMerged, WasGranted, known_task};
 ghost use Rattle.mesa_skeleton.specs.Rows.{no_rows};
+ghost use Rattle.mesa_walk.specs.mesa_output.Output.{block};
 ghost use Rattle.mesa_tasks.specs.Tasks.{claim_in};
 ghost use Rattle.mesa_tasks.specs.declared.merging.CompactError.TheVariants as compact;
-ghost use Rattle.mesa_walk.specs.Turns.{AnswersDisk, AnswersDraft, Asks, SomeRose, Takes};
+ghost use Rattle.mesa_walk.specs.Causes.{outcome_of, reply_of, told_at};
+ghost use Rattle.mesa_walk.specs.Printing.{IsPut};
+ghost use Rattle.mesa_walk.specs.Turns.{AnswersDisk, AnswersDraft, Asks, SomeRose, Takes, entry};
 ghost use Rattle.mesa_walk.specs.Walk.{run_at};
 ghost use Rattle.mesa_walk.specs.Works.{closing_stage, stage_if};
 
@@ -71,6 +75,10 @@ impl<'s, N: Naming, M: Made, D: Disk<M>, K: Sink> Vault<'s, N, M, D, K> {
         ensures turn { Takes N.script (N.start no_rows) self.old.shown self.new.shown who.session who.command kind.Close Finished }
         ensures disk { AnswersDisk N.script (N.start no_rows) self.old.shown self.new.shown (SomeRose self.old.faults self.new.faults) }
         ensures draft { AnswersDraft N.script (N.start no_rows) self.old.shown self.new.shown who.session (merged ≡ Err compact.Draft) }
+
+        // Where the merge failed it ends so, unless the vault has closed, and that is what it prints: no other cause, and no other damage.
+        ensures outcome { IfErr merged (λ e. self.old.shown.running ≡ true → self.new.shown.history ≡ self.old.shown.history ++ entry who.session who.command kind.Close (outcome_of (closing_cause self.old.ledger.closed e)) self.new.shown.clock ∷ []) }
+        ensures prints { IfErr merged (λ e. self.old.shown.running ≡ true → IsPut (block (entry who.session who.command kind.Close (outcome_of (closing_cause self.old.ledger.closed e)) self.new.shown.clock) (Some (told_at (length self.old.shown.history) (reply_of (closing_cause self.old.ledger.closed e))))) self.new.shown.running self.old.sink self.new.sink) }
 
         // Where the range is swapped in, each file that is there is one that the catalogue, a held pin or an open query names.
         ensures swept { (from to : ℕ) → result ≡ reply.Swapped from to → IsSwept self.new.told self.new.ledger self.new.shown.history }

@@ -18,12 +18,13 @@ use Rattle.mesa_metadata.specs.Memory.{Memory}
 abbrev pub starts_of : Script → (Rows → State) → (Rows → Type 0) → (Rows → Origin) → ℕ → ℕ → Option (List ℕ) → Starts
 starts_of script start sound origin since counted at_start = record { script = script; start = start; sound = sound; since = since; counted = counted; at_start = at_start; origin = origin }
 
--- What is seen of an engine: what a caller sees of a vault, the ledger, what a read of the disk gives, where that is told, and both counts of the disk's faults.
+-- What is seen of an engine: what a caller sees of a vault, the ledger, what a read of the disk gives, where that is told, both counts of the disk's faults, and what the sink has been given, where that is known.
 pub record Standing : Type 0 where
   pub shown : Shown
   pub ledger : Ledger
   pub told : Option Image
   pub faults : Faults
+  pub sink : Option (List ℕ)
 
 -- how many turns a run has at most
 abbrev pub most_turns : ℕ

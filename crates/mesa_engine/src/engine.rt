@@ -43,6 +43,7 @@ impl<N: Naming, M: Made, D: Disk<M>, K: Sink> Model for Engine<N, M, D, K> {
       ledger = e.metadata.ledger;
       told = (D.story e.disk).told;
       faults = faults_of (D.story e.disk);
+      sink = K.held e.log.printer.sink;
     } };
 
     ghost invariant = { λ e. IsEngine K.held K.faults (starts_of N.script N.start N.sound N.origin N.since N.counted N.at_start) N.room N.sink_faults e.metadata (D.story e.disk) e.log };

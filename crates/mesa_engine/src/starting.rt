@@ -50,6 +50,7 @@ impl<N: Naming, M: Made, D: Disk<M>, K: Sink> Engine<N, M, D, K> {
         ensures ledger { result.ledger ≡ opened_ledger catalog.catalogue end lease }
         ensures told { result.told ≡ (D.story disk).told }
         ensures counts { result.faults ≡ faults_of (D.story disk) }
+        ensures sink { result.sink ≡ K.held sink }
     {
         Engine {
             metadata: Metadata::new(alloc, catalog, end, lease),

@@ -8,6 +8,7 @@ use Rattle.mesa_skeleton.specs.Rows.{Rows, no_rows}
 use Rattle.mesa_ledger.specs.Vault.{Starts}
 use Rattle.mesa_ledger.proofs.Beginning.{vault_at_seen}
 use Rattle.mesa_tasks.specs.GivingBack.{pinned_inputs}
+use Rattle.mesa_ledger.specs.mesa_walk.Printing.{IsPut}
 use Rattle.mesa_ledger.specs.mesa_walk.Queries.{closing_fault}
 use Rattle.mesa_ledger.specs.mesa_walk.Turns.{AnswersDisk, Shown, SomeRose, Takes, faults_of}
 use Rattle.mesa_ledger.specs.mesa_walk.Walk.{Counts, run_at}
@@ -114,3 +115,18 @@ returns-clause-disk g c =
     subst (λ (x : Standing). AnswersDisk N.script (N.start no_rows) x.shown new (SomeRose x.faults (faults_of new_story))) c.engine.view_is
     (disk_counted N.script (N.start no_rows) (record { history = h; running = not i.log.printer.broken; clock = story.moment }) new e c.print.ensures.items story new_story refl
     (subst (Counts story new_story) (sym (closing_answers (closes (run_at N.script (N.start no_rows) h).moment e) answered)) counts))
+
+pub returns-then-not-running-clause-prints : goal.returns-then-not-running-clause-prints
+returns-then-not-running-clause-prints g c on = absurd (let no : true ≡ false = sym on ∙ sym c.running.ensures ∙ c.if-not-running.true in cc)
+
+pub returns-clause-prints : goal.returns-clause-prints
+returns-clause-prints g c on =
+    let s = c.args.who.session in
+    let number = c.args.who.command in
+    let answered = c.args.answered in
+    let at = c.args.pinned.at in
+    let version = c.args.pinned.version in
+    let later = c.print.new.log.printer in
+    let now = g.K.Sink.held later.sink in
+    subst (λ (x : Standing). IsPut (closing_text (closing_entry s number answered (g.D.Disk.story c.retire_pinned.new.disk).moment) at version answered) (not later.broken) x.sink now) c.engine.view_is
+    (subst (λ m. IsPut (closing_text (closing_entry s number answered m) at version answered) (not later.broken) (g.K.Sink.held c.engine.inside.log.printer.sink) now) c.clock-moment.ensures c.print.ensures.put)

@@ -1,4 +1,4 @@
-use Rattle.std.proofs.Common.{◌≡◌, ◌∷◌, ◌++◌, [], length, Option, ℕ, IsTrue, true, not, refl, sym, ◌∙◌, ap, subst, arith}
+use Rattle.std.proofs.Common.{◌≡◌, ◌∷◌, ◌++◌, [], length, Option, Some, ℕ, IsTrue, true, false, not, refl, sym, ◌∙◌, ap, subst, arith}
 use Rattle.std.specs.Prelude.{◌==◌}
 use Rattle.mesa_fault.specs.Causes.{last}
 use Rattle.mesa_history.specs.Counting.{answers_bench}
@@ -14,9 +14,11 @@ use Rattle.mesa_ledger.proofs.Beginning.{vault_at_seen}
 use Rattle.mesa_log.specs.Failure.{cause_in}
 use Rattle.mesa_log.specs.Printing.{PrintsBlock}
 use Rattle.mesa_metadata.specs.Memory.{Memory}
+use Rattle.mesa_output.specs.Output.{block}
 use Rattle.mesa_skeleton.specs.Rows.{no_rows}
 use Rattle.mesa_tasks.specs.GivingBack.{task_inputs}
-use Rattle.mesa_ledger.specs.mesa_walk.Causes.{is_read_fault, outcome_of, reply_of, told_at}
+use Rattle.mesa_ledger.specs.mesa_walk.Causes.{Cause, is_read_fault, outcome_of, reply_of, told_at}
+use Rattle.mesa_ledger.specs.mesa_walk.Printing.{IsPut}
 use Rattle.mesa_ledger.specs.mesa_walk.Turns.{AnswersDisk, AnswersDraft, Shown, SomeRose, Takes, entry, faults_of}
 use Rattle.mesa_ledger.specs.mesa_walk.Walk.{run_at}
 use Rattle.mesa_ledger.proofs.mesa_walk.Alike.{due_alike}
@@ -27,7 +29,7 @@ use Rattle.mesa_engine.proofs.Drafting.{answers_where}
 use Rattle.mesa_tasks.specs.Tasks.{claim_in}
 use Rattle.mesa_tasks.specs.declared.merging.CompactError.TheVariants as compact
 use Rattle.mesa_asking.proofs.Closes.{given_counts}
-use Rattle.mesa_completing.specs.Unmerged.{closing_ledger}
+use Rattle.mesa_completing.specs.Unmerged.{closing_cause, closing_ledger}
 use Rattle.mesa_completing.proofs.Closings.{closing_read, closing_refuses, given_up_engine, given_up_takes, only_draft}
 use Rattle.mesa_completing.proofs.unmerged.give_up.Goals as goal
 
@@ -160,3 +162,31 @@ returns-clause-disk g c =
     subst (λ (x : Standing). AnswersDisk N.script (N.start no_rows) x.shown new (SomeRose x.faults (faults_of new_story))) c.engine.view_is
     (disk_caused N.script (N.start no_rows) (record { history = h; running = not i.log.printer.broken; clock = story.moment }) new e c.fail.ensures.items story new_story refl cause refl counts
     (λ below unwritten. not_closing (run_at N.script (N.start no_rows) h).moment story.moment e (c.engine.invariant.vault no_rows false (λ z. absurd cc)).walk.at there (c.clock-moment.ensures ∙ same) (omega (arith, below, same))))
+
+pub returns-then-not-running-clause-outcome : goal.returns-then-not-running-clause-outcome
+returns-then-not-running-clause-outcome g c on = absurd (let no : true ≡ false = sym on ∙ sym c.running.ensures ∙ c.if-not-running.true in cc)
+
+pub returns-clause-outcome : goal.returns-clause-outcome
+returns-clause-outcome g c on =
+    let h = c.engine.inside.log.history.items in
+    let who = c.args.who in
+    let now = (g.D.Disk.story c.retire_task.new.disk).moment in
+    subst (λ (x : Standing). c.fail.new.self.history.items ≡ x.shown.history ++ entry who.session who.command kind.Close (outcome_of (closing_cause x.ledger.closed c.args.error)) now ∷ []) c.engine.view_is
+    (c.fail.ensures.items ∙ (λ j. h ++ entry who.session who.command kind.Close (outcome_of (c.fall-failure.ensures.cause j)) (c.clock-moment.ensures j) ∷ []))
+
+pub returns-then-not-running-clause-prints : goal.returns-then-not-running-clause-prints
+returns-then-not-running-clause-prints g c on = absurd (let no : true ≡ false = sym on ∙ sym c.running.ensures ∙ c.if-not-running.true in cc)
+
+pub returns-clause-prints : goal.returns-clause-prints
+returns-clause-prints g c on =
+    let i = c.engine.inside in
+    let h = i.log.history.items in
+    let who = c.args.who in
+    let error = c.args.error in
+    let later = c.fail.new.self.printer in
+    let now = g.K.Sink.held later.sink in
+    let block_of = λ (cause : Cause) (m : ℕ) (at : ℕ). block (entry who.session who.command kind.Close (outcome_of cause) m) (Some (told_at at (reply_of cause))) in
+    let put : IsPut (block_of (cause_in c.fall-failure.result) c.clock-moment.result (length h)) (not later.broken) (g.K.Sink.held i.log.printer.sink) now = c.fail.ensures.told.put in
+    subst (λ (x : Standing). IsPut (block_of (closing_cause x.ledger.closed error) (g.D.Disk.story c.retire_task.new.disk).moment (length x.shown.history)) (not later.broken) x.sink now) c.engine.view_is
+    (subst (λ k. IsPut (block_of k (g.D.Disk.story c.retire_task.new.disk).moment (length h)) (not later.broken) (g.K.Sink.held i.log.printer.sink) now) c.fall-failure.ensures.cause
+    (subst (λ m. IsPut (block_of (cause_in c.fall-failure.result) m (length h)) (not later.broken) (g.K.Sink.held i.log.printer.sink) now) c.clock-moment.ensures put))
