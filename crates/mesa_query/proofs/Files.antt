@@ -116,7 +116,7 @@ moved_pinned bytes size s view [] (y ∷ new) m all = absurd m
 moved_pinned bytes size s view (file ∷ old) [] m all = absurd m
 moved_pinned {R = R} bytes size s view (file ∷ old) (y ∷ new) m all = (
   pinned_after bytes s view file y (moved_same bytes size file y m.0) (moved_own bytes size file y m.0)
-  (stays_input bytes file.input y.input (ap (λ (f : PinnedInput R). f.input) m.0.file) m.0.told all.0.input) all.0,
+      (stays_input bytes file.input y.input (ap (λ (f : PinnedInput R). f.input) m.0.file) m.0.told all.0.input) all.0,
   moved_pinned bytes size s view old new m.1 all.1,
 )
 
