@@ -93,8 +93,8 @@ pub fn page_of<R: FileReader + Drop>(
     answer(alloc, &mut pinned)
 }
 
-// What the query is answered from an older and a newer file of the table `t`.
-fn answered<R: FileReader + Drop>(
+/// What the query is answered from an older and a newer file of the table `t`.
+pub fn answered<R: FileReader + Drop>(
     rt: &impl Abort,
     alloc: Global,
     older: Source<R>,

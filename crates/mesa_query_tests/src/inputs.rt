@@ -67,11 +67,21 @@ pub fn source_of(
     turned: Option<usize>,
 ) -> Source<MemReader> {
     let mut bytes = bytes_of(rt, alloc, vector);
-    let file = reference(rt, alloc, vector, bytes.len() as u64);
     if let Some(place) = turned {
         assert!(rt; place < bytes.len());
         bytes[place] ^= 1;
     }
+    source_over(rt, alloc, vector, bytes)
+}
+
+/// A file of which these bytes are read.
+pub fn source_over(
+    rt: &impl Abort,
+    alloc: Global,
+    vector: &Vector,
+    bytes: Vec<u8>,
+) -> Source<MemReader> {
+    let file = reference(rt, alloc, vector, bytes.len() as u64);
     Source {
         reader: reader_of(rt, alloc, file.id, bytes),
         file,

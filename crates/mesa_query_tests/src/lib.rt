@@ -6,6 +6,8 @@ mod answering;
 #[cfg(test)]
 mod inputs;
 #[cfg(test)]
+mod read_ahead;
+#[cfg(test)]
 mod scanning;
 #[cfg(test)]
 mod tables;
