@@ -19,8 +19,8 @@ use Rattle.mesa_schema.specs.declared.changes.Change.TheVariants.{AddValue, Drop
 use Rattle.mesa_schema.specs.Changes.{is_of_kind}
 use Rattle.mesa_schema.specs.Names.{is_name}
 use Rattle.mesa_schema.specs.Codes.{agg_byte, agg_of, kind_byte, kind_of}
-use Rattle.mesa_record.specs.Reading.{Left, Read, add_key_at, add_value_at, amount_at, byte_at, change_at, drop_value_at, flag_of, key_column_at, key_default_at, many, meaning, name_at, ruled, text_at, value_column_at}
-use Rattle.mesa_record.specs.Rules.{IsKeyValue, IsNamed, IsTypedChange, is_change}
+use Rattle.mesa_record.specs.Reading.{Left, Read, add_key_at, add_value_at, amount_at, byte_at, change_at, drop_value_at, flag_of, key_column_at, key_columns_at, key_default_at, many, meaning, name_at, names_at, ruled, text_at, value_column_at, value_columns_at}
+use Rattle.mesa_record.specs.Rules.{IsKeyValue, IsNamed, IsTypedChange, is_change, is_count_of_columns}
 use Rattle.mesa_record.specs.Spelling.{amount, change, counted, flag, key_column, key_default, text, value_column}
 use Rattle.mesa_record.proofs.Both.{Again, Begins, Found, InOrder, begins_two, here, list_again, list_found, of_ok, step_of}
 use Rattle.mesa_record.proofs.Numbers.{amount_again, amount_found, byte_again, byte_found, one}
@@ -232,7 +232,7 @@ in_any_order : {A : Type 0} (Is : A → Type 0) (least : ℕ) (xs : List A) → 
 in_any_order Is least [] all = tt
 in_any_order Is least (x ∷ xs) all = (all.0, in_any_order Is 1 xs all.1)
 
-all_of_order : {A : Type 0} (Is : A → Type 0) (least : ℕ) (xs : List A) → InOrder (λ least x. Is x) (λ x. 0) least xs → AllByRecursion Is xs
+pub all_of_order : {A : Type 0} (Is : A → Type 0) (least : ℕ) (xs : List A) → InOrder (λ least x. Is x) (λ x. 0) least xs → AllByRecursion Is xs
 all_of_order Is least [] all = tt
 all_of_order Is least (x ∷ xs) all = (all.0, all_of_order Is 1 xs all.1)
 
@@ -261,3 +261,32 @@ counted_found rule read spell Is found l after xs bytes h =
       record { all = all_of_order Is 1 xs g.order; count = subst (λ n. IsTrue (rule n)) (sym g.count) f.0.1 },
       subst (λ n. Begins l (one n ++ flat_map spell xs) after) (sym g.count) (begins_two l s.0.1 after (one s.0.0) (flat_map spell xs) f.1 g.begins),
     )
+
+-- ---- lists of columns, and of their names
+
+abbrev pub HasKeys : List KeyColumn → Type 0
+HasKeys keys = IsCounted is_count_of_columns (λ (c : KeyColumn). IsNamed c.name) keys
+
+abbrev pub HasValues : List ValueColumn → Type 0
+HasValues values = IsCounted is_count_of_columns (λ (c : ValueColumn). IsNamed c.name) values
+
+pub keys_again : (keys : List KeyColumn) → HasKeys keys → Again key_columns_at (counted key_column keys) keys
+keys_again keys has = counted_again is_count_of_columns key_column_at key_column (λ (c : KeyColumn). IsNamed c.name) key_column_again keys has.all has.count
+
+pub keys_found : Found key_columns_at (counted key_column) HasKeys
+keys_found = counted_found is_count_of_columns key_column_at key_column (λ (c : KeyColumn). IsNamed c.name) key_column_found
+
+pub values_again : (values : List ValueColumn) → HasValues values → Again value_columns_at (counted value_column values) values
+values_again values has = counted_again is_count_of_columns value_column_at value_column (λ (c : ValueColumn). IsNamed c.name) value_column_again values has.all has.count
+
+pub values_found : Found value_columns_at (counted value_column) HasValues
+values_found = counted_found is_count_of_columns value_column_at value_column (λ (c : ValueColumn). IsNamed c.name) value_column_found
+
+abbrev pub HasNames : List (List ℕ) → Type 0
+HasNames names = IsCounted is_count_of_columns IsNamed names
+
+pub names_again : (names : List (List ℕ)) → HasNames names → Again names_at (counted text names) names
+names_again names has = counted_again is_count_of_columns name_at text IsNamed name_again names has.all has.count
+
+pub names_found : Found names_at (counted text) HasNames
+names_found = counted_found is_count_of_columns name_at text IsNamed name_found

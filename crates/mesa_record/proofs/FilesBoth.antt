@@ -1,23 +1,23 @@
 -- References to files, and the files of deltas, both ways.
 use Rattle.std.proofs.Common.{◌≡◌, inl, inr, arith, [], ◌∷◌, ℕ, ◌+◌, ◌<◌, ◌^◌, List, ◌++◌, length, refl, sym, ap, subst, ◌∙◌, append_assoc, Bool, true, false, Ok, Option, Some, None}
-use Rattle.std.specs.Prelude.{IsTrue, ◌&&◌, flat_map, nat_le}
+use Rattle.std.specs.Prelude.{IsTrue, ◌&&◌, flat_map, map, nat_le}
 use Rattle.std.proofs.lemmas.Bool.{ltb-true, lt-ltb}
 use Rattle.mesa_list.specs.Checks.{◌>>=◌}
 use Rattle.mesa_list.proofs.Whole.{both}
 use Rattle.std.specs.Prelude.{ℤ, ◌==◌}
-use Rattle.std.specs.List.{AllByRecursion}
+use Rattle.std.specs.List.{AllByRecursion, list_all}
 use Rattle.std.proofs.lemmas.Bool.{eqb-true}
 use Rattle.mesa_value.specs.Agg.{IsAmount}
 use Rattle.mesa_key.specs.declared.Format.{Format}
 use Rattle.mesa_key.specs.declared.Format.TheVariants as format
 use Rattle.mesa_record.specs.declared.edition.Edition.{Edition}
-use Rattle.mesa_record.specs.declared.edition.Edition.TheVariants.{First, Second}
+use Rattle.mesa_record.specs.declared.edition.Edition.TheVariants.{First, Second, Third}
 use Rattle.mesa_file.specs.declared.file_ref.FileRef.{FileRef}
 use Rattle.mesa_record.specs.declared.record.ViewRef.{ViewRef}
 use Rattle.mesa_record.specs.declared.record.Files.{Files}
 use Rattle.mesa_record.specs.declared.record.Part.{Part}
 use Rattle.mesa_record.specs.Reading.{Left, Read, aggregate_at, aggregates_at, byte_at, format_at, format_of, total_at, count_at, file_ref_at, files_at, files_if, files_if_any_at, flag_of, half_at, key_at, long_at, meaning, not_zero, part_at, piece_at, ruled, totals_at, view_number, view_ref_at, view_refs_at, word_at}
-use Rattle.mesa_record.specs.Rules.{FitsRef, FitsTotals, IsHalf, IsLong, IsTotal, IsTypedRef, IsWord, is_count_of_columns, is_file_ref, is_key_length}
+use Rattle.mesa_record.specs.Rules.{AreTypedFiles, FitsFiles, FitsFilesIfAny, FitsRef, FitsTotals, FitsView, IsHalf, IsLong, IsTotal, IsTypedFiles, IsTypedRef, IsTypedView, IsWord, are_files, are_files_if_any, are_view_refs, is_count_of_columns, is_file_ref, is_key_length, rise_from}
 use Rattle.mesa_record.specs.Spelling.{aggregate, counted, format_byte, format_field, total, file_keys, file_ref, file_sizes, files, files_if_any, flag, half, key, long, part, view_ref, word}
 use Rattle.mesa_record.proofs.Both.{Again, Begins, Found, InOrder, begins_two, here, list_again, list_found, of_ok, ok_is, step_of}
 use Rattle.mesa_record.proofs.Numbers.{IsAggregate, IsTotalIn, aggregate_again, aggregate_found, total_again, total_found, byte_again, byte_found, half_again, half_found, long_again, long_found, one, piece_again, piece_found, word_again, word_found}
@@ -34,6 +34,7 @@ all_true false b x y = absurd cc
 wider : (e : Edition) (z : ℤ) → IsAggregate e z → IsAmount z
 wider First z h = omega (arith, h)
 wider Second z h = h
+wider Third z h = h
 
 pub all_wider : (e : Edition) (zs : List ℤ) → AllByRecursion (IsAggregate e) zs → AllByRecursion IsAmount zs
 all_wider e [] all = tt
@@ -42,6 +43,7 @@ all_wider e (z ∷ zs) all = (wider e z all.0, all_wider e zs all.1)
 wider_total : (e : Edition) (n : ℕ) → IsTotalIn e n → IsTotal n
 wider_total First n h = omega (arith, h)
 wider_total Second n h = h
+wider_total Third n h = h
 
 pub totals_wider : (e : Edition) (ns : List ℕ) → AllByRecursion (IsTotalIn e) ns → AllByRecursion IsTotal ns
 totals_wider e [] all = tt
@@ -50,27 +52,33 @@ totals_wider e (n ∷ ns) all = (wider_total e n all.0, totals_wider e ns all.1)
 pub totals_fit : (e : Edition) (ns : List ℕ) → AllByRecursion (IsTotalIn e) ns → FitsTotals e ns
 totals_fit First ns all = all
 totals_fit Second ns all = tt
+totals_fit Third ns all = tt
 
 pub totals_in : (e : Edition) (ns : List ℕ) → AllByRecursion IsTotal ns → FitsTotals e ns → AllByRecursion (IsTotalIn e) ns
 totals_in First ns all fits = fits
 totals_in Second ns all fits = all
+totals_in Third ns all fits = all
 
 aggregates_in : (e : Edition) (f : FileRef) → IsTypedRef f → FitsRef e f → AllByRecursion (IsAggregate e) f.aggregates
 aggregates_in First f typed fits = fits.1
 aggregates_in Second f typed fits = typed.aggregates
+aggregates_in Third f typed fits = typed.aggregates
 
 -- the format that an edition tells
 abbrev TellsFormat : Edition → Format → Type 0
 TellsFormat First f = f ≡ format.One
 TellsFormat Second f = Unit {0}
+TellsFormat Third f = Unit {0}
 
 format_in : (e : Edition) (f : FileRef) → FitsRef e f → TellsFormat e f.format
 format_in First f fits = fits.0
 format_in Second f fits = tt
+format_in Third f fits = tt
 
 ref_fits : (e : Edition) (f : FileRef) → TellsFormat e f.format → AllByRecursion (IsAggregate e) f.aggregates → FitsRef e f
 ref_fits First f is all = (is, all)
 ref_fits Second f is all = tt
+ref_fits Third f is all = tt
 
 format_meant : (f : Format) → format_of (format_byte f) ≡ Some f
 format_meant format.One = refl
@@ -88,11 +96,13 @@ format_of_byte b f h = elim (first_of_two (b == 1) format.One f _ h) [
 format_again : (e : Edition) (f : Format) → TellsFormat e f → Again (format_at e) (format_field e f) f
 format_again First f is at more = (at, ap (λ (x : Format). Ok (x, here at more)) (sym is))
 format_again Second f is at more = meaning_again format_of (format_byte f) f (format_meant f) at more
+format_again Third f is at more = meaning_again format_of (format_byte f) f (format_meant f) at more
 
 format_found : (e : Edition) → Found (format_at e) (format_field e) (TellsFormat e)
 format_found First l after f bytes h =
     subst (λ (z : Format × Left). (z.0 ≡ format.One) × Begins l [] z.1) (ok_is (format.One, l) (f, after) h) (refl, record { split = refl; rest = bytes })
 format_found Second l after f bytes h = let g = meaning_found format_of format_byte format_of_byte l after f bytes h in (tt, g.1)
+format_found Third l after f bytes h = let g = meaning_found format_of format_byte format_of_byte l after f bytes h in (tt, g.1)
 
 -- a reference within its types that keeps the rules, and that an edition has room for
 pub record IsRef (e : Edition) (f : FileRef) : Type 0 where
@@ -277,6 +287,72 @@ files_if_any_found e l after f bytes h =
     let s = step_of (meaning flag_of l) _ _ h in
     let g = meaning_found flag_of flag flag_of_byte l s.0.1 s.0.0 bytes s.1 in
     files_if_found e s.0.0 l s.0.1 after f g.1 s.2
+
+-- ---- what the rules say, and what they are made of
+
+views_in_order : (e : Edition) (least : ℕ) (views : List ViewRef) → IsTrue (rise_from least (map (λ (v : ViewRef). v.view) views)) → IsTrue (list_all (λ (v : ViewRef). is_file_ref v.file) views) → AllByRecursion IsTypedView views → AllByRecursion (FitsView e) views → InOrder (IsView e) view_number least views
+views_in_order e least [] rise good typed fits = tt
+views_in_order e least (v ∷ views) rise good typed fits =
+    let r = both (nat_le least v.view) (rise_from (v.view + 1) (map (λ (v : ViewRef). v.view) views)) rise in
+    let g = both (is_file_ref v.file) (list_all (λ (v : ViewRef). is_file_ref v.file) views) good in
+    (record { number = r.0; small = typed.0.view; file = record { typed = typed.0.file; rules = g.0; fits = fits.0 } }, views_in_order e (v.view + 1) views r.1 g.1 typed.1 fits.1)
+
+record ViewsKeep (e : Edition) (least : ℕ) (views : List ViewRef) : Type 0 where
+  pub rise : IsTrue (rise_from least (map (λ (v : ViewRef). v.view) views))
+  pub good : IsTrue (list_all (λ (v : ViewRef). is_file_ref v.file) views)
+  pub typed : AllByRecursion IsTypedView views
+  pub fits : AllByRecursion (FitsView e) views
+
+views_keep : (e : Edition) (least : ℕ) (views : List ViewRef) → InOrder (IsView e) view_number least views → ViewsKeep e least views
+views_keep e least [] all = record { rise = refl; good = refl; typed = tt; fits = tt }
+views_keep e least (v ∷ views) all =
+    let rest = views_keep e (v.view + 1) views all.1 in
+    record {
+      rise = all_true (nat_le least v.view) _ all.0.number rest.rise;
+      good = all_true (is_file_ref v.file) _ all.0.file.rules rest.good;
+      typed = (record { view = all.0.small; file = all.0.file.typed }, rest.typed);
+      fits = (all.0.file.fits, rest.fits);
+    }
+
+pub files_of : (e : Edition) (f : Files) → IsTypedFiles f → FitsFiles e f → IsTrue (are_files f) → AreFiles e f
+files_of e f typed fits h =
+    let two = both (is_file_ref f.file) (are_view_refs f.views) h in
+    let views = both (nat_le (length f.views) 8 && rise_from 0 (map (λ (v : ViewRef). v.view) f.views)) (list_all (λ (v : ViewRef). is_file_ref v.file) f.views) two.1 in
+    let few = both (nat_le (length f.views) 8) (rise_from 0 (map (λ (v : ViewRef). v.view) f.views)) views.0 in
+    record { file = record { typed = typed.file; rules = two.0; fits = fits.file }; views = (views_in_order e 0 f.views few.1 views.1 typed.views fits.views, few.0) }
+
+pub files_keep : (e : Edition) (f : Files) → AreFiles e f → IsTypedFiles f × FitsFiles e f × IsTrue (are_files f)
+files_keep e f are =
+    let views = views_keep e 0 f.views are.views.0 in
+    let few = all_true (nat_le (length f.views) 8) (rise_from 0 (map (λ (v : ViewRef). v.view) f.views)) are.views.1 views.rise in (
+      record { file = are.file.typed; views = views.typed },
+      record { file = are.file.fits; views = views.fits },
+      all_true (is_file_ref f.file) (are_view_refs f.views) are.file.rules (all_true (nat_le (length f.views) 8 && rise_from 0 (map (λ (v : ViewRef). v.view) f.views)) (list_all (λ (v : ViewRef). is_file_ref v.file) f.views) few views.good),
+    )
+
+pub files_if_any_of : (e : Edition) (f : Option Files) → AreTypedFiles f → FitsFilesIfAny e f → IsTrue (are_files_if_any f) → AreFilesIfAny e f
+files_if_any_of e None typed fits h = tt
+files_if_any_of e (Some f) typed fits h = files_of e f typed fits h
+
+pub files_if_any_keep : (e : Edition) (f : Option Files) → AreFilesIfAny e f → AreTypedFiles f × FitsFilesIfAny e f × IsTrue (are_files_if_any f)
+files_if_any_keep e None are = (tt, tt, refl)
+files_if_any_keep e (Some f) are = files_keep e f are
+
+-- ---- totals
+
+pub totals_again : (e : Edition) (totals : List ℕ) → AllByRecursion IsTotal totals → FitsTotals e totals → IsTrue (nat_le (length totals) 16) → Again (totals_at e) (counted (total e) totals) totals
+totals_again e totals typed fits few = counted_again (λ n. nat_le n 16) (total_at e) (total e) (IsTotalIn e) (total_again e) totals (totals_in e totals typed fits) few
+
+-- totals within their type, no more of them than there may be, with room in an edition
+pub record AreTotals (e : Edition) (totals : List ℕ) : Type 0 where
+  pub typed : AllByRecursion IsTotal totals
+  pub few : IsTrue (nat_le (length totals) 16)
+  pub fits : FitsTotals e totals
+
+pub totals_found : (e : Edition) → Found (totals_at e) (counted (total e)) (AreTotals e)
+totals_found e l after totals bytes h =
+    let f = counted_found (λ n. nat_le n 16) (total_at e) (total e) (IsTotalIn e) (total_found e) l after totals bytes h in
+    (record { typed = totals_wider e totals f.0.all; few = f.0.count; fits = totals_fit e totals f.0.all }, f.1)
 
 -- ---- parts
 

@@ -5,4 +5,6 @@ pub mod Numbers
 pub mod Texts
 pub mod ColumnsBoth
 pub mod FilesBoth
+pub mod StatedBoth
 pub mod RecordsBoth
+pub mod Room

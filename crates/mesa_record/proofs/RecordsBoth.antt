@@ -1,5 +1,5 @@
 -- Records, both ways.
-use Rattle.std.proofs.Common.{◌≡◌, inl, inr, ℕ, ◌+◌, ◌<◌, ◌^◌, List, [], ◌∷◌, ◌++◌, length, refl, sym, ap, subst, ◌∙◌, append_assoc, append-nil, Bool, true, false, Result, Ok, Err, Option, Some, None}
+use Rattle.std.proofs.Common.{◌≡◌, inl, inr, ℕ, ◌+◌, ◌<◌, ◌^◌, List, [], ◌∷◌, ◌++◌, length, refl, sym, ap, subst, ◌∙◌, append_assoc, append-nil, Bool, true, false, Result, Ok, Err, Option}
 use Rattle.std.specs.Prelude.{IsTrue, ◌&&◌, ◌==◌, flat_map, if◌then◌else◌, map, nat_le, nat_lt}
 use Rattle.std.specs.List.{AllByRecursion, list_all}
 use Rattle.std.proofs.lemmas.Bool.{eqb-true, ltb-true, lt-ltb}
@@ -8,72 +8,25 @@ use Rattle.mesa_key.specs.Spelling.{AreBytes}
 use Rattle.mesa_schema.specs.declared.columns.KeyColumn.{KeyColumn}
 use Rattle.mesa_schema.specs.declared.columns.ValueColumn.{ValueColumn}
 use Rattle.mesa_record.specs.declared.edition.Edition.{Edition}
-use Rattle.mesa_record.specs.declared.edition.Edition.TheVariants.{First, Second}
+use Rattle.mesa_record.specs.declared.edition.Edition.TheVariants.{First, Second, Third}
 use Rattle.mesa_record.specs.declared.error.RecordError.{RecordError}
 use Rattle.mesa_record.specs.declared.record.Record.{Record}
 use Rattle.mesa_record.specs.declared.record.Record.TheVariants as record_of
-use Rattle.mesa_record.specs.declared.record.ViewRef.{ViewRef}
 use Rattle.mesa_record.specs.declared.record.Files.{Files}
 use Rattle.mesa_record.specs.declared.record.Part.{Part}
+use Rattle.mesa_record.specs.declared.checkpoint.Checkpoint.{Checkpoint}
 use Rattle.mesa_record.specs.Editions.{IsSpelled}
-use Rattle.mesa_record.specs.Reading.{Left, Read, alter_at, byte_at, change_at, ended, expire_at, expire_table_at, fields_of, files_if_any_at, flag_of, half_at, key_column_at, key_columns_at, meaning, name_at, names_at, part_at, part_number, publish_at, record_at, rising, run_at, swap_at, table_at, value_column_at, value_columns_at, view_at, view_number, word_at}
-use Rattle.mesa_record.specs.Rules.{AreTypedFiles, FitsFiles, FitsFilesIfAny, FitsIn, FitsPart, FitsView, IsHalf, IsNamed, IsRecord, IsTypedFiles, IsTypedPart, IsTypedView, IsWord, are_files, are_files_if_any, are_view_refs, is_count_of_columns, is_file_ref, is_part, rise_from}
-use Rattle.mesa_record.specs.Spelling.{change, counted, files_if_any, flag, half, key_column, part, publish_kind, spelled_in, swap_kind, text, value_column, word}
+use Rattle.mesa_record.specs.Reading.{Left, Read, alter_at, byte_at, change_at, checkpoint_at, ended, expire_at, expire_table_at, fields_of, file_ref_at, files_at, files_if_any_at, flag_of, half_at, key_columns_at, meaning, name_at, names_at, part_at, part_number, publish_at, record_at, rising, run_at, stated_at, swap_at, table_at, value_columns_at, view_at, word_at}
+use Rattle.mesa_record.specs.Rules.{FitsIn, FitsPart, IsHalf, IsNamed, IsRecord, IsTypedPart, IsWord, are_files, is_count_of_columns, is_part, rise_from}
+use Rattle.mesa_record.specs.Spelling.{change, checkpoint_fields, checkpoint_kind, counted, files_if_any, flag, half, key_column, part, publish_kind, spelled_in, swap_kind, text, value_column, word}
 use Rattle.mesa_record.proofs.Both.{Again, Begins, Bytes, Found, InOrder, all_bytes, begins_two, here, list_again, list_found, ok_is, step_of}
 use Rattle.mesa_record.proofs.Numbers.{byte_again, byte_found, half_again, half_found, one, word_again, word_found}
 use Rattle.mesa_record.proofs.Texts.{meaning_again, meaning_found}
-use Rattle.mesa_record.proofs.ColumnsBoth.{IsChange, IsCounted, change_again, change_found, counted_again, counted_found, either_way, flag_again, flag_of_byte, key_column_again, key_column_found, made_again, made_found, name_again, name_found, two_again, two_found, value_column_again, value_column_found}
-use Rattle.mesa_record.proofs.FilesBoth.{AreFiles, AreFilesIfAny, IsPart, IsView, all_true, files_if_any_again, files_if_any_found, part_again, part_found, totals_fit, totals_in, totals_wider}
+use Rattle.mesa_record.proofs.ColumnsBoth.{HasKeys, HasNames, HasValues, IsChange, change_again, change_found, either_way, flag_again, flag_of_byte, keys_again, keys_found, made_again, made_found, name_again, name_found, names_again, names_found, two_again, two_found, values_again, values_found}
+use Rattle.mesa_record.proofs.FilesBoth.{AreFilesIfAny, IsPart, all_true, files_if_any_again, files_if_any_found, files_if_any_keep, files_if_any_of, files_keep, files_of, part_again, part_found, totals_fit, totals_in, totals_wider}
+use Rattle.mesa_record.proofs.StatedBoth.{IsStated, stated_again, stated_found}
 
--- ---- what the rules say, list by list
-
-views_in_order : (e : Edition) (least : ℕ) (views : List ViewRef) → IsTrue (rise_from least (map (λ (v : ViewRef). v.view) views)) → IsTrue (list_all (λ (v : ViewRef). is_file_ref v.file) views) → AllByRecursion IsTypedView views → AllByRecursion (FitsView e) views → InOrder (IsView e) view_number least views
-views_in_order e least [] rise good typed fits = tt
-views_in_order e least (v ∷ views) rise good typed fits =
-    let r = both (nat_le least v.view) (rise_from (v.view + 1) (map (λ (v : ViewRef). v.view) views)) rise in
-    let g = both (is_file_ref v.file) (list_all (λ (v : ViewRef). is_file_ref v.file) views) good in
-    (record { number = r.0; small = typed.0.view; file = record { typed = typed.0.file; rules = g.0; fits = fits.0 } }, views_in_order e (v.view + 1) views r.1 g.1 typed.1 fits.1)
-
-record ViewsKeep (e : Edition) (least : ℕ) (views : List ViewRef) : Type 0 where
-  pub rise : IsTrue (rise_from least (map (λ (v : ViewRef). v.view) views))
-  pub good : IsTrue (list_all (λ (v : ViewRef). is_file_ref v.file) views)
-  pub typed : AllByRecursion IsTypedView views
-  pub fits : AllByRecursion (FitsView e) views
-
-views_keep : (e : Edition) (least : ℕ) (views : List ViewRef) → InOrder (IsView e) view_number least views → ViewsKeep e least views
-views_keep e least [] all = record { rise = refl; good = refl; typed = tt; fits = tt }
-views_keep e least (v ∷ views) all =
-    let rest = views_keep e (v.view + 1) views all.1 in
-    record {
-      rise = all_true (nat_le least v.view) _ all.0.number rest.rise;
-      good = all_true (is_file_ref v.file) _ all.0.file.rules rest.good;
-      typed = (record { view = all.0.small; file = all.0.file.typed }, rest.typed);
-      fits = (all.0.file.fits, rest.fits);
-    }
-
-files_of : (e : Edition) (f : Files) → IsTypedFiles f → FitsFiles e f → IsTrue (are_files f) → AreFiles e f
-files_of e f typed fits h =
-    let two = both (is_file_ref f.file) (are_view_refs f.views) h in
-    let views = both (nat_le (length f.views) 8 && rise_from 0 (map (λ (v : ViewRef). v.view) f.views)) (list_all (λ (v : ViewRef). is_file_ref v.file) f.views) two.1 in
-    let few = both (nat_le (length f.views) 8) (rise_from 0 (map (λ (v : ViewRef). v.view) f.views)) views.0 in
-    record { file = record { typed = typed.file; rules = two.0; fits = fits.file }; views = (views_in_order e 0 f.views few.1 views.1 typed.views fits.views, few.0) }
-
-files_keep : (e : Edition) (f : Files) → AreFiles e f → IsTypedFiles f × FitsFiles e f × IsTrue (are_files f)
-files_keep e f are =
-    let views = views_keep e 0 f.views are.views.0 in
-    let few = all_true (nat_le (length f.views) 8) (rise_from 0 (map (λ (v : ViewRef). v.view) f.views)) are.views.1 views.rise in (
-      record { file = are.file.typed; views = views.typed },
-      record { file = are.file.fits; views = views.fits },
-      all_true (is_file_ref f.file) (are_view_refs f.views) are.file.rules (all_true (nat_le (length f.views) 8 && rise_from 0 (map (λ (v : ViewRef). v.view) f.views)) (list_all (λ (v : ViewRef). is_file_ref v.file) f.views) few views.good),
-    )
-
-files_if_any_of : (e : Edition) (f : Option Files) → AreTypedFiles f → FitsFilesIfAny e f → IsTrue (are_files_if_any f) → AreFilesIfAny e f
-files_if_any_of e None typed fits h = tt
-files_if_any_of e (Some f) typed fits h = files_of e f typed fits h
-
-files_if_any_keep : (e : Edition) (f : Option Files) → AreFilesIfAny e f → AreTypedFiles f × FitsFilesIfAny e f × IsTrue (are_files_if_any f)
-files_if_any_keep e None are = (tt, tt, refl)
-files_if_any_keep e (Some f) are = files_keep e f are
+-- ---- what the rules say of a batch's parts
 
 parts_in_order : (e : Edition) (least : ℕ) (parts : List Part) → IsTrue (rise_from least (map (λ (p : Part). p.table) parts)) → IsTrue (list_all is_part parts) → AllByRecursion IsTypedPart parts → AllByRecursion (FitsPart e) parts → InOrder (IsPart e) part_number least parts
 parts_in_order e least [] rise good typed fits = tt
@@ -112,6 +65,7 @@ kind_number e (record_of.Publish version parts) = publish_kind e
 kind_number e (record_of.Swap table base from to epoch f) = swap_kind e
 kind_number e (record_of.Expire version) = 7
 kind_number e (record_of.ExpireTable table version) = 12
+kind_number e (record_of.Checkpoint k) = checkpoint_kind e
 
 -- a record's bytes behind its kind
 abbrev fields : Edition → Record → List ℕ
@@ -123,6 +77,7 @@ fields e (record_of.Publish version parts) = word version ++ (half (length parts
 fields e (record_of.Swap table base from to epoch f) = half table ++ (flag base ∷ (word from ++ (word to ++ (word epoch ++ files_if_any e f))))
 fields e (record_of.Expire version) = word version
 fields e (record_of.ExpireTable table version) = half table ++ word version
+fields e (record_of.Checkpoint k) = checkpoint_fields e k
 
 spelled_so : (e : Edition) (r : Record) → spelled_in e r ≡ one (kind_number e r) ++ fields e r
 unfolding spelled_in
@@ -134,28 +89,17 @@ spelled_so e (record_of.Publish version parts) = refl
 spelled_so e (record_of.Swap table base from to epoch f) = refl
 spelled_so e (record_of.Expire version) = refl
 spelled_so e (record_of.ExpireTable table version) = refl
-
-abbrev HasKeys : List KeyColumn → Type 0
-HasKeys keys = IsCounted is_count_of_columns (λ (c : KeyColumn). IsNamed c.name) keys
-
-abbrev HasValues : List ValueColumn → Type 0
-HasValues values = IsCounted is_count_of_columns (λ (c : ValueColumn). IsNamed c.name) values
-
-abbrev HasNames : List (List ℕ) → Type 0
-HasNames names = IsCounted is_count_of_columns IsNamed names
+spelled_so e (record_of.Checkpoint k) = refl
 
 table_again : (name : List ℕ) (keys : List KeyColumn) (values : List ValueColumn) → IsNamed name → HasKeys keys → HasValues values → Again table_at (fields Second (record_of.Table name keys values)) (record_of.Table name keys values)
 table_again name keys values named k v at more =
     let b2 = counted value_column values ++ more in
     let b1 = counted key_column keys ++ b2 in
     let r1 = name_again name named at b1 in
-    let r2 = counted_again is_count_of_columns key_column_at key_column (λ (c : KeyColumn). IsNamed c.name) key_column_again keys k.all k.count r1.0 b2 in
-    let r3 = counted_again is_count_of_columns value_column_at value_column (λ (c : ValueColumn). IsNamed c.name) value_column_again values v.all v.count r2.0 more in
+    let r2 = keys_again keys k r1.0 b2 in
+    let r3 = values_again values v r2.0 more in
     let flat : fields Second (record_of.Table name keys values) ++ more ≡ text name ++ b1 = simp append_assoc refl in
     (r3.0, ap (λ bytes. table_at (here at bytes)) flat ∙ rw (r1.1, r2.1, r3.1) refl)
-
-names_again : (names : List (List ℕ)) → HasNames names → Again names_at (counted text names) names
-names_again names has = counted_again is_count_of_columns name_at text IsNamed name_again names has.all has.count
 
 view_again : (table : ℕ) (name : List ℕ) (keys values : List (List ℕ)) → IsHalf table → IsNamed name → HasNames keys → HasNames values → Again view_at (fields Second (record_of.View table name keys values)) (record_of.View table name keys values)
 view_again table name keys values small named k v at more =
@@ -202,6 +146,18 @@ publish_fields e version parts is fits =
     let few = both (nat_lt (length parts) (2 ^ 16)) (rise_from 0 (map (λ (p : Part). p.table) parts)) two.0 in
     publish_again e version parts is.typed.0 (ltb-true _ _ few.0) (parts_in_order e 0 parts few.1 two.1 is.typed.1 fits)
 
+-- a batch and a merged range are read alike in the third edition and in the second
+reads_publish : publish_at Third ≡ publish_at Second
+unfolding file_ref_at files_at
+reads_publish = refl
+
+reads_swap : swap_at Third ≡ swap_at Second
+unfolding file_ref_at files_at
+reads_swap = refl
+
+stated_fields : (e : Edition) (k : Checkpoint) → IsRecord (record_of.Checkpoint k) → FitsIn e (record_of.Checkpoint k) → Again (checkpoint_at e) (fields e (record_of.Checkpoint k)) (record_of.Checkpoint k)
+stated_fields e k is fits = made_again (stated_at e) record_of.Checkpoint (checkpoint_fields e k) k (stated_again e k (record { typed = is.typed; rules = is.rules; fits = fits }))
+
 -- the fields of a record are read again
 fields_again : (e : Edition) (r : Record) → IsRecord r → FitsIn e r → (place : ℕ) → Again (fields_of place (kind_number e r)) (fields e r) r
 unfolding fields_of
@@ -216,13 +172,21 @@ fields_again e (record_of.Alter table c) is fits place =
     two_again half_at (λ table. change_at) record_of.Alter (half table) (change c) table c (half_again table is.typed.0) (change_again c (is.typed.1, is.rules))
 fields_again First (record_of.Publish version parts) is fits place = publish_fields First version parts is fits
 fields_again Second (record_of.Publish version parts) is fits place = publish_fields Second version parts is fits
+fields_again Third (record_of.Publish version parts) is fits place =
+    subst (λ (read : Left → Read Record). Again read (fields Third (record_of.Publish version parts)) (record_of.Publish version parts)) reads_publish (publish_fields Third version parts is fits)
 fields_again First (record_of.Swap table base from to epoch f) is fits place =
     swap_again First table base from to epoch f is.typed.0 is.typed.1 is.typed.2 is.typed.3 (files_if_any_of First f is.typed.4 fits is.rules)
 fields_again Second (record_of.Swap table base from to epoch f) is fits place =
     swap_again Second table base from to epoch f is.typed.0 is.typed.1 is.typed.2 is.typed.3 (files_if_any_of Second f is.typed.4 fits is.rules)
+fields_again Third (record_of.Swap table base from to epoch f) is fits place =
+    subst (λ (read : Left → Read Record). Again read (fields Third (record_of.Swap table base from to epoch f)) (record_of.Swap table base from to epoch f)) reads_swap
+    (swap_again Third table base from to epoch f is.typed.0 is.typed.1 is.typed.2 is.typed.3 (files_if_any_of Third f is.typed.4 fits is.rules))
 fields_again e (record_of.Expire version) is fits place = made_again word_at record_of.Expire (word version) version (word_again version is.typed)
 fields_again e (record_of.ExpireTable table version) is fits place =
     two_again half_at (λ table. word_at) record_of.ExpireTable (half table) (word version) table version (half_again table is.typed.0) (word_again version is.typed.1)
+fields_again First (record_of.Checkpoint k) is fits place = stated_fields First k is fits
+fields_again Second (record_of.Checkpoint k) is fits place = stated_fields Second k is fits
+fields_again Third (record_of.Checkpoint k) is fits place = stated_fields Third k is fits
 
 -- a record is read again from its spelling
 pub record_again : (e : Edition) (r : Record) → IsRecord r → FitsIn e r → record_at (spelled_in e r) ≡ Ok r
@@ -262,18 +226,15 @@ table_found l after r bytes h =
     let s1 = step_of (name_at l) _ _ h in
     let f1 = name_found l s1.0.1 s1.0.0 bytes s1.1 in
     let s2 = step_of (key_columns_at s1.0.1) _ _ s1.2 in
-    let f2 = counted_found is_count_of_columns key_column_at key_column (λ (c : KeyColumn). IsNamed c.name) key_column_found s1.0.1 s2.0.1 s2.0.0 f1.1.rest s2.1 in
+    let f2 = keys_found s1.0.1 s2.0.1 s2.0.0 f1.1.rest s2.1 in
     let s3 = step_of (value_columns_at s2.0.1) _ _ s2.2 in
-    let f3 = counted_found is_count_of_columns value_column_at value_column (λ (c : ValueColumn). IsNamed c.name) value_column_found s2.0.1 s3.0.1 s3.0.0 f2.1.rest s3.1 in
+    let f3 = values_found s2.0.1 s3.0.1 s3.0.0 f2.1.rest s3.1 in
     let made = record_of.Table s1.0.0 s2.0.0 s3.0.0 in
     let rules = all_true (is_count_of_columns (length s2.0.0)) (is_count_of_columns (length s3.0.0)) f2.0.count f3.0.count in
     subst (λ (z : Record × Left). IsOfKind Second 2 z.0 × Begins l (fields Second z.0) z.1) (ok_is (made, s3.0.1) (r, after) s3.2) (
       record { «record» = record { typed = (f1.0, f2.0.all, f3.0.all); rules = rules }; fits = tt; kind = refl },
       begins_two l s1.0.1 s3.0.1 _ _ f1.1 (begins_two s1.0.1 s2.0.1 s3.0.1 _ _ f2.1 f3.1),
     )
-
-names_found : Found names_at (counted text) HasNames
-names_found = counted_found is_count_of_columns name_at text IsNamed name_found
 
 view_found : FoundFields Second 3 view_at
 view_found l after r bytes h =
@@ -332,6 +293,10 @@ swap_found e l after r bytes h =
       begins_two l s0.0.1 s5.0.1 _ _ f0.1 (begins_two s0.0.1 s1.0.1 s5.0.1 _ _ f1.1 (begins_two s1.0.1 s2.0.1 s5.0.1 _ _ f2.1 (begins_two s2.0.1 s3.0.1 s5.0.1 _ _ f3.1 (begins_two s3.0.1 s4.0.1 s5.0.1 _ _ f4.1 f5.1)))),
     )
 
+checkpoint_found : (e : Edition) → FoundFields e (checkpoint_kind e) (checkpoint_at e)
+checkpoint_found e = made_found (stated_at e) record_of.Checkpoint (IsStated e) (IsOfKind e (checkpoint_kind e)) (checkpoint_fields e) (fields e) (stated_found e)
+    (λ k is. (record { «record» = record { typed = is.typed; rules = is.rules }; fits = is.fits; kind = refl }, refl))
+
 -- what was read behind a kind is a record of it, in an edition
 abbrev BehindIn : Edition → ℕ → Left → Left → Record → Type 0
 BehindIn e b l after r = IsOfKind e b r × Begins l (fields e r) after
@@ -358,13 +323,22 @@ fields_found place b l after r bytes h = elim (either_way (b == 1) (run_at l) _ 
             | inl is ↦ of_number First 6 b l after r is.0 (swap_found First l after r bytes is.1)
             | inr h6 ↦ elim (either_way (b == 7) (expire_at l) _ (r, after) h6) [
               | inl is ↦ of_number Second 7 b l after r is.0 (expire_found l after r bytes is.1)
-              | inr h7 ↦ elim (either_way (b == 9) (publish_at Second l) _ (r, after) h7) [
-                | inl is ↦ of_number Second 9 b l after r is.0 (publish_found Second l after r bytes is.1)
-                | inr h9 ↦ elim (either_way (b == 10) (swap_at Second l) _ (r, after) h9) [
-                  | inl is ↦ of_number Second 10 b l after r is.0 (swap_found Second l after r bytes is.1)
-                  | inr h10 ↦ elim (either_way (b == 12) (expire_table_at l) _ (r, after) h10) [
-                    | inl is ↦ of_number Second 12 b l after r is.0 (expire_table_found l after r bytes is.1)
-                    | inr h12 ↦ absurd cc
+              | inr h7 ↦ elim (either_way (b == 8) (checkpoint_at First l) _ (r, after) h7) [
+                | inl is ↦ of_number First 8 b l after r is.0 (checkpoint_found First l after r bytes is.1)
+                | inr h8 ↦ elim (either_way (b == 9) (publish_at Second l) _ (r, after) h8) [
+                  | inl is ↦ of_number Second 9 b l after r is.0 (publish_found Second l after r bytes is.1)
+                  | inr h9 ↦ elim (either_way (b == 10) (swap_at Second l) _ (r, after) h9) [
+                    | inl is ↦ of_number Second 10 b l after r is.0 (swap_found Second l after r bytes is.1)
+                    | inr h10 ↦ elim (either_way (b == 11) (checkpoint_at Second l) _ (r, after) h10) [
+                      | inl is ↦ of_number Second 11 b l after r is.0 (checkpoint_found Second l after r bytes is.1)
+                      | inr h11 ↦ elim (either_way (b == 12) (expire_table_at l) _ (r, after) h11) [
+                        | inl is ↦ of_number Second 12 b l after r is.0 (expire_table_found l after r bytes is.1)
+                        | inr h12 ↦ elim (either_way (b == 13) (checkpoint_at Third l) _ (r, after) h12) [
+                          | inl is ↦ of_number Third 13 b l after r is.0 (checkpoint_found Third l after r bytes is.1)
+                          | inr h13 ↦ absurd cc
+                        ]
+                      ]
+                    ]
                   ]
                 ]
               ]

@@ -14,10 +14,11 @@ use Rattle.mesa_schema.specs.declared.columns.ValueColumn.{ValueColumn}
 use Rattle.mesa_schema.specs.Codes.{agg_of, kind_of}
 use Rattle.mesa_schema.specs.declared.changes.Change.{Change}
 use Rattle.mesa_schema.specs.declared.changes.Change.TheVariants.{AddValue, DropValue, AddKey}
+use Rattle.mesa_schema.specs.declared.views.View.{View}
 use Rattle.mesa_schema.specs.Names.{is_name}
 use Rattle.mesa_file.specs.declared.file_ref.FileRef.{FileRef}
 use Rattle.mesa_record.specs.declared.edition.Edition.{Edition}
-use Rattle.mesa_record.specs.declared.edition.Edition.TheVariants.{First, Second}
+use Rattle.mesa_record.specs.declared.edition.Edition.TheVariants.{First, Second, Third}
 use Rattle.mesa_record.specs.declared.error.RecordError.{RecordError}
 use Rattle.mesa_record.specs.declared.error.RecordError.TheVariants as fault
 use Rattle.mesa_record.specs.declared.record.Record.{Record}
@@ -25,6 +26,12 @@ use Rattle.mesa_record.specs.declared.record.Record.TheVariants as record_of
 use Rattle.mesa_record.specs.declared.record.ViewRef.{ViewRef}
 use Rattle.mesa_record.specs.declared.record.Files.{Files}
 use Rattle.mesa_record.specs.declared.record.Part.{Part}
+use Rattle.mesa_record.specs.declared.checkpoint.StatedRange.{StatedRange}
+use Rattle.mesa_record.specs.declared.checkpoint.StatedSingle.{StatedSingle}
+use Rattle.mesa_record.specs.declared.checkpoint.StatedTable.{StatedTable}
+use Rattle.mesa_record.specs.declared.checkpoint.StatedColumns.{StatedColumns}
+use Rattle.mesa_record.specs.declared.checkpoint.StatedDeltas.{StatedDeltas}
+use Rattle.mesa_record.specs.declared.checkpoint.Checkpoint.{Checkpoint}
 use Rattle.mesa_record.specs.Rules.{is_count_of_columns}
 
 -- What is left of a record's bytes, and the place where it begins.
@@ -116,6 +123,10 @@ rising number read least (suc n) l = read least l >>= λ x. rising number read (
 abbrev pub many : {A : Type 0} → (Left → Read A) → ℕ → Left → Read (List A)
 many read n l = rising (λ x. 0) (λ least. read) 1 n l
 
+-- fields behind their number in two or four bytes
+abbrev pub sized_at : {A : Type 0} → (Left → Read ℕ) → (Left → Read A) → Left → Read (List A)
+sized_at count read l = count l >>= λ n. many read n.0 n.1
+
 -- what was read before, and what is still read
 abbrev pub with_front : {A : Type 0} → List A → Read (List A) → Read (List A)
 with_front front read = read >>= λ xs. Ok (front ++ xs.0, xs.1)
@@ -162,10 +173,12 @@ not_zero n = nat_le 1 n
 abbrev pub aggregate_at : Edition → Left → Read ℤ
 aggregate_at First = amount_at
 aggregate_at Second = wide_amount_at
+aggregate_at Third = wide_amount_at
 
 abbrev pub total_at : Edition → Left → Read ℕ
 total_at First = long_at
 total_at Second = wide_at
+total_at Third = wide_at
 
 -- the format of a number
 abbrev pub format_of : ℕ → Option Format
@@ -175,6 +188,7 @@ format_of b = if b == 1 then Some format.One else if b == 2 then Some format.Two
 abbrev pub format_at : Edition → Left → Read Format
 format_at First l = Ok (format.One, l)
 format_at Second l = meaning format_of l
+format_at Third l = meaning format_of l
 
 abbrev pub aggregates_at : Edition → Left → Read (List ℤ)
 aggregates_at e l = columns_at l >>= λ n. many (aggregate_at e) n.0 n.1
@@ -285,6 +299,101 @@ expire_at l = word_at l >>= λ version. Ok (record_of.Expire version.0, version.
 abbrev pub expire_table_at : Left → Read Record
 expire_table_at l = half_at l >>= λ table. word_at table.1 >>= λ version. Ok (record_of.ExpireTable table.0 version.0, version.1)
 
+-- ---- checkpoints
+
+abbrev pub stated_view_at : Left → Read View
+stated_view_at l = do
+  name ← name_at l
+  keys ← names_at name.1
+  values ← names_at keys.1
+  Ok (record { name = name.0; keys = keys.0; values = values.0 }, values.1)
+
+abbrev pub stated_views_at : Left → Read (List View)
+stated_views_at l = count_at 8 l >>= λ n. many stated_view_at n.0 n.1
+
+-- a base or a cumulative
+abbrev pub stated_range_at : Edition → Left → Read StatedRange
+stated_range_at e l = do
+  to ← word_at l
+  epoch ← word_at to.1
+  files ← files_if_any_at e epoch.1
+  Ok (record { to = to.0; epoch = epoch.0; files = files.0 }, files.1)
+
+-- a singleton with rows
+unfoldable pub stated_single_at : Edition → Left → Read StatedSingle
+stated_single_at e l = do
+  version ← word_at l
+  epoch ← word_at version.1
+  files ← files_at e epoch.1
+  totals ← totals_at e files.1
+  Ok (record { version = version.0; epoch = epoch.0; files = files.0; totals = totals.0 }, totals.1)
+
+-- a base, if there is one
+abbrev pub base_if : Edition → Bool → Left → Read (Option StatedRange)
+base_if e false l = Ok (None, l)
+base_if e true l = stated_range_at e l >>= λ r. Ok (Some r.0, r.1)
+
+abbrev pub base_if_any_at : Edition → Left → Read (Option StatedRange)
+base_if_any_at e l = meaning flag_of l >>= λ some. base_if e some.0 some.1
+
+-- a table's oldest version: where the edition has no field for it, it is the floor
+abbrev pub oldest_at : Edition → ℕ → Left → Read ℕ
+oldest_at First floor l = Ok (floor, l)
+oldest_at Second floor l = Ok (floor, l)
+oldest_at Third floor l = word_at l
+
+-- a table's columns: the first ones and the changes since, its views, and the totals of its sum columns
+unfoldable pub stated_columns_at : Edition → Left → Read StatedColumns
+stated_columns_at e l = do
+  keys ← key_columns_at l
+  values ← value_columns_at keys.1
+  changes ← sized_at half_at change_at values.1
+  views ← stated_views_at changes.1
+  totals ← totals_at e views.1
+  Ok (record { keys = keys.0; values = values.0; changes = changes.0; views = views.0; totals = totals.0 }, totals.1)
+
+-- a table's deltas: its base, its cumulatives and its singletons with rows
+unfoldable pub stated_deltas_at : Edition → Left → Read StatedDeltas
+stated_deltas_at e l = do
+  base ← base_if_any_at e l
+  cumulatives ← sized_at word_at (stated_range_at e) base.1
+  singles ← sized_at word_at (stated_single_at e) cumulatives.1
+  Ok (record { base = base.0; cumulatives = cumulatives.0; singles = singles.0 }, singles.1)
+
+-- a table's columns and deltas, and the table of them
+abbrev pub columns_in : StatedTable → StatedColumns
+columns_in t = record { keys = t.keys; values = t.values; changes = t.changes; views = t.views; totals = t.totals }
+
+abbrev pub deltas_in : StatedTable → StatedDeltas
+deltas_in t = record { base = t.base; cumulatives = t.cumulatives; singles = t.singles }
+
+abbrev pub stated_of : List ℕ → ℕ → StatedColumns → StatedDeltas → StatedTable
+stated_of name oldest c d = record { name = name; oldest = oldest; keys = c.keys; values = c.values; changes = c.changes; views = c.views; totals = c.totals; base = d.base; cumulatives = d.cumulatives; singles = d.singles }
+
+-- a table, where this is the floor
+unfoldable pub stated_table_at : Edition → ℕ → Left → Read StatedTable
+stated_table_at e floor l = do
+  name ← name_at l
+  oldest ← oldest_at e floor name.1
+  columns ← stated_columns_at e oldest.1
+  deltas ← stated_deltas_at e columns.1
+  Ok (stated_of name.0 oldest.0 columns.0 deltas.0, deltas.1)
+
+-- the fields of a checkpoint
+unfoldable pub stated_at : Edition → Left → Read Checkpoint
+stated_at e l = do
+  number ← word_at l
+  run ← word_at number.1
+  floor ← word_at run.1
+  versions ← word_at floor.1
+  tables ← sized_at half_at (stated_table_at e floor.0) versions.1
+  Ok (record { number = number.0; run = run.0; floor = floor.0; versions = versions.0; tables = tables.0 }, tables.1)
+
+abbrev pub checkpoint_at : Edition → Left → Read Record
+checkpoint_at e l = stated_at e l >>= λ k. Ok (record_of.Checkpoint k.0, k.1)
+
+-- ---- kinds
+
 -- the fields of a record, by its kind, which stood at a place
 unfoldable pub fields_of : ℕ → ℕ → Left → Read Record
 fields_of at b l =
@@ -295,9 +404,12 @@ fields_of at b l =
     else if b == 5 then publish_at First l
     else if b == 6 then swap_at First l
     else if b == 7 then expire_at l
+    else if b == 8 then checkpoint_at First l
     else if b == 9 then publish_at Second l
     else if b == 10 then swap_at Second l
+    else if b == 11 then checkpoint_at Second l
     else if b == 12 then expire_table_at l
+    else if b == 13 then checkpoint_at Third l
     else Err (fault.BadKind at)
 
 -- a record that nothing may follow

@@ -11,15 +11,20 @@ use Rattle.mesa_schema.specs.declared.changes.Change.{Change}
 use Rattle.mesa_schema.specs.declared.changes.Change.TheVariants.{AddValue, DropValue, AddKey}
 use Rattle.mesa_schema.specs.Changes.{is_of_kind}
 use Rattle.mesa_schema.specs.Names.{is_name}
+use Rattle.mesa_schema.specs.declared.views.View.{View}
 use Rattle.mesa_file.specs.declared.file_ref.FileRef.{FileRef}
 use Rattle.mesa_key.specs.declared.Format.TheVariants as format
 use Rattle.mesa_record.specs.declared.edition.Edition.{Edition}
-use Rattle.mesa_record.specs.declared.edition.Edition.TheVariants.{First, Second}
+use Rattle.mesa_record.specs.declared.edition.Edition.TheVariants.{First, Second, Third}
 use Rattle.mesa_record.specs.declared.record.Record.{Record}
 use Rattle.mesa_record.specs.declared.record.Record.TheVariants as record_of
 use Rattle.mesa_record.specs.declared.record.ViewRef.{ViewRef}
 use Rattle.mesa_record.specs.declared.record.Files.{Files}
 use Rattle.mesa_record.specs.declared.record.Part.{Part}
+use Rattle.mesa_record.specs.declared.checkpoint.StatedRange.{StatedRange}
+use Rattle.mesa_record.specs.declared.checkpoint.StatedSingle.{StatedSingle}
+use Rattle.mesa_record.specs.declared.checkpoint.StatedTable.{StatedTable}
+use Rattle.mesa_record.specs.declared.checkpoint.Checkpoint.{Checkpoint}
 
 -- ---- the rules that a record's fields keep
 
@@ -63,6 +68,38 @@ abbrev pub are_files_if_any : Option Files → Bool
 are_files_if_any None = true
 are_files_if_any (Some f) = are_files f
 
+-- a list has room behind its number in two bytes, and in four
+abbrev pub is_short : {A : Type 0} → List A → Bool
+is_short xs = nat_lt (length xs) (2 ^ 16)
+
+abbrev pub is_long : {A : Type 0} → List A → Bool
+is_long xs = nat_lt (length xs) (2 ^ 32)
+
+abbrev pub is_stated_view : View → Bool
+is_stated_view v = is_count_of_columns (length v.keys) && is_count_of_columns (length v.values)
+
+abbrev pub is_stated_range : StatedRange → Bool
+is_stated_range r = are_files_if_any r.files
+
+abbrev pub is_stated_single : StatedSingle → Bool
+is_stated_single s = are_files s.files && nat_le (length s.totals) 16
+
+abbrev pub is_base_if_any : Option StatedRange → Bool
+is_base_if_any None = true
+is_base_if_any (Some r) = is_stated_range r
+
+abbrev pub are_stated_columns : StatedTable → Bool
+are_stated_columns t = is_count_of_columns (length t.keys) && is_count_of_columns (length t.values) && (is_short t.changes && list_all is_change t.changes) && (nat_le (length t.views) 8 && list_all is_stated_view t.views) && nat_le (length t.totals) 16
+
+abbrev pub are_stated_deltas : StatedTable → Bool
+are_stated_deltas t = is_base_if_any t.base && (is_long t.cumulatives && list_all is_stated_range t.cumulatives) && (is_long t.singles && list_all is_stated_single t.singles)
+
+abbrev pub is_stated_table : StatedTable → Bool
+is_stated_table t = are_stated_columns t && are_stated_deltas t
+
+abbrev pub is_checkpoint : Checkpoint → Bool
+is_checkpoint k = is_short k.tables && list_all is_stated_table k.tables
+
 -- The rules of a record.
 abbrev pub keeps_rules : Record → Bool
 keeps_rules (record_of.Run number) = true
@@ -73,6 +110,7 @@ keeps_rules (record_of.Publish version parts) = are_parts parts
 keeps_rules (record_of.Swap table base from to epoch f) = are_files_if_any f
 keeps_rules (record_of.Expire version) = true
 keeps_rules (record_of.ExpireTable table version) = true
+keeps_rules (record_of.Checkpoint k) = is_checkpoint k
 
 -- ---- what the types of the fields say of them
 
@@ -127,6 +165,51 @@ abbrev pub AreTypedFiles : Option Files → Type 0
 AreTypedFiles None = Unit {0}
 AreTypedFiles (Some f) = IsTypedFiles f
 
+pub record IsTypedStatedView (v : View) : Type 0 where
+  pub name : IsNamed v.name
+  pub keys : AllByRecursion IsNamed v.keys
+  pub values : AllByRecursion IsNamed v.values
+
+pub record IsTypedRange (r : StatedRange) : Type 0 where
+  pub to : IsWord r.to
+  pub epoch : IsWord r.epoch
+  pub files : AreTypedFiles r.files
+
+pub record IsTypedSingle (s : StatedSingle) : Type 0 where
+  pub version : IsWord s.version
+  pub epoch : IsWord s.epoch
+  pub files : IsTypedFiles s.files
+  pub totals : AllByRecursion IsTotal s.totals
+
+abbrev pub IsTypedBase : Option StatedRange → Type 0
+IsTypedBase None = Unit {0}
+IsTypedBase (Some r) = IsTypedRange r
+
+pub record AreTypedColumns (t : StatedTable) : Type 0 where
+  pub keys : AllByRecursion (λ (c : KeyColumn). IsNamed c.name) t.keys
+  pub values : AllByRecursion (λ (c : ValueColumn). IsNamed c.name) t.values
+  pub changes : AllByRecursion IsTypedChange t.changes
+  pub views : AllByRecursion IsTypedStatedView t.views
+  pub totals : AllByRecursion IsTotal t.totals
+
+pub record AreTypedDeltas (t : StatedTable) : Type 0 where
+  pub base : IsTypedBase t.base
+  pub cumulatives : AllByRecursion IsTypedRange t.cumulatives
+  pub singles : AllByRecursion IsTypedSingle t.singles
+
+pub record IsTypedTable (t : StatedTable) : Type 0 where
+  pub name : IsNamed t.name
+  pub oldest : IsWord t.oldest
+  pub columns : AreTypedColumns t
+  pub deltas : AreTypedDeltas t
+
+pub record IsTypedCheckpoint (k : Checkpoint) : Type 0 where
+  pub number : IsWord k.number
+  pub run : IsWord k.run
+  pub floor : IsWord k.floor
+  pub versions : IsWord k.versions
+  pub tables : AllByRecursion IsTypedTable k.tables
+
 -- Each field is within its type.
 abbrev pub IsTyped : Record → Type 0
 IsTyped (record_of.Run number) = IsWord number
@@ -137,6 +220,7 @@ IsTyped (record_of.Publish version parts) = IsWord version × AllByRecursion IsT
 IsTyped (record_of.Swap table base from to epoch f) = IsHalf table × IsWord from × IsWord to × IsWord epoch × AreTypedFiles f
 IsTyped (record_of.Expire version) = IsWord version
 IsTyped (record_of.ExpireTable table version) = IsHalf table × IsWord version
+IsTyped (record_of.Checkpoint k) = IsTypedCheckpoint k
 
 -- ---- what has room in an edition
 
@@ -144,6 +228,7 @@ IsTyped (record_of.ExpireTable table version) = IsHalf table × IsWord version
 abbrev pub FitsRef : Edition → FileRef → Type 0
 FitsRef First f = (f.format ≡ format.One) × AllByRecursion IsNarrow f.aggregates
 FitsRef Second f = Unit {0}
+FitsRef Third f = Unit {0}
 
 -- so is a view's file
 abbrev pub FitsView : Edition → ViewRef → Type 0
@@ -157,6 +242,7 @@ pub record FitsFiles (e : Edition) (f : Files) : Type 0 where
 abbrev pub FitsTotals : Edition → List ℕ → Type 0
 FitsTotals First totals = AllByRecursion IsLong totals
 FitsTotals Second totals = Unit {0}
+FitsTotals Third totals = Unit {0}
 
 pub record FitsPart (e : Edition) (p : Part) : Type 0 where
   pub files : FitsFiles e p.files
@@ -166,7 +252,31 @@ abbrev pub FitsFilesIfAny : Edition → Option Files → Type 0
 FitsFilesIfAny e None = Unit {0}
 FitsFilesIfAny e (Some f) = FitsFiles e f
 
--- In the first edition files are of format 1, and aggregates and totals are numbers of 64 bits.
+abbrev pub FitsRange : Edition → StatedRange → Type 0
+FitsRange e r = FitsFilesIfAny e r.files
+
+pub record FitsSingle (e : Edition) (s : StatedSingle) : Type 0 where
+  pub files : FitsFiles e s.files
+  pub totals : FitsTotals e s.totals
+
+abbrev pub FitsBase : Edition → Option StatedRange → Type 0
+FitsBase e None = Unit {0}
+FitsBase e (Some r) = FitsRange e r
+
+-- a table's oldest version is the floor, unless the edition tells it
+abbrev pub FitsOldest : Edition → ℕ → ℕ → Type 0
+FitsOldest First floor oldest = oldest ≡ floor
+FitsOldest Second floor oldest = oldest ≡ floor
+FitsOldest Third floor oldest = Unit {0}
+
+pub record FitsTable (e : Edition) (floor : ℕ) (t : StatedTable) : Type 0 where
+  pub oldest : FitsOldest e floor t.oldest
+  pub totals : FitsTotals e t.totals
+  pub base : FitsBase e t.base
+  pub cumulatives : AllByRecursion (FitsRange e) t.cumulatives
+  pub singles : AllByRecursion (FitsSingle e) t.singles
+
+-- In the first edition files are of format 1, and aggregates and totals are numbers of 64 bits; in the first and the second one each table that a checkpoint states has the floor as its oldest version.
 abbrev pub FitsIn : Edition → Record → Type 0
 FitsIn e (record_of.Run number) = Unit {0}
 FitsIn e (record_of.Table name keys values) = Unit {0}
@@ -176,6 +286,7 @@ FitsIn e (record_of.Publish version parts) = AllByRecursion (FitsPart e) parts
 FitsIn e (record_of.Swap table base from to epoch f) = FitsFilesIfAny e f
 FitsIn e (record_of.Expire version) = Unit {0}
 FitsIn e (record_of.ExpireTable table version) = Unit {0}
+FitsIn e (record_of.Checkpoint k) = AllByRecursion (FitsTable e k.floor) k.tables
 
 -- A record: its fields are within their types and keep the rules.
 pub record IsRecord (r : Record) : Type 0 where

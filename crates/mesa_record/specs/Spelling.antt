@@ -10,14 +10,19 @@ use Rattle.mesa_schema.specs.declared.columns.ValueColumn.{ValueColumn}
 use Rattle.mesa_schema.specs.Codes.{agg_byte, kind_byte}
 use Rattle.mesa_schema.specs.declared.changes.Change.{Change}
 use Rattle.mesa_schema.specs.declared.changes.Change.TheVariants.{AddValue, DropValue, AddKey}
+use Rattle.mesa_schema.specs.declared.views.View.{View}
 use Rattle.mesa_file.specs.declared.file_ref.FileRef.{FileRef}
 use Rattle.mesa_record.specs.declared.edition.Edition.{Edition}
-use Rattle.mesa_record.specs.declared.edition.Edition.TheVariants.{First, Second}
+use Rattle.mesa_record.specs.declared.edition.Edition.TheVariants.{First, Second, Third}
 use Rattle.mesa_record.specs.declared.record.Record.{Record}
 use Rattle.mesa_record.specs.declared.record.Record.TheVariants as record_of
 use Rattle.mesa_record.specs.declared.record.ViewRef.{ViewRef}
 use Rattle.mesa_record.specs.declared.record.Files.{Files}
 use Rattle.mesa_record.specs.declared.record.Part.{Part}
+use Rattle.mesa_record.specs.declared.checkpoint.StatedRange.{StatedRange}
+use Rattle.mesa_record.specs.declared.checkpoint.StatedSingle.{StatedSingle}
+use Rattle.mesa_record.specs.declared.checkpoint.StatedTable.{StatedTable}
+use Rattle.mesa_record.specs.declared.checkpoint.Checkpoint.{Checkpoint}
 
 -- ---- numbers, the highest byte first
 
@@ -51,6 +56,10 @@ key bytes = half (length bytes) ++ bytes
 abbrev pub counted : {A : Type 0} → (A → List ℕ) → List A → List ℕ
 counted spell xs = length xs ∷ flat_map spell xs
 
+-- a longer list: their number in two or four bytes, then one after the other
+abbrev pub sized : {A : Type 0} → (ℕ → List ℕ) → (A → List ℕ) → List A → List ℕ
+sized count spell xs = count (length xs) ++ flat_map spell xs
+
 -- ---- columns
 
 abbrev pub key_column : KeyColumn → List ℕ
@@ -76,10 +85,12 @@ change (AddKey column default) = 3 ∷ (key_column column ++ key_default default
 abbrev pub aggregate : Edition → ℤ → List ℕ
 aggregate First z = amount z
 aggregate Second z = wide (cast_unsigned w128 z)
+aggregate Third z = wide (cast_unsigned w128 z)
 
 abbrev pub total : Edition → ℕ → List ℕ
 total First n = long n
 total Second n = wide n
+total Third n = wide n
 
 -- a format as a byte: its number
 abbrev pub format_byte : Format → ℕ
@@ -90,6 +101,7 @@ format_byte format.Two = 2
 abbrev pub format_field : Edition → Format → List ℕ
 format_field First format = []
 format_field Second format = format_byte format ∷ []
+format_field Third format = format_byte format ∷ []
 
 -- a file's id, length, rows and blocks
 unfoldable pub file_sizes : FileRef → List ℕ
@@ -135,16 +147,64 @@ view_fields name keys values = text name ++ (counted text keys ++ counted text v
 
 -- the parts of a batch, behind their number in two bytes
 abbrev pub parts_fields : Edition → List Part → List ℕ
-parts_fields e parts = half (length parts) ++ flat_map (part e) parts
+parts_fields e parts = sized half (part e) parts
 
--- what stands for a batch and for a merged range
+-- ---- checkpoints
+
+abbrev pub stated_view : View → List ℕ
+stated_view v = view_fields v.name v.keys v.values
+
+-- a base or a cumulative: its last version, its epoch and its files
+abbrev pub stated_range : Edition → StatedRange → List ℕ
+stated_range e r = word r.to ++ (word r.epoch ++ files_if_any e r.files)
+
+-- a singleton with rows
+unfoldable pub stated_single : Edition → StatedSingle → List ℕ
+stated_single e s = word s.version ++ (word s.epoch ++ (files e s.files ++ counted (total e) s.totals))
+
+-- a base, if there is one
+abbrev pub base_if_any : Edition → Option StatedRange → List ℕ
+base_if_any e None = 0 ∷ []
+base_if_any e (Some r) = 1 ∷ stated_range e r
+
+-- a table's oldest version, which only the third edition tells
+abbrev pub oldest_field : Edition → ℕ → List ℕ
+oldest_field First oldest = []
+oldest_field Second oldest = []
+oldest_field Third oldest = word oldest
+
+-- a table's columns: the first ones and the changes since, its views, and the totals of its sum columns
+unfoldable pub stated_columns : Edition → StatedTable → List ℕ
+stated_columns e t = counted key_column t.keys ++ (counted value_column t.values ++ (sized half change t.changes ++ (counted stated_view t.views ++ counted (total e) t.totals)))
+
+-- a table's deltas: its base, its cumulatives and its singletons with rows
+unfoldable pub stated_deltas : Edition → StatedTable → List ℕ
+stated_deltas e t = base_if_any e t.base ++ (sized word (stated_range e) t.cumulatives ++ sized word (stated_single e) t.singles)
+
+unfoldable pub stated_table : Edition → StatedTable → List ℕ
+stated_table e t = text t.name ++ (oldest_field e t.oldest ++ (stated_columns e t ++ stated_deltas e t))
+
+-- a checkpoint's number, its last run, the floor, how many versions there were, and the tables
+abbrev pub checkpoint_fields : Edition → Checkpoint → List ℕ
+checkpoint_fields e k = word k.number ++ (word k.run ++ (word k.floor ++ (word k.versions ++ sized half (stated_table e) k.tables)))
+
+-- ---- kinds
+
+-- what stands for a batch, for a merged range and for a checkpoint
 abbrev pub publish_kind : Edition → ℕ
 publish_kind First = 5
 publish_kind Second = 9
+publish_kind Third = 9
 
 abbrev pub swap_kind : Edition → ℕ
 swap_kind First = 6
 swap_kind Second = 10
+swap_kind Third = 10
+
+abbrev pub checkpoint_kind : Edition → ℕ
+checkpoint_kind First = 8
+checkpoint_kind Second = 11
+checkpoint_kind Third = 13
 
 -- A record of an edition is its kind, then its fields.
 unfoldable pub spelled_in : Edition → Record → List ℕ
@@ -156,7 +216,8 @@ spelled_in e (record_of.Publish version parts) = publish_kind e ∷ (word versio
 spelled_in e (record_of.Swap table base from to epoch f) = swap_kind e ∷ (half table ++ (flag base ∷ (word from ++ (word to ++ (word epoch ++ files_if_any e f)))))
 spelled_in e (record_of.Expire version) = 7 ∷ word version
 spelled_in e (record_of.ExpireTable table version) = 12 ∷ (half table ++ word version)
+spelled_in e (record_of.Checkpoint k) = checkpoint_kind e ∷ checkpoint_fields e k
 
--- A record is written in the second edition.
+-- A record is written in the third edition.
 abbrev pub spelled : Record → List ℕ
-spelled r = spelled_in Second r
+spelled r = spelled_in Third r

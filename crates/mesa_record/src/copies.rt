@@ -1,8 +1,10 @@
 // Copies of records.
 ghost use Rattle.std.specs.Prelude.{◌≡◌, IfOk};
 ghost use Rattle.mesa_record.specs.declared.record.Record.TheVariants as record_of;
+ghost use Rattle.mesa_record.specs.Reading.{columns_in, deltas_in};
 
-use crate::{Files, Part, Record, ViewRef};
+use crate::checkpoint::{StatedColumns, StatedDeltas, table_of};
+use crate::{Checkpoint, Files, Part, Record, StatedRange, StatedSingle, StatedTable, ViewRef};
 use mesa_list::{Items, TryCopy};
 use mesa_schema::{KeyColumn, Name, ValueColumn};
 use std::alloc::AllocError;
@@ -77,6 +79,7 @@ impl TryCopy for Record {
                 table: *table,
                 version: *version,
             }),
+            Record::Checkpoint(checkpoint) => Ok(Record::Checkpoint(checkpoint.copy()?)),
         }
     }
 }
@@ -117,5 +120,89 @@ fn copy_files(files: &Option<Files>) -> Result<Option<Files>, AllocError>
     match files {
         None => Ok(None),
         Some(files) => Ok(Some(files.copy()?)),
+    }
+}
+
+// ---- checkpoints
+
+impl TryCopy for StatedRange {
+    fn copy(&self) -> Result<Self, AllocError> {
+        Ok(StatedRange {
+            to: self.to,
+            epoch: self.epoch,
+            files: copy_files(&self.files)?,
+        })
+    }
+}
+
+impl TryCopy for StatedSingle {
+    fn copy(&self) -> Result<Self, AllocError> {
+        let totals = self.totals.copy()?;
+        Ok(StatedSingle {
+            version: self.version,
+            epoch: self.epoch,
+            files: self.files.copy()?,
+            totals,
+        })
+    }
+}
+
+impl TryCopy for StatedTable {
+    fn copy(&self) -> Result<Self, AllocError> {
+        let name = self.name.copy()?;
+        let columns = copy_columns(self)?;
+        let deltas = copy_deltas(self)?;
+        Ok(table_of(name, self.oldest, columns, deltas))
+    }
+}
+
+fn copy_columns(table: &StatedTable) -> Result<StatedColumns, AllocError>
+    ensures { IfOk result (λ other. other ≡ columns_in table.now) }
+{
+    let keys = table.keys.copy()?;
+    let values = table.values.copy()?;
+    let changes = table.changes.copy()?;
+    let views = table.views.copy()?;
+    let totals = table.totals.copy()?;
+    Ok(StatedColumns {
+        keys,
+        values,
+        changes,
+        views,
+        totals,
+    })
+}
+
+fn copy_deltas(table: &StatedTable) -> Result<StatedDeltas, AllocError>
+    ensures { IfOk result (λ other. other ≡ deltas_in table.now) }
+{
+    let base = copy_base(&table.base)?;
+    let cumulatives = table.cumulatives.copy()?;
+    let singles = table.singles.copy()?;
+    Ok(StatedDeltas {
+        base,
+        cumulatives,
+        singles,
+    })
+}
+
+impl TryCopy for Checkpoint {
+    fn copy(&self) -> Result<Self, AllocError> {
+        Ok(Checkpoint {
+            number: self.number,
+            run: self.run,
+            floor: self.floor,
+            versions: self.versions,
+            tables: self.tables.copy()?,
+        })
+    }
+}
+
+fn copy_base(base: &Option<StatedRange>) -> Result<Option<StatedRange>, AllocError>
+    ensures { IfOk result (λ other. other ≡ base.now) }
+{
+    match base {
+        None => Ok(None),
+        Some(base) => Ok(Some(base.copy()?)),
     }
 }

@@ -1,6 +1,6 @@
 // The bytes of a record, read field by field.
 ghost use Rattle.std.specs.Prelude.{◌≡◌, IfOk, length};
-ghost use Rattle.mesa_record.specs.Reading.{Gives, GivesAs, piece_at, byte_at, half_at, word_at, long_at, wide_at, wide_amount_at, amount_at, format_at, format_of, text_at, name_at, key_at, columns_at, count_at, meaning, flag_of};
+ghost use Rattle.mesa_record.specs.Reading.{Gives, GivesAs, piece_at, byte_at, half_at, word_at, long_at, wide_at, wide_amount_at, amount_at, format_at, format_of, text_at, name_at, key_at, columns_at, count_at, meaning, flag_of, oldest_at};
 ghost use Rattle.mesa_schema.specs.Codes.{agg_of, kind_of};
 
 use crate::{Edition, RecordError};
@@ -117,7 +117,7 @@ impl<'a> Cursor<'a> {
     {
         match edition {
             Edition::First => Ok(Format::One),
-            Edition::Second => self.told_format(),
+            Edition::Second | Edition::Third => self.told_format(),
         }
     }
 
@@ -129,6 +129,16 @@ impl<'a> Cursor<'a> {
             1 => Ok(Format::One),
             2 => Ok(Format::Two),
             _ => Err(RecordError::BadKind { at }),
+        }
+    }
+
+    // A table's oldest version: the floor, where the edition has no field for it.
+    pub(crate) fn oldest(&mut self, edition: Edition, floor: u32) -> Result<u32, RecordError>
+        ensures { Gives result self.new (oldest_at edition floor self.old) }
+    {
+        match edition {
+            Edition::First | Edition::Second => Ok(floor),
+            Edition::Third => self.word(),
         }
     }
 

@@ -1,8 +1,9 @@
-// Which kinds a record's references to files are spelled by.
+// Which kinds a record's references to files, and checkpoints, are spelled by.
 
-/// Records of kinds 5 and 6 are of the first edition: their files are of format 1, and each aggregate and total takes eight bytes. Those of kinds 9 and 10 are of the second one, in which a reference begins with the file's format and each aggregate and total takes sixteen bytes. Only the second one is written.
+/// Records of kinds 5, 6 and 8 are of the first edition: their files are of format 1, and each aggregate and total takes eight bytes. Those of kinds 9, 10 and 11 are of the second one, in which a reference begins with the file's format and each aggregate and total takes sixteen bytes. The third one differs from it in checkpoints alone: those of kind 13 tell each table's oldest version, which is the floor in kinds 8 and 11. Only the third one is written.
 #[derive(Clone, Copy, Debug, PartialEq, Eq)]
 pub enum Edition {
     First,
     Second,
+    Third,
 }

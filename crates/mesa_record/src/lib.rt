@@ -1,6 +1,7 @@
 //! Records of the journal and their bytes: each record has one spelling in each edition that has room for it.
 #![tactic(auto)]
 
+mod checkpoint;
 mod copies;
 mod cursor;
 mod edition;
@@ -11,8 +12,10 @@ mod laws;
 mod numbered;
 mod reading;
 mod record;
+mod stated;
 mod writing;
 
+pub use checkpoint::{Checkpoint, StatedRange, StatedSingle, StatedTable};
 pub use edition::Edition;
 pub use error::RecordError;
 pub use laws::{reads_records, spells_records};

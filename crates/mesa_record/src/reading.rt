@@ -1,7 +1,7 @@
 // Reading records.
 ghost use Rattle.std.specs.Prelude.{◌≡◌, ◌≢◌, Ok, Err, IfOk, IfErr};
 ghost use Rattle.mesa_record.specs.Editions.{IsSpelled};
-ghost use Rattle.mesa_record.specs.Reading.{Gives, alter_at, change_at, expire_table_at, fields_of, add_key_at, add_value_at, key_columns_at, key_default_at, names_at, publish_at, record_at, swap_at, table_at, value_columns_at, view_at};
+ghost use Rattle.mesa_record.specs.Reading.{Gives, alter_at, change_at, checkpoint_at, expire_table_at, fields_of, add_key_at, add_value_at, key_columns_at, key_default_at, names_at, publish_at, record_at, swap_at, table_at, value_columns_at, view_at};
 ghost use Rattle.mesa_record.specs.declared.record.Record.{Record as AnyRecord};
 ghost use Rattle.mesa_record.specs.Rules.{FitsIn, IsRecord};
 ghost use Rattle.mesa_record.specs.declared.edition.Edition.{Edition as AnyEdition};
@@ -11,6 +11,7 @@ use crate::cursor::Cursor;
 use crate::field::{Field, read_fields};
 use crate::files::read_files_if_any;
 use crate::numbered::read_rising;
+use crate::stated::read_checkpoint;
 use crate::{Edition, Record, RecordError, reads_records, spells_records};
 use mesa_key::{KeyText, KeyType, KeyValue};
 use mesa_list::Items;
@@ -65,9 +66,12 @@ fn fields(alloc: Global, kind: u8, at: u64, cursor: &mut Cursor<'_>) -> Result<R
         7 => Ok(Record::Expire {
             version: cursor.word()?,
         }),
+        8 => checkpoint(alloc, cursor, Edition::First),
         9 => publish(alloc, cursor, Edition::Second),
         10 => swap(alloc, cursor, Edition::Second),
+        11 => checkpoint(alloc, cursor, Edition::Second),
         12 => expire_table(cursor),
+        13 => checkpoint(alloc, cursor, Edition::Third),
         _ => Err(RecordError::BadKind { at }),
     }
 }
@@ -89,14 +93,20 @@ fn table(alloc: Global, cursor: &mut Cursor<'_>) -> Result<Record, RecordError>
     Ok(Record::Table { name, keys, values })
 }
 
-fn key_columns(alloc: Global, cursor: &mut Cursor<'_>) -> Result<Items<KeyColumn>, RecordError>
+pub(crate) fn key_columns(
+    alloc: Global,
+    cursor: &mut Cursor<'_>,
+) -> Result<Items<KeyColumn>, RecordError>
     ensures { Gives result cursor.new (key_columns_at cursor.old) }
 {
     let count = cursor.columns()?;
     read_fields(alloc, cursor, count)
 }
 
-fn value_columns(alloc: Global, cursor: &mut Cursor<'_>) -> Result<Items<ValueColumn>, RecordError>
+pub(crate) fn value_columns(
+    alloc: Global,
+    cursor: &mut Cursor<'_>,
+) -> Result<Items<ValueColumn>, RecordError>
     ensures { Gives result cursor.new (value_columns_at cursor.old) }
 {
     let count = cursor.columns()?;
@@ -119,7 +129,7 @@ fn view(alloc: Global, cursor: &mut Cursor<'_>) -> Result<Record, RecordError>
 }
 
 // The names of columns.
-fn names(alloc: Global, cursor: &mut Cursor<'_>) -> Result<Items<Name>, RecordError>
+pub(crate) fn names(alloc: Global, cursor: &mut Cursor<'_>) -> Result<Items<Name>, RecordError>
     ensures { Gives result cursor.new (names_at cursor.old) }
 {
     let count = cursor.columns()?;
@@ -134,7 +144,7 @@ fn alter(alloc: Global, cursor: &mut Cursor<'_>) -> Result<Record, RecordError>
     Ok(Record::Alter { table, change })
 }
 
-fn change(alloc: Global, cursor: &mut Cursor<'_>) -> Result<Change, RecordError>
+pub(crate) fn change(alloc: Global, cursor: &mut Cursor<'_>) -> Result<Change, RecordError>
     ensures { Gives result cursor.new (change_at cursor.old) }
 {
     let at = cursor.at();
@@ -212,4 +222,14 @@ fn swap(alloc: Global, cursor: &mut Cursor<'_>, edition: Edition) -> Result<Reco
         epoch,
         files,
     })
+}
+
+fn checkpoint(
+    alloc: Global,
+    cursor: &mut Cursor<'_>,
+    edition: Edition,
+) -> Result<Record, RecordError>
+    ensures { Gives result cursor.new (checkpoint_at edition cursor.old) }
+{
+    Ok(Record::Checkpoint(read_checkpoint(alloc, cursor, edition)?))
 }

@@ -1,4 +1,5 @@
 // Records of the journal: what changed the warehouse.
+use crate::Checkpoint;
 use mesa_file::FileRef;
 use mesa_list::Items;
 use mesa_schema::{Change, KeyColumn, Name, Totals, ValueColumn};
@@ -81,6 +82,8 @@ pub enum Record {
         table: u16,
         version: u32,
     },
+    /// The catalogue that all records before it made, stated anew.
+    Checkpoint(Checkpoint),
 }
 
 // Each exit calls this, in place of letting go of each part itself.
@@ -120,6 +123,7 @@ impl Drop for Record {
                 table: _,
                 version: _,
             } => {}
+            Record::Checkpoint(_) => {}
         }
     }
 }

@@ -9,6 +9,7 @@ ghost use Rattle.mesa_record.specs.Spelling.{change as change_bytes, flag, half,
 use crate::field::{Field, put_half, put_word, write_counted};
 use crate::files::write_files_if_any;
 use crate::numbered::write_rising;
+use crate::stated::write_checkpoint;
 use crate::{Edition, Part, Record, reads_records};
 use mesa_key::KeyValue;
 use mesa_schema::{Change, KeyColumn, Name, ValueColumn};
@@ -62,6 +63,7 @@ fn write(record: &Record, out: &mut Vec<u8>) -> Result<(), AllocError>
         }
         Record::Expire { version } => write_number(7, *version, out),
         Record::ExpireTable { table, version } => write_expire_table(*table, *version, out),
+        Record::Checkpoint(checkpoint) => write_checkpoint(checkpoint, out),
     }
 }
 
@@ -94,7 +96,7 @@ fn write_alter(table: u16, change: &Change, out: &mut Vec<u8>) -> Result<(), All
 
 fn write_publish(version: u32, parts: &[Part], out: &mut Vec<u8>) -> Result<(), AllocError>
     requires { IsTrue (are_parts parts.now) }
-    ensures bytes { OnOk result (out.new.items ≡ out.old.items ++ 9 ∷ (word version ++ parts_fields Edition.Second parts.now)) }
+    ensures bytes { OnOk result (out.new.items ≡ out.old.items ++ 9 ∷ (word version ++ parts_fields Edition.Third parts.now)) }
     ensures typed { OnOk result (IsWord version × AllByRecursion IsTypedPart parts.now) }
 {
     out.push(9)?;
@@ -149,7 +151,7 @@ fn write_view(
 
 fn write_parts(parts: &[Part], out: &mut Vec<u8>) -> Result<(), AllocError>
     requires { IsTrue (are_parts parts.now) }
-    ensures bytes { OnOk result (out.new.items ≡ out.old.items ++ parts_fields Edition.Second parts.now) }
+    ensures bytes { OnOk result (out.new.items ≡ out.old.items ++ parts_fields Edition.Third parts.now) }
     ensures typed { OnOk result (AllByRecursion IsTypedPart parts.now) }
 {
     put_half(parts.len() as u16, out)?;
@@ -166,7 +168,7 @@ fn write_range(from: u32, to: u32, epoch: u32, out: &mut Vec<u8>) -> Result<(), 
     put_word(epoch, out)
 }
 
-fn write_change(change: &Change, out: &mut Vec<u8>) -> Result<(), AllocError>
+pub(crate) fn write_change(change: &Change, out: &mut Vec<u8>) -> Result<(), AllocError>
     ensures bytes { OnOk result (out.new.items ≡ out.old.items ++ change_bytes change.now) }
     ensures typed { OnOk result (IsTypedChange change.now) }
 {

@@ -12,14 +12,14 @@ fn fault_of(alloc: Global, digits: &[u8]) -> Option<RecordError> {
 
 #[test]
 fn each_refusal_names_its_place(rt: HostRuntime) {
-    let refusals: [(&[u8], RecordError); 32] = [
+    let refusals: [(&[u8], RecordError); 55] = [
         // nothing
         (b"", RecordError::Truncated { at: 0 }),
         // no kind
         (b"00", RecordError::BadKind { at: 0 }),
         // no kind yet
-        (b"08000000", RecordError::BadKind { at: 0 }),
-        (b"0b000000", RecordError::BadKind { at: 0 }),
+        (b"0e000000", RecordError::BadKind { at: 0 }),
+        (b"0f000000", RecordError::BadKind { at: 0 }),
         // a kind of the second edition alone, and a version of it
         (b"09", RecordError::Truncated { at: 1 }),
         (b"0900000001", RecordError::Truncated { at: 5 }),
@@ -97,6 +97,103 @@ fn each_refusal_names_its_place(rt: HostRuntime) {
         (
             b"05000000030001000000000000000001000000000000000000000000670000000000000001000000010008",
             RecordError::Truncated { at: 41 },
+        ),
+        // a checkpoint cut short in each edition, and before its count of tables
+        (b"08000000", RecordError::Truncated { at: 1 }),
+        (b"0b000000", RecordError::Truncated { at: 1 }),
+        (b"0d000000", RecordError::Truncated { at: 1 }),
+        (
+            b"0d000000010000199a000000000000000000",
+            RecordError::Truncated { at: 17 },
+        ),
+        // a byte behind a checkpoint
+        (
+            b"0d000000010000199a0000000000000000000000",
+            RecordError::Trailing { at: 19 },
+        ),
+        (
+            b"08000000010000199a0000000000000000000000",
+            RecordError::Trailing { at: 19 },
+        ),
+        // a table too few
+        (
+            b"0d000000010000000100000000000000010001",
+            RecordError::Truncated { at: 19 },
+        ),
+        // a capital letter in a stated table's name
+        (
+            b"0d0000000100000001000000000000000100010154",
+            RecordError::BadField { at: 19 },
+        ),
+        // an oldest version cut short, where there is a field for it
+        (
+            b"0d0000000100000001000000000000000100010174000000",
+            RecordError::Truncated { at: 21 },
+        ),
+        (
+            b"0b0000000100000001000000000000000100010174000000",
+            RecordError::BadField { at: 21 },
+        ),
+        // a stated table without a key column
+        (
+            b"0d00000001000000010000000000000001000101740000000000",
+            RecordError::BadField { at: 25 },
+        ),
+        // no change among those of a stated table
+        (
+            b"0d00000001000000010000000000000001000101740000000001016b0001017600000104",
+            RecordError::BadKind { at: 35 },
+        ),
+        // nine stated views, and one without a key column
+        (
+            b"0d00000001000000010000000000000001000101740000000001016b0001017600000009",
+            RecordError::BadField { at: 35 },
+        ),
+        (
+            b"0d00000001000000010000000000000001000101740000000001016b0001017600000001017700",
+            RecordError::BadField { at: 38 },
+        ),
+        // 17 totals of a stated table
+        (
+            b"0d00000001000000010000000000000001000101740000000001016b000101760000000011",
+            RecordError::BadField { at: 36 },
+        ),
+        // no flag of a base, and none of its files
+        (
+            b"0d00000001000000010000000000000001000101740000000001016b00010176000000000002",
+            RecordError::BadKind { at: 37 },
+        ),
+        (
+            b"0d00000001000000010000000000000001000101740000000001016b00010176000000000001000000000000000002",
+            RecordError::BadKind { at: 46 },
+        ),
+        // no format of a base, which the first edition has no field for
+        (
+            b"0b000000010000000100000000000000010001017401016b0001017600000000000100000000000000000103",
+            RecordError::BadKind { at: 43 },
+        ),
+        (
+            b"08000000010000000100000000000000010001017401016b0001017600000000000100000000000000000103",
+            RecordError::Truncated { at: 43 },
+        ),
+        // four billion cumulatives, and four billion singletons, of which there is none
+        (
+            b"0d00000001000000010000000000000001000101740000000001016b00010176000000000000ffffffff",
+            RecordError::Truncated { at: 42 },
+        ),
+        (
+            b"0d00000001000000010000000000000001000101740000000001016b0001017600000000000000000000ffffffff",
+            RecordError::Truncated { at: 46 },
+        ),
+        // no flag of a cumulative's files
+        (
+            b"0d00000001000000010000000000000001000101740000000001016b0001017600000000000000000001000000000000000002",
+            RecordError::BadKind { at: 50 },
+        ),
+        // a byte behind the last table
+        (
+            b"0d00000001000000010000000000000001000101740000000001016b00010176000000000000000000000000000000",
+            RecordError::Trailing { at: 46 },
         ),
     ];
     for (digits, fault) in &refusals {
