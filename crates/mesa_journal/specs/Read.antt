@@ -1,5 +1,5 @@
 -- What reading an area gives.
-use Rattle.std.specs.Prelude.{◌≡◌, ℕ, ◌+◌, List, [], ◌∷◌, map, length, Result, Ok, Err}
+use Rattle.std.specs.Prelude.{◌≡◌, ℕ, ◌+◌, ◌<◌, List, [], ◌∷◌, map, length, Result, Ok, Err}
 use Rattle.mesa_journal.specs.Journal.{IsJournal, IsDamaged}
 use Rattle.mesa_journal.specs.declared.reading.Body.{Body}
 use Rattle.mesa_journal.specs.declared.reading.JournalRead.{JournalRead}
@@ -35,3 +35,9 @@ AgreesOnDamage area at want (Ok read) = ⊥
 AgreesOnDamage area at want (Err (Damaged a w found)) = (a ≡ at) × (w ≡ want) × (found ≡ length area)
 AgreesOnDamage area at want (Err Fault) = Unit {0}
 AgreesOnDamage area at want (Err Memory) = Unit {0}
+
+-- Damage is that the area has fewer bytes than are needed.
+abbrev pub IsShort : JournalError → Type 0
+IsShort (Damaged at want found) = found < want
+IsShort Fault = Unit {0}
+IsShort Memory = Unit {0}

@@ -6,10 +6,14 @@
 //! journal, whatever follows. An area of no or one byte holds no record.
 #![tactic(auto)]
 
+mod areas;
+mod both;
 mod framed;
 mod reading;
 mod writing;
 
+pub use areas::{number_in, other_area};
+pub use both::{LiveJournal, read_live};
 pub use framed::Framed;
 pub use reading::{Body, JournalError, JournalRead, read_journal};
 pub use writing::{append, close_gate};

@@ -4,7 +4,7 @@ ghost use Rattle.mesa_disk.specs.Story.{Steps, After, Follows, Elapses};
 ghost use Rattle.mesa_disk.specs.Image.{Image, area_of, InArea, AnyChange};
 ghost use Rattle.mesa_disk.specs.declared.area.Area.{Area};
 ghost use Rattle.mesa_disk.specs.mesa_key.Spelling.{AreBytes};
-ghost use Rattle.mesa_journal.specs.Journal.{IsJournal};
+ghost use Rattle.mesa_journal.specs.Areas.{MayClose, Closes};
 ghost use Rattle.mesa_journal.specs.Settled.{IsSettled, IsWithinAppend};
 
 use crate::Framed;
@@ -50,16 +50,17 @@ pub fn append<M: Made, D: Disk<M>>(
     Ok(end + bytes.len() as u64)
 }
 
-/// Gives an area of no or one byte its first closed gate.
+/// Closes the first gate of an area: of one of no or one byte, which has none yet, or of one whose bodies
+/// are to count no more.
 pub fn close_gate<M: Made, D: Disk<M>>(disk: &mut D, area: Area) -> Result<(), DiskFailed>
-    requires { (D.story disk.old).len area ≤ 1 }
+    requires { (i : Image) → (D.story disk.old).told ≡ Some i → MayClose (area_of area i) }
     ensures settled { OnOk result (IsSettled (D.story disk.new) area [] 0) }
 
-    // A crash at any moment, and whatever it answers a crash now, leaves an area without a record, and all else as a crash before would have left it.
-    ensures any_moment { ((c : Image) → (D.story disk.old).may_leave c → length (area_of area c) ≤ 1)
-        → Elapses (After (InArea area (λ _ new. IsJournal new [] 0)) (D.story disk.old).may_leave) (D.story disk.old) (D.story disk.new) }
-    ensures left { ((c : Image) → (D.story disk.old).may_leave c → length (area_of area c) ≤ 1)
-        → Follows (InArea area (λ _ new. IsJournal new [] 0)) (D.story disk.old).may_leave (D.story disk.new).may_leave }
+    // A crash at any moment, and whatever it answers a crash now, leaves an area without a body or the area as it was, and all else as a crash before would have left it.
+    ensures any_moment { ((c : Image) → (D.story disk.old).may_leave c → MayClose (area_of area c))
+        → Elapses (After (InArea area Closes) (D.story disk.old).may_leave) (D.story disk.old) (D.story disk.new) }
+    ensures left { ((c : Image) → (D.story disk.old).may_leave c → MayClose (area_of area c))
+        → Follows (InArea area Closes) (D.story disk.old).may_leave (D.story disk.new).may_leave }
 
     ensures durable { OnOk result ((c : Image) → (D.story disk.new).may_leave c → (D.story disk.new).told ≡ Some c) }
     ensures told { Steps (AnyChange area) (D.story disk.old).told (D.story disk.new).told }

@@ -1,19 +1,35 @@
-use Rattle.std.proofs.Common.{inl, ◌≤◌, ℕ, [], List, length, refl, sym, subst, arith}
+use Rattle.std.proofs.Common.{◌≡◌, ◌≢◌, ◌⊎◌, inl, inr, ⊎_elim, ◌≤◌, ◌<◌, ℕ, zero, suc, [], ◌∷◌, List, length, drop, refl, sym, ◌∙◌, subst, ap, arith}
+use Rattle.std.proofs.lemmas.Bool.{cases_eq}
 use Rattle.mesa_disk.specs.Image.{Image, area_of, Torn, InArea, AnyChange}
 use Rattle.mesa_disk.specs.Story.{Story, Steps, After, Follows}
 use Rattle.mesa_disk.specs.declared.area.Area.{Area}
 use Rattle.mesa_disk.proofs.Run.{starts, goes_on, told_changed}
 use Rattle.mesa_journal.specs.Journal.{IsJournal}
+use Rattle.mesa_journal.specs.Areas.{MayClose, Closes}
 use Rattle.mesa_journal.proofs.writing.close_gate.Goals as goal
 
-first_gate : (old new : List ℕ) → length old ≤ 1 → Torn 0 1 old new → IsJournal new [] 0
-first_gate old new short torn = inl (record { short = omega (arith, torn.no_longer); none = refl; ends = refl })
+-- an area that begins with any byte, behind which all is as it was behind an open gate
+opened : (rest new : List ℕ) → length (1 ∷ rest) ≤ length new → drop 1 new ≡ drop 1 (1 ∷ rest) → Closes (1 ∷ rest) new
+opened rest [] long after = absurd (omega (arith, long))
+opened rest (gate ∷ more) long after =
+    let same : more ≡ rest = after in
+    elim (cases_eq gate 1) [
+      | inl open_still ↦ inr (ap (λ (g : ℕ). g ∷ more) open_still ∙ ap (λ (l : List ℕ). 1 ∷ l) same)
+      | inr shut ↦ inl (inr (record { gate = gate; rest = more; shut = shut; split = refl; fit = tt; ends = refl }))
+    ]
 
-torn_first : (start : Story) (new : Image → Type 0) (area : Area) → ((c : Image) → start.may_leave c → length (area_of area c) ≤ 1)
-    → Follows (InArea area (Torn 0 1)) start.may_leave new → (c : Image) → new c → After (InArea area (λ o n. IsJournal n [] 0)) start.may_leave c
-torn_first start new area short crash c left =
+first_gate : (old new : List ℕ) → MayClose old → Torn 0 1 old new → Closes old new
+first_gate old new (inl short) torn = inl (inl (record { short = omega (arith, torn.no_longer, short); none = refl; ends = refl }))
+first_gate old new (inr opens) torn =
+    let was = opens.1 in
+    subst (λ o. Closes o new) (sym was)
+    (opened opens.0 new (omega (arith, torn.no_shorter, ap length was)) (torn.after ∙ ap (λ (l : List ℕ). drop 1 l) was))
+
+torn_first : (start : Story) (new : Image → Type 0) (area : Area) → ((c : Image) → start.may_leave c → MayClose (area_of area c))
+    → Follows (InArea area (Torn 0 1)) start.may_leave new → (c : Image) → new c → After (InArea area Closes) start.may_leave c
+torn_first start new area may crash c left =
     let from = crash c left in
-    (from.0, from.1, record { bytes = from.2.bytes; stepped = first_gate _ _ (short from.0 from.1) from.2.stepped; same = from.2.same })
+    (from.0, from.1, record { bytes = from.2.bytes; stepped = first_gate _ _ (may from.0 from.1) from.2.stepped; same = from.2.same })
 
 pub returns-in_err-journal_write-clause-any_moment : goal.returns-in_err-journal_write-clause-any_moment
 returns-in_err-journal_write-clause-any_moment g c short =
