@@ -1,7 +1,7 @@
 -- The device calls of a turn, one after another.
 use Rattle.std.proofs.Common.{◌≡◌, inl, inr, ⊎_elim, ℕ, ◌+◌, List, [], ◌∷◌, ◌++◌, length, Option, sym, ◌∙◌, ap, subst}
 use Rattle.std.specs.List.{AllByRecursion}
-use Rattle.mesa_disk.specs.Image.{Image, area_of, Adopts, AnyChange}
+use Rattle.mesa_disk.specs.Image.{Image, area_of, Adopts, AnyChange, InArea}
 use Rattle.mesa_disk.specs.Story.{Story, Steps, After, Follows, Spans}
 use Rattle.mesa_disk.specs.Files.{AddsAll, AddsFirst, LosesFirst, LosesSome, HasDistinctIds, HasOtherIds, IsNoneOf, OthersStay, AreThere}
 use Rattle.mesa_disk.specs.declared.area.Area.{Area}
@@ -10,6 +10,8 @@ use Rattle.mesa_disk.proofs.Rounds.{first_all}
 use Rattle.mesa_disk.proofs.Others.{adds_first_only, adds_there, loses_only, loses_first_only}
 use Rattle.mesa_journal.specs.Journal.{Closed}
 use Rattle.mesa_journal.specs.Settled.{IsSettled, IsWithinAppend}
+use Rattle.mesa_journal.specs.Areas.{other_of, IsBehind}
+use Rattle.mesa_journal.proofs.Live.{other_stays, behind_more, behind_same}
 use Rattle.mesa_commit.specs.Images.{ids_of, Has, Shows, Stands}
 use Rattle.mesa_commit.specs.Turn.{told_files, Brings, OldOrNew}
 use Rattle.mesa_commit.proofs.Files.{same_area, has_stays, has_changed, apart_others, there_has}
@@ -18,12 +20,17 @@ use Rattle.mesa_commit.proofs.Files.{same_area, has_stays, has_changed, apart_ot
 pub shows_stays : (P : ℕ → Type 0) (area : Area) (bodies : List (List ℕ)) (end : ℕ) (files : List (ℕ × List ℕ)) (i j : Image) → OthersStay P i j → AllByRecursion P (ids_of files) → Shows area bodies end files i → Shows area bodies end files j
 shows_stays P area bodies end files i j stay others is = record {
   journal = subst (λ b. Closed b bodies end) (sym (same_area area P i j stay)) is.journal;
+  behind = behind_same area bodies (area_of (other_of area) i) (area_of (other_of area) j) (same_area (other_of area) P i j stay) is.behind;
   has = has_stays P files i j stay others is.has;
 }
 
 -- an image with other files besides
 pub shows_with : (area : Area) (bodies : List (List ℕ)) (end : ℕ) (files more : List (ℕ × List ℕ)) (i : Image) → (Has files i → Has more i) → Shows area bodies end files i → Shows area bodies end more i
-shows_with area bodies end files more i there is = record { journal = is.journal; has = there is.has }
+shows_with area bodies end files more i there is = record { journal = is.journal; behind = is.behind; has = there is.has }
+
+-- a change of the live area leaves the other behind
+pub behind_changed : (area : Area) (bodies : List (List ℕ)) (step : List ℕ → List ℕ → Type 0) (i j : Image) → InArea area step i j → IsBehind area bodies (area_of (other_of area) i) → IsBehind area bodies (area_of (other_of area) j)
+behind_changed area bodies step i j is behind = behind_same area bodies (area_of (other_of area) i) (area_of (other_of area) j) (other_stays area step i j is) behind
 
 module _ (area : Area) (bodies : List (List ℕ)) (end : ℕ) where
   pub settled : (s : Story) (files : List (ℕ × List ℕ)) → Stands s area bodies end files → IsSettled s area bodies end
@@ -38,8 +45,9 @@ module _ (area : Area) (bodies : List (List ℕ)) (end : ℕ) where
       here c from =
           let step = from.2 in
           let bytes : area_of area c ≡ step.bytes = ap (area_of area) step.same ∙ area_of-with_area area step.bytes from.0 in
-          ⊎_elim (λ is. inl (record { journal = subst (λ b. Closed b bodies end) (sym bytes) is; has = has_changed before area _ from.0 c step (old.left from.0 from.1).has }))
-          (λ is. inr (record { journal = subst (λ b. Closed b (bodies ++ body ∷ []) (end + length body + 5)) (sym bytes) is; has = has_changed after area _ from.0 c step (new.left from.0 from.1).has })) step.stepped
+          let behind : IsBehind area bodies (area_of (other_of area) c) = behind_changed area bodies _ from.0 c step (old.left from.0 from.1).behind in
+          ⊎_elim (λ is. inl (record { journal = subst (λ b. Closed b bodies end) (sym bytes) is; behind = behind; has = has_changed before area _ from.0 c step (old.left from.0 from.1).has }))
+          (λ is. inr (record { journal = subst (λ b. Closed b (bodies ++ body ∷ []) (end + length body + 5)) (sym bytes) is; behind = behind_more area bodies (body ∷ []) _ behind; has = has_changed after area _ from.0 c step (new.left from.0 from.1).has })) step.stepped
 
   -- an append that is done
   pub appended : (start now : Story) (files : List (ℕ × List ℕ)) (body : List ℕ) → Stands start area bodies end files
@@ -47,8 +55,14 @@ module _ (area : Area) (bodies : List (List ℕ)) (end : ℕ) where
       → ((c : Image) → now.may_leave c → IsWithinAppend start area bodies end body c)
       → Stands now area (bodies ++ body ∷ []) (end + length body + 5) files
   appended start now files body is done told left = record {
-    read = λ j e. record { journal = done.read j e; has = let from = told.back j e in has_changed files area _ from.0 j from.2 (is.read from.0 from.1).has };
-    left = λ c l. record { journal = done.left c l; has = let from = left c l in has_changed files area _ from.0 c from.2 (is.left from.0 from.1).has };
+    read = λ j e. (
+        let from = told.back j e in
+        record { journal = done.read j e; behind = behind_more area bodies (body ∷ []) _ (behind_changed area bodies _ from.0 j from.2 (is.read from.0 from.1).behind); has = has_changed files area _ from.0 j from.2 (is.read from.0 from.1).has }
+        );
+    left = λ c l. (
+        let from = left c l in
+        record { journal = done.left c l; behind = behind_more area bodies (body ∷ []) _ (behind_changed area bodies _ from.0 c from.2 (is.left from.0 from.1).behind); has = has_changed files area _ from.0 c from.2 (is.left from.0 from.1).has }
+        );
   }
 
   -- removals of others, whatever they answer

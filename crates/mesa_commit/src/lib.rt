@@ -3,5 +3,7 @@
 #![tactic(auto)]
 
 mod commit;
+mod restating;
 
 pub use commit::commit_turn;
+pub use restating::restate;

@@ -1,6 +1,8 @@
-//! Tests of disks in memory, of journals on them, and of files that are read through a cache.
+//! Tests of disks in memory, of journals on them in one area and in two, and of files that are read through a cache.
 #![tactic(auto)]
 
+#[cfg(test)]
+mod areas;
 #[cfg(test)]
 mod cached;
 #[cfg(test)]
