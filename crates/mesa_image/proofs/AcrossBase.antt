@@ -9,8 +9,10 @@ use Rattle.mesa_history.specs.mesa_schema.Changes.{Lineage}
 use Rattle.mesa_history.specs.mesa_file.declared.file_ref.FileRef.{FileRef}
 use Rattle.mesa_record.specs.Reading.{fields_of, file_ref_at, files_at}
 use Rattle.mesa_record.specs.Reading as reading
+use Rattle.mesa_commit.specs.mesa_disk.declared.area.Area.TheVariants.{Zero}
 use Rattle.mesa_image.specs.Catalog.{Catalog, Delta}
-use Rattle.mesa_image.specs.Fitting.{fits, catalog_from, catalog}
+use Rattle.mesa_image.specs.Fitting.{fits, catalog_from}
+use Rattle.mesa_image.specs.Journaled.{catalog}
 use Rattle.mesa_image.specs.Contents.{Rows, kept_of}
 use Rattle.mesa_image.proofs.Bodies.{half, word, long, key, id_bytes, first_run, run_1, expire}
 
@@ -86,38 +88,38 @@ after = record {
   run = 1;
 }
 
-is_before : catalog loaded ≡ Some before
+is_before : catalog Zero loaded ≡ Some before
 unfolding fields_of file_ref_at files_at reading.rising fits catalog_from
 is_before = refl
 
-is_after : catalog (loaded ++ merged ∷ []) ≡ Some after
+is_after : catalog Zero (loaded ++ merged ∷ []) ≡ Some after
 unfolding fields_of file_ref_at files_at reading.rising fits catalog_from
 is_after = refl
 
 -- a base isn't for versions that can be queried still, nor for the first version alone, and it begins with it
-too_far : catalog (loaded ++ swap 1 0 2 (1 ∷ file_bytes 3 digest_6) ∷ []) ≡ None
+too_far : catalog Zero (loaded ++ swap 1 0 2 (1 ∷ file_bytes 3 digest_6) ∷ []) ≡ None
 unfolding fields_of file_ref_at files_at reading.rising fits catalog_from
 too_far = refl
 
-too_short : catalog (loaded ++ swap 1 0 0 (1 ∷ file_bytes 3 digest_6) ∷ []) ≡ None
+too_short : catalog Zero (loaded ++ swap 1 0 0 (1 ∷ file_bytes 3 digest_6) ∷ []) ≡ None
 unfolding fields_of file_ref_at files_at reading.rising fits catalog_from
 too_short = refl
 
-too_late : catalog (loaded ++ swap 1 1 1 (1 ∷ file_bytes 3 digest_6) ∷ []) ≡ None
+too_late : catalog Zero (loaded ++ swap 1 1 1 (1 ∷ file_bytes 3 digest_6) ∷ []) ≡ None
 unfolding fields_of file_ref_at files_at reading.rising fits catalog_from
 too_late = refl
 
 -- a base isn't made twice, and a cumulative is of ten versions
-base_again : catalog (loaded ++ merged ∷ swap 1 0 1 (1 ∷ file_bytes 4 digest_6) ∷ []) ≡ None
+base_again : catalog Zero (loaded ++ merged ∷ swap 1 0 1 (1 ∷ file_bytes 4 digest_6) ∷ []) ≡ None
 unfolding fields_of file_ref_at files_at reading.rising fits catalog_from
 base_again = refl
 
-three_versions : catalog (loaded ++ swap 0 0 2 (1 ∷ file_bytes 3 digest_4) ∷ []) ≡ None
+three_versions : catalog Zero (loaded ++ swap 0 0 2 (1 ∷ file_bytes 3 digest_4) ∷ []) ≡ None
 unfolding fields_of file_ref_at files_at reading.rising fits catalog_from
 three_versions = refl
 
 -- a merged file's id isn't one that a batch has
-id_of_a_batch : catalog (loaded ++ swap 1 0 1 (1 ∷ file_bytes 2 digest_6) ∷ []) ≡ None
+id_of_a_batch : catalog Zero (loaded ++ swap 1 0 1 (1 ∷ file_bytes 2 digest_6) ∷ []) ≡ None
 unfolding fields_of file_ref_at files_at reading.rising fits catalog_from
 id_of_a_batch = refl
 

@@ -6,8 +6,10 @@ use Rattle.mesa_record.specs.mesa_key.declared.KeyType.TheVariants as kind
 use Rattle.mesa_history.specs.mesa_schema.Changes.{Lineage}
 use Rattle.mesa_record.specs.Reading.{fields_of, file_ref_at, files_at}
 use Rattle.mesa_record.specs.Reading as reading
+use Rattle.mesa_commit.specs.mesa_disk.declared.area.Area.TheVariants.{Zero}
 use Rattle.mesa_image.specs.Catalog.{Catalog, Delta, Stock, empty_base, empty_delta}
-use Rattle.mesa_image.specs.Fitting.{fits, catalog_from, catalog}
+use Rattle.mesa_image.specs.Fitting.{fits, catalog_from}
+use Rattle.mesa_image.specs.Journaled.{catalog}
 use Rattle.mesa_image.specs.Contents.{Rows, kept_of}
 use Rattle.mesa_image.proofs.Bodies.{half, word, run_1, empty_batch, expire, expire_table}
 
@@ -32,44 +34,44 @@ stock name oldest = record { name = name; lineage = lineage; totals = 0 ∷ []; 
 abbrev apart : Catalog
 apart = record { tables = stock (codes "t") 1 ∷ stock (codes "u") 0 ∷ []; floor = 0; next = 2; run = 1 }
 
-is_apart : catalog bodies ≡ Some apart
+is_apart : catalog Zero bodies ≡ Some apart
 unfolding fields_of file_ref_at files_at reading.rising fits catalog_from
 is_apart = refl
 
 -- a base of t may reach to its oldest version, one of u not
-base_of_t : catalog (bodies ++ base_to 0 1 ∷ []) ≡ Some (record apart {
+base_of_t : catalog Zero (bodies ++ base_to 0 1 ∷ []) ≡ Some (record apart {
   tables = record (stock (codes "t") 1) { base = Some (record { to = 1; delta = empty_delta }); singles = [] } ∷ stock (codes "u") 0 ∷ [];
 })
 unfolding fields_of file_ref_at files_at reading.rising fits catalog_from
 base_of_t = refl
 
-base_of_u : catalog (bodies ++ base_to 1 1 ∷ []) ≡ None
+base_of_u : catalog Zero (bodies ++ base_to 1 1 ∷ []) ≡ None
 unfolding fields_of file_ref_at files_at reading.rising fits catalog_from
 base_of_u = refl
 
 -- t's versions don't come again, and a later table begins at the floor
-back : catalog (bodies ++ expire_table 0 0 ∷ []) ≡ None
+back : catalog Zero (bodies ++ expire_table 0 0 ∷ []) ≡ None
 unfolding fields_of file_ref_at files_at reading.rising fits catalog_from
 back = refl
 
-to_come : catalog (bodies ++ expire_table 1 2 ∷ []) ≡ None
+to_come : catalog Zero (bodies ++ expire_table 1 2 ∷ []) ≡ None
 unfolding fields_of file_ref_at files_at reading.rising fits catalog_from
 to_come = refl
 
-no_such_table : catalog (bodies ++ expire_table 2 1 ∷ []) ≡ None
+no_such_table : catalog Zero (bodies ++ expire_table 2 1 ∷ []) ≡ None
 unfolding fields_of file_ref_at files_at reading.rising fits catalog_from
 no_such_table = refl
 
-later_table : catalog (bodies ++ table 118 ∷ []) ≡ Some (record apart { tables = stock (codes "t") 1 ∷ stock (codes "u") 0 ∷ stock (codes "v") 0 ∷ [] })
+later_table : catalog Zero (bodies ++ table 118 ∷ []) ≡ Some (record apart { tables = stock (codes "t") 1 ∷ stock (codes "u") 0 ∷ stock (codes "v") 0 ∷ [] })
 unfolding fields_of file_ref_at files_at reading.rising fits catalog_from
 later_table = refl
 
 -- an expiry of all may be to the floor, and leaves t's oldest version as it is
-all_to_floor : catalog (bodies ++ expire 0 ∷ []) ≡ Some apart
+all_to_floor : catalog Zero (bodies ++ expire 0 ∷ []) ≡ Some apart
 unfolding fields_of file_ref_at files_at reading.rising fits catalog_from
 all_to_floor = refl
 
-all_to_last : catalog (bodies ++ expire 1 ∷ []) ≡ Some (record apart { tables = stock (codes "t") 1 ∷ stock (codes "u") 1 ∷ []; floor = 1 })
+all_to_last : catalog Zero (bodies ++ expire 1 ∷ []) ≡ Some (record apart { tables = stock (codes "t") 1 ∷ stock (codes "u") 1 ∷ []; floor = 1 })
 unfolding fields_of file_ref_at files_at reading.rising fits catalog_from
 all_to_last = refl
 

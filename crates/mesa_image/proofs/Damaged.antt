@@ -1,12 +1,14 @@
 -- Journals that end in the midst of a record: behind a gate that isn't open what follows is no matter, behind an open one it is damage.
-use Rattle.std.proofs.Common.{◌≡◌, refl, ℕ, ◌<◌, ◌≤◌, ◌^◌, List, [], ◌∷◌, ◌++◌, Some, inr, arith}
+use Rattle.std.proofs.Common.{◌≡◌, refl, ℕ, ◌<◌, ◌≤◌, ◌^◌, List, [], ◌∷◌, ◌++◌, Some, inl, inr, arith}
 use Rattle.std.specs.FinMap.{empty}
 use Rattle.mesa_commit.specs.mesa_disk.Image.{Image}
 use Rattle.mesa_commit.specs.mesa_journal.Journal.{Closed, IsDamaged, frames, word, of_word}
 use Rattle.mesa_record.specs.Reading.{fields_of}
 use Rattle.mesa_record.specs.Reading as reading
+use Rattle.mesa_commit.specs.mesa_disk.declared.area.Area.TheVariants.{Zero}
 use Rattle.mesa_image.specs.Catalog.{empty_catalog}
-use Rattle.mesa_image.specs.Fitting.{fits, catalog_from, catalog}
+use Rattle.mesa_image.specs.Fitting.{fits, catalog_from}
+use Rattle.mesa_image.specs.Journaled.{catalog}
 use Rattle.mesa_image.specs.Contents.{Rows}
 use Rattle.mesa_image.specs.Sound.{IsSoundAs}
 use Rattle.mesa_image.proofs.Bodies.{run_1}
@@ -21,7 +23,7 @@ cut gate = 1 ∷ 0 ∷ 0 ∷ 0 ∷ 5 ∷ 1 ∷ 0 ∷ 0 ∷ 0 ∷ 1 ∷ gate ∷ 
 abbrev image : Image
 image = record { zero = cut 2; one = []; files = empty }
 
-after_run_1 : catalog (run_1 ∷ []) ≡ Some (record empty_catalog { run = 1 })
+after_run_1 : catalog Zero (run_1 ∷ []) ≡ Some (record empty_catalog { run = 1 })
 unfolding fields_of reading.rising fits catalog_from
 after_run_1 = refl
 
@@ -31,10 +33,17 @@ closed = record { gate = 2; rest = 0 ∷ 0 ∷ 0 ∷ 5 ∷ 1 ∷ 0 ∷ []; shut 
 
 -- a gate of 2 ends the journal
 is_sound : (rows : Rows) → IsSoundAs image (run_1 ∷ []) (record empty_catalog { run = 1 }) rows
-is_sound rows = record { journal = (10, inr closed); records = after_run_1; files = tt; rows_are = tt }
+is_sound rows = record {
+  live = Zero;
+  end = 10;
+  journal = record { whole = inr closed; behind = record { others = []; end = 0; whole = inl (record { short = (let e : 0 ≤ 1 = omega arith in e); none = refl; ends = refl }); leads = omega arith } };
+  records = after_run_1;
+  files = tt;
+  rows_are = tt;
+}
 
 -- the next run writes its record there
-after_run_2 : catalog (run_1 ∷ run_2 ∷ []) ≡ Some (record empty_catalog { run = 2 })
+after_run_2 : catalog Zero (run_1 ∷ run_2 ∷ []) ≡ Some (record empty_catalog { run = 2 })
 unfolding fields_of reading.rising fits catalog_from
 after_run_2 = refl
 

@@ -9,8 +9,10 @@ use Rattle.mesa_history.specs.mesa_schema.Changes.{Lineage}
 use Rattle.mesa_history.specs.mesa_file.declared.file_ref.FileRef.{FileRef}
 use Rattle.mesa_record.specs.Reading.{fields_of, file_ref_at, files_at}
 use Rattle.mesa_record.specs.Reading as reading
+use Rattle.mesa_commit.specs.mesa_disk.declared.area.Area.TheVariants.{Zero}
 use Rattle.mesa_image.specs.Catalog.{Catalog}
-use Rattle.mesa_image.specs.Fitting.{fits, catalog_from, catalog}
+use Rattle.mesa_image.specs.Fitting.{fits, catalog_from}
+use Rattle.mesa_image.specs.Journaled.{catalog}
 use Rattle.mesa_image.specs.Contents.{Rows, kept_of}
 use Rattle.mesa_image.proofs.Bodies.{half, word, long, key, id_bytes, first_run, run_1}
 
@@ -82,16 +84,16 @@ catalogue = record {
   run = 1;
 }
 
-is_catalogue : catalog (run_1 ∷ table_t ∷ batch_0 ∷ view_w ∷ batch_1 ∷ []) ≡ Some catalogue
+is_catalogue : catalog Zero (run_1 ∷ table_t ∷ batch_0 ∷ view_w ∷ batch_1 ∷ []) ≡ Some catalogue
 unfolding fields_of file_ref_at files_at reading.rising fits catalog_from
 is_catalogue = refl
 
 -- a file of a view that isn't there yet, and a view of a name that is there
-view_to_come : catalog (run_1 ∷ table_t ∷ batch_0 ∷ batch_1 ∷ []) ≡ None
+view_to_come : catalog Zero (run_1 ∷ table_t ∷ batch_0 ∷ batch_1 ∷ []) ≡ None
 unfolding fields_of file_ref_at files_at reading.rising fits catalog_from
 view_to_come = refl
 
-view_again : catalog (run_1 ∷ table_t ∷ batch_0 ∷ view_w ∷ view_w ∷ []) ≡ None
+view_again : catalog Zero (run_1 ∷ table_t ∷ batch_0 ∷ view_w ∷ view_w ∷ []) ≡ None
 unfolding fields_of file_ref_at files_at reading.rising fits catalog_from
 view_again = refl
 

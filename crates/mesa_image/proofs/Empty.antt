@@ -3,6 +3,8 @@ use Rattle.std.proofs.Common.{refl, ◌≤◌, [], inl, arith}
 use Rattle.mesa_history.specs.Found.{kept_of as kept_in_state}
 use Rattle.mesa_history.specs.Run.{nothing_there}
 use Rattle.mesa_history.specs.mesa_model.declared.commands.Script.{Script}
+use Rattle.mesa_commit.specs.mesa_disk.declared.area.Area.TheVariants.{Zero}
+use Rattle.mesa_commit.specs.mesa_journal.Journal.{IsJournal}
 use Rattle.mesa_image.specs.Catalog.{empty_catalog}
 use Rattle.mesa_image.specs.Fitting.{catalog_from}
 use Rattle.mesa_image.specs.Contents.{Rows, kept_of}
@@ -11,9 +13,12 @@ use Rattle.mesa_image.specs.Sound.{IsSound, IsSoundAs, StandsFor, empty_image}
 no_rows : Rows
 no_rows id = []
 
+none : IsJournal [] [] 0
+none = inl (record { short = (let e : 0 ≤ 1 = omega arith in e); none = refl; ends = refl })
+
 sound_as : IsSoundAs empty_image [] empty_catalog no_rows
 unfolding catalog_from
-sound_as = record { journal = (0, inl (record { short = (let e : 0 ≤ 1 = omega arith in e); none = refl; ends = refl })); records = refl; files = tt; rows_are = tt }
+sound_as = record { live = Zero; end = 0; journal = record { whole = none; behind = record { others = []; end = 0; whole = none; leads = omega arith } }; records = refl; files = tt; rows_are = tt }
 
 pub is_sound : IsSound empty_image
 is_sound = record { bodies = []; catalogue = empty_catalog; rows = no_rows; is = sound_as }

@@ -10,3 +10,5 @@ mod Apart
 mod Misfits
 mod Damaged
 mod Empty
+mod Restated
+pub mod OneMore

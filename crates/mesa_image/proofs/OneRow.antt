@@ -9,8 +9,10 @@ use Rattle.mesa_history.specs.mesa_schema.Changes.{Lineage}
 use Rattle.mesa_history.specs.mesa_file.declared.file_ref.FileRef.{FileRef}
 use Rattle.mesa_record.specs.Reading.{fields_of, file_ref_at, files_at}
 use Rattle.mesa_record.specs.Reading as reading
+use Rattle.mesa_commit.specs.mesa_disk.declared.area.Area.TheVariants.{Zero}
 use Rattle.mesa_image.specs.Catalog.{Catalog, empty_delta}
-use Rattle.mesa_image.specs.Fitting.{fits, catalog_from, catalog}
+use Rattle.mesa_image.specs.Fitting.{fits, catalog_from}
+use Rattle.mesa_image.specs.Journaled.{catalog}
 use Rattle.mesa_image.specs.Contents.{Rows, kept_of}
 use Rattle.mesa_image.proofs.Bodies.{half, word, long, key, id_bytes, first_run, run_1, empty_batch}
 
@@ -54,7 +56,7 @@ catalogue = record {
   run = 1;
 }
 
-is_catalogue : catalog bodies ≡ Some catalogue
+is_catalogue : catalog Zero bodies ≡ Some catalogue
 unfolding fields_of file_ref_at files_at reading.rising fits catalog_from
 is_catalogue = refl
 

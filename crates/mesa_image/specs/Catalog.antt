@@ -128,7 +128,7 @@ stock_swapped t false to d = record t { cumulatives = t.cumulatives ++ record { 
 abbrev pub stock_from : ℕ → Stock → Stock
 stock_from version t = record t { oldest = max t.oldest version }
 
--- The catalogue after a record.
+-- The catalogue after a record. A checkpoint is no later record: it leaves what stands.
 abbrev pub applied : Catalog → Record → Catalog
 applied c (record_of.Run number) = record c { run = number }
 applied c (record_of.Table name keys values) = record c { tables = c.tables ++ new_stock c name (record { keys = keys; values = values }) ∷ [] }
@@ -138,3 +138,4 @@ applied c (record_of.Publish version parts) = record c { tables = stocks_loaded 
 applied c (record_of.Swap table base from to epoch files) = with_stock c table (stock_swapped (stock_at c table) base to (merged_delta epoch files))
 applied c (record_of.Expire version) = record c { tables = map (stock_from version) c.tables; floor = version }
 applied c (record_of.ExpireTable table version) = with_stock c table (stock_from version (stock_at c table))
+applied c (record_of.Checkpoint k) = c

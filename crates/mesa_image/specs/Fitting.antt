@@ -196,7 +196,7 @@ swap_fits c t base from to epoch files = may_be_work c t base from to && nat_le 
 abbrev pub expire_fits : Catalog → ℕ → ℕ → Bool
 expire_fits c oldest version = nat_le oldest version && nat_lt version c.next
 
--- the rules of a record's own kind
+-- the rules of a record's own kind; a checkpoint fits behind none
 abbrev pub kind_fits : Catalog → Record → Bool
 kind_fits c (record_of.Run number) = run_fits c number
 kind_fits c (record_of.Table name keys values) = table_fits c name (record { keys = keys; values = values })
@@ -206,6 +206,7 @@ kind_fits c (record_of.Publish version parts) = publish_fits c version parts
 kind_fits c (record_of.Swap table base from to epoch files) = is_there c table && swap_fits c (stock_at c table) base from to epoch files
 kind_fits c (record_of.Expire version) = expire_fits c c.floor version
 kind_fits c (record_of.ExpireTable table version) = is_there c table && expire_fits c (stock_at c table).oldest version
+kind_fits c (record_of.Checkpoint k) = false
 
 -- A record fits what stands before it: it keeps the rules of its kind, and its files are new.
 unfoldable pub fits : Catalog → Record → Bool
@@ -235,7 +236,3 @@ then_bodies (Some c) rest = rest c
 unfoldable pub catalog_from : Catalog → List (List ℕ) → Option Catalog
 catalog_from c [] = Some c
 catalog_from c (body ∷ bodies) = then_bodies (with_body c body) (λ d. catalog_from d bodies)
-
--- Catalogue: what the records of these bodies make, where each body spells a record that fits what stands before it.
-abbrev pub catalog : List (List ℕ) → Option Catalog
-catalog bodies = catalog_from empty_catalog bodies

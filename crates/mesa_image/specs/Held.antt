@@ -4,22 +4,23 @@ use Rattle.std.specs.List.{AllByRecursion}
 use Rattle.mesa_record.specs.mesa_key.Spelling.{AreBytes}
 use Rattle.mesa_commit.specs.mesa_disk.Image.{Image}
 use Rattle.mesa_commit.specs.mesa_disk.Story.{Story}
-use Rattle.mesa_commit.specs.mesa_disk.declared.area.Area.TheVariants.{Zero}
+use Rattle.mesa_commit.specs.mesa_disk.declared.area.Area.{Area}
 use Rattle.mesa_commit.specs.Images.{Has, Stands}
 use Rattle.mesa_record.specs.declared.record.Record.{Record}
 use Rattle.mesa_record.specs.Reading.{record_at}
 use Rattle.mesa_history.specs.Found.{Kept}
 use Rattle.mesa_image.specs.Catalog.{Catalog, applied}
-use Rattle.mesa_image.specs.Fitting.{Shelved, fits, catalog, shelved, brought}
+use Rattle.mesa_image.specs.Fitting.{Shelved, fits, shelved, brought}
+use Rattle.mesa_image.specs.Journaled.{catalog}
 use Rattle.mesa_image.specs.Contents.{Rows}
 use Rattle.mesa_image.specs.Sound.{wants, AreStocked, StandsFor}
 
 -- What a read gives, and each image that a crash now may leave, has these bodies, which make this catalogue, and its files with these rows, of which holds what is to hold of rows.
-pub record IsHeld (story : Story) (bodies : List (List ℕ)) (end : ℕ) (c : Catalog) (rows : Rows) : Type 0 where
+pub record IsHeld (story : Story) (live : Area) (bodies : List (List ℕ)) (end : ℕ) (c : Catalog) (rows : Rows) : Type 0 where
   pub bytes : AllByRecursion AreBytes bodies
-  pub records : catalog bodies ≡ Some c
+  pub records : catalog live bodies ≡ Some c
   pub stocked : AreStocked rows c
-  pub stands : Stands story Zero bodies end (wants rows (shelved c))
+  pub stands : Stands story live bodies end (wants rows (shelved c))
 
 -- A body spells a record that fits, after which what is to hold of rows does, and each file that is then named was named before or is brought.
 pub record IsStep (rows : Rows) (c : Catalog) (r : Record) (body : List ℕ) : Type 0 where

@@ -10,7 +10,8 @@ use Rattle.mesa_history.specs.mesa_schema.Views.{view_rows}
 use Rattle.mesa_history.specs.mesa_schema.Folded.{folded, rows_of}
 use Rattle.mesa_history.specs.mesa_batch.Totals.{AreAtMost, abs_totals}
 use Rattle.mesa_commit.specs.mesa_disk.Image.{Image}
-use Rattle.mesa_commit.specs.mesa_journal.Journal.{IsJournal}
+use Rattle.mesa_commit.specs.mesa_disk.declared.area.Area.{Area}
+use Rattle.mesa_commit.specs.mesa_journal.Areas.{HasJournal}
 use Rattle.mesa_commit.specs.Images.{Has}
 use Rattle.mesa_record.specs.declared.record.ViewRef.{ViewRef}
 use Rattle.mesa_delta.specs.mesa_block.Layout.{Layout}
@@ -18,7 +19,8 @@ use Rattle.mesa_delta.specs.File.{IsFile, file_bytes}
 use Rattle.mesa_delta.specs.Summary.{IsReferenceOf, file_layout}
 use Rattle.mesa_history.specs.Found.{Kept}
 use Rattle.mesa_image.specs.Catalog.{Delta, Ending, Stock, Catalog, start_in}
-use Rattle.mesa_image.specs.Fitting.{Shelved, base_deltas, catalog, deltas_of, shelved, stock_shelved}
+use Rattle.mesa_image.specs.Fitting.{Shelved, base_deltas, deltas_of, shelved, stock_shelved}
+use Rattle.mesa_image.specs.Journaled.{catalog}
 use Rattle.mesa_image.specs.Contents.{Rows, rows_in, present, kept_of}
 
 -- ---- files
@@ -86,8 +88,10 @@ AreStocked rows c = AllByRecursion (IsStocked rows) c.tables
 
 -- An image's journal is whole and its bodies make this catalogue, the files that the catalogue names are there with these rows, and what holds of rows holds of these.
 pub record IsSoundAs (image : Image) (bodies : List (List ℕ)) (c : Catalog) (rows : Rows) : Type 0 where
-  pub journal : (end : ℕ) × IsJournal image.zero bodies end
-  pub records : catalog bodies ≡ Some c
+  pub live : Area
+  pub end : ℕ
+  pub journal : HasJournal image live bodies end
+  pub records : catalog live bodies ≡ Some c
   pub files : Has (wants rows (shelved c)) image
   pub rows_are : AreStocked rows c
 

@@ -266,6 +266,7 @@ module _ (id : ℕ) where
       swapped c table base from to epoch files (is_less table (length c.tables) (both_true (is_there c table) (swap_fits c (stock_at c table) base from to epoch files) e).0)
   counted c (record_of.Expire version) rules e = ap (λ (xs : List Shelved). times id (map shelved_id xs) + times id []) (expire_shelves c version)
   counted c (record_of.ExpireTable table version) rules e = ap (λ (xs : List Shelved). times id (map shelved_id xs) + times id []) (expire_table_shelves c table version)
+  counted c (record_of.Checkpoint k) rules e = refl
 
   -- ---- new ids
 
@@ -331,6 +332,7 @@ module _ (id : ℕ) where
   run_rises c (record_of.Swap table base from to epoch files) e = omega arith
   run_rises c (record_of.Expire version) e = omega arith
   run_rises c (record_of.ExpireTable table version) e = omega arith
+  run_rises c (record_of.Checkpoint k) e = omega arith
 
   still_once : (c : Catalog) (r : Record) → keeps_rules r ≡ true → fits c r ≡ true → times id (named c) ≤ 1 → times id (named (applied c r)) ≤ 1
   still_once c r rules fit once =

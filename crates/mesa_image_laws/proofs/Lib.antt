@@ -1,7 +1,6 @@
 pub use Rattle.mesa_image.proofs.mesa_history as mesa_history
 pub use Rattle.mesa_fold.proofs.mesa_schema as mesa_schema
 pub mod Lists
-pub mod Bodies
 pub mod Contents
 pub mod Kept
 pub mod Named
@@ -30,3 +29,10 @@ pub mod Sourcing
 pub mod Found
 pub mod AllSourced
 pub mod Accepted
+pub mod Stating
+pub mod StatableRecords
+pub mod StatedShape
+pub mod CountedRecords
+pub mod StatedFits
+pub mod Numbering
+pub mod Recordable

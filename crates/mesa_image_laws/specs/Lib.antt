@@ -10,3 +10,5 @@ pub mod Moves
 pub mod Ids
 pub mod Sourced
 pub mod Planned
+pub mod Statable
+pub mod Countable

@@ -1,7 +1,9 @@
 // The files that catalogues name.
 ghost use Rattle.mesa_image.specs.Catalog.{Catalog, applied};
 ghost use Rattle.mesa_image.specs.Contents.{Rows, kept_of};
-ghost use Rattle.mesa_image.specs.Fitting.{Shelved, alter_fits, brought, catalog, fits, shelved};
+ghost use Rattle.mesa_image.specs.Fitting.{Shelved, alter_fits, brought, fits, shelved};
+ghost use Rattle.mesa_image.specs.Journaled.{catalog};
+ghost use Rattle.mesa_image.specs.mesa_disk.declared.area.Area.{Area as AreaOf};
 ghost use Rattle.mesa_image.specs.Held.{IsUnnamed};
 ghost use Rattle.mesa_image.specs.Shape.{IsCatalog};
 ghost use Rattle.mesa_image.specs.Sound.{AreStocked, wants};
@@ -48,7 +50,7 @@ pub fn brought_ids_are_new()
 /// Each id that a catalogue names is that of one file, of a run that was: of every catalogue that
 /// bodies of bytes make, and after each record that fits.
 pub fn catalogs_own_ids()
-    ensures whole { (bodies : List (List ℕ)) (c : Catalog) → AllByRecursion AreBytes bodies → catalog bodies ≡ Some c → HasOwnIds c }
+    ensures whole { (area : AreaOf) (bodies : List (List ℕ)) (c : Catalog) → AllByRecursion AreBytes bodies → catalog area bodies ≡ Some c → HasOwnIds c }
     ensures kept { (c : Catalog) (r : RecordOf) → keeps_rules r ≡ true → fits c r ≡ true → HasOwnIds c → HasOwnIds (applied c r) }
 {}
 

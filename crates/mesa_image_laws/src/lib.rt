@@ -3,12 +3,14 @@
 //! of these goes on to hold.
 #![tactic(auto)]
 
+mod checkpoints;
 mod files;
 mod moves;
 mod shapes;
 mod sources;
 mod works;
 
+pub use checkpoints::catalogs_are_stated;
 pub use files::{
     brought_ids_are_new, catalogs_own_ids, changes_keep_files, expiries_keep_files,
     ids_are_counted, rows_count_where_named, views_keep_files,

@@ -1,6 +1,8 @@
 // What every catalogue keeps.
 ghost use Rattle.mesa_image.specs.Catalog.{Catalog, applied};
-ghost use Rattle.mesa_image.specs.Fitting.{catalog, fits};
+ghost use Rattle.mesa_image.specs.Fitting.{fits};
+ghost use Rattle.mesa_image.specs.Journaled.{catalog};
+ghost use Rattle.mesa_image.specs.mesa_disk.declared.area.Area.{Area as AreaOf};
 ghost use Rattle.mesa_image.specs.Shape.{IsCatalog};
 ghost use Rattle.mesa_fold.specs.mesa_key.Spelling.{AreBytes};
 ghost use Rattle.mesa_image.specs.mesa_record.declared.record.Record.{Record as RecordOf};
@@ -16,11 +18,11 @@ pub fn records_keep_shape()
 
 /// Every catalogue that bodies of bytes make keeps it.
 pub fn catalogs_are_shaped()
-    ensures { (bodies : List (List ℕ)) (c : Catalog) → AllByRecursion AreBytes bodies → catalog bodies ≡ Some c → IsCatalog c }
+    ensures { (area : AreaOf) (bodies : List (List ℕ)) (c : Catalog) → AllByRecursion AreBytes bodies → catalog area bodies ≡ Some c → IsCatalog c }
 {}
 
 /// A body that spells a record which fits makes the catalogue after it.
 pub fn catalogs_go_on()
-    ensures { (bodies : List (List ℕ)) (body : List ℕ) (c : Catalog) (r : RecordOf) → catalog bodies ≡ Some c → record_at body ≡ Ok r → fits c r ≡ true
-        → catalog (bodies ++ body ∷ []) ≡ Some (applied c r) }
+    ensures { (area : AreaOf) (bodies : List (List ℕ)) (body : List ℕ) (c : Catalog) (r : RecordOf) → catalog area bodies ≡ Some c → record_at body ≡ Ok r → fits c r ≡ true
+        → catalog area (bodies ++ body ∷ []) ≡ Some (applied c r) }
 {}
