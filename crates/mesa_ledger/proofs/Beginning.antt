@@ -1,5 +1,6 @@
 -- A vault before its first turn, one whose disk gave readers back, and what a session sees of one.
 use Rattle.std.proofs.Common.{◌≡◌, ℕ, ◌<◌, List, [], Bool, true, false, ◌∙◌, arith, Option, None, IsTrue}
+use Rattle.mesa_walk.specs.mesa_disk.declared.area.Area.{Area}
 use Rattle.mesa_walk.specs.mesa_disk.Story.{Story, Unmoved}
 use Rattle.mesa_image_laws.specs.mesa_model.declared.entries.Entry.{Entry}
 use Rattle.mesa_image_laws.specs.mesa_history.Claims.{HasRanges, HasClaimAt}
@@ -24,15 +25,15 @@ use Rattle.mesa_ledger.specs.Vault.{Origin, IsRead, IsReady, IsVault, Starts, Is
 use Rattle.mesa_ledger.proofs.Standing.{held_unmoved, ready_unmoved, there_unmoved}
 
 -- a ledger of a catalogue, in which nothing was done yet
-abbrev pub first_ledger : Outset → Catalog → ℕ → ℕ → Ledger
-first_ledger o c generation end = record { catalogue = c; generation = generation; pins = []; queries = []; trash = []; leases = o.start.machine.leases; given = []; closed = None; adopted = 0; end = end }
+abbrev pub first_ledger : Outset → Catalog → ℕ → Area → ℕ → Ledger
+first_ledger o c generation area end = record { catalogue = c; generation = generation; pins = []; queries = []; trash = []; leases = o.start.machine.leases; given = []; closed = None; adopted = 0; area = area; end = end }
 
 -- Before the first turn.
-pub started_vault : (o : Outset) (g : Origin) (sound : Bool) (c : Catalog) (end : ℕ) (story : Story) (held : Option (List ℕ)) (rows : Rows) (bodies : List (List ℕ)) → IsWalk o sound (books_of rows (first_ledger o c g.generation end)) story held [] true false
-    → HasRanges o.start → o.start.machine.leases.granted ≡ 0 → (IsTrue sound → IsHeld story bodies end c rows) → IsCatalog c → HasOwnIds c → ((id : ℕ) → Among id (named c) → id < next_id (first_ledger o c g.generation end))
-    → IsReady (first_ledger o c g.generation end) story → (IsTrue sound → AreStocked rows c) → (IsTrue sound → HasSources rows (all_written g.found []) c) → (IsTrue sound → IsRead story) → IsVault o g sound (first_ledger o c g.generation end) story held [] true false
+pub started_vault : (o : Outset) (g : Origin) (sound : Bool) (c : Catalog) (area : Area) (end : ℕ) (story : Story) (held : Option (List ℕ)) (rows : Rows) (bodies : List (List ℕ)) → IsWalk o sound (books_of rows (first_ledger o c g.generation area end)) story held [] true false
+    → HasRanges o.start → o.start.machine.leases.granted ≡ 0 → (IsTrue sound → IsHeld story area bodies end c rows) → IsCatalog c → HasOwnIds c → ((id : ℕ) → Among id (named c) → id < next_id (first_ledger o c g.generation area end))
+    → IsReady (first_ledger o c g.generation area end) story → (IsTrue sound → AreStocked rows c) → (IsTrue sound → HasSources rows (all_written g.found []) c) → (IsTrue sound → IsRead story) → IsVault o g sound (first_ledger o c g.generation area end) story held [] true false
 unfolding count_in accepted_in
-started_vault o g sound c end story held rows bodies walk ranges none stands shaped own named_given ready stocked sourced read = record {
+started_vault o g sound c area end story held rows bodies walk ranges none stands shaped own named_given ready stocked sourced read = record {
   rows = rows;
   bodies = bodies;
   seen = λ position. c;
@@ -44,7 +45,7 @@ started_vault o g sound c end story held rows bodies walk ranges none stands sha
   copies = tt;
   versions = tt;
   counts = record { leases = omega (arith, none); given = tt; adopted = omega arith; generation = omega arith };
-  filed = filed_first 0 (next_id (first_ledger o c g.generation end)) (named c) named_given;
+  filed = filed_first 0 (next_id (first_ledger o c g.generation area end)) (named c) named_given;
   ready = λ is. ready;
   read = read;
   there = λ ok i is. tt;
@@ -60,7 +61,7 @@ unmoved_vault o g sound l story new held h running refused same counts v = recor
   seen = v.seen;
   walk = unmoved_walk o sound (books_of v.rows l) story new held h running refused same counts v.walk;
   ranges = v.ranges;
-  stands = λ ok is. held_unmoved story new same v.bodies l.end l.catalogue v.rows (v.stands ok is);
+  stands = λ ok is. held_unmoved story new same l.area v.bodies l.end l.catalogue v.rows (v.stands ok is);
   shaped = v.shaped;
   own = v.own;
   copies = v.copies;

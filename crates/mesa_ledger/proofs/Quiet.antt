@@ -36,7 +36,7 @@ module _ (o : Outset) (g : Origin) (sound : Bool) (l : Ledger) (story : Story) (
       seen = seen;
       walk = on.walk;
       ranges = v.ranges;
-      stands = λ ok is. held_unmoved story new same v.bodies l.end l.catalogue v.rows (v.stands ok (opened is));
+      stands = λ ok is. held_unmoved story new same l.area v.bodies l.end l.catalogue v.rows (v.stands ok (opened is));
       shaped = v.shaped;
       own = v.own;
       copies = kept.copies;

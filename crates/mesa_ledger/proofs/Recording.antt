@@ -5,7 +5,6 @@ use Rattle.std.proofs.lemmas.List.{length-append}
 use Rattle.mesa_walk.specs.mesa_disk.Files.{AreGone}
 use Rattle.mesa_walk.specs.mesa_disk.Image.{Image}
 use Rattle.mesa_walk.specs.mesa_disk.Story.{Story, Steps}
-use Rattle.mesa_walk.specs.mesa_disk.declared.area.Area.TheVariants.{Zero}
 use Rattle.mesa_trash.specs.mesa_commit.Images.{Has}
 use Rattle.mesa_trash.specs.mesa_commit.Turn.{MovesOnly}
 use Rattle.mesa_lease.specs.Book.{Book}
@@ -111,7 +110,7 @@ module _ (o : Outset) (g : Origin) (sound : Bool) (l : Ledger) (story : Story) (
       after = recorded_ledger l c generation waits leases adopted end
 
       -- The device work of the turn is done, and the ledger has its record.
-      pub recorded_vault : WalksWith o sound (books_of later after) new new_held h e now told rep → (IsTrue sound → l.closed ≡ None → IsHeld new bodies end c later) → (IsTrue sound → AreStocked later c) → (l.closed ≡ None → end < new.len Zero)
+      pub recorded_vault : WalksWith o sound (books_of later after) new new_held h e now told rep → (IsTrue sound → l.closed ≡ None → IsHeld new l.area bodies end c later) → (IsTrue sound → AreStocked later c) → (l.closed ≡ None → end < new.len l.area)
           → leases.granted ≤ l.leases.granted → generation ≡ l.generation + one_if (is_of_schemas rep) → (IsTrue sound → HasSources later (written_by o g.found (h ++ e ∷ [])) c) → IsVault o g sound after new new_held (h ++ e ∷ []) now told
       recorded_vault on stands stocked long granted counted sourced = record {
         rows = later;

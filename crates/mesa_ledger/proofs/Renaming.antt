@@ -102,6 +102,7 @@ dropped_named id c (record_of.Swap table true from to epoch files) is = table_na
 dropped_named id c (record_of.Swap table false from to epoch files) is = absurd is
 dropped_named id c (record_of.Expire version) is = absurd is
 dropped_named id c (record_of.ExpireTable table version) is = absurd is
+dropped_named id c (record_of.Checkpoint k) is = absurd is
 
 -- ---- a record
 

@@ -2,7 +2,7 @@
 use Rattle.std.proofs.Common.{◌≡◌, inr, ℕ, ◌<◌, List, refl, sym, ◌∙◌, subst, Some}
 use Rattle.mesa_walk.specs.mesa_disk.Image.{Image}
 use Rattle.mesa_walk.specs.mesa_disk.Story.{Story, Unmoved}
-use Rattle.mesa_walk.specs.mesa_disk.declared.area.Area.TheVariants.{Zero}
+use Rattle.mesa_walk.specs.mesa_disk.declared.area.Area.{Area}
 use Rattle.mesa_trash.specs.mesa_commit.Images.{Has}
 use Rattle.mesa_image_laws.specs.mesa_image.Catalog.{Catalog}
 use Rattle.mesa_image_laws.specs.mesa_image.Contents.{kept_of}
@@ -15,20 +15,20 @@ use Rattle.mesa_ledger.specs.Ledger.{Ledger}
 use Rattle.mesa_ledger.specs.Vault.{IsReady, AreThere}
 
 -- each image stands for the catalogue with its rows
-pub held_stand : (story : Story) (bodies : List (List ℕ)) (end : ℕ) (c : Catalog) (rows : Rows) → IsHeld story bodies end c rows → AllStand StandsFor story (kept_of rows c)
-held_stand story bodies end c rows is i left =
+pub held_stand : (story : Story) (area : Area) (bodies : List (List ℕ)) (end : ℕ) (c : Catalog) (rows : Rows) → IsHeld story area bodies end c rows → AllStand StandsFor story (kept_of rows c)
+held_stand story area bodies end c rows is i left =
     let shows = is.stands.left i left in
-    record { bodies = bodies; catalogue = c; rows = rows; is = record { journal = (end, inr shows.journal); records = is.records; files = shows.has; rows_are = is.stocked }; same = refl }
+    record { bodies = bodies; catalogue = c; rows = rows; is = record { live = area; end = end; journal = record { whole = inr shows.journal; behind = shows.behind }; records = is.records; files = shows.has; rows_are = is.stocked }; same = refl }
 
 -- a read gives its files
-pub held_there : (story : Story) (bodies : List (List ℕ)) (end : ℕ) (c : Catalog) (rows : Rows) → IsHeld story bodies end c rows → (i : Image) → story.told ≡ Some i → Has (wants rows (shelved c)) i
-held_there story bodies end c rows is i told = (is.stands.read i told).has
+pub held_there : (story : Story) (area : Area) (bodies : List (List ℕ)) (end : ℕ) (c : Catalog) (rows : Rows) → IsHeld story area bodies end c rows → (i : Image) → story.told ≡ Some i → Has (wants rows (shelved c)) i
+held_there story area bodies end c rows is i told = (is.stands.read i told).has
 
 -- ---- calls that move no image
 
 module _ (story new : Story) (same : Unmoved story new) where
-  pub held_unmoved : (bodies : List (List ℕ)) (end : ℕ) (c : Catalog) (rows : Rows) → IsHeld story bodies end c rows → IsHeld new bodies end c rows
-  held_unmoved bodies end c rows is = record {
+  pub held_unmoved : (area : Area) (bodies : List (List ℕ)) (end : ℕ) (c : Catalog) (rows : Rows) → IsHeld story area bodies end c rows → IsHeld new area bodies end c rows
+  held_unmoved area bodies end c rows is = record {
     bytes = is.bytes;
     records = is.records;
     stocked = is.stocked;
@@ -37,7 +37,7 @@ module _ (story new : Story) (same : Unmoved story new) where
 
   pub ready_unmoved : (l : Ledger) → IsReady l story → IsReady l new
   ready_unmoved l is = record {
-    long = subst (λ n. l.end < n) (sym (same.len Zero)) is.long;
+    long = subst (λ n. l.end < n) (sym (same.len l.area)) is.long;
     fresh = λ i told. is.fresh i (sym same.told ∙ told);
     strays = λ i told. is.strays i (sym same.told ∙ told);
   }

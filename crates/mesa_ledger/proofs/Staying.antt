@@ -28,10 +28,10 @@ all_stay (x ∷ xs) = ap (λ ys. x ∷ ys) (all_stay xs)
 module _ (o : Outset) (g : Origin) (sound : Bool) (l : Ledger) (story : Story) (held : Option (List ℕ)) (h : List Entry) (running refused : Bool) (v : IsVault o g sound l story held h running refused) where
   -- while a vault is open, each image stands for its catalogue, and a read gives its files
   pub stands_now : l.closed ≡ None → IsTrue sound → AllStand StandsFor story (kept_of v.rows l.catalogue)
-  stands_now is ok = held_stand story v.bodies l.end l.catalogue v.rows (v.stands ok is)
+  stands_now is ok = held_stand story l.area v.bodies l.end l.catalogue v.rows (v.stands ok is)
 
   pub there_now : l.closed ≡ None → IsTrue sound → (i : Image) → story.told ≡ Some i → Has (wants v.rows (shelved l.catalogue)) i
-  there_now is ok i told = held_there story v.bodies l.end l.catalogue v.rows (v.stands ok is) i told
+  there_now is ok i told = held_there story l.area v.bodies l.end l.catalogue v.rows (v.stands ok is) i told
 
   module _ (e : Entry) (new : Story) (new_held : Option (List ℕ)) (now told : Bool) (same : Unmoved story new) where
     abbrev kept : AreKept v.rows sound story.told v.seen l (length h)

@@ -3,7 +3,6 @@ use Rattle.std.proofs.Common.{◌≡◌, ℕ, ◌+◌, ◌<◌, ◌^◌, ◌≤�
 use Rattle.mesa_walk.specs.mesa_disk.Files.{AreGone}
 use Rattle.mesa_walk.specs.mesa_disk.Image.{Image}
 use Rattle.mesa_walk.specs.mesa_disk.Story.{Story, Steps}
-use Rattle.mesa_walk.specs.mesa_disk.declared.area.Area.TheVariants.{Zero}
 use Rattle.mesa_trash.specs.mesa_commit.Turn.{MovesOnly}
 use Rattle.mesa_trash.specs.declared.trash.Dropped.{Dropped}
 use Rattle.mesa_lease.specs.Book.{ended}
@@ -69,7 +68,7 @@ module _ (n : Starts) (w : Rows) (sound : Bool) (l : Ledger) (story : Story) (he
     after = recorded_ledger l x generation waits l.leases adopted end
 
     -- Its device work is done.
-    pub written_vault : Counts story new false → (bodies : List (List ℕ)) → (IsTrue sound → IsHeld new bodies end x later) → ((i : Image) → new.told ≡ Some i → AreGone removed i) → (IsTrue sound → AreStocked later x) → end < new.len Zero
+    pub written_vault : Counts story new false → (bodies : List (List ℕ)) → (IsTrue sound → IsHeld new l.area bodies end x later) → ((i : Image) → new.told ≡ Some i → AreGone removed i) → (IsTrue sound → AreStocked later x) → end < new.len l.area
         → generation ≡ l.generation + one_if (is_of_schemas rep) → (told_by o.script (run_of o h) (turn_with outcome.Stands) ≡ Some (told_at (run_of o h).position rep) → IsTrue sound → HasSources later (written_by o g.found (h ++ turn_with outcome.Stands ∷ [])) x)
         → IsPut (block (turn_with outcome.Stands) (Some (told_at at rep))) now held new_held → IsVault o g sound after new new_held (h ++ turn_with outcome.Stands ∷ []) now (refused || is_refusal rep)
     written_vault counts bodies holds gone_now stocked long risen sources put =
@@ -78,7 +77,7 @@ module _ (n : Starts) (w : Rows) (sound : Bool) (l : Ledger) (story : Story) (he
       where
         on : WalksWith o sound (books_of later after) new new_held h (turn_with outcome.Stands) now (refused || is_refusal rep) rep
         on = written_turn o sound (books_of v.rows l) story held h running refused v.walk session number low few c stage f d due m ran at place (books_of later after) rep change writes_is new moment passes (λ ok low. stands_now o g sound l story held h running refused v was_open ok) writes now new_held
-            counts (λ ok low. held_stand new bodies end x later (holds ok)) put
+            counts (λ ok low. held_stand new l.area bodies end x later (holds ok)) put
 
     -- Its device work has failed.
     pub unwritten_vault : is_writing c ≡ true → Counts story new true → IsPut (block (turn_with outcome.WriteFault) (Some (told_at at (reply_of Unwritten)))) now held new_held
@@ -100,7 +99,7 @@ module _ (n : Starts) (w : Rows) (sound : Bool) (l : Ledger) (story : Story) (he
     swapped_ledger = recorded_ledger l x generation waits (ended claim.table claim.lease l.leases) adopted end
 
     -- Its device work is done: the lease has ended.
-    pub swapped_vault : Counts story new false → (bodies : List (List ℕ)) → (IsTrue sound → IsHeld new bodies end x later) → ((i : Image) → new.told ≡ Some i → AreGone removed i) → (IsTrue sound → AreStocked later x) → end < new.len Zero
+    pub swapped_vault : Counts story new false → (bodies : List (List ℕ)) → (IsTrue sound → IsHeld new l.area bodies end x later) → ((i : Image) → new.told ≡ Some i → AreGone removed i) → (IsTrue sound → AreStocked later x) → end < new.len l.area
         → generation ≡ l.generation → (told_by o.script (run_of o h) (closes_with outcome.Stands) ≡ Some (told_at (run_of o h).position (swapped_reply claim.work)) → IsTrue sound → HasSources later (written_by o g.found (h ++ closes_with outcome.Stands ∷ [])) x)
         → IsPut (block (closes_with outcome.Stands) (Some (told_at at (swapped_reply claim.work)))) now held new_held → IsVault o g sound swapped_ledger new new_held (h ++ closes_with outcome.Stands ∷ []) now (refused || false)
     swapped_vault counts bodies holds gone_now stocked long same sources put =
@@ -110,7 +109,7 @@ module _ (n : Starts) (w : Rows) (sound : Bool) (l : Ledger) (story : Story) (he
         on : WalksWith o sound (books_of later swapped_ledger) new new_held h (closes_with outcome.Stands) now (refused || false) (swapped_reply claim.work)
         on = subst (λ b. WalksWith o sound b new new_held h (closes_with outcome.Stands) now (refused || false) (swapped_reply claim.work)) (sym books_are)
             (swapped_turn o sound (books_of v.rows l) story held h running refused v.walk session number low few name m ran at place claim due checked new moment passes (λ ok low. stands_now o g sound l story held h running refused v was_open ok) (kept_of later x) swaps writes now new_held
-            counts (λ ok low. held_stand new bodies end x later (holds ok)) put)
+            counts (λ ok low. held_stand new l.area bodies end x later (holds ok)) put)
 
         no_schemas : (r : Work) → l.generation ≡ l.generation + one_if (is_of_schemas (swapped_reply r))
         no_schemas (range.Base to) = omega arith

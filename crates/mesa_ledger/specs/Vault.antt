@@ -3,7 +3,6 @@ use Rattle.std.specs.Prelude.{◌≡◌, ℕ, ◌+◌, ◌*◌, ◌<◌, ◌≤�
 use Rattle.std.specs.List.{AllByRecursion}
 use Rattle.mesa_walk.specs.mesa_disk.Image.{Image}
 use Rattle.mesa_walk.specs.mesa_disk.Story.{Story}
-use Rattle.mesa_walk.specs.mesa_disk.declared.area.Area.TheVariants.{Zero}
 use Rattle.mesa_trash.specs.mesa_commit.Images.{Has}
 use Rattle.mesa_image_laws.specs.mesa_model.declared.commands.Script.{Script}
 use Rattle.mesa_image_laws.specs.mesa_model.declared.entries.Entry.{Entry}
@@ -38,7 +37,7 @@ IsFiled seen l h = AreFiled (length h) (next_id l) (named l.catalogue) l.trash (
 
 -- While the vault is open, the journal has room for a body; the ids that the run may still give have no file; and each file that is there is named, or waits.
 pub record IsReady (l : Ledger) (story : Story) : Type 0 where
-  pub long : l.end < story.len Zero
+  pub long : l.end < story.len l.area
   pub fresh : AreFresh (next_id l) (past_id l) story.told
   pub strays : AreNamedOrWait (named l.catalogue) (ids_of l.trash) story.told
 
@@ -81,7 +80,7 @@ pub record IsVault (o : Outset) (g : Origin) (sound : Bool) (l : Ledger) (story 
   pub seen : ℕ → Catalog
   pub walk : IsWalk o sound (books_of rows l) story held h running refused
   pub ranges : HasRanges o.start
-  pub stands : IsTrue sound → l.closed ≡ None → IsHeld story bodies l.end l.catalogue rows
+  pub stands : IsTrue sound → l.closed ≡ None → IsHeld story l.area bodies l.end l.catalogue rows
   pub shaped : IsCatalog l.catalogue
   pub own : HasOwnIds l.catalogue
   pub copies : AreShaped seen l

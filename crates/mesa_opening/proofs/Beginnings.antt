@@ -8,7 +8,7 @@ use Rattle.mesa_disk.specs.Image.{Image, file_of}
 use Rattle.mesa_disk.specs.Story.{Story, Spans, Unmoved}
 use Rattle.mesa_disk.specs.declared.area.Area.{Area}
 use Rattle.mesa_disk.proofs.Run.{spans_on}
-use Rattle.mesa_journal.proofs.Unique.{same_journal}
+use Rattle.mesa_journal.proofs.Live.{one_live, same_live}
 use Rattle.mesa_trash.specs.Holding.{Among}
 use Rattle.mesa_trash.specs.Filed.{AreFresh, AreNamedOrWait, FilesAdopted}
 use Rattle.mesa_trash.proofs.Filing.{filed_first}
@@ -16,8 +16,11 @@ use Rattle.mesa_record.specs.declared.record.Record.TheVariants as record_of
 use Rattle.mesa_record.specs.Reading.{record_at}
 use Rattle.mesa_record.specs.declared.record.Record.{Record}
 use Rattle.mesa_record.specs.declared.error.RecordError.{RecordError}
-use Rattle.mesa_image_laws.specs.mesa_image.Catalog.{Catalog, applied, empty_catalog}
-use Rattle.mesa_image_laws.specs.mesa_image.Fitting.{applied_if, catalog, catalog_from, fits, max_runs, read_record, shelved, then_bodies, with_body}
+use Rattle.mesa_image_laws.specs.mesa_image.Catalog.{Catalog, applied}
+use Rattle.mesa_image_laws.specs.mesa_image.Fitting.{fits, max_runs, shelved}
+use Rattle.mesa_image_laws.specs.mesa_image.Journaled.{catalog}
+use Rattle.mesa_image_laws.proofs.Wholes.{catalog_whole}
+use Rattle.std.specs.List.{AllByRecursion}
 use Rattle.mesa_image_laws.specs.mesa_image.Contents.{Rows, kept_of}
 use Rattle.mesa_commit.specs.Images.{Has}
 use Rattle.mesa_image_laws.specs.mesa_image.Sound.{AreStocked, StandsFor, wants}
@@ -44,52 +47,9 @@ fits_run c few =
     let low : nat_le (c.run + 1) max_runs ≡ true = grind (arith, nat_tests) in
     two_true ((c.run + 1 == c.run + 1) && nat_le (c.run + 1) max_runs) true (two_true (c.run + 1 == c.run + 1) (nat_le (c.run + 1) max_runs) same low) refl
 
--- no run has a number over the greatest
-abbrev Few : Catalog → Type 0
-Few c = c.run ≤ 2 ^ 24 - 1
-
-both_true : (a b : Bool) → (a && b) ≡ true → (a ≡ true) × (b ≡ true)
-both_true true b e = (refl, e)
-both_true false b e = absurd (let f : false ≡ true = e in cc)
-
-run_few : (c : Catalog) (number : ℕ) → fits c (run_record number) ≡ true → number ≤ 2 ^ 24 - 1
-unfolding fits
-run_few c number fit =
-    let low : nat_le number max_runs ≡ true = (both_true (number == c.run + 1) (nat_le number max_runs) (both_true ((number == c.run + 1) && nat_le number max_runs) true fit).0).1 in
-    grind (arith, nat_tests)
-
-few_kept : (c : Catalog) (r : Record) → fits c r ≡ true → Few c → Few (applied c r)
-few_kept c (record_of.Run number) fit few = run_few c number fit
-few_kept c (record_of.Table name keys values) fit few = few
-few_kept c (record_of.View table name keys values) fit few = few
-few_kept c (record_of.Alter table change) fit few = few
-few_kept c (record_of.Publish version parts) fit few = few
-few_kept c (record_of.Swap table base from to epoch files) fit few = few
-few_kept c (record_of.Expire version) fit few = few
-few_kept c (record_of.ExpireTable table version) fit few = few
-
-few_applied : (c d : Catalog) (r : Record) (b : Bool) → fits c r ≡ b → applied_if c r b ≡ Some d → Few c → Few d
-few_applied c d r true fit is few = (let same : applied c r ≡ d = (let e : Some (applied c r) ≡ Some d = is in cc) in subst Few same (few_kept c r fit few))
-few_applied c d r false fit is few = absurd (let e : None ≡ Some d = is in cc)
-
-few_read : (c d : Catalog) (r : Result Record RecordError) → read_record c r ≡ Some d → Few c → Few d
-few_read c d (Ok r) is few = few_applied c d r (fits c r) refl is few
-few_read c d (Err e) is few = absurd (let f : None ≡ Some d = is in cc)
-
-then_split : (o : Option Catalog) (rest : Catalog → Option Catalog) (d : Catalog) → then_bodies o rest ≡ Some d → (c : Catalog) × (o ≡ Some c) × (rest c ≡ Some d)
-then_split None rest d is = absurd (let f : None ≡ Some d = is in cc)
-then_split (Some c) rest d is = (c, refl, is)
-
-few_from : (bodies : List (List ℕ)) (c d : Catalog) → catalog_from c bodies ≡ Some d → Few c → Few d
-unfolding catalog_from
-few_from [] c d is few = (let same : c ≡ d = (let e : Some c ≡ Some d = is in cc) in subst Few same few)
-few_from (body ∷ bodies) c d is few =
-    let mid = then_split (with_body c body) (λ k. catalog_from k bodies) d is in
-    few_from bodies mid.0 d mid.2 (few_read c mid.0 (record_at body) mid.1 few)
-
 -- the last run of a store's is at most the greatest
-pub runs_few : (bodies : List (List ℕ)) (c : Catalog) → catalog bodies ≡ Some c → c.run ≤ 2 ^ 24 - 1
-runs_few bodies c is = few_from bodies empty_catalog c is (omega arith)
+pub runs_few : (area : Area) (bodies : List (List ℕ)) (c : Catalog) → AllByRecursion AreBytes bodies → catalog area bodies ≡ Some c → c.run ≤ 2 ^ 24 - 1
+runs_few area bodies c bytes is = (catalog_whole area bodies c bytes is).counted.run
 
 pub run_step : (rows : Rows) (c : Catalog) (number : ℕ) (body : List ℕ) → AreBytes body → record_at body ≡ Ok (run_record number) → fits c (run_record number) ≡ true → AreStocked rows c → IsStep rows c (run_record number) body
 run_step rows c number body bytes reads fitting stocked = record { bytes = bytes; reads = reads; fitting = fitting; stocked = stocked; grows = λ i has new. has }
@@ -98,9 +58,9 @@ same_kept : (rows : Rows) (c : Catalog) (number : ℕ) → kept_of rows (applied
 unfolding kept_of
 same_kept rows c number = refl
 
-pub writes_run : (story : Story) (bodies : List (List ℕ)) (end : ℕ) (c : Catalog) (rows : Rows) (number : ℕ) (body : List ℕ) (made : List (ℕ × Option (List ℕ))) (strays : List ℕ) → IsHeld story bodies end c rows → BeginsRun c number body strays → made ≡ []
-    → Writes story bodies end c rows (run_record number) body made strays
-writes_run story bodies end c rows number body made strays held begins none = record {
+pub writes_run : (story : Story) (area : Area) (bodies : List (List ℕ)) (end : ℕ) (c : Catalog) (rows : Rows) (number : ℕ) (body : List ℕ) (made : List (ℕ × Option (List ℕ))) (strays : List ℕ) → IsHeld story area bodies end c rows → BeginsRun c number body strays → made ≡ []
+    → Writes story area bodies end c rows (run_record number) body made strays
+writes_run story area bodies end c rows number body made strays held begins none = record {
   held = held;
   step = run_step rows c number body begins.bytes begins.reads begins.fitting held.stocked;
   brings = none;
@@ -120,8 +80,8 @@ unmoved_spans P a b still had = record {
   left = λ x left. had x ((still.may_leave x).0 left);
 }
 
-pub found_unmoved : (a b : Story) (bodies : List (List ℕ)) (end : ℕ) (c : Catalog) (rows : Rows) → Unmoved a b → IsFound a bodies end c rows → IsFound b bodies end c rows
-found_unmoved a b bodies end c rows still found = record {
+pub found_unmoved : (a b : Story) (area : Area) (bodies : List (List ℕ)) (end : ℕ) (c : Catalog) (rows : Rows) → Unmoved a b → IsFound a area bodies end c rows → IsFound b area bodies end c rows
+found_unmoved a b area bodies end c rows still found = record {
   bytes = found.bytes;
   records = found.records;
   stocked = found.stocked;
@@ -152,14 +112,16 @@ told_same told i j a b = cc
 some_same : (o : Option Catalog) (c d : Catalog) → o ≡ Some c → o ≡ Some d → c ≡ d
 some_same o c d a b = cc
 
-module _ (story : Story) (c : Catalog) (last_run : ℕ) (area : Area) (end since : ℕ) (o : IsOpenedAs story c last_run area end since) where
+module _ (story : Story) (c : Catalog) (last_run : ℕ) (area : Area) (number : ℕ) (holds : Bool) (end since : ℕ) (o : IsOpenedAs story c last_run area number holds end since) where
   -- what a sound start has is what was read
   pub start_same : (d : Catalog) (rows : Rows) → IsSoundStart story d rows → d ≡ c
   start_same d rows start =
-      let bodies : o.bodies ≡ start.bodies = same_journal start.image.zero o.bodies start.bodies end start.sound.journal.0 (o.reads.journal start.image start.told) start.sound.journal.1 in
-      some_same (catalog start.bodies) d c start.sound.records (subst (λ bs. catalog bs ≡ Some c) bodies o.reads.records)
+      let here = o.reads.journal start.image start.told in
+      let live : area ≡ start.sound.live = one_live start.image area start.sound.live o.bodies start.bodies end start.sound.end here start.sound.journal in
+      let bodies : o.bodies ≡ start.bodies = (same_live start.image area start.sound.live o.bodies start.bodies end start.sound.end here start.sound.journal).0 in
+      some_same (catalog start.sound.live start.bodies) d c start.sound.records (subst (λ a. catalog a start.bodies ≡ Some c) live (subst (λ bs. catalog area bs ≡ Some c) bodies o.reads.records))
 
-  pub found_start : (rows : Rows) → IsSoundStart story c rows → IsFound story o.bodies end c rows
+  pub found_start : (rows : Rows) → IsSoundStart story c rows → IsFound story area o.bodies end c rows
   found_start rows start = record {
     bytes = o.reads.bytes;
     records = o.reads.records;
@@ -171,7 +133,7 @@ module _ (story : Story) (c : Catalog) (last_run : ℕ) (area : Area) (end since
 
   -- so each image since then stands for it
   pub keeps_from : (now : Story) → ((s t : ℕ) (x : Image) → s ≤ t → now.may_have_left t x → now.may_have_left s x) → ((x : Image) → story.moment < last → story.may_have_left story.moment x → story.may_leave x)
-      → ((bodies : List (List ℕ)) (rows : Rows) → IsFound story bodies end c rows → Spans (λ x. StandsFor x (kept_of rows c)) story now) → Keeps story now
+      → ((bodies : List (List ℕ)) (rows : Rows) → IsFound story area bodies end c rows → Spans (λ x. StandsFor x (kept_of rows c)) story now) → Keeps story now
   keeps_from now earlier only images d rows start below t x from to left =
       let same : d ≡ c = start_same d rows start in
       let begun : IsSoundStart story c rows = subst (λ k. IsSoundStart story k rows) same start in

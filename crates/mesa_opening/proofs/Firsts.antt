@@ -10,13 +10,10 @@ use Rattle.mesa_journal.specs.Journal.{frames, word}
 use Rattle.mesa_journal.specs.Read.{bodies_of, placed_from}
 use Rattle.mesa_journal.specs.declared.reading.Body.{Body}
 use Rattle.mesa_journal.proofs.Bytes.{length-word}
-use Rattle.mesa_record.specs.Reading.{record_at}
-use Rattle.mesa_image_laws.specs.mesa_image.Catalog.{Catalog, empty_catalog}
-use Rattle.mesa_image_laws.specs.mesa_image.Fitting.{catalog, catalog_from, with_body}
-use Rattle.mesa_store.proofs.Bodies.{body_more}
+use Rattle.mesa_disk.specs.declared.area.Area.{Area}
 use Rattle.mesa_shelf.specs.declared.recorded.Recorded.{Recorded}
 use Rattle.mesa_opening.specs.declared.error.OpenError.{OpenError}
-use Rattle.mesa_opening.specs.Damages.{IsAsRecorded, IsFileDamage, IsFirstDamage, IsFirstMisfit, misfit_of}
+use Rattle.mesa_opening.specs.Damages.{IsAsRecorded, IsFileDamage, IsFirstDamage, IsFirstMisfit, MisfitsBehind}
 use Rattle.mesa_opening.specs.Misfits.{IsMisfitAt, IsMisfitIn}
 
 pub all_push : {A : Type 0} (P : A → Type 0) (xs : List A) (x : A) → AllByRecursion P xs → P x → AllByRecursion P (xs ++ x ∷ [])
@@ -61,10 +58,6 @@ take_next {A = A} xs n x lt is = (let e : n + 1 ≡ suc n = omega arith in ap (�
 
 -- ---- bodies
 
-pub no_bodies : catalog [] ≡ Some empty_catalog
-unfolding catalog_from
-no_bodies = refl
-
 -- the place of a body's gate
 placed_at : (from : ℕ) (bodies : List (List ℕ)) (n : ℕ) (d : Body) → n < length bodies → (slice_index_or (placed_from from bodies) n d).at ≡ from + length (frames (take n bodies))
 placed_at from [] n d lt = absurd (omega (arith, lt))
@@ -73,18 +66,13 @@ placed_at from (b ∷ bodies) (suc n) d lt =
     let next = placed_at (from + length b + 5) bodies n d (omega (arith, lt)) in
     omega (arith, next, length-append (word (length b) ++ b) (frames (take n bodies)), length-append (word (length b)) b, length-word (length b))
 
-pub bodies_more : (bodies : List Body) (n : ℕ) (body : Body) (c d : Catalog) → n < length bodies → body ≡ slice_index_or bodies n body → catalog (bodies_of (take n bodies)) ≡ Some c → with_body c body.bytes ≡ Some d → catalog (bodies_of (take (n + 1) bodies)) ≡ Some d
-bodies_more bodies n body c d lt is records made =
-    ap (λ bs. catalog bs) (ap bodies_of (take_next bodies n body lt is) ∙ map-append (λ (b : Body). b.bytes) (take n bodies) (body ∷ []))
-    ∙ body_more (bodies_of (take n bodies)) body.bytes c d records made
-
 length_bodies : (bodies : List Body) → length (bodies_of bodies) ≡ length bodies
 length_bodies [] = refl
 length_bodies (b ∷ bodies) = ap suc (length_bodies bodies)
 
-pub first_misfit : (bodies : List Body) (n : ℕ) (body : Body) (c : Catalog) (e : OpenError) → n < length bodies → body ≡ slice_index_or bodies n body → catalog (bodies_of (take n bodies)) ≡ Some c → IsMisfitAt c body.at body.bytes e
-    → bodies ≡ placed_from 0 (bodies_of bodies) → IsMisfitIn (bodies_of bodies) e
-first_misfit bodies n body c e lt is records misfit placed = ⊎_elim (λ m. inl m) (λ x. inr (body.at, x.0, first x.0 x.1, x.2)) misfit
+pub first_misfit : (area : Area) (bodies : List Body) (n : ℕ) (body : Body) (e : OpenError) → n < length bodies → body ≡ slice_index_or bodies n body → IsMisfitAt area (bodies_of (take n bodies)) body.at body.bytes e
+    → bodies ≡ placed_from 0 (bodies_of bodies) → IsMisfitIn area (bodies_of bodies) e
+first_misfit area bodies n body e lt is misfit placed = ⊎_elim (λ m. inl m) (λ x. inr (body.at, x.0, first x.0 x.1, x.2)) misfit
   where
     at : body.at ≡ length (frames (bodies_of (take n bodies)))
     at =
@@ -93,14 +81,12 @@ first_misfit bodies n body c e lt is records misfit placed = ⊎_elim (λ m. inl
         let some : length (frames (take n (bodies_of bodies))) ≡ length (frames (bodies_of (take n bodies))) = ap (λ bs. length (frames bs)) (take-map (λ (b : Body). b.bytes) n bodies) in
         omega (arith, here, place, some)
 
-    first : (offset : ℕ) → misfit_of c (record_at body.bytes) ≡ Some offset → IsFirstMisfit (bodies_of bodies) body.at offset
+    first : (offset : ℕ) → MisfitsBehind area (bodies_of (take n bodies)) body.bytes offset → IsFirstMisfit area (bodies_of bodies) body.at offset
     first offset misfits = record {
       before = bodies_of (take n bodies);
       body = body.bytes;
       behind = bodies_of (drop (suc n) bodies);
-      catalogue = c;
       split = ap bodies_of (split_at bodies n body lt ∙ ap (λ b. take n bodies ++ b ∷ drop (suc n) bodies) (sym is)) ∙ map-append (λ (b : Body). b.bytes) (take n bodies) (body ∷ drop (suc n) bodies);
-      records = records;
       place = at;
       misfits = misfits;
     }

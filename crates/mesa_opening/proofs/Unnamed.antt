@@ -7,12 +7,10 @@ use Rattle.std.specs.Ordering.{nat_cmp, eq_by_cmp}
 use Rattle.std.specs.FinMap.{keys, contains_key-keys}
 use Rattle.std.proofs.lemmas.List.Sorted.{searched}
 use Rattle.std.specs.List.Sorted.{IsBinarySearchResult}
-use Rattle.mesa_disk.specs.Image.{Image, file_of, AnyChange}
+use Rattle.mesa_disk.specs.Image.{Image, file_of}
 use Rattle.mesa_disk.specs.Files.{AreGone, IsNoneOf}
 use Rattle.mesa_disk.specs.Story.{Story, Steps}
-use Rattle.mesa_disk.specs.declared.area.Area.TheVariants.{Zero}
 use Rattle.mesa_disk.proofs.Rounds.{not_equal}
-use Rattle.mesa_disk.proofs.Others.{area_others}
 use Rattle.mesa_commit.specs.Turn.{MovesOnly}
 use Rattle.mesa_trash.specs.Holding.{Among}
 use Rattle.mesa_trash.specs.Filed.{AreNamedOrWait}
@@ -165,7 +163,11 @@ is_none (Some x) e = absurd (let f : true ≡ false = e in cc)
 unlisted : (i : Image) (id : ℕ) → IsNoneOf (keys i.files) id → file_of i id ≡ None
 unlisted i id none = is_none (file_of i id) (contains_key-keys i.files id ∙ none_tied id (keys i.files) none)
 
-module _ (c : Catalog) (old one two : Story) (strays : List ℕ) (are : AreStrays old c strays) (changed : Steps (AnyChange Zero) old.told one.told) (moved : Steps (MovesOnly [] strays) one.told two.told) (gone : (i : Image) → two.told ≡ Some i → AreGone strays i) where
+-- each file stays
+abbrev pub Keeps : Image → Image → Type 0
+Keeps i j = (id : ℕ) → file_of j id ≡ file_of i id
+
+module _ (c : Catalog) (old one two : Story) (strays : List ℕ) (are : AreStrays old c strays) (changed : Steps Keeps old.told one.told) (moved : Steps (MovesOnly [] strays) one.told two.told) (gone : (i : Image) → two.told ≡ Some i → AreGone strays i) where
   among_named : (id : ℕ) → has_number id (map recorded_id are.files) ≡ true → Among id (named c)
   among_named id has = ⊎_elim (λ e. some_has id (named c) e) (λ e. absurd (never id (map recorded_id are.files) (over are.files (all_files (none_has id (named c) e))) has)) (has_either (has_number id (named c)))
     where
@@ -188,7 +190,7 @@ module _ (c : Catalog) (old one two : Story) (strays : List ℕ) (are : AreStray
       away none =
           let mid = moved.back j is in
           let from = changed.back mid.0 mid.1 in
-          let files : file_of mid.0 id ≡ file_of from.0 id = area_others Zero _ from.0 mid.0 from.2 id in
+          let files : file_of mid.0 id ≡ file_of from.0 id = from.2 id in
           ⊎_elim
           (λ listed. gone_at j id strays (gone j is) (subst (Among id) (sym are.among.are) (filtered (λ q. not (has_number q (map recorded_id are.files))) id are.among.ids (ap not none) (some_has id are.among.ids listed))))
           (λ unlisted_is. mid.2.none_new id tt (files ∙ unlisted from.0 id (subst (λ ids. IsNoneOf ids id) (are.among.listed from.0 from.1) (none_has id are.among.ids unlisted_is))))

@@ -1,5 +1,5 @@
 -- What a test of files answers, and what it leaves of counts.
-use Rattle.std.specs.Prelude.{◌≡◌, ◌⊎◌, ℕ, ◌≤◌, List, length, drop, Result, Err, ⊤}
+use Rattle.std.specs.Prelude.{◌≡◌, ◌≢◌, ◌⊎◌, ℕ, ◌≤◌, List, length, drop, Result, Err, ⊤}
 use Rattle.sha2.specs.Sha256.{sha256}
 use Rattle.mesa_fault.specs.Causes.{Rose}
 use Rattle.mesa_disk.specs.Story.{Story}
@@ -20,11 +20,11 @@ pub record Counts {T : Type 0} (old new : Story) (result : Result T OpenError) :
   pub fault : result ≡ Err open_error.Fault → Rose old.faults new.faults ⊎ Rose old.read_faults new.read_faults
   pub quiet : (result ≡ Err open_error.Fault → ⊥) → (new.faults ≡ old.faults) × (new.read_faults ≡ old.read_faults)
 
--- The refusal is of a file: it is damaged, or the disk failed, or memory ran out.
+-- The refusal is of a file: it is damaged, and what is found isn't what is wanted; or the disk failed, or memory ran out.
 abbrev pub IsOfFiles : OpenError → Type 0
 IsOfFiles open_error.Fault = ⊤
 IsOfFiles (open_error.Journal area at want found) = ⊥
-IsOfFiles (open_error.File d) = ⊤
+IsOfFiles (open_error.File d) = d.want ≢ d.found
 IsOfFiles open_error.RunsFull = ⊥
 IsOfFiles open_error.Memory = ⊤
 

@@ -1,16 +1,16 @@
 -- What an opening finds of a store, why it may end, and what it leaves.
-use Rattle.std.specs.Prelude.{◌≡◌, ◌⊎◌, ℕ, ◌-◌, ◌*◌, ◌^◌, ◌<◌, ◌≤◌, List, map, Some, Ok, true, ⊤}
+use Rattle.std.specs.Prelude.{◌≡◌, ◌≢◌, ◌⊎◌, ℕ, ◌-◌, ◌*◌, ◌^◌, ◌<◌, ◌≤◌, List, map, Bool, Some, Ok, true, ⊤}
 use Rattle.std.specs.List.{AllByRecursion}
 use Rattle.mesa_fault.specs.Causes.{last, Rose}
 use Rattle.mesa_key.specs.Spelling.{AreBytes}
-use Rattle.mesa_disk.specs.Image.{Image}
+use Rattle.mesa_disk.specs.Image.{Image, area_of}
 use Rattle.mesa_disk.specs.Story.{Story}
 use Rattle.mesa_disk.specs.declared.area.Area.{Area}
-use Rattle.mesa_disk.specs.declared.area.Area.TheVariants.{Zero}
-use Rattle.mesa_journal.specs.Journal.{IsJournal}
+use Rattle.mesa_journal.specs.Areas.{HasJournal, holds_body, number_of, other_of}
 use Rattle.mesa_image_laws.specs.mesa_image.Catalog.{Catalog}
 use Rattle.mesa_record.specs.Reading.{record_at}
-use Rattle.mesa_image_laws.specs.mesa_image.Fitting.{catalog, fits, shelved}
+use Rattle.mesa_image_laws.specs.mesa_image.Fitting.{fits, shelved}
+use Rattle.mesa_image_laws.specs.mesa_image.Journaled.{catalog}
 use Rattle.mesa_image_laws.specs.mesa_image.Contents.{Rows, kept_of}
 use Rattle.mesa_record.specs.declared.record.Record.{Record}
 use Rattle.mesa_record.specs.declared.record.Record.TheVariants as record_of
@@ -19,38 +19,39 @@ use Rattle.mesa_image_laws.specs.mesa_image.Held.{IsHeld, IsUnnamed}
 use Rattle.mesa_shelf.specs.Files.{recorded_of}
 use Rattle.mesa_opening.specs.declared.error.OpenError.{OpenError}
 use Rattle.mesa_opening.specs.declared.error.OpenError.TheVariants as open_error
-use Rattle.mesa_opening.specs.Damages.{IsAsRecorded, IsCutOff, HasMisfit, HasDamagedFile}
+use Rattle.mesa_opening.specs.Damages.{IsAsRecorded, IsCutOff, code_of, HasMisfit, HasDamagedFile}
 
--- What is read of a store: bodies, whose records make a catalogue; they are the journal that a read gives, up to this end, and the files that they name are as they are recorded. An area of more than one byte has a gate at the end.
-pub record IsRead (story : Story) (bodies : List (List ℕ)) (end : ℕ) (c : Catalog) : Type 0 where
+-- What is read of a store: the bodies of its live area, whose records make a catalogue; they are the journal that a read gives, up to this end, and the files that they name are as they are recorded. A live area of more than one byte has a gate at the end.
+pub record IsRead (story : Story) (live : Area) (bodies : List (List ℕ)) (end : ℕ) (c : Catalog) : Type 0 where
   pub bytes : AllByRecursion AreBytes bodies
-  pub records : catalog bodies ≡ Some c
-  pub journal : (i : Image) → story.told ≡ Some i → IsJournal i.zero bodies end
+  pub records : catalog live bodies ≡ Some c
+  pub journal : (i : Image) → story.told ≡ Some i → HasJournal i live bodies end
   pub files : (i : Image) → story.told ≡ Some i → AllByRecursion (IsAsRecorded i) (map recorded_of (shelved c))
-  pub gate : 1 < story.len Zero → end < story.len Zero
-  pub none : story.len Zero ≤ 1 → end ≡ 0
+  pub gate : 1 < story.len live → end < story.len live
+  pub none : story.len live ≤ 1 → end ≡ 0
 
 -- A store reads as a catalogue.
 abbrev pub ReadsAs : Story → Catalog → Type 0
-ReadsAs story c = (bodies : List (List ℕ)) × (end : ℕ) × IsRead story bodies end c
+ReadsAs story c = (live : Area) × (bodies : List (List ℕ)) × (end : ℕ) × IsRead story live bodies end c
 
--- What an opened store says of itself is what is read of it, and its disk's clock stands as it did at the call of read.
-pub record IsOpenedAs (story : Story) (c : Catalog) (last_run : ℕ) (area : Area) (end since : ℕ) : Type 0 where
+-- What an opened store says of itself is what is read of it: the live area with its number and its end, and whether the other one holds a body; and its disk's clock stands as it did at the call of read.
+pub record IsOpenedAs (story : Story) (c : Catalog) (last_run : ℕ) (area : Area) (number : ℕ) (holds : Bool) (end since : ℕ) : Type 0 where
   pub bodies : List (List ℕ)
-  pub reads : IsRead story bodies end c
+  pub reads : IsRead story area bodies end c
   pub run : last_run ≡ c.run
-  pub zero : area ≡ Zero
+  pub numbered : number ≡ number_of bodies
+  pub other : (i : Image) → story.told ≡ Some i → holds ≡ holds_body (area_of (other_of area) i)
   pub now : since ≡ story.moment
 
 -- the number of the last run that there may be
 abbrev pub most_runs : ℕ
 most_runs = 2 ^ 24 - 1
 
--- Why an opening ended: a count of the disk's faults rose; the journal is cut off or a record in it misfits; a file is damaged; the last run that may be was; or want of memory.
+-- Why an opening ended: a count of the disk's faults rose; the journal is cut off or a record in it misfits; a file is damaged; the last run that may be was; or want of memory. What is found of a journal or a file isn't what is wanted, also where a disk doesn't tell what it holds.
 abbrev pub HasReason : Story → Story → OpenError → Type 0
 HasReason old new open_error.Fault = Rose old.faults new.faults ⊎ Rose old.read_faults new.read_faults
-HasReason old new (open_error.Journal area at want found) = (area ≡ 0) × ((i : Image) → old.told ≡ Some i → IsCutOff i.zero at want found ⊎ HasMisfit i.zero at want found)
-HasReason old new (open_error.File d) = (i : Image) → old.told ≡ Some i → HasDamagedFile i d
+HasReason old new (open_error.Journal number at want found) = (area : Area) × (number ≡ code_of area) × ((i : Image) → old.told ≡ Some i → IsCutOff i area at want found ⊎ HasMisfit i area at want found) × (want ≢ found)
+HasReason old new (open_error.File d) = ((i : Image) → old.told ≡ Some i → HasDamagedFile i d) × (d.want ≢ d.found)
 HasReason old new open_error.RunsFull = (c : Catalog) × ReadsAs old c × (c.run ≡ most_runs)
 HasReason old new open_error.Memory = ⊤
 
@@ -77,8 +78,8 @@ abbrev pub first_id : ℕ → ℕ
 first_id run = run * 2 ^ 40
 
 -- A disk holds a store with this catalogue and these rows, whose journal ends there.
-abbrev pub IsHeldAs : Story → ℕ → Catalog → Rows → Type 0
-IsHeldAs story end c rows = (bodies : List (List ℕ)) × IsHeld story bodies end c rows
+abbrev pub IsHeldAs : Story → Area → ℕ → Catalog → Rows → Type 0
+IsHeldAs story area end c rows = (bodies : List (List ℕ)) × IsHeld story area bodies end c rows
 
 -- A body is the record of a run of this number, which fits a catalogue, and no stray is named.
 pub record BeginsRun (c : Catalog) (number : ℕ) (body : List ℕ) (strays : List ℕ) : Type 0 where

@@ -6,25 +6,26 @@ use Rattle.mesa_key.specs.Spelling.{AreBytes}
 use Rattle.mesa_disk.specs.Image.{Image}
 use Rattle.mesa_disk.specs.Files.{IsNoneOf}
 use Rattle.mesa_disk.specs.Story.{Story}
-use Rattle.mesa_disk.specs.declared.area.Area.TheVariants.{Zero}
+use Rattle.mesa_disk.specs.declared.area.Area.{Area}
 use Rattle.mesa_commit.specs.Images.{ids_of, Shows, Stands}
 use Rattle.mesa_commit.specs.Turn.{AreApart, Brings, OldOrNew}
 use Rattle.mesa_image.specs.mesa_record.declared.record.Record.{Record}
 use Rattle.mesa_image.specs.Catalog.{Catalog, applied}
-use Rattle.mesa_image.specs.Fitting.{Shelved, fits, kind_fits, catalog, shelved, brought, shelved_id, are_new_ids, has_number, run_of_id}
+use Rattle.mesa_image.specs.Fitting.{Shelved, fits, kind_fits, shelved, brought, shelved_id, are_new_ids, has_number, run_of_id}
+use Rattle.mesa_image.specs.Journaled.{catalog}
 use Rattle.mesa_image.specs.Contents.{Rows, kept_of}
 use Rattle.mesa_image.specs.Sound.{wants, AreStocked, StandsFor}
 use Rattle.mesa_image.specs.Held.{IsHeld, IsUnnamed, StandsForEither}
-use Rattle.mesa_store.proofs.Bodies.{catalog_more}
+use Rattle.mesa_image.proofs.OneMore.{catalog_more}
 use Rattle.mesa_store.specs.Store.{Writes}
 
 -- an image that shows a catalogue's bodies and files stands for what the catalogue stands for
-pub shows_stands : (bodies : List (List ℕ)) (end : ℕ) (c : Catalog) (rows : Rows) (i : Image) → catalog bodies ≡ Some c → AreStocked rows c → Shows Zero bodies end (wants rows (shelved c)) i → StandsFor i (kept_of rows c)
-shows_stands bodies end c rows i records stocked is = record {
+pub shows_stands : (live : Area) (bodies : List (List ℕ)) (end : ℕ) (c : Catalog) (rows : Rows) (i : Image) → catalog live bodies ≡ Some c → AreStocked rows c → Shows live bodies end (wants rows (shelved c)) i → StandsFor i (kept_of rows c)
+shows_stands live bodies end c rows i records stocked is = record {
   bodies = bodies;
   catalogue = c;
   rows = rows;
-  is = record { journal = (end, inr is.journal); records = records; files = is.has; rows_are = stocked };
+  is = record { live = live; end = end; journal = record { whole = inr is.journal; behind = is.behind }; records = records; files = is.has; rows_are = stocked };
   same = refl;
 }
 
@@ -91,12 +92,12 @@ none_named c (id ∷ dropped) all = (unnamed_ids id (shelved c) all.0, none_name
 
 -- ---- a record that is written
 
-module _ (s0 : Story) (bodies : List (List ℕ)) (end : ℕ) (c : Catalog) (rows : Rows) (r : Record) (body : List ℕ) (made : List (ℕ × Option (List ℕ))) (dropped : List ℕ) (writes : Writes s0 bodies end c rows r body made dropped) where
+module _ (s0 : Story) (live : Area) (bodies : List (List ℕ)) (end : ℕ) (c : Catalog) (rows : Rows) (r : Record) (body : List ℕ) (made : List (ℕ × Option (List ℕ))) (dropped : List ℕ) (writes : Writes s0 live bodies end c rows r body made dropped) where
   brings_new : are_new_ids c.run (map shelved_id (shelved c)) (map shelved_id (brought c r)) ≡ true
   unfolding fits
   brings_new = (both_true (kind_fits c r) (are_new_ids c.run (map shelved_id (shelved c)) (map shelved_id (brought c r))) writes.step.fitting).1
 
-  pub brings : Brings s0 Zero bodies end (wants rows (shelved c)) (wants rows (brought c r)) (wants rows (shelved (applied c r))) dropped
+  pub brings : Brings s0 live bodies end (wants rows (shelved c)) (wants rows (brought c r)) (wants rows (shelved (applied c r))) dropped
   brings = record {
     stands = writes.held.stands;
     apart = subst (λ ids. AreApart ids (ids_of (wants rows (shelved c)))) (sym (wants_ids rows (brought c r)))
@@ -105,17 +106,17 @@ module _ (s0 : Story) (bodies : List (List ℕ)) (end : ℕ) (c : Catalog) (rows
     gone = subst (AreApart dropped) (sym (wants_ids rows (shelved (applied c r)))) (apart_turned (map shelved_id (shelved (applied c r))) dropped (none_named (applied c r) dropped writes.unnamed));
   }
 
-  records_more : catalog (bodies ++ body ∷ []) ≡ Some (applied c r)
-  records_more = catalog_more bodies body c r writes.held.records writes.step.reads writes.step.fitting
+  records_more : catalog live (bodies ++ body ∷ []) ≡ Some (applied c r)
+  records_more = catalog_more live bodies body c r writes.held.records writes.step.reads writes.step.fitting
 
-  pub either : (i : Image) → OldOrNew Zero bodies end (wants rows (shelved c)) body (wants rows (shelved (applied c r))) i → StandsForEither (kept_of rows c) (kept_of rows (applied c r)) i
+  pub either : (i : Image) → OldOrNew live bodies end (wants rows (shelved c)) body (wants rows (shelved (applied c r))) i → StandsForEither (kept_of rows c) (kept_of rows (applied c r)) i
   either i shows =
-      ⊎_elim (λ old. inl (shows_stands bodies end c rows i writes.held.records writes.held.stocked old))
-      (λ new. inr (shows_stands (bodies ++ body ∷ []) (end + length body + 5) (applied c r) rows i records_more writes.step.stocked new)) shows
+      ⊎_elim (λ old. inl (shows_stands live bodies end c rows i writes.held.records writes.held.stocked old))
+      (λ new. inr (shows_stands live (bodies ++ body ∷ []) (end + length body + 5) (applied c r) rows i records_more writes.step.stocked new)) shows
 
   bytes_more : (xs : List (List ℕ)) → AllByRecursion AreBytes xs → AllByRecursion AreBytes (xs ++ body ∷ [])
   bytes_more [] all = (writes.step.bytes, tt)
   bytes_more (x ∷ xs) all = (all.0, bytes_more xs all.1)
 
-  pub held_on : (now : Story) → Stands now Zero (bodies ++ body ∷ []) (end + length body + 5) (wants rows (shelved (applied c r))) → IsHeld now (bodies ++ body ∷ []) (end + length body + 5) (applied c r) rows
+  pub held_on : (now : Story) → Stands now live (bodies ++ body ∷ []) (end + length body + 5) (wants rows (shelved (applied c r))) → IsHeld now live (bodies ++ body ∷ []) (end + length body + 5) (applied c r) rows
   held_on now stands = record { bytes = bytes_more bodies writes.held.bytes; records = records_more; stocked = writes.step.stocked; stands = stands }

@@ -1,3 +1,2 @@
-pub mod Bodies
 mod Joined
 mod Gates

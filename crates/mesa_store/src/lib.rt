@@ -4,8 +4,12 @@
 //! is after it. Before the first record of a run all that a read gives is made to stay.
 #![tactic(auto)]
 
+mod carrying;
+mod restating;
 mod settling;
 mod writing;
 
+pub use carrying::carry_on;
+pub use restating::restate;
 pub use settling::settle;
 pub use writing::write_record;

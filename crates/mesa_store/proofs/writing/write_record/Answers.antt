@@ -11,20 +11,20 @@ returns-in_err-end-clause-images g c bodies k rows r writes =
     let s0 = g.D.Disk.story c.args.disk.now in
     let made = files_of g.M.Made.bytes c.args.made.items in
     spans_weaken _ _ s0 (g.D.Disk.story c.commit_turn.new.disk)
-    (c.commit_turn.ensures.images bodies (wants rows (shelved k)) (wants rows (brought k r)) (wants rows (shelved (applied k r))) writes.brings (brings s0 bodies c.args.end k rows r c.args.framed.now made c.args.dropped.now writes))
-    (either s0 bodies c.args.end k rows r c.args.framed.now made c.args.dropped.now writes)
+    (c.commit_turn.ensures.images bodies (wants rows (shelved k)) (wants rows (brought k r)) (wants rows (shelved (applied k r))) writes.brings (brings s0 c.args.live bodies c.args.end k rows r c.args.framed.now made c.args.dropped.now writes))
+    (either s0 c.args.live bodies c.args.end k rows r c.args.framed.now made c.args.dropped.now writes)
 
 pub returns-clause-images : goal.returns-clause-images
 returns-clause-images g c bodies k rows r writes =
     let s0 = g.D.Disk.story c.args.disk.now in
     let made = files_of g.M.Made.bytes c.args.made.items in
     spans_weaken _ _ s0 (g.D.Disk.story c.commit_turn.new.disk)
-    (c.commit_turn.ensures.images bodies (wants rows (shelved k)) (wants rows (brought k r)) (wants rows (shelved (applied k r))) writes.brings (brings s0 bodies c.args.end k rows r c.args.framed.now made c.args.dropped.now writes))
-    (either s0 bodies c.args.end k rows r c.args.framed.now made c.args.dropped.now writes)
+    (c.commit_turn.ensures.images bodies (wants rows (shelved k)) (wants rows (brought k r)) (wants rows (shelved (applied k r))) writes.brings (brings s0 c.args.live bodies c.args.end k rows r c.args.framed.now made c.args.dropped.now writes))
+    (either s0 c.args.live bodies c.args.end k rows r c.args.framed.now made c.args.dropped.now writes)
 
 pub returns-clause-done : goal.returns-clause-done
 returns-clause-done g c bodies k rows r writes =
     let s0 = g.D.Disk.story c.args.disk.now in
     let made = files_of g.M.Made.bytes c.args.made.items in
-    held_on s0 bodies c.args.end k rows r c.args.framed.now made c.args.dropped.now writes (g.D.Disk.story c.commit_turn.new.disk)
-    (c.in_ok-end.ensures.done bodies (wants rows (shelved k)) (wants rows (brought k r)) (wants rows (shelved (applied k r))) writes.brings (brings s0 bodies c.args.end k rows r c.args.framed.now made c.args.dropped.now writes))
+    held_on s0 c.args.live bodies c.args.end k rows r c.args.framed.now made c.args.dropped.now writes (g.D.Disk.story c.commit_turn.new.disk)
+    (c.in_ok-end.ensures.done bodies (wants rows (shelved k)) (wants rows (brought k r)) (wants rows (shelved (applied k r))) writes.brings (brings s0 c.args.live bodies c.args.end k rows r c.args.framed.now made c.args.dropped.now writes))
