@@ -221,6 +221,7 @@ module _ (id : ℕ) where
       omega (arith, named_of (applied c (record_of.Expire version)), named_of c, Of-from version c.tables)
   counted_most c (record_of.ExpireTable table version) e =
       omega (arith, named_of (applied c (record_of.ExpireTable table version)), named_of c, Of-same c.tables table (stock_from version (stock_at c table)) refl)
+  counted_most c (record_of.Checkpoint k) e = omega arith
 
   -- An id that stood once at most does so after a record that fits.
   pub still_once : (c : Catalog) (r : Record) → fits c r ≡ true → times id (named c) ≤ 1 → times id (named (applied c r)) ≤ 1

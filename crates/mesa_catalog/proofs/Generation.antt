@@ -66,6 +66,7 @@ generation_turned c (record_of.ExpireTable table version) e =
     let t = stock_at c table in
     let there = (both (is_there c table) (expire_fits c t.oldest version) e).0 in
     put c table (stock_from version t) 0 (within c table there) (omega arith)
+generation_turned c (record_of.Checkpoint k) e = omega arith
 
 -- as the tables that are held count it
 pub generation_held : (next : ℕ) (tables : List Table) → sum_by changes_of tables ≡ sum_by changes_in (map (stock_of next) tables)

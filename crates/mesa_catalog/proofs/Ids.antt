@@ -40,6 +40,7 @@ ids_bring c (record_of.Publish version parts) = parts_bring c parts
 ids_bring c (record_of.Swap table base from to epoch files) = files_ids (stock_at c table).lineage epoch files
 ids_bring c (record_of.Expire version) = refl
 ids_bring c (record_of.ExpireTable table version) = refl
+ids_bring c (record_of.Checkpoint k) = refl
 
 -- the test of new files, by what is held
 pub brings_held : (s : Shelves) (r : Record) → are_new_ids s.run (held_ids s) (ids_brought r) ≡ brings_new_files (catalogue_of s) r

@@ -14,3 +14,5 @@ pub mod Sorting
 pub mod Relations
 pub mod Roomier
 pub mod Stocks
+pub mod RestoredIds
+pub mod Restored

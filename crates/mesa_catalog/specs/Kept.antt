@@ -1,5 +1,5 @@
 -- What a catalogue is, and what holds of its parts.
-use Rattle.std.specs.Prelude.{ℕ, ◌≤◌, Option, IfSome, option_map}
+use Rattle.std.specs.Prelude.{ℕ, ◌≤◌, Option, None, IfSome, option_map}
 use Rattle.std.specs.List.{AllByRecursion}
 use Rattle.mesa_record.specs.declared.record.Record.{Record}
 use Rattle.mesa_image_laws.specs.mesa_image.Catalog.{Catalog}
@@ -16,6 +16,10 @@ pub record Reserved : Type 0 where
 
 abbrev pub reserved_of : Shelves → Option Ready → Reserved
 reserved_of s ready = record { catalogue = catalogue_of s; reserved = option_map record_in ready }
+
+-- a catalogue for which nothing is reserved
+abbrev pub unreserved : Catalog → Reserved
+unreserved c = record { catalogue = c; reserved = None }
 
 -- what a catalogue's parts keep: no id is named twice, and none is greater than the greatest that was named
 pub record IsKept (s : Shelves) (made : Option Ready) (greatest : ℕ) : Type 0 where

@@ -7,3 +7,4 @@ pub mod Lookups
 pub mod Named
 pub mod Readied
 pub mod Kept
+pub mod Restored

@@ -45,6 +45,7 @@ turns_generation (record_of.Publish version parts) = 0
 turns_generation (record_of.Swap table base from to epoch files) = 0
 turns_generation (record_of.Expire version) = 0
 turns_generation (record_of.ExpireTable table version) = 0
+turns_generation (record_of.Checkpoint k) = 0
 
 -- ---- glances
 

@@ -25,6 +25,7 @@ ids_brought (record_of.Publish version parts) = flat_map part_ids parts
 ids_brought (record_of.Swap table base from to epoch files) = ids_if_any files
 ids_brought (record_of.Expire version) = []
 ids_brought (record_of.ExpireTable table version) = []
+ids_brought (record_of.Checkpoint k) = []
 
 -- ---- new ids
 

@@ -72,12 +72,13 @@ impl Shelves {
             | Record::Alter { .. }
             | Record::Publish { .. }
             | Record::Expire { .. }
-            | Record::ExpireTable { .. } => Ok(()),
+            | Record::ExpireTable { .. }
+            | Record::Checkpoint(_) => Ok(()),
         }
     }
 }
 
-fn push_ids(tables: &[Table], ids: &mut Vec<FileId>) -> Result<(), AllocError>
+pub(crate) fn push_ids(tables: &[Table], ids: &mut Vec<FileId>) -> Result<(), AllocError>
     requires { (next : ℕ) × (next ≤ 2 ^ 32) × AllByRecursion (IsTable next) tables.now }
     ensures { OnOk result (ids.new.items ≡ ids.old.items ++ flat_map table_ids tables.now) }
 {

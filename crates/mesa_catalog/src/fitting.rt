@@ -15,7 +15,7 @@ use mesa_shelf::{
 };
 
 // The number of the last run that there may be.
-const MAX_RUNS: u32 = (1 << 24) - 1;
+pub(crate) const MAX_RUNS: u32 = (1 << 24) - 1;
 
 impl Shelves {
     // Whether a record keeps the rules of its kind.
@@ -46,6 +46,8 @@ impl Shelves {
             } => self.allows_swap(*table, *base, *from, *to, *epoch, files),
             Record::Expire { version } => self.allows_expiry(self.floor, *version),
             Record::ExpireTable { table, version } => self.allows_table_expiry(*table, *version),
+            // It is an area's first record, and none other.
+            Record::Checkpoint(_) => false,
         }
     }
 

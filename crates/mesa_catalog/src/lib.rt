@@ -13,7 +13,10 @@ mod lookups;
 mod newness;
 mod ready;
 mod readying;
+mod restored_ids;
+mod restoring;
 mod shelves;
+mod stating;
 
 pub use begun::Begun;
 pub use catalog::Catalog;

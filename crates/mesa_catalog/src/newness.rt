@@ -14,7 +14,7 @@ use mesa_record::{Files, Part, Record, ViewRef};
 use mesa_shelf::Table;
 
 // How many ids of files a run has.
-const IDS_OF_RUN: u64 = 1 << 40;
+pub(crate) const IDS_OF_RUN: u64 = 1 << 40;
 
 // ---- ids that rise above all that were named, as those of a run do
 
@@ -33,7 +33,8 @@ pub(crate) fn brings_rising(run: u32, above: u64, r: &Record) -> bool
         | Record::View { .. }
         | Record::Alter { .. }
         | Record::Expire { .. }
-        | Record::ExpireTable { .. } => false,
+        | Record::ExpireTable { .. }
+        | Record::Checkpoint(_) => false,
     }
 }
 
@@ -89,7 +90,8 @@ pub(crate) fn brings_new(shelves: &Shelves, r: &Record) -> bool
         | Record::View { .. }
         | Record::Alter { .. }
         | Record::Expire { .. }
-        | Record::ExpireTable { .. } => true,
+        | Record::ExpireTable { .. }
+        | Record::Checkpoint(_) => true,
     }
 }
 
@@ -150,7 +152,8 @@ fn times_in_record(r: &Record, id: u64) -> u64
         | Record::View { .. }
         | Record::Alter { .. }
         | Record::Expire { .. }
-        | Record::ExpireTable { .. } => 0,
+        | Record::ExpireTable { .. }
+        | Record::Checkpoint(_) => 0,
     }
 }
 
@@ -204,7 +207,8 @@ pub(crate) fn greatest_with(least: u64, r: &Record) -> u64
         | Record::View { .. }
         | Record::Alter { .. }
         | Record::Expire { .. }
-        | Record::ExpireTable { .. } => least,
+        | Record::ExpireTable { .. }
+        | Record::Checkpoint(_) => least,
     }
 }
 

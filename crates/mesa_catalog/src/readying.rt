@@ -92,6 +92,7 @@ impl Shelves {
                 table: *table,
                 version: *version,
             }),
+            Record::Checkpoint(_) => unreachable!(),
         }
     }
 

@@ -10,3 +10,7 @@ pub mod Named
 pub mod Pushes
 pub mod Copies
 pub mod Ranged
+pub mod Restored
+pub mod Stated
+pub mod Taken
+pub mod RestoredFits

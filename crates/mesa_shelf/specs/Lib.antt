@@ -6,3 +6,4 @@ pub mod Named
 pub mod Files
 pub mod Copied
 pub mod Ranged
+pub mod Stated

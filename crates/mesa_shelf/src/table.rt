@@ -57,16 +57,24 @@ impl Drop for Table {
     }
 }
 
+// The first version behind a base.
+pub(crate) fn start_behind(base: &Option<Base>) -> u64
+    ensures start { result ≡ start_of_base base.now }
+    ensures small { result ≤ 2 ^ 32 }
+{
+    match base {
+        None => 0,
+        Some(base) => base.to as u64 + 1,
+    }
+}
+
 impl Table {
     /// The first version behind the base.
     pub fn start(&self) -> u64
         ensures start { result ≡ start_of_base self.now.base }
         ensures small { result ≤ 2 ^ 32 }
     {
-        match &self.base {
-            None => 0,
-            Some(base) => base.to as u64 + 1,
-        }
+        start_behind(&self.base)
     }
 
     /// Lets the versions below this one go.

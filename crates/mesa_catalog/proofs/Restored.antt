@@ -1,0 +1,70 @@
+-- The catalogue that a checkpoint states.
+use Rattle.std.proofs.Common.{◌≡◌, ℕ, ◌+◌, ◌≤◌, ◌<◌, List, [], ◌∷◌, ◌++◌, length, map, take, get_or, refl, sym, ◌∙◌, ap, subst, arith, Bool, true, false}
+use Rattle.std.specs.Prelude.{◌&&◌, nat_le, flat_map, None}
+use Rattle.std.specs.List.{AllByRecursion}
+use Rattle.std.proofs.lemmas.Bool.Decides.{nat_tests}
+use Rattle.std.proofs.lemmas.List.{length-map, map_push, take_more}
+use Rattle.mesa_record.specs.declared.checkpoint.Checkpoint.{Checkpoint}
+use Rattle.mesa_image_laws.specs.mesa_image.Catalog.{Catalog}
+use Rattle.mesa_image_laws.specs.mesa_image.Checkpoint.{stated, stock_stated}
+use Rattle.mesa_image_laws.specs.mesa_image.CheckpointFits.{counts_fit, ids_fit}
+use Rattle.mesa_image_laws.specs.mesa_image.Fitting.{max_runs, names_in}
+use Rattle.mesa_image_laws.specs.mesa_image.mesa_model.Warehouse.{max_tables, max_versions}
+use Rattle.mesa_image_laws.specs.Ids.{named}
+use Rattle.mesa_shelf.specs.declared.table.Table.{Table}
+use Rattle.mesa_shelf.specs.Meaning.{IsTable, stock_of}
+use Rattle.mesa_shelf.proofs.Named.{flat_map-map}
+use Rattle.mesa_shelf.proofs.Restored.{there}
+use Rattle.mesa_shelf.proofs.Tests.{both}
+use Rattle.mesa_catalog.specs.declared.shelves.Shelves.{Shelves}
+use Rattle.mesa_catalog.specs.Kept.{IsKept}
+use Rattle.mesa_catalog.specs.Meaning.{IsShelved, catalogue_of}
+use Rattle.mesa_catalog.specs.Restored.{table_names}
+use Rattle.mesa_catalog.proofs.RestoredIds.{stands_once}
+
+-- the names of all tables and views
+pub names_held : (next : ℕ) (tables : List Table) → flat_map names_in (map (stock_of next) tables) ≡ flat_map table_names tables
+names_held next tables = flat_map-map names_in (stock_of next) tables
+
+-- Tables that were made of those that a checkpoint states.
+pub record AreRestored (k : Checkpoint) (s : Shelves) : Type 0 where
+  pub floor : s.floor ≡ k.floor
+  pub next : s.next ≡ k.versions
+  pub run : s.run ≡ k.run
+  pub stocks : map (stock_of s.next) s.tables.items ≡ map (stock_stated k.versions) k.tables
+  pub tables : AllByRecursion (IsTable s.next) s.tables.items
+
+pub catalogue_restored : (k : Checkpoint) (s : Shelves) → AreRestored k s → catalogue_of s ≡ stated k
+catalogue_restored k s r = λ i. record { tables = r.stocks i; floor = r.floor i; next = r.next i; run = r.run i }
+
+pub shelves_restored : (k : Checkpoint) (s : Shelves) → counts_fit k ≡ true → AreRestored k s → IsShelved s
+shelves_restored k s fits r =
+    let first = both (nat_le (length k.tables) max_tables) _ fits in
+    let second = both (nat_le k.versions max_versions) _ first.1 in
+    let third = both (nat_le k.run max_runs) _ second.1 in
+    let few : length k.tables ≤ 32 = grind (arith, nat_tests, first.0) in
+    let most : k.versions ≤ max_versions = grind (arith, nat_tests, second.0) in
+    let floor = there k.floor k.versions third.1 in
+    let count : length s.tables.items ≡ length k.tables = sym (length-map s.tables.items (stock_of s.next)) ∙ ap length r.stocks ∙ length-map k.tables (stock_stated k.versions) in
+    let next = r.next in
+    let oldest = r.floor in
+    record {
+      few = omega (arith, count, few);
+      most = omega (arith, most, next);
+      floor = omega (arith, floor, next, oldest);
+      tables = r.tables;
+    }
+
+pub kept_restored : (s : Shelves) (greatest : ℕ) → IsShelved s → ids_fit (catalogue_of s) ≡ true → AllByRecursion (λ id. id ≤ greatest) (named (catalogue_of s)) → IsKept s None greatest
+kept_restored s greatest shelved fits most = record {
+  shelves = shelved;
+  ready = tt;
+  once = stands_once s.run (named (catalogue_of s)) fits;
+  most = most;
+}
+
+-- what is made of one more of what is made of each
+pub mapped_more : {X Y Z : Type 0} (f : X → Y) (g : Y → Z) (xs : List X) (i : ℕ) (x : X) → i < length xs → x ≡ get_or xs i x → map g (map f (take (i + 1) xs)) ≡ map g (map f (take i xs)) ++ g (f x) ∷ []
+mapped_more f g xs i x h is =
+    ap (λ ys. map g (map f ys)) (take_more xs i x h ∙ ap (λ y. take i xs ++ y ∷ []) (sym is))
+    ∙ ap (map g) (map_push f (take i xs) x) ∙ map_push g (map f (take i xs)) (f x)

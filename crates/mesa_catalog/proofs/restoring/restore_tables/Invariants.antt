@@ -1,0 +1,18 @@
+use Rattle.std.proofs.Common.{◌≡◌, ◌++◌, map}
+use Rattle.std.specs.VecDeque.{deque_len}
+use Rattle.std.specs.List.{AllByRecursion, list_all}
+use Rattle.mesa_image_laws.specs.mesa_image.Checkpoint.{stock_stated}
+use Rattle.mesa_image_laws.specs.mesa_image.CheckpointFits.{table_fits}
+use Rattle.mesa_shelf.specs.Meaning.{IsTable, stock_of}
+use Rattle.mesa_catalog.proofs.restoring.restore_tables.Given as goal
+
+abbrev pub decreases-tables : goal.decreases-tables
+decreases-tables l = deque_len l.left
+
+-- the tables so far, and those that are left
+abbrev pub invariant-tables : goal.invariant-tables
+invariant-tables l = record {
+  stocks : map (stock_of l.fn.next) l.tables.items ++ map (stock_stated l.fn.next) l.left.items ≡ map (stock_stated l.fn.next) l.fn.stated;
+  fits : list_all (table_fits l.fn.floor l.fn.next) l.left.items ≡ list_all (table_fits l.fn.floor l.fn.next) l.fn.stated;
+  tables : AllByRecursion (IsTable l.fn.next) l.tables.items;
+}

@@ -1,0 +1,150 @@
+// The catalogue that a checkpoint states. Names, columns, files and totals are moved, not copied.
+ghost use Rattle.std.specs.Prelude.{◌≡◌, ◌≢◌, ◌++◌, ◌≤◌, ℕ, false, flat_map, map, option_map, IfErr, IfOk, IsTrue, OnOk};
+ghost use Rattle.std.specs.List.{AllByRecursion, list_all};
+ghost use Rattle.mesa_image_laws.specs.mesa_image.Checkpoint.{stated, stock_stated};
+ghost use Rattle.mesa_image_laws.specs.mesa_image.CheckpointFits.{checkpoint_fits, counts_fit as counts_are_right, names_differ as all_differ, number_fits as number_is_right, table_fits, tables_fit};
+ghost use Rattle.mesa_image_laws.specs.mesa_image.Journaled.{stated_if};
+ghost use Rattle.mesa_shelf.specs.declared.restoring.RestoreError.TheVariants as RestoreError;
+ghost use Rattle.mesa_shelf.specs.Meaning.{IsTable, stock_of};
+ghost use Rattle.mesa_catalog.specs.Kept.{unreserved};
+ghost use Rattle.mesa_catalog.specs.Meaning.{catalogue_of};
+ghost use Rattle.mesa_catalog.specs.Restored.{table_names};
+
+use crate::Catalog;
+use crate::fitting::MAX_RUNS;
+use crate::restored_ids::greatest_id;
+use crate::shelves::{MAX_TABLES, Shelves};
+use mesa_disk::Area;
+use mesa_list::{Items, TryCopy};
+use mesa_record::{Checkpoint, StatedTable};
+use mesa_schema::{Name, repeated_place};
+use mesa_shelf::{NoRows, RestoreError, Table, restore};
+use std::alloc::{AllocError, Global};
+use std::collections::VecDeque;
+
+impl Catalog {
+    /// The catalogue that a checkpoint states, if it fits as the first record of an area.
+    pub fn restored(
+        alloc: Global,
+        area: Area,
+        checkpoint: Checkpoint,
+    ) -> Result<Option<Catalog>, AllocError>
+        ensures { IfOk result (λ catalog. catalog ≡ option_map unreserved (stated_if checkpoint (checkpoint_fits area checkpoint))) }
+    {
+        if !number_fits(area, checkpoint.number) {
+            return Ok(None);
+        }
+        if !counts_fit(&checkpoint) {
+            return Ok(None);
+        }
+        match restore_catalog(alloc, checkpoint) {
+            Ok(catalog) => Ok(Some(catalog)),
+            Err(RestoreError::Misfit) => Ok(None),
+            Err(RestoreError::Memory) => Err(AllocError),
+        }
+    }
+}
+
+// Whether a checkpoint's number is even and at least 2 in area 0, and odd in area 1.
+fn number_fits(area: Area, number: u32) -> bool
+    ensures { result ≡ number_is_right area number }
+{
+    match area {
+        Area::Zero => number >= 2 && number % 2 == 0,
+        Area::One => number % 2 == 1,
+    }
+}
+
+// Whether there are not too many tables and runs, and the floor is there, where there is any version.
+fn counts_fit(checkpoint: &Checkpoint) -> bool
+    ensures { result ≡ counts_are_right checkpoint.now }
+{
+    let floor = checkpoint.floor;
+    let versions = checkpoint.versions;
+    checkpoint.tables.len() <= MAX_TABLES
+        && checkpoint.run <= MAX_RUNS
+        && (floor < versions || (floor == 0 && versions == 0))
+}
+
+fn restore_catalog(alloc: Global, checkpoint: Checkpoint) -> Result<Catalog, RestoreError>
+    requires { IsTrue (counts_are_right checkpoint) }
+    ensures fits { OnOk result (IsTrue (tables_fit checkpoint)) }
+    ensures refused { IfErr result (λ e. e ≢ RestoreError.Memory → tables_fit checkpoint ≡ false) }
+    ensures catalog { IfOk result (λ catalog. catalog ≡ unreserved (stated checkpoint)) }
+{
+    let Checkpoint {
+        number: _,
+        run,
+        floor,
+        versions,
+        tables,
+    } = checkpoint;
+    let tables = restore_tables(alloc, floor, versions, tables)?;
+    let shelves = Shelves {
+        tables,
+        floor,
+        next: versions,
+        run,
+    };
+    if !shelves.names_differ(alloc)? {
+        return Err(RestoreError::Misfit);
+    }
+    let Some(greatest) = greatest_id(alloc, &shelves)? else {
+        return Err(RestoreError::Misfit);
+    };
+    Ok(Catalog {
+        shelves,
+        ready: None,
+        greatest,
+        no_rows: NoRows::new(),
+    })
+}
+
+fn restore_tables(
+    alloc: Global,
+    floor: u32,
+    next: u32,
+    stated: Items<StatedTable>,
+) -> Result<Vec<Table>, RestoreError>
+    ensures fits { OnOk result (IsTrue (list_all (table_fits floor next) stated)) }
+    ensures refused { IfErr result (λ e. e ≢ RestoreError.Memory → list_all (table_fits floor next) stated ≡ false) }
+    ensures stocks { IfOk result (λ tables. map (stock_of next) tables.items ≡ map (stock_stated next) stated) }
+    ensures tables { IfOk result (λ tables. AllByRecursion (IsTable next) tables.items) }
+{
+    let mut tables = Vec::with_capacity(alloc, stated.len())?;
+    let mut left = VecDeque::from_vec(stated.into_vec());
+    'tables: while let Some(table) = left.pop_front() {
+        tables.push(restore(alloc, floor, next, table)?)?;
+    }
+    Ok(tables)
+}
+
+impl Shelves {
+    // Whether no two tables or views have the same name. There are at most 32 tables with 8 views each, so that one look at the names before each is fast.
+    fn names_differ(&self, alloc: Global) -> Result<bool, AllocError>
+        ensures { IfOk result (λ differ. differ ≡ all_differ (catalogue_of self.now)) }
+    {
+        let names = names_of(alloc, &self.tables)?;
+        Ok(repeated_place(&names).is_none())
+    }
+}
+
+fn names_of(alloc: Global, tables: &[Table]) -> Result<Vec<Name>, AllocError>
+    ensures { IfOk result (λ names. names.items ≡ flat_map table_names tables.now) }
+{
+    let mut names = Vec::new(alloc);
+    for table in tables {
+        push_names(table, &mut names)?;
+    }
+    Ok(names)
+}
+
+fn push_names(table: &Table, names: &mut Vec<Name>) -> Result<(), AllocError>
+    ensures { OnOk result (names.new.items ≡ names.old.items ++ table_names table.now) }
+{
+    names.push(table.name.copy()?)?;
+    for view in 0..table.evolving.views() {
+        names.push(table.evolving.view_name(view).copy()?)?;
+    }
+    Ok(())
+}
