@@ -1,4 +1,8 @@
 // Records of the journal: what changed the warehouse.
+ghost use Rattle.std.specs.Prelude.{◌≡◌, IfOk, IfErr};
+ghost use Rattle.mesa_record.specs.declared.checkpoint.Checkpoint.{Checkpoint as AnyCheckpoint};
+ghost use Rattle.mesa_record.specs.declared.record.Record.TheVariants as record_of;
+
 use crate::Checkpoint;
 use mesa_file::FileRef;
 use mesa_list::Items;
@@ -124,6 +128,19 @@ impl Drop for Record {
                 version: _,
             } => {}
             Record::Checkpoint(_) => {}
+        }
+    }
+}
+
+impl Record {
+    /// The checkpoint that a record is; one of another kind is given back.
+    pub fn into_checkpoint(self) -> Result<Checkpoint, Record>
+        ensures checkpoint { IfOk result (λ k. self ≡ record_of.Checkpoint k) }
+        ensures other { IfErr result (λ r. (r ≡ self) × ((k : AnyCheckpoint) → self ≡ record_of.Checkpoint k → ⊥)) }
+    {
+        match self {
+            Record::Checkpoint(checkpoint) => Ok(checkpoint),
+            other => Err(other),
         }
     }
 }
