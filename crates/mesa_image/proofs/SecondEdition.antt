@@ -8,8 +8,10 @@ use Rattle.mesa_history.specs.mesa_schema.Changes.{Lineage}
 use Rattle.mesa_history.specs.mesa_file.declared.file_ref.FileRef.{FileRef}
 use Rattle.mesa_record.specs.Reading.{fields_of, file_ref_at, files_at}
 use Rattle.mesa_record.specs.Reading as reading
+use Rattle.mesa_commit.specs.mesa_disk.declared.area.Area.TheVariants.{Zero}
 use Rattle.mesa_image.specs.Catalog.{Catalog, Stock, empty_delta}
-use Rattle.mesa_image.specs.Fitting.{fits, catalog_from, catalog}
+use Rattle.mesa_image.specs.Fitting.{fits, catalog_from}
+use Rattle.mesa_image.specs.Journaled.{catalog}
 use Rattle.mesa_image.proofs.Bodies.{half, word, long, wide, key, id_bytes, first_run, run_1, expire}
 use Rattle.mesa_image.proofs.OneRow as first
 use Rattle.mesa_image.proofs.OneRow.{table_t}
@@ -49,7 +51,7 @@ stock = record {
   singles = record { epoch = 0; files = Some (record { file = file 0; views = [] }); totals = Some (5 ∷ []) } ∷ empty_delta ∷ [];
 }
 
-is_catalogue : catalog bodies ≡ Some (record { tables = stock ∷ []; floor = 0; next = 2; run = 1 })
+is_catalogue : catalog Zero bodies ≡ Some (record { tables = stock ∷ []; floor = 0; next = 2; run = 1 })
 unfolding fields_of file_ref_at files_at reading.rising fits catalog_from
 is_catalogue = refl
 
@@ -58,7 +60,7 @@ abbrev merged : ℕ → List ℕ
 merged k = 10 ∷ half 0 ++ 1 ∷ word 0 ++ word 1 ++ word 0 ++ 1 ∷ file_bytes k
 
 -- the batch of the first edition is merged into a file of format 2
-is_merged : catalog (first.bodies ++ expire 1 ∷ merged 1 ∷ []) ≡ Some (record {
+is_merged : catalog Zero (first.bodies ++ expire 1 ∷ merged 1 ∷ []) ≡ Some (record {
   tables = record stock {
     oldest = 1;
     base = Some (record { to = 1; delta = record { epoch = 0; files = Some (record { file = file 1; views = [] }); totals = None } });
