@@ -1,7 +1,6 @@
 -- Every record that fits keeps what makes a checkpoint fit.
-use Rattle.std.proofs.Common.{◌≡◌, ℕ, zero, suc, ◌+◌, ◌-◌, ◌<◌, ◌≤◌, List, [], ◌∷◌, ◌++◌, map, length, take, drop, replicate, Bool, true, false, ◌&&◌, ◌==◌, nat_le, nat_lt, is_ok, is_none, Option, Some, None, Result, Ok, Err, cond, refl, sym, ◌∙◌, ap, subst, arith, length-append, slice_get, slice_index_or, slice_set}
-use Rattle.std.proofs.lemmas.Bool.Decides.{nat_tests}
-use Rattle.std.proofs.lemmas.List.{append-nil, take-append-le, take_all, map-append}
+use Rattle.std.proofs.Common.{◌≡◌, ℕ, zero, suc, ◌+◌, ◌-◌, ◌<◌, ◌≤◌, List, [], ◌∷◌, ◌++◌, map, length, replicate, Bool, true, false, ◌&&◌, ◌==◌, nat_le, nat_lt, is_ok, is_none, Option, Some, None, Result, cond, refl, sym, ◌∙◌, ap, subst, arith, slice_get, slice_index_or, slice_set}
+use Rattle.std.proofs.lemmas.List.{take-append-le, take_all, map-append}
 use Rattle.std.specs.Prelude.{option_map, IfSome}
 use Rattle.std.specs.List.{AllByRecursion, list_all}
 use Rattle.mesa_fold.specs.mesa_schema.declared.changes.Change.{Change}
@@ -14,12 +13,12 @@ use Rattle.mesa_fold.specs.mesa_schema.Columns.{Columns, aggs_of, value_names}
 use Rattle.mesa_fold.specs.mesa_schema.Changes.{Lineage, changed, change_checked, columns_after, columns_at, columns_of, epoch_of, refuse_used, rule_checked, with_change}
 use Rattle.mesa_fold.specs.mesa_schema.Views.{view_columns, with_view}
 use Rattle.mesa_fold.specs.mesa_schema.Laws.{Outlives}
-use Rattle.mesa_fold.proofs.mesa_schema.Lists.{all_append, all_drop, all_got, all_map, all_replicate, all_set, all_so, all_both}
+use Rattle.mesa_fold.proofs.mesa_schema.Lists.{all_append, all_drop, all_got, all_map, all_replicate, all_so, all_both}
 use Rattle.mesa_fold.proofs.mesa_schema.Passing.{passed_first, passed_unless}
 use Rattle.mesa_fold.proofs.mesa_schema.PresentRows.{columns_more}
 use Rattle.mesa_fold.proofs.mesa_schema.ViewChanges.{views_outlive}
 use Rattle.mesa_fold.specs.mesa_batch.Totals.{over_bound, sum_bound, sums_in}
-use Rattle.mesa_list.specs.Checks.{◌>>◌, refuse_if, refuse_unless}
+use Rattle.mesa_list.specs.Checks.{◌>>◌, refuse_unless}
 use Rattle.mesa_image.specs.mesa_span.Ranges.{base_before}
 use Rattle.mesa_image.specs.mesa_history.mesa_file.declared.file_ref.FileRef.{FileRef}
 use Rattle.mesa_image.specs.mesa_record.declared.record.Files.{Files}
@@ -27,8 +26,8 @@ use Rattle.mesa_image.specs.mesa_record.declared.record.Part.{Part}
 use Rattle.mesa_image.specs.mesa_record.declared.record.ViewRef.{ViewRef}
 use Rattle.mesa_image.specs.mesa_record.declared.record.Record.{Record}
 use Rattle.mesa_image.specs.mesa_record.declared.record.Record.TheVariants as record_of
-use Rattle.mesa_image.specs.Catalog.{Delta, Ending, Stock, Catalog, empty_base, empty_delta, merged_delta, new_stock, no_stock, part_delta, part_of, start_in, stock_at, stock_changed, stock_from, stock_loaded, stock_swapped, stock_viewed, stocks_loaded, applied}
-use Rattle.mesa_image.specs.Fitting.{alter_fits, base_deltas, counts_columns, counts_view, delta_in, deltas_of, files_fit, files_fit_if_any, fits, is_there, is_view_ref, kind_fits, brings_new_files, max_runs, may_be_work, part_fits, run_fits, swap_fits}
+use Rattle.mesa_image.specs.Catalog.{Delta, Stock, Catalog, empty_base, empty_delta, merged_delta, new_stock, no_stock, part_delta, part_of, start_in, stock_at, stock_changed, stock_from, stock_loaded, stock_swapped, stock_viewed, stocks_loaded, applied}
+use Rattle.mesa_image.specs.Fitting.{base_deltas, counts_columns, counts_view, delta_in, deltas_of, files_fit, files_fit_if_any, fits, is_there, is_view_ref, kind_fits, brings_new_files, max_runs, may_be_work, part_fits, swap_fits}
 use Rattle.mesa_image.specs.Shape.{IsCatalog, IsShaped}
 use Rattle.mesa_image_laws.proofs.Lists.{all_back, all_front, both_true, is_at_most, is_equal, is_less, stock_found}
 use Rattle.mesa_fold.specs.mesa_schema.Schema.{is_schema}

@@ -1,7 +1,6 @@
 -- Versions that are let go, of all tables or of one: the files that are named stay, and what holds of their rows.
 use Rattle.std.proofs.Common.{◌≡◌, ℕ, ◌<◌, List, [], ◌∷◌, ◌++◌, map, length, refl, sym, ◌∙◌, ap, arith, slice_set}
 use Rattle.std.specs.Prelude.{flat_map}
-use Rattle.std.specs.List.{AllByRecursion}
 use Rattle.std.proofs.lemmas.List.{map-set}
 use Rattle.mesa_fold.proofs.mesa_schema.Lists.{all_map, all_set, all_so}
 use Rattle.mesa_image.specs.mesa_model.Versions.{table_from}

@@ -1,5 +1,5 @@
 -- The number of the next checkpoint, and what its body states.
-use Rattle.std.proofs.Common.{◌≡◌, inl, inr, ℕ, ◌+◌, ◌%◌, ◌^◌, ◌<◌, ◌≤◌, List, [], ◌∷◌, ◌++◌, length, Option, Some, None, Result, Ok, Err, Bool, true, false, ◌&&◌, ◌==◌, nat_le, refl, sym, ap, ◌∙◌, subst, arith, append-nil}
+use Rattle.std.proofs.Common.{◌≡◌, ℕ, ◌+◌, ◌%◌, ◌^◌, ◌<◌, ◌≤◌, List, [], ◌∷◌, Option, Some, None, Result, Ok, Err, Bool, true, false, ◌&&◌, ◌==◌, nat_le, refl, sym, ap, ◌∙◌, subst, arith}
 use Rattle.std.proofs.lemmas.Bool.Decides.{nat_tests}
 use Rattle.std.proofs.lemmas.Nat.{from_be_bytes-to_be_bytes_4}
 use Rattle.std.specs.Prelude.{if◌then◌else◌}
@@ -7,7 +7,7 @@ use Rattle.std.specs.List.{AllByRecursion}
 use Rattle.mesa_fold.specs.mesa_key.Spelling.{AreBytes}
 use Rattle.mesa_image.specs.mesa_disk.declared.area.Area.{Area}
 use Rattle.mesa_image.specs.mesa_disk.declared.area.Area.TheVariants.{Zero, One}
-use Rattle.mesa_image.specs.mesa_commit.mesa_journal.Areas.{Leads, is_checkpoint, number_in, number_of, other_of, rank}
+use Rattle.mesa_image.specs.mesa_commit.mesa_journal.Areas.{Leads, is_checkpoint, number_in, number_of, other_of}
 use Rattle.mesa_image.specs.mesa_commit.mesa_journal.Journal.{of_word}
 use Rattle.mesa_image.specs.mesa_record.declared.record.Record.{Record}
 use Rattle.mesa_image.specs.mesa_record.declared.record.Record.TheVariants as record_of
@@ -22,10 +22,10 @@ use Rattle.mesa_image.specs.mesa_record.Spelling.{spelled_in, word}
 use Rattle.mesa_image.proofs.mesa_record.RecordsBoth.{record_again, record_found}
 use Rattle.mesa_image.specs.Checkpoint.{checkpoint_body, checkpoint_of, stated}
 use Rattle.mesa_image.specs.CheckpointFits.{checkpoint_fits, counts_fit, number_fits, tables_fit}
-use Rattle.mesa_image.specs.Catalog.{Catalog, empty_catalog}
+use Rattle.mesa_image.specs.Catalog.{Catalog}
 use Rattle.mesa_image.specs.Fitting.{then_bodies, catalog_from}
 use Rattle.mesa_image.specs.Journaled.{catalog, checkpoint_in, first_body, first_by, first_read, stated_if}
-use Rattle.mesa_image_laws.proofs.Lists.{both_true, is_at_most, is_equal}
+use Rattle.mesa_image_laws.proofs.Lists.{both_true, is_equal}
 use Rattle.mesa_image_laws.proofs.Stating.{catalog_again}
 use Rattle.mesa_image_laws.proofs.StatedFits.{counts_ok, tables_fitted, two_true}
 use Rattle.mesa_image_laws.proofs.Recordable.{checkpoint_recordable, third_fits}

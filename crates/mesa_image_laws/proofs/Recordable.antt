@@ -1,5 +1,5 @@
 -- The checkpoint of every catalogue is a record: its fields are within their types, and its counts have room.
-use Rattle.std.proofs.Common.{◌≡◌, inl, inr, ℕ, zero, suc, ◌+◌, ◌-◌, ◌*◌, ◌^◌, ◌<◌, ◌≤◌, List, [], ◌∷◌, ◌++◌, map, length, take, drop, replicate, Bool, true, false, ◌&&◌, ◌==◌, nat_le, nat_lt, Option, Some, None, cond, refl, sym, ap, subst, arith, slice_index_or, slice_set}
+use Rattle.std.proofs.Common.{◌≡◌, inl, inr, ℕ, zero, suc, ◌+◌, ◌-◌, ◌*◌, ◌^◌, ◌<◌, ◌≤◌, List, [], ◌∷◌, ◌++◌, map, length, take, replicate, Bool, true, false, ◌&&◌, ◌==◌, nat_le, nat_lt, Option, Some, None, cond, refl, sym, ap, subst, arith, slice_index_or, slice_set}
 use Rattle.std.proofs.lemmas.Bool.Decides.{nat_tests}
 use Rattle.std.proofs.lemmas.List.{map-append}
 use Rattle.std.specs.Prelude.{option_map, IfSome}
@@ -9,14 +9,13 @@ use Rattle.mesa_fold.specs.mesa_value.declared.Agg.TheVariants as agg
 use Rattle.mesa_fold.specs.mesa_schema.declared.columns.KeyColumn.{KeyColumn}
 use Rattle.mesa_fold.specs.mesa_schema.declared.columns.ValueColumn.{ValueColumn}
 use Rattle.mesa_fold.specs.mesa_schema.declared.changes.Change.{Change}
-use Rattle.mesa_fold.specs.mesa_schema.declared.views.View.{View}
 use Rattle.mesa_fold.specs.mesa_schema.Columns.{Columns, aggs_of}
 use Rattle.mesa_fold.specs.mesa_schema.Schema.{is_schema}
-use Rattle.mesa_fold.specs.mesa_schema.Changes.{Lineage, columns_after, columns_of, epoch_of}
+use Rattle.mesa_fold.specs.mesa_schema.Changes.{columns_after, columns_of, epoch_of}
 use Rattle.mesa_fold.proofs.mesa_schema.LineageRules.{present_schema}
 use Rattle.mesa_fold.proofs.mesa_schema.SchemaChanges.{schema_rules}
 use Rattle.mesa_fold.proofs.mesa_schema.Lists.{all_append, all_drop, all_map, all_replicate, all_so}
-use Rattle.mesa_fold.specs.mesa_batch.Totals.{sum_bound, sum_places, sums_in}
+use Rattle.mesa_fold.specs.mesa_batch.Totals.{sum_bound, sum_places}
 use Rattle.mesa_image.specs.mesa_span.Ranges.{base_before, end_of, start_behind}
 use Rattle.mesa_image.specs.mesa_record.declared.record.Files.{Files}
 use Rattle.mesa_image.specs.mesa_record.declared.record.Part.{Part}
@@ -28,12 +27,12 @@ use Rattle.mesa_image.specs.mesa_record.declared.checkpoint.StatedRange.{StatedR
 use Rattle.mesa_image.specs.mesa_record.declared.checkpoint.StatedSingle.{StatedSingle}
 use Rattle.mesa_image.specs.mesa_record.declared.checkpoint.StatedTable.{StatedTable}
 use Rattle.mesa_image.specs.mesa_record.declared.checkpoint.Checkpoint.{Checkpoint}
-use Rattle.mesa_image.specs.mesa_record.Rules.{AreTypedFiles, FitsBase, FitsFiles, FitsFilesIfAny, FitsIn, FitsRange, FitsSingle, FitsTable, FitsView, IsNamed, IsRecord, IsTotal, IsTyped, IsTypedBase, IsTypedChange, IsTypedPart, IsTypedRange, IsTypedSingle, IsTypedStatedView, IsTypedTable, IsWord, are_files, are_files_if_any, are_stated_columns, are_stated_deltas, is_base_if_any, is_change, is_count_of_columns, is_long, is_part, is_short, is_stated_range, is_stated_single, is_stated_table, is_stated_view, rise_from}
+use Rattle.mesa_image.specs.mesa_record.Rules.{AreTypedFiles, FitsBase, FitsFiles, FitsFilesIfAny, FitsIn, FitsRange, FitsSingle, FitsTable, FitsView, IsNamed, IsRecord, IsTotal, IsTypedBase, IsTypedChange, IsTypedPart, IsTypedRange, IsTypedSingle, IsTypedStatedView, IsTypedTable, IsWord, are_files, are_files_if_any, are_stated_columns, are_stated_deltas, is_base_if_any, is_change, is_count_of_columns, is_long, is_part, is_short, is_stated_range, is_stated_single, is_stated_table, is_stated_view, rise_from}
 use Rattle.mesa_image.specs.Checkpoint.{range_stated, single_stated, singles_stated, start_stated, stock_stated, stated, stating_range, stating_single, stating_singles, stating_table, checkpoint_of}
 use Rattle.mesa_image.specs.Catalog.{Delta, Ending, Stock, Catalog, empty_base, empty_delta, end_in, merged_delta, new_stock, no_stock, part_delta, part_of, start_in, stock_at, stock_changed, stock_from, stock_loaded, stock_swapped, stock_viewed, stocks_loaded, applied}
 use Rattle.mesa_image.specs.Fitting.{base_deltas, delta_in, deltas_of}
 use Rattle.mesa_image.specs.Shape.{IsCatalog, IsShaped}
-use Rattle.mesa_image_laws.specs.Statable.{HasRows, IsSingle, IsStatable}
+use Rattle.mesa_image_laws.specs.Statable.{IsSingle, IsStatable}
 use Rattle.mesa_image_laws.specs.Countable.{AreCounted}
 use Rattle.mesa_image_laws.proofs.Lists.{all_back, all_front, both_true}
 

@@ -1,5 +1,5 @@
 -- Every record keeps what lets a checkpoint state a catalogue.
-use Rattle.std.proofs.Common.{◌≡◌, inl, inr, ℕ, zero, suc, ◌+◌, ◌-◌, List, [], ◌∷◌, ◌++◌, map, length, drop, replicate, Option, Some, None, Bool, true, false, refl, subst, slice_index_or, slice_set}
+use Rattle.std.proofs.Common.{inl, inr, ℕ, zero, suc, ◌+◌, ◌-◌, List, [], ◌∷◌, map, replicate, Option, Some, None, Bool, true, false, refl, slice_index_or}
 use Rattle.std.specs.Prelude.{option_map, IfSome}
 use Rattle.std.specs.List.{AllByRecursion}
 use Rattle.mesa_fold.specs.mesa_schema.Columns.{Columns}
@@ -9,13 +9,13 @@ use Rattle.mesa_image.specs.mesa_record.declared.record.Files.{Files}
 use Rattle.mesa_image.specs.mesa_record.declared.record.Part.{Part}
 use Rattle.mesa_image.specs.mesa_record.declared.record.Record.{Record}
 use Rattle.mesa_image.specs.mesa_record.declared.record.Record.TheVariants as record_of
-use Rattle.mesa_image.specs.Catalog.{Delta, Ending, Stock, Catalog, empty_delta, empty_base, new_stock, no_stock, stock_at, part_delta, part_of, stock_loaded, stocks_loaded, stock_swapped, stock_viewed, stock_changed, stock_from, merged_delta, applied, start_in}
+use Rattle.mesa_image.specs.Catalog.{Stock, Catalog, empty_delta, empty_base, new_stock, no_stock, stock_at, part_delta, part_of, stock_loaded, stocks_loaded, stock_swapped, stock_viewed, stock_changed, stock_from, merged_delta, applied, start_in}
 use Rattle.mesa_image.specs.mesa_record.declared.checkpoint.StatedRange.{StatedRange}
 use Rattle.mesa_image.specs.mesa_record.declared.checkpoint.StatedSingle.{StatedSingle}
 use Rattle.mesa_image.specs.mesa_record.declared.checkpoint.StatedTable.{StatedTable}
 use Rattle.mesa_image.specs.mesa_record.declared.checkpoint.Checkpoint.{Checkpoint}
 use Rattle.mesa_image.specs.Checkpoint.{range_stated, single_stated, singles_stated, start_stated, stock_stated, stated}
-use Rattle.mesa_image_laws.specs.Statable.{HasRows, IsSingle, IsUncounted, IsStatable, AreStatable}
+use Rattle.mesa_image_laws.specs.Statable.{IsSingle, IsUncounted, IsStatable, AreStatable}
 
 -- ---- what a checkpoint states
 

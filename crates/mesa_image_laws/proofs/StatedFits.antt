@@ -1,8 +1,8 @@
 -- The checkpoint of a catalogue fits.
-use Rattle.std.proofs.Common.{◌≡◌, ◌⊎◌, inl, inr, ℕ, zero, suc, ◌+◌, ◌-◌, ◌*◌, ◌^◌, ◌<◌, ◌≤◌, List, [], ◌∷◌, ◌++◌, map, length, take, flat_map, Bool, true, false, ◌&&◌, ◌||◌, ◌==◌, nat_le, nat_lt, Option, Some, None, cond, refl, sym, ◌∙◌, ap, subst, arith}
+use Rattle.std.proofs.Common.{◌≡◌, ◌⊎◌, inl, inr, ℕ, suc, ◌+◌, ◌-◌, ◌*◌, ◌<◌, ◌≤◌, List, [], ◌∷◌, ◌++◌, map, length, take, Bool, true, false, ◌&&◌, ◌||◌, ◌==◌, nat_le, nat_lt, Option, Some, None, cond, refl, sym, ◌∙◌, ap, subst, arith}
 use Rattle.std.proofs.lemmas.Bool.Decides.{nat_tests}
 use Rattle.std.proofs.lemmas.List.Sums.{sum_by-cons}
-use Rattle.std.specs.Prelude.{option_map, IfSome, ⊤}
+use Rattle.std.specs.Prelude.{option_map, IfSome}
 use Rattle.std.specs.List.{AllByRecursion, list_all, range_with_len}
 use Rattle.mesa_fold.specs.mesa_schema.Columns.{aggs_of}
 use Rattle.mesa_fold.specs.mesa_schema.Schema.{is_schema}
@@ -14,17 +14,14 @@ use Rattle.mesa_image.specs.mesa_span.Ranges.{start_behind, end_of}
 use Rattle.mesa_image.specs.mesa_model.Warehouse.{max_tables, max_versions}
 use Rattle.mesa_image.specs.mesa_record.declared.record.Files.{Files}
 use Rattle.mesa_image.specs.Catalog.{Delta, Ending, Stock, Catalog, end_in, start_in}
-use Rattle.mesa_image.specs.Fitting.{base_deltas, delta_in, deltas_of, files_fit_if_any, max_runs, run_of_id}
+use Rattle.mesa_image.specs.Fitting.{base_deltas, delta_in, files_fit_if_any, max_runs, run_of_id}
 use Rattle.mesa_image.specs.Shape.{IsShaped, IsCatalog, IsWithinBound}
 use Rattle.mesa_image_laws.specs.Ids.{HasOwnIds, named, times}
 use Rattle.mesa_fold.proofs.mesa_schema.Lists.{all_so}
 use Rattle.mesa_image_laws.proofs.Lists.{all_back, all_front}
-use Rattle.mesa_image.specs.mesa_record.declared.checkpoint.StatedRange.{StatedRange}
 use Rattle.mesa_image.specs.mesa_record.declared.checkpoint.StatedSingle.{StatedSingle}
-use Rattle.mesa_image.specs.mesa_record.declared.checkpoint.StatedTable.{StatedTable}
-use Rattle.mesa_image.specs.mesa_record.declared.checkpoint.Checkpoint.{Checkpoint}
 use Rattle.mesa_image.specs.Checkpoint.{stated, stating_range, stating_single, stating_singles, stating_table, checkpoint_of, to_stated}
-use Rattle.mesa_image_laws.specs.Statable.{HasRows, IsSingle, IsStatable, AreStatable}
+use Rattle.mesa_image_laws.specs.Statable.{IsSingle, IsStatable, AreStatable}
 use Rattle.mesa_image.specs.CheckpointFits.{changes_pass, lineage_fits, delta_fits, range_fits, base_fits, are_tens, are_singles, single_fits, totals_fit, ranges_fit, singles_fit, starts_fit, table_fits, table_fits_by, names_differ, ids_fit, oldest_fits, counts_fit, tables_fit}
 use Rattle.mesa_image_laws.specs.Countable.{CountsFiles, CountsTotals, IsCounted, AreCounted}
 use Rattle.mesa_image_laws.proofs.Stating.{start_again, catalog_again}

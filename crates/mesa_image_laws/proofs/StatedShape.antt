@@ -1,12 +1,12 @@
 -- A checkpoint that fits states a catalogue.
-use Rattle.std.proofs.Common.{◌≡◌, ◌⊎◌, inl, inr, ⊎_elim, ℕ, zero, suc, ◌+◌, ◌-◌, ◌*◌, ◌<◌, ◌≤◌, List, [], ◌∷◌, ◌++◌, map, length, replicate, flat_map, Bool, true, false, ◌&&◌, ◌||◌, ◌==◌, nat_le, nat_lt, is_ok, is_none, Option, Some, None, Result, Ok, Err, cond, append_assoc, refl, sym, ◌∙◌, ap, subst, arith, length-append}
+use Rattle.std.proofs.Common.{◌≡◌, ◌⊎◌, inl, inr, ℕ, suc, ◌+◌, ◌-◌, ◌*◌, ◌<◌, ◌≤◌, List, [], ◌∷◌, ◌++◌, map, length, replicate, Bool, true, false, ◌&&◌, ◌||◌, ◌==◌, nat_le, nat_lt, is_ok, Option, Some, None, Result, Ok, Err, cond, append_assoc, refl, sym, ◌∙◌, ap, subst, arith, length-append}
 use Rattle.std.proofs.lemmas.Bool.Decides.{nat_tests}
 use Rattle.std.proofs.lemmas.List.Sums.{sum_by-cons}
 use Rattle.std.proofs.lemmas.Bool.{cases_lt}
 use Rattle.std.proofs.lemmas.List.{length-replicate, append-nil}
 use Rattle.mesa_list.specs.Checks.{◌>>◌, refuse_if}
-use Rattle.std.specs.Prelude.{option_map, IsTrue}
-use Rattle.std.specs.List.{AllByRecursion, list_all, range_with_len, count_by}
+use Rattle.std.specs.Prelude.{option_map}
+use Rattle.std.specs.List.{AllByRecursion, list_all, range_with_len}
 use Rattle.std.proofs.lemmas.List.{take_all}
 use Rattle.mesa_fold.specs.mesa_schema.declared.changes.Change.{Change}
 use Rattle.mesa_fold.specs.mesa_schema.declared.changes.Change.TheVariants.{AddKey, AddValue, DropValue}
@@ -14,9 +14,9 @@ use Rattle.mesa_fold.specs.mesa_schema.declared.changes.ChangeError.TheVariants.
 use Rattle.mesa_fold.specs.mesa_schema.declared.views.View.{View}
 use Rattle.mesa_fold.specs.mesa_schema.Columns.{Columns, aggs_of}
 use Rattle.mesa_fold.specs.mesa_schema.Schema.{is_schema}
-use Rattle.mesa_fold.specs.mesa_schema.Changes.{Lineage, changed, change_checked, columns_after, columns_at, columns_of, epoch_of, max_changes, rule_checked, with_change}
-use Rattle.mesa_fold.specs.mesa_schema.Views.{max_views, with_view}
-use Rattle.mesa_fold.specs.mesa_schema.Lineages.{HasDefault, IsLineage, is_view_of}
+use Rattle.mesa_fold.specs.mesa_schema.Changes.{Lineage, changed, change_checked, columns_after, columns_at, columns_of, epoch_of, max_changes, rule_checked}
+use Rattle.mesa_fold.specs.mesa_schema.Views.{max_views}
+use Rattle.mesa_fold.specs.mesa_schema.Lineages.{IsLineage, is_view_of}
 use Rattle.mesa_fold.proofs.mesa_schema.LineageChanges.{lineage_changed, lineage_viewed}
 use Rattle.mesa_fold.proofs.mesa_schema.Lists.{all_append, all_replicate, all_so}
 use Rattle.mesa_fold.proofs.mesa_schema.PresentRows.{columns_more}
@@ -24,8 +24,8 @@ use Rattle.mesa_fold.specs.mesa_batch.Totals.{sum_bound, sums_in}
 use Rattle.mesa_image.specs.mesa_span.Ranges.{start_behind, end_of, ends_of_tens, IsReachable}
 use Rattle.mesa_image.specs.mesa_model.Warehouse.{max_tables, max_versions}
 use Rattle.mesa_image.specs.mesa_record.Rules.{IsTypedChange}
-use Rattle.mesa_image.specs.Catalog.{Delta, Ending, Stock, Catalog, empty_delta, end_in, ranges_of, start_in}
-use Rattle.mesa_image.specs.Fitting.{base_deltas, delta_in, deltas_of, files_fit_if_any, names_in, run_of_id}
+use Rattle.mesa_image.specs.Catalog.{Delta, Ending, empty_delta, end_in, ranges_of, start_in}
+use Rattle.mesa_image.specs.Fitting.{base_deltas, delta_in, files_fit_if_any, run_of_id}
 use Rattle.mesa_image.specs.Shape.{IsShaped, IsCatalog, IsWithinBound}
 use Rattle.mesa_image_laws.specs.Ids.{HasOwnIds, named, times}
 use Rattle.mesa_image_laws.proofs.Defaults.{default_read}

@@ -6,11 +6,8 @@ use Rattle.mesa_image.specs.mesa_span.Ranges.{start_behind}
 use Rattle.mesa_image.specs.mesa_record.declared.record.Files.{Files}
 use Rattle.mesa_image.specs.Catalog.{Delta, Ending, Stock, Catalog, empty_delta, end_in, start_in}
 use Rattle.mesa_image.specs.Shape.{IsShaped, IsCatalog}
-use Rattle.mesa_image.specs.mesa_record.declared.checkpoint.StatedRange.{StatedRange}
 use Rattle.mesa_image.specs.mesa_record.declared.checkpoint.StatedSingle.{StatedSingle}
-use Rattle.mesa_image.specs.mesa_record.declared.checkpoint.StatedTable.{StatedTable}
-use Rattle.mesa_image.specs.mesa_record.declared.checkpoint.Checkpoint.{Checkpoint}
-use Rattle.mesa_image.specs.Checkpoint.{range_stated, single_stated, singles_stated, stock_stated, stated, to_stated, start_stated, stating_range, stating_single, stating_singles, stating_table, checkpoint_of, totals_or_none}
+use Rattle.mesa_image.specs.Checkpoint.{range_stated, single_stated, singles_stated, stock_stated, stated, to_stated, stating_range, stating_single, stating_singles, stating_table, checkpoint_of}
 use Rattle.mesa_image_laws.specs.Statable.{HasRows, IsSingle, IsUncounted, IsStatable, AreStatable}
 
 -- ---- merged ranges

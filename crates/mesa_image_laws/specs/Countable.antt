@@ -1,5 +1,5 @@
 -- What every catalogue keeps, so that its checkpoint fits.
-use Rattle.std.specs.Prelude.{◌≡◌, ℕ, ◌≤◌, List, length, true, IfSome}
+use Rattle.std.specs.Prelude.{◌≡◌, ◌≤◌, length, true, IfSome}
 use Rattle.std.specs.List.{AllByRecursion}
 use Rattle.mesa_fold.specs.mesa_schema.Columns.{aggs_of}
 use Rattle.mesa_fold.specs.mesa_schema.Changes.{Lineage, columns_at}

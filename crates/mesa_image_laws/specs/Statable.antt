@@ -1,5 +1,5 @@
 -- What every catalogue keeps, so that a checkpoint can state it.
-use Rattle.std.specs.Prelude.{◌≡◌, ◌⊎◌, ℕ, List, Option, Some, None, IfSome}
+use Rattle.std.specs.Prelude.{◌≡◌, ◌⊎◌, ℕ, List, Some, None, IfSome}
 use Rattle.std.specs.List.{AllByRecursion}
 use Rattle.mesa_image.specs.mesa_record.declared.record.Files.{Files}
 use Rattle.mesa_image.specs.Catalog.{Delta, Ending, Stock, Catalog, empty_delta}
