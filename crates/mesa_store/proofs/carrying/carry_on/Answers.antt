@@ -1,4 +1,4 @@
-use Rattle.std.proofs.Common.{◌≡◌, ◌∷◌, ◌+◌, [], ℕ, List, Option, Some, length, sym, subst}
+use Rattle.std.proofs.Common.{ℕ, List, Option, sym, subst}
 use Rattle.mesa_journal.specs.Areas.{other_of}
 use Rattle.mesa_image.specs.Contents.{kept_of}
 use Rattle.mesa_image.specs.Sound.{StandsFor}
