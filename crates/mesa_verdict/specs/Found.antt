@@ -32,6 +32,6 @@ IsFoundAs i x None = (b : List ℕ) (rows : List Row) → file_of i x.file.id �
 abbrev pub AreFound : Image → Found → List Shelved → Type 0
 AreFound i found files = AllByRecursion (λ (x : Shelved). IsFoundAs i x (found x.file.id)) files
 
--- The files that a catalogue names are there, with rows of which holds what is to hold of rows: with a journal that makes this catalogue, the image is sound.
+-- The files that a catalogue names are there, with rows of which holds what is to hold of rows: with a whole journal whose live area makes this catalogue, the image is sound.
 abbrev pub HasSoundFiles : Image → Catalog → Type 0
 HasSoundFiles i c = (rows : Rows) × Has (wants rows (shelved c)) i × AreStocked rows c
