@@ -63,21 +63,40 @@ class Bytes:
 # FORMATS, "Journal"
 
 
-def bodies(area):
-    """The place and the body of each record of a journal area."""
+def bodies(area, source):
+    """The place and the body of each record of a journal area. `source` is the area's name."""
     at = 0
     while len(area) > 1 and area[at] == 1:
         length = int.from_bytes(area[at + 1 : at + 5], "big")
         begin, end = at + 5, at + 5 + length
         # (the next gate is there too)
         if end >= len(area):
-            raise Fault(f"journal0 is damaged at {at}: it ends within a record")
+            raise Fault(f"{source} is damaged at {at}: it ends within a record")
         yield begin, area[begin:end]
         at = end
 
 
-# FORMATS, "Records": what columns, file references and the files of a range are. In the first edition (kinds 5 and 6) a
-# file has format 1, and what was added up takes 8 bytes; in the second (kinds 9 and 10) the format is told, and it takes 16.
+# the kinds of checkpoints, with their editions
+CHECKPOINTS = {8: 1, 11: 2, 13: 3}
+
+
+def rank(found):
+    """0 of an area without a record, else one more than the number of its first: that of a checkpoint, and 0 of another."""
+    if not found:
+        return 0
+    body = found[0][1]
+    return 1 + (int.from_bytes(body[1:5], "big") if len(body) >= 5 and body[0] in CHECKPOINTS else 0)
+
+
+def live(areas):
+    """The number of the live area and its bodies, out of the bytes of both."""
+    zero, one = [list(bodies(area, f"journal{number}")) for number, area in enumerate(areas)]
+    return (1, one) if rank(one) > rank(zero) else (0, zero)
+
+
+# FORMATS, "Records": what columns, file references and the files of a range are. In the first edition (kinds 5, 6 and 8) a
+# file has format 1, and what was added up takes 8 bytes; in the second (kinds 9, 10 and 11) the format is told, and it takes
+# 16. The third differs in checkpoints alone (kind 13), which tell each table's oldest version.
 
 
 class Column(typing.NamedTuple):
@@ -241,6 +260,13 @@ class Table:
         base = Delta(0, oldest - 1, 0, None) if oldest else None
         self.base, self.cumulatives, self.singletons = base, [], {}
 
+    @classmethod
+    def stated(cls, name, columns, oldest):
+        """A table of a checkpoint, whose base is told."""
+        table = cls(name, columns, oldest)
+        table.base = None
+        return table
+
     @property
     def columns(self):
         return self.epochs[-1]
@@ -296,37 +322,96 @@ class Catalogue:
     def __init__(self):
         self.tables, self.floor, self.next = [], 0, 0
 
-    def apply(self, body, source):
-        b = Bytes(body, source)
+    def apply_all(self, area, found):
+        """Takes in the records of the live area, of which this is the number."""
+        for place, (at, body) in enumerate(found):
+            b = Bytes(body, f"the record at {at} of journal{area}")
+            self.apply(b, area if place == 0 else None)
+
+    def apply(self, b, area):
+        """Takes in a record; `area` is the number of its area where it is the first there."""
         kind = b.number(1)
         readers = {1: self.run, 2: self.table, 3: self.view, 4: self.alter, 7: self.expire, 12: self.expire_table}
         readers |= {5: lambda b: self.publish(b, 1), 6: lambda b: self.swap(b, 1)}
         readers |= {9: lambda b: self.publish(b, 2), 10: lambda b: self.swap(b, 2)}
+        readers |= {it: lambda b, edition=edition: self.checkpoint(b, edition, area) for it, edition in CHECKPOINTS.items()}
         if kind not in readers:
             raise b.fault(f"there is no record of kind {kind}")
+        if area == 1 and kind not in CHECKPOINTS:
+            raise b.fault("the first record of journal1 is no checkpoint")
         try:
             readers[kind](b)
         except (IndexError, ValueError):
             raise b.fault("the record names a table, a view, an epoch or a column that isn't there") from None
         b.end()
 
+    def checkpoint(self, b, edition, area):
+        """The catalogue that a checkpoint states, as the first record of its area."""
+        number, _run, self.floor, self.next = [b.number(4) for _ in range(4)]
+        if area is None or number % 2 != area or number == 0:
+            raise b.fault(f"a checkpoint of the number {number} doesn't stand here")
+        b.many(2, lambda: self.stated_table(b, edition))
+
+    def stated_table(self, b, edition):
+        name, oldest = b.name(), b.number(4) if edition == 3 else self.floor
+        if not (self.floor <= oldest and (oldest < self.next or oldest == self.next == 0)):
+            raise b.fault(f"the oldest version of {name} is {oldest}")
+        table = Table.stated(name, self.columns(b), oldest)
+        b.many(2, lambda: self.change(b, table))
+        b.many(1, lambda: self.add_view(b, table))
+        b.many(1, lambda: b.number(8 * min(edition, 2)))
+        table.base = self.stated_range(b, edition, table, 0) if b.one_of((False, True)) else None
+        if table.base and table.base.last > oldest:
+            raise b.fault(f"the base of {name} ends at {table.base.last}")
+        b.many(4, lambda: table.cumulatives.append(self.stated_cumulative(b, edition, table)))
+        b.many(4, lambda: self.stated_singleton(b, edition, table))
+        self.tables.append(table)
+
+    def stated_range(self, b, edition, table, first):
+        last, epoch = b.number(4), b.number(4)
+        files = Files.read(b, min(edition, 2)) if b.one_of((False, True)) else None
+        if last >= self.next:
+            raise b.fault(f"a range ends at {last}")
+        return self.tested(table, Delta(first, last, epoch, files))
+
+    def stated_cumulative(self, b, edition, table):
+        delta = self.stated_range(b, edition, table, table.behind_base)
+        if delta.last != table.next_cumulative():
+            raise b.fault(f"no work gives the range [{delta.first},{delta.last}]")
+        return delta
+
+    def stated_singleton(self, b, edition, table):
+        version = b.number(4)
+        least = max(table.behind_base, next(reversed(table.singletons), -1) + 1)
+        if not least <= version < self.next:
+            raise b.fault(f"version {version} doesn't stand here")
+        self.singleton(b, version, min(edition, 2), table)
+
     def run(self, b):
         b.number(4)
 
+    def columns(self, b):
+        keys = b.many(1, lambda: Column(b.name(), b.one_of(KEY_TYPES)))
+        return Columns(keys, b.many(1, lambda: Column(b.name(), b.one_of(AGGREGATIONS))))
+
     def table(self, b):
         name = b.name()
-        keys = b.many(1, lambda: Column(b.name(), b.one_of(KEY_TYPES)))
-        values = b.many(1, lambda: Column(b.name(), b.one_of(AGGREGATIONS)))
-        self.tables.append(Table(name, Columns(keys, values), self.floor))
+        self.tables.append(Table(name, self.columns(b), self.floor))
 
     def view(self, b):
-        table, view = self.tables[b.number(2)], View.read(b)
+        self.add_view(b, self.tables[b.number(2)])
+
+    def add_view(self, b, table):
+        view = View.read(b)
         # (a column that isn't there is found here)
         view.columns(table.columns)
         table.views.append(view)
 
     def alter(self, b):
-        table, kind = self.tables[b.number(2)], b.one_of((None, AddValue, DropValue, AddKey))
+        self.change(b, self.tables[b.number(2)])
+
+    def change(self, b, table):
+        kind = b.one_of((None, AddValue, DropValue, AddKey))
         if kind is None:
             raise b.fault("there is no change of kind 0")
         table.change(kind.read(b))
@@ -339,7 +424,9 @@ class Catalogue:
         self.next += 1
 
     def part(self, b, version, edition):
-        table = self.tables[b.number(2)]
+        self.singleton(b, version, edition, self.tables[b.number(2)])
+
+    def singleton(self, b, version, edition, table):
         delta = Delta(version, version, b.number(4), Files.read(b, edition))
         b.many(1, lambda: b.number(8 * edition))
         table.publish(self.tested(table, delta))

@@ -15,7 +15,7 @@ import pathlib
 import signal
 import sys
 
-from catalogue import AGGREGATIONS, KEY_TYPES, Bytes, Catalogue, Fault, bodies
+from catalogue import AGGREGATIONS, KEY_TYPES, Bytes, Catalogue, Fault, live
 
 COMBINE = {"sum": int.__add__, "min": min, "max": max, "replace": lambda older, newer: newer}
 MAGICS = {1: b"MESADLT1", 2: b"MESADLT2"}
@@ -74,19 +74,17 @@ class Store:
 
     def __init__(self, folder):
         self.folder, self.catalogue = pathlib.Path(folder), Catalogue()
-        records = list(bodies(self.journal()))
-        if not records:
-            raise Fault(f"{folder}: journal0 has no record, so this is no store, or an empty one")
-        for at, body in records:
-            self.catalogue.apply(body, f"the record at {at} of journal0")
-
-    def journal(self):
         if not self.folder.is_dir():
-            raise Fault(f"{self.folder}: there is no such folder")
-        path = self.folder / "journal0"
-        if not path.exists():
-            raise Fault(f"{self.folder}: there is no journal0, so this is no store, or an empty one")
-        return path.read_bytes()
+            raise Fault(f"{folder}: there is no such folder")
+        area, records = live([self.journal(number) for number in (0, 1)])
+        if not records:
+            raise Fault(f"{folder}: the journal has no record, so this is no store, or an empty one")
+        self.catalogue.apply_all(area, records)
+
+    def journal(self, number):
+        """The bytes of a journal area; one that isn't there is empty."""
+        path = self.folder / f"journal{number}"
+        return path.read_bytes() if path.exists() else b""
 
     @property
     def newest(self):

@@ -94,10 +94,11 @@ fn differ(made: &[Adoption<MemMade>]) -> bool
     }
 }
 
-// Writes a record behind the gate at `end`. Gives the journal's new end.
+// Writes a record behind the gate at `end` of an area. Gives the journal's new end.
 fn write_framed(
     rt: &impl Abort,
     disk: &mut MemDisk,
+    area: Area,
     made: Vec<Adoption<MemMade>>,
     end: u64,
     framed: &Framed,
@@ -107,18 +108,19 @@ fn write_framed(
     assert!(rt; distinct);
     let new = are_new(disk, &made);
     assert!(rt; new);
-    assert!(rt; end < disk.journal_len(Area::Zero));
-    let Ok(end) = write_record(disk, made, end, framed, dropped) else {
+    assert!(rt; end < disk.journal_len(area));
+    let Ok(end) = write_record(disk, area, made, end, framed, dropped) else {
         panic!(rt; "not written");
     };
     end
 }
 
-/// Writes a record's body with the files of these numbers, and removes those that it drops. Gives the journal's new end.
+/// Writes a record's body behind the gate at `end` of an area, with the files of these numbers, and removes those that it drops. Gives the journal's new end.
 pub fn write_turn(
     rt: &impl Abort,
     alloc: Global,
     disk: &mut MemDisk,
+    area: Area,
     end: u64,
     body: &[u8],
     files: (usize, usize),
@@ -126,5 +128,5 @@ pub fn write_turn(
 ) -> u64 {
     let framed = Framed::new(alloc, body).expect(rt, "a frame");
     let made = adoptions(rt, alloc, files);
-    write_framed(rt, disk, made, end, &framed, dropped)
+    write_framed(rt, disk, area, made, end, &framed, dropped)
 }

@@ -12,6 +12,8 @@ mod shown;
 #[cfg(test)]
 mod spelled;
 #[cfg(test)]
+mod stated;
+#[cfg(test)]
 mod store;
 #[cfg(test)]
 mod versions;

@@ -16,8 +16,8 @@ fn found(rt: &impl Abort, alloc: Global, disk: MemDisk) -> Result<String, AllocE
     }
 }
 
-// A store, of which just the files are there that it names.
-fn whole(rt: &impl Abort, alloc: Global, store: &mut Store) -> Result<String, Fail> {
+/// A store, of which just the files are there that it names.
+pub fn whole(rt: &impl Abort, alloc: Global, store: &mut Store) -> Result<String, Fail> {
     expect_files(rt, alloc, &mut store.disk, &store.catalog)?;
     Ok(shown(rt, alloc, &store.catalog)?)
 }
@@ -82,8 +82,8 @@ fn expect_moment(
     Ok(())
 }
 
-// The same of each moment from one on. The last one is behind the record.
-fn expect_moments(
+/// Stops the test where an image of a moment from one on is neither of two stores. The last moment is behind the record.
+pub fn expect_moments(
     rt: &impl Abort,
     alloc: Global,
     disk: &MemDisk,

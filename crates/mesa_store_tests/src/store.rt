@@ -48,6 +48,7 @@ pub fn write(rt: &impl Abort, alloc: Global, store: &mut Store, step: &Step) {
         rt,
         alloc,
         &mut store.disk,
+        store.area,
         store.end,
         &body,
         step.files,

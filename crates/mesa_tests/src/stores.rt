@@ -1,4 +1,5 @@
 // Stores that were left by earlier runs, that are damaged or unsound, or of whose devices calls fail.
+mod checkpoints;
 mod crashes;
 mod damage;
 mod failed_loads;

@@ -1,15 +1,25 @@
-// Stores as text: a line with area 0 of the journal, and one for each file with its id, all in hexadecimal digits.
+// Stores as text: a line with area 0 of the journal, and behind a bar area 1 where it isn't empty, and one for each file
+// with its id, all in hexadecimal digits.
 use mesa_disk::{Area, ByteList, Disk, FileId, FileReader, MemDisk};
 use std::alloc::Global;
 use std::process::Abort;
 
-// The bytes of area 0.
-fn area_of(rt: &impl Abort, alloc: Global, disk: &mut MemDisk) -> String {
-    let len = disk.journal_len(Area::Zero) as usize;
+// The bytes of an area.
+fn area_of(rt: &impl Abort, alloc: Global, disk: &mut MemDisk, area: Area) -> String {
+    let len = disk.journal_len(area) as usize;
     let mut bytes = vec![in alloc; 0u8; len].expect(rt, "memory");
-    disk.journal_read(Area::Zero, 0, &mut bytes)
-        .expect(rt, "an area");
+    disk.journal_read(area, 0, &mut bytes).expect(rt, "an area");
     hex::encode(alloc, &bytes).expect(rt, "memory")
+}
+
+// Both areas.
+fn areas_of(rt: &impl Abort, alloc: Global, disk: &mut MemDisk) -> String {
+    let mut text = area_of(rt, alloc, disk, Area::Zero);
+    let one = area_of(rt, alloc, disk, Area::One);
+    if !one.is_empty() {
+        write!(text, "|{one}").expect(rt, "memory");
+    }
+    text
 }
 
 // The bytes of a file.
@@ -22,7 +32,7 @@ fn digits_of(rt: &impl Abort, alloc: Global, disk: &mut MemDisk, id: FileId) -> 
 
 /// The text of what is on a disk.
 pub fn shown(rt: &impl Abort, alloc: Global, disk: &mut MemDisk) -> String {
-    let mut text = area_of(rt, alloc, disk);
+    let mut text = areas_of(rt, alloc, disk);
     let ids = disk.file_ids().expect(rt, "a list of files");
     for id in &ids {
         let digits = digits_of(rt, alloc, disk, *id);
@@ -54,11 +64,13 @@ fn files_of(rt: &impl Abort, alloc: Global, lines: &str) -> Vec<(FileId, ByteLis
 
 /// A disk with what a text says, of which these calls fail.
 pub fn spelled(rt: &impl Abort, alloc: Global, text: &str, fails: &[u64]) -> MemDisk {
-    let (area, lines) = text.split_once('\n').unwrap_or((text, ""));
+    let (areas, lines) = text.split_once('\n').unwrap_or((text, ""));
+    let (zero, one) = areas.split_once('|').unwrap_or((areas, ""));
     let fails = fails.to_vec(alloc).expect(rt, "memory");
-    let area = bytes_of(rt, alloc, area);
+    let zero = bytes_of(rt, alloc, zero);
+    let one = bytes_of(rt, alloc, one);
     let files = files_of(rt, alloc, lines);
-    MemDisk::new(alloc, area, Vec::new(alloc), files, fails)
+    MemDisk::new(alloc, zero, one, files, fails)
 }
 
 /// Whether these ids are those of these numbers.
