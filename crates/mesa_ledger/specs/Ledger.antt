@@ -1,6 +1,6 @@
 -- What a vault has in its memory, and the books that it stands for.
-use Rattle.mesa_walk.specs.mesa_disk.declared.area.Area.{Area}
 use Rattle.std.specs.Prelude.{ℕ, ◌+◌, ◌*◌, ◌^◌, List, [], ◌++◌, map, Option}
+use Rattle.mesa_walk.specs.mesa_disk.declared.area.Area.{Area}
 use Rattle.mesa_lease.specs.Book.{Book}
 use Rattle.mesa_image_laws.specs.mesa_schema.Views.{max_views}
 use Rattle.mesa_image_laws.specs.mesa_model.Warehouse.{Table, Store, Pin, max_tables}
@@ -30,7 +30,7 @@ pub record OpenQuery : Type 0 where
   pub session : ℕ
   pub hold : Hold
 
--- A vault's memory: the catalogue, and its generation; the pins, and the open queries; the files that wait for removal; the leases; how many pins each session was given; the position at which it closed, if it did; how many files the run adopted, and the journal's area, and where its next body goes.
+-- A vault's memory: the catalogue, and its generation; the pins, and the open queries; the files that wait for removal; the leases; how many pins each session was given; the position at which it closed, if it did; how many files the run adopted; and the journal's area, and where its next body goes there.
 pub record Ledger : Type 0 where
   pub catalogue : Catalog
   pub generation : ℕ
