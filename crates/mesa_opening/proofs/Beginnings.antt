@@ -133,11 +133,11 @@ module _ (story : Story) (c : Catalog) (last_run : ℕ) (area : Area) (number : 
 
   -- so each image since then stands for it
   pub keeps_from : (now : Story) → ((s t : ℕ) (x : Image) → s ≤ t → now.may_have_left t x → now.may_have_left s x) → ((x : Image) → story.moment < last → story.may_have_left story.moment x → story.may_leave x)
-      → ((bodies : List (List ℕ)) (rows : Rows) → IsFound story area bodies end c rows → Spans (λ x. StandsFor x (kept_of rows c)) story now) → Keeps story now
+      → ((rows : Rows) → IsFound story area o.bodies end c rows → Spans (λ x. StandsFor x (kept_of rows c)) story now) → Keeps story now
   keeps_from now earlier only images d rows start below t x from to left =
       let same : d ≡ c = start_same d rows start in
       let begun : IsSoundStart story c rows = subst (λ k. IsSoundStart story k rows) same start in
-      let spans = images o.bodies rows (found_start rows begun) in
+      let spans = images rows (found_start rows begun) in
       subst (λ k. StandsFor x (kept_of rows k)) (sym same)
       (⊎_elim (λ had. start_left begun (only x (omega (arith, from, to, below)) had)) (λ p. p) (spans.run.nothing_else story.moment x (omega arith) (earlier story.moment t x from left)))
     where
