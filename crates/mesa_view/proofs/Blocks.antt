@@ -1,15 +1,18 @@
 -- A file is put into groups block by block.
-use Rattle.std.proofs.Common.{◌≡◌, ◌≢◌, ℕ, List, [], ◌∷◌, ◌++◌, refl, sym, ◌∙◌, ap, subst, arith, length, ◌≤◌}
+use Rattle.std.proofs.Common.{◌≡◌, ◌≢◌, ℕ, List, [], ◌∷◌, ◌++◌, refl, sym, ◌∙◌, ap, drop, subst, arith, length, ◌≤◌}
 use Rattle.std.specs.Prelude.{map, IfSome, Option, None, Some, Err}
-use Rattle.mesa_fault.specs.Causes.{HasFaultCause}
+use Rattle.mesa_fault.specs.Causes.{HasFaultCause, Rose}
 use Rattle.mesa_schema.specs.declared.rows.Row.{Row}
 use Rattle.mesa_schema.specs.Changes.{columns_of}
 use Rattle.mesa_schema.specs.Columns.{Columns}
 use Rattle.mesa_schema.specs.Rows.{AreRowsOf, IsRowOf}
+use Rattle.mesa_file.specs.declared.damage.Damage.{Damage}
 use Rattle.mesa_list.proofs.Whole.{each_split}
 use Rattle.mesa_filter.specs.Filter.{KeyFilter, filtered}
 use Rattle.mesa_delta.specs.Indexed.{Indexed}
+use Rattle.mesa_schema.specs.Folded.{rows_of}
 use Rattle.mesa_delta.specs.Reading.{IsIndexed, index_of}
+use Rattle.mesa_delta.specs.Spread.{blocks_of}
 use Rattle.mesa_delta.specs.declared.input.Input.{Input}
 use Rattle.mesa_delta.specs.declared.error.FileError.{FileError}
 use Rattle.mesa_delta.specs.declared.error.FileError.TheVariants as file_error
@@ -18,9 +21,14 @@ use Rattle.mesa_scan.specs.declared.scanning.Scan.{Scan}
 use Rattle.mesa_scan.specs.Scanning.{HasScanned, filter_of, matching, next_of}
 use Rattle.mesa_scan.proofs.Onwards.{all_matching}
 use Rattle.mesa_answer.specs.declared.groups.Groups.{Groups}
+use Rattle.mesa_answer.specs.declared.error.GroupError.{GroupError}
+use Rattle.mesa_answer.specs.declared.error.GroupError.TheVariants as group_error
 use Rattle.mesa_answer.specs.Answering.{KeepsSums}
 use Rattle.mesa_answer.specs.Gathered.{HasPut, wanted_of}
-use Rattle.mesa_view.proofs.Sums.{sums_scanned}
+use Rattle.mesa_view.specs.Gathering.{gather_error}
+use Rattle.mesa_view.specs.declared.error.GatherError.{GatherError}
+use Rattle.mesa_view.specs.declared.error.GatherError.TheVariants as gather
+use Rattle.mesa_view.proofs.Sums.{matching_split, sums_scanned}
 
 -- The matching rows of the blocks so far are put in, and the input stays what it was.
 pub record Gathers {R : Type 0} (bytes : R → Option (List ℕ)) (size_of faults_of : R → ℕ) (start now : Input R) (f : KeyFilter) (s : Scan) (old new : Groups) : Type 0 where
@@ -64,12 +72,20 @@ given_bounded bytes start now f s before given h filter same b all told indexed 
     subst (λ (t : Columns). KeepsSums t (before ++ given)) columns
     (subst (λ (rows : List Row). KeepsSums (columns_of now.evolving.value) (before ++ rows)) (sym (given_matching bytes start now f s given h filter same b all told indexed)) (sums_scanned now f all before (next_of s) here))
 
+-- what is given of a file are its first matching rows
+pub given_first : {R : Type 0} (bytes : R → Option (List ℕ)) (start now : Input R) (f : KeyFilter) (s : Scan) (given : List Row) → HasScanned bytes now s given → filter_of s ≡ f → IsSameInput bytes start now
+    → (b : List ℕ) (all : List Row) → bytes (reader_in start) ≡ Some b → IsIndexed (index_of start.reader) all b
+    → (rest : List Row) × (filtered (columns_of start.evolving.value) f.terms (map (lift_by start) all) ≡ given ++ rest)
+given_first bytes start now f s given h filter same b all told indexed =
+    let rest : List Row = filtered (columns_of now.evolving.value) f.terms (map (lift_by now) (rows_of (drop (next_of s) (blocks_of (index_of now.reader).layout all)))) in
+    (rest, sym (same_matching bytes start now f all same) ∙ matching_split now f all (next_of s) ∙ ap (λ (rows : List Row). rows ++ rest) (sym (given_matching bytes start now f s given h filter same b all told indexed)))
+
 -- the rows of one block more have the columns' form
 pub more_form : {R : Type 0} (bytes : R → Option (List ℕ)) (i : Input R) (s : Scan) (given more : List Row) → HasScanned bytes i s (given ++ more) → AreRowsOf (columns_of i.evolving.value) more
 more_form bytes i s given more h = (each_split (IsRowOf (columns_of i.evolving.value)) given more h.form).1
 
 -- an error that is no fault leaves the count
-pub no_fault : {T : Type 0} (e : FileError) (before now : ℕ) → now ≡ before → e ≢ file_error.Read → HasFaultCause {T = T} (λ x. x ≡ file_error.Read) before now (Err e)
+pub no_fault : {T : Type 0} (e : GatherError) (before now : ℕ) → now ≡ before → e ≢ gather.File file_error.Read → HasFaultCause {T = T} (λ x. x ≡ gather.File file_error.Read) before now (Err e)
 no_fault e before now same unread = record {
   later = omega (arith, same);
   failed = λ is. absurd (unread is);
@@ -86,3 +102,29 @@ every_passes s (row ∷ rows) = ap (λ rest. row ∷ rest) (every_passes s rows)
 pub if_some : {X : Type 0} (o : Option X) (P Q : X → Type 0) → ((x : X) → P x → Q x) → IfSome o P → IfSome o Q
 if_some None P Q f p = p
 if_some (Some x) P Q f p = f x p
+
+-- ---- why a row isn't put in
+
+-- it isn't a fault of a reader,
+pub group_unread : (g : GroupError) → gather_error g ≢ gather.File file_error.Read
+group_unread group_error.Sum e = cc e
+group_unread group_error.Memory e = cc e
+
+-- nor damage,
+pub group_undamaged : (g : GroupError) (d : Damage) → gather_error g ≡ gather.File (file_error.Damaged d) → ⊥
+group_undamaged group_error.Sum d e = cc e
+group_undamaged group_error.Memory d e = cc e
+
+-- and a sum only where it is one
+pub group_sum : (g : GroupError) → gather_error g ≡ gather.Sum → g ≡ group_error.Sum
+group_sum group_error.Sum e = refl
+group_sum group_error.Memory e = cc e
+
+-- an error of a file has the cause that it had there
+pub fault_of_file : {T U : Type 0} (e : FileError) (start before now : ℕ) → before ≡ start → HasFaultCause {T = U} (λ x. x ≡ file_error.Read) before now (Err e) → HasFaultCause {T = T} (λ x. x ≡ gather.File file_error.Read) start now (Err (gather.File e))
+fault_of_file e start before now same h = record {
+  later = omega (arith, same, h.later);
+  failed = λ is. subst (λ n. Rose n now) same (h.failed (cc is));
+  quiet = tt;
+  other = λ not. h.other (λ is. not (ap gather.File is)) ∙ same;
+}

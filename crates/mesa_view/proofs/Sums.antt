@@ -37,7 +37,7 @@ sums_so_far s given rows i row lt is keeps =
     sums_front s ((given ++ take i rows) ++ row ∷ []) left (subst (KeepsSums s) cut keeps)
 
 -- the matching rows of a file's first blocks are the first of all
-matching_split : {R : Type 0} (i : Input R) (f : KeyFilter) (all : List Row) (n : ℕ)
+pub matching_split : {R : Type 0} (i : Input R) (f : KeyFilter) (all : List Row) (n : ℕ)
     → filtered (columns_of i.evolving.value) f.terms (map (lift_by i) all) ≡ matching i f all n ++ filtered (columns_of i.evolving.value) f.terms (map (lift_by i) (rows_of (drop n (blocks_of (index_of i.reader).layout all))))
 matching_split i f all n =
     let blocks : List (List Row) = blocks_of (index_of i.reader).layout all in

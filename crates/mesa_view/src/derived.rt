@@ -1,5 +1,5 @@
 // The rows of a view, derived from a file of its table.
-ghost use Rattle.std.specs.Prelude.{◌≡◌, ◌⊎◌, ◌<◌, ℕ, List, length, map, slice_get, IfOk, IfErr, IfSome, IsTrue, Some};
+ghost use Rattle.std.specs.Prelude.{◌≡◌, ◌⊎◌, ◌<◌, ℕ, List, [], length, map, slice_get, IfOk, IfErr, IfSome, IsTrue, OnOk, Some};
 ghost use Rattle.mesa_fault.specs.Causes.{HasFaultCause};
 ghost use Rattle.mesa_file.specs.declared.damage.Damage.{Damage as AnyDamage};
 ghost use Rattle.mesa_schema.specs.declared.rows.Row.{Row as AnyRow};
@@ -7,19 +7,25 @@ ghost use Rattle.mesa_schema.specs.Changes.{columns_of};
 ghost use Rattle.mesa_schema.specs.Folded.{grouped};
 ghost use Rattle.mesa_schema.specs.Rows.{AreRowsOf};
 ghost use Rattle.mesa_schema.specs.Views.{view_columns, view_rows};
+ghost use Rattle.mesa_filter.specs.Filter.{filtered};
 ghost use Rattle.mesa_filter.specs.Query.{are_places};
 ghost use Rattle.mesa_delta.specs.declared.error.FileError.TheVariants as file_error;
 ghost use Rattle.mesa_delta.specs.Reading.{IsIndexed, index_of};
 ghost use Rattle.mesa_scan.specs.mesa_cursor.Cursors.{IsInput, IsSameInput, lift_by, reader_in};
 ghost use Rattle.mesa_scan.specs.Damaged.{IsDamaged};
+ghost use Rattle.mesa_scan.specs.Scanning.{IsFilterOf};
 ghost use Rattle.mesa_answer.specs.Answering.{KeepsSums, grouped_columns};
+ghost use Rattle.mesa_answer.specs.Gathered.{HasPut, wanted_of};
 ghost use Rattle.mesa_view.specs.SumDamage.{IsSumDamage};
 
+use crate::error::GatherError;
 use crate::filters::every_row;
 use crate::gathering::gather;
+use crate::putting::sum_damage;
 use mesa_answer::{Groups, Regrouping};
 use mesa_delta::{Ahead, FileError, Input};
 use mesa_disk::FileReader;
+use mesa_filter::Filter;
 use mesa_list::TryCopy;
 use mesa_schema::{RowList, Schema};
 use std::alloc::Global;
@@ -77,7 +83,39 @@ fn group_file<R: FileReader>(
 {
     let filter = every_row(alloc, table)?;
     let mut groups = Groups::all(alloc, table, columns, values)?;
-    let mut ahead = Ahead::new(alloc);
-    gather(alloc, &mut groups, input, 0, &filter, &mut ahead)?;
+    gather_alone(alloc, &mut groups, input, &filter)?;
     Ok(groups.into_rows()?)
+}
+
+// Puts an input's rows into groups that have no rows of other files: so this one is the newest that holds the key of a group whose sum leaves its type.
+fn gather_alone<R: FileReader>(
+    alloc: Global,
+    groups: &mut Groups,
+    input: &mut Input<R>,
+    filter: &Filter,
+) -> Result<(), FileError>
+    requires none { HasPut groups.old [] }
+    requires columns { (wanted_of groups.old).schema ≡ columns_of input.old.evolving.value }
+    requires input { IsInput R.bytes input.old }
+    requires filter { IsFilterOf input.old filter.now }
+    ensures put { OnOk result ((more : List AnyRow) × HasPut groups.new more
+        × ((b : List ℕ) (all : List AnyRow) → R.bytes (reader_in input.old) ≡ Some b → IsIndexed (index_of input.old.reader) all b
+        → more ≡ filtered (columns_of input.old.evolving.value) filter.now.terms (map (lift_by input.old) all))) }
+    ensures wanted { wanted_of groups.new ≡ wanted_of groups.old }
+    ensures input { IsInput R.bytes input.new }
+    ensures same { IsSameInput R.bytes input.old input.new }
+    ensures cause { HasFaultCause (λ e. e ≡ file_error.Read) (R.faults (reader_in input.old)) (R.faults (reader_in input.new)) result }
+    ensures damaged { IfErr result (λ e. (d : AnyDamage) → e ≡ file_error.Damaged d → IsDamaged R.bytes R.size input.old d ⊎ IsSumDamage (index_of input.old.reader).file d) }
+    ensures never { IfErr result (λ e. (d : AnyDamage) → e ≡ file_error.Damaged d → (b : List ℕ) (all : List AnyRow) → R.bytes (reader_in input.old) ≡ Some b → IsIndexed (index_of input.old.reader) all b
+        → KeepsSums (columns_of input.old.evolving.value) (filtered (columns_of input.old.evolving.value) filter.now.terms (map (lift_by input.old) all)) → ⊥) }
+{
+    let mut ahead = Ahead::new(alloc);
+    match gather(alloc, groups, input, 0, filter, &mut ahead) {
+        Ok(()) => Ok(()),
+        Err(GatherError::File(error)) => Err(error),
+        Err(GatherError::Sum) => {
+            let file = input.reader.index().file();
+            Err(FileError::Damaged(sum_damage(file)))
+        }
+    }
 }

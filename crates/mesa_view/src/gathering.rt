@@ -1,5 +1,5 @@
 // A file's matching rows put into groups as they are read.
-ghost use Rattle.std.specs.Prelude.{◌≡◌, ◌⊎◌, ◌++◌, ℕ, List, map, slice_get, OnOk, IfErr, Some};
+ghost use Rattle.std.specs.Prelude.{◌≡◌, ◌++◌, ℕ, List, map, OnOk, IfErr, Some, slice_get};
 ghost use Rattle.mesa_fault.specs.Causes.{HasFaultCause};
 ghost use Rattle.mesa_file.specs.declared.damage.Damage.{Damage as AnyDamage};
 ghost use Rattle.mesa_schema.specs.declared.rows.Row.{Row as AnyRow};
@@ -13,12 +13,14 @@ ghost use Rattle.mesa_scan.specs.Damaged.{IsDamaged};
 ghost use Rattle.mesa_scan.specs.Moving.{told_in};
 ghost use Rattle.mesa_scan.specs.Scanning.{IsFilterOf};
 ghost use Rattle.mesa_answer.specs.Answering.{KeepsSums};
-ghost use Rattle.mesa_answer.specs.Gathered.{HasPut, wanted_of};
-ghost use Rattle.mesa_view.specs.SumDamage.{IsSumDamage};
+ghost use Rattle.mesa_answer.specs.Gathered.{HasPut, key_at_hand, wanted_of};
+ghost use Rattle.mesa_answer.specs.Sums.{SumLeavesAmong};
+ghost use Rattle.mesa_view.specs.declared.error.GatherError.TheVariants as gather;
 
+use crate::error::GatherError;
 use crate::putting::put_rows;
 use mesa_answer::Groups;
-use mesa_delta::{Ahead, FileError, Input};
+use mesa_delta::{Ahead, Input};
 use mesa_disk::FileReader;
 use mesa_filter::Filter;
 use mesa_scan::Scan;
@@ -32,7 +34,7 @@ pub fn gather<R: FileReader>(
     place: usize,
     filter: &Filter,
     ahead: &mut Ahead,
-) -> Result<(), FileError>
+) -> Result<(), GatherError>
     requires gathering { (given : List AnyRow) × HasPut groups.old given }
     requires columns { (wanted_of groups.old).schema ≡ columns_of input.old.evolving.value }
     requires input { IsInput R.bytes input.old }
@@ -53,18 +55,22 @@ pub fn gather<R: FileReader>(
     ensures same { IsSameInput R.bytes input.old input.new }
     ensures size { R.size (reader_in input.new) ≡ R.size (reader_in input.old) }
 
-    // Read comes where the count of faults rose, and Damaged where the file isn't the recorded one or a sum would leave its type.
-    ensures cause { HasFaultCause (λ e. e ≡ file_error.Read) (R.faults (reader_in input.old)) (R.faults (reader_in input.new)) result }
-    ensures damaged { IfErr result (λ e. (d : AnyDamage) → e ≡ file_error.Damaged d → IsDamaged R.bytes R.size input.old d ⊎ IsSumDamage (index_of input.old.reader).file d) }
-    ensures never { IfErr result (λ e. (d : AnyDamage) → e ≡ file_error.Damaged d → (given : List AnyRow) → HasPut groups.old given
+    // Read comes where the count of faults rose, and Damaged where the file isn't the recorded one.
+    ensures cause { HasFaultCause (λ e. e ≡ gather.File file_error.Read) (R.faults (reader_in input.old)) (R.faults (reader_in input.new)) result }
+    ensures damaged { IfErr result (λ e. (d : AnyDamage) → e ≡ gather.File (file_error.Damaged d) → IsDamaged R.bytes R.size input.old d) }
+
+    // Sum comes where a sum really leaves its type with one of some rows, that of the group whose key is at hand then. Where the file is told and its index is true of it, these are the first of its matching rows, and together with those that were given they don't keep the bound.
+    ensures sum { IfErr result (λ e. e ≡ gather.Sum → (given : List AnyRow) → HasPut groups.old given → (more : List AnyRow) × SumLeavesAmong (wanted_of groups.old) given more (key_at_hand groups.new)
+        × ((b : List ℕ) (all : List AnyRow) → R.bytes (reader_in input.old) ≡ Some b → IsIndexed (index_of input.old.reader) all b
+        → (rest : List AnyRow) × (filtered (columns_of input.old.evolving.value) filter.now.terms (map (lift_by input.old) all) ≡ more ++ rest))) }
+    ensures never { IfErr result (λ e. e ≡ gather.Sum → (given : List AnyRow) → HasPut groups.old given
         → (b : List ℕ) (all : List AnyRow) → R.bytes (reader_in input.old) ≡ Some b → IsIndexed (index_of input.old.reader) all b
         → KeepsSums (columns_of input.old.evolving.value) (given ++ filtered (columns_of input.old.evolving.value) filter.now.terms (map (lift_by input.old) all)) → ⊥) }
 {
-    let file = input.reader.index().file();
     let mut scan = Scan::of(alloc, input, filter)?;
     'each_block: while !scan.is_over(input) {
         let rows = scan.next_block(input, place, ahead)?;
-        put_rows(groups, file, &rows)?;
+        put_rows(groups, &rows)?;
     }
     Ok(())
 }

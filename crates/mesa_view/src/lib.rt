@@ -2,11 +2,13 @@
 #![tactic(auto)]
 
 mod derived;
+mod error;
 mod filters;
 mod gathering;
 mod putting;
 
 pub use derived::derive;
+pub use error::GatherError;
 pub use filters::every_row;
 pub use gathering::gather;
-pub use putting::put_row;
+pub use putting::{put_row, sum_damage};

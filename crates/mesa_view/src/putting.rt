@@ -6,7 +6,9 @@ ghost use Rattle.mesa_schema.specs.Lent.{lent};
 ghost use Rattle.mesa_schema.specs.Rows.{AreRowsOf, IsRowOf};
 ghost use Rattle.mesa_delta.specs.declared.error.FileError.TheVariants as file_error;
 ghost use Rattle.mesa_answer.specs.Answering.{KeepsSums};
-ghost use Rattle.mesa_answer.specs.Gathered.{HasPut, wanted_of};
+ghost use Rattle.mesa_answer.specs.Gathered.{HasPut, key_at_hand, wanted_of};
+ghost use Rattle.mesa_answer.specs.Sums.{SumLeavesAmong};
+ghost use Rattle.mesa_answer.specs.declared.error.GroupError.TheVariants as group_error;
 ghost use Rattle.mesa_view.specs.SumDamage.{IsSumDamage};
 
 use mesa_answer::{GroupError, Groups};
@@ -30,27 +32,33 @@ pub fn put_row(groups: &mut Groups, file: FileId, row: LentRow) -> Result<(), Fi
     match groups.put(row) {
         Ok(()) => Ok(()),
         Err(GroupError::Memory) => Err(FileError::Memory),
-        Err(GroupError::Sum) => Err(FileError::Damaged(Damage {
-            file,
-            place: 0,
-            want: Seen::Fits,
-            found: Seen::Misfit(0),
-        })),
+        Err(GroupError::Sum) => Err(FileError::Damaged(sum_damage(file))),
+    }
+}
+
+/// The damage of a file whose rows make a sum leave its type: it can't be one of a sound store.
+pub fn sum_damage(file: FileId) -> Damage
+    ensures { IsSumDamage file result }
+{
+    Damage {
+        file,
+        place: 0,
+        want: Seen::Fits,
+        found: Seen::Misfit(0),
     }
 }
 
 // The rows of a file's block more, in their order.
-pub(crate) fn put_rows(groups: &mut Groups, file: FileId, rows: &Matching) -> Result<(), FileError>
+pub(crate) fn put_rows(groups: &mut Groups, rows: &Matching) -> Result<(), GroupError>
     requires gathering { (given : List AnyRow) × HasPut groups.old given }
     requires form { AreRowsOf (wanted_of groups.old).schema rows.now }
     ensures put { OnOk result ((given : List AnyRow) → HasPut groups.old given → HasPut groups.new (given ++ rows.now)) }
     ensures wanted { wanted_of groups.new ≡ wanted_of groups.old }
-    ensures unread { IfErr result (λ e. e ≢ file_error.Read) }
-    ensures damaged { IfErr result (λ e. (d : AnyDamage) → e ≡ file_error.Damaged d → IsSumDamage file d) }
-    ensures never { IfErr result (λ e. (d : AnyDamage) → e ≡ file_error.Damaged d → (given : List AnyRow) → HasPut groups.old given → KeepsSums (wanted_of groups.old).schema (given ++ rows.now) → ⊥) }
+    ensures sum { IfErr result (λ e. e ≡ group_error.Sum → (given : List AnyRow) → HasPut groups.old given → SumLeavesAmong (wanted_of groups.old) given rows.now (key_at_hand groups.new)) }
+    ensures never { IfErr result (λ e. e ≡ group_error.Sum → (given : List AnyRow) → HasPut groups.old given → KeepsSums (wanted_of groups.old).schema (given ++ rows.now) → ⊥) }
 {
     for i in 0..rows.len() {
-        put_row(groups, file, rows.row(i))?;
+        groups.put(rows.row(i))?;
     }
     Ok(())
 }

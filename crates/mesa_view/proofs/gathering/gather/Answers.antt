@@ -1,17 +1,18 @@
-use Rattle.std.proofs.Common.{◌≡◌, ◌∙◌, ◌++◌, List, append_assoc, ap, subst, sym, refl, inl, inr}
+use Rattle.std.proofs.Common.{◌≡◌, ◌∙◌, ◌++◌, List, append_assoc, ap, subst, sym, refl}
 use Rattle.std.proofs.lemmas.Result.{err_from_is_err_and}
 use Rattle.mesa_schema.specs.declared.rows.Row.{Row}
 use Rattle.mesa_schema.specs.Changes.{columns_of}
 use Rattle.mesa_schema.specs.Columns.{Columns}
 use Rattle.mesa_schema.specs.Rows.{AreRowsOf}
-use Rattle.mesa_delta.specs.Indexed.{Indexed}
 use Rattle.mesa_scan.specs.mesa_cursor.Cursors.{reader_in}
 use Rattle.mesa_scan.proofs.Onwards.{damaged_before, same_input}
 use Rattle.mesa_answer.specs.Answering.{KeepsSums}
-use Rattle.mesa_answer.specs.Gathered.{HasPut, wanted_of}
+use Rattle.mesa_answer.specs.Gathered.{HasPut, key_at_hand, wanted_of}
 use Rattle.mesa_answer.specs.Gathering.{Wanted}
-use Rattle.mesa_view.specs.SumDamage.{IsSumDamage}
-use Rattle.mesa_view.proofs.Blocks.{Gathers, given_all, given_bounded, more_form, no_fault}
+use Rattle.mesa_answer.specs.Sums.{SumLeavesAmong}
+use Rattle.mesa_answer.proofs.Leaving.{leaves_behind}
+use Rattle.mesa_view.specs.Gathering.{gather_error}
+use Rattle.mesa_view.proofs.Blocks.{Gathers, fault_of_file, given_all, given_bounded, given_first, group_sum, group_undamaged, group_unread, more_form, no_fault}
 use Rattle.mesa_view.proofs.Waiting.{own_now, waits_more}
 use Rattle.mesa_view.proofs.gathering.gather.Goals as goal
 
@@ -19,13 +20,23 @@ pub returns-in_err-rows-clause-damaged : goal.returns-in_err-rows-clause-damaged
 returns-in_err-rows-clause-damaged g c =
     let p = err_from_is_err_and c.from_residual-in_err-rows.result c.from_residual-in_err-rows.ensures.1 in
     let inv = c.each_block.invariant.gathers in
-    rw (p.1, p.2) (λ d e. inl (damaged_before g.R.FileReader.bytes g.R.FileReader.size c.args.input.now c.each_block.input d inv.same inv.size (c.in_err-rows.ensures.damaged d e)))
+    rw (p.1, p.2) (λ d e. damaged_before g.R.FileReader.bytes g.R.FileReader.size c.args.input.now c.each_block.input d inv.same inv.size (c.in_err-rows.ensures.damaged d (cc e)))
+
+pub returns-in_err-rows-clause-cause : goal.returns-in_err-rows-clause-cause
+returns-in_err-rows-clause-cause g c =
+    let p = err_from_is_err_and c.from_residual-in_err-rows.result c.from_residual-in_err-rows.ensures.1 in
+    let faults = g.R.FileReader.faults in
+    rw (p.1, p.2) (fault_of_file {T = Unit {0}} c.in_err-rows.field-0.0 _ _ _ c.each_block.invariant.gathers.faults c.in_err-rows.ensures.cause)
 
 pub returns-in_err-rows-clause-never : goal.returns-in_err-rows-clause-never
 returns-in_err-rows-clause-never g c =
     let p = err_from_is_err_and c.from_residual-in_err-rows.result c.from_residual-in_err-rows.ensures.1 in
-    let inv = c.each_block.invariant.gathers in
-    rw (p.1, p.2) (λ d e given h b all told indexed keeps. (damaged_before g.R.FileReader.bytes g.R.FileReader.size c.args.input.now c.each_block.input d inv.same inv.size (c.in_err-rows.ensures.damaged d e)).unsound b all told indexed)
+    rw (p.1, p.2) (λ e. cc e)
+
+pub returns-in_err-rows-clause-sum : goal.returns-in_err-rows-clause-sum
+returns-in_err-rows-clause-sum g c =
+    let p = err_from_is_err_and c.from_residual-in_err-rows.result c.from_residual-in_err-rows.ensures.1 in
+    rw (p.1, p.2) (λ e. cc e)
 
 pub put_rows-requires-clause-gathering : goal.put_rows-requires-clause-gathering
 put_rows-requires-clause-gathering g c = (c.requires.gathering.0 ++ c.each_block.invariant.gathers.given, c.each_block.invariant.gathers.put c.requires.gathering.0 c.requires.gathering.1)
@@ -48,13 +59,12 @@ pub returns-in_err-put_rows-clause-cause : goal.returns-in_err-put_rows-clause-c
 returns-in_err-put_rows-clause-cause g c =
     let p = err_from_is_err_and c.from_residual-in_err-put_rows.result c.from_residual-in_err-put_rows.ensures.1 in
     let faults = g.R.FileReader.faults in
-    rw (p.1, p.2) (no_fault {T = Unit {0}} c.in_err-put_rows.field-0.0 (faults (reader_in c.args.input.now)) (faults (reader_in c.next_block.new.input)) (c.in_ok-rows.ensures.cause.quiet ∙ c.each_block.invariant.gathers.faults) c.in_err-put_rows.ensures.unread)
+    rw (p.1, p.2) (no_fault {T = Unit {0}} (gather_error c.in_err-put_rows.field-0.0) (faults (reader_in c.args.input.now)) (faults (reader_in c.next_block.new.input)) (c.in_ok-rows.ensures.cause.quiet ∙ c.each_block.invariant.gathers.faults) (group_unread c.in_err-put_rows.field-0.0))
 
 pub returns-in_err-put_rows-clause-damaged : goal.returns-in_err-put_rows-clause-damaged
 returns-in_err-put_rows-clause-damaged g c =
     let p = err_from_is_err_and c.from_residual-in_err-put_rows.result c.from_residual-in_err-put_rows.ensures.1 in
-    let file = c.file-file.ensures ∙ ap (λ (x : Indexed). x.file) c.index.ensures in
-    rw (p.1, p.2) (λ d e. inr (subst (λ n. IsSumDamage n d) file (c.in_err-put_rows.ensures.damaged d e)))
+    rw (p.1, p.2) (λ d e. absurd (group_undamaged c.in_err-put_rows.field-0.0 d e))
 
 pub returns-in_err-put_rows-clause-never : goal.returns-in_err-put_rows-clause-never
 returns-in_err-put_rows-clause-never g c =
@@ -67,10 +77,26 @@ returns-in_err-put_rows-clause-never g c =
     let scanned = c.in_ok-rows.ensures.more inv.given inv.scanned in
     let schema : (wanted_of c.each_block.groups).schema ≡ columns_of start.evolving.value = ap (λ (w : Wanted). w.schema) inv.wanted ∙ c.requires.columns in
     let same = same_input bytes start c.each_block.input now inv.same c.next_block.ensures.same in
-    rw (p.1, p.2) (λ d e given h b all told indexed keeps.
+    rw (p.1, p.2) (λ e given h b all told indexed keeps.
     let bounded = given_bounded bytes start now c.args.filter.now c.next_block.new.self given (inv.given ++ rows) scanned (c.in_ok-rows.ensures.filter ∙ inv.filter) same b all told indexed keeps in
     let here : KeepsSums (columns_of start.evolving.value) ((given ++ inv.given) ++ rows) = subst (KeepsSums (columns_of start.evolving.value)) (sym (append_assoc given inv.given rows)) bounded in
-    c.in_err-put_rows.ensures.never d e (given ++ inv.given) (inv.put given h) (subst (λ (s : Columns). KeepsSums s ((given ++ inv.given) ++ rows)) (sym schema) here))
+    c.in_err-put_rows.ensures.never (group_sum c.in_err-put_rows.field-0.0 e) (given ++ inv.given) (inv.put given h) (subst (λ (s : Columns). KeepsSums s ((given ++ inv.given) ++ rows)) (sym schema) here))
+
+pub returns-in_err-put_rows-clause-sum : goal.returns-in_err-put_rows-clause-sum
+returns-in_err-put_rows-clause-sum g c =
+    let p = err_from_is_err_and c.from_residual-in_err-put_rows.result c.from_residual-in_err-put_rows.ensures.1 in
+    let bytes = g.R.FileReader.bytes in
+    let inv = c.each_block.invariant.gathers in
+    let start = c.args.input.now in
+    let now = c.next_block.new.input in
+    let rows : List Row = c.in_ok-rows.rows in
+    let scanned = c.in_ok-rows.ensures.more inv.given inv.scanned in
+    let same = same_input bytes start c.each_block.input now inv.same c.next_block.ensures.same in
+    let key = key_at_hand c.put_rows.new.groups in
+    rw (p.1, p.2) (λ e given h.
+    let here = c.in_err-put_rows.ensures.sum (group_sum c.in_err-put_rows.field-0.0 e) (given ++ inv.given) (inv.put given h) in
+    let leaves = leaves_behind (wanted_of c.args.groups.now) given inv.given rows key (subst (λ (w : Wanted). SumLeavesAmong w (given ++ inv.given) rows key) inv.wanted here) in
+    (inv.given ++ rows, leaves, given_first bytes start now c.args.filter.now c.next_block.new.self (inv.given ++ rows) scanned (c.in_ok-rows.ensures.filter ∙ inv.filter) same))
 
 pub each_block-preserved : goal.each_block-preserved
 each_block-preserved g c =
