@@ -3,11 +3,10 @@ use Rattle.std.proofs.Common.{◌≡◌, inl, inr, ⊎_elim, ◌≤◌, ℕ, Lis
 use Rattle.std.specs.Prelude.{◌↔◌}
 use Rattle.mesa_disk.specs.Image.{Image}
 use Rattle.mesa_disk.specs.Story.{Story}
-use Rattle.mesa_journal.proofs.Unique.{same_journal}
 use Rattle.mesa_words.specs.declared.forms.Form.TheVariants as form
 use Rattle.mesa_commit.specs.Images.{Has}
 use Rattle.mesa_image.specs.Catalog.{Catalog}
-use Rattle.mesa_image.specs.Fitting.{catalog, shelved}
+use Rattle.mesa_image.specs.Fitting.{shelved}
 use Rattle.mesa_image.specs.Sound.{AreStocked, IsSound, wants}
 use Rattle.mesa_opening.specs.declared.error.OpenError.{OpenError}
 use Rattle.mesa_opening.specs.declared.error.OpenError.TheVariants as open_error
@@ -20,15 +19,13 @@ use Rattle.mesa_ending.specs.Ending.{EndedReading, Ends, EndsCheck, Prints}
 use Rattle.mesa_ending.specs.Completing.{Decides, IsUndamaged, NoneRose}
 use Rattle.mesa_ending.specs.declared.done.Devices.{Devices}
 use Rattle.mesa_ending.specs.declared.done.Done.{Done}
+use Rattle.mesa_ending.proofs.Journals.{same_catalog}
 
 pub low_verdict : (fault : Option Fault) → verdict_status fault ≤ 1
 low_verdict None = omega arith
 low_verdict (Some f) = omega arith
 
 -- ---- there is no fault exactly where what is read is sound
-
-some_same : (o : Option Catalog) (c d : Catalog) → o ≡ Some c → o ≡ Some d → c ≡ d
-some_same o c d a b = cc
 
 none_low : (fault : Option Fault) → verdict_status fault ≡ 0 → fault ≡ None
 none_low None is = refl
@@ -38,12 +35,11 @@ module _ (story : Story) (c : Catalog) (fault : Option Fault) (reads : ReadsAs s
   faultless_sound : fault ≡ None → IsSound i
   faultless_sound none =
       let s = first.sound i told none in
-      record { bodies = reads.0; catalogue = c; rows = s.0; is = record { journal = (reads.1, reads.2.journal i told); records = reads.2.records; files = s.1; rows_are = s.2 } }
+      record { bodies = reads.1; catalogue = c; rows = s.0; is = record { live = reads.0; end = reads.2; journal = reads.3.journal i told; records = reads.3.records; files = s.1; rows_are = s.2 } }
 
   sound_faultless : IsSound i → fault ≡ None
   sound_faultless s =
-      let bodies : s.bodies ≡ reads.0 = same_journal i.zero s.bodies reads.0 s.is.journal.0 reads.1 s.is.journal.1 (reads.2.journal i told) in
-      let same : s.catalogue ≡ c = some_same (catalog s.bodies) s.catalogue c s.is.records (subst (λ (bs : List (List ℕ)). catalog bs ≡ Some c) (sym bodies) reads.2.records) in
+      let same : s.catalogue ≡ c = same_catalog i s.is.live reads.0 s.bodies reads.1 s.is.end reads.2 s.catalogue c s.is.journal (reads.3.journal i told) s.is.records reads.3.records in
       first.unsound i told (s.rows, subst (λ (k : Catalog). Has (wants s.rows (shelved k)) i) same s.is.files, subst (λ (k : Catalog). AreStocked s.rows k) same s.is.rows_are)
 
 -- The status of a verdict is 0 exactly there.
@@ -61,8 +57,8 @@ module _ {K D M B : Type 0} (ports : Ports K D M B) (g : Devices K D B) (done : 
 
   unread : IsUndamaged (ports.story g.disk) → (e : OpenError) → (e ≡ open_error.RunsFull → ⊥) → EndedReading ports g done e → Decides done
   unread is open_error.Fault other p = absurd (⊎_elim still.disk still.reads p.0.reason)
-  unread is (open_error.Journal area at want found) other p = absurd (⊎_elim (is.whole at want found) (is.fitting at want found) (p.0.reason.1 is.image is.told))
-  unread is (open_error.File d) other p = absurd (is.files d (p.0.reason is.image is.told))
+  unread is (open_error.Journal area at want found) other p = absurd (⊎_elim (is.whole p.0.reason.0 at want found) (is.fitting p.0.reason.0 at want found) (p.0.reason.2 is.image is.told))
+  unread is (open_error.File d) other p = absurd (is.files d (p.0.reason.0 is.image is.told))
   unread is open_error.RunsFull other p = absurd (other refl)
   unread is open_error.Memory other p = inr (printed _ _ p.1.2)
 

@@ -63,8 +63,8 @@ module _ {K D M B : Type 0} (ports : Ports K D M B) (g : Devices K D B) (done : 
     opening open_error.Fault p = absurd (⊎_elim nothing.disk nothing.reads p.0.reason)
     opening (open_error.Journal area at want found) p =
         let s = room.sound.start in
-        absurd (⊎_elim (sound_whole s.image s.bodies c rows at want found s.sound) (sound_fits s.image s.bodies c rows at want found s.sound) (p.0.reason.1 s.image s.told))
-    opening (open_error.File d) p = let s = room.sound.start in absurd (sound_undamaged s.image s.bodies c rows s.sound d (p.0.reason s.image s.told))
+        absurd (⊎_elim (sound_whole s.image s.bodies c rows p.0.reason.0 at want found s.sound) (sound_fits s.image s.bodies c rows p.0.reason.0 at want found s.sound) (p.0.reason.2 s.image s.told))
+    opening (open_error.File d) p = let s = room.sound.start in absurd (sound_undamaged s.image s.bodies c rows s.sound d (p.0.reason.0 s.image s.told))
     opening open_error.RunsFull p = absurd (let is = ap (λ (x : Catalog). x.run) (same p.0.reason.0 p.0.reason.1) in omega (arith, is, room.number, p.0.reason.2))
     opening open_error.Memory p = printed _ p.1
 

@@ -3,6 +3,7 @@ pub mod Small
 pub mod Alike
 pub mod WellFormed
 pub mod Empty
+mod Journals
 pub mod Unmoved
 pub mod Ends
 pub mod Undamaged

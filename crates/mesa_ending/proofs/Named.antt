@@ -1,13 +1,14 @@
 -- In every catalogue that bodies spell, no name of a table or of a value column has a line break.
-use Rattle.std.proofs.Common.{◌≡◌, ℕ, zero, suc, ◌+◌, List, [], ◌∷◌, take, drop, length, Option, Some, None, Result, Ok, Err, Bool, true, false, refl, sym, subst}
+use Rattle.std.proofs.Common.{◌≡◌, ℕ, zero, suc, ◌+◌, List, [], ◌∷◌, take, drop, length, Option, Some, None, Bool, true, false, refl, sym, subst}
 use Rattle.std.specs.Prelude.{unwrap_or}
 use Rattle.std.specs.List.{AllByRecursion}
 use Rattle.mesa_key.specs.Spelling.{AreBytes}
+use Rattle.mesa_disk.specs.declared.area.Area.{Area}
 use Rattle.mesa_schema.specs.declared.changes.Change.{Change}
 use Rattle.mesa_schema.specs.declared.changes.Change.TheVariants.{AddKey, AddValue, DropValue}
 use Rattle.mesa_schema.specs.declared.columns.ValueColumn.{ValueColumn}
 use Rattle.mesa_schema.specs.Columns.{Columns, place_of, value_names}
-use Rattle.mesa_schema.specs.Changes.{changed, columns_of}
+use Rattle.mesa_schema.specs.Changes.{changed, columns_after, columns_of}
 use Rattle.mesa_schema.proofs.Lists.{all_append, all_at, all_drop, all_map, all_set, all_so}
 use Rattle.mesa_schema.proofs.PresentRows.{columns_more}
 use Rattle.mesa_model.specs.declared.commands.Script.{Script}
@@ -15,13 +16,14 @@ use Rattle.mesa_skeleton.specs.Rows.{Rows}
 use Rattle.mesa_record.specs.declared.record.Record.{Record}
 use Rattle.mesa_record.specs.declared.record.Record.TheVariants as record_of
 use Rattle.mesa_record.specs.declared.record.Part.{Part}
-use Rattle.mesa_record.specs.declared.error.RecordError.{RecordError}
-use Rattle.mesa_record.specs.Reading.{record_at}
-use Rattle.mesa_record.specs.Rules.{IsNamed, IsTyped, IsTypedChange}
-use Rattle.mesa_record.proofs.RecordsBoth.{record_found}
-use Rattle.mesa_image.specs.Catalog.{Catalog, Delta, Stock, applied, empty_catalog, new_stock, no_stock, part_of, stock_at, stock_changed, stock_from, stock_loaded, stock_swapped, stocks_loaded, merged_delta}
+use Rattle.mesa_record.specs.declared.checkpoint.StatedTable.{StatedTable}
+use Rattle.mesa_record.specs.declared.checkpoint.Checkpoint.{Checkpoint}
+use Rattle.mesa_record.specs.Rules.{IsNamed, IsTyped, IsTypedChange, IsTypedCheckpoint, IsTypedTable}
+use Rattle.mesa_image.specs.Catalog.{Catalog, Delta, Stock, applied, new_stock, no_stock, part_of, stock_at, stock_changed, stock_from, stock_loaded, stock_swapped, stocks_loaded, merged_delta}
 use Rattle.mesa_image.specs.Contents.{kept_of, table_of}
-use Rattle.mesa_image.specs.Fitting.{applied_if, catalog, catalog_from, fits, read_record, then_bodies, with_body}
+use Rattle.mesa_image.specs.Checkpoint.{stated, stock_stated}
+use Rattle.mesa_image.specs.Journaled.{catalog}
+use Rattle.mesa_opening.proofs.mesa_image_laws.Wholes.{whole}
 use Rattle.mesa_excerpt.specs.Excerpt.{ArePlainColumns, HasPlainNames, IsPlainColumn, IsPlainTable}
 use Rattle.mesa_excerpt.specs.Lines.{IsUnbroken}
 use Rattle.mesa_excerpt.proofs.Breaks.{name_unbroken}
@@ -76,29 +78,28 @@ applied_plain c (record_of.Publish version parts) is typed = loaded_plain parts 
 applied_plain c (record_of.Swap table base from to epoch files) is typed =
     all_set IsPlainStock c.tables table (stock_swapped (stock_at c table) base to (merged_delta epoch files)) (swapped_plain (stock_at c table) base to (merged_delta epoch files) (stock_plain c table is)) is
 applied_plain c (record_of.Expire version) is typed = all_map IsPlainStock (stock_from version) c.tables (all_so IsPlainStock (λ t. IsPlainStock (stock_from version t)) c.tables (λ t its. its) is)
+applied_plain c (record_of.Checkpoint k) is typed = is
 applied_plain c (record_of.ExpireTable table version) is typed = all_set IsPlainStock c.tables table (stock_from version (stock_at c table)) (stock_plain c table is) is
 
-applied_same : (c d : Catalog) (r : Record) (fit : Bool) → applied_if c r fit ≡ Some d → applied c r ≡ d
-applied_same c d r true e = cc
-applied_same c d r false e = absurd cc
+-- ---- a checkpoint's tables
 
-body_plain : (c d : Catalog) (body : List ℕ) → AreBytes body → IsPlain c → with_body c body ≡ Some d → IsPlain d
-body_plain c d body bytes is e = by (record_at body) refl e
-  where
-    by : (o : Result Record RecordError) → record_at body ≡ o → read_record c o ≡ Some d → IsPlain d
-    by (Ok r) reads e = subst IsPlain (applied_same c d r (fits c r) e) (applied_plain c r is (record_found body r bytes reads).0.typed)
-    by (Err x) reads e = absurd cc
+changes_plain : (changes : List Change) (s : Columns) → AllByRecursion IsTypedChange changes → ArePlainColumns s → ArePlainColumns (columns_after s changes)
+changes_plain [] s typed is = is
+changes_plain (change ∷ changes) s typed is = changes_plain changes (changed s change) typed.1 (changed_plain s change typed.0 is)
 
-bodies_plain : (bodies : List (List ℕ)) (c d : Catalog) → AllByRecursion AreBytes bodies → IsPlain c → catalog_from c bodies ≡ Some d → IsPlain d
-unfolding catalog_from
-bodies_plain [] c d bytes is e = (let same : c ≡ d = cc in subst IsPlain same is)
-bodies_plain (body ∷ bodies) c d bytes is e = behind (with_body c body) refl e (λ b made rest. bodies_plain bodies b d bytes.1 (body_plain c b body bytes.0 is made) rest)
-  where
-    behind : (o : Option Catalog) → with_body c body ≡ o → then_bodies o (λ b. catalog_from b bodies) ≡ Some d → ((b : Catalog) → with_body c body ≡ Some b → catalog_from b bodies ≡ Some d → IsPlain d) → IsPlain d
-    behind None made e more = absurd cc
-    behind (Some b) made e more = more b made e
+stock_stated_plain : (next : ℕ) (t : StatedTable) → IsTypedTable t → IsPlainStock (stock_stated next t)
+stock_stated_plain next t typed = (
+  name_unbroken t.name typed.name,
+  changes_plain t.changes (record { keys = t.keys; values = t.values }) typed.columns.changes (all_so (λ (v : ValueColumn). IsNamed v.name) IsPlainColumn t.values (λ v named. name_unbroken v.name named) typed.columns.values),
+)
+
+stated_plain : (k : Checkpoint) → IsTypedCheckpoint k → IsPlain (stated k)
+stated_plain k typed = all_map IsPlainStock (stock_stated k.versions) k.tables (all_so IsTypedTable (λ t. IsPlainStock (stock_stated k.versions t)) k.tables (stock_stated_plain k.versions) typed.tables)
+
+bodies_plain : (area : Area) (bodies : List (List ℕ)) (c : Catalog) → AllByRecursion AreBytes bodies → catalog area bodies ≡ Some c → IsPlain c
+bodies_plain = whole IsPlain (λ c r is its fit. applied_plain c r is its.typed) tt (λ area k is fit. stated_plain k is.typed)
 
 -- a run over such a catalogue starts with such names
-pub start_plain : (script : Script) (c : Catalog) (rows : Rows) (bodies : List (List ℕ)) → AllByRecursion AreBytes bodies → catalog bodies ≡ Some c → HasPlainNames (start_of script c rows).warehouse.store
+pub start_plain : (script : Script) (c : Catalog) (rows : Rows) (area : Area) (bodies : List (List ℕ)) → AllByRecursion AreBytes bodies → catalog area bodies ≡ Some c → HasPlainNames (start_of script c rows).warehouse.store
 unfolding kept_of
-start_plain script c rows bodies bytes e = all_map IsPlainTable (table_of rows c.next) c.tables (bodies_plain bodies empty_catalog c bytes tt e)
+start_plain script c rows area bodies bytes e = all_map IsPlainTable (table_of rows c.next) c.tables (bodies_plain area bodies c bytes e)

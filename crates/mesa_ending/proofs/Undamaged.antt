@@ -13,7 +13,6 @@ use Rattle.mesa_schema.proofs.Lists.{all_so}
 use Rattle.mesa_block.specs.Layout.{Layout}
 use Rattle.mesa_block.specs.Spelling.{block}
 use Rattle.mesa_disk.specs.Image.{Image, file_of}
-use Rattle.mesa_journal.proofs.Unique.{same_journal}
 use Rattle.mesa_delta.specs.File.{file_bytes, file_tail}
 use Rattle.mesa_delta.specs.Indexed.{tail_length}
 use Rattle.mesa_delta.specs.Reading.{tail_place}
@@ -24,13 +23,14 @@ use Rattle.mesa_delta.proofs.Tailing.{foot_long}
 use Rattle.mesa_skeleton.specs.Rows.{Rows}
 use Rattle.mesa_commit.specs.Images.{Has}
 use Rattle.mesa_image.specs.Catalog.{Catalog}
-use Rattle.mesa_image.specs.Fitting.{Shelved, catalog, shelved, stock_shelved}
+use Rattle.mesa_image.specs.Fitting.{Shelved, shelved, stock_shelved}
 use Rattle.mesa_image.specs.Sound.{IsSoundAs, IsStocked, IsTold, bytes_of, layout_of, wants}
 use Rattle.mesa_opening.proofs.mesa_image_laws.Lists.{all_flat}
 use Rattle.mesa_opening.specs.mesa_shelf.declared.recorded.Recorded.{Recorded}
 use Rattle.mesa_opening.specs.mesa_shelf.Files.{recorded_of}
 use Rattle.mesa_opening.specs.Damages.{HasDamagedFile, IsFileDamage}
 use Rattle.mesa_opening.proofs.Reasons.{recorded_all}
+use Rattle.mesa_ending.proofs.Journals.{same_catalog}
 
 -- ---- the tail of a file
 
@@ -98,13 +98,9 @@ in_middle : {A : Type 0} (P : A → Type 0) (xs : List A) (x : A) (ys : List A) 
 in_middle P [] x ys all = all.0
 in_middle P (y ∷ xs) x ys all = in_middle P xs x ys all.1
 
-some_same : (o : Option Catalog) (c d : Catalog) → o ≡ Some c → o ≡ Some d → c ≡ d
-some_same o c d a b = cc
-
 pub sound_undamaged : (image : Image) (bodies : List (List ℕ)) (c : Catalog) (rows : Rows) → IsSoundAs image bodies c rows → (d : Damage) → HasDamagedFile image d → ⊥
 sound_undamaged image bodies c rows s d h =
-    let same_bodies : h.bodies ≡ bodies = same_journal image.zero h.bodies bodies h.end s.journal.0 h.journal s.journal.1 in
-    let same : c ≡ h.catalogue = some_same (catalog bodies) c h.catalogue s.records (subst (λ bs. catalog bs ≡ Some h.catalogue) same_bodies h.records) in
+    let same : c ≡ h.catalogue = same_catalog image s.live h.live bodies h.bodies s.end h.end c h.catalogue s.journal h.journal s.records h.records in
     let told = all_flat (IsTold rows) stock_shelved c.tables (all_so (IsStocked rows) (λ t. AllByRecursion (IsTold rows) (stock_shelved t)) c.tables (λ t stocked. stocked.files) s.rows_are) in
     let named = subst (λ (k : Catalog). AllByRecursion (IsWell image rows d) (map recorded_of (shelved k))) same (all_well image rows d (shelved c) told s.files) in
     let tested = recorded_all (IsWell image rows d) h.catalogue h.files h.recorded named in

@@ -3,7 +3,7 @@ use Rattle.std.proofs.Common.{◌≡◌, ⊎_elim, inl, inr, ℕ, ◌<◌, List,
 use Rattle.mesa_fault.specs.Causes.{last, Rose}
 use Rattle.mesa_disk.specs.Image.{Image}
 use Rattle.mesa_disk.specs.Story.{Story, Unmoved}
-use Rattle.mesa_disk.specs.declared.area.Area.TheVariants.{Zero}
+use Rattle.mesa_disk.specs.declared.area.Area.{Area}
 use Rattle.mesa_skeleton.specs.Rows.{Rows}
 use Rattle.mesa_image.specs.Catalog.{Catalog}
 use Rattle.mesa_opening.specs.declared.error.OpenError.{OpenError}
@@ -11,14 +11,14 @@ use Rattle.mesa_opening.specs.declared.error.OpenError.TheVariants as open_error
 use Rattle.mesa_opening.specs.Opening.{HasReason, IsRead, IsSoundStart, Keeps}
 
 module _ (old now : Story) (still : Unmoved old now) where
-  pub read_before : (bodies : List (List ℕ)) (end : ℕ) (c : Catalog) → IsRead now bodies end c → IsRead old bodies end c
-  read_before bodies end c r = record {
+  pub read_before : (live : Area) (bodies : List (List ℕ)) (end : ℕ) (c : Catalog) → IsRead now live bodies end c → IsRead old live bodies end c
+  read_before live bodies end c r = record {
     bytes = r.bytes;
     records = r.records;
     journal = λ i told. r.journal i (still.told ∙ told);
     files = λ i told. r.files i (still.told ∙ told);
-    gate = λ long. let len = still.len Zero in (let past = r.gate (omega (arith, len, long)) in omega (arith, len, past));
-    none = λ short. let len = still.len Zero in r.none (omega (arith, len, short));
+    gate = λ long. let len = still.len live in (let past = r.gate (omega (arith, len, long)) in omega (arith, len, past));
+    none = λ short. let len = still.len live in r.none (omega (arith, len, short));
   }
 
   pub sound_after : (c : Catalog) (rows : Rows) → IsSoundStart old c rows → IsSoundStart now c rows
@@ -43,7 +43,7 @@ module _ (old now : Story) (still : Unmoved old now) where
   pub reason_before : (later : Story) (e : OpenError) → now.faults ≡ old.faults → now.read_faults ≡ old.read_faults → HasReason now later e → HasReason old later e
   reason_before later open_error.Fault faults reads p =
       ⊎_elim (λ rose. inl (subst (λ n. Rose n later.faults) faults rose)) (λ rose. inr (subst (λ n. Rose n later.read_faults) reads rose)) p
-  reason_before later (open_error.Journal area at want found) faults reads p = (p.0, λ i told. p.1 i (still.told ∙ told))
-  reason_before later (open_error.File d) faults reads p = λ i told. p i (still.told ∙ told)
-  reason_before later open_error.RunsFull faults reads p = (p.0, (p.1.0, p.1.1, read_before p.1.0 p.1.1 p.0 p.1.2), p.2)
+  reason_before later (open_error.Journal area at want found) faults reads p = (p.0, p.1, λ i told. p.2 i (still.told ∙ told), p.3)
+  reason_before later (open_error.File d) faults reads p = (λ i told. p.0 i (still.told ∙ told), p.1)
+  reason_before later open_error.RunsFull faults reads p = (p.0, (p.1.0, p.1.1, p.1.2, read_before p.1.0 p.1.1 p.1.2 p.0 p.1.3), p.2)
   reason_before later open_error.Memory faults reads p = tt

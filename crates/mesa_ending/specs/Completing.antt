@@ -4,6 +4,7 @@ use Rattle.std.specs.List.{AllByRecursion}
 use Rattle.mesa_fault.specs.Causes.{Rose, last}
 use Rattle.mesa_disk.specs.Image.{Image}
 use Rattle.mesa_disk.specs.Story.{Story}
+use Rattle.mesa_disk.specs.declared.area.Area.{Area}
 use Rattle.mesa_disk.specs.mesa_file.declared.damage.Damage.{Damage}
 use Rattle.mesa_disk.specs.mesa_file.declared.damage.Seen.{Seen}
 use Rattle.mesa_model.specs.declared.commands.Script.{Script}
@@ -74,12 +75,12 @@ pub record NothingFailed {K D M B : Type 0} (ports : Ports K D M B) (given : Dev
 abbrev pub Completes : {K D B : Type 0} → Done K D B → Type 0
 Completes done = (done.status ≡ memory_status) ⊎ ((done.status ≤ refused_status) × AllQuiet done.history.items)
 
--- What a read of the store gives is told, and it isn't damaged: its journal isn't cut off, every record in it fits, and no file is damaged.
+-- What a read of the store gives is told, and it isn't damaged: neither area of its journal is cut off, every record of the live one fits, and no file is damaged.
 pub record IsUndamaged (story : Story) : Type 0 where
   pub image : Image
   pub told : story.told ≡ Some image
-  pub whole : (at : ℕ) (want found : Seen) → IsCutOff image.zero at want found → ⊥
-  pub fitting : (at : ℕ) (want found : Seen) → HasMisfit image.zero at want found → ⊥
+  pub whole : (area : Area) (at : ℕ) (want found : Seen) → IsCutOff image area at want found → ⊥
+  pub fitting : (area : Area) (at : ℕ) (want found : Seen) → HasMisfit image area at want found → ⊥
   pub files : (d : Damage) → HasDamagedFile image d → ⊥
 
 -- No count of the sink or the disk rose.

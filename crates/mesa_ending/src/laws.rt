@@ -31,11 +31,11 @@ pub fn stores_start_well_formed()
     ensures { (script : Script) (c : Catalog) (rows : Rows) → IsCatalog c → AreStocked rows c → IsWellFormed (start_of script c rows).warehouse }
 {}
 
-/// A store in which nothing was written is sound, it stands for what an empty store keeps, and a run starts
+/// A store in which nothing was written, in neither area of its journal, is sound, it stands for what an empty store keeps, and a run starts
 /// from nothing there.
 pub fn empty_stores_are_sound()
-    ensures sound { (image : AnyImage) → image.zero ≡ [] → IsSoundAs image [] empty_catalog no_rows }
-    ensures stands { (image : AnyImage) → image.zero ≡ [] → StandsFor image kept_at_first }
+    ensures sound { (image : AnyImage) → image.zero ≡ [] → image.one ≡ [] → IsSoundAs image [] empty_catalog no_rows }
+    ensures stands { (image : AnyImage) → image.zero ≡ [] → image.one ≡ [] → StandsFor image kept_at_first }
     ensures start { (script : Script) → start_of script empty_catalog no_rows ≡ nothing_there script }
 {}
 
