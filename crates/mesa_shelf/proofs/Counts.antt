@@ -13,7 +13,7 @@ use Rattle.mesa_schema.specs.declared.columns.ValueColumn.{ValueColumn}
 use Rattle.mesa_schema.specs.declared.views.View.{View}
 use Rattle.mesa_schema.specs.declared.views.ViewError.TheVariants.{NoKey, NoValue}
 use Rattle.mesa_schema.specs.Names.{has_name}
-use Rattle.mesa_schema.specs.Columns.{Columns, chosen, key_names, place_of, places_in, value_names}
+use Rattle.mesa_schema.specs.Columns.{Columns, aggs_of, chosen, key_names, place_of, places_in, value_names}
 use Rattle.mesa_schema.specs.Changes.{Lineage, columns_at, epoch_of}
 use Rattle.mesa_schema.specs.Lineages.{is_view_of}
 use Rattle.mesa_schema.specs.Views.{choice_checked, view_columns}
@@ -21,9 +21,10 @@ use Rattle.mesa_schema.proofs.Choices.{chosen-slot}
 use Rattle.mesa_schema.proofs.Maps.{is_some_position, position_map}
 use Rattle.mesa_schema.proofs.Passing.{passed_first, passed_unless}
 use Rattle.mesa_batch.proofs.NameNumbers.{position-within}
-use Rattle.mesa_batch.specs.Totals.{is_sum, over_bound, sum_bound, sum_places}
+use Rattle.mesa_batch.specs.Totals.{is_sum, over_bound, sum_bound, sum_places, sums_in}
 use Rattle.mesa_list.specs.Bytes.{same_bytes}
 use Rattle.mesa_shelf.specs.Meaning.{widths_of}
+use Rattle.mesa_shelf.specs.Stated.{sums_of}
 
 -- ---- value columns of an epoch
 
@@ -34,6 +35,12 @@ pub width_there : (l : Lineage) (epoch : ℕ) → epoch ≤ epoch_of l → epoch
 width_there l epoch h = let count = length-map-range_with_len (λ e. length (columns_at l e).values) 0 (epoch_of l + 1) in omega arith
 
 -- ---- sum columns
+
+pub sums_at : (l : Lineage) (epoch : ℕ) → epoch ≤ epoch_of l → get_or (sums_of l) epoch 0 ≡ sums_in (aggs_of (columns_at l epoch))
+sums_at l epoch h = get_or-map-range_with_len (λ e. sums_in (aggs_of (columns_at l e))) 0 (epoch_of l + 1) epoch epoch 0 (omega arith) (omega arith)
+
+pub sums_there : (l : Lineage) (epoch : ℕ) → epoch ≤ epoch_of l → epoch < length (sums_of l)
+sums_there l epoch h = let count = length-map-range_with_len (λ e. sums_in (aggs_of (columns_at l e))) 0 (epoch_of l + 1) in omega arith
 
 sum_cons : (i : ℕ) (agg : Agg) (aggs : List Agg) (n : ℕ) → length (sum_places (i + 1) aggs) ≡ n → length (sum_places i (agg ∷ aggs)) ≡ cond (is_sum agg) 1 0 + n
 sum_cons i Sum aggs n e = let first : length (sum_places i (Sum ∷ aggs)) ≡ suc (length (sum_places (i + 1) aggs)) = refl in omega arith

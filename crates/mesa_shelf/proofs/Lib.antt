@@ -13,4 +13,3 @@ pub mod Ranged
 pub mod Restored
 pub mod Stated
 pub mod Taken
-pub mod RestoredFits

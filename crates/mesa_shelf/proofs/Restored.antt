@@ -1,5 +1,5 @@
 -- A table that a checkpoint states.
-use Rattle.std.proofs.Common.{◌≡◌, ℕ, zero, suc, ◌+◌, ◌-◌, ◌*◌, ◌≤◌, ◌<◌, List, [], ◌∷◌, ◌++◌, length, map, take, refl, sym, ◌∙◌, ap, subst, arith, Bool, true, false}
+use Rattle.std.proofs.Common.{◌≡◌, ℕ, zero, suc, ◌+◌, ◌-◌, ◌*◌, ◌≤◌, ◌<◌, List, [], ◌∷◌, ◌++◌, length, map, refl, sym, ◌∙◌, ap, subst, arith, Bool, true, false}
 use Rattle.std.specs.Prelude.{◌==◌, ◌&&◌, ◌||◌, nat_le, nat_lt, replicate, Option, Some, None, option_map}
 use Rattle.std.specs.List.{list_all, range_with_len}
 use Rattle.std.specs.declared.alloc.Global.{Global}
@@ -17,8 +17,8 @@ use Rattle.mesa_record.specs.declared.checkpoint.StatedRange.{StatedRange}
 use Rattle.mesa_record.specs.declared.checkpoint.StatedSingle.{StatedSingle}
 use Rattle.mesa_record.specs.declared.checkpoint.StatedTable.{StatedTable}
 use Rattle.mesa_image.specs.Catalog.{Delta, empty_delta, end_in}
-use Rattle.mesa_image.specs.Checkpoint.{lineage_stated, range_stated, single_stated, singles_stated, start_stated, stock_stated, to_stated}
-use Rattle.mesa_image.specs.CheckpointFits.{are_singles, are_tens, base_fits, oldest_fits, plain, range_fits}
+use Rattle.mesa_image.specs.Checkpoint.{lineage_stated, range_stated, single_stated, singles_stated, stock_stated, to_stated}
+use Rattle.mesa_image.specs.CheckpointFits.{are_singles, are_tens, base_fits, oldest_fits, plain, range_fits, single_fits}
 use Rattle.mesa_shelf.specs.declared.table.Base.{Base}
 use Rattle.mesa_shelf.specs.declared.table.Loaded.{Loaded}
 use Rattle.mesa_shelf.specs.declared.table.Table.{Table}
@@ -106,11 +106,11 @@ loaded_rise from next (l ∷ ls) (s ∷ ss) rise same =
     let first : loaded_as l ≡ loaded_stated s = cc in
     let version : l.version ≡ s.version = ap (λ p. p.0) first in
     let others : map loaded_as ls ≡ map loaded_stated ss = cc in
-    let parts = both (nat_le from s.version) _ rise in
-    let more = both (nat_lt s.version next) _ parts.1 in
-    let low : from ≤ s.version = grind (arith, nat_tests, parts.0) in
-    let high : s.version < next = grind (arith, nat_tests, more.0) in
-    (omega (arith, low, version), omega (arith, high, version), loaded_rise (l.version + 1) next ls ss (ap (λ v. are_singles (v + 1) next ss) version ∙ more.1) others)
+    let parts = both (nat_le from s.version && nat_lt s.version next) (are_singles (s.version + 1) next ss) rise in
+    let within = both (nat_le from s.version) (nat_lt s.version next) parts.0 in
+    let low : from ≤ s.version = grind (arith, nat_tests, within.0) in
+    let high : s.version < next = grind (arith, nat_tests, within.1) in
+    (omega (arith, low, version), omega (arith, high, version), loaded_rise (l.version + 1) next ls ss (ap (λ v. are_singles (v + 1) next ss) version ∙ parts.1) others)
 
 -- ---- a table
 
@@ -176,4 +176,29 @@ restored_table next s t r =
       loaded = loaded_rise (start_of_base t.base) next t.loaded.items s.singles r.rise r.loaded;
       oldest = let below = there s.oldest next r.oldest_there in omega (arith, below, r.oldest);
       widths = r.widths ∙ ap widths_of (sym r.lineage);
+    }
+
+-- by what is made of each part of what is stated, with these columns and this first version behind the base
+pub restored_parts : (floor next : ℕ) (s : StatedTable) (t : Table) (l : Lineage) (start : ℕ) → l ≡ lineage_stated s → start ≡ start_of_base t.base
+    → t.name ≡ s.name → t.evolving.value ≡ l → t.widths ≡ widths_of l → t.totals ≡ s.totals → t.oldest ≡ s.oldest
+    → option_map ending_of t.base ≡ option_map range_stated s.base → map value_in t.cumulatives.items ≡ map delta_stated s.cumulatives → map loaded_as t.loaded.items ≡ map loaded_stated s.singles
+    → base_fits l s.oldest next s.base ≡ true → (are_tens start s.cumulatives && list_all (range_fits l next) s.cumulatives) ≡ true
+    → (are_singles start next s.singles && list_all (single_fits l) s.singles) ≡ true → (nat_le floor s.oldest && oldest_fits s.oldest next) ≡ true → IsRestored next s t
+restored_parts floor next s t l start is begins name lineage widths totals oldest base cumulatives loaded base_there ranges singles starts =
+    let tens = both (are_tens start s.cumulatives) (list_all (range_fits l next) s.cumulatives) ranges in
+    let rise = both (are_singles start next s.singles) (list_all (single_fits l) s.singles) singles in
+    record {
+      name = name;
+      lineage = lineage ∙ is;
+      widths = widths ∙ ap widths_of is;
+      totals = totals;
+      oldest = oldest;
+      base = base;
+      cumulatives = cumulatives;
+      loaded = loaded;
+      base_there = ap (λ x. base_fits x s.oldest next s.base) (sym is) ∙ base_there;
+      tens = ap (λ n. are_tens n s.cumulatives) (sym begins) ∙ tens.0;
+      ranges = ap (λ x. list_all (range_fits x next) s.cumulatives) (sym is) ∙ tens.1;
+      rise = ap (λ n. are_singles n next s.singles) (sym begins) ∙ rise.0;
+      oldest_there = (both (nat_le floor s.oldest) (oldest_fits s.oldest next) starts).1;
     }

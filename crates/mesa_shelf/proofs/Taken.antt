@@ -1,35 +1,14 @@
 -- Changes and views that are taken in one after the other.
-use Rattle.std.proofs.Common.{◌≡◌, ℕ, ◌≤◌, ◌<◌, List, [], ◌∷◌, ◌++◌, length, map, append_assoc, refl, sym, ◌∙◌, ap, arith, Bool, true, false}
-use Rattle.std.specs.Prelude.{◌&&◌, nat_le, is_ok, Result, Ok, Err}
-use Rattle.std.specs.List.{list_all}
-use Rattle.std.proofs.lemmas.Bool.Decides.{nat_tests}
-use Rattle.std.proofs.lemmas.List.{append-nil, map_push}
-use Rattle.mesa_list.specs.Checks.{◌>>◌, refuse_if}
+use Rattle.std.proofs.Common.{◌≡◌, ℕ, ◌+◌, ◌≤◌, suc, List, [], ◌∷◌, ◌++◌, length, map, append_assoc, sym, ◌∙◌, ap, arith, Bool, true, false}
+use Rattle.std.specs.Prelude.{◌&&◌, is_ok}
+use Rattle.std.specs.List.{list_all, range_with_len}
+use Rattle.std.proofs.lemmas.List.{append-nil, length_push, map_push}
 use Rattle.mesa_schema.specs.declared.changes.Change.{Change}
-use Rattle.mesa_schema.specs.declared.changes.ChangeError.{ChangeError}
-use Rattle.mesa_schema.specs.declared.changes.ChangeError.TheVariants.{EpochsFull}
 use Rattle.mesa_schema.specs.Columns.{Columns}
-use Rattle.mesa_schema.specs.Changes.{Lineage, change_checked, changed, columns_of, epoch_of, max_changes, rule_checked, with_change}
-use Rattle.mesa_schema.proofs.Passing.{passed_first}
+use Rattle.mesa_schema.specs.Changes.{Lineage, changed, columns_at, columns_of, epoch_of, max_changes, rule_checked, with_change}
 use Rattle.mesa_schema.proofs.PresentRows.{columns_more}
 use Rattle.mesa_image.specs.CheckpointFits.{changes_pass, plain}
-use Rattle.mesa_shelf.proofs.Restored.{rule_alone}
-
--- ---- one change
-
-stopped : {A E : Type 0} (r : Result A E) (b : Bool) (x e : E) → b ≡ false → (r >> refuse_if b x) ≡ Err e → is_ok r ≡ false
-stopped (Err y) b x e few no = refl
-stopped (Ok v) true x e few no = absurd (cc)
-stopped (Ok v) false x e few no = absurd (cc)
-
--- a change that is refused breaks its rule, where there is room for it
-pub rule_refused : (l : Lineage) (c : Change) (e : ChangeError) → epoch_of l < max_changes → change_checked l c ≡ Err e → is_ok (rule_checked l c) ≡ false
-rule_refused l c e few no =
-    let room : nat_le max_changes (epoch_of l) ≡ false = grind (arith, nat_tests) in
-    stopped (rule_checked l c) (nat_le max_changes (epoch_of l)) EpochsFull e room no
-
-pub rule_kept : (l : Lineage) (c : Change) → is_ok (change_checked l c) ≡ true → is_ok (rule_checked l c) ≡ true
-rule_kept l c ok = (passed_first (rule_checked l c) _ ok).0
+use Rattle.mesa_shelf.proofs.Restored.{counts_changed, rule_alone}
 
 -- ---- one change of those that are left
 
@@ -42,19 +21,36 @@ change_passes l m c left rest whole none is rule same all =
     ∙ sym (ap (λ b. b && changes_pass (changed (columns_of l) c) rest) alone)
     ∙ sym (ap (changes_pass (columns_of l)) is) ∙ all
 
-pub change_fails : (l : Lineage) (c : Change) (left rest : List Change) (whole : Bool) → l.views ≡ [] → left ≡ c ∷ rest → is_ok (rule_checked l c) ≡ false
-    → changes_pass (columns_of l) left ≡ whole → whole ≡ false
-change_fails l c left rest whole none is rule all =
-    let alone : is_ok (rule_checked (plain (columns_of l)) c) ≡ false = ap is_ok (sym (rule_alone l c none)) ∙ rule in
-    sym all ∙ ap (changes_pass (columns_of l)) is ∙ ap (λ b. b && changes_pass (changed (columns_of l) c) rest) alone
+-- the columns once a change more was taken in
+pub lineage_on : (first l m : Lineage) (c : Change) → l ≡ record first { changes = l.changes } → m ≡ with_change l c → m ≡ record first { changes = m.changes }
+lineage_on first l m c is same =
+    let more : m.changes ≡ l.changes ++ c ∷ [] = ap (λ (x : Lineage). x.changes) same in
+    same ∙ (λ i. record { begins = (is i).begins; first = (is i).first; changes = sym more i; views = (is i).views })
+
+pub changes_on : (l m : Lineage) (c : Change) (left rest whole : List Change) → m ≡ with_change l c → left ≡ c ∷ rest → l.changes ++ left ≡ whole → m.changes ++ rest ≡ whole
+changes_on l m c left rest whole same is all =
+    ap (λ (x : Lineage). x.changes ++ rest) same ∙ append_assoc l.changes (c ∷ []) rest ∙ ap (λ cs. l.changes ++ cs) (sym is) ∙ all
+
+pub few_on : (l m : Lineage) (c : Change) (left rest : List Change) → m ≡ with_change l c → left ≡ c ∷ rest → epoch_of l + length left ≤ max_changes → epoch_of m + length rest ≤ max_changes
+few_on l m c left rest same is few =
+    let now : epoch_of m ≡ l.begins + length (l.changes ++ c ∷ []) = ap epoch_of same in
+    let more : length (l.changes ++ c ∷ []) ≡ length l.changes + 1 = length_push l.changes c in
+    let one : length left ≡ suc (length rest) = ap length is in
+    omega (arith, few, now, more, one)
+
+-- what is counted of each epoch, with that of a change more
+pub counts_on : (f : Columns → ℕ) (l m : Lineage) (c : Change) (old new : List ℕ) → m ≡ with_change l c → old ≡ map (λ e. f (columns_at l e)) (range_with_len 0 (epoch_of l + 1)) → new ≡ old ++ f (columns_of m) ∷ []
+    → new ≡ map (λ e. f (columns_at m e)) (range_with_len 0 (epoch_of m + 1))
+counts_on f l m c old new same had more =
+    more ∙ (λ i. had i ++ f (columns_of (same i)) ∷ []) ∙ sym (counts_changed f l c) ∙ ap (λ (x : Lineage). map (λ e. f (columns_at x e)) (range_with_len 0 (epoch_of x + 1))) (sym same)
 
 -- ---- one of those that are left
 
 pub first_passes : {X : Type 0} (p : X → Bool) (x : X) (left rest : List X) (whole : Bool) → left ≡ x ∷ rest → p x ≡ true → list_all p left ≡ whole → list_all p rest ≡ whole
-first_passes p x left rest whole is yes all = sym (ap (λ b. b && list_all p rest) yes) ∙ sym (ap (list_all p) is) ∙ all
+first_passes p x left rest whole is passes all = sym (ap (λ b. b && list_all p rest) passes) ∙ sym (ap (list_all p) is) ∙ all
 
 pub first_fails : {X : Type 0} (p : X → Bool) (x : X) (left rest : List X) (whole : Bool) → left ≡ x ∷ rest → p x ≡ false → list_all p left ≡ whole → whole ≡ false
-first_fails p x left rest whole is no all = sym all ∙ ap (list_all p) is ∙ ap (λ b. b && list_all p rest) no
+first_fails p x left rest whole is fails all = sym all ∙ ap (list_all p) is ∙ ap (λ b. b && list_all p rest) fails
 
 -- what is made of one more, and what is left
 pub moved_on : {X Y Z : Type 0} (f : X → Z) (g : Y → Z) (old new : List X) (x : X) (left rest : List Y) (y : Y) (whole : List Z) → left ≡ y ∷ rest → new ≡ old ++ x ∷ [] → f x ≡ g y

@@ -31,17 +31,3 @@ pub either_else : (v a b r x : Bool) → v ≡ false → v ≡ (a || b) → x �
 either_else v true b r x is e h = absurd (cc)
 either_else v false true r x is e h = absurd (cc)
 either_else v false false r x is e h = h
-
--- tests that hold together, one of which fails
-pub fails_here : (a b : Bool) → a ≡ false → (a && b) ≡ false
-fails_here true b e = absurd (cc)
-fails_here false b e = refl
-
-pub fails_later : (a b : Bool) → b ≡ false → (a && b) ≡ false
-fails_later true b e = e
-fails_later false b e = refl
-
--- and of which all pass
-pub all_pass : (a b : Bool) → a ≡ true → b ≡ true → (a && b) ≡ true
-all_pass true b e h = h
-all_pass false b e h = absurd (cc)

@@ -3,7 +3,7 @@ ghost use Rattle.std.specs.Prelude.{◌≡◌, ◌≢◌, ◌&&◌, ◌≤◌, �
 ghost use Rattle.std.specs.List.{list_all};
 ghost use Rattle.mesa_image.specs.Checkpoint.{range_stated, single_stated, stock_stated};
 ghost use Rattle.mesa_image.specs.CheckpointFits.{are_singles as rise, are_tens as end_in_tens, base_fits, oldest_fits, range_fits, single_fits, table_fits};
-ghost use Rattle.mesa_shelf.specs.Meaning.{IsTable, ending_of, stock_of, tens_from};
+ghost use Rattle.mesa_shelf.specs.Meaning.{IsTable, ending_of, stock_of};
 ghost use Rattle.mesa_shelf.specs.Copied.{loaded_as, value_in};
 ghost use Rattle.mesa_shelf.specs.Stated.{delta_stated, loaded_stated};
 
@@ -12,7 +12,7 @@ use crate::table::start_behind;
 use crate::{Base, Delta, Loaded, Table};
 use mesa_list::Items;
 use mesa_record::{StatedRange, StatedSingle, StatedTable};
-use std::alloc::{AllocError, Global};
+use std::alloc::{AllocError, AllocFailed, Global};
 use std::collections::VecDeque;
 use std::sync::Arc;
 
@@ -31,6 +31,17 @@ impl From<AllocError> for RestoreError {
     ghost from_gives = { λ _ e. e ≡ Memory };
 
     fn from(_: AllocError) -> Self {
+        RestoreError::Memory
+    }
+}
+
+impl<T: Drop> From<AllocFailed<T>> for RestoreError {
+    ghost use Rattle.mesa_shelf.specs.declared.restoring.RestoreError.TheVariants.{Memory};
+    ghost use Rattle.std.specs.Prelude.{◌≡◌};
+
+    ghost from_gives = { λ _ e. e ≡ Memory };
+
+    fn from(_: AllocFailed<T>) -> Self {
         RestoreError::Memory
     }
 }
@@ -148,7 +159,7 @@ fn restore_cumulatives(
     requires { start ≤ 2 ^ 32 }
     ensures fits { OnOk result (IsTrue (end_in_tens start stated && list_all (range_fits columns.now.evolving next) stated)) }
     ensures refused { IfErr result (λ e. e ≢ RestoreError.Memory → (end_in_tens start stated && list_all (range_fits columns.now.evolving next) stated) ≡ false) }
-    ensures cumulatives { IfOk result (λ made. tens_from start made.items ≡ map range_stated stated) }
+    ensures cumulatives { IfOk result (λ made. map value_in made.items ≡ map delta_stated stated) }
 {
     if !are_tens(start, stated.as_slice()) {
         return Err(RestoreError::Misfit);

@@ -1,4 +1,4 @@
-use Rattle.std.proofs.Common.{◌≡◌, ◌^◌, ◌≤◌, drop}
+use Rattle.std.proofs.Common.{◌≡◌, drop}
 use Rattle.mesa_image.specs.CheckpointFits.{are_singles}
 use Rattle.mesa_shelf.proofs.restoring.are_singles.Given as goal
 
