@@ -1,6 +1,6 @@
 -- The answer over a relation's rows, by the rows that were put in.
-use Rattle.std.proofs.Common.{◌≡◌, ℕ, ◌<◌, ◌≤◌, get_or, List, [], ◌∷◌, ◌++◌, map, take, cond, refl, sym, ◌∙◌, ap, subst, arith, true, false}
-use Rattle.std.specs.Prelude.{Bool, filter, Option, None, Some, slice_get, sum_by, nat_abs, not, pos}
+use Rattle.std.proofs.Common.{◌≡◌, ℕ, ◌<◌, ◌≤◌, get_or, List, [], ◌∷◌, ◌++◌, map, take, cond, inl, inr, refl, sym, ◌∙◌, ap, subst, arith, true, false}
+use Rattle.std.specs.Prelude.{◌⊎◌, Bool, filter, Option, None, Some, slice_get, sum_by, nat_abs, not, pos}
 use Rattle.std.specs.List.{AllByRecursion}
 use Rattle.std.proofs.Math.Seq.{take-nil}
 use Rattle.std.proofs.lemmas.Bool.{le-ltb}
@@ -24,7 +24,10 @@ use Rattle.mesa_answer.specs.Gathering.{Wanted, wanted_by}
 use Rattle.mesa_tasks.specs.Inputs.{lineage_of}
 use Rattle.mesa_tasks.specs.Pins.{IsOfRelation, IsPinnedInput}
 use Rattle.mesa_tasks.specs.declared.querying.PinnedInput.{PinnedInput}
+use Rattle.mesa_file.specs.declared.damage.Damage.{Damage}
+use Rattle.mesa_query.specs.Files.{IsDamageIn}
 use Rattle.mesa_query.specs.Relation.{page_over, parts_pinned, parts_ungrouped}
+use Rattle.mesa_query.specs.Sums.{IsSumIn}
 use Rattle.mesa_query.proofs.Ungrouped.{pinned_ungrouped}
 
 -- ---- rows that are filtered again
@@ -127,3 +130,9 @@ sums_matching s t asked terms rows same is keeps =
     let weigh : Row → ℕ = λ (row : Row). nat_abs (get_or row.values c (pos 0)) in
     let all : sum_by weigh rows < sum_bound = keeps c p in
     omega (arith, all, sums_less weigh (λ (row : Row). meets (key_of (kinds_of s) row.key) terms) rows))
+
+-- damage told by what the groups were wanted for is told by the query
+pub sum_wanted : {R : Type 0} (bytes : R → Option (List ℕ)) (size : R → ℕ) (s schema : Columns) (q : BuiltQuery) (view : Option ℕ) (old new : List (PinnedInput R)) (w : Wanted) (terms : List Term) (d : Damage) → schema ≡ s → w ≡ wanted_by schema q → terms ≡ q.asked.terms
+    → IsDamageIn bytes size d old new ⊎ IsSumIn bytes w terms view old d → IsDamageIn bytes size d old new ⊎ IsSumIn bytes (wanted_by s q) q.asked.terms view old d
+sum_wanted bytes size s schema q view old new w terms d same wanted asked h =
+    elim h [ inl block ↦ inl block | inr sum ↦ inr (subst (λ (v : Wanted). IsSumIn bytes v q.asked.terms view old d) (wanted ∙ ap (λ (t : Columns). wanted_by t q) same) (subst (λ (ts : List Term). IsSumIn bytes w ts view old d) asked sum)) ]

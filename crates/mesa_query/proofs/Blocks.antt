@@ -30,6 +30,9 @@ use Rattle.mesa_scan.proofs.Blocks.{all_passing}
 use Rattle.mesa_answer.specs.declared.groups.Groups.{Groups}
 use Rattle.mesa_answer.specs.Answering.{KeepsSums}
 use Rattle.mesa_answer.specs.Gathered.{HasPut, wanted_of}
+use Rattle.mesa_answer.specs.Gathering.{Wanted}
+use Rattle.mesa_answer.specs.Sums.{SumLeavesAmong}
+use Rattle.mesa_answer.proofs.Leaving.{leaves_before, leaves_behind}
 use Rattle.mesa_answer.specs.Regrouping.{PlacesSeen, places_seen, row_under}
 use Rattle.mesa_answer.proofs.Forms.{row_spells}
 use Rattle.mesa_answer.proofs.Passing.{one_more_row}
@@ -174,3 +177,28 @@ keeps_front s f p before rows i row lt is keeps =
     ap (λ (xs : List Row). matching_rows f (map (row_under p) xs)) (sym (take-append-drop (i + 1) rows)) ∙ matching_more f p (take (i + 1) rows) (drop (i + 1) rows) in
     let all : KeepsSums s ((before ++ front) ++ others) = subst (KeepsSums s) (ap (λ (xs : List Row). before ++ xs) cut ∙ sym (append_assoc before front others)) keeps in
     subst (KeepsSums s) (ap (λ (xs : List Row). before ++ xs) (next_matching f p rows i row lt is) ∙ sym (append_assoc before (matching_rows f (map (row_under p) (take i rows))) (matching_rows f (row_under p row ∷ [])))) (sums_front s (before ++ front) others all)
+
+-- a sum that leaves its type with it leaves it among the block's
+pub leaves_front : (w : Wanted) (f : KeyFilter) (p : PlacesSeen) (before rows : List Row) (i : ℕ) (row : Row) (key : List ℕ) → i < length rows → row ≡ get_or rows i row
+    → SumLeavesAmong w (before ++ matching_rows f (map (row_under p) (take i rows))) (matching_rows f (row_under p row ∷ [])) key → SumLeavesAmong w before (matching_rows f (map (row_under p) rows)) key
+leaves_front w f p before rows i row key lt is leaves =
+    let front : List Row = matching_rows f (map (row_under p) (take (i + 1) rows)) in
+    let others : List Row = matching_rows f (map (row_under p) (drop (i + 1) rows)) in
+    let cut : matching_rows f (map (row_under p) rows) ≡ front ++ others =
+    ap (λ (xs : List Row). matching_rows f (map (row_under p) xs)) (sym (take-append-drop (i + 1) rows)) ∙ matching_more f p (take (i + 1) rows) (drop (i + 1) rows) in
+    let here = leaves_behind w before (matching_rows f (map (row_under p) (take i rows))) (matching_rows f (row_under p row ∷ [])) key leaves in
+    let first = subst (λ (xs : List Row). SumLeavesAmong w before xs key) (sym (next_matching f p rows i row lt is)) here in
+    subst (λ (xs : List Row). SumLeavesAmong w before xs key) (sym cut) (leaves_before w before front others key first)
+
+-- among the rows of one block more
+pub leaves_block : (w : Wanted) (f : KeyFilter) (p : PlacesSeen) (before given block : List Row) (key : List ℕ) → SumLeavesAmong w (before ++ matching_rows f (map (row_under p) given)) (matching_rows f (map (row_under p) block)) key
+    → SumLeavesAmong w before (matching_rows f (map (row_under p) (given ++ block))) key
+leaves_block w f p before given block key leaves =
+    subst (λ (xs : List Row). SumLeavesAmong w before xs key) (sym (matching_more f p given block)) (leaves_behind w before (matching_rows f (map (row_under p) given)) (matching_rows f (map (row_under p) block)) key leaves)
+
+-- what was given of a file that is told, as it matches, is the first of what matches
+pub matching_first : {R : Type 0} (bytes : R → Option (List ℕ)) (start now : Input R) (every f : KeyFilter) (p : PlacesSeen) (s : Scan) (given rows : List Row) → HasScanned bytes now s given → filter_of s ≡ every → every.terms ≡ [] → IsSameInput bytes start now
+    → IsTold (known_of bytes start) rows → (rest : List Row) × (matching_rows f (map (row_under p) (map (lift_by start) rows)) ≡ matching_rows f (map (row_under p) given) ++ rest)
+matching_first bytes start now every f p s given rows h filter none same told =
+    let first = given_first bytes start now every s given rows h filter none same told in
+    (matching_rows f (map (row_under p) first.0), ap (λ (xs : List Row). matching_rows f (map (row_under p) xs)) first.1 ∙ matching_more f p given first.0)

@@ -104,3 +104,14 @@ given_bounded s terms view files contents n d given lt long is e keeps =
     ap (filtered s terms) (ungrouped_split view files contents (suc n)) ∙ filtered-append s terms front others
     ∙ ap (λ (rows : List Row). rows ++ filtered s terms others) (first_more s terms view files contents n d lt long is ∙ ap (λ (rows : List Row). rows ++ more) (sym e)) in
     sums_front s (given ++ more) (filtered s terms others) (subst (KeepsSums s) cut keeps)
+
+-- What is given with the first rows of one file more are the first of all.
+pub given_front : {R : Type 0} (s : Columns) (terms : List Term) (view : Option ℕ) (files : List (PinnedInput R)) (contents : List (List Row)) (n : ℕ) (d : PinnedInput R) (given more rest : List Row) → n < length files → length contents ≡ length files → d ≡ get_or files n d
+    → given ≡ matching_first s terms view files contents n → filtered s terms (rows_ungrouped view d (get_or contents n [])) ≡ more ++ rest → (others : List Row) × (filtered s terms (rows_of (parts_ungrouped view files contents)) ≡ (given ++ more) ++ others)
+unfolding matching_first
+given_front s terms view files contents n d given more rest lt long is e f =
+    let front : List Row = rows_of (parts_ungrouped view (take (suc n) files) (take (suc n) contents)) in
+    let behind : List Row = rows_of (parts_ungrouped view (drop (suc n) files) (drop (suc n) contents)) in
+    let others : List Row = filtered s terms behind in
+    let these : filtered s terms front ≡ (given ++ more) ++ rest = first_more s terms view files contents n d lt long is ∙ (λ k. sym e k ++ f k) ∙ sym (append_assoc given more rest) in
+    (rest ++ others, ap (filtered s terms) (ungrouped_split view files contents (suc n)) ∙ filtered-append s terms front behind ∙ ap (λ (rows : List Row). rows ++ others) these ∙ append_assoc (given ++ more) rest others)

@@ -1,10 +1,10 @@
 -- Pinned files, one of which is read.
-use Rattle.std.proofs.Common.{◌≡◌, ℕ, zero, suc, ◌<◌, List, [], ◌∷◌, length, drop, get_or, set, refl, sym, ◌∙◌, ap, subst, arith, inl, inr}
-use Rattle.std.specs.Prelude.{IfSome, Option, Result, Some, slice_get}
+use Rattle.std.proofs.Common.{◌≡◌, ℕ, zero, suc, ◌+◌, ◌<◌, List, [], ◌∷◌, length, drop, get_or, set, refl, sym, ◌∙◌, ap, subst, arith, add-one, inl, inr}
+use Rattle.std.specs.Prelude.{Err, IfSome, Option, Result, Some, slice_get}
 use Rattle.std.specs.List.{AllByRecursion}
 use Rattle.std.proofs.Math.ListN.{get_or-map}
 use Rattle.std.proofs.Math.Seq.{map-set_same}
-use Rattle.std.proofs.lemmas.List.{length-map, map-set}
+use Rattle.std.proofs.lemmas.List.{length-map, length-set, map-set}
 use Rattle.mesa_fault.specs.Causes.{HasFaultCause}
 use Rattle.mesa_file.specs.declared.damage.Damage.{Damage}
 use Rattle.mesa_schema.specs.declared.rows.Row.{Row}
@@ -16,6 +16,7 @@ use Rattle.mesa_delta.specs.declared.error.FileError.{FileError}
 use Rattle.mesa_delta.specs.declared.error.FileError.TheVariants.{Read}
 use Rattle.mesa_delta.specs.declared.input.Input.{Input}
 use Rattle.mesa_scan.specs.mesa_cursor.Cursors.{IsSameInput, reader_in}
+use Rattle.mesa_scan.specs.Damaged.{IsDamaged}
 use Rattle.mesa_scan.specs.Moving.{moved_to, told_in}
 use Rattle.mesa_scan.proofs.Moving.{stays_input}
 use Rattle.mesa_scan.proofs.Onwards.{damaged_before}
@@ -25,8 +26,9 @@ use Rattle.mesa_merge.proofs.Causing.{cause_kept}
 use Rattle.mesa_merge.proofs.Inputs.{SameEnd, cause_at, faults_same, known_set}
 use Rattle.mesa_tasks.specs.declared.querying.PinnedInput.{PinnedInput}
 use Rattle.mesa_tasks.specs.Pins.{IsPinnedInput}
-use Rattle.mesa_view.specs.SumDamage.{IsSumDamage}
-use Rattle.mesa_query.specs.Files.{AreMoved, IsDamageIn, IsDamageOf, IsMoved, inputs_in, owns_in, tolds_of}
+use Rattle.mesa_view.specs.declared.error.GatherError.{GatherError}
+use Rattle.mesa_view.specs.declared.error.GatherError.TheVariants as gather
+use Rattle.mesa_query.specs.Files.{AreMoved, IsDamageIn, IsMoved, inputs_in, owns_in, tolds_of}
 use Rattle.mesa_query.specs.Relation.{rows_ungrouped}
 use Rattle.mesa_query.proofs.Owned.{pinned_after}
 
@@ -177,16 +179,15 @@ file_cause {R = R} faults start files n x d r q lt is stay cause same =
     (ap (faults_of faults) (sym (map-set (λ (file : PinnedInput R). file.input) files n x)))
     (cause_at faults (inputs_in files) n x.input d.input r q (input_within files n lt) here same)
 
-damage_before : {R : Type 0} (bytes : R → Option (List ℕ)) (size : R → ℕ) (d : Damage) (old new : PinnedInput R) → IsMoved bytes size old new → IsDamageOf bytes size d new → IsDamageOf bytes size d old
-damage_before bytes size d old new m (inl damaged) = inl (damaged_before bytes size old.input new.input d (moved_same bytes size old new m) m.size damaged)
-damage_before bytes size d old new m (inr sum) = inr (subst (λ (x : Indexed). IsSumDamage x.file d) (moved_same bytes size old new m).index sum)
+pub damage_before : {R : Type 0} (bytes : R → Option (List ℕ)) (size : R → ℕ) (d : Damage) (old new : PinnedInput R) → IsMoved bytes size old new → IsDamaged bytes size new.input d → IsDamaged bytes size old.input d
+damage_before bytes size d old new m damaged = damaged_before bytes size old.input new.input d (moved_same bytes size old new m) m.size damaged
 
 -- damage of one file, behind which no block was taken, is damage of the files
 pub file_damage : {R : Type 0} (bytes : R → Option (List ℕ)) (size : R → ℕ) (d : Damage) (start files : List (PinnedInput R)) (n : ℕ) (x i : PinnedInput R) → n < length files → length files ≡ length start → i ≡ get_or files n i
-    → AreMoved bytes size (drop n start) (drop n files) → IsDamageOf bytes size d i → IsDamageIn bytes size d start (set files n x)
+    → AreMoved bytes size (drop n start) (drop n files) → IsDamaged bytes size i.input d → IsDamageIn bytes size d start (set files n x)
 file_damage bytes size d start [] n x i lt long is left h = absurd (omega (arith, lt))
 file_damage bytes size d [] (y ∷ files) n x i lt long is left h = absurd (omega (arith, long))
-file_damage {R = R} bytes size d (file ∷ start) (y ∷ files) zero x i lt long is left h = inl (damage_before bytes size d file y left.0 (subst (IsDamageOf bytes size d) is h), left.1)
+file_damage {R = R} bytes size d (file ∷ start) (y ∷ files) zero x i lt long is left h = inl (damage_before bytes size d file y left.0 (subst (λ (f : PinnedInput R). IsDamaged bytes size f.input d) is h), left.1)
 file_damage bytes size d (file ∷ start) (y ∷ files) (suc n) x i lt long is left h = inr (file_damage bytes size d start files n x i (omega (arith, lt)) (omega (arith, long)) is left h)
 
 -- ---- what waits of them
@@ -231,3 +232,41 @@ there_of_file bytes start now n d known lt is = ap (λ (ks : List Known). slice_
 pub own_ahead : {R : Type 0} (bytes : R → Option (List ℕ)) (start now : List (PinnedInput R)) (n : ℕ) (d : PinnedInput R) (ahead : List Untested) → knowns_of bytes (inputs_in now) ≡ knowns_of bytes (inputs_in start) → n < length now → d ≡ get_or now n d
     → AreAhead (tolds_of (knowns_of bytes (inputs_in start))) ahead → AreOfFile (bytes (reader_in d.input)) (index_of d.input.reader) n ahead
 own_ahead bytes start now n d ahead known lt is h = of_file (tolds_of (knowns_of bytes (inputs_in start))) n (told_in bytes d.input) ahead (there_of_file bytes start now n d known lt is) h
+
+-- ---- errors of a file
+
+-- the cause of an error of a file, told as that error alone
+pub file_fault : {T U : Type 0} (e : GatherError) (f : FileError) (before now : ℕ) → e ≡ gather.File f → HasFaultCause {T = U} (λ x. x ≡ gather.File Read) before now (Err e) → HasFaultCause {T = T} (λ x. x ≡ Read) before now (Err f)
+file_fault e f before now is h = record {
+  later = h.later;
+  failed = λ read. h.failed (is ∙ ap gather.File read);
+  quiet = tt;
+  other = λ not. h.other (λ read. not (let same : gather.File f ≡ gather.File Read = sym is ∙ read in cc));
+}
+
+-- a sum is no fault
+pub sum_quiet : {U : Type 0} (e : GatherError) (before now : ℕ) → e ≡ gather.Sum → HasFaultCause {T = U} (λ x. x ≡ gather.File Read) before now (Err e) → now ≡ before
+sum_quiet e before now is h = h.other (λ read. cc)
+
+length_knowns : {R : Type 0} (bytes : R → Option (List ℕ)) (files : List (PinnedInput R)) → length (knowns_of bytes (inputs_in files)) ≡ length files
+length_knowns bytes [] = refl
+length_knowns bytes (file ∷ files) = ap suc (length_knowns bytes files)
+
+-- files of which as much is known are as many
+pub length_known : {R : Type 0} (bytes : R → Option (List ℕ)) (xs ys : List (PinnedInput R)) → knowns_of bytes (inputs_in xs) ≡ knowns_of bytes (inputs_in ys) → length xs ≡ length ys
+length_known bytes xs ys same = sym (length_knowns bytes xs) ∙ ap length same ∙ length_knowns bytes ys
+
+-- ---- one file more is read
+
+pub looked_more : {R : Type 0} (bytes : R → Option (List ℕ)) (size faults : R → ℕ) (s : Columns) (view : Option ℕ) (start files : List (PinnedInput R)) (i : ℕ) (x file : PinnedInput R) (ahead after : List Untested) → Looked bytes size faults s view start files i ahead
+    → i < length files → file ≡ get_or files i file → IsPinnedInput bytes s view x → IsSameInput bytes file.input x.input → x.own ≡ file.own → faults (reader_in x.input) ≡ faults (reader_in file.input)
+    → ((all : List Told) → slice_get all i ≡ Some (told_in bytes file.input) → AreAhead all ahead → AreAhead all after) → Looked bytes size faults s view start (set files i x) (i + 1) after
+looked_more bytes size faults s view start files i x file ahead after h lt is one same own stay waits = record {
+  pinned = all_set (IsPinnedInput bytes s view) files i x h.pinned one;
+  known = file_known bytes files i x file lt is same ∙ h.known;
+  own = own_set files i x file is own ∙ h.own;
+  faults = file_faults faults files i x file lt is stay ∙ h.faults;
+  count = length-set files i x ∙ h.count;
+  left = rw (add-one i) (left_more bytes size i start files x h.count h.left);
+  ahead = waits (tolds_of (knowns_of bytes (inputs_in start))) (there_of_file bytes start files i file h.known lt is) h.ahead;
+}

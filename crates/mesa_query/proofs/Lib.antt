@@ -3,5 +3,6 @@ pub mod Blocks
 pub mod Ungrouped
 pub mod Files
 pub mod Contents
+pub mod Holding
 pub mod Owned
 pub mod Answered

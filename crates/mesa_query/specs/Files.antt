@@ -2,13 +2,11 @@
 use Rattle.std.specs.Prelude.{◌≡◌, ◌⊎◌, ℕ, List, [], ◌∷◌, map, Bool, Option, ⊤}
 use Rattle.mesa_file.specs.declared.damage.Damage.{Damage}
 use Rattle.mesa_delta.specs.Ahead.{Told}
-use Rattle.mesa_delta.specs.Reading.{index_of}
 use Rattle.mesa_delta.specs.declared.input.Input.{Input}
 use Rattle.mesa_scan.specs.mesa_cursor.Cursors.{reader_in}
 use Rattle.mesa_scan.specs.Damaged.{IsDamaged}
 use Rattle.mesa_scan.specs.Moving.{moved_to}
 use Rattle.mesa_merge.specs.Inputs.{Known}
-use Rattle.mesa_view.specs.SumDamage.{IsSumDamage}
 use Rattle.mesa_tasks.specs.declared.querying.PinnedInput.{PinnedInput}
 
 -- the inputs that read them
@@ -18,10 +16,6 @@ inputs_in files = map (λ file. file.input) files
 -- which of them are the relation's own
 abbrev pub owns_in : {R : Type 0} → List (PinnedInput R) → List Bool
 owns_in files = map (λ file. file.own) files
-
--- Damage of a file: it isn't the recorded one, or a sum would leave its type at a row of it.
-abbrev pub IsDamageOf : {R : Type 0} → (R → Option (List ℕ)) → (R → ℕ) → Damage → PinnedInput R → Type 0
-IsDamageOf bytes size d file = IsDamaged bytes size file.input d ⊎ IsSumDamage (index_of file.input.reader).file d
 
 -- what is known of the files that are read
 abbrev pub tolds_of : List Known → List Told
@@ -40,8 +34,8 @@ AreMoved bytes size [] (now ∷ new) = ⊥
 AreMoved bytes size (file ∷ old) [] = ⊥
 AreMoved bytes size (file ∷ old) (now ∷ new) = IsMoved bytes size file now × AreMoved bytes size old new
 
--- Damage of one of the files, at which reading ended: of those behind it no block was taken, though some may have been read ahead.
+-- Damage of one of the files, which isn't the recorded one, and at which reading ended: of those behind it no block was taken, though some may have been read ahead.
 abbrev pub IsDamageIn : {R : Type 0} → (R → Option (List ℕ)) → (R → ℕ) → Damage → List (PinnedInput R) → List (PinnedInput R) → Type 0
 IsDamageIn bytes size d [] new = ⊥
 IsDamageIn bytes size d (file ∷ old) [] = ⊥
-IsDamageIn bytes size d (file ∷ old) (now ∷ new) = (IsDamageOf bytes size d file × AreMoved bytes size old new) ⊎ IsDamageIn bytes size d old new
+IsDamageIn bytes size d (file ∷ old) (now ∷ new) = (IsDamaged bytes size file.input d × AreMoved bytes size old new) ⊎ IsDamageIn bytes size d old new

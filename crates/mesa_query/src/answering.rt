@@ -1,5 +1,5 @@
 // A query answered from its pinned files.
-ghost use Rattle.std.specs.Prelude.{◌≡◌, List, IfOk, IfErr};
+ghost use Rattle.std.specs.Prelude.{◌≡◌, ◌⊎◌, List, IfOk, IfErr};
 ghost use Rattle.std.specs.List.{AllByRecursion};
 ghost use Rattle.mesa_file.specs.declared.damage.Damage.{Damage as AnyDamage};
 ghost use Rattle.mesa_schema.specs.declared.rows.Row.{Row as AnyRow};
@@ -11,9 +11,11 @@ ghost use Rattle.mesa_delta.specs.declared.error.FileError.TheVariants as file_e
 ghost use Rattle.mesa_merge.specs.Faults.{HaveFaultCause, faults_of};
 ghost use Rattle.mesa_merge.specs.Inputs.{AreTold, knowns_of};
 ghost use Rattle.mesa_answer.specs.Answering.{KeepsSums, grouped_columns};
+ghost use Rattle.mesa_answer.specs.Gathering.{wanted_by};
 ghost use Rattle.mesa_tasks.specs.Pins.{IsPinned, IsPinnedInput};
 ghost use Rattle.mesa_query.specs.Files.{IsDamageIn, inputs_in, owns_in};
 ghost use Rattle.mesa_query.specs.Relation.{page_over, parts_pinned, parts_ungrouped};
+ghost use Rattle.mesa_query.specs.Sums.{IsSumIn};
 
 use crate::gathering::gather_all;
 use crate::relation::relation_columns;
@@ -41,9 +43,10 @@ pub fn answer<R: FileReader>(alloc: Global, pinned: &mut Pinned<R>) -> Result<Pa
     ensures known { knowns_of R.bytes (inputs_in pinned.new.inputs.items) ≡ knowns_of R.bytes (inputs_in pinned.old.inputs.items) }
     ensures own { owns_in pinned.new.inputs.items ≡ owns_in pinned.old.inputs.items }
 
-    // Read comes where the count of faults of a reader rose, and Damaged where a file isn't the recorded one or a sum would leave its type; no file behind that one is read. It never comes where all files are told and true and the absolute values of the rows add up to an amount in each sum column.
+    // Read comes where the count of faults of a reader rose, and Damaged where a file isn't the recorded one, and no block was taken of those behind it, or where a sum would leave its type, and then of the newest file that holds its group. It never comes where all files are told and true and the absolute values of the rows add up to an amount in each sum column.
     ensures cause { HaveFaultCause (λ e. e ≡ file_error.Read) (faults_of R.faults (inputs_in pinned.old.inputs.items)) (faults_of R.faults (inputs_in pinned.new.inputs.items)) result }
-    ensures damaged { IfErr result (λ e. (d : AnyDamage) → e ≡ file_error.Damaged d → IsDamageIn R.bytes R.size d pinned.old.inputs.items pinned.new.inputs.items) }
+    ensures damaged { IfErr result (λ e. (d : AnyDamage) → e ≡ file_error.Damaged d → (s : Columns) → IsPinned R.bytes s pinned.old
+        → IsDamageIn R.bytes R.size d pinned.old.inputs.items pinned.new.inputs.items ⊎ IsSumIn R.bytes (wanted_by s pinned.old.query) pinned.old.query.asked.terms pinned.old.view pinned.old.inputs.items d) }
     ensures never { IfErr result (λ e. (d : AnyDamage) → e ≡ file_error.Damaged d → (s : Columns) → IsPinned R.bytes s pinned.old → (contents : List (List AnyRow)) → AreTold (knowns_of R.bytes (inputs_in pinned.old.inputs.items)) contents
         → KeepsSums s (rows_of (parts_ungrouped pinned.old.view pinned.old.inputs.items contents)) → ⊥) }
 {
@@ -65,7 +68,8 @@ fn answer_from<R: FileReader>(
     ensures known { knowns_of R.bytes (inputs_in files.new) ≡ knowns_of R.bytes (inputs_in files.old) }
     ensures own { owns_in files.new ≡ owns_in files.old }
     ensures cause { HaveFaultCause (λ e. e ≡ file_error.Read) (faults_of R.faults (inputs_in files.old)) (faults_of R.faults (inputs_in files.new)) result }
-    ensures damaged { IfErr result (λ e. (d : AnyDamage) → e ≡ file_error.Damaged d → IsDamageIn R.bytes R.size d files.old files.new) }
+    ensures damaged { IfErr result (λ e. (d : AnyDamage) → e ≡ file_error.Damaged d → (s : Columns) → IsQueryOf s query.now → AllByRecursion (IsPinnedInput R.bytes s view) files.old
+        → IsDamageIn R.bytes R.size d files.old files.new ⊎ IsSumIn R.bytes (wanted_by s query.now) query.now.asked.terms view files.old d) }
     ensures never { IfErr result (λ e. (d : AnyDamage) → e ≡ file_error.Damaged d → (s : Columns) → IsQueryOf s query.now → AllByRecursion (IsPinnedInput R.bytes s view) files.old → (contents : List (List AnyRow)) → AreTold (knowns_of R.bytes (inputs_in files.old)) contents
         → KeepsSums s (rows_of (parts_ungrouped view files.old contents)) → ⊥) }
 {

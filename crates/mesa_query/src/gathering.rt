@@ -1,5 +1,5 @@
 // Pinned files put into the groups of a query, one after the other.
-ghost use Rattle.std.specs.Prelude.{◌≡◌, ◌++◌, [], List, slice_get, OnOk, IfErr, Some};
+ghost use Rattle.std.specs.Prelude.{◌≡◌, ◌⊎◌, ◌+◌, ◌++◌, ◌<◌, [], ℕ, List, drop, length, slice_get, Err, OnOk, IfErr, IsTrue, Some};
 ghost use Rattle.std.specs.List.{AllByRecursion};
 ghost use Rattle.mesa_fault.specs.Causes.{HasFaultCause};
 ghost use Rattle.mesa_file.specs.declared.damage.Damage.{Damage as AnyDamage};
@@ -7,19 +7,26 @@ ghost use Rattle.mesa_schema.specs.declared.rows.Row.{Row as AnyRow};
 ghost use Rattle.mesa_schema.specs.Columns.{kinds_of};
 ghost use Rattle.mesa_schema.specs.Folded.{rows_of};
 ghost use Rattle.mesa_filter.specs.Filter.{filtered};
+ghost use Rattle.mesa_filter.specs.Query.{are_places};
 ghost use Rattle.mesa_delta.specs.Ahead.{AreAhead, AreOfFile, Told as AnyTold};
 ghost use Rattle.mesa_delta.specs.Reading.{index_of};
 ghost use Rattle.mesa_delta.specs.declared.error.FileError.TheVariants as file_error;
 ghost use Rattle.mesa_scan.specs.mesa_cursor.Cursors.{IsSameInput, reader_in};
+ghost use Rattle.mesa_scan.specs.Damaged.{IsDamaged};
 ghost use Rattle.mesa_scan.specs.Moving.{told_in};
 ghost use Rattle.mesa_merge.specs.Faults.{HaveFaultCause, faults_of};
 ghost use Rattle.mesa_merge.specs.Inputs.{AreTold, IsTold, known_of, knowns_of};
 ghost use Rattle.mesa_answer.specs.Answering.{KeepsSums};
-ghost use Rattle.mesa_answer.specs.Gathered.{HasPut, wanted_of};
+ghost use Rattle.mesa_answer.specs.Gathered.{HasPut, key_at_hand, wanted_of};
+ghost use Rattle.mesa_answer.specs.Sums.{SumLeavesAmong};
 ghost use Rattle.mesa_tasks.specs.Pins.{IsPinnedInput};
-ghost use Rattle.mesa_query.specs.Files.{AreMoved, IsDamageIn, IsDamageOf, IsMoved, inputs_in, owns_in, tolds_of};
+ghost use Rattle.mesa_query.specs.Files.{AreMoved, IsDamageIn, IsMoved, inputs_in, owns_in, tolds_of};
 ghost use Rattle.mesa_query.specs.Relation.{parts_ungrouped, rows_ungrouped};
+ghost use Rattle.mesa_query.specs.Sums.{IsNewestFrom, IsSumIn, rows_matching};
+ghost use Rattle.mesa_view.specs.SumDamage.{IsSumDamage};
+ghost use Rattle.mesa_view.specs.declared.error.GatherError.TheVariants as gather;
 
+use crate::newest::newest_from;
 use crate::regrouped::gather_regrouped;
 use mesa_answer::Groups;
 use mesa_delta::{Ahead, FileError};
@@ -27,10 +34,10 @@ use mesa_disk::FileReader;
 use mesa_filter::Filter;
 use mesa_scan::read_ahead;
 use mesa_tasks::PinnedInput;
-use mesa_view::gather;
+use mesa_view::{GatherError, gather, sum_damage};
 use std::alloc::Global;
 
-// Puts the matching rows of all files into groups.
+// Puts the matching rows of all files into groups. A sum that would leave its type is told of the newest file that holds its group.
 pub(crate) fn gather_all<R: FileReader>(
     alloc: Global,
     groups: &mut Groups,
@@ -48,7 +55,7 @@ pub(crate) fn gather_all<R: FileReader>(
     ensures known { knowns_of R.bytes (inputs_in files.new) ≡ knowns_of R.bytes (inputs_in files.old) }
     ensures own { owns_in files.new ≡ owns_in files.old }
     ensures cause { HaveFaultCause (λ e. e ≡ file_error.Read) (faults_of R.faults (inputs_in files.old)) (faults_of R.faults (inputs_in files.new)) result }
-    ensures damaged { IfErr result (λ e. (d : AnyDamage) → e ≡ file_error.Damaged d → IsDamageIn R.bytes R.size d files.old files.new) }
+    ensures damaged { IfErr result (λ e. (d : AnyDamage) → e ≡ file_error.Damaged d → IsDamageIn R.bytes R.size d files.old files.new ⊎ IsSumIn R.bytes (wanted_of groups.old) filter.now.terms view files.old d) }
     ensures never { IfErr result (λ e. (d : AnyDamage) → e ≡ file_error.Damaged d → (contents : List (List AnyRow)) → AreTold (knowns_of R.bytes (inputs_in files.old)) contents
         → KeepsSums (wanted_of groups.old).schema (filtered (wanted_of groups.old).schema filter.now.terms (rows_of (parts_ungrouped view files.old contents))) → ⊥) }
 {
@@ -56,7 +63,13 @@ pub(crate) fn gather_all<R: FileReader>(
     let mut looked = 0;
     'each_file: for i in 0..files.len() {
         look_ahead(files, i, filter, &mut looked, &mut ahead)?;
-        gather_one(alloc, groups, view, &mut files[i], i, filter, &mut ahead)?;
+        match gather_one(alloc, groups, view, &mut files[i], i, filter, &mut ahead) {
+            Ok(()) => {}
+            Err(GatherError::File(error)) => return Err(error),
+            Err(GatherError::Sum) => {
+                return Err(sum_fault(alloc, groups, view, files, i, filter, &mut ahead));
+            }
+        }
     }
     Ok(())
 }
@@ -121,8 +134,36 @@ fn read_of_file<R: FileReader>(
     read_ahead(&mut file.input, place, None, ahead)
 }
 
+// The damage of a sum that would leave its type in this file, whose group is at hand; or what comes of reading the files behind it.
+fn sum_fault<R: FileReader>(
+    alloc: Global,
+    groups: &Groups,
+    view: Option<u8>,
+    files: &mut [PinnedInput<R>],
+    from: usize,
+    filter: &Filter,
+    ahead: &mut Ahead,
+) -> FileError
+    requires within { from < length files.old }
+    requires columns { IsTrue (are_places (wanted_of groups.now).schema.keys (wanted_of groups.now).columns) }
+    requires files { AllByRecursion (IsPinnedInput R.bytes (wanted_of groups.now).schema view) files.old }
+    requires filter { filter.now.kinds ≡ kinds_of (wanted_of groups.now).schema }
+    requires ahead { AreAhead (tolds_of (knowns_of R.bytes (inputs_in files.old))) ahead.old }
+    ensures pinned { AllByRecursion (IsPinnedInput R.bytes (wanted_of groups.now).schema view) files.new }
+    ensures known { knowns_of R.bytes (inputs_in files.new) ≡ knowns_of R.bytes (inputs_in files.old) }
+    ensures own { owns_in files.new ≡ owns_in files.old }
+    ensures cause { HaveFaultCause {T = Unit {0}} (λ e. e ≡ file_error.Read) (faults_of R.faults (inputs_in files.old)) (faults_of R.faults (inputs_in files.new)) (Err result) }
+    ensures damaged { (d : AnyDamage) → result ≡ file_error.Damaged d → IsDamageIn R.bytes R.size d (drop (from + 1) files.old) (drop (from + 1) files.new)
+        ⊎ ((id : ℕ) × IsNewestFrom R.bytes (wanted_of groups.now) filter.now.terms view (key_at_hand groups.now) from files.old id × IsSumDamage id d) }
+{
+    match newest_from(alloc, groups, view, files, from, filter, ahead) {
+        Ok(file) => FileError::Damaged(sum_damage(file)),
+        Err(error) => error,
+    }
+}
+
 // Puts the matching rows of a file into groups: the relation's own, or its table's.
-fn gather_one<R: FileReader>(
+pub(crate) fn gather_one<R: FileReader>(
     alloc: Global,
     groups: &mut Groups,
     view: Option<u8>,
@@ -130,7 +171,7 @@ fn gather_one<R: FileReader>(
     place: usize,
     filter: &Filter,
     ahead: &mut Ahead,
-) -> Result<(), FileError>
+) -> Result<(), GatherError>
     requires gathering { (given : List AnyRow) × HasPut groups.old given }
     requires file { IsPinnedInput R.bytes (wanted_of groups.old).schema view file.old }
     requires filter { filter.now.kinds ≡ kinds_of (wanted_of groups.old).schema }
@@ -142,9 +183,11 @@ fn gather_one<R: FileReader>(
     ensures pinned { IsPinnedInput R.bytes (wanted_of groups.old).schema view file.new }
     ensures same { IsSameInput R.bytes file.old.input file.new.input }
     ensures own { file.new.own ≡ file.old.own }
-    ensures cause { HasFaultCause (λ e. e ≡ file_error.Read) (R.faults (reader_in file.old.input)) (R.faults (reader_in file.new.input)) result }
-    ensures damaged { IfErr result (λ e. (d : AnyDamage) → e ≡ file_error.Damaged d → IsDamageOf R.bytes R.size d file.old) }
-    ensures never { IfErr result (λ e. (d : AnyDamage) → e ≡ file_error.Damaged d → (given : List AnyRow) → HasPut groups.old given → (rows : List AnyRow) → IsTold (known_of R.bytes file.old.input) rows
+    ensures cause { HasFaultCause (λ e. e ≡ gather.File file_error.Read) (R.faults (reader_in file.old.input)) (R.faults (reader_in file.new.input)) result }
+    ensures damaged { IfErr result (λ e. (d : AnyDamage) → e ≡ gather.File (file_error.Damaged d) → IsDamaged R.bytes R.size file.old.input d) }
+    ensures sum { IfErr result (λ e. e ≡ gather.Sum → (given : List AnyRow) → HasPut groups.old given → (more : List AnyRow) × SumLeavesAmong (wanted_of groups.old) given more (key_at_hand groups.new)
+        × ((rows : List AnyRow) → IsTold (known_of R.bytes file.old.input) rows → (rest : List AnyRow) × (rows_matching (wanted_of groups.old).schema filter.now.terms view file.old rows ≡ more ++ rest))) }
+    ensures never { IfErr result (λ e. e ≡ gather.Sum → (given : List AnyRow) → HasPut groups.old given → (rows : List AnyRow) → IsTold (known_of R.bytes file.old.input) rows
         → KeepsSums (wanted_of groups.old).schema (given ++ filtered (wanted_of groups.old).schema filter.now.terms (rows_ungrouped view file.old rows)) → ⊥) }
 {
     if file.own {

@@ -4,6 +4,7 @@
 mod answering;
 mod gathering;
 mod laws;
+mod newest;
 mod regrouped;
 mod relation;
 

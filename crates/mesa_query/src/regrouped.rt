@@ -1,5 +1,5 @@
 // A table's file put into the groups of one of its views.
-ghost use Rattle.std.specs.Prelude.{◌≡◌, ◌≢◌, ◌⊎◌, ◌++◌, [], ◌∷◌, List, map, slice_get, OnOk, IfErr, IsTrue, Some};
+ghost use Rattle.std.specs.Prelude.{◌≡◌, ◌++◌, [], ◌∷◌, List, map, slice_get, OnOk, IfErr, IsTrue, Some};
 ghost use Rattle.std.specs.List.{AllByRecursion};
 ghost use Rattle.mesa_fault.specs.Causes.{HasFaultCause};
 ghost use Rattle.mesa_file.specs.declared.damage.Damage.{Damage as AnyDamage};
@@ -22,19 +22,20 @@ ghost use Rattle.mesa_scan.specs.Matching.{matching_rows};
 ghost use Rattle.mesa_scan.specs.Moving.{told_in};
 ghost use Rattle.mesa_scan.specs.Scanning.{IsFilterOf};
 ghost use Rattle.mesa_answer.specs.Answering.{KeepsSums};
-ghost use Rattle.mesa_answer.specs.Gathered.{HasPut, wanted_of};
+ghost use Rattle.mesa_answer.specs.Gathered.{HasPut, key_at_hand, wanted_of};
 ghost use Rattle.mesa_answer.specs.Regrouping.{places_seen, row_under};
-ghost use Rattle.mesa_view.specs.SumDamage.{IsSumDamage};
+ghost use Rattle.mesa_answer.specs.Sums.{SumLeavesAmong};
+ghost use Rattle.mesa_answer.specs.declared.error.GroupError.TheVariants as group_error;
+ghost use Rattle.mesa_view.specs.declared.error.GatherError.TheVariants as gather;
 ghost use Rattle.mesa_query.specs.Relation.{under_view};
 
-use mesa_answer::{Groups, Hand, Regrouping};
-use mesa_delta::{Ahead, FileError, Input};
+use mesa_answer::{GroupError, Groups, Hand, Regrouping};
+use mesa_delta::{Ahead, Input};
 use mesa_disk::FileReader;
-use mesa_file::FileId;
 use mesa_filter::Filter;
 use mesa_scan::{Matching, Scan};
 use mesa_schema::LentRow;
-use mesa_view::{every_row, put_row};
+use mesa_view::{GatherError, every_row};
 use std::alloc::Global;
 
 // Puts the rows of a table's file that match, as rows of the view of a number, into that view's groups. The filter is the view's: which blocks have matching rows can't be told by the table's short keys, so each is read.
@@ -46,7 +47,7 @@ pub(crate) fn gather_regrouped<R: FileReader>(
     view: u8,
     filter: &Filter,
     ahead: &mut Ahead,
-) -> Result<(), FileError>
+) -> Result<(), GatherError>
     requires gathering { (given : List AnyRow) × HasPut groups.old given }
     requires columns { (v : Chosen) × (slice_get input.old.evolving.value.views view ≡ Some v) × (view_columns (columns_of input.old.evolving.value) v ≡ (wanted_of groups.old).schema) }
     requires input { IsInput R.bytes input.old }
@@ -59,9 +60,12 @@ pub(crate) fn gather_regrouped<R: FileReader>(
     ensures ahead { (files : List AnyTold) → slice_get files place ≡ Some (told_in R.bytes input.old) → AreAhead files ahead.old → AreAhead files ahead.new }
     ensures input { IsInput R.bytes input.new }
     ensures same { IsSameInput R.bytes input.old input.new }
-    ensures cause { HasFaultCause (λ e. e ≡ file_error.Read) (R.faults (reader_in input.old)) (R.faults (reader_in input.new)) result }
-    ensures damaged { IfErr result (λ e. (d : AnyDamage) → e ≡ file_error.Damaged d → IsDamaged R.bytes R.size input.old d ⊎ IsSumDamage (index_of input.old.reader).file d) }
-    ensures never { IfErr result (λ e. (d : AnyDamage) → e ≡ file_error.Damaged d → (v : Chosen) → slice_get input.old.evolving.value.views view ≡ Some v
+    ensures cause { HasFaultCause (λ e. e ≡ gather.File file_error.Read) (R.faults (reader_in input.old)) (R.faults (reader_in input.new)) result }
+    ensures damaged { IfErr result (λ e. (d : AnyDamage) → e ≡ gather.File (file_error.Damaged d) → IsDamaged R.bytes R.size input.old d) }
+    ensures sum { IfErr result (λ e. e ≡ gather.Sum → (given : List AnyRow) → HasPut groups.old given → (more : List AnyRow) × SumLeavesAmong (wanted_of groups.old) given more (key_at_hand groups.new)
+        × ((v : Chosen) → slice_get input.old.evolving.value.views view ≡ Some v → (rows : List AnyRow) → IsTold (known_of R.bytes input.old) rows
+        → (rest : List AnyRow) × (filtered (wanted_of groups.old).schema filter.now.terms (under_view (columns_of input.old.evolving.value) v (map (lift_by input.old) rows)) ≡ more ++ rest))) }
+    ensures never { IfErr result (λ e. e ≡ gather.Sum → (v : Chosen) → slice_get input.old.evolving.value.views view ≡ Some v
         → (given : List AnyRow) → HasPut groups.old given → (rows : List AnyRow) → IsTold (known_of R.bytes input.old) rows
         → KeepsSums (wanted_of groups.old).schema (given ++ filtered (wanted_of groups.old).schema filter.now.terms (under_view (columns_of input.old.evolving.value) v (map (lift_by input.old) rows))) → ⊥) }
 {
@@ -89,7 +93,7 @@ fn gather_each_block<R: FileReader>(
     regrouping: &Regrouping,
     filter: &Filter,
     ahead: &mut Ahead,
-) -> Result<(), FileError>
+) -> Result<(), GatherError>
     requires gathering { (given : List AnyRow) × HasPut groups.old given }
     requires input { IsInput R.bytes input.old }
     requires every { IsFilterOf input.old every.now }
@@ -103,17 +107,18 @@ fn gather_each_block<R: FileReader>(
     ensures ahead { (files : List AnyTold) → slice_get files place ≡ Some (told_in R.bytes input.old) → AreAhead files ahead.old → AreAhead files ahead.new }
     ensures input { IsInput R.bytes input.new }
     ensures same { IsSameInput R.bytes input.old input.new }
-    ensures cause { HasFaultCause (λ e. e ≡ file_error.Read) (R.faults (reader_in input.old)) (R.faults (reader_in input.new)) result }
-    ensures damaged { IfErr result (λ e. (d : AnyDamage) → e ≡ file_error.Damaged d → IsDamaged R.bytes R.size input.old d ⊎ IsSumDamage (index_of input.old.reader).file d) }
-    ensures never { IfErr result (λ e. (d : AnyDamage) → e ≡ file_error.Damaged d → (given : List AnyRow) → HasPut groups.old given → (rows : List AnyRow) → IsTold (known_of R.bytes input.old) rows
+    ensures cause { HasFaultCause (λ e. e ≡ gather.File file_error.Read) (R.faults (reader_in input.old)) (R.faults (reader_in input.new)) result }
+    ensures damaged { IfErr result (λ e. (d : AnyDamage) → e ≡ gather.File (file_error.Damaged d) → IsDamaged R.bytes R.size input.old d) }
+    ensures sum { IfErr result (λ e. e ≡ gather.Sum → (given : List AnyRow) → HasPut groups.old given → (more : List AnyRow) × SumLeavesAmong (wanted_of groups.old) given more (key_at_hand groups.new)
+        × ((rows : List AnyRow) → IsTold (known_of R.bytes input.old) rows → (rest : List AnyRow) × (matching_rows filter.now (map (row_under regrouping.now) (map (lift_by input.old) rows)) ≡ more ++ rest))) }
+    ensures never { IfErr result (λ e. e ≡ gather.Sum → (given : List AnyRow) → HasPut groups.old given → (rows : List AnyRow) → IsTold (known_of R.bytes input.old) rows
         → KeepsSums (wanted_of groups.old).schema (given ++ matching_rows filter.now (map (row_under regrouping.now) (map (lift_by input.old) rows))) → ⊥) }
 {
-    let file = input.reader.index().file();
     let mut scan = Scan::of(alloc, input, every)?;
     let mut hand = Hand::new(alloc);
     'each_block: while !scan.is_over(input) {
         let block = scan.next_block(input, place, ahead)?;
-        put_regrouped(groups, file, &block, regrouping, filter, &mut hand)?;
+        put_regrouped(groups, &block, regrouping, filter, &mut hand)?;
     }
     Ok(())
 }
@@ -121,48 +126,40 @@ fn gather_each_block<R: FileReader>(
 // Puts a table's rows that match, as rows of a view, into that view's groups.
 fn put_regrouped(
     groups: &mut Groups,
-    file: FileId,
     block: &Matching,
     regrouping: &Regrouping,
     filter: &Filter,
     hand: &mut Hand,
-) -> Result<(), FileError>
+) -> Result<(), GroupError>
     requires gathering { (given : List AnyRow) × HasPut groups.old given }
     requires spelled { AllByRecursion (λ (row : AnyRow). IsTrue (is_spelling regrouping.now.kinds row.key) × IsTrue (is_spelling filter.now.kinds (row_under regrouping.now row).key)) block.now }
     requires form { AreRowsOf (wanted_of groups.old).schema (map (row_under regrouping.now) block.now) }
     ensures put { OnOk result ((given : List AnyRow) → HasPut groups.old given → HasPut groups.new (given ++ matching_rows filter.now (map (row_under regrouping.now) block.now))) }
     ensures wanted { wanted_of groups.new ≡ wanted_of groups.old }
-    ensures unread { IfErr result (λ e. e ≢ file_error.Read) }
-    ensures damaged { IfErr result (λ e. (d : AnyDamage) → e ≡ file_error.Damaged d → IsSumDamage file d) }
-    ensures never { IfErr result (λ e. (d : AnyDamage) → e ≡ file_error.Damaged d → (given : List AnyRow) → HasPut groups.old given
+    ensures sum { IfErr result (λ e. e ≡ group_error.Sum → (given : List AnyRow) → HasPut groups.old given → SumLeavesAmong (wanted_of groups.old) given (matching_rows filter.now (map (row_under regrouping.now) block.now)) (key_at_hand groups.new)) }
+    ensures never { IfErr result (λ e. e ≡ group_error.Sum → (given : List AnyRow) → HasPut groups.old given
         → KeepsSums (wanted_of groups.old).schema (given ++ matching_rows filter.now (map (row_under regrouping.now) block.now)) → ⊥) }
 {
     'block: for i in 0..block.len() {
         regrouping.take(block.row(i), hand)?;
-        put_matching(groups, file, hand.row(), filter)?;
+        put_matching(groups, hand.row(), filter)?;
     }
     Ok(())
 }
 
 // Puts a row into its group, where it matches.
-fn put_matching(
-    groups: &mut Groups,
-    file: FileId,
-    row: LentRow,
-    filter: &Filter,
-) -> Result<(), FileError>
+fn put_matching(groups: &mut Groups, row: LentRow, filter: &Filter) -> Result<(), GroupError>
     requires gathering { (given : List AnyRow) × HasPut groups.old given }
     requires spelled { IsTrue (is_spelling filter.now.kinds row.key.now) }
     requires form { IsRowOf (wanted_of groups.old).schema (lent row) }
     ensures put { OnOk result ((given : List AnyRow) → HasPut groups.old given → HasPut groups.new (given ++ matching_rows filter.now (lent row.entry ∷ []))) }
     ensures wanted { wanted_of groups.new ≡ wanted_of groups.old }
-    ensures unread { IfErr result (λ e. e ≢ file_error.Read) }
-    ensures damaged { IfErr result (λ e. (d : AnyDamage) → e ≡ file_error.Damaged d → IsSumDamage file d) }
-    ensures never { IfErr result (λ e. (d : AnyDamage) → e ≡ file_error.Damaged d → (given : List AnyRow) → HasPut groups.old given
+    ensures sum { IfErr result (λ e. e ≡ group_error.Sum → (given : List AnyRow) → HasPut groups.old given → SumLeavesAmong (wanted_of groups.old) given (matching_rows filter.now (lent row.entry ∷ [])) (key_at_hand groups.new)) }
+    ensures never { IfErr result (λ e. e ≡ group_error.Sum → (given : List AnyRow) → HasPut groups.old given
         → KeepsSums (wanted_of groups.old).schema (given ++ matching_rows filter.now (lent row.entry ∷ [])) → ⊥) }
 {
     if !filter.matches(row.key) {
         return Ok(());
     }
-    put_row(groups, file, row)
+    groups.put(row)
 }

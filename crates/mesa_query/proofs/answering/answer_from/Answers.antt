@@ -13,7 +13,7 @@ use Rattle.mesa_tasks.specs.Pins.{IsPinnedInput}
 use Rattle.std.specs.List.{AllByRecursion}
 use Rattle.std.specs.Prelude.{None}
 use Rattle.mesa_query.specs.Relation.{parts_ungrouped}
-use Rattle.mesa_query.proofs.Answered.{first_relation, none_first, page_empty, page_made, sums_matching, wanted_columns}
+use Rattle.mesa_query.proofs.Answered.{first_relation, none_first, page_empty, page_made, sum_wanted, sums_matching, wanted_columns}
 use Rattle.mesa_query.proofs.answering.answer_from.Goals as goal
 
 pub relation_columns-requires-after_bounds : goal.relation_columns-requires-after_bounds
@@ -127,3 +127,13 @@ pub returns-in_err-into_page-clause-cause : goal.returns-in_err-into_page-clause
 returns-in_err-into_page-clause-cause g c =
     let p = err_from_is_err_and c.from_residual-in_err-into_page.result c.from_residual-in_err-into_page.ensures.1 in
     rw (p.1, p.2) (cause_other _ _ file_error.Memory c.in_ok-gather_all.ensures.cause.quiet (λ read. cc))
+
+pub returns-in_err-gather_all-clause-damaged : goal.returns-in_err-gather_all-clause-damaged
+returns-in_err-gather_all-clause-damaged g c =
+    let p = err_from_is_err_and c.from_residual-in_err-gather_all.result c.from_residual-in_err-gather_all.ensures.1 in
+    let bytes = g.R.FileReader.bytes in
+    let view = c.args.view in
+    let files = c.args.files.now in
+    rw (p.1, p.2) (λ d e s is all.
+    let same = c.in_ok-schema.ensures s (first_relation bytes s view files c.in-Some.first.now c.in-Some.ensures.value all) in
+    sum_wanted bytes g.R.FileReader.size s c.in_ok-schema.schema c.args.query.now view files c.gather_all.new.files (wanted_of c.in_ok-groups.groups) c.filter.result.now.terms d same c.in_ok-groups.ensures.wanted c.filter.ensures.terms (c.in_err-gather_all.ensures.damaged d e))

@@ -35,8 +35,8 @@ pub returns-then-file-clause-never : goal.returns-then-file-clause-never
 returns-then-file-clause-never g c =
     let file = c.args.file.now in
     let s = (wanted_of c.args.groups.now).schema in
-    if_err c.gather.result _ _ (λ e never d is given h rows told keeps.
-    never d is given h told.0 rows told.1 told.2 (own_keeps s c.args.filter.now.terms c.args.view (lineage_of file.input) file.own given (lifted_in file.input rows) c.if-file.true c.requires.file.relation keeps)) c.gather.ensures.never
+    if_err c.gather.result _ _ (λ e never is given h rows told keeps.
+    never is given h told.0 rows told.1 told.2 (own_keeps s c.args.filter.now.terms c.args.view (lineage_of file.input) file.own given (lifted_in file.input rows) c.if-file.true c.requires.file.relation keeps)) c.gather.ensures.never
 
 pub gather_regrouped-requires-clause-columns : goal.gather_regrouped-requires-clause-columns
 gather_regrouped-requires-clause-columns g c = λ κs below.
@@ -66,11 +66,40 @@ returns-clause-never g c =
     let s = (wanted_of c.args.groups.now).schema in
     let terms = c.args.filter.now.terms in
     let v = table_view s c.args.view l file.own c.if-file.false c.requires.file.relation in
-    if_err c.gather_regrouped.result _ _ (λ e never d is given h rows told keeps.
-    never d is v.view (ap (view_at l) (sym c.in-Some.is) ∙ v.there) given h rows told
+    if_err c.gather_regrouped.result _ _ (λ e never is given h rows told keeps.
+    never is v.view (ap (view_at l) (sym c.in-Some.is) ∙ v.there) given h rows told
     (subst (λ (more : List Row). KeepsSums s (given ++ filtered s terms more)) (sym (table_rows c.args.view l file.own (lifted_in file.input rows) v.view c.if-file.false v.there)) keeps)) c.gather_regrouped.ensures.never
 
 pub unreachable-requires : goal.unreachable-requires
 unreachable-requires g c =
     let file = c.args.file.now in
     no_view (wanted_of c.args.groups.now).schema c.args.view (lineage_of file.input) file.own c.if-file.false c.in-None.is c.requires.file.relation
+
+pub returns-then-file-clause-sum : goal.returns-then-file-clause-sum
+returns-then-file-clause-sum g c =
+    let file = c.args.file.now in
+    let s = (wanted_of c.args.groups.now).schema in
+    if_err c.gather.result _ _ (λ e sum is given h.
+    let r = sum is given h in (
+      r.0,
+      r.1,
+      λ rows told.
+          let first = r.2 told.0 rows told.1 told.2 in
+          (first.0, sym (own_rows s c.args.filter.now.terms c.args.view (lineage_of file.input) file.own (lifted_in file.input rows) c.if-file.true c.requires.file.relation) ∙ first.1),
+    )) c.gather.ensures.sum
+
+pub returns-clause-sum : goal.returns-clause-sum
+returns-clause-sum g c =
+    let file = c.args.file.now in
+    let l = lineage_of file.input in
+    let s = (wanted_of c.args.groups.now).schema in
+    let terms = c.args.filter.now.terms in
+    let v = table_view s c.args.view l file.own c.if-file.false c.requires.file.relation in
+    if_err c.gather_regrouped.result _ _ (λ e sum is given h.
+    let r = sum is given h in (
+      r.0,
+      r.1,
+      λ rows told.
+          let first = r.2 v.view (ap (view_at l) (sym c.in-Some.is) ∙ v.there) rows told in
+          (first.0, sym (ap (filtered s terms) (table_rows c.args.view l file.own (lifted_in file.input rows) v.view c.if-file.false v.there)) ∙ first.1),
+    )) c.gather_regrouped.ensures.sum

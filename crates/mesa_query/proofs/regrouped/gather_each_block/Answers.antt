@@ -15,13 +15,14 @@ use Rattle.mesa_scan.specs.Matching.{matching_rows}
 use Rattle.mesa_scan.specs.Scanning.{HasScanned}
 use Rattle.mesa_scan.proofs.Onwards.{damaged_before, same_input}
 use Rattle.mesa_answer.specs.Answering.{KeepsSums}
-use Rattle.mesa_answer.specs.Gathered.{HasPut, wanted_of}
+use Rattle.mesa_answer.specs.Gathered.{HasPut, key_at_hand, wanted_of}
 use Rattle.mesa_answer.specs.Gathering.{Wanted}
 use Rattle.mesa_answer.specs.Regrouping.{PlacesSeen, row_under}
-use Rattle.mesa_view.specs.SumDamage.{IsSumDamage}
-use Rattle.mesa_view.proofs.Blocks.{more_form, no_fault}
+use Rattle.mesa_answer.specs.Sums.{SumLeavesAmong}
+use Rattle.mesa_view.specs.Gathering.{gather_error}
+use Rattle.mesa_view.proofs.Blocks.{fault_of_file, group_sum, group_undamaged, group_unread, more_form, no_fault}
 use Rattle.mesa_view.proofs.Waiting.{own_now, waits_first, waits_more}
-use Rattle.mesa_query.proofs.Blocks.{Regroups, given_bounded, given_told, keeps_more, put_more, rows_spell, under_form}
+use Rattle.mesa_query.proofs.Blocks.{Regroups, given_bounded, given_told, keeps_more, leaves_block, matching_first, put_more, rows_spell, under_form}
 use Rattle.mesa_query.proofs.regrouped.gather_each_block.Goals as goal
 
 pub each_block-init : goal.each_block-init
@@ -46,13 +47,22 @@ pub returns-in_err-block-clause-damaged : goal.returns-in_err-block-clause-damag
 returns-in_err-block-clause-damaged g c =
     let p = err_from_is_err_and c.from_residual-in_err-block.result c.from_residual-in_err-block.ensures.1 in
     let inv = c.each_block.invariant.regroups in
-    rw (p.1, p.2) (λ d e. inl (damaged_before g.R.FileReader.bytes g.R.FileReader.size c.args.input.now c.each_block.input d inv.same inv.size (c.in_err-block.ensures.damaged d e)))
+    rw (p.1, p.2) (λ d e. damaged_before g.R.FileReader.bytes g.R.FileReader.size c.args.input.now c.each_block.input d inv.same inv.size (c.in_err-block.ensures.damaged d (cc e)))
 
 pub returns-in_err-block-clause-never : goal.returns-in_err-block-clause-never
 returns-in_err-block-clause-never g c =
     let p = err_from_is_err_and c.from_residual-in_err-block.result c.from_residual-in_err-block.ensures.1 in
-    let inv = c.each_block.invariant.regroups in
-    rw (p.1, p.2) (λ d e given h rows told keeps. (damaged_before g.R.FileReader.bytes g.R.FileReader.size c.args.input.now c.each_block.input d inv.same inv.size (c.in_err-block.ensures.damaged d e)).unsound told.0 rows told.1 told.2)
+    rw (p.1, p.2) (λ e. cc e)
+
+pub returns-in_err-block-clause-sum : goal.returns-in_err-block-clause-sum
+returns-in_err-block-clause-sum g c =
+    let p = err_from_is_err_and c.from_residual-in_err-block.result c.from_residual-in_err-block.ensures.1 in
+    rw (p.1, p.2) (λ e. cc e)
+
+pub returns-in_err-block-clause-cause : goal.returns-in_err-block-clause-cause
+returns-in_err-block-clause-cause g c =
+    let p = err_from_is_err_and c.from_residual-in_err-block.result c.from_residual-in_err-block.ensures.1 in
+    rw (p.1, p.2) (fault_of_file {T = Unit {0}} c.in_err-block.field-0.0 _ _ _ c.each_block.invariant.regroups.faults c.in_err-block.ensures.cause)
 
 pub put_regrouped-requires-clause-gathering : goal.put_regrouped-requires-clause-gathering
 put_regrouped-requires-clause-gathering g c =
@@ -91,13 +101,12 @@ pub returns-in_err-put_regrouped-clause-cause : goal.returns-in_err-put_regroupe
 returns-in_err-put_regrouped-clause-cause g c =
     let p = err_from_is_err_and c.from_residual-in_err-put_regrouped.result c.from_residual-in_err-put_regrouped.ensures.1 in
     let faults = g.R.FileReader.faults in
-    rw (p.1, p.2) (no_fault {T = Unit {0}} c.in_err-put_regrouped.field-0.0 (faults (reader_in c.args.input.now)) (faults (reader_in c.next_block.new.input)) (c.in_ok-block.ensures.cause.quiet ∙ c.each_block.invariant.regroups.faults) c.in_err-put_regrouped.ensures.unread)
+    rw (p.1, p.2) (no_fault {T = Unit {0}} (gather_error c.in_err-put_regrouped.field-0.0) (faults (reader_in c.args.input.now)) (faults (reader_in c.next_block.new.input)) (c.in_ok-block.ensures.cause.quiet ∙ c.each_block.invariant.regroups.faults) (group_unread c.in_err-put_regrouped.field-0.0))
 
 pub returns-in_err-put_regrouped-clause-damaged : goal.returns-in_err-put_regrouped-clause-damaged
 returns-in_err-put_regrouped-clause-damaged g c =
     let p = err_from_is_err_and c.from_residual-in_err-put_regrouped.result c.from_residual-in_err-put_regrouped.ensures.1 in
-    let file = c.file-file.ensures ∙ ap (λ (x : Indexed). x.file) c.index.ensures in
-    rw (p.1, p.2) (λ d e. inr (subst (λ n. IsSumDamage n d) file (c.in_err-put_regrouped.ensures.damaged d e)))
+    rw (p.1, p.2) (λ d e. absurd (group_undamaged c.in_err-put_regrouped.field-0.0 d e))
 
 pub returns-in_err-put_regrouped-clause-never : goal.returns-in_err-put_regrouped-clause-never
 returns-in_err-put_regrouped-clause-never g c =
@@ -111,11 +120,11 @@ returns-in_err-put_regrouped-clause-never g c =
     let p = c.args.regrouping.now in
     let block : List Row = c.in_ok-block.block in
     let same = same_input bytes start c.each_block.input now inv.same c.next_block.ensures.same in
-    rw (e.1, e.2) (λ d is given h all told keeps.
+    rw (e.1, e.2) (λ is given h all told keeps.
     let scanned = c.in_ok-block.ensures.more inv.given inv.scanned in
     let bounded = given_bounded bytes start now c.args.every.now f p c.next_block.new.self s given (inv.given ++ block) all scanned (c.in_ok-block.ensures.filter ∙ inv.filter) c.requires.terms same told keeps in
     let here = keeps_more s f p given inv.given block bounded in
-    c.in_err-put_regrouped.ensures.never d is (given ++ matching_rows f (map (row_under p) inv.given)) (inv.put given h)
+    c.in_err-put_regrouped.ensures.never (group_sum c.in_err-put_regrouped.field-0.0 is) (given ++ matching_rows f (map (row_under p) inv.given)) (inv.put given h)
     (subst (λ (w : Wanted). KeepsSums w.schema ((given ++ matching_rows f (map (row_under p) inv.given)) ++ matching_rows f (map (row_under p) block))) (sym inv.wanted) here))
 
 pub each_block-preserved : goal.each_block-preserved
@@ -150,3 +159,26 @@ returns-clause-put g c = λ given h.
       λ rows told.
           ap (λ (xs : List Row). matching_rows f (map (row_under p) xs)) (given_told g.R.FileReader.bytes c.args.input.now c.each_block.input c.args.every.now c.each_block.scan inv.given rows inv.scanned inv.filter c.requires.terms inv.same (c.each_block-test.ensures.0 refl) told),
     )
+
+pub returns-in_err-put_regrouped-clause-sum : goal.returns-in_err-put_regrouped-clause-sum
+returns-in_err-put_regrouped-clause-sum g c =
+    let e = err_from_is_err_and c.from_residual-in_err-put_regrouped.result c.from_residual-in_err-put_regrouped.ensures.1 in
+    let bytes = g.R.FileReader.bytes in
+    let inv = c.each_block.invariant.regroups in
+    let start = c.args.input.now in
+    let now = c.next_block.new.input in
+    let w = wanted_of c.args.groups.now in
+    let f = c.args.filter.now in
+    let p = c.args.regrouping.now in
+    let block : List Row = c.in_ok-block.block in
+    let same = same_input bytes start c.each_block.input now inv.same c.next_block.ensures.same in
+    let key = key_at_hand c.put_regrouped.new.groups in
+    rw (e.1, e.2) (λ is given h.
+    let front : List Row = given ++ matching_rows f (map (row_under p) inv.given) in
+    let here = c.in_err-put_regrouped.ensures.sum (group_sum c.in_err-put_regrouped.field-0.0 is) front (inv.put given h) in
+    let leaves = subst (λ (v : Wanted). SumLeavesAmong v front (matching_rows f (map (row_under p) block)) key) inv.wanted here in
+    let scanned = c.in_ok-block.ensures.more inv.given inv.scanned in (
+      matching_rows f (map (row_under p) (inv.given ++ block)),
+      leaves_block w f p given inv.given block key leaves,
+      λ rows told. matching_first bytes start now c.args.every.now f p c.next_block.new.self (inv.given ++ block) rows scanned (c.in_ok-block.ensures.filter ∙ inv.filter) c.requires.terms same told,
+    ))

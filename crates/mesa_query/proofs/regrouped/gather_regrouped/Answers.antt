@@ -46,6 +46,23 @@ returns-clause-never g c =
     let s = (wanted_of c.args.groups.now).schema in
     let f = c.args.filter.now in
     let p = c.in_ok-regrouping.regrouping in
-    if_err c.gather_each_block.result _ _ (λ e never d is v there given h rows told keeps.
+    if_err c.gather_each_block.result _ _ (λ e never is v there given h rows told keeps.
     let seen = some_here (λ (v : View). p ≡ places_seen (columns_of l) v) (slice_get l.views c.args.view) v there (rw c.deref-2.ensures at c.in_ok-regrouping.ensures.seen) in
-    never d is given h rows told (subst (λ (more : List Row). KeepsSums s (given ++ more)) (sym (under_matching s (columns_of l) v p f (map (lift_by start) rows) seen c.requires.filter)) keeps)) c.gather_each_block.ensures.never
+    never is given h rows told (subst (λ (more : List Row). KeepsSums s (given ++ more)) (sym (under_matching s (columns_of l) v p f (map (lift_by start) rows) seen c.requires.filter)) keeps)) c.gather_each_block.ensures.never
+
+pub returns-clause-sum : goal.returns-clause-sum
+returns-clause-sum g c =
+    let start = c.args.input.now in
+    let l = start.evolving.value in
+    let s = (wanted_of c.args.groups.now).schema in
+    let f = c.args.filter.now in
+    let p = c.in_ok-regrouping.regrouping in
+    if_err c.gather_each_block.result _ _ (λ e sum is given h.
+    let r = sum is given h in (
+      r.0,
+      r.1,
+      λ v there rows told.
+          let seen = some_here (λ (v : View). p ≡ places_seen (columns_of l) v) (slice_get l.views c.args.view) v there (rw c.deref-2.ensures at c.in_ok-regrouping.ensures.seen) in
+          let first = r.2 rows told in
+          (first.0, sym (under_matching s (columns_of l) v p f (map (lift_by start) rows) seen c.requires.filter) ∙ first.1),
+    )) c.gather_each_block.ensures.sum

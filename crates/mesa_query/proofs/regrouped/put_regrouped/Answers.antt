@@ -8,11 +8,12 @@ use Rattle.mesa_schema.specs.declared.rows.Row.{Row}
 use Rattle.mesa_schema.specs.Lent.{lent}
 use Rattle.mesa_schema.specs.Rows.{IsRowOf}
 use Rattle.mesa_answer.specs.Answering.{KeepsSums}
-use Rattle.mesa_answer.specs.Gathered.{HasPut, wanted_of}
+use Rattle.mesa_answer.specs.Gathered.{HasPut, key_at_hand, wanted_of}
 use Rattle.mesa_answer.specs.Gathering.{Wanted}
 use Rattle.mesa_answer.specs.Regrouping.{row_under}
+use Rattle.mesa_answer.specs.Sums.{SumLeavesAmong}
 use Rattle.mesa_scan.specs.Matching.{matching_rows}
-use Rattle.mesa_query.proofs.Blocks.{form_at, keeps_front, put_next}
+use Rattle.mesa_query.proofs.Blocks.{form_at, keeps_front, leaves_front, put_next}
 use Rattle.mesa_query.proofs.regrouped.put_regrouped.Goals as goal
 
 pub take-requires : goal.take-requires
@@ -80,9 +81,37 @@ returns-in_err-put_matching-clause-never c =
     let lt : c.block.i < length c.args.block.now = omega arith in
     let at : row ≡ get_or rows i row = sym (get_or_from_slice_get rows i row row c.row.ensures) in
     let under : lent c.row-in-block.result ≡ row_under p row = c.row-in-block.ensures ∙ c.in_ok-take.ensures.regrouped in
-    rw (r.1, r.2) (λ d e given h keeps.
+    rw (r.1, r.2) (λ e given h keeps.
     let front : List Row = given ++ matching_rows f (map (row_under p) (take i rows)) in
     let whole = subst (λ (w : Wanted). KeepsSums w.schema (given ++ matching_rows f (map (row_under p) rows))) (sym inv.wanted) keeps in
     let next = keeps_front (wanted_of c.block.groups).schema f p given rows i row lt at whole in
-    c.in_err-put_matching.ensures.never d e front (inv.put given h)
+    c.in_err-put_matching.ensures.never e front (inv.put given h)
     (subst (λ (r : Row). KeepsSums (wanted_of c.block.groups).schema (front ++ matching_rows f (r ∷ []))) (sym under) next))
+
+pub returns-in_err-take-clause-sum : goal.returns-in_err-take-clause-sum
+returns-in_err-take-clause-sum c =
+    let r = err_from_is_err_and c.from_residual.result c.from_residual.ensures.1 in
+    rw (r.1, r.2) (λ e. cc e)
+
+pub returns-in_err-take-clause-never : goal.returns-in_err-take-clause-never
+returns-in_err-take-clause-never c =
+    let r = err_from_is_err_and c.from_residual.result c.from_residual.ensures.1 in
+    rw (r.1, r.2) (λ e. cc e)
+
+pub returns-in_err-put_matching-clause-sum : goal.returns-in_err-put_matching-clause-sum
+returns-in_err-put_matching-clause-sum c =
+    let r = err_from_is_err_and c.from_residual-in_err-put_matching.result c.from_residual-in_err-put_matching.ensures.1 in
+    let inv = c.block.invariant in
+    let p = c.args.regrouping.now in
+    let f = c.args.filter.now in
+    let rows : List Row = c.args.block.now in
+    let i = c.block.i in
+    let row : Row = lent c.row.result in
+    let lt : c.block.i < length c.args.block.now = omega arith in
+    let at : row ≡ get_or rows i row = sym (get_or_from_slice_get rows i row row c.row.ensures) in
+    let under : lent c.row-in-block.result ≡ row_under p row = c.row-in-block.ensures ∙ c.in_ok-take.ensures.regrouped in
+    let key = key_at_hand c.put_matching.new.groups in
+    rw (r.1, r.2) (λ e given h.
+    let front : List Row = given ++ matching_rows f (map (row_under p) (take i rows)) in
+    let here = subst (λ (r : Row). SumLeavesAmong (wanted_of c.block.groups) front (matching_rows f (r ∷ [])) key) under (c.in_err-put_matching.ensures.sum e front (inv.put given h)) in
+    leaves_front (wanted_of c.args.groups.now) f p given rows i row key lt at (subst (λ (w : Wanted). SumLeavesAmong w front (matching_rows f (row_under p row ∷ [])) key) inv.wanted here))
