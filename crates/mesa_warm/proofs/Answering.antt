@@ -1,6 +1,7 @@
 -- The page of a query with caches is the page without them, and so is whatever else comes of answering it.
 use Rattle.std.proofs.Common.{◌≡◌, ℕ, List, ap, sym, subst, ◌∙◌}
-use Rattle.std.specs.Prelude.{IfErr, IfOk, Option, Result}
+use Rattle.std.specs.Prelude.{◌⊎◌, IfErr, IfOk, Option, Result}
+use Rattle.std.proofs.Math.Logic.{⊎_map}
 use Rattle.std.proofs.lemmas.Result.{IfErr-weaker, IfOk-weaker}
 use Rattle.mesa_cache.specs.Reading.{Reading}
 use Rattle.mesa_delta.specs.declared.error.FileError.{FileError}
@@ -13,13 +14,15 @@ use Rattle.mesa_model.specs.mesa_schema.Folded.{rows_of}
 use Rattle.mesa_model.specs.mesa_schema.Rows.{AreRowsOf}
 use Rattle.mesa_query.specs.Files.{IsDamageIn, inputs_in}
 use Rattle.mesa_query.specs.Relation.{page_over, parts_pinned, parts_ungrouped}
+use Rattle.mesa_query.specs.Sums.{IsSumIn}
 use Rattle.mesa_query.specs.mesa_answer.Answering.{KeepsSums, grouped_columns}
+use Rattle.mesa_query.specs.mesa_answer.Gathering.{wanted_by}
 use Rattle.mesa_query.specs.mesa_merge.Faults.{HaveFaultCause, faults_of}
 use Rattle.mesa_query.specs.mesa_merge.Inputs.{Known, AreTold, knowns_of}
 use Rattle.mesa_tasks.specs.Pins.{IsPinned}
 use Rattle.mesa_tasks.specs.declared.querying.Pinned.{Pinned}
 use Rattle.mesa_warm.specs.Cooled.{cooled}
-use Rattle.mesa_warm.proofs.Cooling.{damage_cooled, faults_cooled, known_cooled, parts_cooled, pinned_warm, through, ungrouped_cooled}
+use Rattle.mesa_warm.proofs.Cooling.{damage_cooled, faults_cooled, known_cooled, parts_cooled, pinned_warm, sum_cooled, through, ungrouped_cooled}
 
 -- ---- what a query's answer is, by the pin
 
@@ -33,7 +36,8 @@ abbrev pub HasCause : {R : Type 0} → (R → ℕ) → Pinned R → Pinned R →
 HasCause faults old new r = HaveFaultCause (λ e. e ≡ file_error.Read) (faults_of faults (inputs_in old.inputs.items)) (faults_of faults (inputs_in new.inputs.items)) r
 
 abbrev pub IsDamaged : {R : Type 0} → (R → Option (List ℕ)) → (R → ℕ) → Pinned R → Pinned R → Result Page FileError → Type 0
-IsDamaged bytes size old new r = IfErr r (λ e. (d : Damage) → e ≡ file_error.Damaged d → IsDamageIn bytes size d old.inputs.items new.inputs.items)
+IsDamaged bytes size old new r = IfErr r (λ e. (d : Damage) → e ≡ file_error.Damaged d → (s : Columns) → IsPinned bytes s old
+    → IsDamageIn bytes size d old.inputs.items new.inputs.items ⊎ IsSumIn bytes (wanted_by s old.query) old.query.asked.terms old.view old.inputs.items d)
 
 abbrev pub IsNever : {R : Type 0} → (R → Option (List ℕ)) → Pinned R → Result Page FileError → Type 0
 IsNever bytes p r = IfErr r (λ e. (d : Damage) → e ≡ file_error.Damaged d → (s : Columns) → IsPinned bytes s p → (contents : List (List Row)) → AreTold (knowns_of bytes (inputs_in p.inputs.items)) contents
@@ -56,7 +60,8 @@ module _ {R : Type 0} (bytes : R → Option (List ℕ)) where
   cause_cooled faults old new r h = rw (faults_cooled faults old.inputs.items, faults_cooled faults new.inputs.items) h
 
   pub damaged_cooled : (size : R → ℕ) (old new : Pinned (Reading R)) (r : Result Page FileError) → IsDamaged (through bytes) (through size) old new r → IsDamaged bytes size (cooled old) (cooled new) r
-  damaged_cooled size old new r h = IfErr-weaker r _ _ (λ e is d shown. damage_cooled bytes size d old.inputs.items new.inputs.items (is d shown)) h
+  damaged_cooled size old new r h = IfErr-weaker r _ _ (λ e is d shown s pinned.
+      ⊎_map (damage_cooled bytes size d old.inputs.items new.inputs.items) (sum_cooled bytes (wanted_by s old.query) old.query.asked.terms old.view old.inputs.items d) (is d shown s (pinned_warm bytes s old pinned))) h
 
   pub never_cooled : (p : Pinned (Reading R)) (r : Result Page FileError) → IsNever (through bytes) p r → IsNever bytes (cooled p) r
   never_cooled p r h = IfErr-weaker r _ _ (λ e is d shown s pinned contents told keeps.

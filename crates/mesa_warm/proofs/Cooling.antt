@@ -1,19 +1,25 @@
 -- A pinned query with caches, by what it is without them.
-use Rattle.std.proofs.Common.{◌≡◌, ℕ, List, [], ◌∷◌, map, refl, ap}
-use Rattle.std.specs.Prelude.{Option}
+use Rattle.std.proofs.Common.{◌≡◌, ℕ, zero, suc, List, [], ◌∷◌, ◌++◌, map, refl, sym, ap, subst}
+use Rattle.std.specs.Prelude.{Option, Some, slice_get}
 use Rattle.std.specs.List.{AllByRecursion}
 use Rattle.std.proofs.Math.Logic.{⊎_map}
 use Rattle.mesa_cache.specs.Reading.{Reading}
 use Rattle.mesa_delta.specs.Reading.{HasRead}
 use Rattle.mesa_delta.specs.declared.reader.DeltaReader.{DeltaReader}
 use Rattle.mesa_delta.specs.declared.input.Input.{Input}
+use Rattle.mesa_model.specs.mesa_filter.Filter.{filtered}
+use Rattle.mesa_model.specs.mesa_filter.declared.terms.Term.{Term}
 use Rattle.mesa_model.specs.mesa_file.declared.damage.Damage.{Damage}
 use Rattle.mesa_model.specs.mesa_schema.declared.rows.Row.{Row}
 use Rattle.mesa_model.specs.mesa_schema.Columns.{Columns}
-use Rattle.mesa_query.specs.Files.{AreMoved, IsDamageIn, IsDamageOf, inputs_in, owns_in}
+use Rattle.mesa_model.specs.mesa_schema.Folded.{rows_of}
+use Rattle.mesa_query.specs.Files.{AreMoved, IsDamageIn, inputs_in, owns_in}
 use Rattle.mesa_query.specs.Relation.{parts_pinned, parts_ungrouped, rows_ungrouped}
 use Rattle.mesa_query.specs.mesa_merge.Faults.{faults_of}
-use Rattle.mesa_query.specs.mesa_merge.Inputs.{known_of, knowns_of}
+use Rattle.mesa_query.specs.Sums.{IsSumIn, LacksGroup}
+use Rattle.mesa_query.specs.mesa_answer.Gathering.{Wanted}
+use Rattle.mesa_query.specs.mesa_merge.Inputs.{AreTold, Known, known_of, knowns_of}
+use Rattle.mesa_query.specs.mesa_scan.Damaged.{IsDamaged}
 use Rattle.mesa_tasks.specs.mesa_cursor.Cursors.{IsInput, reader_in}
 use Rattle.mesa_tasks.specs.Pins.{IsPinned, IsPinnedInput, rows_pinned}
 use Rattle.mesa_tasks.specs.declared.querying.Pinned.{Pinned}
@@ -81,8 +87,8 @@ module _ {R : Type 0} where
 
   -- ---- damage of one of them
 
-  damage_of : (bytes : R → Option (List ℕ)) (size : R → ℕ) (d : Damage) (file : PinnedInput (Reading R)) → IsDamageOf (through bytes) (through size) d file → IsDamageOf bytes size d (cooled_file file)
-  damage_of bytes size d file = ⊎_map (λ h. record { block = h.block; before = h.before; shown = h.shown; unsound = h.unsound }) (λ h. h)
+  damaged_file : (bytes : R → Option (List ℕ)) (size : R → ℕ) (d : Damage) (file : PinnedInput (Reading R)) → IsDamaged (through bytes) (through size) file.input d → IsDamaged bytes size (cooled_input file.input) d
+  damaged_file bytes size d file h = record { block = h.block; before = h.before; shown = h.shown; unsound = h.unsound }
 
   moved_cooled : (bytes : R → Option (List ℕ)) (size : R → ℕ) (old new : List (PinnedInput (Reading R))) → AreMoved (through bytes) (through size) old new → AreMoved bytes size (map cooled_file old) (map cooled_file new)
   moved_cooled bytes size [] [] h = tt
@@ -93,4 +99,39 @@ module _ {R : Type 0} where
   pub damage_cooled : (bytes : R → Option (List ℕ)) (size : R → ℕ) (d : Damage) (old new : List (PinnedInput (Reading R))) → IsDamageIn (through bytes) (through size) d old new → IsDamageIn bytes size d (map cooled_file old) (map cooled_file new)
   damage_cooled bytes size d [] new h = h
   damage_cooled bytes size d (file ∷ old) [] h = h
-  damage_cooled bytes size d (file ∷ old) (now ∷ new) h = ⊎_map (λ here. (damage_of bytes size d file here.0, moved_cooled bytes size old new here.1)) (damage_cooled bytes size d old new) h
+  damage_cooled bytes size d (file ∷ old) (now ∷ new) h = ⊎_map (λ here. (damaged_file bytes size d file here.0, moved_cooled bytes size old new here.1)) (damage_cooled bytes size d old new) h
+
+  -- ---- a sum told of one of them
+
+  file_cooled : (files : List (PinnedInput (Reading R))) (j : ℕ) (file : PinnedInput (Reading R)) → slice_get files j ≡ Some file → slice_get (map cooled_file files) j ≡ Some (cooled_file file)
+  file_cooled [] j file there = cc
+  file_cooled (x ∷ files) zero file there = let same : x ≡ file = cc in ap (λ (one : PinnedInput (Reading R)). Some (cooled_file one)) same
+  file_cooled (x ∷ files) (suc j) file there = file_cooled files j file there
+
+  record WasWarm (files : List (PinnedInput (Reading R))) (j : ℕ) (now : PinnedInput R) : Type 0 where
+    was : PinnedInput (Reading R)
+    there : slice_get files j ≡ Some was
+    is : cooled_file was ≡ now
+
+  was_warm : (files : List (PinnedInput (Reading R))) (j : ℕ) (now : PinnedInput R) → slice_get (map cooled_file files) j ≡ Some now → WasWarm files j now
+  was_warm [] j now there = cc there
+  was_warm (x ∷ files) zero now there = record { was = x; there = refl; is = cc }
+  was_warm (x ∷ files) (suc j) now there = let rest = was_warm files j now there in record { was = rest.was; there = rest.there; is = rest.is }
+
+  pub sum_cooled : (bytes : R → Option (List ℕ)) (w : Wanted) (terms : List Term) (view : Option ℕ) (files : List (PinnedInput (Reading R))) (d : Damage) → IsSumIn (through bytes) w terms view files d → IsSumIn bytes w terms view (map cooled_file files) d
+  sum_cooled bytes w terms view files d h = record {
+    key = h.key;
+    given = h.given;
+    leaves = h.leaves;
+    first = λ contents told.
+        let first = h.first contents (subst (λ (ks : List Known). AreTold ks contents) (known_cooled bytes files) told) in
+        (first.0, subst (λ (parts : List (List Row)). filtered w.schema terms (rows_of parts) ≡ h.given ++ first.0) (sym (ungrouped_cooled view files contents)) first.1);
+    at = h.at;
+    file = cooled_file h.file;
+    one = file_cooled files h.at h.file h.one;
+    holds = h.holds;
+    newer = λ j other above there.
+        let warm = was_warm files j other there in
+        subst (LacksGroup bytes w terms view h.key) warm.is (h.newer j warm.was above warm.there);
+    told = h.told;
+  }

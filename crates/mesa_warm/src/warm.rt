@@ -1,5 +1,5 @@
 // A pinned query whose files are read through caches.
-ghost use Rattle.std.specs.Prelude.{◌≡◌, ◌≤◌, List, IfOk, IfErr};
+ghost use Rattle.std.specs.Prelude.{◌≡◌, ◌≤◌, ◌⊎◌, List, IfOk, IfErr};
 ghost use Rattle.mesa_delta.specs.declared.error.FileError.TheVariants as file_error;
 ghost use Rattle.mesa_model.specs.mesa_file.declared.damage.Damage.{Damage as AnyDamage};
 ghost use Rattle.mesa_model.specs.mesa_schema.declared.rows.Row.{Row as AnyRow};
@@ -7,10 +7,12 @@ ghost use Rattle.mesa_model.specs.mesa_schema.Columns.{Columns};
 ghost use Rattle.mesa_model.specs.mesa_schema.Folded.{rows_of};
 ghost use Rattle.mesa_model.specs.mesa_schema.Rows.{AreRowsOf};
 ghost use Rattle.mesa_query.specs.mesa_answer.Answering.{KeepsSums, grouped_columns};
+ghost use Rattle.mesa_query.specs.mesa_answer.Gathering.{wanted_by};
 ghost use Rattle.mesa_query.specs.mesa_merge.Faults.{HaveFaultCause, faults_of};
 ghost use Rattle.mesa_query.specs.mesa_merge.Inputs.{AreTold, knowns_of};
 ghost use Rattle.mesa_query.specs.Files.{IsDamageIn, inputs_in, owns_in};
 ghost use Rattle.mesa_query.specs.Relation.{page_over, parts_pinned, parts_ungrouped};
+ghost use Rattle.mesa_query.specs.Sums.{IsSumIn};
 ghost use Rattle.mesa_tasks.specs.Pins.{IsPinned};
 ghost use Rattle.mesa_warm.specs.Same.{IsSamePin};
 
@@ -102,9 +104,10 @@ impl<R: FileReader> Warm<R> {
         ensures known { knowns_of R.bytes (inputs_in self.new.inputs.items) ≡ knowns_of R.bytes (inputs_in self.old.inputs.items) }
         ensures own { owns_in self.new.inputs.items ≡ owns_in self.old.inputs.items }
 
-        // Read comes where the count of faults of a file's own reader rose, and Damaged where a file isn't the recorded one or a sum would leave its type; no file behind that one is read. It never comes where all files are told and true and the absolute values of the rows add up to an amount in each sum column.
+        // Read comes where the count of faults of a file's own reader rose, and Damaged where a file isn't the recorded one, and no block was taken of those behind it, or where a sum would leave its type, and then of the newest file that holds its group. It never comes where all files are told and true and the absolute values of the rows add up to an amount in each sum column.
         ensures cause { HaveFaultCause (λ e. e ≡ file_error.Read) (faults_of R.faults (inputs_in self.old.inputs.items)) (faults_of R.faults (inputs_in self.new.inputs.items)) result }
-        ensures damaged { IfErr result (λ e. (d : AnyDamage) → e ≡ file_error.Damaged d → IsDamageIn R.bytes R.size d self.old.inputs.items self.new.inputs.items) }
+        ensures damaged { IfErr result (λ e. (d : AnyDamage) → e ≡ file_error.Damaged d → (s : Columns) → IsPinned R.bytes s self.old
+            → IsDamageIn R.bytes R.size d self.old.inputs.items self.new.inputs.items ⊎ IsSumIn R.bytes (wanted_by s self.old.query) self.old.query.asked.terms self.old.view self.old.inputs.items d) }
         ensures never { IfErr result (λ e. (d : AnyDamage) → e ≡ file_error.Damaged d → (s : Columns) → IsPinned R.bytes s self.old → (contents : List (List AnyRow)) → AreTold (knowns_of R.bytes (inputs_in self.old.inputs.items)) contents
             → KeepsSums s (rows_of (parts_ungrouped self.old.view self.old.inputs.items contents)) → ⊥) }
     {
