@@ -12,10 +12,7 @@ use Rattle.mesa_journal.proofs.Live.{one_live, same_live}
 use Rattle.mesa_trash.specs.Holding.{Among}
 use Rattle.mesa_trash.specs.Filed.{AreFresh, AreNamedOrWait, FilesAdopted}
 use Rattle.mesa_trash.proofs.Filing.{filed_first}
-use Rattle.mesa_record.specs.declared.record.Record.TheVariants as record_of
 use Rattle.mesa_record.specs.Reading.{record_at}
-use Rattle.mesa_record.specs.declared.record.Record.{Record}
-use Rattle.mesa_record.specs.declared.error.RecordError.{RecordError}
 use Rattle.mesa_image_laws.specs.mesa_image.Catalog.{Catalog, applied}
 use Rattle.mesa_image_laws.specs.mesa_image.Fitting.{fits, max_runs, shelved}
 use Rattle.mesa_image_laws.specs.mesa_image.Journaled.{catalog}

@@ -1,11 +1,11 @@
-use Rattle.std.proofs.Common.{ℕ, List, ◌++◌, ◌∷◌, [], ap, subst, sym}
+use Rattle.std.proofs.Common.{ℕ, ◌++◌, ◌∷◌, [], ap, subst, sym}
 use Rattle.mesa_disk.specs.Story.{Steps}
 use Rattle.mesa_disk.specs.declared.area.Area.{Area}
 use Rattle.mesa_commit.specs.Turn.{MovesOnly}
 use Rattle.mesa_image_laws.specs.mesa_image.Catalog.{applied}
 use Rattle.mesa_image_laws.specs.mesa_image.Held.{IsHeld}
 use Rattle.mesa_disk.specs.Files.{files_of}
-use Rattle.mesa_store.specs.Store.{area_after, bodies_after, end_after}
+use Rattle.mesa_store.specs.Store.{area_after, bodies_after}
 use Rattle.mesa_opening.specs.Opening.{run_record}
 use Rattle.mesa_opening.proofs.Beginnings.{begun_images, writes_run}
 use Rattle.mesa_opening.proofs.Unnamed.{named_in_the_end}
