@@ -21,7 +21,7 @@ use Rattle.mesa_image_laws.specs.mesa_image.Fitting.{brings_new_files, files_fit
 use Rattle.mesa_catalog.specs.declared.shelves.Shelves.{Shelves}
 use Rattle.mesa_shelf.specs.declared.table.Table.{Table}
 use Rattle.mesa_shelf.specs.declared.ready.ReadyPart.{ReadyPart}
-use Rattle.mesa_catalog.specs.Meaning.{IsShelved, catalogue_of}
+use Rattle.mesa_catalog.specs.Meaning.{catalogue_of}
 use Rattle.mesa_shelf.specs.Meaning.{IsTable, start_of_base, stock_of, widths_of}
 use Rattle.mesa_catalog.specs.Readied.{IsMadePart, last_change, last_view}
 use Rattle.mesa_shelf.specs.Readied.{IsPartOf, IsSwapOf, part_in}

@@ -1,13 +1,12 @@
 -- The catalogue that a checkpoint states.
-use Rattle.std.proofs.Common.{◌≡◌, ℕ, ◌+◌, ◌≤◌, ◌<◌, List, [], ◌∷◌, ◌++◌, length, map, take, get_or, refl, sym, ◌∙◌, ap, subst, arith, Bool, true, false}
-use Rattle.std.specs.Prelude.{◌&&◌, nat_le, flat_map, None}
+use Rattle.std.proofs.Common.{◌≡◌, ℕ, zero, suc, append_assoc, ◌+◌, ◌≤◌, ◌<◌, List, [], ◌∷◌, ◌++◌, length, map, take, get_or, refl, sym, ◌∙◌, ap, arith, true}
+use Rattle.std.specs.Prelude.{◌&&◌, nat_le, not, flat_map, slice_get, is_some, is_none, Option, None, Some}
 use Rattle.std.specs.List.{AllByRecursion}
 use Rattle.std.proofs.lemmas.Bool.Decides.{nat_tests}
 use Rattle.std.proofs.lemmas.List.{length-map, map_push, take_more}
 use Rattle.mesa_record.specs.declared.checkpoint.Checkpoint.{Checkpoint}
-use Rattle.mesa_image_laws.specs.mesa_image.Catalog.{Catalog}
 use Rattle.mesa_image_laws.specs.mesa_image.Checkpoint.{stated, stock_stated}
-use Rattle.mesa_image_laws.specs.mesa_image.CheckpointFits.{counts_fit, ids_fit}
+use Rattle.mesa_image_laws.specs.mesa_image.CheckpointFits.{counts_fit, ids_fit, oldest_fits}
 use Rattle.mesa_image_laws.specs.mesa_image.Fitting.{max_runs, names_in}
 use Rattle.mesa_image_laws.specs.mesa_image.mesa_model.Warehouse.{max_tables, max_versions}
 use Rattle.mesa_image_laws.specs.Ids.{named}
@@ -39,12 +38,12 @@ catalogue_restored k s r = λ i. record { tables = r.stocks i; floor = r.floor i
 
 pub shelves_restored : (k : Checkpoint) (s : Shelves) → counts_fit k ≡ true → AreRestored k s → IsShelved s
 shelves_restored k s fits r =
-    let first = both (nat_le (length k.tables) max_tables) _ fits in
-    let second = both (nat_le k.versions max_versions) _ first.1 in
-    let third = both (nat_le k.run max_runs) _ second.1 in
-    let few : length k.tables ≤ 32 = grind (arith, nat_tests, first.0) in
-    let most : k.versions ≤ max_versions = grind (arith, nat_tests, second.0) in
-    let floor = there k.floor k.versions third.1 in
+    let there_too = both (nat_le (length k.tables) max_tables && nat_le k.versions max_versions && nat_le k.run max_runs) (oldest_fits k.floor k.versions) fits in
+    let runs = both (nat_le (length k.tables) max_tables && nat_le k.versions max_versions) (nat_le k.run max_runs) there_too.0 in
+    let counts = both (nat_le (length k.tables) max_tables) (nat_le k.versions max_versions) runs.0 in
+    let few : length k.tables ≤ 32 = grind (arith, nat_tests, counts.0) in
+    let most : k.versions ≤ max_versions = grind (arith, nat_tests, counts.1) in
+    let floor = there k.floor k.versions there_too.1 in
     let count : length s.tables.items ≡ length k.tables = sym (length-map s.tables.items (stock_of s.next)) ∙ ap length r.stocks ∙ length-map k.tables (stock_stated k.versions) in
     let next = r.next in
     let oldest = r.floor in
@@ -68,3 +67,21 @@ pub mapped_more : {X Y Z : Type 0} (f : X → Y) (g : Y → Z) (xs : List X) (i 
 mapped_more f g xs i x h is =
     ap (λ ys. map g (map f ys)) (take_more xs i x h ∙ ap (λ y. take i xs ++ y ∷ []) (sym is))
     ∙ ap (map g) (map_push f (take i xs) x) ∙ map_push g (map f (take i xs)) (f x)
+
+-- ---- names
+
+take_suc : {X : Type 0} (xs : List X) (i : ℕ) (x : X) → slice_get xs i ≡ Some x → take (suc i) xs ≡ take i xs ++ x ∷ []
+take_suc [] i x e = absurd (cc)
+take_suc (y ∷ ys) zero x e = let same : y ≡ x = cc in ap (λ z. z ∷ []) same
+take_suc (y ∷ ys) (suc i) x e = ap (λ zs. y ∷ zs) (take_suc ys i x e)
+
+-- a name, and those so far behind it, with one more
+pub named_more : (start now later names : List (List ℕ)) (first name : List ℕ) (i : ℕ) → slice_get names i ≡ Some name → now ≡ start ++ first ∷ take i names → later ≡ now ++ name ∷ [] → later ≡ start ++ first ∷ take (i + 1) names
+named_more start now later names first name i got was more =
+    let next : suc i ≡ i + 1 = omega arith in
+    more ∙ ap (λ ns. ns ++ name ∷ []) was ∙ append_assoc start (first ∷ take i names) (name ∷ [])
+    ∙ ap (λ ns. start ++ first ∷ ns) (sym (take_suc names i name got) ∙ ap (λ n. take n names) next)
+
+pub none_not : {X : Type 0} (o : Option X) → not (is_some o) ≡ is_none o
+none_not (Some x) = refl
+none_not None = refl

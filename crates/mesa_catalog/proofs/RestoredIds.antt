@@ -1,6 +1,7 @@
 -- The ids of the files that a checkpoint names.
-use Rattle.std.proofs.Common.{◌≡◌, ℕ, ◌+◌, ◌≤◌, ◌<◌, List, [], ◌∷◌, length, map, get_or, refl, sym, ◌∙◌, ap, subst, arith, Bool, true, false, cond}
-use Rattle.std.specs.Prelude.{◌==◌, ◌&&◌, nat_le, nat_lt, IsPermutation}
+use Rattle.std.proofs.Common.{◌≡◌, ℕ, ◌+◌, ◌≤◌, ◌<◌, List, [], ◌∷◌, map, refl, sym, ◌∙◌, ap, subst, arith, Bool, true, false, cond}
+use Rattle.std.specs.Prelude.{◌==◌, ◌&&◌, nat_le, nat_lt, is_some, IfSome, IsPermutation}
+use Rattle.std.specs.Bool.{then_some}
 use Rattle.std.specs.List.{list_all}
 use Rattle.std.specs.List.Sorted.{IsNonDecreasingBy}
 use Rattle.std.proofs.lemmas.Bool.Decides.{nat_tests}
@@ -158,3 +159,13 @@ stands_once run ids all id =
           let one : times id ids ≡ 1 = grind (arith, nat_tests) in
           omega (arith, one)
     ] refl
+
+-- ---- what is given where a test holds
+
+pub some_then : {X : Type 0} (b : Bool) (x : X) → is_some (then_some b x) ≡ b
+some_then true x = refl
+some_then false x = refl
+
+pub if_then_some : {X : Type 0} (b : Bool) (x : X) (P : X → Type 0) → P x → IfSome (then_some b x) P
+if_then_some true x P p = p
+if_then_some false x P p = tt

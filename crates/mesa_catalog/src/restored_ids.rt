@@ -40,7 +40,7 @@ fn are_of_runs(run: u32, ids: &[FileId]) -> bool
 fn greatest_of(ids: &[FileId]) -> u64
     ensures { AllByRecursion (λ id. id ≤ result) ids.now }
 {
-    let mut greatest = 0;
+    let mut greatest: u64 = 0;
     for id in ids {
         greatest = greatest.max(id.number());
     }

@@ -1,10 +1,10 @@
-use Rattle.std.proofs.Common.{◌∙◌}
+use Rattle.std.proofs.Common.{[]}
 use Rattle.mesa_shelf.proofs.Pushes.{pushed_all, pushed_more}
 use Rattle.mesa_catalog.specs.Restored.{table_names}
 use Rattle.mesa_catalog.proofs.restoring.names_of.Goals as goal
 
 pub loop-table-preserved : goal.loop-table-preserved
-loop-table-preserved c = pushed_more table_names _ _ _ c.args.tables.now c.loop-table.table-index c.table-item.result c.loop-table-test.true c.table-item.is c.loop-table.invariant c.in_ok-push_names.ensures
+loop-table-preserved c = pushed_more table_names [] _ _ c.args.tables.now c.loop-table.table-index c.table-item.result c.loop-table-test.true c.table-item.is c.loop-table.invariant c.in_ok-push_names.ensures
 
 pub returns : goal.returns
-returns c = pushed_all table_names _ _ c.args.tables.now c.loop-table.table-index c.loop-table-test.false c.loop-table.invariant
+returns c = pushed_all table_names [] _ c.args.tables.now c.loop-table.table-index c.loop-table-test.false c.loop-table.invariant

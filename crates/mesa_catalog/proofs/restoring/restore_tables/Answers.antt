@@ -1,5 +1,6 @@
 use Rattle.std.proofs.Common.{◌≡◌, [], ◌∙◌, ap, sym, subst, arith}
 use Rattle.std.specs.List.{AllByRecursion, list_all}
+use Rattle.std.proofs.lemmas.Result.{err_from_is_err_and}
 use Rattle.std.proofs.lemmas.List.{nil_from_length}
 use Rattle.mesa_image_laws.specs.mesa_image.Checkpoint.{stock_stated}
 use Rattle.mesa_image_laws.specs.mesa_image.CheckpointFits.{table_fits}
@@ -24,8 +25,9 @@ tables-preserved c =
     }
 
 pub returns-in_err-restore-clause-refused : goal.returns-in_err-restore-clause-refused
-returns-in_err-restore-clause-refused c = λ ne.
-    first_fails (table_fits c.args.floor c.args.next) c.in-Some.table c.tables.left.items c.pop_front.new.self.items _ c.in-Some.ensures.items (c.in_err-restore.ensures.refused ne) c.tables.invariant.fits
+returns-in_err-restore-clause-refused c =
+    let p = err_from_is_err_and c.from_residual-in_err-restore.result c.from_residual-in_err-restore.ensures.1 in
+    rw (p.1, p.2) (λ ne. first_fails (table_fits c.args.floor c.args.next) c.in-Some.table c.tables.left.items c.pop_front.new.self.items _ c.in-Some.ensures.items (c.in_err-restore.ensures.refused ne) c.tables.invariant.fits)
 
 pub returns-clause-fits : goal.returns-clause-fits
 returns-clause-fits c =
