@@ -1,5 +1,6 @@
 -- What a vault has in its memory between turns.
 use Rattle.std.specs.Prelude.{◌≡◌, ℕ, ◌≤◌, [], not, ◌==◌, Bool, Option, None, Some}
+use Rattle.mesa_disk.specs.declared.area.Area.{Area}
 use Rattle.mesa_lease.specs.Book.{Book, begun}
 use Rattle.mesa_ledger.specs.mesa_model.Warehouse.{max_tables}
 use Rattle.mesa_record.specs.declared.record.Record.{Record}
@@ -20,9 +21,9 @@ pub record Memory : Type 0 where
   pub reserved : Option Readied
   pub leased : ℕ
 
--- The ledger of a catalogue whose journal ends here, before the run's first turn; each lease will hold for so many turns.
-abbrev pub opened_ledger : Catalog → ℕ → ℕ → Ledger
-opened_ledger c end turns = record {
+-- The ledger of a catalogue whose journal ends here in this area, before the run's first turn; each lease will hold for so many turns.
+abbrev pub opened_ledger : Catalog → Area → ℕ → ℕ → Ledger
+opened_ledger c area end turns = record {
   catalogue = c;
   generation = generation_of c;
   pins = [];
@@ -32,6 +33,7 @@ opened_ledger c end turns = record {
   given = [];
   closed = None;
   adopted = 0;
+  area = area;
   end = end;
 }
 

@@ -9,6 +9,7 @@ ghost use Rattle.mesa_metadata.specs.Memory.{opened_ledger};
 
 use crate::holders::{Holders, Pin};
 use mesa_catalog::Catalog;
+use mesa_disk::Area;
 use mesa_file::FileId;
 use mesa_lease::{Leases, TABLES};
 use mesa_trash::{Dropped, Hold};
@@ -31,7 +32,8 @@ pub struct Metadata {
     pub(crate) closed: Option<u64>,
     // How many files the run has adopted.
     pub(crate) adopted: u64,
-    // Where the journal's next body goes.
+    // The journal's area, and where its next body goes there.
+    pub(crate) area: Area,
     pub(crate) end: u64,
 }
 
@@ -54,6 +56,7 @@ impl Model for Metadata {
         given = m.given.items;
         closed = m.closed;
         adopted = m.adopted;
+        area = m.area;
         end = m.end;
       };
       reserved = option_map (readied m.room) m.catalog.reserved;
@@ -76,17 +79,18 @@ impl Drop for Metadata {
             given: _,
             closed: _,
             adopted: _,
+            area: _,
             end: _,
         } = self;
     }
 }
 
 impl Metadata {
-    /// The memory of a vault whose catalogue has this run as its last, before its first turn: `end` is where the journal's next body goes, and a lease will hold for `turns`.
-    pub fn new(alloc: Global, catalog: Catalog, end: u64, turns: u32) -> Self
+    /// The memory of a vault whose catalogue has this run as its last, before its first turn: the journal's next body goes to `end` in its area, and a lease will hold for `turns`.
+    pub fn new(alloc: Global, catalog: Catalog, area: Area, end: u64, turns: u32) -> Self
         requires run { catalog.catalogue.run < 2 ^ 24 }
         requires free { catalog.reserved ≡ None }
-        ensures { result ≡ record { ledger = opened_ledger catalog.catalogue end turns; reserved = None; leased = 0 } }
+        ensures { result ≡ record { ledger = opened_ledger catalog.catalogue area end turns; reserved = None; leased = 0 } }
     {
         Metadata {
             alloc,
@@ -101,6 +105,7 @@ impl Metadata {
             given: Vec::new(alloc),
             closed: None,
             adopted: 0,
+            area,
             end,
         }
     }
@@ -133,6 +138,13 @@ impl Metadata {
         ensures { result ≡ self.now.ledger.closed }
     {
         self.closed
+    }
+
+    /// The journal's area.
+    pub fn area(&self) -> Area
+        ensures { result ≡ self.now.ledger.area }
+    {
+        self.area
     }
 
     /// Where the journal's next body goes.
