@@ -71,13 +71,13 @@ module _ {K : Type 0} (held : K → Option (List ℕ)) (faults : K → ℕ) (n :
       (name : List ℕ) (due : (w : Rows) → IsDue n.script (run_at n.script (n.start w) log.history.items) session number (command.Work name) (Renewed (claim_in t)))
       (has : (w : Rows) → n.sound w → HasRange read was t (written_by (outset_of n w) (n.origin w).found log.history.items t.table)) (tell : (w : Rows) → n.sound w → AllTell bytes s.made.items)
       (body : List ℕ) (are : AreBytes body) (reads : record_at body ≡ Ok s.entry)
-      (new : Story) (worked : IsWorked story new m.ledger.end body (files_of bytes s.made.items) (removed_by m.ledger (length log.history.items) (dropped_ids m.ledger.catalogue s.entry)))
+      (new : Story) (worked : IsWorked story new m.ledger.area m.ledger.end body (files_of bytes s.made.items) (removed_by m.ledger (length log.history.items) (dropped_ids m.ledger.catalogue s.entry)))
       (moment : ℕ) (moment_is : moment ≡ new.moment) (after : Memory) (later : Log K) where
     abbrev h : List Entry
     h = log.history.items
 
     -- The device work is done, and the record is applied and told.
-    pub swapped_engine : (end : ℕ) → IsWhole story new m.ledger.end body (files_of bytes s.made.items) (removed_by m.ledger (length log.history.items) (dropped_ids m.ledger.catalogue s.entry)) end → Counts story new false
+    pub swapped_engine : (end : ℕ) → IsWhole story new m.ledger.area m.ledger.end body (files_of bytes s.made.items) (removed_by m.ledger (length log.history.items) (dropped_ids m.ledger.catalogue s.entry)) end → Counts story new false
         → after.ledger ≡ recorded_ledger m.ledger (applied m.ledger.catalogue s.entry) (generation_of (applied m.ledger.catalogue s.entry)) (left_by m.ledger (length log.history.items) (dropped_ids m.ledger.catalogue s.entry)) (ended t.table t.lease m.ledger.leases) s.adopted end
         → generation_of (applied m.ledger.catalogue s.entry) ≡ m.ledger.generation + turns_generation s.entry → after.leased ≡ m.leased
         → later.history.items ≡ log.history.items ++ entry session number kind.Close outcome.Stands moment ∷ [] → vec_capacity log.history ≤ vec_capacity later.history

@@ -6,7 +6,6 @@ use Rattle.mesa_schema.specs.Changes.{Lineage}
 use Rattle.mesa_disk.specs.Files.{AreGone, files_of}
 use Rattle.mesa_disk.specs.Image.{Image}
 use Rattle.mesa_disk.specs.Story.{Spans, Steps, Story}
-use Rattle.mesa_disk.specs.declared.area.Area.TheVariants.{Zero}
 use Rattle.mesa_commit.specs.Images.{Stands}
 use Rattle.mesa_commit.specs.Turn.{MovesOnly, made_ids, told_files}
 use Rattle.mesa_span.specs.declared.works.Work.{Work}
@@ -180,7 +179,7 @@ module _ (n : Starts) (w : Rows) (sound : Bool) (l : Ledger) (story : Story) (he
     moves = swap_step later c stocked_later v.shaped t.table (is_base t.work) (first_of t.work) (last_of t.work) t.epoch is.refs fit files_told (record { replaces = replaces; grouped = is.grouped v.rows (written t.table) (range ok) })
 
   module _ (body : List ℕ) (are : AreBytes body) (reads : record_at body ≡ Ok r) where
-    to_write : IsTrue sound → AllTell bytes s.made.items → IsWritten story v.bodies l.end c later r body made removed
+    to_write : IsTrue sound → AllTell bytes s.made.items → IsWritten story l.area v.bodies l.end c later r body made removed
     to_write ok tell =
         let stands = v.stands ok opened in
         record {
@@ -188,7 +187,7 @@ module _ (n : Starts) (w : Rows) (sound : Bool) (l : Ledger) (story : Story) (he
             bytes = stands.bytes;
             records = stands.records;
             stocked = stocked_later ok;
-            stands = subst (λ files. Stands story Zero v.bodies l.end files) (sym (agree_wants v.rows later (shelved c) (named_agree (outset_of n w) (n.origin w) sound l story held h running refused v later agree))) stands.stands;
+            stands = subst (λ files. Stands story l.area v.bodies l.end files) (sym (agree_wants v.rows later (shelved c) (named_agree (outset_of n w) (n.origin w) sound l story held h running refused v later agree))) stands.stands;
           };
           step = record { bytes = are; reads = reads; fitting = fit; stocked = (moves ok).stocked; grows = (moves ok).grows };
           brings = files tell;
@@ -196,15 +195,15 @@ module _ (n : Starts) (w : Rows) (sound : Bool) (l : Ledger) (story : Story) (he
         }
 
     -- each image stands for what was kept, or for what is to be kept
-    store_swaps : (new : Story) → IsWorked story new l.end body made removed → IsTrue sound → AllTell bytes s.made.items → Writes StandsFor story new (kept_of v.rows l.catalogue) (kept_of later (applied c r))
+    store_swaps : (new : Story) → IsWorked story new l.area l.end body made removed → IsTrue sound → AllTell bytes s.made.items → Writes StandsFor story new (kept_of v.rows l.catalogue) (kept_of later (applied c r))
     store_swaps new worked ok tell below all =
         subst (λ k. Spans (StandsForEither StandsFor k (kept_of later (applied c r))) story new) (same_kept (outset_of n w) (n.origin w) sound l story held h running refused v later agree)
         (worked.images v.bodies c later r (to_write ok tell))
 
-    store_holds : (new : Story) (end : ℕ) → IsWorked story new l.end body made removed → IsWhole story new l.end body made removed end → IsTrue sound → AllTell bytes s.made.items
-        → IsHeld new (v.bodies ++ body ∷ []) end (applied c r) later
+    store_holds : (new : Story) (end : ℕ) → IsWorked story new l.area l.end body made removed → IsWhole story new l.area l.end body made removed end → IsTrue sound → AllTell bytes s.made.items
+        → IsHeld new l.area (v.bodies ++ body ∷ []) end (applied c r) later
     store_holds new end worked whole ok tell =
-        subst (λ e. IsHeld new (v.bodies ++ body ∷ []) e (applied c r) later) (sym whole.ends) (whole.holds v.bodies c later r (to_write ok tell))
+        subst (λ e. IsHeld new l.area (v.bodies ++ body ∷ []) e (applied c r) later) (sym whole.ends) (whole.holds v.bodies c later r (to_write ok tell))
 
   module _ (new : Story) (m : ℕ) (moment : m ≡ new.moment) (passes : Passes story new) (only : Steps (MovesOnly made removed) story.told new.told) (now : Bool) (new_held : Option (List ℕ))
       (writes : IsTrue sound → Writes StandsFor story new (kept_of v.rows l.catalogue) (kept_of later (applied c r))) (end : ℕ) where
@@ -215,7 +214,7 @@ module _ (n : Starts) (w : Rows) (sound : Bool) (l : Ledger) (story : Story) (he
     abbrev after : Ledger
     after = recorded_ledger l (applied c r) (generation_of (applied c r)) (left_by l (length h) gone) (ended t.table t.lease l.leases) s.adopted end
 
-    stands_so : Counts story new false → (bodies : List (List ℕ)) → (IsTrue sound → IsHeld new bodies end (applied c r) later) → ((i : Image) → new.told ≡ Some i → AreGone removed i) → end < new.len Zero
+    stands_so : Counts story new false → (bodies : List (List ℕ)) → (IsTrue sound → IsHeld new l.area bodies end (applied c r) later) → ((i : Image) → new.told ≡ Some i → AreGone removed i) → end < new.len l.area
         → generation_of (applied c r) ≡ l.generation + turns_generation r → IsPut (block (entry session number kind.Close outcome.Stands m) (Some (told_at at (swapped_reply t.work)))) now held new_held
         → IsVault (outset_of n w) (n.origin w) sound after new new_held (h ++ entry session number kind.Close outcome.Stands m ∷ []) now (refused || false)
     stands_so counts bodies holds gone_now long rises put =
@@ -245,14 +244,14 @@ module _ (n : Starts) (w : Rows) (sound : Bool) (l : Ledger) (story : Story) (he
     (body : List ℕ) (are : AreBytes body) (new : Story) (m : ℕ) (moment : m ≡ new.moment) (now : Bool) (new_held : Option (List ℕ)) where
   -- what is asked of the device work for a record, and what the vault then is
   abbrev Ends : Record → Type 0
-  Ends e = record_at body ≡ Ok e → IsWorked story new l.end body (files_of bytes s.made.items) (removed_by l (length h) (dropped_ids l.catalogue e)) → (end : ℕ)
-      → IsWhole story new l.end body (files_of bytes s.made.items) (removed_by l (length h) (dropped_ids l.catalogue e)) end → Counts story new false → generation_of (applied l.catalogue e) ≡ l.generation + turns_generation e
+  Ends e = record_at body ≡ Ok e → IsWorked story new l.area l.end body (files_of bytes s.made.items) (removed_by l (length h) (dropped_ids l.catalogue e)) → (end : ℕ)
+      → IsWhole story new l.area l.end body (files_of bytes s.made.items) (removed_by l (length h) (dropped_ids l.catalogue e)) end → Counts story new false → generation_of (applied l.catalogue e) ≡ l.generation + turns_generation e
       → IsPut (block (entry session number kind.Close outcome.Stands m) (Some (told_at at (swapped_reply t.work)))) now held new_held
       → IsVault (outset_of n w) (n.origin w) sound (recorded_ledger l (applied l.catalogue e) (generation_of (applied l.catalogue e)) (left_by l (length h) (dropped_ids l.catalogue e)) (ended t.table t.lease l.leases) s.adopted end) new new_held
       (h ++ entry session number kind.Close outcome.Stands m ∷ []) now (refused || false)
 
   abbrev Fails : Record → Type 0
-  Fails e = record_at body ≡ Ok e → IsWorked story new l.end body (files_of bytes s.made.items) (removed_by l (length h) (dropped_ids l.catalogue e)) → Counts story new true
+  Fails e = record_at body ≡ Ok e → IsWorked story new l.area l.end body (files_of bytes s.made.items) (removed_by l (length h) (dropped_ids l.catalogue e)) → Counts story new true
       → IsPut (block (entry session number kind.Close outcome.WriteFault m) (Some (told_at at (reply_of Unwritten)))) now held new_held
       → IsVault (outset_of n w) (n.origin w) sound (failed_ledger l at (ended t.table t.lease l.leases) s.adopted) new new_held (h ++ entry session number kind.Close outcome.WriteFault m ∷ []) now (refused || true)
 

@@ -129,8 +129,9 @@ fn swap_in<N: Naming, M: Made, D: Disk<M>, K: Sink>(
         made,
         adopted,
     } = swapped;
+    let area = engine.metadata.area();
     let end = engine.metadata.end();
-    match write_record(&mut engine.disk, made, end, &framed, &removed) {
+    match write_record(&mut engine.disk, area, made, end, &framed, &removed) {
         Ok(end) => {
             engine.metadata.apply_swap(entry, at, &gone, adopted, end);
             engine.metadata.end_lease(task.table, task.lease);

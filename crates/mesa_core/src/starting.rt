@@ -36,7 +36,7 @@ impl<'s, N: Naming, M: Made, D: Disk<M>, K: Sink> Vault<'s, N, M, D, K> {
         script: &'s Script,
     ) -> Result<Self, (AllocError, Begun<D>, K)>
         requires script { script.now ≡ N.script }
-        requires begun { (w : Rows) (b : Bool) → (IsTrue b → N.sound w) → IsBegun (starts_of N.script N.start N.sound N.origin N.since N.counted N.at_start) w b begun.catalog.catalogue begun.end script.now.lease (D.story begun.disk) (K.held out) }
+        requires begun { (w : Rows) (b : Bool) → (IsTrue b → N.sound w) → IsBegun (starts_of N.script N.start N.sound N.origin N.since N.counted N.at_start) w b begun.catalog.catalogue begun.area begun.end script.now.lease (D.story begun.disk) (K.held out) }
         requires told { AllTold M.bytes N.sound }
         requires faults { K.faults out ≡ N.sink_faults }
         requires run { begun.catalog.catalogue.run < 2 ^ 24 }
@@ -46,7 +46,7 @@ impl<'s, N: Naming, M: Made, D: Disk<M>, K: Sink> Vault<'s, N, M, D, K> {
         ensures started { IfOk result (λ v. v ≡ record {
           shown = record { history = []; running = true; clock = (D.story begun.disk).moment };
           run = begun.catalog.catalogue.run;
-          ledger = opened_ledger begun.catalog.catalogue begun.end script.now.lease;
+          ledger = opened_ledger begun.catalog.catalogue begun.area begun.end script.now.lease;
           told = (D.story begun.disk).told;
           faults = faults_of (D.story begun.disk);
           sink = K.held out;
@@ -60,11 +60,20 @@ impl<'s, N: Naming, M: Made, D: Disk<M>, K: Sink> Vault<'s, N, M, D, K> {
                     disk,
                     catalog,
                     run: _run,
-                    area: _area,
+                    area,
                     end,
                     since: _since,
                 } = begun;
-                let engine = Engine::start(alloc, catalog, end, script.lease, disk, out, history);
+                let engine = Engine::start(
+                    alloc,
+                    catalog,
+                    area,
+                    end,
+                    script.lease,
+                    disk,
+                    out,
+                    history,
+                );
                 Ok(Vault { script, engine })
             }
             Err(AllocError) => Err((AllocError, begun, out)),

@@ -1,6 +1,7 @@
 -- An engine before its first turn.
 use Rattle.std.proofs.Common.{◌≡◌, ℕ, List, [], Bool, true, false, sym, ap, subst, Option}
 use Rattle.mesa_disk.specs.Story.{Story}
+use Rattle.mesa_disk.specs.declared.area.Area.{Area}
 use Rattle.mesa_catalog.specs.mesa_image.Catalog.{Catalog}
 use Rattle.mesa_lease.specs.Book.{Book}
 use Rattle.mesa_ledger.specs.mesa_skeleton.Rows.{Rows}
@@ -12,14 +13,14 @@ use Rattle.mesa_ledger.proofs.Beginning.{first_ledger, started_vault}
 use Rattle.mesa_metadata.specs.Memory.{opened_ledger}
 use Rattle.mesa_engine.specs.Beginning.{IsBegun}
 
-module _ (n : Starts) (w : Rows) (sound : Bool) (c : Catalog) (end turns : ℕ) (story : Story) (held : Option (List ℕ)) (is : IsBegun n w sound c end turns story held) where
-  ledger_is : first_ledger (outset_of n w) c (n.origin w).generation end ≡ opened_ledger c end turns
-  ledger_is = λ i. record (opened_ledger c end turns) { generation = is.generation i; leases = is.leases i }
+module _ (n : Starts) (w : Rows) (sound : Bool) (c : Catalog) (area : Area) (end turns : ℕ) (story : Story) (held : Option (List ℕ)) (is : IsBegun n w sound c area end turns story held) where
+  ledger_is : first_ledger (outset_of n w) c (n.origin w).generation area end ≡ opened_ledger c area end turns
+  ledger_is = λ i. record (opened_ledger c area end turns) { generation = is.generation i; leases = is.leases i }
 
-  pub begun_vault : IsVault (outset_of n w) (n.origin w) sound (opened_ledger c end turns) story held [] true false
+  pub begun_vault : IsVault (outset_of n w) (n.origin w) sound (opened_ledger c area end turns) story held [] true false
   begun_vault =
       subst (λ l. IsVault (outset_of n w) (n.origin w) sound l story held [] true false) ledger_is
-      (started_vault (outset_of n w) (n.origin w) sound c end story held w is.bodies
-      (started (outset_of n w) sound (books_of w (first_ledger (outset_of n w) c (n.origin w).generation end)) story held
+      (started_vault (outset_of n w) (n.origin w) sound c area end story held w is.bodies
+      (started (outset_of n w) sound (books_of w (first_ledger (outset_of n w) c (n.origin w).generation area end)) story held
       (subst (λ l. AreBooksOf sound (books_of w l) (n.start w)) (sym ledger_is) is.state) is.since is.counted is.found is.sink)
       is.ranges (ap (λ (b : Book). b.granted) is.leases) is.holds is.shaped is.own is.named_given (record { long = is.ready.long; fresh = is.ready.fresh; strays = is.ready.strays }) is.stocked is.sourced is.read)

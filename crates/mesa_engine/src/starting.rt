@@ -17,7 +17,7 @@ ghost use Rattle.mesa_ledger.specs.mesa_walk.Walk.{AllFound, HasCounted, faults_
 
 use crate::Engine;
 use mesa_catalog::Catalog;
-use mesa_disk::{Disk, Made};
+use mesa_disk::{Area, Disk, Made};
 use mesa_io::Sink;
 use mesa_ledger::Naming;
 use mesa_log::Log;
@@ -28,18 +28,19 @@ use std::alloc::Global;
 use std::marker::PhantomData;
 
 impl<N: Naming, M: Made, D: Disk<M>, K: Sink> Engine<N, M, D, K> {
-    /// The engine of the run that N names, before its first turn. `end` is where the journal's next
-    /// body goes, and `lease` for how many turns a lease holds. The history has room for all turns.
+    /// The engine of the run that N names, before its first turn. The journal's next body goes to
+    /// `end` in its area, and a lease holds for `lease` turns. The history has room for all turns.
     pub fn start(
         alloc: Global,
         catalog: Catalog,
+        area: Area,
         end: u64,
         lease: u32,
         disk: D,
         sink: K,
         history: Vec<Entry>,
     ) -> Self
-        requires begun { (w : Rows) (b : Bool) → (IsTrue b → N.sound w) → IsBegun (starts_of N.script N.start N.sound N.origin N.since N.counted N.at_start) w b catalog.catalogue end lease (D.story disk) (K.held sink) }
+        requires begun { (w : Rows) (b : Bool) → (IsTrue b → N.sound w) → IsBegun (starts_of N.script N.start N.sound N.origin N.since N.counted N.at_start) w b catalog.catalogue area end lease (D.story disk) (K.held sink) }
         requires faults { K.faults sink ≡ N.sink_faults }
         requires run { catalog.catalogue.run < 2 ^ 24 }
         requires free { catalog.reserved ≡ None }
@@ -47,13 +48,13 @@ impl<N: Naming, M: Made, D: Disk<M>, K: Sink> Engine<N, M, D, K> {
         requires room { N.room ≤ vec_capacity history }
         requires few { N.room ≤ most_turns }
         ensures shown { result.shown ≡ record { history = []; running = true; clock = (D.story disk).moment } }
-        ensures ledger { result.ledger ≡ opened_ledger catalog.catalogue end lease }
+        ensures ledger { result.ledger ≡ opened_ledger catalog.catalogue area end lease }
         ensures told { result.told ≡ (D.story disk).told }
         ensures counts { result.faults ≡ faults_of (D.story disk) }
         ensures sink { result.sink ≡ K.held sink }
     {
         Engine {
-            metadata: Metadata::new(alloc, catalog, end, lease),
+            metadata: Metadata::new(alloc, catalog, area, end, lease),
             disk,
             log: Log {
                 printer: Printer {

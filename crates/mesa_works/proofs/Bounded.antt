@@ -86,7 +86,7 @@ module _ (o : Outset) (g : Origin) (l : Ledger) (story : Story) (held : Option (
   seen = map own_file (flat_map (table_wanted (stock_at l.catalogue t.table).lineage) (merged_of (stock_at l.catalogue t.table) (is_base t.work) (last_of t.work)))
 
   has : Has (wants v.rows (shelved c)) image
-  has = held_there story v.bodies l.end c v.rows (v.stands refl opened) image (v.read refl).1
+  has = held_there story l.area v.bodies l.end c v.rows (v.stands refl opened) image (v.read refl).1
 
   given : AllByRecursion (AreGiven v.rows image lin) ds
   given = all_merged (AreGiven v.rows image lin) u (all_unflat (IsGiven v.rows image) (delta_shelved lin) (deltas_of u) (stock_given v.rows c image t.table (v.stocked refl).0 has there)) (is_base t.work) (last_of t.work)

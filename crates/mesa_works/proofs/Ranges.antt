@@ -51,7 +51,7 @@ module _ (law : OneFile) (o : Outset) (g : Origin) (l : Ledger) (story : Story) 
   told_is = (v.read refl).1
 
   has : Has (wants v.rows (shelved c)) image
-  has = held_there story v.bodies l.end c v.rows (v.stands refl opened) image told_is
+  has = held_there story l.area v.bodies l.end c v.rows (v.stands refl opened) image told_is
 
   sound : AllByRecursion (IsSoundDelta v.rows image lin) (merged_of u (is_base t.work) (last_of t.work))
   sound = sound_merged v.rows image lin u (is_base t.work) (last_of t.work) (sound_deltas v.rows image c t.table there (v.stocked refl).0 has)

@@ -51,7 +51,7 @@ module _ {K : Type 0} (held : K → Option (List ℕ)) (faults : K → ℕ) (n :
   module _ (alike : (w : Rows) → bare_state (n.start no_rows) ≡ bare_state (n.start w)) (session number : ℕ) (low : session < 2 ^ 16) (few : number < 2 ^ 32) (ran : not log.printer.broken ≡ true)
       {M : Type 0} (bytes : M → Option (List ℕ)) (change : Change M) (to : IsToWrite bytes n.script (run_at n.script (n.start no_rows) log.history.items) m.ledger session number change)
       (typed : IsTyped change.writes) (tell : (w : Rows) → n.sound w → AllTell bytes change.made.items) (body : List ℕ) (are : AreBytes body) (reads : record_at body ≡ Ok change.writes)
-      (new : Story) (worked : IsWorked story new m.ledger.end body (files_of bytes change.made.items) [])
+      (new : Story) (worked : IsWorked story new m.ledger.area m.ledger.end body (files_of bytes change.made.items) [])
       (moment : ℕ) (moment_is : moment ≡ new.moment) (at : ℕ) (place : at ≡ length log.history.items) (after : Memory) (later : Log K) where
     abbrev h : List Entry
     h = log.history.items
@@ -60,7 +60,7 @@ module _ {K : Type 0} (held : K → Option (List ℕ)) (faults : K → ℕ) (n :
     due_for w = due_alike n.script (n.start no_rows) (n.start w) h session number to.asked (deciding_stage to.asked) (alike w) (deciding_unanswered to.asked) to.due
 
     -- The device work is done, and the record is applied and told.
-    pub written_engine : (end : ℕ) → IsWhole story new m.ledger.end body (files_of bytes change.made.items) [] end → Counts story new false
+    pub written_engine : (end : ℕ) → IsWhole story new m.ledger.area m.ledger.end body (files_of bytes change.made.items) [] end → Counts story new false
         → after.ledger ≡ recorded_ledger m.ledger (applied m.ledger.catalogue change.writes) (generation_of (applied m.ledger.catalogue change.writes)) m.ledger.trash m.ledger.leases change.adopted end
         → generation_of (applied m.ledger.catalogue change.writes) ≡ m.ledger.generation + turns_generation change.writes → after.leased ≡ m.leased
         → later.history.items ≡ log.history.items ++ entry session number kind.Decide outcome.Stands moment ∷ [] → vec_capacity log.history ≤ vec_capacity later.history

@@ -4,7 +4,7 @@ use Rattle.mesa_key.specs.Spelling.{AreBytes}
 use Rattle.mesa_disk.specs.Files.{AreAbsent, AreGone, files_of}
 use Rattle.mesa_disk.specs.Image.{Image, file_of}
 use Rattle.mesa_disk.specs.Story.{Story, Spans, Steps}
-use Rattle.mesa_disk.specs.declared.area.Area.TheVariants.{Zero}
+use Rattle.mesa_disk.specs.declared.area.Area.{Area}
 use Rattle.mesa_commit.specs.Images.{Stands}
 use Rattle.mesa_commit.specs.Turn.{MovesOnly}
 use Rattle.mesa_model.specs.declared.commands.Script.{Script}
@@ -49,17 +49,17 @@ use Rattle.mesa_writing.specs.Writing.{IsToWrite}
 use Rattle.mesa_writing.proofs.Doing.{IsDone, command_done, stocked_later}
 
 -- What the device work of a turn did that wrote a body, adopted files and removed others.
-pub record IsWorked (story new : Story) (end : ℕ) (body : List ℕ) (made : List (ℕ × Option (List ℕ))) (dropped : List ℕ) : Type 0 where
-  pub images : (bodies : List (List ℕ)) (c : Catalog) (rows : Rows) (r : Record) → IsWritten story bodies end c rows r body made dropped → Spans (EitherOf (kept_of rows c) (kept_of rows (applied c r))) story new
+pub record IsWorked (story new : Story) (area : Area) (end : ℕ) (body : List ℕ) (made : List (ℕ × Option (List ℕ))) (dropped : List ℕ) : Type 0 where
+  pub images : (bodies : List (List ℕ)) (c : Catalog) (rows : Rows) (r : Record) → IsWritten story area bodies end c rows r body made dropped → Spans (EitherOf (kept_of rows c) (kept_of rows (applied c r))) story new
   pub only : Steps (MovesOnly made dropped) story.told new.told
   pub passes : Passes story new
 
 -- It was done.
-pub record IsWhole (story new : Story) (end : ℕ) (body : List ℕ) (made : List (ℕ × Option (List ℕ))) (dropped : List ℕ) (later : ℕ) : Type 0 where
-  pub holds : (bodies : List (List ℕ)) (c : Catalog) (rows : Rows) (r : Record) → IsWritten story bodies end c rows r body made dropped → IsHeld new (bodies ++ body ∷ []) (end + length body + 5) (applied c r) rows
+pub record IsWhole (story new : Story) (area : Area) (end : ℕ) (body : List ℕ) (made : List (ℕ × Option (List ℕ))) (dropped : List ℕ) (later : ℕ) : Type 0 where
+  pub holds : (bodies : List (List ℕ)) (c : Catalog) (rows : Rows) (r : Record) → IsWritten story area bodies end c rows r body made dropped → IsHeld new area (bodies ++ body ∷ []) (end + length body + 5) (applied c r) rows
   pub gone : (i : Image) → new.told ≡ Some i → AreGone dropped i
   pub ends : later ≡ end + length body + 5
-  pub long : later < new.len Zero
+  pub long : later < new.len area
 
 -- ---- ids
 
@@ -105,7 +105,7 @@ module _ (n : Starts) (w : Rows) (sound : Bool) (l : Ledger) (story : Story) (he
   clears = clears_none (outset_of n w) (n.origin w) sound l story held h running refused v made change.adopted to.can.brings.adopts x renames
 
   module _ (body : List ℕ) (are : AreBytes body) (reads : record_at body ≡ Ok change.writes) where
-    to_write : IsTrue sound → AllTell bytes change.made.items → IsWritten story v.bodies l.end c later change.writes body made []
+    to_write : IsTrue sound → AllTell bytes change.made.items → IsWritten story l.area v.bodies l.end c later change.writes body made []
     to_write ok tell =
         let is = v.stands ok to.can.opened in
         let stocked = stocked_later (outset_of n w) (n.origin w) sound l story held h running refused v to.can.later to.can.brings.agree to.can.opened session change.adopted 0 ok in
@@ -115,7 +115,7 @@ module _ (n : Starts) (w : Rows) (sound : Bool) (l : Ledger) (story : Story) (he
             bytes = is.bytes;
             records = is.records;
             stocked = stocked;
-            stands = subst (λ files. Stands story Zero v.bodies l.end files) (sym (agree_wants v.rows later (shelved c) (named_agree (outset_of n w) (n.origin w) sound l story held h running refused v later (to.can.brings.agree v.rows)))) is.stands;
+            stands = subst (λ files. Stands story l.area v.bodies l.end files) (sym (agree_wants v.rows later (shelved c) (named_agree (outset_of n w) (n.origin w) sound l story held h running refused v later (to.can.brings.agree v.rows)))) is.stands;
           };
           step = record { bytes = are; reads = reads; fitting = to.can.fit; stocked = moved.stocked; grows = moved.grows };
           brings = to.can.brings.files v.rows tell;
@@ -123,20 +123,20 @@ module _ (n : Starts) (w : Rows) (sound : Bool) (l : Ledger) (story : Story) (he
         }
 
     -- each image stands for what was kept, or for what is to be kept
-    pub store_writes : (new : Story) → IsWorked story new l.end body made [] → IsTrue sound → AllTell bytes change.made.items → Writes StandsFor story new (kept_of v.rows l.catalogue) (kept_of (to.can.later v.rows) (applied l.catalogue change.writes))
+    pub store_writes : (new : Story) → IsWorked story new l.area l.end body made [] → IsTrue sound → AllTell bytes change.made.items → Writes StandsFor story new (kept_of v.rows l.catalogue) (kept_of (to.can.later v.rows) (applied l.catalogue change.writes))
     store_writes new worked ok tell below all =
         subst (λ k. Spans (StandsForEither StandsFor k (kept_of later x)) story new) (same_kept (outset_of n w) (n.origin w) sound l story held h running refused v later (to.can.brings.agree v.rows))
         (worked.images v.bodies c later change.writes (to_write ok tell))
 
-    pub store_holds : (new : Story) (end : ℕ) → IsWorked story new l.end body made [] → IsWhole story new l.end body made [] end → IsTrue sound → AllTell bytes change.made.items
-        → IsHeld new (v.bodies ++ body ∷ []) end (applied l.catalogue change.writes) (to.can.later v.rows)
+    pub store_holds : (new : Story) (end : ℕ) → IsWorked story new l.area l.end body made [] → IsWhole story new l.area l.end body made [] end → IsTrue sound → AllTell bytes change.made.items
+        → IsHeld new l.area (v.bodies ++ body ∷ []) end (applied l.catalogue change.writes) (to.can.later v.rows)
     store_holds new end worked whole ok tell =
-        subst (λ e. IsHeld new (v.bodies ++ body ∷ []) e x later) (sym whole.ends) (whole.holds v.bodies c later change.writes (to_write ok tell))
+        subst (λ e. IsHeld new l.area (v.bodies ++ body ∷ []) e x later) (sym whole.ends) (whole.holds v.bodies c later change.writes (to_write ok tell))
 
   module _ (new : Story) (m : ℕ) (moment : m ≡ new.moment) (passes : Passes story new) (only : Steps (MovesOnly made []) story.told new.told) (at : ℕ) (place : at ≡ length h) (now : Bool) (new_held : Option (List ℕ))
       (writes : IsTrue sound → Writes StandsFor story new (kept_of v.rows l.catalogue) (kept_of (to.can.later v.rows) (applied l.catalogue change.writes))) where
-    pub stands_so : (end : ℕ) → Counts story new false → (bodies : List (List ℕ)) → (IsTrue sound → IsHeld new bodies end (applied l.catalogue change.writes) (to.can.later v.rows))
-        → ((i : Image) → new.told ≡ Some i → AreGone [] i) → end < new.len Zero → generation_of (applied l.catalogue change.writes) ≡ l.generation + turns_generation change.writes
+    pub stands_so : (end : ℕ) → Counts story new false → (bodies : List (List ℕ)) → (IsTrue sound → IsHeld new l.area bodies end (applied l.catalogue change.writes) (to.can.later v.rows))
+        → ((i : Image) → new.told ≡ Some i → AreGone [] i) → end < new.len l.area → generation_of (applied l.catalogue change.writes) ≡ l.generation + turns_generation change.writes
         → IsPut (block (entry session number kind.Decide outcome.Stands m) (Some (told_at at change.tells))) now held new_held
         → IsVault (outset_of n w) (n.origin w) sound (recorded_ledger l (applied l.catalogue change.writes) (generation_of (applied l.catalogue change.writes)) l.trash l.leases change.adopted end) new new_held (h ++ entry session number kind.Decide outcome.Stands m ∷ []) now (refused || is_refusal change.tells)
     stands_so end counts bodies holds gone long rises put =
@@ -159,10 +159,10 @@ module _ (n : Starts) (w : Rows) (sound : Bool) (l : Ledger) (story : Story) (he
     (session number : ℕ) (low : session < 2 ^ 16) (few : number < 2 ^ 32) (ran : running ≡ true)
     {M : Type 0} (bytes : M → Option (List ℕ)) (change : Change M) (script : Script) (r : Run) (to : IsToWrite bytes script r l session number change)
     (due : IsDue n.script (run_of (outset_of n w) h) session number to.asked (deciding_stage to.asked)) (typed : IsTyped change.writes) (tell : IsTrue sound → AllTell bytes change.made.items)
-    (body : List ℕ) (are : AreBytes body) (reads : record_at body ≡ Ok change.writes) (new : Story) (worked : IsWorked story new l.end body (files_of bytes change.made.items) [])
+    (body : List ℕ) (are : AreBytes body) (reads : record_at body ≡ Ok change.writes) (new : Story) (worked : IsWorked story new l.area l.end body (files_of bytes change.made.items) [])
     (m : ℕ) (moment : m ≡ new.moment) (at : ℕ) (place : at ≡ length h) (now : Bool) (new_held : Option (List ℕ)) where
   -- The device work is done, and the vault has the record.
-  pub write_stands : (end : ℕ) → IsWhole story new l.end body (files_of bytes change.made.items) [] end → Counts story new false → generation_of (applied l.catalogue change.writes) ≡ l.generation + turns_generation change.writes
+  pub write_stands : (end : ℕ) → IsWhole story new l.area l.end body (files_of bytes change.made.items) [] end → Counts story new false → generation_of (applied l.catalogue change.writes) ≡ l.generation + turns_generation change.writes
       → IsPut (block (entry session number kind.Decide outcome.Stands m) (Some (told_at at change.tells))) now held new_held
       → IsVault (outset_of n w) (n.origin w) sound (recorded_ledger l (applied l.catalogue change.writes) (generation_of (applied l.catalogue change.writes)) l.trash l.leases change.adopted end) new new_held (h ++ entry session number kind.Decide outcome.Stands m ∷ []) now (refused || is_refusal change.tells)
   write_stands end whole counts rises put =

@@ -81,8 +81,9 @@ pub fn write<N: Naming, M: Made, D: Disk<M>, K: Sink>(
         adopted,
         tells,
     } = change;
+    let area = engine.metadata.area();
     let end = engine.metadata.end();
-    match write_record(&mut engine.disk, made, end, &framed, &[]) {
+    match write_record(&mut engine.disk, area, made, end, &framed, &[]) {
         Ok(end) => {
             engine.metadata.apply(writes, adopted, end);
             let turn = who.turn(Kind::Decide, Outcome::Stands, engine.disk.clock());

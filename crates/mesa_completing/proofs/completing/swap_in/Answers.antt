@@ -1,7 +1,6 @@
 use Rattle.std.proofs.Common.{◌≡◌, inl, ◌+◌, ◌<◌, [], ◌∷◌, ◌++◌, length, true, false, ◌||◌, ◌^◌, not, refl, sym, ◌∙◌, ap, subst, arith, Ok}
 use Rattle.mesa_fault.specs.Causes.{Rose}
 use Rattle.mesa_disk.specs.Files.{files_of}
-use Rattle.mesa_disk.specs.declared.area.Area.TheVariants.{Zero}
 use Rattle.mesa_history.specs.Machine.{claim_checked, swapped_reply}
 use Rattle.mesa_history.specs.Refused.{is_refusal}
 use Rattle.mesa_history.specs.Run.{Finished, Renewed}
@@ -140,8 +139,9 @@ write_record-requires-clause-room g c κs within =
     subst (λ (x : Standing). IsFinished bytes g.M.Made.id_of read was (stock_at x.ledger.catalogue t.table).lineage t c.args.delta) (sym c.engine.view_is) c.requires.finished.1 in
     let is : IsSwapped bytes read l was t s = c.in-Ok.ensures.swapped was finished in
     let end_is : c.end-end.result ≡ l.end = c.end-end.ensures ∙ ap (λ (m : Memory). m.ledger.end) c.in-Ok.ensures.reserved in
+    let area_is : c.area-area.result ≡ l.area = c.area-area.ensures ∙ ap (λ (m : Memory). m.ledger.area) c.in-Ok.ensures.reserved in
     let ready = ready_still g.K.Sink.held g.K.Sink.faults n N.room N.sink_faults i.metadata story i.log c.engine.invariant bytes read was t s is holds in
-    subst (λ e. e < story.len Zero) (sym end_is) ready.long
+    subst (λ a. c.end-end.result < story.len a) (sym area_is) (subst (λ e. e < story.len l.area) (sym end_is) ready.long)
 
 pub apply_swap-requires-clause-few : goal.apply_swap-requires-clause-few
 apply_swap-requires-clause-few g c =
@@ -255,11 +255,13 @@ kept_done g c =
     let does = c.write_record.ensures in
     let ran : not i.log.printer.broken ≡ true = ap (λ (x : Standing). x.shown.running) c.engine.view_is ∙ c.requires.runs in
     let end_is : c.end-end.result ≡ l.end = c.end-end.ensures ∙ ap (λ (m : Memory). m.ledger.end) reserved in
+    let area_is : c.area-area.result ≡ l.area = c.area-area.ensures ∙ ap (λ (m : Memory). m.ledger.area) reserved in
     let removed_is : c.deref.result.now ≡ removed_by l (length h) gone = c.deref.ensures.value ∙ c.in-Ok.ensures.removes ∙ ap (λ p. removed_by l p gone) place in
     let laws = g.met.D.Disk g.world.𝓛 g.world.𝓜 g.world.𝓡 ((λ s x. x), (λ x. x), (λ x. x), λ x. x) in
-    let worked : IsWorked story new l.end body (files_of bytes s.made.items) (removed_by l (length h) gone) =
-    subst (λ e. IsWorked story new e body (files_of bytes s.made.items) (removed_by l (length h) gone)) end_is
-    (subst (λ d. IsWorked story new c.end-end.result body (files_of bytes s.made.items) d) removed_is
+    let worked : IsWorked story new l.area l.end body (files_of bytes s.made.items) (removed_by l (length h) gone) =
+    subst (λ a. IsWorked story new a l.end body (files_of bytes s.made.items) (removed_by l (length h) gone)) area_is
+    (subst (λ e. IsWorked story new c.area-area.result e body (files_of bytes s.made.items) (removed_by l (length h) gone)) end_is
+    (subst (λ d. IsWorked story new c.area-area.result c.end-end.result body (files_of bytes s.made.items) d) removed_is
     (record {
       images = does.images;
       only = does.only;
@@ -272,7 +274,7 @@ kept_done g c =
           earlier = λ a t x le had. laws.earlier c.write_record.new.disk a t x le had;
         };
       };
-    })) in
+    }))) in
     let typed = (record_found body s.entry c.in-Ok.ensures.bytes c.in-Ok.ensures.reads).0.typed in
     let calls = does.read_cause in
     let due_for = λ (w : Rows). due_alike N.script (N.start no_rows) (N.start w) h session number (command.Work name) (Renewed (claim_in t)) (N.alike w) refl due in
@@ -280,9 +282,10 @@ kept_done g c =
     let later = c.tell.new.self in
     let short : IsShort (entry session number kind.Close outcome.Stands c.clock.result) = subst IsShort c.turn-turn.ensures.same c.turn-turn.ensures.short in
     let done = c.in-Ok-write_record.ensures in
-    let whole : IsWhole story new l.end body (files_of bytes s.made.items) (removed_by l (length h) gone) end =
-    subst (λ e. IsWhole story new e body (files_of bytes s.made.items) (removed_by l (length h) gone) end) end_is
-    (subst (λ d. IsWhole story new c.end-end.result body (files_of bytes s.made.items) d end) removed_is (record { holds = done.done; gone = done.gone; ends = done.end; long = done.longer })) in
+    let whole : IsWhole story new l.area l.end body (files_of bytes s.made.items) (removed_by l (length h) gone) end =
+    subst (λ a. IsWhole story new a l.end body (files_of bytes s.made.items) (removed_by l (length h) gone) end) area_is
+    (subst (λ e. IsWhole story new c.area-area.result e body (files_of bytes s.made.items) (removed_by l (length h) gone) end) end_is
+    (subst (λ d. IsWhole story new c.area-area.result c.end-end.result body (files_of bytes s.made.items) d end) removed_is (record { holds = done.done; gone = done.gone; ends = done.end; long = done.longer }))) in
     let counts : Counts story new false = record { faults = does.cause.later; reads = omega (arith, calls); rose = λ low is. absurd cc } in
     let applied_is = applied_done g c in
     let ledger_is = ledger_done g c in
@@ -384,11 +387,13 @@ kept_failed g c =
     let does = c.write_record.ensures in
     let ran : not i.log.printer.broken ≡ true = ap (λ (x : Standing). x.shown.running) c.engine.view_is ∙ c.requires.runs in
     let end_is : c.end-end.result ≡ l.end = c.end-end.ensures ∙ ap (λ (m : Memory). m.ledger.end) reserved in
+    let area_is : c.area-area.result ≡ l.area = c.area-area.ensures ∙ ap (λ (m : Memory). m.ledger.area) reserved in
     let removed_is : c.deref.result.now ≡ removed_by l (length h) gone = c.deref.ensures.value ∙ c.in-Ok.ensures.removes ∙ ap (λ p. removed_by l p gone) place in
     let laws = g.met.D.Disk g.world.𝓛 g.world.𝓜 g.world.𝓡 ((λ s x. x), (λ x. x), (λ x. x), λ x. x) in
-    let worked : IsWorked story new l.end body (files_of bytes s.made.items) (removed_by l (length h) gone) =
-    subst (λ e. IsWorked story new e body (files_of bytes s.made.items) (removed_by l (length h) gone)) end_is
-    (subst (λ d. IsWorked story new c.end-end.result body (files_of bytes s.made.items) d) removed_is
+    let worked : IsWorked story new l.area l.end body (files_of bytes s.made.items) (removed_by l (length h) gone) =
+    subst (λ a. IsWorked story new a l.end body (files_of bytes s.made.items) (removed_by l (length h) gone)) area_is
+    (subst (λ e. IsWorked story new c.area-area.result e body (files_of bytes s.made.items) (removed_by l (length h) gone)) end_is
+    (subst (λ d. IsWorked story new c.area-area.result c.end-end.result body (files_of bytes s.made.items) d) removed_is
     (record {
       images = does.images;
       only = does.only;
@@ -401,7 +406,7 @@ kept_failed g c =
           earlier = λ a t x le had. laws.earlier c.write_record.new.disk a t x le had;
         };
       };
-    })) in
+    }))) in
     let typed = (record_found body s.entry c.in-Ok.ensures.bytes c.in-Ok.ensures.reads).0.typed in
     let calls = does.read_cause in
     let due_for = λ (w : Rows). due_alike N.script (N.start no_rows) (N.start w) h session number (command.Work name) (Renewed (claim_in t)) (N.alike w) refl due in
@@ -453,11 +458,13 @@ returns g c =
     let does = c.write_record.ensures in
     let ran : not i.log.printer.broken ≡ true = ap (λ (x : Standing). x.shown.running) c.engine.view_is ∙ c.requires.runs in
     let end_is : c.end-end.result ≡ l.end = c.end-end.ensures ∙ ap (λ (m : Memory). m.ledger.end) reserved in
+    let area_is : c.area-area.result ≡ l.area = c.area-area.ensures ∙ ap (λ (m : Memory). m.ledger.area) reserved in
     let removed_is : c.deref.result.now ≡ removed_by l (length h) gone = c.deref.ensures.value ∙ c.in-Ok.ensures.removes ∙ ap (λ p. removed_by l p gone) place in
     let laws = g.met.D.Disk g.world.𝓛 g.world.𝓜 g.world.𝓡 ((λ s x. x), (λ x. x), (λ x. x), λ x. x) in
-    let worked : IsWorked story new l.end body (files_of bytes s.made.items) (removed_by l (length h) gone) =
-    subst (λ e. IsWorked story new e body (files_of bytes s.made.items) (removed_by l (length h) gone)) end_is
-    (subst (λ d. IsWorked story new c.end-end.result body (files_of bytes s.made.items) d) removed_is
+    let worked : IsWorked story new l.area l.end body (files_of bytes s.made.items) (removed_by l (length h) gone) =
+    subst (λ a. IsWorked story new a l.end body (files_of bytes s.made.items) (removed_by l (length h) gone)) area_is
+    (subst (λ e. IsWorked story new c.area-area.result e body (files_of bytes s.made.items) (removed_by l (length h) gone)) end_is
+    (subst (λ d. IsWorked story new c.area-area.result c.end-end.result body (files_of bytes s.made.items) d) removed_is
     (record {
       images = does.images;
       only = does.only;
@@ -470,7 +477,7 @@ returns g c =
           earlier = λ a t x le had. laws.earlier c.write_record.new.disk a t x le had;
         };
       };
-    })) in
+    }))) in
     let typed = (record_found body s.entry c.in-Ok.ensures.bytes c.in-Ok.ensures.reads).0.typed in
     let calls = does.read_cause in
     let due_for = λ (w : Rows). due_alike N.script (N.start no_rows) (N.start w) h session number (command.Work name) (Renewed (claim_in t)) (N.alike w) refl due in

@@ -2,7 +2,6 @@ use Rattle.std.proofs.Common.{◌≡◌, inl, ◌+◌, ◌<◌, [], ◌∷◌, �
 use Rattle.mesa_fault.specs.Causes.{Rose}
 use Rattle.mesa_disk.specs.Files.{files_of}
 use Rattle.mesa_disk.specs.Story.{Steps}
-use Rattle.mesa_disk.specs.declared.area.Area.TheVariants.{Zero}
 use Rattle.mesa_history.specs.Replay.{no_rows as no_lines}
 use Rattle.mesa_history.specs.Run.{Finished}
 use Rattle.mesa_catalog.specs.mesa_image.Catalog.{applied}
@@ -61,8 +60,9 @@ write_record-requires-clause-room g c κs within =
     let change = c.args.change in
     let to : IsToWrite bytes N.script (run_at N.script (N.start no_rows) h) l s number change = subst (λ (st : Standing). IsToWrite bytes N.script (run_at N.script (N.start no_rows) st.shown.history) st.ledger s number change) (sym c.engine.view_is) c.requires.change in
     let end_is : c.end-end.result ≡ l.end = c.end-end.ensures ∙ ap (λ (m : Memory). m.ledger.end) c.in-Ok.ensures.reserved in
+    let area_is : c.area-area.result ≡ l.area = c.area-area.ensures ∙ ap (λ (m : Memory). m.ledger.area) c.in-Ok.ensures.reserved in
     let ready = ready_now g.K.Sink.held g.K.Sink.faults n N.room N.sink_faults i.metadata story i.log c.engine.invariant to.can.opened in
-    subst (λ e. e < story.len Zero) (sym end_is) ready.long
+    subst (λ a. c.end-end.result < story.len a) (sym area_is) (subst (λ e. e < story.len l.area) (sym end_is) ready.long)
 
 pub invariant_of-engine-in-Ok-write_record : goal.invariant_of-engine-in-Ok-write_record
 invariant_of-engine-in-Ok-write_record g c =
@@ -85,9 +85,11 @@ invariant_of-engine-in-Ok-write_record g c =
     let does = c.write_record.ensures in
     let ran : not i.log.printer.broken ≡ true = ap (λ (st : Standing). st.shown.running) c.engine.view_is ∙ c.requires.runs in
     let end_is : c.end-end.result ≡ l.end = c.end-end.ensures ∙ ap (λ (m : Memory). m.ledger.end) reserved in
+    let area_is : c.area-area.result ≡ l.area = c.area-area.ensures ∙ ap (λ (m : Memory). m.ledger.area) reserved in
     let laws = g.met.D.Disk g.world.𝓛 g.world.𝓜 g.world.𝓡 ((λ s x. x), (λ x. x), (λ x. x), λ x. x) in
-    let worked : IsWorked story new l.end body (files_of bytes change.made.items) [] =
-    subst (λ e. IsWorked story new e body (files_of bytes change.made.items) []) end_is
+    let worked : IsWorked story new l.area l.end body (files_of bytes change.made.items) [] =
+    subst (λ a. IsWorked story new a l.end body (files_of bytes change.made.items) []) area_is
+    (subst (λ e. IsWorked story new c.area-area.result e body (files_of bytes change.made.items) []) end_is
     (record {
       images = does.images;
       only = does.only;
@@ -100,16 +102,17 @@ invariant_of-engine-in-Ok-write_record g c =
           earlier = λ a t x le had. laws.earlier c.write_record.new.disk a t x le had;
         };
       };
-    }) in
+    })) in
     let typed = (record_found body change.writes c.in-Ok.ensures.bytes c.in-Ok.ensures.reads).0.typed in
     let read = does.read_cause in
     let end = c.in-Ok-write_record.end in
     let later = c.tell.new.self in
     let short : IsShort (entry s number kind.Decide outcome.Stands c.clock.result) = subst IsShort c.turn-turn.ensures.same c.turn-turn.ensures.short in
     let done = c.in-Ok-write_record.ensures in
-    let whole : IsWhole story new l.end body (files_of bytes change.made.items) [] end =
-    subst (λ e. IsWhole story new e body (files_of bytes change.made.items) [] end) end_is
-    (record { holds = done.done; gone = done.gone; ends = done.end; long = done.longer }) in
+    let whole : IsWhole story new l.area l.end body (files_of bytes change.made.items) [] end =
+    subst (λ a. IsWhole story new a l.end body (files_of bytes change.made.items) [] end) area_is
+    (subst (λ e. IsWhole story new c.area-area.result e body (files_of bytes change.made.items) [] end) end_is
+    (record { holds = done.done; gone = done.gone; ends = done.end; long = done.longer })) in
     let counts : Counts story new false = record { faults = does.cause.later; reads = omega (arith, read); rose = λ low is. absurd cc } in
     let ledger_is : c.apply.new.self.ledger ≡ recorded_ledger l (applied l.catalogue change.writes) (generation_of (applied l.catalogue change.writes)) l.trash l.leases change.adopted end =
     ap (λ (m : Memory). m.ledger) c.apply.ensures.applied
@@ -144,9 +147,11 @@ returns-in-Ok-write_record g c =
     let does = c.write_record.ensures in
     let ran : not i.log.printer.broken ≡ true = ap (λ (st : Standing). st.shown.running) c.engine.view_is ∙ c.requires.runs in
     let end_is : c.end-end.result ≡ l.end = c.end-end.ensures ∙ ap (λ (m : Memory). m.ledger.end) reserved in
+    let area_is : c.area-area.result ≡ l.area = c.area-area.ensures ∙ ap (λ (m : Memory). m.ledger.area) reserved in
     let laws = g.met.D.Disk g.world.𝓛 g.world.𝓜 g.world.𝓡 ((λ s x. x), (λ x. x), (λ x. x), λ x. x) in
-    let worked : IsWorked story new l.end body (files_of bytes change.made.items) [] =
-    subst (λ e. IsWorked story new e body (files_of bytes change.made.items) []) end_is
+    let worked : IsWorked story new l.area l.end body (files_of bytes change.made.items) [] =
+    subst (λ a. IsWorked story new a l.end body (files_of bytes change.made.items) []) area_is
+    (subst (λ e. IsWorked story new c.area-area.result e body (files_of bytes change.made.items) []) end_is
     (record {
       images = does.images;
       only = does.only;
@@ -159,16 +164,17 @@ returns-in-Ok-write_record g c =
           earlier = λ a t x le had. laws.earlier c.write_record.new.disk a t x le had;
         };
       };
-    }) in
+    })) in
     let typed = (record_found body change.writes c.in-Ok.ensures.bytes c.in-Ok.ensures.reads).0.typed in
     let read = does.read_cause in
     let end = c.in-Ok-write_record.end in
     let later = c.tell.new.self in
     let short : IsShort (entry s number kind.Decide outcome.Stands c.clock.result) = subst IsShort c.turn-turn.ensures.same c.turn-turn.ensures.short in
     let done = c.in-Ok-write_record.ensures in
-    let whole : IsWhole story new l.end body (files_of bytes change.made.items) [] end =
-    subst (λ e. IsWhole story new e body (files_of bytes change.made.items) [] end) end_is
-    (record { holds = done.done; gone = done.gone; ends = done.end; long = done.longer }) in
+    let whole : IsWhole story new l.area l.end body (files_of bytes change.made.items) [] end =
+    subst (λ a. IsWhole story new a l.end body (files_of bytes change.made.items) [] end) area_is
+    (subst (λ e. IsWhole story new c.area-area.result e body (files_of bytes change.made.items) [] end) end_is
+    (record { holds = done.done; gone = done.gone; ends = done.end; long = done.longer })) in
     let counts : Counts story new false = record { faults = does.cause.later; reads = omega (arith, read); rose = λ low is. absurd cc } in
     let ledger_is : c.apply.new.self.ledger ≡ recorded_ledger l (applied l.catalogue change.writes) (generation_of (applied l.catalogue change.writes)) l.trash l.leases change.adopted end =
     ap (λ (m : Memory). m.ledger) c.apply.ensures.applied
@@ -215,9 +221,11 @@ invariant_of-engine-in-Err-write_record g c =
     let does = c.write_record.ensures in
     let ran : not i.log.printer.broken ≡ true = ap (λ (st : Standing). st.shown.running) c.engine.view_is ∙ c.requires.runs in
     let end_is : c.end-end.result ≡ l.end = c.end-end.ensures ∙ ap (λ (m : Memory). m.ledger.end) reserved in
+    let area_is : c.area-area.result ≡ l.area = c.area-area.ensures ∙ ap (λ (m : Memory). m.ledger.area) reserved in
     let laws = g.met.D.Disk g.world.𝓛 g.world.𝓜 g.world.𝓡 ((λ s x. x), (λ x. x), (λ x. x), λ x. x) in
-    let worked : IsWorked story new l.end body (files_of bytes change.made.items) [] =
-    subst (λ e. IsWorked story new e body (files_of bytes change.made.items) []) end_is
+    let worked : IsWorked story new l.area l.end body (files_of bytes change.made.items) [] =
+    subst (λ a. IsWorked story new a l.end body (files_of bytes change.made.items) []) area_is
+    (subst (λ e. IsWorked story new c.area-area.result e body (files_of bytes change.made.items) []) end_is
     (record {
       images = does.images;
       only = does.only;
@@ -230,7 +238,7 @@ invariant_of-engine-in-Err-write_record g c =
           earlier = λ a t x le had. laws.earlier c.write_record.new.disk a t x le had;
         };
       };
-    }) in
+    })) in
     let typed = (record_found body change.writes c.in-Ok.ensures.bytes c.in-Ok.ensures.reads).0.typed in
     let read = does.read_cause in
     let later = c.fail-in-Err-write_record-2.new.self in
@@ -265,9 +273,11 @@ returns g c =
     let does = c.write_record.ensures in
     let ran : not i.log.printer.broken ≡ true = ap (λ (st : Standing). st.shown.running) c.engine.view_is ∙ c.requires.runs in
     let end_is : c.end-end.result ≡ l.end = c.end-end.ensures ∙ ap (λ (m : Memory). m.ledger.end) reserved in
+    let area_is : c.area-area.result ≡ l.area = c.area-area.ensures ∙ ap (λ (m : Memory). m.ledger.area) reserved in
     let laws = g.met.D.Disk g.world.𝓛 g.world.𝓜 g.world.𝓡 ((λ s x. x), (λ x. x), (λ x. x), λ x. x) in
-    let worked : IsWorked story new l.end body (files_of bytes change.made.items) [] =
-    subst (λ e. IsWorked story new e body (files_of bytes change.made.items) []) end_is
+    let worked : IsWorked story new l.area l.end body (files_of bytes change.made.items) [] =
+    subst (λ a. IsWorked story new a l.end body (files_of bytes change.made.items) []) area_is
+    (subst (λ e. IsWorked story new c.area-area.result e body (files_of bytes change.made.items) []) end_is
     (record {
       images = does.images;
       only = does.only;
@@ -280,7 +290,7 @@ returns g c =
           earlier = λ a t x le had. laws.earlier c.write_record.new.disk a t x le had;
         };
       };
-    }) in
+    })) in
     let typed = (record_found body change.writes c.in-Ok.ensures.bytes c.in-Ok.ensures.reads).0.typed in
     let read = does.read_cause in
     let later = c.fail-in-Err-write_record-2.new.self in

@@ -20,7 +20,7 @@ invariant_of-result g c =
       vault = λ w b is.
           subst (λ h. IsVault (outset_of n w) (n.origin w) b c.new.result.ledger story held h true false) (sym c.requires.empty)
           (subst (λ (m : Memory). IsVault (outset_of n w) (n.origin w) b m.ledger story held [] true false) (sym c.new.ensures)
-          (begun_vault n w b a.catalog.catalogue a.end a.lease story held (c.requires.begun w b is)));
+          (begun_vault n w b a.catalog.catalogue a.area a.end a.lease story held (c.requires.begun w b is)));
       room = c.requires.room;
       few = c.requires.few;
       leased = let none = ap (λ (m : Memory). m.leased) c.new.ensures in omega (arith, none);
