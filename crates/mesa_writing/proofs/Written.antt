@@ -1,5 +1,5 @@
 -- How a turn that writes keeps a vault.
-use Rattle.std.proofs.Common.{◌≡◌, ℕ, ◌+◌, ◌<◌, ◌≤◌, ◌^◌, List, [], ◌∷◌, ◌++◌, map, length, Bool, true, false, ◌||◌, refl, sym, ◌∙◌, ap, subst, arith, Option, None, Some, Ok, IsTrue}
+use Rattle.std.proofs.Common.{◌≡◌, ℕ, ◌+◌, ◌<◌, ◌≤◌, ◌^◌, List, [], ◌∷◌, ◌++◌, length, Bool, true, false, ◌||◌, sym, ◌∙◌, ap, subst, arith, Option, None, Some, Ok, IsTrue}
 use Rattle.mesa_key.specs.Spelling.{AreBytes}
 use Rattle.mesa_disk.specs.Files.{AreAbsent, AreGone, files_of}
 use Rattle.mesa_disk.specs.Image.{Image, file_of}
@@ -35,7 +35,7 @@ use Rattle.mesa_ledger.specs.mesa_walk.Causes.{Unwritten, reply_of, told_at}
 use Rattle.mesa_ledger.specs.mesa_walk.Printing.{IsPut}
 use Rattle.mesa_ledger.specs.mesa_walk.Turns.{entry}
 use Rattle.mesa_ledger.specs.mesa_walk.Walk.{Counts, Passes, StandsForEither, Writes, run_of}
-use Rattle.mesa_ledger.specs.Ledger.{Ledger, next_id}
+use Rattle.mesa_ledger.specs.Ledger.{Ledger}
 use Rattle.mesa_ledger.specs.Recorded.{IsRecorded, failed_ledger, recorded_ledger}
 use Rattle.mesa_ledger.specs.Vault.{IsVault, Starts, outset_of}
 use Rattle.mesa_ledger.proofs.Agreeing.{named_agree, same_kept}
