@@ -9,7 +9,6 @@ use crate::vectors::{Vector, bytes_of, spelled};
 use mesa_cache::Cached;
 use mesa_delta::{DeltaReader, Input};
 use mesa_disk::{ByteList, Disk, FileId, FileReader, FileRef, MemDisk, MemReader};
-use mesa_key::Format;
 use mesa_list::Items;
 use mesa_schema::Evolving;
 use mesa_tasks::PinnedInput;
@@ -43,11 +42,11 @@ fn reader_of(rt: &impl Abort, alloc: Global, id: FileId, bytes: Vec<u8>) -> MemR
     disk.reader(id).expect(rt, "a reader")
 }
 
-// The reference of a file of the first format, with no first key and no aggregates, which no reader looks at.
+// The reference of a file, with no first key and no aggregates, which no reader looks at.
 fn reference(rt: &impl Abort, alloc: Global, vector: &Vector, len: u64) -> FileRef {
     let last = spelled(rt, alloc, vector.last);
     FileRef {
-        format: Format::One,
+        format: vector.format,
         id: FileId::of(vector.id),
         len,
         rows: vector.rows,
@@ -195,5 +194,20 @@ pub fn two<R: FileReader + Drop>(
     let mut inputs = Vec::new(alloc);
     put(rt, &mut inputs, older);
     put(rt, &mut inputs, newer);
+    inputs
+}
+
+/// Three files.
+pub fn three<R: FileReader + Drop>(
+    rt: &impl Abort,
+    alloc: Global,
+    first: PinnedInput<R>,
+    second: PinnedInput<R>,
+    third: PinnedInput<R>,
+) -> Vec<PinnedInput<R>>
+    ensures { result.items ≡ first ∷ second ∷ third ∷ [] }
+{
+    let mut inputs = two(rt, alloc, first, second);
+    put(rt, &mut inputs, third);
     inputs
 }

@@ -10,6 +10,8 @@ mod read_ahead;
 #[cfg(test)]
 mod scanning;
 #[cfg(test)]
+mod sums;
+#[cfg(test)]
 mod tables;
 #[cfg(test)]
 mod vectors;
