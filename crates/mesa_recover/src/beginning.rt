@@ -1,28 +1,31 @@
 // Beginning a run.
-ghost use Rattle.std.specs.Prelude.{◌≡◌, ◌⊎◌, ◌+◌, ◌*◌, ◌^◌, ◌<◌, ◌≤◌, ℕ, List, [], IfOk, IfErr, OnOk, Err, Ok, Some, None, IsTrue};
+ghost use Rattle.std.specs.Prelude.{◌≡◌, ◌≢◌, ◌↔◌, ◌+◌, ◌<◌, ◌≤◌, ℕ, List, [], IfOk, IfErr, IfSome, OnOk, Err, Ok, Some, None, IsTrue};
 ghost use Rattle.mesa_key.specs.Spelling.{AreBytes};
-ghost use Rattle.mesa_fault.specs.Causes.{HasCause};
 ghost use Rattle.mesa_disk.specs.Image.{Image as AnyImage};
 ghost use Rattle.mesa_disk.specs.Story.{Spans, Unmoved};
-ghost use Rattle.mesa_disk.specs.declared.area.Area.TheVariants.{Zero};
+ghost use Rattle.mesa_journal.specs.Areas.{number_of};
 ghost use Rattle.mesa_trash.specs.Filed.{AreNamedOrWait, FilesAdopted};
 ghost use Rattle.mesa_record.specs.Reading.{record_at};
 ghost use Rattle.mesa_record.specs.Rules.{keeps_rules};
-ghost use Rattle.mesa_image.specs.Catalog.{Catalog as AnyCatalog, applied};
-ghost use Rattle.mesa_image.specs.Fitting.{fits};
-ghost use Rattle.mesa_image.specs.Contents.{Rows, kept_of};
-ghost use Rattle.mesa_image.specs.Sound.{StandsFor};
+ghost use Rattle.mesa_image_laws.specs.mesa_image.Catalog.{applied};
+ghost use Rattle.mesa_image_laws.specs.mesa_image.Fitting.{fits};
+ghost use Rattle.mesa_image_laws.specs.mesa_image.Contents.{Rows, kept_of};
+ghost use Rattle.mesa_image_laws.specs.mesa_image.Sound.{StandsFor};
 ghost use Rattle.mesa_image_laws.specs.Ids.{named};
 ghost use Rattle.mesa_store.specs.Store.{IsFound};
 ghost use Rattle.mesa_opening.specs.declared.error.OpenError.TheVariants as open_error;
 ghost use Rattle.mesa_opening.specs.Checking.{Counts, IsFaultOrMemory};
 ghost use Rattle.mesa_opening.specs.Strays.{AreStrays};
 ghost use Rattle.mesa_opening.specs.Opening.{HasReason, IsHeldAs, IsSoundStart, Keeps, first_id, most_runs, run_record};
-ghost use Rattle.mesa_recover.specs.Opened.{IsOpened};
+ghost use Rattle.mesa_recover.specs.Anew.{IsStatedAnew, StatesAnewBy};
+ghost use Rattle.mesa_recover.specs.Live.{HasLive};
+ghost use Rattle.mesa_recover.specs.Opened.{IsOpened, StatesAnew};
 
 use crate::Opened;
+use crate::anew::state_anew;
+use crate::opened::LiveArea;
 use mesa_catalog::{Begun, Catalog};
-use mesa_disk::{Disk, FileId, Made};
+use mesa_disk::{Area, Disk, FileId, Made};
 use mesa_image_laws::catalogs_own_ids;
 use mesa_journal::Framed;
 use mesa_opening::{OpenError, find_strays, frame, write_run};
@@ -32,8 +35,9 @@ use std::alloc::Global;
 // The number of the last run that there may be.
 const MOST_RUNS: u32 = (1 << 24) - 1;
 
-/// Begins a run: makes all that was read stay, appends the run's record, and removes each adopted file that
-/// the catalogue doesn't name. Where there was a last run, nothing is written.
+/// Begins a run: makes all that was read stay, states the catalogue anew in the other area where the live one
+/// has become long, appends the run's record, and removes each adopted file that the catalogue doesn't name.
+/// Where there was a last run, nothing is written.
 pub fn begin<M: Made, D: Disk<M>>(
     alloc: Global,
     opened: Opened<D>,
@@ -44,12 +48,15 @@ pub fn begin<M: Made, D: Disk<M>>(
     ensures run { IfOk result (λ b. b.run ≡ opened.last_run + 1) }
     ensures catalog { IfOk result (λ b. b.catalog.catalogue ≡ applied opened.catalog.catalogue (run_record b.run)) }
     ensures free { IfOk result (λ b. b.catalog.reserved ≡ None) }
-    ensures place { IfOk result (λ b. (b.area ≡ Zero) × (b.since ≡ opened.since)) }
-    ensures room { IfOk result (λ b. b.end < (D.story b.disk).len Zero) }
+    ensures place { IfOk result (λ b. b.since ≡ opened.since) }
+    ensures room { IfOk result (λ b. b.end < (D.story b.disk).len b.area) }
+
+    // The store goes on in the other area just where its catalogue is stated anew.
+    ensures area { IfOk result (λ b. (b.area ≢ opened.area) ↔ StatesAnew opened) }
 
     // A read gives an image where it gave one. From a sound start the disk holds the store after the record, and whatever it answers each image keeps the state.
     ensures told { IfOk result (λ b. (i : AnyImage) → (D.story opened.disk).told ≡ Some i → (j : AnyImage) × ((D.story b.disk).told ≡ Some j)) }
-    ensures held { IfOk result (λ b. (rows : Rows) → IsSoundStart (D.story opened.disk) opened.catalog.catalogue rows → IsHeldAs (D.story b.disk) b.end b.catalog.catalogue rows) }
+    ensures held { IfOk result (λ b. (rows : Rows) → IsSoundStart (D.story opened.disk) opened.catalog.catalogue rows → IsHeldAs (D.story b.disk) b.area b.end b.catalog.catalogue rows) }
     ensures keeps { IfOk result (λ b. Keeps (D.story opened.disk) (D.story b.disk)) }
     ensures keeps_err { IfErr result (λ e. Keeps (D.story opened.disk) (D.story e.1)) }
 
@@ -74,9 +81,14 @@ pub fn begin<M: Made, D: Disk<M>>(
         return Err((OpenError::RunsFull, opened.into_disk()));
     }
     let last_run = opened.last_run;
-    let end = opened.end;
-    match begin_run(alloc, &mut opened.disk, &mut opened.catalog, last_run, end) {
-        Ok(end) => Ok(opened.into_begun(end)),
+    let live = LiveArea {
+        area: opened.area,
+        number: opened.number,
+        end: opened.end,
+        holds: opened.holds,
+    };
+    match begin_run(alloc, &mut opened.disk, &mut opened.catalog, last_run, live) {
+        Ok((area, end)) => Ok(opened.into_begun(area, end)),
         Err(error) => Err((error, opened.into_disk())),
     }
 }
@@ -89,40 +101,40 @@ impl<D> Opened<D> {
         self.disk
     }
 
-    // The store once its next run has begun, whose journal ends there.
-    fn into_begun(self, end: u64) -> Begun<D>
+    // The store once its next run has begun, whose journal goes on in this area and ends there.
+    fn into_begun(self, area: Area, end: u64) -> Begun<D>
         requires { self.last_run < most_runs }
-        ensures { result ≡ record { disk = self.disk; catalog = self.catalog; run = self.last_run + 1; area = self.area; end = end; since = self.since } }
+        ensures { result ≡ record { disk = self.disk; catalog = self.catalog; run = self.last_run + 1; area = area; end = end; since = self.since } }
     {
         Begun {
             disk: self.disk,
             catalog: self.catalog,
             run: self.last_run + 1,
-            area: self.area,
+            area,
             end,
             since: self.since,
         }
     }
 }
 
-// Takes in the record of the next run, and removes strays. Gives the journal's new end.
+// Takes in the record of the next run, and removes strays. Gives the area in which the store goes on, and the journal's new end there.
 fn begin_run<M: Made, D: Disk<M>>(
     alloc: Global,
     disk: &mut D,
     catalog: &mut Catalog,
     last_run: u32,
-    end: u64,
-) -> Result<u64, OpenError>
+    live: LiveArea,
+) -> Result<(Area, u64), OpenError>
     requires run { last_run ≡ catalog.old.catalogue.run }
     requires few { last_run < most_runs }
-    requires gate { 1 < (D.story disk.old).len Zero → end < (D.story disk.old).len Zero }
-    requires none { (D.story disk.old).len Zero ≤ 1 → end ≡ 0 }
+    requires live { HasLive (D.story disk.old) live catalog.old.catalogue }
     ensures catalog { OnOk result (catalog.new.catalogue ≡ applied catalog.old.catalogue (run_record (last_run + 1))) }
     ensures free { OnOk result (catalog.new.reserved ≡ None) }
     ensures told { (i : AnyImage) → (D.story disk.old).told ≡ Some i → (j : AnyImage) × ((D.story disk.new).told ≡ Some j) }
-    ensures room { IfOk result (λ new_end. new_end < (D.story disk.new).len Zero) }
-    ensures images { (bodies : List (List ℕ)) (rows : Rows) → IsFound (D.story disk.old) bodies end catalog.old.catalogue rows → Spans (λ x. StandsFor x (kept_of rows catalog.old.catalogue)) (D.story disk.old) (D.story disk.new) }
-    ensures held { IfOk result (λ new_end. (bodies : List (List ℕ)) (rows : Rows) → IsFound (D.story disk.old) bodies end catalog.old.catalogue rows → IsHeldAs (D.story disk.new) new_end (applied catalog.old.catalogue (run_record (last_run + 1))) rows) }
+    ensures room { IfOk result (λ x. x.1 < (D.story disk.new).len x.0) }
+    ensures area { IfOk result (λ x. (x.0 ≢ live.area) ↔ IsStatedAnew live.end live.number catalog.old.catalogue) }
+    ensures images { (bodies : List (List ℕ)) (rows : Rows) → live.number ≡ number_of bodies → IsFound (D.story disk.old) live.area bodies live.end catalog.old.catalogue rows → Spans (λ x. StandsFor x (kept_of rows catalog.old.catalogue)) (D.story disk.old) (D.story disk.new) }
+    ensures held { IfOk result (λ x. (bodies : List (List ℕ)) (rows : Rows) → live.number ≡ number_of bodies → IsFound (D.story disk.old) live.area bodies live.end catalog.old.catalogue rows → IsHeldAs (D.story disk.new) x.0 x.1 (applied catalog.old.catalogue (run_record (last_run + 1))) rows) }
     ensures named { OnOk result (AreNamedOrWait (named catalog.old.catalogue) [] (D.story disk.new).told) }
     ensures kind { IfErr result IsFaultOrMemory }
     ensures clock { (D.story disk.old).moment ≤ (D.story disk.new).moment }
@@ -132,38 +144,40 @@ fn begin_run<M: Made, D: Disk<M>>(
     let record = Record::Run {
         number: last_run + 1,
     };
-    let end = append_run(alloc, disk, catalog, &record, end)?;
+    let gone = append_run(alloc, disk, catalog, &record, live)?;
     catalog.apply(record);
-    Ok(end)
+    Ok(gone)
 }
 
-// Takes the memory that a run's record needs, writes it, and removes strays. Gives the journal's new end.
+// Takes the memory that a run's record needs, and what states the catalogue anew; writes them, and removes strays. Gives the area in which the store goes on, and the journal's new end there.
 fn append_run<M: Made, D: Disk<M>>(
     alloc: Global,
     disk: &mut D,
     catalog: &mut Catalog,
     entry: &Record,
-    end: u64,
-) -> Result<u64, OpenError>
+    live: LiveArea,
+) -> Result<(Area, u64), OpenError>
     requires run { (number : ℕ) × (entry.now ≡ run_record number) }
     requires rules { IsTrue (keeps_rules entry.now) }
     requires fits { IsTrue (fits catalog.old.catalogue entry.now) }
-    requires gate { 1 < (D.story disk.old).len Zero → end < (D.story disk.old).len Zero }
-    requires none { (D.story disk.old).len Zero ≤ 1 → end ≡ 0 }
+    requires live { HasLive (D.story disk.old) live catalog.old.catalogue }
     ensures same { catalog.new.catalogue ≡ catalog.old.catalogue }
     ensures reserved { OnOk result (catalog.new.reserved ≡ Some entry.now) }
     ensures told { (i : AnyImage) → (D.story disk.old).told ≡ Some i → (j : AnyImage) × ((D.story disk.new).told ≡ Some j) }
-    ensures room { IfOk result (λ new_end. new_end < (D.story disk.new).len Zero) }
-    ensures images { (bodies : List (List ℕ)) (rows : Rows) → IsFound (D.story disk.old) bodies end catalog.old.catalogue rows → Spans (λ x. StandsFor x (kept_of rows catalog.old.catalogue)) (D.story disk.old) (D.story disk.new) }
-    ensures held { IfOk result (λ new_end. (bodies : List (List ℕ)) (rows : Rows) → IsFound (D.story disk.old) bodies end catalog.old.catalogue rows → IsHeldAs (D.story disk.new) new_end (applied catalog.old.catalogue entry.now) rows) }
+    ensures room { IfOk result (λ x. x.1 < (D.story disk.new).len x.0) }
+    ensures area { IfOk result (λ x. (x.0 ≢ live.area) ↔ IsStatedAnew live.end live.number catalog.old.catalogue) }
+    ensures images { (bodies : List (List ℕ)) (rows : Rows) → live.number ≡ number_of bodies → IsFound (D.story disk.old) live.area bodies live.end catalog.old.catalogue rows → Spans (λ x. StandsFor x (kept_of rows catalog.old.catalogue)) (D.story disk.old) (D.story disk.new) }
+    ensures held { IfOk result (λ x. (bodies : List (List ℕ)) (rows : Rows) → live.number ≡ number_of bodies → IsFound (D.story disk.old) live.area bodies live.end catalog.old.catalogue rows → IsHeldAs (D.story disk.new) x.0 x.1 (applied catalog.old.catalogue entry.now) rows) }
     ensures named { OnOk result (AreNamedOrWait (named catalog.old.catalogue) [] (D.story disk.new).told) }
     ensures kind { IfErr result IsFaultOrMemory }
     ensures clock { (D.story disk.old).moment ≤ (D.story disk.new).moment }
     ensures counts { Counts (D.story disk.old) (D.story disk.new) result }
 {
-    let (framed, strays) = ready_run(alloc, disk, catalog, entry)?;
-    let end = write_run(alloc, disk, end, &framed, &strays)?;
-    Ok(end)
+    let (checkpoint, framed, strays) = ready_run(alloc, disk, catalog, entry, live)?;
+    let gone = write_run(
+        alloc, disk, live.area, live.holds, checkpoint, live.end, &framed, &strays,
+    )?;
+    Ok(gone)
 }
 
 // The record of the next run fits, while there is a number for it.
@@ -173,27 +187,32 @@ fn next_run_fits(catalog: &Catalog, last_run: u32)
     ensures { IsTrue (fits catalog.now.catalogue (run_record (last_run + 1))) }
 {}
 
-// Takes all memory that a run's record needs, before anything is written: its frame, room in the catalogue,
-// and the ids of the files that no record names.
+// Takes all memory that a run's record needs, before anything is written: the checkpoint's frame and its own,
+// room in the catalogue, and the ids of the files that no record names.
 fn ready_run<M: Made, D: Disk<M>>(
     alloc: Global,
     disk: &mut D,
     catalog: &mut Catalog,
     entry: &Record,
-) -> Result<(Framed, Vec<FileId>), OpenError>
+    live: LiveArea,
+) -> Result<(Option<Framed>, Framed, Vec<FileId>), OpenError>
     requires rules { IsTrue (keeps_rules entry.now) }
     requires fits { IsTrue (fits catalog.old.catalogue entry.now) }
-    ensures body { IfOk result (λ x. (record_at x.0 ≡ Ok entry.now) × AreBytes x.0) }
-    ensures strays { IfOk result (λ x. AreStrays (D.story disk.old) catalog.old.catalogue x.1.items) }
+    requires live { HasLive (D.story disk.old) live catalog.old.catalogue }
+    ensures anew { IfOk result (λ x. StatesAnewBy live.end live.number catalog.old.catalogue x.0) }
+    ensures bytes { IfOk result (λ x. IfSome x.0 AreBytes) }
+    ensures body { IfOk result (λ x. (record_at x.1 ≡ Ok entry.now) × AreBytes x.1) }
+    ensures strays { IfOk result (λ x. AreStrays (D.story disk.old) catalog.old.catalogue x.2.items) }
     ensures same { catalog.new.catalogue ≡ catalog.old.catalogue }
     ensures reserved { OnOk result (catalog.new.reserved ≡ Some entry.now) }
     ensures unmoved { Unmoved (D.story disk.old) (D.story disk.new) }
     ensures kind { IfErr result IsFaultOrMemory }
     ensures counts { Counts (D.story disk.old) (D.story disk.new) result }
 {
+    let checkpoint = state_anew(alloc, catalog, live)?;
     let framed = frame(alloc, entry)?;
     catalog.reserve(entry)?;
     let files = catalog.recorded_files(alloc)?;
     let strays = find_strays(alloc, disk, &files)?;
-    Ok((framed, strays))
+    Ok((checkpoint, framed, strays))
 }

@@ -1,31 +1,34 @@
 // Reading a store.
-ghost use Rattle.std.specs.Prelude.{◌≡◌, ℕ, List, map, OnOk, IfOk, IfErr, Some};
+ghost use Rattle.std.specs.Prelude.{◌≡◌, List, map, OnOk, IfOk, IfErr, None, Some};
 ghost use Rattle.std.specs.List.{AllByRecursion};
 ghost use Rattle.mesa_disk.specs.mesa_file.declared.damage.Damage.{Damage as AnyDamage};
 ghost use Rattle.mesa_disk.specs.Image.{Image};
 ghost use Rattle.mesa_disk.specs.Story.{Unmoved};
-ghost use Rattle.mesa_image.specs.Fitting.{shelved};
+ghost use Rattle.mesa_image_laws.specs.mesa_image.Fitting.{shelved};
 ghost use Rattle.mesa_shelf.specs.Files.{AreRecorded, recorded_of};
 ghost use Rattle.mesa_shelf.specs.declared.recorded.Recorded.{Recorded as AnyRecorded};
 ghost use Rattle.mesa_opening.specs.declared.error.OpenError.TheVariants as open_error;
 ghost use Rattle.mesa_opening.specs.Checking.{Counts, IsOfFiles};
 ghost use Rattle.mesa_opening.specs.Damages.{IsAsRecorded, IsFirstDamage};
 ghost use Rattle.mesa_opening.specs.Misfits.{journal_refusal};
-ghost use Rattle.mesa_opening.specs.Opening.{HasReason, IsRead};
+ghost use Rattle.mesa_opening.specs.Opening.{HasReason};
+ghost use Rattle.mesa_recover.specs.Live.{HasLive};
 ghost use Rattle.mesa_recover.specs.Opened.{IsOpened};
 
 use crate::Opened;
-use crate::records::read_records;
+use crate::opened::LiveArea;
+use crate::records::{area_number, code, misfit, read_records};
 use mesa_catalog::Catalog;
 use mesa_disk::{Area, Disk, Made, Seen};
-use mesa_journal::{JournalError, read_journal};
+use mesa_journal::{JournalError, read_live};
 use mesa_opening::{OpenError, check_files};
 use std::alloc::Global;
 
-/// Reads a store: the journal, then each record, and then each file that the catalogue names, by rising
-/// ids. It writes nothing.
+/// Reads a store: both areas of the journal, then each record of the live one, and then each file that the
+/// catalogue names, by rising ids. It writes nothing.
 pub fn read<M: Made, D: Disk<M>>(alloc: Global, disk: D) -> Result<Opened<D>, (OpenError, D)>
     ensures opened { IfOk result (λ o. IsOpened (D.story o.disk) o) }
+    ensures free { IfOk result (λ o. o.catalog.reserved ≡ None) }
     ensures reason { IfErr result (λ e. HasReason (D.story disk) (D.story e.1) e.0) }
     ensures full { IfErr result (λ e. e.0 ≡ open_error.RunsFull → ⊥) }
 
@@ -38,14 +41,16 @@ pub fn read<M: Made, D: Disk<M>>(alloc: Global, disk: D) -> Result<Opened<D>, (O
     let mut disk = disk;
     let since = disk.clock();
     match read_store(alloc, &mut disk) {
-        Ok((catalog, end)) => {
+        Ok((catalog, live)) => {
             let last_run = catalog.run();
             Ok(Opened {
                 disk,
                 catalog,
                 last_run,
-                area: Area::Zero,
-                end,
+                area: live.area,
+                number: live.number,
+                end: live.end,
+                holds: live.holds,
                 since,
             })
         }
@@ -53,21 +58,36 @@ pub fn read<M: Made, D: Disk<M>>(alloc: Global, disk: D) -> Result<Opened<D>, (O
     }
 }
 
-// The catalogue that the journal makes, and where the journal ends.
-fn read_store<M: Made, D: Disk<M>>(alloc: Global, disk: &mut D) -> Result<(Catalog, u64), OpenError>
-    ensures found { IfOk result (λ x. (bodies : List (List ℕ)) × IsRead (D.story disk.old) bodies x.1 x.0.catalogue) }
+// The catalogue that the journal makes, and the journal's live area.
+fn read_store<M: Made, D: Disk<M>>(
+    alloc: Global,
+    disk: &mut D,
+) -> Result<(Catalog, LiveArea), OpenError>
+    ensures found { IfOk result (λ x. HasLive (D.story disk.old) x.1 x.0.catalogue) }
+    ensures free { IfOk result (λ x. x.0.reserved ≡ None) }
     ensures reason { IfErr result (HasReason (D.story disk.old) (D.story disk.new)) }
     ensures full { IfErr result (λ e. e ≡ open_error.RunsFull → ⊥) }
     ensures unmoved { Unmoved (D.story disk.old) (D.story disk.new) }
     ensures counts { Counts (D.story disk.old) (D.story disk.new) result }
 {
-    let journal = match read_journal(alloc, disk, Area::Zero) {
+    let journal = match read_live(alloc, disk) {
         Ok(journal) => journal,
-        Err(error) => return Err(cut_off(error)),
+        Err((area, error)) => return Err(cut_off(area, error)),
     };
-    let catalog = read_records(alloc, journal.bodies.as_slice())?;
+    let bodies = journal.read.bodies.as_slice();
+    // Area 1 isn't live without a body on a disk that tells what it has.
+    if bodies.is_empty() && journal.live == Area::One {
+        return Err(misfit(Area::One, 0, 0));
+    }
+    let catalog = read_records(alloc, journal.live, bodies)?;
     check_catalog(alloc, disk, &catalog)?;
-    Ok((catalog, journal.end))
+    let live = LiveArea {
+        area: journal.live,
+        number: area_number(bodies),
+        end: journal.read.end,
+        holds: journal.holds,
+    };
+    Ok((catalog, live))
 }
 
 // Tests each file that the catalogue names, by rising ids.
@@ -86,14 +106,14 @@ fn check_catalog<M: Made, D: Disk<M>>(
     check_files(alloc, disk, files.as_slice())
 }
 
-// Why a journal isn't read.
-fn cut_off(error: JournalError) -> OpenError
-    ensures { result ≡ journal_refusal error }
+// Why a journal isn't read, an area of which is damaged.
+fn cut_off(area: Area, error: JournalError) -> OpenError
+    ensures { result ≡ journal_refusal area error }
 {
     match error {
         JournalError::Fault => OpenError::Fault,
         JournalError::Damaged { at, want, found } => OpenError::Journal {
-            area: 0,
+            area: code(area),
             at,
             want: Seen::Length(want),
             found: Seen::Length(found),
