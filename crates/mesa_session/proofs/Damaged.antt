@@ -1,11 +1,13 @@
 -- Why files weren't read, as their reading tells it and as a closing turn asks for it.
 use Rattle.std.proofs.Common.{◌≡◌, inl, inr, ⊎_elim, ℕ, ◌<◌, List, [], ◌∷◌, sym, ap, subst, arith}
-use Rattle.std.specs.Prelude.{Option, Some, IfSome}
+use Rattle.std.specs.Prelude.{◌⊎◌, Option, Some, IfSome}
 use Rattle.mesa_fault.specs.Causes.{Rose}
 use Rattle.mesa_file.specs.declared.damage.Damage.{Damage}
 use Rattle.mesa_file.specs.declared.damage.Seen.{Seen}
 use Rattle.mesa_file.specs.declared.damage.Seen.TheVariants as seen
 use Rattle.mesa_schema.specs.declared.rows.Row.{Row}
+use Rattle.mesa_filter.specs.declared.terms.Term.{Term}
+use Rattle.mesa_answer.specs.Gathering.{Wanted}
 use Rattle.mesa_delta.specs.Damages.{IsWrongLength, IsPieceDamage}
 use Rattle.mesa_delta.specs.Indexed.{Indexed}
 use Rattle.mesa_delta.specs.Reading.{IsBlockDamage}
@@ -15,7 +17,8 @@ use Rattle.mesa_scan.specs.Damaged.{IsDamaged}
 use Rattle.mesa_compact.specs.mesa_view.SumDamage.{IsSumDamage}
 use Rattle.mesa_compact.specs.mesa_merge.Faults.{SomeRose, faults_of}
 use Rattle.mesa_tasks.specs.declared.querying.PinnedInput.{PinnedInput}
-use Rattle.mesa_query.specs.Files.{IsDamageIn, IsDamageOf}
+use Rattle.mesa_query.specs.Files.{IsDamageIn}
+use Rattle.mesa_query.specs.Sums.{IsSumIn}
 use Rattle.mesa_tasks.specs.declared.merging.Task.{Task}
 use Rattle.mesa_compact.specs.Damaged.{IsMergeDamage}
 use Rattle.mesa_compact.specs.Tasks.{IsTaskDamage}
@@ -71,16 +74,16 @@ damaged_differs bytes size i d damaged = block_differs (bytes (reader_in i)) (si
 pub sum_differs : (file : ℕ) (d : Damage) → IsSumDamage file d → Differs d
 sum_differs file d is = told_as d _ is (λ same. unlike_fits 0 same)
 
-file_differs : {R : Type 0} (bytes : R → Option (List ℕ)) (size : R → ℕ) (file : PinnedInput R) (d : Damage) → IsDamageOf bytes size d file → Differs d
-file_differs bytes size file d (inl damaged) = damaged_differs bytes size file.input d damaged
-file_differs bytes size file d (inr sum) = sum_differs _ d sum
+file_differs : {R : Type 0} (bytes : R → Option (List ℕ)) (size : R → ℕ) (d : Damage) (old new : List (PinnedInput R)) → IsDamageIn bytes size d old new → Differs d
+file_differs bytes size d [] new damage = absurd damage
+file_differs bytes size d (file ∷ old) [] damage = absurd damage
+file_differs bytes size d (file ∷ old) (now ∷ new) (inl here) = damaged_differs bytes size file.input d here.0
+file_differs bytes size d (file ∷ old) (now ∷ new) (inr later) = file_differs bytes size d old new later
 
 -- what is told of a query's files differs from what was wanted
-pub query_differs : {R : Type 0} (bytes : R → Option (List ℕ)) (size : R → ℕ) (d : Damage) (old new : List (PinnedInput R)) → IsDamageIn bytes size d old new → Differs d
-query_differs bytes size d [] new damage = absurd damage
-query_differs bytes size d (file ∷ old) [] damage = absurd damage
-query_differs bytes size d (file ∷ old) (now ∷ new) (inl here) = file_differs bytes size file d here.0
-query_differs bytes size d (file ∷ old) (now ∷ new) (inr later) = query_differs bytes size d old new later
+pub query_differs : {R : Type 0} (bytes : R → Option (List ℕ)) (size : R → ℕ) (w : Wanted) (terms : List Term) (view : Option ℕ) (d : Damage) (old new : List (PinnedInput R)) → IsDamageIn bytes size d old new ⊎ IsSumIn bytes w terms view old d → Differs d
+query_differs bytes size w terms view d old new (inl block) = file_differs bytes size d old new block
+query_differs bytes size w terms view d old new (inr sum) = sum_differs _ d sum.told
 
 -- ---- damage of a merge
 

@@ -1,6 +1,6 @@
 -- A pinned query that was answered: what is known of its files is what was known before, and its page is that of the files as they are now.
 use Rattle.std.proofs.Common.{◌≡◌, ℕ, List, [], ◌∷◌, map, refl, sym, ap, ◌∙◌, subst}
-use Rattle.std.specs.Prelude.{Option, Result, Ok, Err, IfOk, IfErr}
+use Rattle.std.specs.Prelude.{◌⊎◌, Option, Result, Ok, Err, IfOk, IfErr}
 use Rattle.mesa_file.specs.declared.damage.Damage.{Damage}
 use Rattle.mesa_schema.specs.declared.rows.Row.{Row}
 use Rattle.mesa_schema.specs.Columns.{Columns}
@@ -10,6 +10,7 @@ use Rattle.mesa_model.specs.declared.replies.Page.{Page}
 use Rattle.mesa_script.specs.declared.rendered.Rendered.{Rendered}
 use Rattle.mesa_script.specs.Rows.{rendered}
 use Rattle.mesa_answer.specs.Answering.{KeepsSums}
+use Rattle.mesa_answer.specs.Gathering.{wanted_by}
 use Rattle.mesa_delta.specs.declared.error.FileError.{FileError}
 use Rattle.mesa_delta.specs.declared.error.FileError.TheVariants as file
 use Rattle.mesa_compact.specs.mesa_merge.Faults.{SomeRose, faults_of}
@@ -21,6 +22,7 @@ use Rattle.mesa_tasks.specs.declared.querying.PinnedInput.{PinnedInput}
 use Rattle.mesa_service.proofs.Known.{cons_none, first_same, rest_same}
 use Rattle.mesa_query.specs.Files.{IsDamageIn, inputs_in, owns_in}
 use Rattle.mesa_query.specs.Relation.{page_over, parts_pinned, parts_ungrouped, rows_under}
+use Rattle.mesa_query.specs.Sums.{IsSumIn}
 use Rattle.mesa_service.specs.Damages.{IsUnread}
 use Rattle.mesa_service.specs.Pins.{IsAnswer, IsAnswerDamage, IsPageOver, heading_in, known_pin}
 use Rattle.mesa_session.proofs.Damaged.{query_differs, rose_failed}
@@ -102,12 +104,12 @@ module _ {R : Type 0} (bytes : R → Option (List ℕ)) where
 
     -- why there is no page
     pub fault_closes : (faults size : R → ℕ) (s : Columns) (e : FileError) → (e ≡ file.Read → SomeRose (faults_of faults (inputs_in old.inputs.items)) (faults_of faults (inputs_in new.inputs.items)))
-        → ((d : Damage) → e ≡ file.Damaged d → IsDamageIn bytes size d old.inputs.items new.inputs.items)
+        → ((d : Damage) → e ≡ file.Damaged d → IsDamageIn bytes size d old.inputs.items new.inputs.items ⊎ IsSumIn bytes (wanted_by s old.query) old.query.asked.terms old.view old.inputs.items d)
         → ((d : Damage) → e ≡ file.Damaged d → (contents : List (List Row)) → AreTold (knowns old.inputs.items) contents → KeepsSums s (rows_of (parts_ungrouped old.view old.inputs.items contents)) → ⊥)
         → IsUnread faults (pinned_inputs new) (IsAnswerDamage bytes s new) e
     fault_closes faults size s file.Read failed damaged never = rose_failed faults _ (inputs_in new.inputs.items) (failed refl)
     fault_closes faults size s (file.Damaged d) failed damaged never = record {
-      differs = query_differs bytes size d old.inputs.items new.inputs.items (damaged d refl);
+      differs = query_differs bytes size (wanted_by s old.query) old.query.asked.terms old.view d old.inputs.items new.inputs.items (damaged d refl);
       never = λ contents told sums. never d refl contents (subst (λ ks. AreTold ks contents) known told) (subst (λ parts. KeepsSums s (rows_of parts)) (ungrouped_stay contents) sums);
     }
     fault_closes faults size s file.Memory failed damaged never = tt

@@ -27,4 +27,4 @@ pub returns-in-Err-clause-answer : goal.returns-in-Err-clause-answer
 returns-in-Err-clause-answer g c =
     let s = c.requires.0 in
     let was = c.requires.1 in
-    (s, c.answer.ensures.pinned s was, fault_closes g.R.FileReader.bytes c.args.pinned.now c.answer.new.pinned c.answer.ensures.rest c.answer.ensures.known c.answer.ensures.own g.R.FileReader.faults g.R.FileReader.size s c.in-Err.error c.in-Err.ensures.cause.failed c.in-Err.ensures.damaged (λ d is. c.in-Err.ensures.never d is s was))
+    (s, c.answer.ensures.pinned s was, fault_closes g.R.FileReader.bytes c.args.pinned.now c.answer.new.pinned c.answer.ensures.rest c.answer.ensures.known c.answer.ensures.own g.R.FileReader.faults g.R.FileReader.size s c.in-Err.error c.in-Err.ensures.cause.failed (λ d is. c.in-Err.ensures.damaged d is s was) (λ d is. c.in-Err.ensures.never d is s was))
