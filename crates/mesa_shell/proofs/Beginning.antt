@@ -3,6 +3,7 @@ use Rattle.std.proofs.Common.{◌≡◌, inl, ℕ, ◌+◌, ◌*◌, ◌<◌, �
 use Rattle.std.proofs.lemmas.List.{append-nil, length-map}
 use Rattle.mesa_disk.specs.Image.{Image}
 use Rattle.mesa_disk.specs.Story.{Story}
+use Rattle.mesa_disk.specs.declared.area.Area.{Area}
 use Rattle.mesa_model.specs.Warehouse.{Table}
 use Rattle.mesa_model.specs.declared.commands.Command.{Command}
 use Rattle.mesa_model.specs.declared.commands.Script.{Script}
@@ -45,10 +46,10 @@ bare_tables : (rows : Rows) (next : ℕ) (ts : List Stock) → map bare_table (m
 bare_tables rows next [] = refl
 bare_tables rows next (t ∷ ts) = ap (λ (x : List Table). skeleton_of t ∷ x) (bare_tables rows next ts)
 
-books_are : (script : Script) (c : Catalog) (end : ℕ) (w : Rows) (sound : Bool) → AreBooksOf sound (books_of w (opened_ledger c end script.lease)) (start_of script c w)
+books_are : (script : Script) (c : Catalog) (area : Area) (end : ℕ) (w : Rows) (sound : Bool) → AreBooksOf sound (books_of w (opened_ledger c area end script.lease)) (start_of script c w)
 unfolding kept_of
-books_are script c end w sound = record {
-  skeleton = λ i. record (books_of w (opened_ledger c end script.lease)).bare { store = record { tables = bare_tables w c.next c.tables i; floor = c.floor } };
+books_are script c area end w sound = record {
+  skeleton = λ i. record (books_of w (opened_ledger c area end script.lease)).bare { store = record { tables = bare_tables w c.next c.tables i; floor = c.floor } };
   machine = refl;
   rows = λ is. refl;
   pins = λ is. refl;
@@ -58,9 +59,9 @@ has_ranges : (script : Script) (c : Catalog) (w : Rows) → HasRanges (start_of 
 unfolding kept_of
 has_ranges script c w = length-map c.tables ranges_of ∙ sym (length-map c.tables (table_of w c.next))
 
-same_leases : (script : Script) (c : Catalog) (end : ℕ) (w : Rows) → (start_of script c w).machine.leases ≡ (opened_ledger c end script.lease).leases
+same_leases : (script : Script) (c : Catalog) (area : Area) (end : ℕ) (w : Rows) → (start_of script c w).machine.leases ≡ (opened_ledger c area end script.lease).leases
 unfolding kept_of
-same_leases script c end w = refl
+same_leases script c area end w = refl
 
 found_first : (script : Script) (c : Catalog) (w : Rows) (t : ℕ) (x : Image) → StandsFor x (kept_of w c) → Found StandsFor script (begins (start_of script c w)) [] t x
 unfolding kept_of kept_in runs
@@ -83,18 +84,18 @@ module _ {D : Type 0} (story : D → Story) (b : Begun D) (ready : IsReadyToRun 
   fresh : AreFresh (first_id c.run + 0) (first_id (c.run + 1)) (story b.disk).told
   fresh i told id from past = ready.filed.fresh i told id (omega (arith, from, ready.run)) (omega (arith, past, ready.run))
 
-  is_ready : (turns : ℕ) → IsReady (opened_ledger c b.end turns) (story b.disk)
+  is_ready : (turns : ℕ) → IsReady (opened_ledger c b.area b.end turns) (story b.disk)
   is_ready turns = record { long = ready.long; fresh = fresh; strays = ready.filed.strays }
 
   module _ (script : Script) (sound : Rows → Type 0) (held : Option (List ℕ)) where
     abbrev n : Starts
     n = starts_of script (λ rows. start_of script c rows) sound (λ rows. origin_of c rows) b.since ((story b.disk).faults + (story b.disk).read_faults) held
 
-    pub begun_dark : (w : Rows) → IsBegun n w false c b.end script.lease (story b.disk) held
+    pub begun_dark : (w : Rows) → IsBegun n w false c b.area b.end script.lease (story b.disk) held
     begun_dark w = record {
       bodies = [];
-      state = books_are script c b.end w false;
-      leases = same_leases script c b.end w;
+      state = books_are script c b.area b.end w false;
+      leases = same_leases script c b.area b.end w;
       ranges = has_ranges script c w;
       generation = refl;
       shaped = ready.shaped;
@@ -111,11 +112,11 @@ module _ {D : Type 0} (story : D → Story) (b : Begun D) (ready : IsReadyToRun 
       sourced = λ is. absurd (let no : false ≡ true = is in cc);
     }
 
-    pub begun_light : {M : Type 0} (bytes : M → Option (List ℕ)) (w : Rows) → IsSoundBegun bytes b.since (story b.disk) b.end c w → IsBegun n w true c b.end script.lease (story b.disk) held
+    pub begun_light : {M : Type 0} (bytes : M → Option (List ℕ)) (w : Rows) → IsSoundBegun bytes b.since (story b.disk) b.area b.end c w → IsBegun n w true c b.area b.end script.lease (story b.disk) held
     begun_light bytes w s = record {
       bodies = s.held.0;
-      state = books_are script c b.end w true;
-      leases = same_leases script c b.end w;
+      state = books_are script c b.area b.end w true;
+      leases = same_leases script c b.area b.end w;
       ranges = has_ranges script c w;
       generation = refl;
       shaped = ready.shaped;
@@ -133,6 +134,6 @@ module _ {D : Type 0} (story : D → Story) (b : Begun D) (ready : IsReadyToRun 
     }
 
     -- on every store, and with the rows of a sound one
-    pub begun_is : {M : Type 0} (bytes : M → Option (List ℕ)) (w : Rows) (light : Bool) → (IsTrue light → IsSoundBegun bytes b.since (story b.disk) b.end c w) → IsBegun n w light c b.end script.lease (story b.disk) held
+    pub begun_is : {M : Type 0} (bytes : M → Option (List ℕ)) (w : Rows) (light : Bool) → (IsTrue light → IsSoundBegun bytes b.since (story b.disk) b.area b.end c w) → IsBegun n w light c b.area b.end script.lease (story b.disk) held
     begun_is bytes w true is = begun_light bytes w (is refl)
     begun_is bytes w false is = begun_dark w

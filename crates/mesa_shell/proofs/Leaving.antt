@@ -20,9 +20,9 @@ use Rattle.mesa_shell.specs.declared.running.Left.{Left}
 
 module _ {K D M B : Type 0} (ports : Ports K D M B) (script : Script) (b : Begun D) (out : K) (benches : List B) where
   pub has_not_run : (r : Result (Left K D B) (Devices K D B)) → IfErr r (λ d. (ports.held d.out ≡ ports.held out) × (ports.sink_faults d.out ≡ ports.sink_faults out) × (d.benches.items ≡ benches))
-      → IfErr r (λ d. (w : Rows) → IsSoundBegun ports.bytes b.since (ports.story b.disk) b.end b.catalog.catalogue w
+      → IfErr r (λ d. (w : Rows) → IsSoundBegun ports.bytes b.since (ports.story b.disk) b.area b.end b.catalog.catalogue w
       → AllFound (outset_from script (start_of script b.catalog.catalogue w) b.since ((ports.story b.disk).faults + (ports.story b.disk).read_faults) (ports.held out)) [] (ports.story d.disk))
-      → IfErr r (λ d. (w : Rows) → IsSoundBegun ports.bytes b.since (ports.story b.disk) b.end b.catalog.catalogue w → IsRead (ports.story d.disk))
+      → IfErr r (λ d. (w : Rows) → IsSoundBegun ports.bytes b.since (ports.story b.disk) b.area b.end b.catalog.catalogue w → IsRead (ports.story d.disk))
       → IfErr r (HasNotRun ports script b out benches)
   has_not_run (Ok l) memory kept read = tt
   has_not_run (Err d) memory kept read = record { held = memory.0; faults = memory.1; same = memory.2; found = kept; read = read }
@@ -33,7 +33,7 @@ module _ {K D M B : Type 0} (ports : Ports K D M B) (script : Script) (b : Begun
       → IfOk r (λ l. (w : Rows) → HasBenchCounts ports.bench_faults (ports.story l.disk) script (begins (start_of script b.catalog.catalogue w)) l.history.items benches l.benches.items)
       → IfOk r (λ l. (w : Rows) → l.refused ≡ some_refused script (begins (start_of script b.catalog.catalogue w)) l.history.items)
       → IfOk r (λ l. l.failed ≡ true → Rose (ports.sink_faults out) (ports.sink_faults l.out)) → IfOk r (λ l. l.failed ≡ false → ports.sink_faults l.out ≡ ports.sink_faults out)
-      → IfOk r (λ l. (w : Rows) → IsSoundBegun ports.bytes b.since (ports.story b.disk) b.end b.catalog.catalogue w → (ports.story l.disk).moment < last
+      → IfOk r (λ l. (w : Rows) → IsSoundBegun ports.bytes b.since (ports.story b.disk) b.area b.end b.catalog.catalogue w → (ports.story l.disk).moment < last
       → RanSoundly script (start_of script b.catalog.catalogue w) l.history.items l.failed b.since ((ports.story b.disk).faults + (ports.story b.disk).read_faults) (ports.story l.disk) (ports.held out) (ports.held l.out))
       → IfOk r (RanFrom ports script b out benches)
   ran_from (Ok l) anyhow returned counted told broken whole soundly = record { anyhow = anyhow; returned = returned; counted = counted; told = told; soundly = soundly; broken = broken; whole = whole }

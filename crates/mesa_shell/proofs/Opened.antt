@@ -5,13 +5,12 @@ use Rattle.std.specs.Prelude.{Result, Ok, Err, IfOk, IfErr}
 use Rattle.mesa_fault.specs.Causes.{last}
 use Rattle.mesa_disk.specs.Image.{Image}
 use Rattle.mesa_disk.specs.Story.{Story, Unmoved}
-use Rattle.mesa_disk.specs.declared.area.Area.TheVariants.{Zero}
 use Rattle.mesa_trash.specs.Filed.{FilesAdopted}
 use Rattle.mesa_skeleton.specs.Rows.{Rows}
 use Rattle.mesa_image.specs.Catalog.{Catalog, applied}
 use Rattle.mesa_image.specs.Shape.{IsCatalog}
 use Rattle.mesa_image_laws.specs.Ids.{HasOwnIds, named}
-use Rattle.mesa_image_laws.proofs.Wholes.{catalog_owns, catalog_shaped}
+use Rattle.mesa_image_laws.proofs.Wholes.{catalog_whole}
 use Rattle.mesa_ending.specs.mesa_opening.declared.error.OpenError.{OpenError}
 use Rattle.mesa_ending.specs.mesa_opening.declared.error.OpenError.TheVariants as open_error
 use Rattle.mesa_ending.specs.mesa_opening.Opening.{HasReason, IsHeldAs, IsSoundStart, Keeps, first_id, most_runs, run_record}
@@ -35,24 +34,25 @@ module _ {D : Type 0} (story : D → Story) (old : Story) (o : Opened D) (is : I
   abbrev known : Catalog
   known = o.catalog.catalogue
 
-  begun_from : (b : Begun D) → b.run ≡ o.last_run + 1 → b.catalog.catalogue ≡ applied known (run_record b.run) → b.catalog.reserved ≡ None → b.since ≡ o.since → b.end < (story b.disk).len Zero
-      → ((rows : Rows) → IsSoundStart (story o.disk) known rows → IsHeldAs (story b.disk) b.end b.catalog.catalogue rows) → Keeps (story o.disk) (story b.disk)
+  begun_from : (b : Begun D) → b.run ≡ o.last_run + 1 → b.catalog.catalogue ≡ applied known (run_record b.run) → b.catalog.reserved ≡ None → b.since ≡ o.since → b.end < (story b.disk).len b.area
+      → ((rows : Rows) → IsSoundStart (story o.disk) known rows → IsHeldAs (story b.disk) b.area b.end b.catalog.catalogue rows) → Keeps (story o.disk) (story b.disk)
       → FilesAdopted 0 (first_id b.run) (first_id (b.run + 1)) (named b.catalog.catalogue) [] [] (story b.disk).told
       → ((i : Image) → (story o.disk).told ≡ Some i → IsRead (story b.disk))
       → ((story b.disk).faults ≡ (story o.disk).faults) × ((story b.disk).read_faults ≡ (story o.disk).read_faults) → (story o.disk).moment ≤ (story b.disk).moment → o.last_run < most_runs → HasBegun story old b
   begun_from b run applies free since long held keeps filed told quiet later less =
       let read = is.reads in
+      let whole = catalog_whole o.area is.bodies known read.bytes read.records in
       record {
         catalogue = known;
-        reads = (is.bodies, o.end, read_before old (story o.disk) still is.bodies o.end known read);
+        reads = (o.area, is.bodies, o.end, read_before old (story o.disk) still o.area is.bodies o.end known read);
         number = omega (arith, less, is.run);
         applies = applies;
         ready = record {
           run = ap (λ (c : Catalog). c.run) applies;
           few = omega (arith, run, less);
           free = free;
-          shaped = subst IsCatalog (sym applies) (run_shaped known b.run (catalog_shaped is.bodies known read.bytes read.records));
-          own = subst HasOwnIds (sym applies) (run_owns known b.run (omega (arith, run, is.run)) (catalog_owns is.bodies known read.bytes read.records));
+          shaped = subst IsCatalog (sym applies) (run_shaped known b.run whole.shaped);
+          own = subst HasOwnIds (sym applies) (run_owns known b.run (omega (arith, run, is.run)) whole.own);
           long = long;
           filed = filed;
           since = omega (arith, since, is.now, later);
@@ -66,16 +66,16 @@ module _ {D : Type 0} (story : D → Story) (old : Story) (o : Opened D) (is : I
       }
 
   pub has_begun : (r : Result (Begun D) (OpenError × D)) → IfOk r (λ b. b.run ≡ o.last_run + 1) → IfOk r (λ b. b.catalog.catalogue ≡ applied known (run_record b.run)) → IfOk r (λ b. b.catalog.reserved ≡ None)
-      → IfOk r (λ b. (b.area ≡ Zero) × (b.since ≡ o.since)) → IfOk r (λ b. b.end < (story b.disk).len Zero)
-      → IfOk r (λ b. (rows : Rows) → IsSoundStart (story o.disk) known rows → IsHeldAs (story b.disk) b.end b.catalog.catalogue rows) → IfOk r (λ b. Keeps (story o.disk) (story b.disk))
+      → IfOk r (λ b. b.since ≡ o.since) → IfOk r (λ b. b.end < (story b.disk).len b.area)
+      → IfOk r (λ b. (rows : Rows) → IsSoundStart (story o.disk) known rows → IsHeldAs (story b.disk) b.area b.end b.catalog.catalogue rows) → IfOk r (λ b. Keeps (story o.disk) (story b.disk))
       → IfOk r (λ b. FilesAdopted 0 (first_id b.run) (first_id (b.run + 1)) (named b.catalog.catalogue) [] [] (story b.disk).told)
       → IfOk r (λ b. (i : Image) → (story o.disk).told ≡ Some i → IsRead (story b.disk))
       → IfOk r (λ b. ((story b.disk).faults ≡ (story o.disk).faults) × ((story b.disk).read_faults ≡ (story o.disk).read_faults)) → IfOk r (λ b. (story o.disk).moment ≤ (story b.disk).moment)
       → (o.last_run ≡ most_runs → r ≡ Err (open_error.RunsFull, o.disk)) → IfOk r (HasBegun story old)
-  has_begun (Ok b) run applies free place long held keeps filed told quiet later full =
-      begun_from b run applies free place.1 long held keeps filed told quiet later
-      (⊎_elim (λ lt. lt) (λ ge. absurd (let few = runs_few is.bodies known is.reads.records in let last : o.last_run ≡ most_runs = omega (arith, ge, few, is.run) in let never : Ok b ≡ Err (open_error.RunsFull, o.disk) = full last in cc never)) (cases_lt o.last_run most_runs))
-  has_begun (Err e) run applies free place long held keeps filed told quiet later full = tt
+  has_begun (Ok b) run applies free since long held keeps filed told quiet later full =
+      begun_from b run applies free since long held keeps filed told quiet later
+      (⊎_elim (λ lt. lt) (λ ge. absurd (let few = runs_few o.area is.bodies known is.reads.bytes is.reads.records in let last : o.last_run ≡ most_runs = omega (arith, ge, few, is.run) in let never : Ok b ≡ Err (open_error.RunsFull, o.disk) = full last in cc never)) (cases_lt o.last_run most_runs))
+  has_begun (Err e) run applies free since long held keeps filed told quiet later full = tt
 
   -- no run begins on a store that was read
   pub unopened_from : (r : Result (Begun D) (OpenError × D)) → IfErr r (λ e. HasReason (story o.disk) (story e.1) e.0) → IfErr r (λ e. Keeps (story o.disk) (story e.1))

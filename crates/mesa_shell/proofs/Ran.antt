@@ -16,7 +16,7 @@ use Rattle.mesa_skeleton.specs.Rows.{Rows}
 use Rattle.mesa_image.specs.Catalog.{Catalog}
 use Rattle.mesa_image.specs.Contents.{kept_of}
 use Rattle.mesa_image.specs.Sound.{StandsFor}
-use Rattle.mesa_image_laws.proofs.Wholes.{catalog_shaped}
+use Rattle.mesa_image_laws.proofs.Wholes.{catalog_whole}
 use Rattle.mesa_ending.specs.mesa_opening.Opening.{IsSoundStart, Keeps}
 use Rattle.mesa_catalog.specs.declared.begun.Begun.{Begun}
 use Rattle.mesa_ending.specs.Counting.{HasBenchCounts}
@@ -66,7 +66,7 @@ module _ {K D M B : Type 0} (ports : Ports K D M B) (given : Devices K D B) (scr
     begun : IsSoundStart (ports.story given.disk) has.catalogue rows
     begun = subst (λ (y : Catalog). IsSoundStart (ports.story given.disk) y rows) same start
 
-    sound : IsSoundBegun ports.bytes b.since (ports.story b.disk) b.end b.catalog.catalogue rows
+    sound : IsSoundBegun ports.bytes b.since (ports.story b.disk) b.area b.end b.catalog.catalogue rows
     sound = record {
       files = files;
       held = has.held rows begun;
@@ -110,7 +110,7 @@ module _ {K D M B : Type 0} (ports : Ports K D M B) (given : Devices K D B) (scr
       (subst (λ m. RanAnyhow script (start_of script c rows) l.history.items l.failed m counted (ports.story l.disk)) has.since
       (subst (λ s. RanAnyhow script s l.history.items l.failed b.since counted (ports.story l.disk)) (same_start rows) (ran.anyhow rows)))
 
-  sound_begun : (rows : Rows) → IsSoundStore ports.bytes old c rows → IsSoundBegun ports.bytes b.since (ports.story b.disk) b.end b.catalog.catalogue rows
+  sound_begun : (rows : Rows) → IsSoundStore ports.bytes old c rows → IsSoundBegun ports.bytes b.since (ports.story b.disk) b.area b.end b.catalog.catalogue rows
   sound_begun rows s = record {
     files = s.files;
     held = has.held rows s.start;
@@ -127,8 +127,8 @@ module _ {K D M B : Type 0} (ports : Ports K D M B) (given : Devices K D B) (scr
 
   answers : (rows : Rows) → IsSoundStore ports.bytes old c rows → AnswersFromTheFold script (start_of script c rows) l.history.items
   answers rows s before more e told page parts tells pages =
-      let read = has.reads.2 in
-      pages_fold script (start_of script c rows) (well_formed_start script c rows (catalog_shaped has.reads.0 c read.bytes read.records) s.start.sound.rows_are) refl_pins before e told page tells pages
+      let read = has.reads.3 in
+      pages_fold script (start_of script c rows) (well_formed_start script c rows (catalog_whole has.reads.0 has.reads.1 c read.bytes read.records).shaped s.start.sound.rows_are) refl_pins before e told page tells pages
     where
       refl_pins : (start_of script c rows).warehouse.pins ≡ []
       refl_pins = refl

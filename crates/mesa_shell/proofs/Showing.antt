@@ -60,7 +60,7 @@ module _ {K S D M B : Type 0} (held : K → Option (List ℕ)) (faults : K → �
         let well = ran.soundly rows sound below in
         let all : HasAll script (begins (start_of script c rows)) l.history.items (Some []) (Some text) = well.output in
         cuts seed versions (start_of script c rows) l.history.items read
-        (start_plain script c rows ran.reads.0 ran.reads.2.bytes ran.reads.2.records)
+        (start_plain script c rows ran.reads.0 ran.reads.1 ran.reads.3.bytes ran.reads.3.records)
         (ran.anyhow rows).legal.each well.undamaged
         (subst (IsOutput script (begins (start_of script c rows)) l.history.items) (sym all.held) all.output);
     status = if l.refused then 1 else 0;

@@ -3,6 +3,7 @@ use Rattle.std.proofs.Common.{◌≡◌, ◌⊎◌, inl, inr, ℕ, ◌+◌, ◌<
 use Rattle.std.proofs.lemmas.Bool.{cases_lt}
 use Rattle.mesa_fault.specs.Causes.{last, Rose}
 use Rattle.mesa_disk.specs.Story.{Story, Unmoved}
+use Rattle.mesa_disk.specs.declared.area.Area.{Area}
 use Rattle.mesa_image.specs.Catalog.{Catalog}
 use Rattle.mesa_ending.specs.mesa_verdict.Faults.{Fault}
 use Rattle.mesa_ending.specs.mesa_verdict.Verdict.{IsFirstFault}
@@ -33,10 +34,10 @@ one_rose f r g s faults reads more = elim (cases_lt g last) [
 -- ---- behind an opening, and a check that moved nothing
 
 module _ (old mid new : Story) (opened : Unmoved old mid) (checked : Unmoved mid new) where
-  pub verdict_there : (bodies : List (List ℕ)) (end : ℕ) (c : Catalog) (fault : Option Fault) → IsRead mid bodies end c → IsFirstFault mid c fault → (d : Catalog) × ReadsAs old d × IsFirstFault old d fault
-  verdict_there bodies end c fault read first = (
+  pub verdict_there : (live : Area) (bodies : List (List ℕ)) (end : ℕ) (c : Catalog) (fault : Option Fault) → IsRead mid live bodies end c → IsFirstFault mid c fault → (d : Catalog) × ReadsAs old d × IsFirstFault old d fault
+  verdict_there live bodies end c fault read first = (
     c,
-    (bodies, end, read_before old mid opened bodies end c read),
+    (live, bodies, end, read_before old mid opened live bodies end c read),
     record {
       first = λ i found told are. first.first i found (opened.told ∙ told) are;
       sound = λ i told none. first.sound i (opened.told ∙ told) none;

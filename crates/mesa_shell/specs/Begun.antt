@@ -3,7 +3,7 @@ use Rattle.std.specs.Prelude.{◌≡◌, ℕ, ◌+◌, ◌<◌, ◌≤◌, ◌^�
 use Rattle.mesa_fault.specs.Causes.{last}
 use Rattle.mesa_disk.specs.Image.{Image}
 use Rattle.mesa_disk.specs.Story.{Story}
-use Rattle.mesa_disk.specs.declared.area.Area.TheVariants.{Zero}
+use Rattle.mesa_disk.specs.declared.area.Area.{Area}
 use Rattle.mesa_trash.specs.Filed.{FilesAdopted}
 use Rattle.mesa_skeleton.specs.Rows.{Rows}
 use Rattle.mesa_image.specs.Catalog.{Catalog, applied}
@@ -16,21 +16,21 @@ use Rattle.mesa_ledger.specs.Vault.{IsRead}
 use Rattle.mesa_catalog.specs.declared.begun.Begun.{Begun}
 use Rattle.mesa_ending.specs.Start.{AreTold}
 
--- What holds on any store on which a run has begun: its catalogue is that of the run, and has the shape and the ids of one; the journal has room for a body behind its end; the files that are there are those that the catalogue names, and none has an id that the run may give; and the clock isn't before the run's start.
+-- What holds on any store on which a run has begun: its catalogue is that of the run, and has the shape and the ids of one; the area in which the journal goes on has room for a body behind its end; the files that are there are those that the catalogue names, and none has an id that the run may give; and the clock isn't before the run's start.
 pub record IsReadyToRun {D : Type 0} (story : D → Story) (b : Begun D) : Type 0 where
   pub run : b.catalog.catalogue.run ≡ b.run
   pub few : b.run < 2 ^ 24
   pub free : b.catalog.reserved ≡ None
   pub shaped : IsCatalog b.catalog.catalogue
   pub own : HasOwnIds b.catalog.catalogue
-  pub long : b.end < (story b.disk).len Zero
+  pub long : b.end < (story b.disk).len b.area
   pub filed : FilesAdopted 0 (first_id b.run) (first_id (b.run + 1)) (named b.catalog.catalogue) [] [] (story b.disk).told
   pub since : b.since ≤ (story b.disk).moment
 
 -- What holds where it was sound, with these rows: finished files tell their bytes; the disk holds the catalogue with them, and a read gives an image; and each image that a crash since the run's start may have left stands for that.
-pub record IsSoundBegun {M : Type 0} (bytes : M → Option (List ℕ)) (since : ℕ) (story : Story) (end : ℕ) (c : Catalog) (rows : Rows) : Type 0 where
+pub record IsSoundBegun {M : Type 0} (bytes : M → Option (List ℕ)) (since : ℕ) (story : Story) (area : Area) (end : ℕ) (c : Catalog) (rows : Rows) : Type 0 where
   pub files : AreTold bytes
-  pub held : IsHeldAs story end c rows
+  pub held : IsHeldAs story area end c rows
   pub read : IsRead story
   pub found : story.moment < last → (t : ℕ) (x : Image) → since ≤ t → t ≤ story.moment → story.may_have_left t x → StandsFor x (kept_of rows c)
 
@@ -42,7 +42,7 @@ pub record HasBegun {D : Type 0} (story : D → Story) (old : Story) (b : Begun 
   pub applies : b.catalog.catalogue ≡ applied catalogue (run_record b.run)
   pub ready : IsReadyToRun story b
   pub keeps : Keeps old (story b.disk)
-  pub held : (rows : Rows) → IsSoundStart old catalogue rows → IsHeldAs (story b.disk) b.end b.catalog.catalogue rows
+  pub held : (rows : Rows) → IsSoundStart old catalogue rows → IsHeldAs (story b.disk) b.area b.end b.catalog.catalogue rows
   pub told : (i : Image) → old.told ≡ Some i → IsRead (story b.disk)
   pub since : b.since ≡ old.moment
   pub faults : (story b.disk).faults ≡ old.faults

@@ -22,7 +22,7 @@ pub record RanFrom {K D M B : Type 0} (ports : Ports K D M B) (script : Script) 
   pub returned : length l.benches.items ≡ length benches
   pub counted : (rows : Rows) → HasBenchCounts ports.bench_faults (ports.story l.disk) script (begins (start_of script b.catalog.catalogue rows)) l.history.items benches l.benches.items
   pub told : (rows : Rows) → l.refused ≡ some_refused script (begins (start_of script b.catalog.catalogue rows)) l.history.items
-  pub soundly : (rows : Rows) → IsSoundBegun ports.bytes b.since (ports.story b.disk) b.end b.catalog.catalogue rows → (ports.story l.disk).moment < last
+  pub soundly : (rows : Rows) → IsSoundBegun ports.bytes b.since (ports.story b.disk) b.area b.end b.catalog.catalogue rows → (ports.story l.disk).moment < last
       → RanSoundly script (start_of script b.catalog.catalogue rows) l.history.items l.failed b.since ((ports.story b.disk).faults + (ports.story b.disk).read_faults) (ports.story l.disk) (ports.held out) (ports.held l.out)
   pub broken : l.failed ≡ true → Rose (ports.sink_faults out) (ports.sink_faults l.out)
   pub whole : l.failed ≡ false → ports.sink_faults l.out ≡ ports.sink_faults out
@@ -32,6 +32,6 @@ pub record HasNotRun {K D M B : Type 0} (ports : Ports K D M B) (script : Script
   pub held : ports.held d.out ≡ ports.held out
   pub faults : ports.sink_faults d.out ≡ ports.sink_faults out
   pub same : d.benches.items ≡ benches
-  pub found : (rows : Rows) → IsSoundBegun ports.bytes b.since (ports.story b.disk) b.end b.catalog.catalogue rows
+  pub found : (rows : Rows) → IsSoundBegun ports.bytes b.since (ports.story b.disk) b.area b.end b.catalog.catalogue rows
       → AllFound (outset_from script (start_of script b.catalog.catalogue rows) b.since ((ports.story b.disk).faults + (ports.story b.disk).read_faults) (ports.held out)) [] (ports.story d.disk)
-  pub read : (rows : Rows) → IsSoundBegun ports.bytes b.since (ports.story b.disk) b.end b.catalog.catalogue rows → IsRead (ports.story d.disk)
+  pub read : (rows : Rows) → IsSoundBegun ports.bytes b.since (ports.story b.disk) b.area b.end b.catalog.catalogue rows → IsRead (ports.story d.disk)

@@ -71,7 +71,7 @@ fn run_named<
 ) -> Result<Left<K, D, B>, Devices<K, D, B>>
     requires script { script.now ≡ N.script }
     requires small { IsSmall N.script }
-    requires begun { (w : Rows) (b : Bool) → (IsTrue b → N.sound w) → IsBegun (starts_of N.script N.start N.sound N.origin N.since N.counted N.at_start) w b begun.catalog.catalogue begun.end script.now.lease (D.story begun.disk) (K.held out) }
+    requires begun { (w : Rows) (b : Bool) → (IsTrue b → N.sound w) → IsBegun (starts_of N.script N.start N.sound N.origin N.since N.counted N.at_start) w b begun.catalog.catalogue begun.area begun.end script.now.lease (D.story begun.disk) (K.held out) }
     requires files { (w : Rows) → N.sound w → AreTold M.bytes }
     requires faults { K.faults out ≡ N.sink_faults }
     requires run { begun.catalog.catalogue.run < 2 ^ 24 }

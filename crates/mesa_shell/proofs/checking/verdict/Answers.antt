@@ -18,7 +18,7 @@ returns-in-Ok-check g c =
     let r = c.in-Ok.ensures in
     let k = c.in-Ok-check.ensures in
     record {
-      verdict = verdict_there old mid new r.unmoved k.unmoved r.opened.bodies o.end o.catalog.catalogue (fault_told c.in-Ok-check.verdict) r.opened.reads k.verdict;
+      verdict = verdict_there old mid new r.unmoved k.unmoved o.area r.opened.bodies o.end o.catalog.catalogue (fault_told c.in-Ok-check.verdict) r.opened.reads k.verdict;
       reason = tt;
       other = tt;
       unmoved = subst (λ d. Unmoved old (g.D.Disk.story d)) (sym c.disk_of.ensures) (nothing_moved old mid new r.unmoved k.unmoved);
