@@ -2,7 +2,6 @@
 use Rattle.std.proofs.Common.{◌≡◌, ◌↔◌, ℕ, zero, suc, ◌≤◌, List, [], ◌∷◌, ◌++◌, length, take, append_assoc, append-nil, true, false, Bool, cond, inl, inr, refl, sym, ◌∙◌, ap, subst, arith, Some, None}
 use Rattle.std.specs.Prelude.{ℤ, ◌⊎◌, IsTrue, is_some, slice_get}
 use Rattle.std.specs.Ordering.{is_eq, is_le}
-use Rattle.std.specs.FinMap.{nat_cmp-IsAntisymmetric, slice_cmp-IsAntisymmetric}
 use Rattle.std.specs.FinMap.Entries.{by_order}
 use Rattle.std.specs.declared.cmp.Ordering.TheVariants.{Less, Equal, Greater}
 use Rattle.mesa_value.specs.declared.Agg.{Agg}
@@ -13,20 +12,10 @@ use Rattle.mesa_schema.specs.Columns.{Columns}
 use Rattle.mesa_schema.specs.Folded.{grouped, regrouped, row_combined}
 use Rattle.mesa_schema.specs.Put.{put_row}
 use Rattle.mesa_answer.specs.Gathering.{first_groups, group_from, rows_behind}
-use Rattle.mesa_answer.specs.Held.{rows_in, value_at}
+use Rattle.mesa_answer.specs.Held.{value_at}
 use Rattle.mesa_answer.specs.Sums.{HasGroup, group_key}
-use Rattle.mesa_answer.proofs.Entries.{Entry}
+use Rattle.mesa_answer.proofs.Entries.{same_key, self_equal}
 use Rattle.mesa_answer.proofs.Steps.{first_groups-before, first_groups-behind}
-
-same_key : (a b : List ℕ) → byte_cmp a b ≡ Equal → a ≡ b
-same_key a b e = slice_cmp-IsAntisymmetric nat_cmp-IsAntisymmetric a b e
-
-self_equal : (k : List ℕ) → byte_cmp k k ≡ Equal
-self_equal k = elim (byte_cmp k k) as (λ o. byte_cmp k k ≡ o → o ≡ Equal) [
-  | Less ↦ λ e. let other = flipped k k Less e in cc
-  | Equal ↦ λ e. refl
-  | Greater ↦ λ e. let other = flipped k k Greater e in cc
-] refl
 
 -- the first of the rows has this key
 Leads : List ℕ → List Row → Type 0
@@ -38,16 +27,16 @@ AreFrom : List ℕ → List Row → Type 0
 AreFrom key [] = Unit {0}
 AreFrom key (row ∷ rows) = is_le (byte_cmp key row.key) ≡ true
 
--- of an only entry the key is looked up just where it leads
-leads : (key : List ℕ) (es : List Entry) → length (rows_in es) ≤ 1 → IsTrue (is_some (value_at key es)) ↔ Leads key (rows_in es)
+-- of an only row the key is looked up just where it leads
+leads : (key : List ℕ) (rows : List Row) → length rows ≤ 1 → IsTrue (is_some (value_at key rows)) ↔ Leads key rows
 unfolding Leads
 leads key [] few = (λ h. absurd (cc h), λ h. absurd h)
-leads key (e ∷ f ∷ es) few = absurd (omega (arith, few))
-leads key (e ∷ []) few =
-    let there : e.0.items ≡ key → byte_cmp key e.0.items ≡ Equal = λ is. subst (λ k. byte_cmp key k ≡ Equal) (sym is) (self_equal key) in
-    elim (byte_cmp key e.0.items) as (λ o. byte_cmp key e.0.items ≡ o → IsTrue (is_some (cond (is_eq o) (Some e.1) None)) ↔ (e.0.items ≡ key)) [
+leads key (x ∷ y ∷ rows) few = absurd (omega (arith, few))
+leads key (x ∷ []) few =
+    let there : x.key ≡ key → byte_cmp key x.key ≡ Equal = λ is. subst (λ k. byte_cmp key k ≡ Equal) (sym is) (self_equal key) in
+    elim (byte_cmp key x.key) as (λ o. byte_cmp key x.key ≡ o → IsTrue (is_some (cond (is_eq o) (Some x.values) None)) ↔ (x.key ≡ key)) [
       | Less ↦ λ o. (λ h. absurd (cc h), λ is. absurd (let other = there is in cc))
-      | Equal ↦ λ o. (λ h. sym (same_key key e.0.items o), λ is. refl)
+      | Equal ↦ λ o. (λ h. sym (same_key key x.key o), λ is. refl)
       | Greater ↦ λ o. (λ h. absurd (cc h), λ is. absurd (let other = there is in cc))
     ] refl
 
@@ -123,25 +112,25 @@ shorter [] = omega arith
 shorter (row ∷ rows) = omega arith
 
 -- THE GROUP IS THERE just where a row of it was put in.
-pub group_there : (s : Columns) (columns key : List ℕ) (rows : List Row) (es : List Entry) → rows_in es ≡ first_groups (group_from s columns key) rows → IsTrue (is_some (value_at key es)) ↔ HasGroup s columns key rows
+pub group_there : (s : Columns) (columns key : List ℕ) (rows held : List Row) → held ≡ first_groups (group_from s columns key) rows → IsTrue (is_some (value_at key held)) ↔ HasGroup s columns key rows
 unfolding Leads AreFrom
-group_there s columns key rows es held =
+group_there s columns key rows held first =
     let w = group_from s columns key in
     let start : Seeks s columns key [] = record { from = tt; found = (λ h. h, λ h. h) } in
     let seeks = seeks_all s columns key [] rows start in
-    let few : length (rows_in es) ≤ 1 = subst (λ n. n ≤ 1) (sym (ap length held)) (shorter (rows_behind true (Some key) (grouped s columns [] rows))) in
-    let here = leads key es few in
-    (λ h. seeks.found.0 (subst (Leads key) held (here.0 h)), λ h. here.1 (subst (Leads key) (sym held) (seeks.found.1 h)))
+    let few : length held ≤ 1 = subst (λ n. n ≤ 1) (sym (ap length first)) (shorter (rows_behind true (Some key) (grouped s columns [] rows))) in
+    let here = leads key held few in
+    (λ h. seeks.found.0 (subst (Leads key) first (here.0 h)), λ h. here.1 (subst (Leads key) (sym first) (seeks.found.1 h)))
 
 -- ---- the group of a row
 
--- an entry that is found is a group
-pub group_at : (es : List Entry) (key : List ℕ) (old : List ℤ) → value_at key es ≡ Some old → (place : ℕ) × (slice_get (rows_in es) place ≡ Some (record { key = key; values = old }))
+-- a group whose values are found stands at a place
+pub group_at : (held : List Row) (key : List ℕ) (old : List ℤ) → value_at key held ≡ Some old → (place : ℕ) × (slice_get held place ≡ Some (record { key = key; values = old }))
 group_at [] key old some = cc
-group_at (e ∷ es) key old some =
-    let later : value_at key es ≡ Some old → (place : ℕ) × (slice_get (rows_in (e ∷ es)) place ≡ Some (record { key = key; values = old })) = λ s. let there = group_at es key old s in (suc there.0, there.1) in
-    elim (byte_cmp key e.0.items) as (λ o. byte_cmp key e.0.items ≡ o → cond (is_eq o) (Some e.1) (value_at key es) ≡ Some old → (place : ℕ) × (slice_get (rows_in (e ∷ es)) place ≡ Some (record { key = key; values = old }))) [
+group_at (x ∷ xs) key old some =
+    let later : value_at key xs ≡ Some old → (place : ℕ) × (slice_get (x ∷ xs) place ≡ Some (record { key = key; values = old })) = λ s. let there = group_at xs key old s in (suc there.0, there.1) in
+    elim (byte_cmp key x.key) as (λ o. byte_cmp key x.key ≡ o → cond (is_eq o) (Some x.values) (value_at key xs) ≡ Some old → (place : ℕ) × (slice_get (x ∷ xs) place ≡ Some (record { key = key; values = old }))) [
       | Less ↦ λ o. later
-      | Equal ↦ λ o s. (zero, (let values : e.1 ≡ old = cc in λ i. Some (record { key = sym (same_key key e.0.items o) i; values = values i })))
+      | Equal ↦ λ o s. (zero, (let values : x.values ≡ old = cc in λ i. Some (record { key = sym (same_key key x.key o) i; values = values i })))
       | Greater ↦ λ o. later
     ] refl some

@@ -23,9 +23,8 @@ use Rattle.mesa_fold.specs.Bound.{KeepsBound}
 use Rattle.mesa_fold.proofs.Sums.{AllCombine-at}
 use Rattle.mesa_answer.specs.Answering.{KeepsSums}
 use Rattle.mesa_answer.specs.Gathering.{Wanted, first_groups, rows_behind}
-use Rattle.mesa_answer.specs.Held.{is_behind, rows_in, value_at}
+use Rattle.mesa_answer.specs.Held.{is_behind, value_at}
 use Rattle.mesa_answer.proofs.Bounds.{first_bound, full_regrouped}
-use Rattle.mesa_answer.proofs.Entries.{Entry, length-rows_in}
 use Rattle.mesa_answer.proofs.Firsts.{take-put_row}
 
 -- ---- one row more
@@ -113,9 +112,9 @@ shorter zero rows = omega arith
 shorter (suc n) [] = omega arith
 shorter (suc n) (row ∷ rows) = omega (arith, shorter n rows)
 
--- as many entries as are wanted, at most
-pub first_short : (w : Wanted) (rows : List Row) (es : List Entry) → rows_in es ≡ first_groups w rows → length es ≤ w.most
-first_short w rows es held = omega (arith, length-rows_in es, ap length held, shorter w.most (rows_behind w.inclusive w.resume (grouped w.schema w.columns w.values rows)))
+-- as many groups as are wanted, at most
+pub first_short : (w : Wanted) (rows held : List Row) → held ≡ first_groups w rows → length held ≤ w.most
+first_short w rows held first = omega (arith, ap length first, shorter w.most (rows_behind w.inclusive w.resume (grouped w.schema w.columns w.values rows)))
 
 -- fewer than are wanted are all
 pub first_all : (n : ℕ) (rows : List Row) → length (take n rows) < n → take n rows ≡ rows
@@ -133,29 +132,29 @@ all_groups s columns values most w rows found wanted first few =
 -- ---- sums
 
 -- where the values of a key stand
-record Stands (es : List Entry) (old : List ℤ) : Type 0 where
+record Stands (held : List Row) (old : List ℤ) : Type 0 where
   place : ℕ
-  within : place < length (rows_in es)
-  same : (d : Row) → (get_or (rows_in es) place d).values ≡ old
+  within : place < length held
+  same : (d : Row) → (get_or held place d).values ≡ old
 
-stands : (es : List Entry) (key : List ℕ) (old : List ℤ) → value_at key es ≡ Some old → Stands es old
+stands : (held : List Row) (key : List ℕ) (old : List ℤ) → value_at key held ≡ Some old → Stands held old
 stands [] key old some = cc
-stands (e ∷ es) key old some =
-    let later : value_at key es ≡ Some old → Stands (e ∷ es) old = λ s. let there = stands es key old s in record { place = suc there.place; within = omega (arith, there.within); same = there.same } in
-    elim (byte_cmp key e.0.items) as (λ o. cond (is_eq o) (Some e.1) (value_at key es) ≡ Some old → Stands (e ∷ es) old) [
+stands (x ∷ xs) key old some =
+    let later : value_at key xs ≡ Some old → Stands (x ∷ xs) old = λ s. let there = stands xs key old s in record { place = suc there.place; within = omega (arith, there.within); same = there.same } in
+    elim (byte_cmp key x.key) as (λ o. cond (is_eq o) (Some x.values) (value_at key xs) ≡ Some old → Stands (x ∷ xs) old) [
       | Less ↦ later
       | Equal ↦ λ s. record { place = zero; within = omega arith; same = λ d. cc }
       | Greater ↦ later
     ] some
 
 -- A row's values and its group's have one together where the rows keep their bound.
-pub group_combines : (w : Wanted) (rows : List Row) (row : Row) (es : List Entry) (key : List ℕ) (old : List ℤ) → are_places w.schema.values w.values ≡ true → AreRowsOf w.schema rows → IsRowOf w.schema row → KeepsSums w.schema (rows ++ row ∷ [])
-    → rows_in es ≡ first_groups w rows → value_at key es ≡ Some old → AllCombine (chosen w.values (aggs_of w.schema)) old (regrouped w.schema w.columns w.values row).values
-group_combines w rows row es key old there form own keeps held some =
+pub group_combines : (w : Wanted) (rows : List Row) (row : Row) (held : List Row) (key : List ℕ) (old : List ℤ) → are_places w.schema.values w.values ≡ true → AreRowsOf w.schema rows → IsRowOf w.schema row → KeepsSums w.schema (rows ++ row ∷ [])
+    → held ≡ first_groups w rows → value_at key held ≡ Some old → AllCombine (chosen w.values (aggs_of w.schema)) old (regrouped w.schema w.columns w.values row).values
+group_combines w rows row held key old there form own keeps first some =
     let aggs : List Agg = chosen w.values (aggs_of w.schema) in
     let under : Row = regrouped w.schema w.columns w.values row in
-    let at = stands es key old some in
+    let at = stands held key old some in
     let bound = first_bound w rows row there (all_more (IsRowOf w.schema) rows row form own) form keeps in
     let d : Row = row in
     subst (λ vs. AllCombine aggs vs under.values) (at.same d)
-    (AllCombine-at aggs (rows_in es) under at.place d at.within (subst (λ (xs : List Row). KeepsBound aggs xs (under ∷ [])) (sym held) bound))
+    (AllCombine-at aggs held under at.place d at.within (subst (λ (xs : List Row). KeepsBound aggs xs (under ∷ [])) (sym first) bound))

@@ -6,7 +6,6 @@ use Rattle.mesa_schema.specs.Columns.{aggs_of, chosen, kinds_of}
 use Rattle.mesa_schema.specs.Rows.{AreRowsOf}
 use Rattle.mesa_filter.specs.Query.{are_places}
 use Rattle.mesa_answer.specs.Gathering.{Wanted, first_groups}
-use Rattle.mesa_answer.specs.Held.{rows_in}
 use Rattle.mesa_answer.specs.declared.groups.Groups.{Groups}
 
 -- what groups a gatherer was made for
@@ -25,4 +24,4 @@ pub record HasPut (g : Groups) (given : List Row) : Type 0 where
   pub kinds : g.kinds.items ≡ kinds_of g.schema.now
   pub depth : EachIndex g.columns.now (λ k. slice_index g.columns.now k < g.depth)
   pub aggs : g.aggs.items ≡ chosen g.values.now (aggs_of g.schema.now)
-  pub held : rows_in g.held.entries ≡ first_groups (wanted_of g) given
+  pub held : g.held ≡ first_groups (wanted_of g) given

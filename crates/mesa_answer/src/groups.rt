@@ -12,21 +12,19 @@ ghost use Rattle.mesa_model.specs.Page.{page_of};
 ghost use Rattle.mesa_answer.specs.Answering.{KeepsSums, grouped_columns};
 ghost use Rattle.mesa_answer.specs.Gathered.{HasPut, key_at_hand, wanted_of};
 ghost use Rattle.mesa_answer.specs.Gathering.{first_groups, group_from, wanted_by};
-ghost use Rattle.mesa_answer.specs.Held.{is_behind as comes_after, rows_in};
+ghost use Rattle.mesa_answer.specs.Held.{is_behind as comes_after};
 ghost use Rattle.mesa_answer.specs.Sums.{HasGroup, SumLeaves};
 
 use crate::error::GroupError;
 use crate::hand::Hand;
+use crate::held::Held;
 use crate::page::page;
-use crate::putting::put_first;
 use mesa_filter::Query;
 use mesa_key::KeyType;
-use mesa_list::Items;
 use mesa_model::Page;
-use mesa_schema::{KeyColumn, LentRow, Row, RowList, Schema};
-use mesa_value::{Agg, Values};
+use mesa_schema::{KeyColumn, LentRow, RowList, Schema};
+use mesa_value::Agg;
 use std::alloc::{AllocError, Global};
-use std::collections::BTreeMap;
 
 /// A gatherer of groups. Rows are put in one by one, in the order of their versions, and each is folded into its group. Of all groups only the first are held, as many as are wanted, so that its memory doesn't grow with the rows.
 pub struct Groups<'a> {
@@ -41,7 +39,7 @@ pub struct Groups<'a> {
     kinds: Vec<KeyType>,
     depth: usize,
     aggs: Vec<Agg>,
-    held: BTreeMap<Vec<u8>, Values>,
+    held: Held,
     hand: Hand,
 }
 
@@ -118,7 +116,7 @@ impl<'a> Groups<'a> {
             kinds,
             depth: depth_of(columns),
             aggs,
-            held: BTreeMap::new(alloc),
+            held: Held::new(alloc),
             hand: Hand::new(alloc),
         })
     }
@@ -140,14 +138,8 @@ impl<'a> Groups<'a> {
         if !is_behind(self.inclusive, self.resume, self.hand.key()) {
             return Ok(());
         }
-        put_first(
-            *self.aggs.allocator(),
-            &self.aggs,
-            self.most,
-            &mut self.held,
-            self.hand.key(),
-            self.hand.values(),
-        )
+        self.held
+            .put(&self.aggs, self.most, self.hand.key(), self.hand.values())
     }
 
     /// The group key of the row that was put in or refused last.
@@ -174,7 +166,7 @@ impl<'a> Groups<'a> {
         requires begins { wanted_of self.now ≡ group_from (wanted_of self.now).schema (wanted_of self.now).columns key.now }
         ensures { (given : List AnyRow) → HasPut self.now given → IsTrue result ↔ HasGroup (wanted_of self.now).schema (wanted_of self.now).columns key.now given }
     {
-        self.held.contains_key(key)
+        self.held.holds(key)
     }
 
     /// The groups of the rows that were put in, in the order of their keys.
@@ -193,11 +185,11 @@ impl<'a> Groups<'a> {
             most: _,
             kinds: _,
             depth: _,
-            aggs,
+            aggs: _,
             held,
             hand: _,
         } = self;
-        Ok(Items::from_vec(listed(*aggs.allocator(), held)?))
+        held.into_rows()
     }
 
     /// The page of the query that this was made for, over the rows that were put in.
@@ -262,17 +254,4 @@ fn chosen_aggs(alloc: Global, schema: &Schema, places: &[u16]) -> Result<Vec<Agg
         }
     }
     Ok(found)
-}
-
-// The groups as rows.
-fn listed(alloc: Global, held: BTreeMap<Vec<u8>, Values>) -> Result<Vec<Row>, AllocError>
-    ensures rows { IfOk result (λ rows. rows.items ≡ rows_in held.entries) }
-    ensures few { length held.entries < 2 ^ 63 }
-{
-    let mut rows = Vec::with_capacity(alloc, held.len())?;
-    for (key, values) in held {
-        let key = Items::from_vec(key);
-        rows.push(Row { key, values })?;
-    }
-    Ok(rows)
 }

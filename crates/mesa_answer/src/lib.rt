@@ -5,10 +5,11 @@ mod answering;
 mod error;
 mod grouping;
 mod groups;
+mod guesses;
 mod hand;
+mod held;
 mod laws;
 mod page;
-mod putting;
 mod regrouping;
 mod views;
 
