@@ -1,5 +1,6 @@
 pub mod Adding
 pub mod Spreading
+pub mod Putting
 pub mod Placing
 pub mod Taking
 pub mod Searching

@@ -11,6 +11,7 @@ use Rattle.mesa_block.specs.Fill.{Built, after, fit}
 use Rattle.mesa_block.specs.Spelling.{block}
 use Rattle.mesa_delta.specs.Begun.{begun}
 use Rattle.mesa_delta.specs.Laying.{Lays}
+use Rattle.mesa_delta.specs.Pending.{entries_of}
 use Rattle.mesa_delta.specs.Spread.{Filling, with_more, placed}
 use Rattle.mesa_delta.specs.Tail.{entry, entries, first_key}
 use Rattle.mesa_delta.specs.declared.blocks.BlockWriter.{BlockWriter}
@@ -52,7 +53,7 @@ flat_more s done last = flat_map-append (block s) done (last ∷ []) ∙ ap (λ 
 pub closed : {M T : Type 0} (bytes : T → Option (List ℕ)) (s : Layout) (old new : BlockWriter M T) (f : Filling) (short piece : List ℕ)
     → old.short ≡ Some short → piece ≡ block old.builder.layout old.builder.rows
     → bytes new.draft ≡ option_map (λ b. b ++ piece) (bytes old.draft)
-    → new.entries.items ≡ old.entries.items ++ entry short old.offset piece
+    → new.entries.items ++ entries_of new.pending ≡ (old.entries.items ++ entries_of old.pending) ++ entry short old.offset piece
     → new.offset ≡ old.offset + length piece → new.blocks ≡ old.blocks + 1
     → new.builder ≡ record old.builder { rows = [] } → new.short ≡ None
     → Lays bytes s old f → Lays bytes s new (record { done = f.done ++ f.last ∷ []; last = [] })
@@ -78,7 +79,7 @@ pub unchanged : {M T : Type 0} (bytes : T → Option (List ℕ)) (s : Layout) (o
     → Lays bytes s old f → Lays bytes s new f
 unchanged {M = M} {T = T} bytes s old new f same built short h = record {
   told = λ t at. h.told t (ap (λ (w : BlockWriter M T). bytes w.draft) (sym same) ∙ at);
-  entries = ap (λ (w : BlockWriter M T). w.entries.items) same ∙ h.entries;
+  entries = ap (λ (w : BlockWriter M T). w.entries.items ++ entries_of w.pending) same ∙ h.entries;
   offset = ap (λ (w : BlockWriter M T). w.offset) same ∙ h.offset;
   blocks = ap (λ (w : BlockWriter M T). w.blocks) same ∙ h.blocks;
   built = built ∙ h.built;
@@ -93,7 +94,7 @@ placed_on {M = M} {T = T} bytes s old new f row same built short fits h =
     let is : new.builder ≡ record { layout = s; rows = f.last ++ row ∷ [] } = built ∙ ap (λ (b : Built). after true b row) h.built in
     subst (λ (t : Bool). Lays bytes s new (placed t f row)) fits (record {
       told = λ t at. h.told t (ap (λ (w : BlockWriter M T). bytes w.draft) (sym same) ∙ at);
-      entries = ap (λ (w : BlockWriter M T). w.entries.items) same ∙ h.entries;
+      entries = ap (λ (w : BlockWriter M T). w.entries.items ++ entries_of w.pending) same ∙ h.entries;
       offset = ap (λ (w : BlockWriter M T). w.offset) same ∙ h.offset;
       blocks = ap (λ (w : BlockWriter M T). w.blocks) same ∙ h.blocks;
       built = is;

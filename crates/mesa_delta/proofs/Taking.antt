@@ -17,6 +17,7 @@ use Rattle.mesa_delta.specs.Tail.{tail_of}
 use Rattle.mesa_delta.specs.File.{IsFile}
 use Rattle.mesa_delta.specs.Summary.{aggregates, IsReferenceOf}
 use Rattle.mesa_delta.specs.Laying.{Lays, IsSealed}
+use Rattle.mesa_delta.specs.Pending.{entries_of}
 use Rattle.mesa_delta.specs.Tallies.{Tallies}
 use Rattle.mesa_delta.specs.Writing.{HasTaken, IsNext, layout_of}
 use Rattle.mesa_delta.specs.declared.blocks.BlockWriter.{BlockWriter}
@@ -31,10 +32,10 @@ no_aggregates [] = refl
 no_aggregates (agg ∷ aggs) = refl
 
 pub none_taken : {M T : Type 0} (bytes : T → Option (List ℕ)) (w : DeltaWriter M T) → ((t : List ℕ) → bytes w.blocks.draft ≡ Some t → t ≡ [])
-    → w.blocks.builder ≡ record { layout = layout_of w; rows = [] } → w.blocks.entries.items ≡ [] → w.blocks.offset ≡ 0 → w.blocks.blocks ≡ 0 → w.blocks.short ≡ None
+    → w.blocks.builder ≡ record { layout = layout_of w; rows = [] } → w.blocks.entries.items ≡ [] → w.blocks.pending ≡ [] → w.blocks.offset ≡ 0 → w.blocks.blocks ≡ 0 → w.blocks.short ≡ None
     → w.tally.rows ≡ 0 → w.tally.first.items ≡ [] → w.tally.last.items ≡ [] → w.tally.totals.items ≡ [] → HasTaken bytes w []
-none_taken bytes w told built entries offset blocks short rows first last totals = record {
-  laid = record { told = told; entries = entries; offset = offset; blocks = blocks; built = built; short = short };
+none_taken bytes w told built entries pending offset blocks short rows first last totals = record {
+  laid = record { told = told; entries = ap (λ (e : List ℕ). e ++ entries_of w.blocks.pending) entries ∙ ap entries_of pending; offset = offset; blocks = blocks; built = built; short = short };
   tallied = record { rows = rows; first = first; last = last; totals = totals ∙ no_aggregates (aggs_of w.schema) };
   good = tt;
   rise = tt;

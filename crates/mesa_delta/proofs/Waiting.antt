@@ -1,5 +1,5 @@
 -- What waits of the blocks that were read ahead.
-use Rattle.std.proofs.Common.{◌≡◌, ℕ, zero, suc, ◌+◌, ◌-◌, ◌≤◌, List, [], ◌∷◌, length, take, drop, refl, sym, ◌∙◌, ap, arith}
+use Rattle.std.proofs.Common.{◌≡◌, ℕ, ◌+◌, ◌-◌, ◌≤◌, List, [], length, take, drop, ◌∙◌, ap, arith}
 use Rattle.std.proofs.lemmas.List.{drop-drop, drop_all, length-drop, length-take-le}
 
 waiting_len : {X : Type 0} (xs : List X) (taken filled : ℕ) → filled ≤ length xs → length (drop taken (take filled xs)) ≡ filled - taken

@@ -8,12 +8,13 @@ use Rattle.mesa_delta.specs.Tail.{entries, tail_of}
 use Rattle.mesa_delta.specs.declared.blocks.Sealed.{Sealed}
 use Rattle.mesa_delta.specs.Spread.{Filling}
 use Rattle.mesa_delta.specs.Begun.{begun}
+use Rattle.mesa_delta.specs.Pending.{entries_of}
 use Rattle.mesa_delta.specs.declared.blocks.BlockWriter.{BlockWriter}
 
--- What the draft has is the full blocks one after the other, and the entries are theirs; the open block is in the builder.
+-- What the draft has is the full blocks one after the other, and the entries are theirs, those of the last ones still to come; the open block is in the builder.
 pub record Lays {M T : Type 0} (bytes : T → Option (List ℕ)) (s : Layout) (w : BlockWriter M T) (f : Filling) : Type 0 where
   pub told : (t : List ℕ) → bytes w.draft ≡ Some t → t ≡ flat_map (block s) f.done
-  pub entries : w.entries.items ≡ entries s 0 f.done
+  pub entries : w.entries.items ++ entries_of w.pending ≡ entries s 0 f.done
   pub offset : w.offset ≡ length (flat_map (block s) f.done)
   pub blocks : w.blocks ≡ length f.done
   pub built : w.builder ≡ record { layout = s; rows = f.last }

@@ -9,6 +9,7 @@ pub mod Seeking
 pub mod Beginning
 pub mod Faults
 pub mod Begun
+pub mod Pending
 pub mod Laying
 pub mod Writing
 pub mod Places

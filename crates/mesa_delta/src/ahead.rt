@@ -6,12 +6,11 @@ ghost use Rattle.mesa_delta.specs.declared.error.FileError.TheVariants as file_e
 ghost use Rattle.mesa_delta.specs.Ahead.{IsOfFile, Untested as AnyUntested};
 ghost use Rattle.mesa_delta.specs.Reading.{index_of, reader_of};
 
+use crate::digesting::{Message, digest_of, take_digests};
 use crate::reader::read_block_bytes;
 use crate::{DeltaReader, FileError};
-use mesa_digests::digests;
 use mesa_disk::{FileReader, ReadFailed};
-use sha2::{Digest, Sha256};
-use std::alloc::{AllocError, Global};
+use std::alloc::Global;
 use std::marker::Model;
 
 /// How many blocks are read ahead, for as many digests are taken side by side.
@@ -81,28 +80,22 @@ impl Untested {
         self.file == file && self.block == block
     }
 
-    /// The bytes.
-    pub(crate) fn bytes(&self) -> &[u8]
-        ensures { result.now ≡ self.now.bytes }
-    {
-        &self.bytes
-    }
-
     /// The digest of the bytes.
     pub(crate) fn digest(&self) -> [u8; 32]
         ensures { result ≡ sha256 self.now.bytes }
     {
-        match self.digest {
-            Some(digest) => digest,
-            None => Sha256::digest(self.bytes.as_slice()),
-        }
+        digest_of(self.digest, &self.bytes)
+    }
+}
+
+impl Message for Untested {
+    ghost bytes_of = { λ u. u.bytes };
+
+    fn bytes(&self) -> &[u8] {
+        &self.bytes
     }
 
-    // Keeps the digest of the bytes.
-    fn keep(&mut self, digest: [u8; 32])
-        requires { digest ≡ sha256 self.old.bytes }
-        ensures { self.new ≡ self.old }
-    {
+    fn keep(&mut self, digest: [u8; 32]) {
         self.digest = Some(digest);
     }
 }
@@ -233,43 +226,4 @@ impl Ahead {
             self.taken += 1;
         }
     }
-}
-
-// Takes the digests of two to four blocks side by side, where that is less work than one by one.
-fn take_digests(alloc: Global, blocks: &mut [Untested]) -> Result<(), AllocError>
-    ensures { blocks.new ≡ blocks.old }
-{
-    if blocks.len() < 2 || !gains(blocks) {
-        return Ok(());
-    }
-    let last = blocks.len() - 1;
-    let four = digests(
-        alloc,
-        blocks[0].bytes(),
-        blocks[1].bytes(),
-        blocks[last.min(2)].bytes(),
-        blocks[last.min(3)].bytes(),
-    )?;
-    blocks[0].keep(four.a);
-    blocks[1].keep(four.b);
-    if last >= 2 {
-        blocks[2].keep(four.c);
-    }
-    if last >= 3 {
-        blocks[3].keep(four.d);
-    }
-    Ok(())
-}
-
-// Whether digests side by side are less work: as long as the shortest block lasts they cost as much as two, and what is left of a longer one twice as much as it would alone.
-fn gains(blocks: &[Untested]) -> bool {
-    let mut all: usize = 0;
-    let mut least = usize::MAX;
-    for block in blocks {
-        let len = block.bytes().len();
-        all = all.saturating_add(len);
-        least = least.min(len);
-    }
-    let left = all.saturating_sub(least.saturating_mul(blocks.len()));
-    least.saturating_add(left).saturating_mul(2) <= all
 }

@@ -12,7 +12,8 @@ ghost use Rattle.mesa_delta.specs.Laying.{IsSealed, Lays};
 ghost use Rattle.mesa_delta.specs.Spread.{Filling, with_more};
 
 use crate::WriteError;
-use crate::tail::{put_entry, put_foot};
+use crate::pending::Pending;
+use crate::tail::put_foot;
 use mesa_block::{BlockBuilder, fits_alone};
 use mesa_disk::{Draft, Made};
 use mesa_key::{Format, short};
@@ -33,16 +34,16 @@ pub struct Sealed {
 pub struct BlockWriter<M, T> {
     pub draft: T,
     pub builder: BlockBuilder,
-    /// The entries of the full blocks, as the tail has them.
+    /// The entries of the full blocks, as the tail has them, but for those that are pending.
     pub entries: Vec<u8>,
+    /// The last of the full blocks, whose digests are still to be taken.
+    pub pending: Pending,
     /// The length of the full blocks.
     pub offset: u64,
     /// How many are full.
     pub blocks: u32,
     /// The short key of the open block's first row, once there is one.
     pub short: Option<[u8; 16]>,
-    /// The bytes of the block that was closed last. The buffer stays for the next one.
-    pub bytes: Vec<u8>,
     pub made: PhantomData<M>,
 }
 
@@ -75,10 +76,10 @@ impl<M: Made, T: Draft<M>> BlockWriter<M, T> {
             draft,
             builder: _builder,
             entries: _entries,
+            pending: _pending,
             offset: _offset,
             blocks: _blocks,
             short: _short,
-            bytes: _bytes,
             made: _made,
         } = self;
         draft
@@ -101,7 +102,7 @@ impl<M: Made, T: Draft<M>> BlockWriter<M, T> {
         Ok(fits)
     }
 
-    /// Puts the open block on the draft, and the next one is empty.
+    /// Puts the open block on the draft at once, so that a draft that fails is met here, and the next one is empty. The block's entry waits for its digest.
     pub fn close(&mut self) -> Result<(), WriteError>
         requires some { 0 < length self.old.builder.rows }
         requires short { self.old.short ≡ begun self.old.builder.rows }
@@ -114,15 +115,16 @@ impl<M: Made, T: Draft<M>> BlockWriter<M, T> {
         let Some(short) = self.short else {
             return Err(WriteError::Memory);
         };
-        self.builder.take(&mut self.bytes)?;
-        put_entry(&mut self.entries, &short, self.offset, &self.bytes)?;
-        let Some(offset) = self.offset.checked_add(self.bytes.len() as u64) else {
+        self.pending.make_room(&mut self.entries)?;
+        self.pending.push(&mut self.builder, short, self.offset)?;
+        let bytes = self.pending.last();
+        let Some(offset) = self.offset.checked_add(bytes.len() as u64) else {
             return Err(WriteError::Memory);
         };
         let Some(blocks) = self.blocks.checked_add(1) else {
             return Err(WriteError::Memory);
         };
-        self.draft.append(&self.bytes)?;
+        self.draft.append(bytes)?;
         self.offset = offset;
         self.blocks = blocks;
         self.short = None;
@@ -138,6 +140,7 @@ impl<M: Made, T: Draft<M>> BlockWriter<M, T> {
         ensures cause { HasFaultCause (λ e. e ≡ DraftFault) (T.faults self.old.draft) (T.faults self.new.draft) result }
     {
         self.close()?;
+        self.pending.put_entries(&mut self.entries)?;
         put_foot(&mut self.entries, Format::Two, schema, rows, self.blocks)?;
         let Some(len) = self.offset.checked_add(self.entries.len() as u64) else {
             return Err(WriteError::Memory);

@@ -3,10 +3,12 @@
 
 mod ahead;
 mod blocks;
+mod digesting;
 mod error;
 mod index;
 mod input;
 mod laws;
+mod pending;
 mod piece;
 mod place;
 mod reader;

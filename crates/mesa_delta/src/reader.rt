@@ -22,6 +22,7 @@ ghost use Rattle.mesa_delta.specs.Summary.{IsReferenceOf};
 ghost use Rattle.mesa_delta.specs.Tail.{first_key};
 
 use crate::ahead::Ahead;
+use crate::digesting::Message;
 use crate::piece::{check_digest, check_found, misfit, read_piece};
 use crate::run::Run;
 use crate::{FileError, Index, begins_before};

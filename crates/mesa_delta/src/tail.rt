@@ -1,13 +1,14 @@
 // The bytes of a file's tail.
-ghost use Rattle.std.specs.Prelude.{◌≡◌, ◌<◌, ◌^◌, ◌++◌, length, map, OnOk};
+ghost use Rattle.std.specs.Prelude.{◌≡◌, ◌++◌, map, OnOk};
 ghost use Rattle.std.specs.Int.{w32, w64, to_be_bytes};
 ghost use Rattle.mesa_schema.specs.Codes.{agg_byte as byte_of_agg, kind_byte as byte_of_kind};
-ghost use Rattle.mesa_delta.specs.Tail.{entry, foot, magic as magic_of};
+ghost use Rattle.mesa_delta.specs.Places.{spelled};
+ghost use Rattle.mesa_delta.specs.Tail.{foot, magic as magic_of};
 
+use crate::place::{ENTRY_BYTES, Entry};
 use byteorder::{BigEndian, ByteOrder};
 use mesa_key::Format;
 use mesa_schema::{KeyColumn, Schema, ValueColumn, agg_byte, kind_byte};
-use sha2::{Digest, Sha256};
 use std::alloc::AllocError;
 
 // Appends a number of eight bytes.
@@ -31,19 +32,14 @@ fn put_u32(out: &mut Vec<u8>, number: u32) -> Result<(), AllocError>
 }
 
 /// Appends a block's entry: its first key's short key, its offset, its length, and the SHA-256 of its bytes.
-pub fn put_entry(
-    out: &mut Vec<u8>,
-    short: &[u8; 16],
-    offset: u64,
-    bytes: &[u8],
-) -> Result<(), AllocError>
-    requires { length bytes.now < 2 ^ 32 }
-    ensures { OnOk result (out.new.items ≡ out.old.items ++ entry short.now offset bytes.now) }
+pub fn put_entry(out: &mut Vec<u8>, entry: &Entry) -> Result<(), AllocError>
+    ensures { OnOk result (out.new.items ≡ out.old.items ++ spelled entry.now) }
 {
-    out.extend_from_slice(short)?;
-    put_u64(out, offset)?;
-    put_u32(out, bytes.len() as u32)?;
-    out.extend_from_slice(&Sha256::digest(bytes))?;
+    out.reserve(ENTRY_BYTES)?;
+    out.extend_from_slice(&entry.short)?;
+    put_u64(out, entry.offset)?;
+    put_u32(out, entry.len)?;
+    out.extend_from_slice(&entry.digest)?;
     Ok(())
 }
 

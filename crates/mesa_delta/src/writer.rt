@@ -15,6 +15,7 @@ ghost use Rattle.mesa_delta.specs.Writing.{HasTaken, IsNext, columns_of, id_of, 
 
 use crate::WriteError;
 use crate::blocks::{BlockWriter, Sealed};
+use crate::pending::Pending;
 use crate::tally::Tally;
 use mesa_block::BlockBuilder;
 use mesa_disk::{Draft, FileId, FileRef, Made};
@@ -25,7 +26,7 @@ use mesa_value::Amount;
 use std::alloc::{AllocError, Global};
 use std::marker::PhantomData;
 
-/// A file that is being written through a draft: full blocks are appended whole, and one is kept in memory.
+/// A file that is being written through a draft: full blocks are appended whole, and one is kept in memory. The bytes of up to four blocks stay until their digests are taken side by side.
 ///
 /// After an `Err` of `push` the writer may only be abandoned.
 pub struct DeltaWriter<M, T> {
@@ -60,10 +61,10 @@ impl<M: Made, T: Draft<M>> DeltaWriter<M, T> {
             draft,
             builder,
             entries: Vec::new(alloc),
+            pending: Pending::new(alloc),
             offset: 0,
             blocks: 0,
             short: None,
-            bytes: Vec::new(alloc),
             made: PhantomData,
         };
         Ok(DeltaWriter {

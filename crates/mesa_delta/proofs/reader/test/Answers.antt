@@ -1,4 +1,4 @@
-use Rattle.std.proofs.Common.{◌≡◌, ◌∙◌, List, ℕ, inr, rules, sym, ap, subst}
+use Rattle.std.proofs.Common.{◌≡◌, ◌∙◌, ℕ, inr, rules, sym, ap, subst}
 use Rattle.std.specs.Prelude.{IfNone}
 use Rattle.sha2.specs.Sha256.{sha256}
 use Rattle.mesa_block.specs.Layout.{Layout}

@@ -1,4 +1,4 @@
-use Rattle.std.proofs.Common.{◌≡◌, sym, ◌∙◌, arith, true}
+use Rattle.std.proofs.Common.{sym, ◌∙◌}
 use Rattle.std.proofs.lemmas.Bool.Decides.{Decides-eqb}
 use Rattle.mesa_delta.proofs.Waiting.{all_taken, none_waits}
 use Rattle.mesa_delta.proofs.ahead.Ahead.is_empty.Goals as goal

@@ -1,5 +1,5 @@
-use Rattle.std.proofs.Common.{◌∙◌, refl, sym, subst, inl}
-use Rattle.std.specs.Prelude.{◌≡◌, ℕ, List, Option, Some}
+use Rattle.std.proofs.Common.{◌∙◌, refl, subst}
+use Rattle.std.specs.Prelude.{ℕ, List, Option}
 use Rattle.mesa_delta.specs.Reading.{IsBlockDamage}
 use Rattle.mesa_delta.proofs.Following.{each_err, each_ok, read_moved}
 use Rattle.mesa_delta.proofs.reader.DeltaReader.block.Goals as goal
