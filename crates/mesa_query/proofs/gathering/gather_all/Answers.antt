@@ -22,7 +22,7 @@ use Rattle.mesa_query.specs.Files.{IsDamageIn, inputs_in, tolds_of}
 use Rattle.mesa_query.specs.Relation.{rows_ungrouped}
 use Rattle.mesa_query.specs.Sums.{IsNewestFrom, rows_matching}
 use Rattle.mesa_query.proofs.Contents.{all_matching, given_bounded, given_more, none_matching, told_count, told_here}
-use Rattle.mesa_query.proofs.Files.{all_at, all_set, file_cause, file_damage, file_fault, file_faults, file_known, left_more, length_known, looked_on, moved_here, moved_known, moved_none, moved_owns, moved_pinned, moved_rows, moved_same, moved_told, own_ahead, own_set, sum_quiet, there_of_file}
+use Rattle.mesa_query.proofs.Files.{all_at, all_set, file_cause, file_damage, file_fault, file_faults, file_known, left_more, length_known, looked_more, looked_on, moved_here, moved_known, moved_none, moved_owns, moved_pinned, moved_rows, moved_same, moved_told, own_ahead, own_set, sum_quiet, there_of_file}
 use Rattle.mesa_query.proofs.Holding.{damage_behind, damage_moved, damage_unsound, sum_in}
 use Rattle.mesa_query.proofs.gathering.gather_all.Goals as goal
 
@@ -147,15 +147,7 @@ each_file-preserved g c =
             (put.2 rows (moved_told bytes size was file rows moved (told_here bytes start contents i was told within here)) ∙ ap (λ (w : Wanted). filtered w.schema terms (rows_ungrouped view file rows)) inv.wanted ∙ ap (filtered s terms) (moved_rows bytes size view was file rows moved)),
       );
       wanted = c.in-Ok.ensures.wanted ∙ inv.wanted;
-      looked = record {
-        pinned = all_set (IsPinnedInput bytes s view) files i x look.pinned (subst (λ (w : Wanted). IsPinnedInput bytes w.schema view x) inv.wanted c.in-Ok.ensures.pinned);
-        known = file_known bytes files i x file lt is c.in-Ok.ensures.same ∙ look.known;
-        own = own_set files i x file is c.in-Ok.ensures.own ∙ look.own;
-        faults = file_faults faults files i x file lt is c.in-Ok.ensures.cause.quiet ∙ look.faults;
-        count = length-set files i x ∙ look.count;
-        left = rw (add-one i) (left_more bytes size i start files x look.count look.left);
-        ahead = c.in-Ok.ensures.ahead (tolds_of (knowns_of bytes (inputs_in start))) (there_of_file bytes start files i file look.known lt is) look.ahead;
-      };
+      looked = looked_more bytes size faults s view start files i x file c.look_ahead.new.ahead c.gather_one.new.ahead look lt is (subst (λ (w : Wanted). IsPinnedInput bytes w.schema view x) inv.wanted c.in-Ok.ensures.pinned) c.in-Ok.ensures.same c.in-Ok.ensures.own c.in-Ok.ensures.cause.quiet c.in-Ok.ensures.ahead;
     }
 
 pub returns-in-Err-File-clause-pinned : goal.returns-in-Err-File-clause-pinned

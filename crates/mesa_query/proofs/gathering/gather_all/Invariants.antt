@@ -1,11 +1,8 @@
-use Rattle.std.proofs.Common.{◌≡◌, List, length, drop}
-use Rattle.std.specs.List.{AllByRecursion}
+use Rattle.std.proofs.Common.{◌≡◌, List}
 use Rattle.mesa_schema.specs.declared.rows.Row.{Row}
-use Rattle.mesa_merge.specs.Faults.{faults_of}
 use Rattle.mesa_merge.specs.Inputs.{AreTold, knowns_of}
 use Rattle.mesa_answer.specs.Gathered.{HasPut, wanted_of}
-use Rattle.mesa_tasks.specs.Pins.{IsPinnedInput}
-use Rattle.mesa_query.specs.Files.{inputs_in, owns_in}
+use Rattle.mesa_query.specs.Files.{inputs_in}
 use Rattle.mesa_query.proofs.Contents.{matching_first}
 use Rattle.mesa_query.proofs.Files.{Looked}
 use Rattle.mesa_query.proofs.gathering.gather_all.Given as goal
