@@ -1,39 +1,42 @@
--- The first columns of a key.
-use Rattle.std.proofs.Common.{◌≡◌, ℕ, zero, suc, ◌≤◌, ◌<◌, List, [], ◌∷◌, ◌++◌, length, take, get_or, refl, sym, ◌∙◌, ap, arith}
+-- The columns of a key at places.
+use Rattle.std.proofs.Common.{◌≡◌, ℕ, zero, suc, ◌+◌, ◌-◌, ◌≤◌, ◌<◌, List, [], ◌∷◌, ◌++◌, append_assoc, length, take, drop, get_or, refl, ◌∙◌, ap, arith, Some, None}
 use Rattle.std.specs.Prelude.{slice_get}
-use Rattle.std.specs.List.{cons_option}
-use Rattle.std.proofs.lemmas.List.{append-nil, take_all}
-use Rattle.mesa_key.specs.declared.KeyType.{KeyType}
-use Rattle.mesa_key.specs.Spelling.{columns_of}
+use Rattle.std.specs.List.{concat}
+use Rattle.std.proofs.lemmas.List.{drop-drop}
 use Rattle.mesa_schema.specs.Columns.{chosen}
+use Rattle.mesa_filter.proofs.PlacesAsked.{chosen_more, chosen_same}
 
-module _ {X : Type 0} where
-  pub take-front : (n : ℕ) (xs ys : List X) → length xs ≡ n → take n (xs ++ ys) ≡ xs
-  take-front zero [] ys e = refl
-  take-front zero (x ∷ xs) ys e = absurd (omega arith)
-  take-front (suc n) [] ys e = absurd (omega arith)
-  take-front (suc n) (x ∷ xs) ys e = ap (λ zs. x ∷ zs) (take-front n xs ys (omega arith))
+pub take-front : {X : Type 0} (n : ℕ) (xs ys : List X) → length xs ≡ n → take n (xs ++ ys) ≡ xs
+take-front zero [] ys e = refl
+take-front zero (x ∷ xs) ys e = absurd (omega arith)
+take-front (suc n) [] ys e = absurd (omega arith)
+take-front (suc n) (x ∷ xs) ys e = ap (λ zs. x ∷ zs) (take-front n xs ys (omega arith))
 
-  -- as many as are wanted
-  pub cut_full : (n : ℕ) (found rest all : List X) → found ++ rest ≡ all → length found ≤ n → n ≤ length found → found ≡ take n all
-  cut_full n found rest all e few many = sym (ap (take n) (sym e) ∙ take-front n found rest (omega arith))
+-- ---- behind columns that were passed
 
-  got-taken : (n p : ℕ) (xs : List X) → p < n → slice_get (take n xs) p ≡ slice_get xs p
-  got-taken zero p xs l = absurd (omega arith)
-  got-taken (suc n) p [] l = refl
-  got-taken (suc n) zero (x ∷ xs) l = refl
-  got-taken (suc n) (suc p) (x ∷ xs) l = got-taken n p xs (omega arith)
+got_behind : {X : Type 0} (n k : ℕ) (xs : List X) → slice_get (drop n xs) k ≡ slice_get xs (n + k)
+got_behind zero k xs = let none : k ≡ 0 + k = omega arith in ap (slice_get xs) none
+got_behind (suc n) k [] = refl
+got_behind (suc n) k (x ∷ xs) = let more : suc (n + k) ≡ suc n + k = omega arith in got_behind n k xs ∙ ap (slice_get (x ∷ xs)) more
 
-  -- what stands at these places stands among the first
-  pub chosen-taken : (n : ℕ) (places : List ℕ) (xs : List X) → ((k : ℕ) → k < length places → get_or places k 0 < n) → chosen places (take n xs) ≡ chosen places xs
-  chosen-taken n [] xs below = refl
-  chosen-taken n (p ∷ places) xs below =
-      let first : p < n = below zero (omega arith) in
-      let rest : chosen places (take n xs) ≡ chosen places xs = chosen-taken n places xs (λ k l. below (suc k) (omega (arith, l))) in
-      λ i. cons_option (got-taken n p xs first i) (rest i)
+-- a column at a place, and what is behind it
+pub column_at : (passed place : ℕ) (all left : List (List ℕ)) → left ≡ drop passed all → passed ≤ place → slice_get left (place - passed) ≡ slice_get all place
+column_at passed place all left is le = ap (λ xs. slice_get xs (place - passed)) is ∙ got_behind passed (place - passed) all ∙ (let whole : passed + (place - passed) ≡ place = omega (arith, le) in ap (slice_get all) whole)
 
--- all that there are
-pub cut_short : (n : ℕ) (found all : List (List ℕ)) (kinds : List KeyType) (bytes : List ℕ) → found ++ columns_of kinds bytes ≡ all → length found ≤ n → kinds ≡ [] → found ≡ take n all
-cut_short n found all kinds bytes e few none =
-    let whole : found ≡ all = sym (append-nil found) ∙ ap (λ ks. found ++ columns_of ks bytes) (sym none) ∙ e in
-    sym (take_all n found few) ∙ ap (take n) whole
+pub left_behind : (passed place : ℕ) (all left : List (List ℕ)) → left ≡ drop passed all → passed ≤ place → drop (place - passed + 1) left ≡ drop (place + 1) all
+left_behind passed place all left is le = ap (drop (place - passed + 1)) is ∙ drop-drop (place - passed + 1) passed all ∙ (let whole : passed + (place - passed + 1) ≡ place + 1 = omega (arith, le) in ap (λ n. drop n all) whole)
+
+-- ---- a column more in a group key
+
+pub column_more : (places : List ℕ) (all : List (List ℕ)) (found new whole : List ℕ) (i : ℕ) (column : List ℕ) → i < length places → slice_get all (get_or places i 0) ≡ Some column → new ≡ found ++ column
+    → found ++ concat (chosen (drop i places) all) ≡ whole → new ++ concat (chosen (drop (i + 1) places) all) ≡ whole
+column_more places all found new whole i column lt at is before =
+    let rest : List (List ℕ) = chosen (drop (i + 1) places) all in
+    let next : column ∷ rest ≡ chosen (drop i places) all = chosen_more places all [] (column ∷ []) (chosen (drop i places) all) i column lt at refl refl in
+    ap (λ bytes. bytes ++ concat rest) is ∙ append_assoc found column (concat rest) ∙ ap (λ (columns : List (List ℕ)). found ++ concat columns) next ∙ before
+
+pub column_same : (places : List ℕ) (all : List (List ℕ)) (found new whole : List ℕ) (i : ℕ) → i < length places → slice_get all (get_or places i 0) ≡ None → new ≡ found
+    → found ++ concat (chosen (drop i places) all) ≡ whole → new ++ concat (chosen (drop (i + 1) places) all) ≡ whole
+column_same places all found new whole i lt at is before =
+    let next : chosen (drop (i + 1) places) all ≡ chosen (drop i places) all = chosen_same places all [] [] (chosen (drop i places) all) i lt at refl refl in
+    (λ k. is k ++ concat (next k)) ∙ before

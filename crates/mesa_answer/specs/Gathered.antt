@@ -1,5 +1,5 @@
 -- What a gatherer of groups holds of the rows that were put in.
-use Rattle.std.specs.Prelude.{◌≡◌, ℕ, ◌<◌, List, slice_index, EachIndex, IsTrue}
+use Rattle.std.specs.Prelude.{◌≡◌, ℕ, List, IsTrue}
 use Rattle.std.specs.Option.{option_copied}
 use Rattle.mesa_schema.specs.declared.rows.Row.{Row}
 use Rattle.mesa_schema.specs.Columns.{aggs_of, chosen, kinds_of}
@@ -22,6 +22,5 @@ pub record HasPut (g : Groups) (given : List Row) : Type 0 where
   pub values : IsTrue (are_places g.schema.now.values g.values.now)
   pub form : AreRowsOf g.schema.now given
   pub kinds : g.kinds.items ≡ kinds_of g.schema.now
-  pub depth : EachIndex g.columns.now (λ k. slice_index g.columns.now k < g.depth)
   pub aggs : g.aggs.items ≡ chosen g.values.now (aggs_of g.schema.now)
   pub held : g.held ≡ first_groups (wanted_of g) given

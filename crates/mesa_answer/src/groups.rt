@@ -1,5 +1,5 @@
 // The first groups of rows that are put in one by one.
-ghost use Rattle.std.specs.Prelude.{◌≡◌, ◌<◌, ◌≤◌, ◌^◌, List, [], ◌∷◌, ◌++◌, length, map, slice_index, EachIndex, None, IsTrue, IfOk, OnOk, OnErr, IfErr, MatchOption, false, ◌↔◌};
+ghost use Rattle.std.specs.Prelude.{◌≡◌, ◌<◌, ◌^◌, List, [], ◌∷◌, ◌++◌, length, map, None, IsTrue, IfOk, OnOk, OnErr, IfErr, false, ◌↔◌};
 ghost use Rattle.std.specs.Option.{option_copied};
 ghost use Rattle.mesa_schema.specs.declared.columns.KeyColumn.{KeyColumn as Column};
 ghost use Rattle.mesa_schema.specs.declared.rows.Row.{Row as AnyRow};
@@ -35,9 +35,8 @@ pub struct Groups<'a> {
     // Whether the group of the resume key itself is wanted too.
     inclusive: bool,
     most: usize,
-    // What is looked up for each row: the types of the key columns, how many of them are looked at, and the aggregations of the chosen values.
+    // What is looked up for each row: the types of the key columns, and the aggregations of the chosen values.
     kinds: Vec<KeyType>,
-    depth: usize,
     aggs: Vec<Agg>,
     held: Held,
     hand: Hand,
@@ -54,7 +53,6 @@ impl Drop for Groups<'_> {
             inclusive: _,
             most: _,
             kinds: _,
-            depth: _,
             aggs: _,
             held: _,
             hand: _,
@@ -114,7 +112,6 @@ impl<'a> Groups<'a> {
             inclusive,
             most,
             kinds,
-            depth: depth_of(columns),
             aggs,
             held: Held::new(alloc),
             hand: Hand::new(alloc),
@@ -133,8 +130,7 @@ impl<'a> Groups<'a> {
         // and only where the absolute values of the rows may add up to more than it holds.
         ensures cause { IfErr result (λ e. e ≡ GroupError.Sum → (given : List AnyRow) → HasPut self.old given → KeepsSums (wanted_of self.old).schema (given ++ lent row.entry ∷ []) → ⊥) }
     {
-        self.hand
-            .take(&self.kinds, self.depth, self.columns, self.values, row)?;
+        self.hand.take(&self.kinds, self.columns, self.values, row)?;
         if !is_behind(self.inclusive, self.resume, self.hand.key()) {
             return Ok(());
         }
@@ -184,7 +180,6 @@ impl<'a> Groups<'a> {
             inclusive: _,
             most: _,
             kinds: _,
-            depth: _,
             aggs: _,
             held,
             hand: _,
@@ -224,22 +219,6 @@ pub(crate) fn kinds_in(alloc: Global, columns: &[KeyColumn]) -> Result<Vec<KeyTy
     ensures { IfOk result (λ kinds. kinds.items ≡ map (λ (c : Column). c.kind) columns.now) }
 {
     columns.iter().map(|column| column.kind).collect(alloc)
-}
-
-// How many columns stand before and at the last of these places.
-pub(crate) fn depth_of(places: &[u16]) -> usize
-    ensures { EachIndex places.now (λ k. slice_index places.now k < result) }
-{
-    match greatest(places) {
-        Some(last) => last as usize + 1,
-        None => 0,
-    }
-}
-
-fn greatest(places: &[u16]) -> Option<u16>
-    ensures { MatchOption result (length places.now ≡ 0) (λ last. EachIndex places.now (λ k. slice_index places.now k ≤ last)) }
-{
-    places.iter().copied().max()
 }
 
 // The aggregations of the value columns at these places.

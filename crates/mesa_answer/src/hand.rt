@@ -1,12 +1,12 @@
 // The row at hand under its group key, in room that is used again for each row.
-ghost use Rattle.std.specs.Prelude.{◌≡◌, ◌<◌, [], take, slice_index, EachIndex, IsTrue, OnOk};
+ghost use Rattle.std.specs.Prelude.{◌≡◌, ◌+◌, [], drop, slice_get, IsTrue, OnOk};
 ghost use Rattle.std.specs.List.{concat};
+ghost use Rattle.std.specs.Option.{option_copied};
 ghost use Rattle.mesa_key.specs.Spelling.{columns_of, is_spelling};
 ghost use Rattle.mesa_schema.specs.Columns.{chosen};
 ghost use Rattle.mesa_schema.specs.Lent.{lent};
 
 use mesa_key::{KeyColumns, KeyType};
-use mesa_list::Fields;
 use mesa_schema::LentRow;
 use mesa_value::Amount;
 use std::alloc::{AllocError, Global};
@@ -15,8 +15,6 @@ use std::marker::Model;
 /// A row under its group key, in room that is used again for each row.
 #[derive(Drop)]
 pub struct Hand {
-    // The columns of the row's own key, cut.
-    columns: Fields,
     key: Vec<u8>,
     values: Vec<Amount>,
 }
@@ -35,7 +33,6 @@ impl Hand {
         ensures { result ≡ record { key = []; values = [] } }
     {
         Hand {
-            columns: Fields::new(alloc),
             key: Vec::new(alloc),
             values: Vec::new(alloc),
         }
@@ -63,52 +60,63 @@ impl Hand {
         self.values.as_slice()
     }
 
-    // Takes a row in hand. Of its key only the first columns are looked at, as many as depth says.
+    // Takes a row in hand. Of its key only the columns up to the last of these places are looked at.
     pub(crate) fn take(
         &mut self,
         kinds: &[KeyType],
-        depth: usize,
         columns: &[u16],
         values: &[u16],
         row: LentRow,
     ) -> Result<(), AllocError>
-        requires spelled { IsTrue (is_spelling kinds.now row.key.now) }
-        requires deep { EachIndex columns.now (λ k. slice_index columns.now k < depth) }
+        requires { IsTrue (is_spelling kinds.now row.key.now) }
         ensures { OnOk result (self.new ≡ record { key = concat (chosen columns.now (columns_of kinds.now row.entry.key.now)); values = chosen values.now row.entry.values.now }) }
     {
-        cut(&mut self.columns, kinds, depth, row.key)?;
-        fill_key(&mut self.key, &self.columns, columns)?;
+        fill_key(&mut self.key, kinds, columns, row.key)?;
         fill_values(&mut self.values, values, row.values)
     }
 }
 
-// The first columns of a key, as many as depth says.
-fn cut(found: &mut Fields, kinds: &[KeyType], depth: usize, key: &[u8]) -> Result<(), AllocError>
+// The columns of a key at these places, one behind the other. Each is copied right from the key. The key is gone through once where the places rise, as they mostly do.
+fn fill_key(
+    found: &mut Vec<u8>,
+    kinds: &[KeyType],
+    places: &[u16],
+    key: &[u8],
+) -> Result<(), AllocError>
     requires { IsTrue (is_spelling kinds.now key.now) }
-    ensures { OnOk result (found.new ≡ take depth (columns_of kinds.now key.now)) }
+    ensures { OnOk result (found.new.items ≡ concat (chosen places.now (columns_of kinds.now key.now))) }
 {
-    found.truncate(0);
-    let mut columns = KeyColumns::of(kinds, key);
-    'columns: while found.len() < depth {
-        let Some(column) = columns.take_next() else {
-            return Ok(());
-        };
-        found.push(column.bytes)?;
+    found.clear();
+    let mut rest = KeyColumns::of(kinds, key);
+    let mut next = 0;
+    for place in places {
+        let place = *place as usize;
+        if place < next {
+            rest = KeyColumns::of(kinds, key);
+            next = 0;
+        }
+        if let Some(column) = take_column(&mut rest, place - next) {
+            found.extend_from_slice(column)?;
+        }
+        next = place + 1;
     }
     Ok(())
 }
 
-// The columns at these places, one behind the other.
-fn fill_key(found: &mut Vec<u8>, columns: &Fields, places: &[u16]) -> Result<(), AllocError>
-    ensures { OnOk result (found.new.items ≡ concat (chosen places.now columns.now)) }
+// Takes so many columns and the one behind them, and gives that one.
+fn take_column<'a>(rest: &mut KeyColumns<'a>, mut passed: usize) -> Option<&'a [u8]>
+    requires { IsTrue (is_spelling rest.old.kinds rest.old.bytes) }
+    ensures column { option_copied result ≡ slice_get (columns_of rest.old.kinds rest.old.bytes) passed }
+    ensures rest { columns_of rest.new.kinds rest.new.bytes ≡ drop (passed + 1) (columns_of rest.old.kinds rest.old.bytes) }
+    ensures spelled { IsTrue (is_spelling rest.new.kinds rest.new.bytes) }
 {
-    found.clear();
-    for place in places {
-        if let Some(column) = columns.get(*place as usize) {
-            found.extend_from_slice(column)?;
+    'columns: while let Some(column) = rest.take_next() {
+        if passed == 0 {
+            return Some(column.bytes);
         }
+        passed -= 1;
     }
-    Ok(())
+    None
 }
 
 // The values at these places.

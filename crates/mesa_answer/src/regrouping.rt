@@ -10,7 +10,7 @@ ghost use Rattle.mesa_schema.specs.Views.{view_columns};
 ghost use Rattle.mesa_filter.specs.Query.{are_places};
 ghost use Rattle.mesa_answer.specs.Regrouping.{places_seen, row_under};
 
-use crate::groups::{depth_of, kinds_in};
+use crate::groups::kinds_in;
 use crate::hand::Hand;
 use crate::views::places;
 use mesa_key::KeyType;
@@ -23,19 +23,14 @@ pub struct Regrouping {
     kinds: Vec<KeyType>,
     columns: Vec<u16>,
     values: Vec<u16>,
-    // How many columns of a row's key are looked at.
-    depth: usize,
 }
 
 impl Model for Regrouping {
-    ghost use Rattle.std.specs.Prelude.{◌<◌, EachIndex, slice_index};
     ghost use Rattle.mesa_answer.specs.Regrouping.{PlacesSeen};
 
     ghost Value = { PlacesSeen };
 
     ghost view = { λ r. record { kinds = r.kinds.items; columns = r.columns.items; values = r.values.items } };
-
-    ghost invariant = { λ r. EachIndex r.columns.items (λ k. slice_index r.columns.items k < r.depth) };
 }
 
 // Each exit calls this, in place of letting go of each part itself.
@@ -45,7 +40,6 @@ impl Drop for Regrouping {
             kinds: _,
             columns: _,
             values: _,
-            depth: _,
         } = self;
     }
 }
@@ -63,12 +57,10 @@ impl Regrouping {
         let kinds = kinds_in(alloc, schema.keys())?;
         let columns = places(alloc, view.keys.as_slice(), schema.keys())?;
         let values = places(alloc, view.values.as_slice(), schema.values())?;
-        let depth = depth_of(&columns);
         Ok(Regrouping {
             kinds,
             columns,
             values,
-            depth,
         })
     }
 
@@ -92,6 +84,6 @@ impl Regrouping {
         ensures regrouped { OnOk result (hand.new ≡ row_under self.now (lent row.entry)) }
         ensures form { OnOk result ((s : Columns) (v : Chosen) → self.now ≡ places_seen s v → IsRowOf s (lent row.entry) → IsRowOf (view_columns s v) hand.new) }
     {
-        hand.take(&self.kinds, self.depth, &self.columns, &self.values, row)
+        hand.take(&self.kinds, &self.columns, &self.values, row)
     }
 }

@@ -20,8 +20,8 @@ use Rattle.mesa_answer.proofs.Seeking.{group_at}
 use Rattle.mesa_answer.proofs.Steps.{all_more, first_full, first_groups-before, first_groups-behind, group_combines}
 use Rattle.mesa_answer.proofs.groups.Groups.put.Goals as goal
 
-pub take-requires-clause-spelled : goal.take-requires-clause-spelled
-take-requires-clause-spelled c =
+pub take-requires : goal.take-requires
+take-requires c =
     rw (c.deref.ensures.value, c.requires.gathering.1.kinds) (row_spells c.args.self.now.schema.now (lent c.args.row) c.requires.form)
 
 pub returns-then-not-is_behind-clause-put : goal.returns-then-not-is_behind-clause-put
@@ -37,7 +37,6 @@ returns-then-not-is_behind-clause-put c = λ given put.
       values = put.values;
       form = all_more (IsRowOf g.schema.now) given row put.form c.requires.form;
       kinds = put.kinds;
-      depth = put.depth;
       aggs = put.aggs;
       held = put.held ∙ sym (first_groups-before (wanted_of g) given row before);
     }
@@ -75,7 +74,6 @@ returns-clause-put c =
       values = put.values;
       form = all_more (IsRowOf g.schema.now) given row put.form c.requires.form;
       kinds = put.kinds;
-      depth = put.depth;
       aggs = put.aggs;
       held = held ∙ (λ i. take g.most (put_row (aggs i) (hand i) (put.held i))) ∙ sym (first_groups-behind (wanted_of g) given row behind);
     }) c.put.ensures.put
