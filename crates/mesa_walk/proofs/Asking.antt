@@ -10,6 +10,7 @@ use Rattle.mesa_skeleton.specs.mesa_model.declared.entries.Entry.{Entry}
 use Rattle.mesa_skeleton.specs.mesa_model.declared.entries.Kind.TheVariants as kind
 use Rattle.mesa_skeleton.specs.mesa_model.declared.entries.Outcome.{Outcome}
 use Rattle.mesa_skeleton.specs.mesa_model.declared.entries.Outcome.TheVariants as outcome
+use Rattle.mesa_skeleton.specs.mesa_model.declared.replies.Page.{Page}
 use Rattle.mesa_skeleton.specs.mesa_model.declared.replies.Refusal.TheVariants as no
 use Rattle.mesa_skeleton.specs.mesa_model.declared.replies.Reply.TheVariants as reply
 use Rattle.mesa_skeleton.specs.mesa_model.Entry.{IsShort}
@@ -23,15 +24,16 @@ use Rattle.mesa_skeleton.specs.mesa_history.Turns.{IsDue}
 use Rattle.mesa_skeleton.proofs.mesa_history.More.{runs_more}
 use Rattle.mesa_skeleton.proofs.mesa_history.Turns.{turned_at, goes_to, prologue_after}
 use Rattle.mesa_output.specs.Output.{block}
-use Rattle.mesa_skeleton.specs.Bare.{bare_answer, bare_result}
+use Rattle.mesa_skeleton.specs.Bare.{bare_answer, bare_page, bare_result}
 use Rattle.mesa_skeleton.proofs.Steps.{query-bare}
 use Rattle.mesa_walk.specs.Books.{Books}
 use Rattle.mesa_walk.specs.Causes.{Cause, Replies, Unread, Damaged, Unwritten, NoMemory, is_read_fault, outcome_of, reply_of, told_at}
-use Rattle.mesa_walk.specs.Printing.{IsPut}
-use Rattle.mesa_walk.specs.Queries.{HasNoAnswer, IsPinned, IsOpenFrom, MayClose, closing_outcome, closing_told, closing_fault}
+use Rattle.mesa_walk.specs.Printing.{IsBlockButRows, IsPut}
+use Rattle.mesa_walk.specs.Queries.{HasNoAnswer, IsPinned, IsOpenFrom, MayClose, ClosesWith, closing_outcome, closing_told, closing_fault}
 use Rattle.mesa_walk.specs.Turns.{entry}
 use Rattle.mesa_walk.specs.Walk.{Outset, run_of, IsWalk, WalksOn, Counts}
 use Rattle.mesa_walk.proofs.Coming.{or_right, fits_open, renewal_open, renewal_later, comes_standing, comes_without_memory, comes_unread, comes_damaged}
+use Rattle.mesa_walk.proofs.Pieces.{with_rows}
 use Rattle.mesa_walk.proofs.Skeletons.{err_of, ok_of}
 use Rattle.mesa_walk.proofs.Turning.{opened, position_at, quiet_turn, mute_turn, cause_turn}
 
@@ -150,24 +152,33 @@ module _ (o : Outset) (sound : Bool) (books : Books) (story : Story) (held : Opt
     open_still : IsTrue (is_none r.state.warehouse.closed || false || false || false || true)
     open_still = or_right (is_none r.state.warehouse.closed || false || false || false) true refl
 
+    -- a page with other rows is printed in the place of the answer's
+    rows_alike : {piece : List ℕ} (page : Page) → bare_page page ≡ bare_page open'.answer.page → piece ≡ block (closes_with outcome.Stands) (Some (record { at = at; reply = reply.Page page; heading = open'.answer.heading }))
+        → IsBlockButRows (closes_with outcome.Stands) (Some (closed_told None)) piece
+    rows_alike page same is = record {
+      shown = Some (record { at = at; reply = reply.Page page; heading = open'.answer.heading });
+      alike = (λ i. Some (record { at = at; reply = reply.Page (same i); heading = open'.answer.heading }));
+      block = is;
+    }
+
     pub close_turn : (cause : Option Cause) → MayClose cause → Counts story new (closing_fault cause) → (now : Bool) (new_held : Option (List ℕ)) (piece : List ℕ)
-        → (IsTrue sound → m < last → piece ≡ block (closes_with (closing_outcome cause)) (Some (closing_told at open'.answer cause))) → IsPut piece now held new_held
+        → ClosesWith (closes_with (closing_outcome cause)) at open'.answer cause piece → (IsTrue sound → m < last → piece ≡ block (closes_with (closing_outcome cause)) (Some (closing_told at open'.answer cause))) → IsPut piece now held new_held
         → WalksOn o sound books new new_held h (closes_with (closing_outcome cause)) now (refused || is_some cause)
-    close_turn None may counts now new_held piece is put =
+    close_turn None may counts now new_held piece shows is put =
         quiet_turn o sound books story held h running refused v (closes_with outcome.Stands) asks stage open'.due (short _ refl refl) moment new unmoved
         (comes_standing r asks stage s n kind.Close m refl (renewal_later r.state.warehouse.closed stage kind.Close outcome.Stands refl)) (ap not (sym ran)) (closed_turned None) refl refl counts now new_held
-        (ran, record { piece = piece; block = is; put = put }) books v.state refl
-    close_turn (Some (Replies r')) may counts now new_held piece is put = absurd may
-    close_turn (Some Unread) may counts now new_held piece is put =
+        (ran, record { piece = piece; anyhow = rows_alike shows.0 shows.1 shows.2; block = is; put = put }) books v.state refl
+    close_turn (Some (Replies r')) may counts now new_held piece shows is put = absurd may
+    close_turn (Some Unread) may counts now new_held piece shows is put =
         quiet_turn o sound books story held h running refused v (closes_with outcome.ReadFault) asks stage open'.due (short _ refl refl) moment new unmoved
         (comes_unread r asks stage s n kind.Close m refl refl refl open_still) (ap not (sym ran)) (closed_turned (Some Unread)) refl refl counts now new_held
-        (ran, record { piece = piece; block = is; put = put }) books v.state refl
-    close_turn (Some (Damaged damage)) may counts now new_held piece is put =
+        (ran, record { piece = piece; anyhow = with_rows _ _ _ shows; block = is; put = put }) books v.state refl
+    close_turn (Some (Damaged damage)) may counts now new_held piece shows is put =
         quiet_turn o sound books story held h running refused v (closes_with outcome.Damaged) asks stage open'.due (short _ refl refl) moment new unmoved
         (comes_damaged r asks stage s n kind.Close m refl refl refl open_still) (ap not (sym ran)) (closed_turned (Some (Damaged damage))) refl refl counts now new_held
-        (ran, record { piece = piece; block = λ ok low. record { damage = damage; is = may; same = is ok low }; put = put }) books v.state refl
-    close_turn (Some Unwritten) may counts now new_held piece is put = absurd may
-    close_turn (Some NoMemory) may counts now new_held piece is put =
+        (ran, record { piece = piece; anyhow = with_rows _ _ _ (record { damage = damage; is = may; same = shows }); block = λ ok low. record { damage = damage; is = may; same = is ok low }; put = put }) books v.state refl
+    close_turn (Some Unwritten) may counts now new_held piece shows is put = absurd may
+    close_turn (Some NoMemory) may counts now new_held piece shows is put =
         quiet_turn o sound books story held h running refused v (closes_with outcome.Memory) asks stage open'.due (short _ refl refl) moment new unmoved
         (comes_without_memory r asks stage s n kind.Close m refl refl open_still) (ap not (sym ran)) (closed_turned (Some NoMemory)) refl refl counts now new_held
-        (ran, record { piece = piece; block = is; put = put }) books v.state refl
+        (ran, record { piece = piece; anyhow = with_rows _ _ _ shows; block = is; put = put }) books v.state refl

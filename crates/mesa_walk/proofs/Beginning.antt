@@ -11,12 +11,13 @@ use Rattle.mesa_skeleton.specs.mesa_history.Counting.{count_in}
 use Rattle.mesa_skeleton.specs.mesa_history.Refused.{some_refused}
 use Rattle.mesa_output.specs.Output.{IsOutput}
 use Rattle.mesa_walk.specs.Books.{Books, AreBooksOf}
+use Rattle.mesa_walk.specs.Printing.{IsOutputButRows}
 use Rattle.mesa_walk.specs.Walk.{Outset, run_of, AllBy, IsAtClock, AllFound, IsWalk, Counts}
 
 -- Books of the start, on a disk whose images are found without any entry.
 pub started : (o : Outset) (sound : Bool) (books : Books) (story : Story) (held : Option (List ℕ)) → AreBooksOf sound books o.start → o.since ≤ story.moment → o.counted ≤ story.faults + story.read_faults → (IsTrue sound → AllFound o [] story) → held ≡ o.at_start
     → IsWalk o sound books story held [] true false
-unfolding runs AllFit count_in some_refused IsOutput
+unfolding runs AllFit count_in some_refused IsOutput IsOutputButRows
 started o sound books story held state begun counted found same = record {
   state = state;
   legal = tt;
@@ -27,6 +28,7 @@ started o sound books story held state begun counted found same = record {
   sink = refl;
   told = refl;
   counts = λ low below under. omega (arith, counted);
+  shown = record { text = []; output = refl; held = subst (λ x. Appends x held []) same (Appends-nil held) };
   printed = λ ok low. record { text = []; output = refl; held = subst (λ x. Appends x held []) same (Appends-nil held) };
   found = found;
 }
@@ -43,6 +45,7 @@ unmoved_walk o sound books story new held h running refused same counts v = reco
   sink = v.sink;
   told = v.told;
   counts = λ low below under. (let had = v.counts (subst (λ m. m < last) same.moment low) (omega (arith, below, counts.faults)) (omega (arith, under, counts.reads)) in omega (arith, had, counts.faults, counts.reads));
+  shown = v.shown;
   printed = λ ok low. v.printed ok (subst (λ m. m < last) same.moment low);
   found = λ ok below t c from to left. v.found ok (subst (λ m. m < last) same.moment below) t c from (subst (λ m. t ≤ m) same.moment to) ((same.may_have_left t c).0 left);
 }

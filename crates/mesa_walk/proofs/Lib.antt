@@ -6,6 +6,7 @@ pub mod Coming
 pub mod Turning
 pub mod Skeletons
 pub mod Changing
+pub mod Pieces
 pub mod Pinning
 pub mod Reading
 pub mod Asking

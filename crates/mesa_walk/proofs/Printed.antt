@@ -25,7 +25,7 @@ some_is_damage : IsDamage some_damage
 some_is_damage = record { file = omega arith; place = omega arith; want = tt; found = tt; differ = λ same. cc }
 
 -- an entry that tells nothing prints nothing
-no_block : (e : Entry) → IsBlock e None []
+pub no_block : (e : Entry) → IsBlock e None []
 no_block e = by e.outcome
   where
     by : (o : Outcome) → IsBlockAs o e None []

@@ -19,6 +19,7 @@ use Rattle.mesa_skeleton.proofs.mesa_history.Finding.{all_more, all_later, still
 use Rattle.mesa_walk.specs.Books.{Books, AreBooksOf}
 use Rattle.mesa_walk.specs.Printing.{Prints}
 use Rattle.mesa_walk.specs.Walk.{Outset, run_of, IsAtClock, AllFound, HasCounted, faults_in, IsWalk, Counts, StandsForEither, AllStand, HasLaws, Passes}
+use Rattle.mesa_walk.proofs.Pieces.{shown_more}
 use Rattle.mesa_walk.proofs.Printed.{printed_more, sink_more}
 
 -- What a turn of a vault is, whatever its device work did.
@@ -98,6 +99,7 @@ module _ (o : Outset) (sound : Bool) (books : Books) (old : Story) (held : Optio
       sink = subst (λ l. IsTrue (fits_sink l (not now))) (sym last_is) (sink_more sound e made.told running now held new_held step.skipped step.prints);
       told = (λ i. v.told i || tells_refusal made.told) ∙ sym (refused_more o.script b h e ∙ ap (λ t. some_refused o.script b h || tells_refusal t) told_is);
       counts = subst (HasCounted o.counted new) (sym (count_more is_disk_fault o.script b h e)) (counted_more o.counted (faults_in o h) old new (is_disk_fault r e) later counts v.counts);
+      shown = shown_more sound o.script b h e made.told running now o.at_start held new_held told_is v.shown step.prints;
       printed = λ ok low. printed_more sound o.script b h e made.told running now o.at_start held new_held ok (omega (arith, moment, low)) told_is (v.printed ok (omega (arith, later, low))) step.prints;
       found = found;
     }

@@ -27,6 +27,7 @@ use Rattle.mesa_walk.specs.Turns.{entry}
 use Rattle.mesa_walk.specs.Walk.{Outset, run_of, IsWalk, WalksOn, WalksWith, Counts, StandsForEither, AllStand, Passes}
 use Rattle.mesa_walk.proofs.Clock.{quiet_moment, written_moment, closing_moment}
 use Rattle.mesa_walk.proofs.Coming.{comes_skipped}
+use Rattle.mesa_walk.proofs.Pieces.{with_rows}
 use Rattle.mesa_walk.proofs.Printed.{standing_block, cause_block}
 use Rattle.mesa_walk.proofs.Steps.{IsStep, quiet, wrote as wrote_step, tried}
 
@@ -69,20 +70,16 @@ module _ (o : Outset) (sound : Bool) (books : Books) (story : Story) (held : Opt
 
   -- the block of a reply that stands
   pub puts_reply : (e : Entry) (rep : Reply) (at : ℕ) → at ≡ length h → e.outcome ≡ outcome.Stands → (now : Bool) (new_held : Option (List ℕ)) → IsPut (block e (Some (told_at at rep))) now held new_held → Puts sound e (told_at r.position rep) now held new_held
-  puts_reply e rep at place stands now new_held put = record {
-    piece = block e (Some (told_at at rep));
-    block = λ ok low. standing_block e (told_at r.position rep) _ stands (ap (λ p. block e (Some (told_at p rep))) (position_at at place));
-    put = put;
-  }
+  puts_reply e rep at place stands now new_held put =
+      let is = standing_block e (told_at r.position rep) _ stands (ap (λ p. block e (Some (told_at p rep))) (position_at at place)) in
+      record { piece = block e (Some (told_at at rep)); anyhow = with_rows e _ _ is; block = λ ok low. is; put = put }
 
   -- the block of a turn that has a cause
   pub puts_cause : (e : Entry) (cause : Cause) (at : ℕ) → at ≡ length h → e.outcome ≡ outcome_of cause → CanBeTold cause → (now : Bool) (new_held : Option (List ℕ)) → IsPut (block e (Some (told_at at (reply_of cause)))) now held new_held
       → Puts sound e (told_at r.position (replayed cause)) now held new_held
-  puts_cause e cause at place ends can now new_held put = record {
-    piece = block e (Some (told_at at (reply_of cause)));
-    block = λ ok low. cause_block e cause r.position _ ends can (ap (λ p. block e (Some (told_at p (reply_of cause)))) (position_at at place));
-    put = put;
-  }
+  puts_cause e cause at place ends can now new_held put =
+      let is = cause_block e cause r.position _ ends can (ap (λ p. block e (Some (told_at p (reply_of cause)))) (position_at at place)) in
+      record { piece = block e (Some (told_at at (reply_of cause))); anyhow = with_rows e _ _ is; block = λ ok low. is; put = put }
 
   module _ (e : Entry) (c : Command) (stage : Stage) (due : IsDue o.script (run_of o h) e.session e.command c stage) (short : IsShort e) where
     -- ---- turns that move nothing on the disk

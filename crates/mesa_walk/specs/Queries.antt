@@ -6,13 +6,15 @@ use Rattle.mesa_skeleton.specs.mesa_model.declared.commands.Script.{Script}
 use Rattle.mesa_skeleton.specs.mesa_model.declared.entries.Entry.{Entry}
 use Rattle.mesa_skeleton.specs.mesa_model.declared.entries.Outcome.{Outcome}
 use Rattle.mesa_skeleton.specs.mesa_model.declared.entries.Outcome.TheVariants as outcome
+use Rattle.mesa_skeleton.specs.mesa_model.declared.replies.Page.{Page}
 use Rattle.mesa_skeleton.specs.mesa_model.declared.replies.Refusal.{Refusal}
 use Rattle.mesa_skeleton.specs.mesa_model.declared.replies.Reply.TheVariants as reply
 use Rattle.mesa_skeleton.specs.mesa_model.Query.{Answer, query_answer}
 use Rattle.mesa_skeleton.specs.mesa_history.Run.{State, Stage, Answered, Finished, Run, Told}
 use Rattle.mesa_skeleton.specs.mesa_history.Turns.{IsDue}
 use Rattle.mesa_skeleton.specs.Rows.{Rows}
-use Rattle.mesa_output.specs.Output.{IsDamage}
+use Rattle.mesa_skeleton.specs.Bare.{bare_page}
+use Rattle.mesa_output.specs.Output.{IsDamage, block}
 use Rattle.mesa_walk.specs.Books.{Books, AreBooksOf}
 use Rattle.mesa_walk.specs.Causes.{Cause, Replies, Unread, Damaged, Unwritten, NoMemory, is_read_fault, outcome_of, reply_of, told_at}
 use Rattle.mesa_walk.specs.Walk.{run_at}
@@ -64,6 +66,12 @@ closing_outcome (Some cause) = outcome_of cause
 abbrev pub closing_told : ℕ → Answer → Option Cause → Told
 closing_told position answer None = record { at = position; reply = reply.Page answer.page; heading = answer.heading }
 closing_told position answer (Some cause) = told_at position (reply_of cause)
+
+-- What it puts on the sink on any store: the block of what it prints, but for the rows of its page.
+abbrev pub ClosesWith : Entry → ℕ → Answer → Option Cause → List ℕ → Type 0
+ClosesWith e position answer None piece =
+    (page : Page) × (bare_page page ≡ bare_page answer.page) × (piece ≡ block e (Some (record { at = position; reply = reply.Page page; heading = answer.heading })))
+ClosesWith e position answer (Some cause) piece = piece ≡ block e (Some (told_at position (reply_of cause)))
 
 -- the stage of a query after its first turn, by what was handed out for it, if anything
 abbrev pub pinned_stage : {P : Type 0} → (P → ℕ) → (P → Answer) → Option P → Stage

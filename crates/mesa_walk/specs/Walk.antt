@@ -16,7 +16,7 @@ use Rattle.mesa_skeleton.specs.mesa_history.Counting.{count_in, is_disk_fault}
 use Rattle.mesa_skeleton.specs.mesa_history.Refused.{some_refused}
 use Rattle.mesa_walk.specs.Books.{Books, AreBooksOf}
 use Rattle.mesa_walk.specs.Causes.{told_at}
-use Rattle.mesa_walk.specs.Printing.{IsPrinted}
+use Rattle.mesa_walk.specs.Printing.{IsPrinted, IsPrintedButRows}
 
 -- What a run sets out from: what an image stands for, the script, the state, and the disk's clock, both counts of the disk's faults together and the sink's bytes at its start.
 pub record Outset : Type 1 where
@@ -58,7 +58,7 @@ abbrev pub HasCounted : ℕ → Story → ℕ → Type 0
 HasCounted counted story answered =
     story.moment < last → story.faults < last → story.read_faults < last → counted + answered ≤ story.faults + story.read_faults
 
--- The walk: after a history the books are those of the state that Replay gives, and the history is legal so far; the last entry's moment is the disk's clock; what was printed and what a crash may have left, while the clock is below its last value, and how many faults were answered, is what the history says; so is whether the sink has failed, and whether some reply was a refusal.
+-- The walk: after a history the books are those of the state that Replay gives, and the history is legal so far; the last entry's moment is the disk's clock; what was printed, but for the rows of pages, and how many faults were answered, is what the history says, and on a sound store so is all that was printed and what a crash may have left, while the clock is below its last value; so is whether the sink has failed, and whether some reply was a refusal.
 pub record IsWalk (o : Outset) (sound : Bool) (books : Books) (story : Story) (held : Option (List ℕ)) (h : List Entry) (running refused : Bool) : Type 0 where
   pub state : AreBooksOf sound books (run_of o h).state
   pub legal : AllFit o.script (begins o.start) h
@@ -69,6 +69,7 @@ pub record IsWalk (o : Outset) (sound : Bool) (books : Books) (story : Story) (h
   pub sink : IsTrue (fits_sink (run_of o h).last (not running))
   pub told : refused ≡ some_refused o.script (begins o.start) h
   pub counts : HasCounted o.counted story (faults_in o h)
+  pub shown : IsPrintedButRows o.script (begins o.start) h running o.at_start held
   pub printed : IsTrue sound → story.moment < last → IsPrinted o.script (begins o.start) h running o.at_start held
   pub found : IsTrue sound → AllFound o h story
 
