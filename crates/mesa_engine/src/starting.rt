@@ -10,7 +10,7 @@ ghost use Rattle.mesa_catalog.specs.mesa_history.Run.{begins};
 ghost use Rattle.mesa_ledger.specs.Vault.{outset_of};
 ghost use Rattle.mesa_metadata.specs.Memory.{opened_ledger};
 ghost use Rattle.mesa_ledger.specs.mesa_skeleton.Rows.{Rows, no_rows};
-ghost use Rattle.mesa_ledger.specs.mesa_walk.Printing.{IsPrinted};
+ghost use Rattle.mesa_ledger.specs.mesa_walk.Printing.{IsPrinted, IsPrintedButRows};
 ghost use Rattle.mesa_ledger.specs.mesa_walk.Turns.{faults_of};
 ghost use Rattle.mesa_ledger.specs.mesa_walk.Undamaged.{NoneDamaged};
 ghost use Rattle.mesa_ledger.specs.mesa_walk.Walk.{AllFound, HasCounted, faults_in, run_at};
@@ -89,6 +89,9 @@ impl<N: Naming, M: Made, D: Disk<M>, K: Sink> Engine<N, M, D, K> {
 
         // A run without a turn left the sink as it was.
         ensures first { result.2.items ≡ [] → K.held result.1 ≡ N.at_start }
+
+        // On every store what was printed is the history's blocks, but for the rows of pages.
+        ensures blocks { (w : Rows) → IsPrintedButRows N.script (begins (N.start w)) result.2.items self.shown.running N.at_start (K.held result.1) }
 
         // On a sound store no entry met damage.
         ensures undamaged { (w : Rows) → N.sound w → NoneDamaged result.2.items }

@@ -2,7 +2,7 @@ use Rattle.std.proofs.Common.{◌≡◌, true, false, not, refl, subst, IsTrue}
 use Rattle.mesa_fault.specs.Causes.{Rose}
 use Rattle.mesa_catalog.specs.mesa_history.Legal.{fits_sink}
 use Rattle.mesa_catalog.specs.mesa_history.Run.{begins}
-use Rattle.mesa_ledger.specs.mesa_walk.Printing.{IsPrinted}
+use Rattle.mesa_ledger.specs.mesa_walk.Printing.{IsPrinted, IsPrintedButRows}
 use Rattle.mesa_ledger.specs.mesa_walk.Walk.{run_at}
 use Rattle.mesa_ledger.specs.mesa_skeleton.Rows.{no_rows}
 use Rattle.mesa_ledger.specs.Vault.{Starts}
@@ -47,6 +47,10 @@ returns-clause-first g c = c.self.invariant.first
 
 pub returns-clause-undamaged : goal.returns-clause-undamaged
 returns-clause-undamaged g c = c.self.invariant.undamaged
+
+pub returns-clause-blocks : goal.returns-clause-blocks
+returns-clause-blocks g c w =
+    subst (λ (s : Standing). IsPrintedButRows g.N.Naming.script (begins (g.N.Naming.start w)) c.self.inside.log.history.items s.shown.running g.N.Naming.at_start (g.K.Sink.held c.self.inside.log.printer.sink)) c.self.view_is (c.self.invariant.vault w false (λ is. absurd cc)).walk.shown
 
 pub returns-clause-printed : goal.returns-clause-printed
 returns-clause-printed g c w is low =
