@@ -2,7 +2,7 @@
 use Rattle.std.proofs.Common.{◌≡◌, inl, inr, ℕ, ◌<◌, ◌≤◌, ◌^◌, List, [], ◌∷◌, ◌++◌, Bool, true, false, ◌||◌, not, IsTrue, refl, sym, ◌∙◌, ap, subst, arith, Option, None, Some, Result, Ok, Err}
 use Rattle.std.specs.Prelude.{is_some, vec_capacity}
 use Rattle.std.specs.List.{AllByRecursion}
-use Rattle.mesa_asking.specs.Closing.{IsPageOf, IsToClose, cause_if, closing_entry, closing_text}
+use Rattle.mesa_asking.specs.Closing.{IsPageOf, IsSomePageOf, IsToClose, cause_if, closing_entry, closing_text}
 use Rattle.mesa_cursor.specs.Cursors.{reader_in}
 use Rattle.mesa_delta.specs.declared.error.FileError.{FileError}
 use Rattle.mesa_delta.specs.declared.error.FileError.TheVariants as file_error
@@ -36,7 +36,7 @@ use Rattle.mesa_ledger.proofs.mesa_walk.Asking.{close_turn}
 use Rattle.mesa_ledger.proofs.mesa_walk.Going.{close_takes}
 use Rattle.mesa_ledger.specs.mesa_walk.Causes.{Cause}
 use Rattle.mesa_ledger.specs.mesa_walk.Printing.{IsPut}
-use Rattle.mesa_ledger.specs.mesa_walk.Queries.{MayClose, closing_fault, closing_outcome, closing_told}
+use Rattle.mesa_ledger.specs.mesa_walk.Queries.{ClosesWith, MayClose, closing_fault, closing_outcome, closing_told}
 use Rattle.mesa_ledger.specs.mesa_walk.Turns.{Shown, IsSeen, Takes, entry}
 use Rattle.mesa_ledger.specs.mesa_walk.Undamaged.{is_damaged}
 use Rattle.mesa_ledger.specs.mesa_walk.Walk.{Outset, Counts, run_at, run_of}
@@ -64,12 +64,12 @@ closing_answers closing (Err file_error.Memory) = refl
 -- the vault behind the close
 pub closed_query : (o : Outset) (g : Origin) (sound : Bool) (l : Ledger) (story : Story) (held : Option (List ℕ)) (h : List Entry) (running refused : Bool) → IsVault o g sound l story held h running refused
     → (s number : ℕ) → s < 2 ^ 16 → number < 2 ^ 32 → (m : ℕ) → m ≡ story.moment → running ≡ true → (new : Story) → Unmoved story new → (at : ℕ) (tells : Answer → Type 0) (due : IsToClose o.script (run_of o h) s number at tells)
-    → (cause : Option Cause) → MayClose cause → Counts story new (closing_fault cause) → (now : Bool) (new_held : Option (List ℕ)) (piece : List ℕ)
+    → (cause : Option Cause) → MayClose cause → Counts story new (closing_fault cause) → (now : Bool) (new_held : Option (List ℕ)) (piece : List ℕ) → ClosesWith (entry s number kind.Close (closing_outcome cause) m) at due.opened.answer cause piece
     → (IsTrue sound → m < last → piece ≡ block (entry s number kind.Close (closing_outcome cause) m) (Some (closing_told at due.opened.answer cause))) → IsPut piece now held new_held
     → IsVault o g sound (answered_ledger l (is_of_another s)) new new_held (h ++ entry s number kind.Close (closing_outcome cause) m ∷ []) now (refused || is_some cause)
-closed_query o g sound l story held h running refused v s number low few m moment ran new unmoved at tells due cause may counts now new_held piece is put =
+closed_query o g sound l story held h running refused v s number low few m moment ran new unmoved at tells due cause may counts now new_held piece shows is put =
     answered_vault o g sound l story held h running refused v (entry s number kind.Close (closing_outcome cause) m) new new_held now (refused || is_some cause) unmoved (is_of_another s)
-    (close_turn o sound (books_of v.rows l) story held h running refused v.walk s number low few due.words m moment ran new unmoved at tells due.opened cause may counts now new_held piece is put)
+    (close_turn o sound (books_of v.rows l) story held h running refused v.walk s number low few due.words m moment ran new unmoved at tells due.opened cause may counts now new_held piece shows is put)
 
 -- ---- the engine behind it
 
@@ -81,16 +81,27 @@ module _ {K : Type 0} (held : K → Option (List ℕ)) (faults : K → ℕ) (n :
   abbrev e : Entry
   e = entry s number kind.Close (closing_outcome cause) mo
 
-  pub closed_engine : (piece : List ℕ) → ((w : Rows) → n.sound w → mo < last → piece ≡ block (entry s number kind.Close (closing_outcome cause) mo) (Some (closing_told at (due w).opened.answer cause)))
+  pub closed_engine : (piece : List ℕ) → ((w : Rows) → ClosesWith (entry s number kind.Close (closing_outcome cause) mo) at (due w).opened.answer cause piece)
+      → ((w : Rows) → n.sound w → mo < last → piece ≡ block (entry s number kind.Close (closing_outcome cause) mo) (Some (closing_told at (due w).opened.answer cause)))
       → IsPut piece (not later.printer.broken) (held log.printer.sink) (held later.printer.sink) → GoesOn faults log.printer later.printer → later.refused ≡ (log.refused || is_some cause) → IsEngine held faults n turns sinks after new later
-  closed_engine piece tells_it put goes refused =
+  closed_engine piece shows_it tells_it put goes refused =
       subst (λ (x : Memory). IsEngine held faults n turns sinks x new later) (sym is)
       (turned_engine held faults n turns sinks m (with_ledger (answered_ledger m.ledger (is_of_another s)) m) story new log later e v grew roomy (moment ∙ sym unmoved.moment) (omega (arith, unmoved.moment)) (omega (arith, v.leased)) undamaged goes
       (λ w b ok. subst (IsVault (outset_of n w) (n.origin w) b (answered_ledger m.ledger (is_of_another s)) new (held later.printer.sink) (log.history.items ++ e ∷ []) (not later.printer.broken)) (sym refused)
       (closed_query (outset_of n w) (n.origin w) b m.ledger story (held log.printer.sink) log.history.items (not log.printer.broken) log.refused (v.vault w b ok) s number low few mo moment ran new unmoved at (tells w) (due w) cause may counts
-      (not later.printer.broken) (held later.printer.sink) piece (λ sound. tells_it w (ok sound)) put)))
+      (not later.printer.broken) (held later.printer.sink) piece (shows_it w) (λ sound. tells_it w (ok sound)) put)))
 
 -- ---- what it prints
+
+-- on any store, what is printed is that block but for the rows of a page
+pub shows_answer : (s number mo at version : ℕ) (answered : Result Rendered FileError) (answer : Answer) → IsSomePageOf answered version answer
+    → ClosesWith (closing_entry s number answered mo) at answer (cause_if answered) (closing_text (closing_entry s number answered mo) at version answered)
+shows_answer s number mo at version (Ok text) answer is = (
+  record is.0 { version = version },
+  (λ i. record { version = is.2 i; rows = []; resume = None }),
+  page_block (closing_entry s number (Ok text) mo) at version answer.heading (record is.0 { version = version }) text is.1 refl,
+)
+shows_answer s number mo at version (Err error) answer is = refl
 
 -- on a sound store, what is printed is the block of what the run tells
 pub tells_answer : (s number mo at version : ℕ) (answered : Result Rendered FileError) (answer : Answer) → IsPageOf answered version answer

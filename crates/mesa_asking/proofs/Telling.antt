@@ -2,10 +2,10 @@
 use Rattle.std.proofs.Common.{◌≡◌, ℕ, ◌<◌, ◌^◌, List, [], ◌∷◌, ◌++◌, length, Bool, true, false, IsTrue, refl, sym, ◌∙◌, ap, subst, Option, None, Some, Ok}
 use Rattle.std.specs.Prelude.{find, option_map}
 use Rattle.std.specs.List.{AllByRecursion}
-use Rattle.mesa_asking.specs.Opening.{HasItsFiles, HasUnsoundFile, tells_damage}
+use Rattle.mesa_asking.specs.Opening.{HasItsFiles, HasUnsoundFile, IsHeaded, tells_damage}
 use Rattle.mesa_asking.specs.Seeing.{catalogue_asked}
 use Rattle.mesa_asking.proofs.Contents.{seen_columns, seen_content}
-use Rattle.mesa_asking.proofs.Opens.{Answers, Untold, one_answer, opened_from, pinned_untold}
+use Rattle.mesa_asking.proofs.Opens.{Answers, one_answer, opened_from}
 use Rattle.mesa_asking.proofs.States.{sees_state, version_range}
 use Rattle.mesa_asking.proofs.There.{name_there}
 use Rattle.mesa_catalog.proofs.Loads.{found_holds}
@@ -13,6 +13,7 @@ use Rattle.mesa_catalog.proofs.Stocks.{all_at}
 use Rattle.mesa_commit.specs.Images.{Has}
 use Rattle.mesa_disk.specs.Image.{Image}
 use Rattle.mesa_disk.specs.Story.{Story, Unmoved}
+use Rattle.mesa_filter.specs.Query.{BuiltQuery, group_kinds}
 use Rattle.mesa_filter.specs.declared.words.QueryWords.{QueryWords}
 use Rattle.mesa_filter.specs.declared.words.VersionWord.{VersionWord}
 use Rattle.mesa_filter.specs.declared.words.VersionWord.TheVariants as asks
@@ -32,6 +33,7 @@ use Rattle.mesa_ledger.specs.Turned.{is_held_pin}
 use Rattle.mesa_ledger.specs.Vault.{Origin, Starts, IsVault, IsVaultAt, outset_of}
 use Rattle.mesa_model.specs.Page.{page_of}
 use Rattle.mesa_model.specs.Query.{Answer, answer_rows, query_answer}
+use Rattle.mesa_model.specs.Warehouse.{Warehouse}
 use Rattle.mesa_model.specs.declared.commands.Command.TheVariants as command
 use Rattle.mesa_model.specs.declared.entries.Entry.{Entry}
 use Rattle.mesa_model.specs.declared.entries.Kind.TheVariants as kind
@@ -44,6 +46,8 @@ use Rattle.mesa_pinning.proofs.Unsound.{seen_sound}
 use Rattle.mesa_pinning.specs.Read.{relation_read}
 use Rattle.mesa_pinning.proofs.mesa_plans.Among.{all_planned}
 use Rattle.mesa_rules.specs.Found.{answer_found}
+use Rattle.mesa_skeleton.proofs.Steps.{query-bare}
+use Rattle.mesa_skeleton.specs.Bare.{bare_answer, bare_result}
 use Rattle.mesa_skeleton.specs.Rows.{Rows, no_rows}
 use Rattle.mesa_tasks.specs.declared.querying.Pinned.{Pinned}
 use Rattle.mesa_trash.specs.Filed.{PinFiles}
@@ -138,29 +142,49 @@ module _ (o : Outset) (g : Origin) (sound : Bool) (l : Ledger) (story : Story) (
 pub files_answered : {R : Type 0} (bytes : R → Option (List ℕ)) (faults : R → ℕ) (told : Option Image) (l : Ledger) (session : ℕ) (words : QueryWords) (p : Pinned R) → HasItsFiles bytes faults told l session words p → Answers l session words
 files_answered bytes faults told l session words p has = (answer_found has.sees.store has.found, has.answered (books_of no_rows l).bare session has.sees)
 
+-- they answer it at its files' version, under their heading, whatever rows the files have
+files_headed : {R : Type 0} (bytes : R → Option (List ℕ)) (faults : R → ℕ) (told : Option Image) (l : Ledger) (session : ℕ) (words : QueryWords) (p : Pinned R) → HasItsFiles bytes faults told l session words p
+    → (sound : Bool) (rows : Rows) (s : State) (answer : Answer) → AreBooksOf sound (books_of rows l) s → query_answer s.warehouse session words ≡ Ok answer → IsHeaded p.query p.version answer
+files_headed bytes faults told l session words p has sound rows s answer are is =
+    let found = answer_found has.sees.store has.found in
+    let both : Ok (bare_answer answer) ≡ Ok (bare_answer found) =
+    ap (bare_result bare_answer) (sym is) ∙ query-bare s.warehouse session words ∙ ap (λ (x : Warehouse). bare_result bare_answer (query_answer x session words)) are.skeleton ∙ ap (bare_result bare_answer) (has.answered (books_of no_rows l).bare session has.sees) in
+    let same : bare_answer answer ≡ bare_answer found = cc in
+    record {
+      at = ap (λ (a : Answer). a.page.version) same ∙ sym has.files.version;
+      heading = ap (λ (a : Answer). a.heading) same ∙ ap (λ (q : BuiltQuery). record { kinds = group_kinds q; prefix = q.prefix }) (sym has.files.query);
+    }
+
 -- ---- what a turn leaves
 
 -- Whatever rows the files had when the run began, the query is open; on a sound store its files tell the answer.
 pub opened_is : {R : Type 0} (bytes : R → Option (List ℕ)) (faults : R → ℕ) (n : Starts) (l : Ledger) (story new : Story) (held : Option (List ℕ)) (h : List Entry) (running refused : Bool) → IsVaultAt n l story held h running refused
     → (s number : ℕ) → s < 2 ^ 16 → number < 2 ^ 32 → (words : QueryWords) (m : ℕ) → m ≡ story.moment → running ≡ true → Unmoved story new → ((w : Rows) → IsDue n.script (run_at n.script (n.start w) h) s number (command.Query words) First)
     → Counts story new false → (at : ℕ) → at ≡ length h → l.closed ≡ None → (p : Pinned R) → HasItsFiles bytes faults story.told l s words p
-    → IsOpen n.script n.start (h ++ entry s number kind.Decide outcome.Stands m ∷ []) s number words at (λ w answer. n.sound w → Tells bytes p answer)
+    → IsOpen n.script n.start (h ++ entry s number kind.Decide outcome.Stands m ∷ []) s number words at (λ w answer. IsHeaded p.query p.version answer × (n.sound w → Tells bytes p answer))
 opened_is bytes faults n l story new held h running refused v s number low few words m moment ran unmoved due counts at place was_open p has w =
     let o = outset_of n w in
     let plain = v w false (λ is. absurd cc) in
     let answers = files_answered bytes faults story.told l s words p has in
-    let bare = opened_from o (n.origin w) false l story held h running refused plain s number low few words m moment ran new unmoved (due w) Untold (pinned_untold false plain.rows l s words answers) counts at place in
+    let mine : IsPinned false (books_of plain.rows l) s words (IsHeaded p.query p.version) = record {
+      asked = answers;
+      answers = λ state answer are is. files_headed bytes faults story.told l s words p has false plain.rows state answer are is;
+    } in
+    let bare = opened_from o (n.origin w) false l story held h running refused plain s number low few words m moment ran new unmoved (due w) (IsHeaded p.query p.version) mine counts at place in
     record {
       answer = bare.answer;
       due = bare.due;
-      told = λ sound.
-          let vault = v w true (λ is. sound) in
-          let mine : IsPinned true (books_of vault.rows l) s words (Tells bytes p) = record {
-            asked = answers;
-            answers = asked_tells o (n.origin w) true l story held h running refused vault refl was_open bytes faults s words p has;
-          } in
-          let full = opened_from o (n.origin w) true l story held h running refused vault s number low few words m moment ran new unmoved (due w) (Tells bytes p) mine counts at place in
-          subst (Tells bytes p) (one_answer o (h ++ entry s number kind.Decide outcome.Stands m ∷ []) s number at words Untold (Tells bytes p) bare full) full.told;
+      told = (
+        bare.told,
+        λ sound.
+            let vault = v w true (λ is. sound) in
+            let mine : IsPinned true (books_of vault.rows l) s words (Tells bytes p) = record {
+              asked = answers;
+              answers = asked_tells o (n.origin w) true l story held h running refused vault refl was_open bytes faults s words p has;
+            } in
+            let full = opened_from o (n.origin w) true l story held h running refused vault s number low few words m moment ran new unmoved (due w) (Tells bytes p) mine counts at place in
+            subst (Tells bytes p) (one_answer o (h ++ entry s number kind.Decide outcome.Stands m ∷ []) s number at words (IsHeaded p.query p.version) (Tells bytes p) bare full) full.told,
+      );
     }
 
 -- ---- damage

@@ -9,6 +9,7 @@ use Rattle.mesa_model.specs.Query.{Answer}
 use Rattle.mesa_model.specs.declared.commands.Script.{Script}
 use Rattle.mesa_model.specs.declared.entries.Entry.{Entry}
 use Rattle.mesa_model.specs.declared.entries.Kind.TheVariants as kind
+use Rattle.mesa_model.specs.declared.replies.Page.{Page}
 use Rattle.mesa_output.specs.Output.{block}
 use Rattle.mesa_script.specs.Rows.{rendered}
 use Rattle.mesa_script.specs.declared.rendered.Rendered.{Rendered}
@@ -25,6 +26,11 @@ pub record IsToClose (script : Script) (r : Run) (session number position : ℕ)
 abbrev pub IsPageOf : {E : Type 0} → Result Rendered E → ℕ → Answer → Type 0
 IsPageOf (Ok page) version answer = (page ≡ rendered answer.heading answer.page) × (version ≡ answer.page.version)
 IsPageOf (Err e) version answer = ⊤
+
+-- The same on any store: it is some page under the answer's heading, at the answer's version, which is this one.
+abbrev pub IsSomePageOf : {E : Type 0} → Result Rendered E → ℕ → Answer → Type 0
+IsSomePageOf (Ok text) version answer = (page : Page) × (text ≡ rendered answer.heading page) × (version ≡ answer.page.version)
+IsSomePageOf (Err e) version answer = ⊤
 
 -- why there is no answer
 abbrev pub cause_of : FileError → Cause

@@ -5,6 +5,7 @@ use Rattle.mesa_asked.specs.declared.failure.Failure.TheVariants as asked
 use Rattle.mesa_asking.specs.Seeing.{catalogue_asked, pinned_asked}
 use Rattle.mesa_catalog.specs.Lookups.{relation_of}
 use Rattle.mesa_disk.specs.Image.{Image}
+use Rattle.mesa_filter.specs.Query.{BuiltQuery, group_kinds}
 use Rattle.mesa_filter.specs.declared.words.QueryWords.{QueryWords}
 use Rattle.mesa_filter.specs.declared.words.VersionWord.{VersionWord}
 use Rattle.mesa_filter.specs.declared.words.VersionWord.TheVariants as asks
@@ -14,6 +15,7 @@ use Rattle.mesa_ledger.specs.Turned.{queried_ledger}
 use Rattle.mesa_log.specs.Failure.{cause_in}
 use Rattle.mesa_log.specs.declared.failure.Failure.{Failure}
 use Rattle.mesa_metadata.specs.Memory.{hold_now}
+use Rattle.mesa_model.specs.Query.{Answer}
 use Rattle.mesa_model.specs.declared.replies.Reply.TheVariants as reply
 use Rattle.mesa_ledger.specs.mesa_image_laws.Planned.{planned}
 use Rattle.mesa_pinning.specs.Read.{IsPinnedFor, SomeUnsound, relation_read}
@@ -51,6 +53,11 @@ pub record HasItsFiles {R : Type 0} (bytes : R → Option (List ℕ)) (faults : 
   pub version : version_in catalogue (pinned_asked l session words.version) words.version found.relation.table ≡ Ok found.query.version
   pub answered : IsAnswered catalogue (pinned_asked l session words.version) words found
   pub files : IsPinnedFor bytes faults told (stock_at catalogue found.relation.table) found p
+
+-- An answer's page is of this version, under the heading of this query.
+pub record IsHeaded (query : BuiltQuery) (version : ℕ) (answer : Answer) : Type 0 where
+  pub at : answer.page.version ≡ version
+  pub heading : answer.heading ≡ record { kinds = group_kinds query; prefix = query.prefix }
 
 -- Of the files of what a session's query finds in the catalogue that it sees, one isn't the recorded one.
 pub record HasUnsoundFile (told : Option Image) (l : Ledger) (session : ℕ) (words : QueryWords) : Type 0 where

@@ -1,6 +1,6 @@
 // A query's last turn.
 ghost use Rattle.std.specs.Prelude.{◌≡◌, ◌<◌, ◌≤◌, ◌||◌, ◌++◌, ◌∷◌, [], true, false, not, is_some, length, vec_capacity, vec_len, IfErr};
-ghost use Rattle.mesa_asking.specs.Closing.{IsPageOf, IsToClose, cause_if, cause_of, closing_entry, closing_text};
+ghost use Rattle.mesa_asking.specs.Closing.{IsPageOf, IsSomePageOf, IsToClose, cause_if, cause_of, closing_entry, closing_text};
 ghost use Rattle.mesa_tasks.specs.Errors.{HasDiffered};
 ghost use Rattle.mesa_history.specs.Run.{Finished};
 ghost use Rattle.mesa_ledger.specs.Turned.{answered_ledger};
@@ -79,8 +79,8 @@ pub fn close_query<N: Naming, M: Made, D: Disk<M>, K: Sink>(
     pinned: Pinned<D::Reader>,
     answered: Result<Rendered, FileError>,
 )
-    // On a sound store the page is that of the answer, whatever rows the files had when the run began.
-    requires due { (w : Rows) → IsToClose N.script (run_at N.script (N.start w) engine.old.shown.history) who.session who.command pinned.at (λ answer. N.sound w → IsPageOf answered pinned.version answer) }
+    // The page is one under the answer's heading, at its version; on a sound store it is that of the answer, whatever rows the files had when the run began.
+    requires due { (w : Rows) → IsToClose N.script (run_at N.script (N.start w) engine.old.shown.history) who.session who.command pinned.at (λ answer. IsSomePageOf answered pinned.version answer × (N.sound w → IsPageOf answered pinned.version answer)) }
     requires damaged { IfErr answered HasDiffered }
     requires read { closing_fault (cause_if answered) ≡ true → SomeFailed D.Reader.faults (pinned_inputs pinned) }
     // Nor does damage come in its place.

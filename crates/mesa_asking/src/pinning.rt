@@ -1,6 +1,6 @@
 // A query's first turn.
 ghost use Rattle.std.specs.Prelude.{◌≡◌, ◌<◌, true, length, IfOk, OnErr, OnOk};
-ghost use Rattle.mesa_asking.specs.Opening.{HasItsFiles, asked_ledger};
+ghost use Rattle.mesa_asking.specs.Opening.{HasItsFiles, IsHeaded, asked_ledger};
 ghost use Rattle.mesa_history.specs.Run.{First, Finished};
 ghost use Rattle.mesa_history.specs.Turns.{IsDue};
 ghost use Rattle.mesa_model.specs.declared.commands.Command.TheVariants as command;
@@ -31,8 +31,8 @@ pub fn pin_query<N: Naming, M: Made, D: Disk<M>, K: Sink>(
 ) -> Result<Pinned<D::Reader>, Reply>
     requires due { IsDue N.script (run_at N.script (N.start no_rows) engine.old.shown.history) who.session who.command (command.Query words.now) First }
     requires room { length engine.old.shown.history < N.room }
-    // Whatever rows the files had when the run began, the query is answered and not closed; on a sound store its files tell the answer.
-    ensures opened { IfOk result (λ p. IsOpen N.script N.start engine.new.shown.history who.session who.command words.now p.at (λ w answer. N.sound w → Tells D.Reader.bytes p answer)) }
+    // Whatever rows the files had when the run began, the query is answered at its files' version, under their heading, and not closed; on a sound store its files tell the answer.
+    ensures opened { IfOk result (λ p. IsOpen N.script N.start engine.new.shown.history who.session who.command words.now p.at (λ w answer. IsHeaded p.query p.version answer × (N.sound w → Tells D.Reader.bytes p answer))) }
     ensures pinned { IfOk result (λ p. (s : Columns) × IsPinned D.Reader.bytes s p) }
     // They are those of the plan at the version asked, by the tables that it saw before the turn; of a view, each delta's own file of it where it has one, and else the table's.
     ensures files { IfOk result (HasItsFiles D.Reader.bytes D.Reader.faults engine.old.told engine.old.ledger who.session words.now) }

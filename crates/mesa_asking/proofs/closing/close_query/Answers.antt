@@ -14,8 +14,8 @@ use Rattle.mesa_ledger.specs.mesa_walk.Turns.{AnswersDisk, Shown, SomeRose, Take
 use Rattle.mesa_ledger.specs.mesa_walk.Walk.{Counts, run_at}
 use Rattle.mesa_ledger.proofs.mesa_walk.Faulting.{disk_counted}
 use Rattle.mesa_engine.specs.Engine.{Standing, IsEngine, starts_of}
-use Rattle.mesa_asking.specs.Closing.{IsPageOf, IsToClose, cause_if, closing_entry, closing_text}
-use Rattle.mesa_asking.proofs.Closes.{closed_engine, closed_takes, closing_answers, given_counts, tells_answer}
+use Rattle.mesa_asking.specs.Closing.{IsPageOf, IsSomePageOf, IsToClose, cause_if, closing_entry, closing_text}
+use Rattle.mesa_asking.proofs.Closes.{closed_engine, closed_takes, closing_answers, given_counts, shows_answer, tells_answer}
 use Rattle.mesa_asking.proofs.closing.close_query.Goals as goal
 
 pub skip-requires-clause-due : goal.skip-requires-clause-due
@@ -35,10 +35,10 @@ returns-then-not-running-clause-disk g c =
 
 due_at : (g : _) (c : goal.After-print g) (w : Rows)
     → IsToClose g.N.Naming.script (run_at g.N.Naming.script (g.N.Naming.start w) c.engine.inside.log.history.items) c.args.who.session c.args.who.command c.args.pinned.at
-    (λ (answer : Answer). g.N.Naming.sound w → IsPageOf c.args.answered c.args.pinned.version answer)
+    (λ (answer : Answer). IsSomePageOf c.args.answered c.args.pinned.version answer × (g.N.Naming.sound w → IsPageOf c.args.answered c.args.pinned.version answer))
 due_at g c w =
     subst (λ (s : Standing). IsToClose g.N.Naming.script (run_at g.N.Naming.script (g.N.Naming.start w) s.shown.history) c.args.who.session c.args.who.command c.args.pinned.at
-    (λ (answer : Answer). g.N.Naming.sound w → IsPageOf c.args.answered c.args.pinned.version answer)) (sym c.engine.view_is) (c.requires.due w)
+    (λ (answer : Answer). IsSomePageOf c.args.answered c.args.pinned.version answer × (g.N.Naming.sound w → IsPageOf c.args.answered c.args.pinned.version answer))) (sym c.engine.view_is) (c.requires.due w)
 
 runs : (g : _) (c : goal.After-print g) → not c.engine.inside.log.printer.broken ≡ true
 runs g c = ap (λ (s : Standing). s.shown.running) c.engine.view_is ∙ sym c.running.ensures ∙ c.if-not-running.false
@@ -61,10 +61,11 @@ kept g c =
     let new = g.D.Disk.story c.retire_pinned.new.disk in
     let mo = c.clock-moment.result in
     closed_engine g.K.Sink.held g.K.Sink.faults n N.room N.sink_faults i.metadata c.close_query.new.self story new i.log c.print.new.log c.engine.invariant s number c.print.ensures.short.session c.print.ensures.short.command mo (moment_is g c) (runs g c) c.retire_pinned.ensures.unmoved at
-    (λ (w : Rows) (answer : Answer). N.sound w → IsPageOf answered version answer) (due_at g c) (cause_if answered) c.may_be_told.ensures
+    (λ (w : Rows) (answer : Answer). IsSomePageOf answered version answer × (N.sound w → IsPageOf answered version answer)) (due_at g c) (cause_if answered) c.may_be_told.ensures
     (given_counts g.D.Reader.FileReader.faults (pinned_inputs c.args.pinned) story new (closing_fault (cause_if answered)) c.retire_pinned.ensures.given c.requires.read)
     c.print.ensures.items c.print.ensures.room c.close_query.ensures c.requires.undamaged (closing_text (closing_entry s number answered mo) at version answered)
-    (λ w sound low. tells_answer s number mo at version answered (due_at g c w).opened.answer ((due_at g c w).opened.told sound))
+    (λ w. shows_answer s number mo at version answered (due_at g c w).opened.answer (due_at g c w).opened.told.0)
+    (λ w sound low. tells_answer s number mo at version answered (due_at g c w).opened.answer ((due_at g c w).opened.told.1 sound))
     c.print.ensures.put c.print.ensures.goes c.print.ensures.refused
 
 pub invariant_of-engine : goal.invariant_of-engine
@@ -84,7 +85,7 @@ returns-clause-turn g c =
     let new : Shown = record { history = later.history.items; running = not later.printer.broken; clock = new_story.moment } in
     subst (λ (x : Standing). Takes N.script (N.start no_rows) x.shown new s number kind.Close Finished) c.engine.view_is
     (closed_takes N.script (N.start no_rows) (record { history = h; running = not i.log.printer.broken; clock = story.moment }) new s number c.args.pinned.at
-    (λ (answer : Answer). N.sound no_rows → IsPageOf c.args.answered c.args.pinned.version answer) (due_at g c no_rows) (cause_if c.args.answered)
+    (λ (answer : Answer). IsSomePageOf c.args.answered c.args.pinned.version answer × (N.sound no_rows → IsPageOf c.args.answered c.args.pinned.version answer)) (due_at g c no_rows) (cause_if c.args.answered)
     (c.print.ensures.items ∙ ap (λ x. h ++ closing_entry s number c.args.answered x ∷ []) c.clock-moment.ensures) (runs g c)
     (vault_at_seen n c.close_query.new.self.ledger new_story (g.K.Sink.held later.printer.sink) later.history.items (not later.printer.broken) later.refused new_story.moment (kept g c).vault))
 

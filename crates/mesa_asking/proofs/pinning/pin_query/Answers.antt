@@ -1,5 +1,5 @@
 use Rattle.std.proofs.Common.{◌≡◌, List, [], ◌∷◌, ◌++◌, length, true, false, not, refl, sym, ◌∙◌, ap, subst}
-use Rattle.mesa_asking.specs.Opening.{HasItsFiles, asked_ledger}
+use Rattle.mesa_asking.specs.Opening.{HasItsFiles, IsHeaded, asked_ledger}
 use Rattle.mesa_asking.proofs.Opens.{opened_engine, unopened_engine, unopened_takes}
 use Rattle.mesa_asking.proofs.Telling.{asked_shaped, files_answered, opened_is, opened_undamaged}
 use Rattle.mesa_asking.proofs.pinning.pin_query.Goals as goal
@@ -105,8 +105,8 @@ returns-in-Ok-clause-opened g c =
     let base =
     opened_is bytes g.D.Reader.FileReader.faults n i.metadata.ledger (g.D.Disk.story i.disk) new (g.K.Sink.held i.log.printer.sink) h (not i.log.printer.broken) i.log.refused c.engine.invariant.vault s number short.session short.command words
     c.clock-moment.result (c.clock-moment.ensures ∙ c.hold_files-held.ensures.unmoved.moment) (runs g c) c.hold_files-held.ensures.unmoved (due_at g c) c.in-Ok.ensures.counts c.position-at.result c.position-at.ensures has.sees.opened p has in
-    subst (λ (hs : List Entry). IsOpen N.script N.start hs s number words p.at (λ w answer. N.sound w → Tells bytes p answer)) (sym (c.pass.ensures.items ∙ ap (λ x. h ++ x ∷ []) c.turn-turn.ensures.same))
-    (subst (λ q. IsOpen N.script N.start (h ++ entry s number kind.Decide outcome.Stands c.clock-moment.result ∷ []) s number words q (λ w answer. N.sound w → Tells bytes p answer)) (sym c.in-Ok.ensures.at) base)
+    subst (λ (hs : List Entry). IsOpen N.script N.start hs s number words p.at (λ w answer. IsHeaded p.query p.version answer × (N.sound w → Tells bytes p answer))) (sym (c.pass.ensures.items ∙ ap (λ x. h ++ x ∷ []) c.turn-turn.ensures.same))
+    (subst (λ q. IsOpen N.script N.start (h ++ entry s number kind.Decide outcome.Stands c.clock-moment.result ∷ []) s number words q (λ w answer. IsHeaded p.query p.version answer × (N.sound w → Tells bytes p answer))) (sym c.in-Ok.ensures.at) base)
 
 pub returns-in-Ok-clause-seen : goal.returns-in-Ok-clause-seen
 returns-in-Ok-clause-seen g c =
