@@ -14,7 +14,7 @@ use Rattle.mesa_history.specs.Legal.{IsLegal}
 use Rattle.mesa_history.specs.Run.{State, begins}
 use Rattle.mesa_laws.specs.Printed.{AnswersFromTheFold}
 use Rattle.mesa_skeleton.specs.Rows.{Rows}
-use Rattle.mesa_walk.specs.Printing.{IsPrinted}
+use Rattle.mesa_walk.specs.Printing.{IsPrinted, IsPrintedButRows}
 use Rattle.mesa_walk.specs.Undamaged.{NoneDamaged}
 use Rattle.mesa_walk.specs.Walk.{AllFound, HasCounted, Outset, run_at}
 use Rattle.mesa_image.specs.Catalog.{Catalog}
@@ -30,11 +30,12 @@ use Rattle.mesa_ending.specs.declared.done.Done.{Done}
 abbrev pub outset_from : Script → State → ℕ → ℕ → Option (List ℕ) → Outset
 outset_from script start since counted at_start = record { stands = StandsFor; script = script; start = start; since = since; counted = counted; at_start = at_start }
 
--- What holds of a run on any store: LEGAL, its moments lie between the clock at its start and at its end, and no fault of the disk is answered twice.
-pub record RanAnyhow (script : Script) (start : State) (h : List Entry) (failed : Bool) (since counted : ℕ) (new : Story) : Type 0 where
+-- What holds of a run on any store: LEGAL; its moments lie between the clock at its start and at its end; no fault of the disk is answered twice; and the sink was given its entries' blocks, each in its order and as the entry tells it, but for the rows of a page and the fields of a damage, or where the sink failed a front of them. So its status goes by what was printed.
+pub record RanAnyhow (script : Script) (start : State) (h : List Entry) (failed : Bool) (since counted : ℕ) (new : Story) (before now : Option (List ℕ)) : Type 0 where
   pub legal : IsLegal start script h failed
   pub moments : AllByRecursion (λ (e : Entry). (since ≤ e.moment) × (e.moment ≤ new.moment)) h
   pub counts : HasCounted counted new (count_in is_disk_fault script (begins start) h)
+  pub printed : IsPrintedButRows script (begins start) h (not failed) before now
 
 -- What holds of a run on a sound store, while the clock is below its last value: OUTPUT, of which a sink that failed got a front; CRASH; where nothing closed the warehouse, a read gives an image that is sound and stands for the state behind the last turn; and no entry met damage.
 pub record RanSoundly (script : Script) (start : State) (h : List Entry) (failed : Bool) (since counted : ℕ) (new : Story) (before now : Option (List ℕ)) : Type 0 where
@@ -49,7 +50,7 @@ module _ {K D M B : Type 0} (ports : Ports K D M B) (given : Devices K D B) (don
     pub reads : ReadsAs (ports.story given.disk) c
     pub number : c.run < most_runs
     pub returned : length done.benches.items ≡ length given.benches.items
-    pub anyhow : (rows : Rows) → RanAnyhow script (start_of script c rows) done.history.items failed (ports.story given.disk).moment ((ports.story given.disk).faults + (ports.story given.disk).read_faults) (ports.story done.disk)
+    pub anyhow : (rows : Rows) → RanAnyhow script (start_of script c rows) done.history.items failed (ports.story given.disk).moment ((ports.story given.disk).faults + (ports.story given.disk).read_faults) (ports.story done.disk) (ports.held given.out) (ports.held done.out)
     pub benches : (rows : Rows) → HasBenchCounts ports.bench_faults (ports.story done.disk) script (begins (start_of script c rows)) done.history.items given.benches.items done.benches.items
     pub answers : (rows : Rows) → IsSoundStore ports.bytes (ports.story given.disk) c rows → AnswersFromTheFold script (start_of script c rows) done.history.items
     pub soundly : (rows : Rows) → IsSoundStore ports.bytes (ports.story given.disk) c rows → (ports.story done.disk).moment < last
