@@ -3,7 +3,8 @@ use Rattle.std.proofs.Common.{◌≡◌, ℕ, List, [], ◌∷◌, append-nil, t
 use Rattle.std.specs.Prelude.{IfErr, IfOk, OnErr, OnOk, Result}
 use Rattle.std.specs.List.{AllByRecursion}
 use Rattle.mesa_answer.specs.Answering.{KeepsSums}
-use Rattle.mesa_completing.specs.mesa_asking.Closing.{IsPageOf as IsClosedWith, IsToClose, cause_if}
+use Rattle.mesa_completing.specs.mesa_asking.Closing.{IsPageOf as IsClosedWith, IsSomePageOf, IsToClose, cause_if}
+use Rattle.mesa_completing.specs.mesa_asking.Opening.{IsHeaded}
 use Rattle.mesa_filter.specs.declared.words.QueryWords.{QueryWords}
 use Rattle.mesa_delta.specs.declared.error.FileError.{FileError}
 use Rattle.mesa_delta.specs.declared.error.FileError.TheVariants as file_error
@@ -73,8 +74,17 @@ module _ {R : Type 0} (bytes : R → Option (List ℕ)) where
         let text_is : text ≡ rendered answer.heading answer.page = printed ∙ (λ i. rendered (heading i) (page_is i)) in
         (text_is, sym tells.at)
 
+    -- and on any store it is under the answer's heading, at its version
+    told_some : (answered : Result Rendered FileError) (answer : Answer) → HasAnswered bytes faults p answered → IsHeaded p.query p.version answer → IsSomePageOf answered p.version answer
+    told_some (Err e) answer has headed = tt
+    told_some (Ok text) answer has headed =
+        let (s, pinned, found) = has in
+        let (page, over, printed) = found in
+        let heading : heading_in p.query ≡ answer.heading = sym headed.heading in
+        (page, printed ∙ (λ i. rendered (heading i) page), sym headed.at)
+
     pub to_close : (script : Script) (from : Rows → State) (sound : Rows → Type 0) (h : List Entry) (session number : ℕ) (answered : Result Rendered FileError) → IsOpenQuery script from h session number p.at (λ past. Tells sound (known_pin bytes p))
-        → HasAnswered bytes faults p answered → (w : Rows) → IsToClose script (run_at script (from w) h) session number p.at (λ (answer : Answer). sound w → IsClosedWith answered p.version answer)
+        → HasAnswered bytes faults p answered → (w : Rows) → IsToClose script (run_at script (from w) h) session number p.at (λ (answer : Answer). IsSomePageOf answered p.version answer × (sound w → IsClosedWith answered p.version answer))
     to_close script from sound h session number answered is has w =
         let o = is.opened w in
         record {
@@ -82,7 +92,7 @@ module _ {R : Type 0} (bytes : R → Option (List ℕ)) where
           opened = record {
             answer = o.answer;
             due = o.due;
-            told = λ ok. told_page answered o.answer has (o.told ok);
+            told = (told_some answered o.answer has o.told.0, λ ok. told_page answered o.answer has (o.told.1 ok));
           };
         }
 
@@ -110,7 +120,7 @@ module _ {R : Type 0} (bytes : R → Option (List ℕ)) where
   -- ---- the first turn
 
   module _ (script : Script) (from : Rows → State) (sound : Rows → Type 0) (old new : Shown) (session number : ℕ) (words : QueryWords) where
-    pub takes_query : (result : Result (Pinned R) Reply) → IfOk result (λ p. IsOpen script from new.history session number words p.at (λ w answer. sound w → TellsOf bytes p answer)) → IfOk result (λ p. (s : Columns) × IsPinned bytes s p)
+    pub takes_query : (result : Result (Pinned R) Reply) → IfOk result (λ p. IsOpen script from new.history session number words p.at (λ w answer. IsHeaded p.query p.version answer × (sound w → TellsOf bytes p answer))) → IfOk result (λ p. (s : Columns) × IsPinned bytes s p)
         → OnOk result (IsTurn old new session number kind.Decide) → IsSeen script (from no_rows) new → OnOk result (old.running ≡ true) → OnErr result (Takes script (from no_rows) old new session number kind.Decide Finished)
         → TakesQuery bytes script from (λ past. Tells sound) old new session number result
     takes_query (Ok p) opened pinned turn seen ran over = (

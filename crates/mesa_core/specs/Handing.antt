@@ -14,13 +14,14 @@ use Rattle.mesa_granted.specs.Known.{AllHaveRange, IsKnownOf, lineage_in}
 use Rattle.mesa_schema.specs.Changes.{columns_of}
 use Rattle.mesa_schema.specs.Lineages.{IsLineage}
 use Rattle.mesa_skeleton.specs.Rows.{Rows, no_rows}
+use Rattle.mesa_completing.specs.mesa_asking.Opening.{IsHeaded}
 use Rattle.mesa_completing.specs.mesa_pinning.Told.{TellAnswer}
 use Rattle.mesa_granted.specs.mesa_service.Pins.{KnownPin}
 use Rattle.mesa_granted.specs.mesa_service.Works.{KnownTask}
 
--- What a query's files tell of its answer: all of it where the store was sound.
+-- What a query's files tell of its answer: its version and its heading on every store, and all of it where the store was sound.
 abbrev pub Tells : (Rows → Type 0) → KnownPin → Rows → Answer → Type 0
-Tells sound k w answer = sound w → TellAnswer k.query k.version k.view k.files k.own answer
+Tells sound k w answer = IsHeaded k.query k.version answer × (sound w → TellAnswer k.query k.version k.view k.files k.own answer)
 
 -- the tables after a history
 abbrev pub store_after : Script → (Rows → State) → List Entry → Store

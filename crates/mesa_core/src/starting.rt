@@ -12,7 +12,7 @@ ghost use Rattle.mesa_ledger.specs.Vault.{outset_of};
 ghost use Rattle.mesa_engine.specs.mesa_metadata.Memory.{opened_ledger};
 ghost use Rattle.mesa_passes.specs.Passes.{turns_of as turns_in};
 ghost use Rattle.mesa_skeleton.specs.Rows.{Rows};
-ghost use Rattle.mesa_walk.specs.Printing.{IsPrinted};
+ghost use Rattle.mesa_walk.specs.Printing.{IsPrinted, IsPrintedButRows};
 ghost use Rattle.mesa_walk.specs.Turns.{faults_of};
 ghost use Rattle.mesa_walk.specs.Undamaged.{NoneDamaged};
 ghost use Rattle.mesa_walk.specs.Walk.{AllFound, HasCounted, faults_in, run_at};
@@ -97,6 +97,9 @@ impl<'s, N: Naming, M: Made, D: Disk<M>, K: Sink> Vault<'s, N, M, D, K> {
         ensures counts { (w : Rows) → HasCounted N.counted (D.story result.0) (faults_in (outset_of (starts_of N.script N.start N.sound N.origin N.since N.counted N.at_start) w) result.2.items) }
         ensures failed { self.entry.shown.running ≡ false → Rose N.sink_faults (K.faults result.1) }
         ensures whole { self.entry.shown.running ≡ true → K.faults result.1 ≡ N.sink_faults }
+
+        // On every store what was printed is the history's blocks, but for the rows of pages.
+        ensures blocks { (w : Rows) → IsPrintedButRows N.script (begins (N.start w)) result.2.items self.entry.shown.running N.at_start (K.held result.1) }
 
         // On a sound store no entry met damage.
         ensures undamaged { (w : Rows) → N.sound w → NoneDamaged result.2.items }

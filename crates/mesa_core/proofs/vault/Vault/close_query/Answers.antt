@@ -26,7 +26,7 @@ close_query-requires-clause-read g c κs within = has_failed g.D.Reader.FileRead
 pub close_query-requires-clause-undamaged : goal.close_query-requires-clause-undamaged
 close_query-requires-clause-undamaged g c κs within w ok =
     let o = c.requires.open.opened w in
-    none_damaged g.D.Reader.FileReader.bytes g.D.Reader.FileReader.faults c.args.pinned c.args.answer o.answer c.requires.answer (o.told ok)
+    none_damaged g.D.Reader.FileReader.bytes g.D.Reader.FileReader.faults c.args.pinned c.args.answer o.answer c.requires.answer (o.told.1 ok)
 
 pub returns-clause-disk : goal.returns-clause-disk
 returns-clause-disk g c =
