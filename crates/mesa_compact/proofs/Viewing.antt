@@ -18,7 +18,7 @@ use Rattle.mesa_merge.specs.Inputs.{AreInputs as AreMergeable}
 use Rattle.mesa_tasks.specs.GivingBack.{own_inputs}
 use Rattle.mesa_tasks.specs.Inputs.{AreInputsTo, AreInputsOf, IsMergeOf}
 use Rattle.mesa_tasks.specs.Made.{IsMadeFile}
-use Rattle.mesa_tasks.specs.Serials.{Drafts, next_serials}
+use Rattle.mesa_tasks.specs.Serials.{Drafts, after_drafts, next_serials}
 use Rattle.mesa_tasks.specs.Tasks.{AreMergedViews, AreTaskViews, HasOwn, IsMergedView, MergeOnlyTo}
 use Rattle.mesa_tasks.specs.declared.made.MadeFile.{MadeFile}
 use Rattle.mesa_tasks.specs.declared.made.MadeView.{MadeView}
@@ -28,7 +28,6 @@ use Rattle.mesa_answer.specs.declared.groups.Groups.{Groups}
 use Rattle.mesa_compact.specs.Bounded.{AreBounded, AreOwnBounded}
 use Rattle.mesa_compact.specs.Grouping.{wanted_in}
 use Rattle.mesa_compact.specs.Sources.{AreSources, HasFiles, IsSourceOf}
-use Rattle.mesa_compact.specs.Tasks.{after_drafts}
 use Rattle.mesa_compact.specs.Writing.{HasCauses}
 use Rattle.mesa_compact.proofs.Causing.{caused_left, caused_right}
 

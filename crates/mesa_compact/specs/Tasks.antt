@@ -1,10 +1,10 @@
 -- Tasks that come back as they were, with the files that were made.
-use Rattle.std.specs.Prelude.{◌≡◌, ◌⊎◌, ℕ, zero, suc, ◌+◌, List, map, slice_get, Option, Some, None, option_map}
+use Rattle.std.specs.Prelude.{◌≡◌, ◌⊎◌, ℕ, ◌+◌, List, map, slice_get, Option, Some, None, option_map}
 use Rattle.mesa_file.specs.declared.damage.Damage.{Damage}
 use Rattle.mesa_delta.specs.declared.input.Input.{Input}
 use Rattle.mesa_merge.specs.Inputs.{Known, knowns_of}
 use Rattle.mesa_tasks.specs.GivingBack.{own_inputs}
-use Rattle.mesa_tasks.specs.Serials.{Drafts, drawn, next_serials}
+use Rattle.mesa_tasks.specs.Serials.{Drafts, after_drafts, drawn}
 use Rattle.mesa_tasks.specs.declared.made.MadeFiles.{MadeFiles}
 use Rattle.mesa_tasks.specs.declared.made.MadeView.{MadeView}
 use Rattle.mesa_tasks.specs.declared.merging.Task.{Task}
@@ -31,11 +31,6 @@ pub record IsSameTask {R : Type 0} (bytes : R → Option (List ℕ)) (old new : 
   pub damage : new.damage ≡ old.damage
   pub inputs : knowns_of bytes new.inputs.items ≡ knowns_of bytes old.inputs.items
   pub views : known_views bytes new.views.items ≡ known_views bytes old.views.items
-
--- the ids of a session after so many drafts
-abbrev pub after_drafts : ℕ → Drafts → Drafts
-after_drafts zero d = d
-after_drafts (suc n) d = next_serials (after_drafts n d)
 
 -- The files of a merged range have the ids of the next drafts: the table's the first, and then the views' by their numbers.
 pub record AreNumbered {M : Type 0} (id_of : M → ℕ) (d : Drafts) (made : MadeFiles M) : Type 0 where

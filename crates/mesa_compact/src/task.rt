@@ -8,9 +8,10 @@ ghost use Rattle.mesa_merge.specs.Inputs.{knowns_of};
 ghost use Rattle.mesa_tasks.specs.GivingBack.{own_inputs, task_inputs};
 ghost use Rattle.mesa_tasks.specs.Inputs.{AreInputsOf, IsMergeOf};
 ghost use Rattle.mesa_tasks.specs.Made.{IsMadeFile};
+ghost use Rattle.mesa_tasks.specs.Serials.{after_drafts};
 ghost use Rattle.mesa_tasks.specs.Tasks.{AreMergedViews, AreTaskViews, IsMerged, IsTask};
 ghost use Rattle.mesa_compact.specs.Bounded.{AreBounded, AreViewsBounded, IsBounded};
-ghost use Rattle.mesa_compact.specs.Tasks.{AreNumbered, IsFilesDamage, IsSameTask, IsTaskDamage, after_drafts, known_views};
+ghost use Rattle.mesa_compact.specs.Tasks.{AreNumbered, IsFilesDamage, IsSameTask, IsTaskDamage, known_views};
 ghost use Rattle.mesa_compact.specs.Writing.{HasCauses, damaged_by};
 
 use crate::files::{merged_file, newest_of};

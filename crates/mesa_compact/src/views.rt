@@ -11,7 +11,7 @@ ghost use Rattle.mesa_merge.specs.Sums.{sum_damage};
 ghost use Rattle.mesa_tasks.specs.GivingBack.{own_inputs};
 ghost use Rattle.mesa_tasks.specs.Inputs.{IsMergeOf};
 ghost use Rattle.mesa_tasks.specs.Made.{IsMadeFile};
-ghost use Rattle.mesa_tasks.specs.Serials.{drawn, next_serials};
+ghost use Rattle.mesa_tasks.specs.Serials.{after_drafts, drawn, next_serials};
 ghost use Rattle.mesa_tasks.specs.Tasks.{AreMergedViews, AreTaskViews, HasOwn, IsMergedView};
 ghost use Rattle.mesa_tasks.specs.declared.made.MadeView.{MadeView as AnyMade};
 ghost use Rattle.mesa_answer.specs.Answering.{KeepsSums};
@@ -19,7 +19,7 @@ ghost use Rattle.mesa_compact.specs.Bounded.{AreOwnBounded, AreViewsBounded};
 ghost use Rattle.mesa_compact.specs.Damaged.{IsMergeDamage};
 ghost use Rattle.mesa_compact.specs.Grouping.{HasPutIn, HavePut, wanted_in};
 ghost use Rattle.mesa_compact.specs.Sources.{AreSources, HasFiles, IsSourceOf};
-ghost use Rattle.mesa_compact.specs.Tasks.{IsViewDamage, after_drafts, known_view, known_views};
+ghost use Rattle.mesa_compact.specs.Tasks.{IsViewDamage, known_view, known_views};
 ghost use Rattle.mesa_compact.specs.Writing.{HasCauses, damaged_by};
 
 use crate::files::merged_file;

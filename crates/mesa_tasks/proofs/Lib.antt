@@ -1,3 +1,4 @@
 mod Counts
 mod Retired
 mod Openings
+mod Drafts

@@ -1,5 +1,5 @@
 -- Batches whose files are written.
-use Rattle.std.specs.Prelude.{◌≡◌, ℕ, ◌+◌, List, [], ◌∷◌, ◌++◌, Bool, true, false, nat_le, Option, Some, None, Result, Ok, Err, IsOk, ⊤}
+use Rattle.std.specs.Prelude.{◌≡◌, ℕ, ◌+◌, List, [], ◌∷◌, ◌++◌, map, flat_map, Bool, true, false, nat_le, Option, Some, None, Result, Ok, Err, IsOk, ⊤}
 use Rattle.std.specs.List.{list_any}
 use Rattle.mesa_schema.specs.declared.rows.Row.{Row}
 use Rattle.mesa_schema.specs.Columns.{aggs_of}
@@ -11,7 +11,9 @@ use Rattle.mesa_batch.specs.Totals.{abs_totals, capped, sum_bound}
 use Rattle.mesa_batch.specs.declared.words.BatchError.{BatchError}
 use Rattle.mesa_batch.specs.declared.words.RowWords.{RowWords}
 use Rattle.mesa_tasks.specs.Made.{AreMadeFiles}
+use Rattle.mesa_tasks.specs.declared.made.MadeFile.{MadeFile}
 use Rattle.mesa_tasks.specs.declared.made.MadeFiles.{MadeFiles}
+use Rattle.mesa_tasks.specs.declared.made.MadeView.{MadeView}
 use Rattle.mesa_tasks.specs.declared.prepared.LoadError.{LoadError}
 use Rattle.mesa_tasks.specs.declared.prepared.LoadError.TheVariants as load
 use Rattle.mesa_tasks.specs.declared.prepared.Prepared.{Prepared}
@@ -82,3 +84,19 @@ IsUnprepared batch load.Memory = ⊤
 abbrev pub HasPrepared : {M : Type 0} → (M → Option (List ℕ)) → (M → ℕ) → Sight → List RowWords → Result (Prepared M) LoadError → Type 0
 HasPrepared bytes id_of sight rows (Ok p) = (batch : List Placed) × (batch_of (tables_of sight) rows ≡ Ok batch) × IsPrepared bytes id_of sight batch p
 HasPrepared bytes id_of sight rows (Err e) = IsUnprepared (batch_of (tables_of sight) rows) e
+
+-- the ids of files, in their order
+abbrev pub made_ids : {M : Type 0} → (M → ℕ) → List (MadeFile M) → List ℕ
+made_ids {M = M} id_of files = map (λ (f : MadeFile M). id_of f.made) files
+
+abbrev pub view_ids : {M : Type 0} → (M → ℕ) → List (MadeView M) → List ℕ
+view_ids {M = M} id_of views = map (λ (v : MadeView M). id_of v.file.made) views
+
+-- of a part's files: the table's, and then its views'
+abbrev pub files_ids : {M : Type 0} → (M → ℕ) → Option (MadeFiles M) → List ℕ
+files_ids id_of None = []
+files_ids id_of (Some made) = id_of made.file.made ∷ view_ids id_of made.views.items
+
+-- of a batch's files, part by part
+abbrev pub batch_ids : {M : Type 0} → (M → ℕ) → List (PreparedPart M) → List ℕ
+batch_ids {M = M} id_of parts = flat_map (λ (part : PreparedPart M). files_ids id_of part.files) parts

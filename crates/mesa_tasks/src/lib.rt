@@ -15,4 +15,4 @@ pub use merging::{CompactError, NewDelta, Task, TaskView};
 pub use opening::{Met, Opened, Unopened, Wanted, open_all, open_one};
 pub use prepared::{LoadError, Prepared, PreparedPart};
 pub use querying::{Pinned, PinnedInput};
-pub use serials::Serials;
+pub use serials::{Serials, draws_differ};

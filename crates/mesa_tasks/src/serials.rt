@@ -1,6 +1,6 @@
 // The ids of a session's drafts.
-ghost use Rattle.std.specs.Prelude.{◌≡◌, ◌^◌, ◌<◌};
-ghost use Rattle.mesa_tasks.specs.Serials.{drawn, next_serials};
+ghost use Rattle.std.specs.Prelude.{◌≡◌, ◌+◌, ◌^◌, ◌<◌, ℕ};
+ghost use Rattle.mesa_tasks.specs.Serials.{AreSerials, Drafts as AnyDrafts, after_drafts, drawn, next_serials};
 
 use mesa_file::FileId;
 use std::marker::Model;
@@ -46,3 +46,10 @@ impl Serials {
         FileId::new(self.run, self.session, serial)
     }
 }
+
+/// No two draws agree: of one session's ids as long as their serial numbers don't come again, and of two sessions, or of
+/// two runs, ever.
+pub fn draws_differ()
+    ensures own { (d : AnyDrafts) (i n : ℕ) → AreSerials d → 0 < n → n < 2 ^ 32 → drawn (after_drafts (i + n) d) ≡ drawn (after_drafts i d) → ⊥ }
+    ensures others { (d e : AnyDrafts) (i j : ℕ) → AreSerials d → AreSerials e → drawn (after_drafts i d) ≡ drawn (after_drafts j e) → (d.run ≡ e.run) × (d.session ≡ e.session) }
+{}

@@ -8,7 +8,7 @@ use Rattle.mesa_merge.specs.Inputs.{knowns_of}
 use Rattle.mesa_merge.specs.Inputs.{AreInputs as AreMergeable}
 use Rattle.mesa_merge.proofs.Handing.{refill}
 use Rattle.mesa_tasks.specs.GivingBack.{own_inputs}
-use Rattle.mesa_tasks.specs.Serials.{Drafts, drawn}
+use Rattle.mesa_tasks.specs.Serials.{Drafts, after_drafts, drawn}
 use Rattle.mesa_delta.specs.declared.input.Input.{Input}
 use Rattle.mesa_answer.specs.Answering.{KeepsSums}
 use Rattle.mesa_tasks.specs.Inputs.{IsMergeOf}
@@ -19,7 +19,6 @@ use Rattle.mesa_compact.specs.Damaged.{IsNewestOf}
 use Rattle.mesa_compact.specs.Tasks.{IsFilesDamage}
 use Rattle.mesa_compact.specs.Grouping.{HavePut, wanted_in}
 use Rattle.mesa_compact.specs.Sources.{ArePlaces, AreSeen, AreSources}
-use Rattle.mesa_compact.specs.Tasks.{after_drafts}
 use Rattle.mesa_compact.proofs.Causing.{caused_memory}
 use Rattle.mesa_compact.proofs.Viewing.{drafts_more, drafts_more_of, mergeable, of_table, sources_kept, table_kept, views_count}
 use Rattle.mesa_compact.proofs.task.merge_files.Goals as goal

@@ -3,12 +3,12 @@ use Rattle.std.proofs.lemmas.List.{get_or-set_other}
 use Rattle.std.specs.Prelude.{slice_get, Some}
 use Rattle.mesa_schema.specs.declared.views.View.{View}
 use Rattle.mesa_schema.specs.Changes.{columns_of}
-use Rattle.mesa_tasks.specs.Serials.{drawn, next_serials}
+use Rattle.mesa_tasks.specs.Serials.{after_drafts, drawn, next_serials}
 use Rattle.mesa_tasks.specs.Tasks.{IsMergedView}
 use Rattle.mesa_tasks.specs.declared.made.MadeView.{MadeView}
 use Rattle.mesa_tasks.specs.declared.merging.TaskView.{TaskView}
 use Rattle.mesa_compact.specs.Grouping.{HasPutIn}
-use Rattle.mesa_compact.specs.Tasks.{KnownView, after_drafts, known_view}
+use Rattle.mesa_compact.specs.Tasks.{KnownView, known_view}
 use Rattle.mesa_compact.proofs.Causing.{caused_memory, caused_ok, caused_on}
 use Rattle.mesa_compact.proofs.Putting.{map_set}
 use Rattle.mesa_compact.proofs.Viewing.{all_merged, all_some, caused_view, drop_some, get_some, set_some, some_pushed, drafts_more, view_known, views_count, views_set}
