@@ -1,6 +1,7 @@
 -- Parts that get their files one after another.
-use Rattle.std.proofs.Common.{◌≡◌, ℕ, ◌+◌, List, [], ◌∷◌, ◌++◌, Bool, length, flat_map, refl, sym, subst, ◌∙◌, arith, append_assoc, append-nil, Option}
-use Rattle.mesa_tasks.specs.Batches.{AreParts, HasFiles, IsPart, Share}
+use Rattle.std.proofs.Common.{◌≡◌, ℕ, ◌+◌, List, [], ◌∷◌, ◌++◌, Bool, true, false, length, ap, flat_map, refl, sym, subst, ◌∙◌, arith, append_assoc, append-nil, Option}
+use Rattle.std.proofs.lemmas.List.{map-append}
+use Rattle.mesa_tasks.specs.Batches.{AreParts, HasFiles, IsPart, Share, batch_ids, files_ids, made_ids, view_ids}
 use Rattle.mesa_tasks.specs.Made.{AreMadeViews, Content, IsMadeFile}
 use Rattle.mesa_tasks.specs.declared.made.MadeFile.{MadeFile}
 use Rattle.mesa_tasks.specs.declared.made.MadeView.{MadeView}
@@ -47,6 +48,38 @@ module _ {M : Type 0} (bytes : M → Option (List ℕ)) (id_of : M → ℕ) wher
             planned = planned.1;
             there = taken.1;
           }
+
+  -- no file is left
+  pub none_left : (over : Bool) (shares : List Share) (parts : List (PreparedPart M)) (left : List Planned) (files : List (MadeFile M)) → left ≡ [] → AreFiled bytes id_of over shares parts left files → files ≡ []
+  none_left over shares parts left files none h = by over h.rest files (subst (ArePlanned h.rest) none h.planned) h.there
+    where
+      by : (over : Bool) (rest : List Share) (files : List (MadeFile M)) → ArePlanned rest [] → HaveFiles bytes id_of over (flat_map contents_of rest) files → files ≡ []
+      by true [] files planned there = there
+      by false [] [] planned there = refl
+      by false [] (f ∷ fs) planned there = absurd there
+      by over (s ∷ ss) files planned there = absurd planned
+
+  -- the ids of the files that stand first, and of those behind them
+  pub ids_next : (all : List ℕ) (parts : List (PreparedPart M)) (part : PreparedPart M) (files more : List (MadeFile M)) → batch_ids id_of parts ++ made_ids id_of files ≡ all → files_ids id_of part.files ++ made_ids id_of more ≡ made_ids id_of files
+      → batch_ids id_of (parts ++ part ∷ []) ++ made_ids id_of more ≡ all
+  ids_next all parts part files more so_far next =
+      ap (λ (is : List ℕ). is ++ made_ids id_of more) (batch_more parts part)
+      ∙ append_assoc (batch_ids id_of parts) (files_ids id_of part.files) (made_ids id_of more)
+      ∙ ap (λ (is : List ℕ). batch_ids id_of parts ++ is) next
+      ∙ so_far
+    where
+      batch_more : (ps : List (PreparedPart M)) (p : PreparedPart M) → batch_ids id_of (ps ++ p ∷ []) ≡ batch_ids id_of ps ++ files_ids id_of p.files
+      batch_more [] p = append-nil (files_ids id_of p.files)
+      batch_more (q ∷ ps) p = ap (λ (is : List ℕ). files_ids id_of q.files ++ is) (batch_more ps p) ∙ sym (append_assoc (files_ids id_of q.files) (batch_ids id_of ps) (files_ids id_of p.files))
+
+  pub views_next : (all : List ℕ) (views more : List (MadeView M)) (one : MadeView M) (files left : List (MadeFile M)) → view_ids id_of views ++ made_ids id_of files ≡ all → files ≡ one.file ∷ left → more ≡ views ++ one ∷ []
+      → view_ids id_of more ++ made_ids id_of left ≡ all
+  views_next all views more one files left so_far first added =
+      ap (λ (vs : List (MadeView M)). view_ids id_of vs ++ made_ids id_of left) added
+      ∙ ap (λ (is : List ℕ). is ++ made_ids id_of left) (map-append (λ (v : MadeView M). id_of v.file.made) views (one ∷ []))
+      ∙ append_assoc (view_ids id_of views) (id_of one.file.made ∷ []) (made_ids id_of left)
+      ∙ ap (λ (fs : List (MadeFile M)). view_ids id_of views ++ made_ids id_of fs) (sym first)
+      ∙ so_far
 
   -- all of them
   pub filed_all : (over : Bool) (shares : List Share) (parts : List (PreparedPart M)) (left : List Planned) (files : List (MadeFile M)) → left ≡ [] → AreFiled bytes id_of over shares parts left files → AreParts bytes id_of over shares parts

@@ -1,20 +1,13 @@
 -- Files that are kept one after another.
 use Rattle.std.proofs.Common.{◌≡◌, ℕ, ◌≤◌, List, [], ◌∷◌, ◌++◌, map, Ok, Err, sym, ap, subst, ◌∙◌, arith, append_assoc}
 use Rattle.std.specs.Prelude.{Result, IfErr, OnOk}
-use Rattle.std.specs.Result.{result_and}
 use Rattle.std.proofs.lemmas.List.{map-append}
 use Rattle.mesa_tasks.specs.declared.made.MadeFile.{MadeFile}
 use Rattle.mesa_tasks.specs.declared.prepared.LoadError.{LoadError}
 use Rattle.mesa_tasks.specs.declared.prepared.LoadError.TheVariants as load
-use Rattle.mesa_load.specs.Collected.{IsKept, IsUnwritten, finished}
+use Rattle.mesa_load.specs.Collected.{IsKept, IsUnwritten, finished, graver}
 use Rattle.mesa_load.specs.declared.building.Progress.{Progress}
 use Rattle.mesa_load.specs.declared.building.Progress.TheVariants as progress
-
--- a cause stays one
-unwritten_later : (a b d : ℕ) (e : LoadError) → b ≤ d → IsUnwritten a b e → IsUnwritten a d e
-unwritten_later a b d (load.Batch refusal) later h = h
-unwritten_later a b d load.Draft later h = omega (arith, later, h)
-unwritten_later a b d load.Memory later h = tt
 
 module _ {M T : Type 0} where
   one_more : (written : List (Progress M T)) (files more : List (MadeFile M)) (file : Progress M T) (left : List (Progress M T))
@@ -29,19 +22,28 @@ module _ {M T : Type 0} where
 
   -- the files with one more are those of one draft more
   pub kept_more : {A : Type 0} (written : List (Progress M T)) (so_far next : Result A LoadError) (files more : List (MadeFile M)) (file : Progress M T) (left : List (Progress M T))
-      → OnOk so_far (written ≡ map finished files ++ file ∷ left) → OnOk next (IsKept files file more) → OnOk (result_and so_far next) (written ≡ map finished more ++ left)
-  kept_more written (Err e) next files more file left was kept = tt
+      → OnOk so_far (written ≡ map finished files ++ file ∷ left) → OnOk next (IsKept files file more) → OnOk (graver so_far next) (written ≡ map finished more ++ left)
+  kept_more written (Err (load.Batch r)) next files more file left was kept = tt
+  kept_more written (Err load.Draft) next files more file left was kept = tt
+  kept_more written (Err load.Memory) (Ok y) files more file left was kept = tt
+  kept_more written (Err load.Memory) (Err e) files more file left was kept = tt
   kept_more written (Ok x) (Err e) files more file left was kept = tt
   kept_more written (Ok x) (Ok y) files more file left was kept = one_more written files more file left was kept
 
 -- nothing failed so far, and nothing does now
-pub quiet_more : {A : Type 0} (so_far next : Result A LoadError) (first before now : ℕ) → OnOk so_far (before ≡ first) → OnOk next (now ≡ before) → OnOk (result_and so_far next) (now ≡ first)
-quiet_more (Err e) next first before now was is = tt
+pub quiet_more : {A : Type 0} (so_far next : Result A LoadError) (first before now : ℕ) → OnOk so_far (before ≡ first) → OnOk next (now ≡ before) → OnOk (graver so_far next) (now ≡ first)
+quiet_more (Err (load.Batch r)) next first before now was is = tt
+quiet_more (Err load.Draft) next first before now was is = tt
+quiet_more (Err load.Memory) (Ok y) first before now was is = tt
+quiet_more (Err load.Memory) (Err e) first before now was is = tt
 quiet_more (Ok x) (Err e) first before now was is = tt
 quiet_more (Ok x) (Ok y) first before now was is = is ∙ was
 
--- the first error stays
-pub refused_more : {A : Type 0} (so_far next : Result A LoadError) (first before now : ℕ) → OnOk so_far (before ≡ first) → IfErr so_far (IsUnwritten first before) → before ≤ now → IfErr next (IsUnwritten before now)
-    → IfErr (result_and so_far next) (IsUnwritten first now)
-refused_more (Err e) next first before now quiet refused later one = unwritten_later first before now e later refused
-refused_more (Ok x) next first before now quiet refused later one = subst (λ (n : ℕ). IfErr next (IsUnwritten n now)) quiet one
+-- a draft's fault stays, and want of memory does as long as no draft fails
+pub refused_more : {A : Type 0} (so_far next : Result A LoadError) (first before now : ℕ) → OnOk so_far (before ≡ first) → IfErr so_far (IsUnwritten first before) → before ≤ now → OnOk next (now ≡ before) → IfErr next (IsUnwritten before now)
+    → IfErr (graver so_far next) (IsUnwritten first now)
+refused_more (Err (load.Batch r)) next first before now quiet refused later same one = refused
+refused_more (Err load.Draft) next first before now quiet refused later same one = omega (arith, later, refused)
+refused_more (Err load.Memory) (Ok x) first before now quiet refused later same one = same ∙ refused
+refused_more (Err load.Memory) (Err e) first before now quiet refused later same one = subst (λ (n : ℕ). IsUnwritten n now e) refused one
+refused_more (Ok x) next first before now quiet refused later same one = subst (λ (n : ℕ). IfErr next (IsUnwritten n now)) quiet one

@@ -1,42 +1,74 @@
 -- Files that were written side by side, one beside another.
-use Rattle.std.proofs.Common.{◌≡◌, ℕ, zero, suc, ◌<◌, List, [], ◌∷◌, Option, length, map, slice_index_or, take, drop, ◌++◌, sym, ap, ◌∙◌, arith}
+use Rattle.std.proofs.Common.{◌≡◌, ℕ, zero, suc, ◌<◌, List, [], ◌∷◌, Option, length, map, slice_index_or, take, drop, ◌++◌, refl, sym, ap, subst, ◌∙◌, arith}
 use Rattle.std.specs.List.{AllByRecursion}
 use Rattle.std.proofs.Math.Seq.{take-append_seam}
-use Rattle.mesa_fault.specs.Causes.{Rose}
+use Rattle.mesa_delta.specs.declared.error.WriteError.{WriteError}
+use Rattle.mesa_delta.specs.declared.error.WriteError.TheVariants as write
+use Rattle.mesa_tasks.specs.Batches.{made_ids}
+use Rattle.mesa_tasks.specs.Made.{Content}
+use Rattle.mesa_tasks.specs.Serials.{AreNext, Drafts, after_drafts, next_ids}
 use Rattle.mesa_tasks.specs.declared.made.MadeFile.{MadeFile}
 use Rattle.mesa_load.specs.Collected.{HasCause, IsBegun, finished}
-use Rattle.mesa_load.specs.Jobs.{AreDone, HasFiled, HasWritten, IsDone, IsFit, IsReady, content_in}
+use Rattle.mesa_load.specs.Jobs.{AreDone, HasFiled, HasId, HasWritten, HaveIds, IsCause, IsCounted, IsDone, IsFit, IsReady, content_in}
 use Rattle.mesa_load.specs.Plans.{AreMade}
 use Rattle.mesa_load.specs.declared.building.Job.{Job}
 use Rattle.mesa_load.specs.declared.building.Progress.{Progress}
 use Rattle.mesa_load.specs.declared.building.Progress.TheVariants as progress
 
 module _ {M T : Type 0} (bytes : M → Option (List ℕ)) (id_of : M → ℕ) (faults : T → ℕ) where
-  rose_some : (a b : ℕ) → Rose a b → 0 < b
-  rose_some a b rose = omega (arith, rose)
+  counted : (a b : ℕ) (e : WriteError) → a ≡ 0 → IsCause a b e → IsCounted e b
+  counted a b write.Draft none rose = omega (arith, none, rose)
+  counted a b write.Memory none same = same ∙ none
 
-  one_written : (job : Job) (draft : T) (after : Progress M T) → HasWritten bytes id_of faults (content_in job) draft after → IsDone bytes id_of faults job after
-  one_written job draft (progress.Finished file) h = h
-  one_written job draft (progress.Failed error left) h = λ is. rose_some (faults draft) (faults left) (h.1 is)
-  one_written job draft (progress.Begun id left) h = h
-  one_written job draft progress.Lent h = h
+  one_written : (job : Job) (id : ℕ) (draft : T) (after : Progress M T) → faults draft ≡ 0 → HasWritten bytes id_of faults (content_in job) id draft after → IsDone bytes id_of faults job after
+  one_written job id draft (progress.Finished file) none h = h.0
+  one_written job id draft (progress.Failed error left) none h = counted (faults draft) (faults left) error none h
+  one_written job id draft (progress.Begun other left) none h = h
+  one_written job id draft progress.Lent none h = h
 
-  one_done : (job : Job) (before after : Progress M T) → HasFiled bytes id_of faults job before after → IsDone bytes id_of faults job after
-  one_done job (progress.Begun id draft) after h = one_written job draft after h
-  one_done job (progress.Finished file) after h = absurd h
-  one_done job (progress.Failed error draft) after h = absurd h
-  one_done job progress.Lent after h = absurd h
+  module _ (told : T → Option (List ℕ)) (own : T → ℕ) where
+    one_done : (job : Job) (before after : Progress M T) → IsBegun told own faults before → HasFiled bytes id_of faults job before after → IsDone bytes id_of faults job after
+    one_done job (progress.Begun id draft) after begun h = one_written job id draft after begun.2 h
+    one_done job (progress.Finished file) after begun h = absurd h
+    one_done job (progress.Failed error draft) after begun h = absurd h
+    one_done job progress.Lent after begun h = absurd h
 
-  -- from place to place
-  pub all_done : (jobs : List Job) (before after : List (Progress M T)) → length before ≡ length jobs → length after ≡ length jobs
+    -- from place to place
+    pub all_done : (jobs : List Job) (before after : List (Progress M T)) → length before ≡ length jobs → length after ≡ length jobs → AllByRecursion (IsBegun told own faults) before
+        → ((i : ℕ) (j : Job) (p : Progress M T) → i < length jobs → HasFiled bytes id_of faults (slice_index_or jobs i j) (slice_index_or before i p) (slice_index_or after i p))
+        → AreDone bytes id_of faults jobs after
+    all_done [] before [] a b begun each = tt
+    all_done [] before (p ∷ ps) a b begun each = absurd (omega arith)
+    all_done (j ∷ js) [] after a b begun each = absurd (omega arith)
+    all_done (j ∷ js) (q ∷ qs) [] a b begun each = absurd (omega arith)
+    all_done (j ∷ js) (q ∷ qs) (p ∷ ps) a b begun each =
+        (one_done j q p begun.0 (each zero j p (omega arith)), all_done js qs ps (omega arith) (omega arith) begun.1 (λ i k r lt. each (suc i) k r (omega arith)))
+
+  -- a file has its draft's id
+  written_id : (content : Content) (id own : ℕ) (draft : T) (after : Progress M T) → own ≡ id → HasWritten bytes id_of faults content own draft after → HasId id_of id after
+  written_id content id own draft (progress.Finished file) is h = h.1 ∙ is
+  written_id content id own draft (progress.Failed error left) is h = tt
+  written_id content id own draft (progress.Begun other left) is h = absurd h
+  written_id content id own draft progress.Lent is h = absurd h
+
+  one_id : (job : Job) (id : ℕ) (before after : Progress M T) → HasId id_of id before → HasFiled bytes id_of faults job before after → HasId id_of id after
+  one_id job id (progress.Begun own draft) after is h = written_id (content_in job) id own draft after is h
+  one_id job id (progress.Finished file) after is h = absurd h
+  one_id job id (progress.Failed error draft) after is h = absurd h
+  one_id job id progress.Lent after is h = absurd h
+
+  pub all_ids : (jobs : List Job) (ids : List ℕ) (before after : List (Progress M T)) → length before ≡ length jobs → length after ≡ length jobs → HaveIds id_of ids before
       → ((i : ℕ) (j : Job) (p : Progress M T) → i < length jobs → HasFiled bytes id_of faults (slice_index_or jobs i j) (slice_index_or before i p) (slice_index_or after i p))
-      → AreDone bytes id_of faults jobs after
-  all_done [] before [] a b each = tt
-  all_done [] before (p ∷ ps) a b each = absurd (omega arith)
-  all_done (j ∷ js) [] after a b each = absurd (omega arith)
-  all_done (j ∷ js) (q ∷ qs) [] a b each = absurd (omega arith)
-  all_done (j ∷ js) (q ∷ qs) (p ∷ ps) a b each =
-      (one_done j q p (each zero j p (omega arith)), all_done js qs ps (omega arith) (omega arith) (λ i k r lt. each (suc i) k r (omega arith)))
+      → HaveIds id_of ids after
+  all_ids [] [] before [] a b was each = tt
+  all_ids [] (id ∷ ids) [] after a b was each = absurd was
+  all_ids [] (id ∷ ids) (q ∷ qs) after a b was each = absurd (omega arith)
+  all_ids [] [] before (p ∷ ps) a b was each = absurd (omega arith)
+  all_ids (j ∷ js) ids [] after a b was each = absurd (omega arith)
+  all_ids (j ∷ js) ids (q ∷ qs) [] a b was each = absurd (omega arith)
+  all_ids (j ∷ js) [] (q ∷ qs) (p ∷ ps) a b was each = absurd was
+  all_ids (j ∷ js) (id ∷ ids) (q ∷ qs) (p ∷ ps) a b was each =
+      (one_id j id q p was.0 (each zero j p (omega arith)), all_ids js ids qs ps (omega arith) (omega arith) was.1 (λ i k r lt. each (suc i) k r (omega arith)))
 
   pub done_causes : (jobs : List Job) (after : List (Progress M T)) → AreDone bytes id_of faults jobs after → AllByRecursion (HasCause faults) after
   done_causes jobs [] all = tt
@@ -52,8 +84,28 @@ module _ {M T : Type 0} (bytes : M → Option (List ℕ)) (id_of : M → ℕ) (f
   done_made (j ∷ js) [] all = absurd all
   done_made (j ∷ js) (f ∷ fs) all = (all.0, done_made js fs all.1)
 
-module _ {M T : Type 0} (bytes : T → Option (List ℕ)) (id_of : T → ℕ) where
-  one_ready : (job : Job) (p : Progress M T) → IsFit job → IsBegun bytes id_of p → IsReady bytes id_of job p
+module _ {M T : Type 0} (id_of : M → ℕ) where
+  -- one draft more
+  pub ids_more : (ids : List ℕ) (ps : List (Progress M T)) (id : ℕ) (p : Progress M T) → HaveIds id_of ids ps → HasId id_of id p → HaveIds id_of (ids ++ id ∷ []) (ps ++ p ∷ [])
+  ids_more [] [] id p all one = (one, tt)
+  ids_more [] (q ∷ ps) id p all one = absurd all
+  ids_more (i ∷ ids) [] id p all one = absurd all
+  ids_more (i ∷ ids) (q ∷ ps) id p all one = (all.0, ids_more ids ps id p all.1 one)
+
+module _ {M : Type 0} (T : Type 0) (id_of : M → ℕ) where
+  -- files have just these ids
+  ids_made : (ids : List ℕ) (files : List (MadeFile M)) → HaveIds {M = M} {T = T} id_of ids (map finished files) → made_ids id_of files ≡ ids
+  ids_made [] [] all = refl
+  ids_made [] (f ∷ fs) all = absurd all
+  ids_made (i ∷ ids) [] all = absurd all
+  ids_made (i ∷ ids) (f ∷ fs) all = ap (λ (n : ℕ). n ∷ made_ids id_of fs) all.0 ∙ ap (λ (ns : List ℕ). i ∷ ns) (ids_made ids fs all.1)
+
+  -- and these are the next drafts'
+  pub next_made : (d e : Drafts) (n : ℕ) (files : List (MadeFile M)) (ps : List (Progress M T)) → ps ≡ map finished files → HaveIds id_of (next_ids n d) ps → e ≡ after_drafts n d → AreNext d e (made_ids id_of files)
+  next_made d e n files ps all have after = record { count = n; next = ids_made (next_ids n d) files (subst (HaveIds id_of (next_ids n d)) all have); after = after }
+
+module _ {M T : Type 0} (bytes : T → Option (List ℕ)) (id_of faults : T → ℕ) where
+  one_ready : (job : Job) (p : Progress M T) → IsFit job → IsBegun bytes id_of faults p → IsReady bytes id_of job p
   one_ready job (progress.Begun id draft) fit begun = (begun.0, begun.1, fit)
   one_ready job (progress.Finished file) fit begun = begun
   one_ready job (progress.Failed error draft) fit begun = begun
@@ -61,7 +113,7 @@ module _ {M T : Type 0} (bytes : T → Option (List ℕ)) (id_of : T → ℕ) wh
 
   -- each job may be done
   pub all_ready : (jobs : List Job) (drafts : List (Progress M T)) (i : ℕ) (j : Job) (p : Progress M T) → i < length jobs → length drafts ≡ length jobs
-      → AllByRecursion IsFit jobs → AllByRecursion (IsBegun bytes id_of) drafts → IsReady bytes id_of (slice_index_or jobs i j) (slice_index_or drafts i p)
+      → AllByRecursion IsFit jobs → AllByRecursion (IsBegun bytes id_of faults) drafts → IsReady bytes id_of (slice_index_or jobs i j) (slice_index_or drafts i p)
   all_ready [] drafts i j p lt same fit begun = absurd (omega arith)
   all_ready (k ∷ ks) [] i j p lt same fit begun = absurd (omega arith)
   all_ready (k ∷ ks) (d ∷ ds) zero j p lt same fit begun = one_ready k d fit.0 begun.0

@@ -1,11 +1,12 @@
 -- Files that are written side by side.
-use Rattle.std.specs.Prelude.{◌≡◌, ◌<◌, ◌≤◌, ℕ, List, [], ◌∷◌, length, slice_index_or, Option, None, Some, IfSome, ⊤}
+use Rattle.std.specs.Prelude.{◌≡◌, ◌<◌, ℕ, List, [], ◌∷◌, length, slice_index_or, Option, None, Some, IfSome, ⊤}
 use Rattle.mesa_fault.specs.Causes.{Rose}
 use Rattle.mesa_schema.specs.declared.rows.Row.{Row}
 use Rattle.mesa_schema.specs.declared.views.View.{View}
 use Rattle.mesa_schema.specs.Changes.{Lineage, columns_of}
 use Rattle.mesa_batch.specs.Gathered.{rows_at}
-use Rattle.mesa_delta.specs.declared.error.WriteError.TheVariants.{Draft as DraftFault}
+use Rattle.mesa_delta.specs.declared.error.WriteError.{WriteError}
+use Rattle.mesa_delta.specs.declared.error.WriteError.TheVariants as write
 use Rattle.mesa_tasks.specs.Made.{Content, IsMadeFile, content_of}
 use Rattle.mesa_load.specs.Filing.{AreFileRows}
 use Rattle.mesa_load.specs.declared.building.Job.{Job}
@@ -41,24 +42,34 @@ IsReady bytes id_of job (progress.Finished file) = ⊥
 IsReady bytes id_of job (progress.Failed error draft) = ⊥
 IsReady bytes id_of job progress.Lent = ⊥
 
--- what is made of a draft: the file of this content, or the draft, with the cause
-abbrev pub HasWritten : {M T : Type 0} → (M → Option (List ℕ)) → (M → ℕ) → (T → ℕ) → Content → T → Progress M T → Type 0
-HasWritten bytes id_of faults content draft (progress.Finished file) = IsMadeFile bytes id_of content file
-HasWritten bytes id_of faults content draft (progress.Failed error left) = (faults draft ≤ faults left) × (error ≡ DraftFault → Rose (faults draft) (faults left))
-HasWritten bytes id_of faults content draft (progress.Begun id left) = ⊥
-HasWritten bytes id_of faults content draft progress.Lent = ⊥
+-- Why a file isn't written: its draft failed and has counted it, or memory was wanting and the draft has counted nothing.
+abbrev pub IsCause : ℕ → ℕ → WriteError → Type 0
+IsCause before now write.Draft = Rose before now
+IsCause before now write.Memory = now ≡ before
+
+-- what is made of a draft: the file of this content, with the draft's id, or the draft, with the cause
+abbrev pub HasWritten : {M T : Type 0} → (M → Option (List ℕ)) → (M → ℕ) → (T → ℕ) → Content → ℕ → T → Progress M T → Type 0
+HasWritten bytes id_of faults content id draft (progress.Finished file) = IsMadeFile bytes id_of content file × (id_of file.made ≡ id)
+HasWritten bytes id_of faults content id draft (progress.Failed error left) = IsCause (faults draft) (faults left) error
+HasWritten bytes id_of faults content id draft (progress.Begun other left) = ⊥
+HasWritten bytes id_of faults content id draft progress.Lent = ⊥
 
 -- what is made of a job
 abbrev pub HasFiled : {M T : Type 0} → (M → Option (List ℕ)) → (M → ℕ) → (T → ℕ) → Job → Progress M T → Progress M T → Type 0
-HasFiled bytes id_of faults job (progress.Begun id draft) after = HasWritten bytes id_of faults (content_in job) draft after
+HasFiled bytes id_of faults job (progress.Begun id draft) after = HasWritten bytes id_of faults (content_in job) id draft after
 HasFiled bytes id_of faults job (progress.Finished file) after = ⊥
 HasFiled bytes id_of faults job (progress.Failed error draft) after = ⊥
 HasFiled bytes id_of faults job progress.Lent after = ⊥
 
--- What became of a job: its file, or a draft that has counted its fault.
+-- what a draft whose file isn't written has counted
+abbrev pub IsCounted : WriteError → ℕ → Type 0
+IsCounted write.Draft count = 0 < count
+IsCounted write.Memory count = count ≡ 0
+
+-- What became of a job: its file, or a draft that has counted its fault, if it met one.
 abbrev pub IsDone : {M T : Type 0} → (M → Option (List ℕ)) → (M → ℕ) → (T → ℕ) → Job → Progress M T → Type 0
 IsDone bytes id_of faults job (progress.Finished file) = IsMadeFile bytes id_of (content_in job) file
-IsDone bytes id_of faults job (progress.Failed error left) = error ≡ DraftFault → 0 < faults left
+IsDone bytes id_of faults job (progress.Failed error left) = IsCounted error (faults left)
 IsDone bytes id_of faults job (progress.Begun id draft) = ⊥
 IsDone bytes id_of faults job progress.Lent = ⊥
 
@@ -68,3 +79,17 @@ AreDone bytes id_of faults [] [] = ⊤
 AreDone bytes id_of faults [] (p ∷ ps) = ⊥
 AreDone bytes id_of faults (j ∷ js) [] = ⊥
 AreDone bytes id_of faults (j ∷ js) (p ∷ ps) = IsDone bytes id_of faults j p × AreDone bytes id_of faults js ps
+
+-- A draft's id is this one, and so is its file's.
+abbrev pub HasId : {M T : Type 0} → (M → ℕ) → ℕ → Progress M T → Type 0
+HasId id_of id (progress.Begun own draft) = own ≡ id
+HasId id_of id (progress.Finished file) = id_of file.made ≡ id
+HasId id_of id (progress.Failed error draft) = ⊤
+HasId id_of id progress.Lent = ⊤
+
+-- each of the drafts, and their files, in their order
+abbrev pub HaveIds : {M T : Type 0} → (M → ℕ) → List ℕ → List (Progress M T) → Type 0
+HaveIds id_of [] [] = ⊤
+HaveIds id_of [] (p ∷ ps) = ⊥
+HaveIds id_of (id ∷ ids) [] = ⊥
+HaveIds id_of (id ∷ ids) (p ∷ ps) = HasId id_of id p × HaveIds id_of ids ps

@@ -7,7 +7,7 @@ ghost use Rattle.mesa_batch.specs.Gathered.{rows_at};
 ghost use Rattle.mesa_load.specs.declared.building.Job.{Job as AnyJob};
 ghost use Rattle.mesa_load.specs.Collected.{HasCause, IsBegun};
 ghost use Rattle.mesa_load.specs.Filing.{AreFileRows, file_rows};
-ghost use Rattle.mesa_load.specs.Jobs.{AreDone, HasFiled, HasWritten, IsFit, IsReady, ProgressOf, content_in, view_in};
+ghost use Rattle.mesa_load.specs.Jobs.{AreDone, HasFiled, HaveIds, HasWritten, IsFit, IsReady, ProgressOf, content_in, view_in};
 ghost use Rattle.mesa_schema.specs.Changes.{columns_of};
 ghost use Rattle.mesa_schema.specs.Views.{view_columns, view_rows as content_of};
 
@@ -58,7 +58,7 @@ fn write_rows<M: Made, T: Draft<M>>(
     requires own { T.id_of draft ≡ id }
     requires some { 0 < length (file_rows rows) }
     requires rows { AreFileRows schema.now (file_rows rows) }
-    ensures { HasWritten M.bytes M.id_of T.faults (record { columns = schema.now; rows = file_rows rows.entry }) draft result }
+    ensures { HasWritten M.bytes M.id_of T.faults (record { columns = schema.now; rows = file_rows rows.entry }) id draft result }
 {
     match write_file(alloc, draft, id, schema, rows) {
         Ok(file) => Progress::Finished(file),
@@ -99,7 +99,7 @@ fn write_draft<M: Made, T: Draft<M>>(
     requires empty { (bytes : List ℕ) → T.bytes draft ≡ Some bytes → bytes ≡ [] }
     requires own { T.id_of draft ≡ id }
     requires fit { IsFit job.now }
-    ensures { HasWritten M.bytes M.id_of T.faults (content_in job.now) draft result }
+    ensures { HasWritten M.bytes M.id_of T.faults (content_in job.now) id draft result }
 {
     let evolving = job.evolving;
     let Some(view) = job.view else {
@@ -140,11 +140,12 @@ pub(crate) fn write_all<R: Threads + Sync, M: Made, T: Draft<M>>(
     mut files: Vec<Progress<M, T>>,
 ) -> Vec<Progress<M, T>>
     requires each { length files.items ≡ length jobs.now }
-    requires begun { AllByRecursion (IsBegun T.bytes T.id_of) files.items }
+    requires begun { AllByRecursion (IsBegun T.bytes T.id_of T.faults) files.items }
     requires fit { AllByRecursion IsFit jobs.now }
     ensures done { AreDone M.bytes M.id_of T.faults jobs.now result.items }
     ensures causes { AllByRecursion (HasCause T.faults) result.items }
     ensures each { length result.items ≡ length files.items }
+    ensures numbered { (ids : List ℕ) → HaveIds M.id_of ids files.items → HaveIds M.id_of ids result.items }
 {
     write_jobs(rt, alloc, jobs, &mut files);
     files

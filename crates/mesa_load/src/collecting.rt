@@ -1,14 +1,14 @@
 // What was made of the drafts of a batch.
 ghost use Rattle.std.specs.Prelude.{◌≡◌, ◌≤◌, ◌<◌, ◌+◌, [], length, map, vec_capacity, IfOk, IfErr, OnOk};
 ghost use Rattle.std.specs.List.{AllByRecursion};
-ghost use Rattle.mesa_load.specs.Collected.{HasCause, IsKept, IsUnwritten, finished};
+ghost use Rattle.mesa_load.specs.Collected.{HasCause, IsKept, IsUnwritten, finished, graver as graver_of};
 
 use crate::building::Progress;
 use mesa_disk::{Bench, Made};
 use mesa_tasks::{LoadError, MadeFile};
 use std::collections::VecDeque;
 
-/// The files of a batch in their order, in this list, which has room for them; or the first error. Each draft that isn't finished is given back.
+/// The files of a batch in their order, in this list, which has room for them; or why there are none, a draft's fault before want of memory. Each draft that isn't finished is given back.
 pub(crate) fn collect<M: Made, B: Bench<M>>(
     bench: &mut B,
     written: Vec<Progress<M, B::Draft>>,
@@ -26,11 +26,25 @@ pub(crate) fn collect<M: Made, B: Bench<M>>(
     let mut kept = Ok(());
     'files: while let Some(file) = left.pop_front() {
         let next = keep(bench, &mut files, file);
-        kept = kept.and(next);
+        kept = graver(kept, next);
     }
     left.destroy_empty();
     match kept {
         Ok(()) => Ok(files),
+        Err(error) => Err(error),
+    }
+}
+
+// The graver of two ends.
+fn graver(first: Result<(), LoadError>, next: Result<(), LoadError>) -> Result<(), LoadError>
+    ensures { result ≡ graver_of first next }
+{
+    match first {
+        Ok(()) => next,
+        Err(LoadError::Memory) => match next {
+            Ok(()) => Err(LoadError::Memory),
+            Err(error) => Err(error),
+        },
         Err(error) => Err(error),
     }
 }

@@ -1,8 +1,9 @@
 // The drafts of a batch: opened before any of its files is built, and given back where one fails.
-ghost use Rattle.std.specs.Prelude.{◌≡◌, ◌≤◌, length, IfOk, IfErr, OnOk};
+ghost use Rattle.std.specs.Prelude.{◌≡◌, ◌≤◌, ℕ, length, IfOk, IfErr, OnOk};
 ghost use Rattle.std.specs.List.{AllByRecursion};
 ghost use Rattle.mesa_load.specs.Collected.{IsBegun, IsUnwritten};
-ghost use Rattle.mesa_load.specs.Preparing.{GoOn};
+ghost use Rattle.mesa_load.specs.Jobs.{HaveIds};
+ghost use Rattle.mesa_tasks.specs.Serials.{after_drafts, next_ids};
 
 use crate::building::Progress;
 use mesa_disk::{Bench, DraftError, Made};
@@ -17,8 +18,9 @@ pub(crate) fn open_drafts<M: Made, B: Bench<M>>(
     count: usize,
 ) -> Result<Vec<Progress<M, B::Draft>>, LoadError>
     ensures count { IfOk result (λ drafts. length drafts.items ≡ count) }
-    ensures begun { IfOk result (λ drafts. AllByRecursion (IsBegun B.Draft.bytes B.Draft.id_of) drafts.items) }
-    ensures ids { GoOn ids.old ids.new }
+    ensures begun { IfOk result (λ drafts. AllByRecursion (IsBegun B.Draft.bytes B.Draft.id_of B.Draft.faults) drafts.items) }
+    ensures numbered { IfOk result (λ drafts. HaveIds M.id_of (next_ids count ids.old) drafts.items × (ids.new ≡ after_drafts count ids.old)) }
+    ensures ids { (n : ℕ) × (ids.new ≡ after_drafts n ids.old) }
     ensures later { B.faults bench.old ≤ B.faults bench.new }
     ensures quiet { OnOk result (B.faults bench.new ≡ B.faults bench.old) }
     ensures refused { IfErr result (IsUnwritten (B.faults bench.old) (B.faults bench.new)) }
@@ -43,9 +45,10 @@ pub(crate) fn open_drafts<M: Made, B: Bench<M>>(
     Ok(drafts)
 }
 
-// Gives back the drafts that are still there.
+// Gives back drafts that are empty.
 fn spoil_all<M: Made, B: Bench<M>>(bench: &mut B, mut files: Vec<Progress<M, B::Draft>>)
-    ensures { B.faults bench.old ≤ B.faults bench.new }
+    requires { AllByRecursion (IsBegun B.Draft.bytes B.Draft.id_of B.Draft.faults) files.items }
+    ensures { B.faults bench.new ≡ B.faults bench.old }
 {
     'files: while let Some(file) = files.pop() {
         spoil(bench, file);
@@ -53,9 +56,10 @@ fn spoil_all<M: Made, B: Bench<M>>(bench: &mut B, mut files: Vec<Progress<M, B::
     files.destroy_empty();
 }
 
-// Gives back the draft of a file.
+// Gives back the empty draft of a file.
 fn spoil<M: Made, B: Bench<M>>(bench: &mut B, file: Progress<M, B::Draft>)
-    ensures { B.faults bench.old ≤ B.faults bench.new }
+    requires { IsBegun B.Draft.bytes B.Draft.id_of B.Draft.faults file }
+    ensures { B.faults bench.new ≡ B.faults bench.old }
 {
     match file {
         Progress::Begun(_, draft) => bench.spoil(draft),

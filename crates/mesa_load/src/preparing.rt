@@ -1,13 +1,14 @@
 // A load's rows as a batch with its files.
-ghost use Rattle.std.specs.Prelude.{◌≡◌, ◌≢◌, ◌≤◌, List, map, Ok, Err, IfOk, IfErr, IsOk, IsTrue, OnOk, false, true};
+ghost use Rattle.std.specs.Prelude.{◌≡◌, ◌≢◌, ◌≤◌, ℕ, List, map, Ok, Err, IfOk, IfErr, IsOk, IsTrue, OnOk, false, true};
 ghost use Rattle.std.specs.List.{AllByRecursion, list_any};
 ghost use Rattle.mesa_batch.specs.Batch.{Placed as PlacedRow, batch_of};
 ghost use Rattle.mesa_batch.specs.Glance.{tables_of};
-ghost use Rattle.mesa_tasks.specs.Batches.{AreParts, IsPrepared, is_over, shares};
+ghost use Rattle.mesa_tasks.specs.Batches.{AreParts, IsPrepared, batch_ids, is_over, made_ids, shares};
+ghost use Rattle.mesa_tasks.specs.Serials.{AreNext, after_drafts};
 ghost use Rattle.mesa_load.specs.Collected.{IsUnwritten};
 ghost use Rattle.mesa_load.specs.Jobs.{IsFit, content_in};
 ghost use Rattle.mesa_load.specs.Plans.{HaveFiles, IsBatched, IsRead};
-ghost use Rattle.mesa_load.specs.Preparing.{GoOn, IsReason};
+ghost use Rattle.mesa_load.specs.Preparing.{IsReason};
 
 use crate::building::write_all;
 use crate::collecting::collect;
@@ -39,8 +40,9 @@ pub fn prepare<R: Threads + Sync, M: Made, B: Bench<M>>(
     ensures refused { IfErr result (IsReason (batch_of (tables_of glance.now) rows.now) (B.faults bench.old) (B.faults bench.new)) }
     ensures quiet { OnOk result (B.faults bench.new ≡ B.faults bench.old) }
 
-    // The ids go on, and where a total passes the bound none is drawn.
-    ensures ids { GoOn ids.old ids.new }
+    // The files have the next ids, in their order, and where a total passes the bound none is drawn.
+    ensures numbered { IfOk result (λ p. AreNext ids.old ids.new (batch_ids M.id_of p.parts.items)) }
+    ensures ids { (n : ℕ) × (ids.new ≡ after_drafts n ids.old) }
     ensures undrawn { (batch : List PlacedRow) → batch_of (tables_of glance.now) rows.now ≡ Ok batch → IsTrue (list_any is_over (shares glance.now batch)) → ids.new ≡ ids.old }
 {
     let batch = read_batch(alloc, glance, rows)?;
@@ -81,7 +83,8 @@ fn build_parts<R: Threads + Sync, M: Made, B: Bench<M>>(
 ) -> Result<Vec<PreparedPart<M>>, LoadError>
     requires { (rows : List PlacedRow) × IsBatched glance.now rows batch.now }
     ensures parts { IfOk result (λ parts. (rows : List PlacedRow) → IsBatched glance.now rows batch.now → AreParts M.bytes M.id_of (list_any is_over (shares glance.now rows)) (shares glance.now rows) parts.items) }
-    ensures ids { GoOn ids.old ids.new }
+    ensures numbered { IfOk result (λ parts. AreNext ids.old ids.new (batch_ids M.id_of parts.items)) }
+    ensures ids { (n : ℕ) × (ids.new ≡ after_drafts n ids.old) }
     ensures undrawn { (rows : List PlacedRow) → IsBatched glance.now rows batch.now → IsTrue (list_any is_over (shares glance.now rows)) → ids.new ≡ ids.old }
     ensures later { B.faults bench.old ≤ B.faults bench.new }
     ensures quiet { OnOk result (B.faults bench.new ≡ B.faults bench.old) }
@@ -102,7 +105,8 @@ fn build<R: Threads + Sync, M: Made, B: Bench<M>>(
 ) -> Result<Vec<MadeFile<M>>, LoadError>
     requires { plan.now.over ≡ false → AllByRecursion IsFit plan.now.jobs.items }
     ensures made { IfOk result (λ files. HaveFiles M.bytes M.id_of plan.now.over (map content_in plan.now.jobs.items) files.items) }
-    ensures ids { GoOn ids.old ids.new }
+    ensures numbered { IfOk result (λ files. AreNext ids.old ids.new (made_ids M.id_of files.items)) }
+    ensures ids { (n : ℕ) × (ids.new ≡ after_drafts n ids.old) }
     ensures undrawn { plan.now.over ≡ true → ids.new ≡ ids.old }
     ensures later { B.faults bench.old ≤ B.faults bench.new }
     ensures quiet { OnOk result (B.faults bench.new ≡ B.faults bench.old) }

@@ -1,11 +1,12 @@
 // One file of rows.
-ghost use Rattle.std.specs.Prelude.{◌≡◌, ◌≢◌, ◌<◌, ◌≤◌, ℕ, List, [], Some, length, IfOk, IfErr, OnOk};
-ghost use Rattle.mesa_fault.specs.Causes.{HasFaultCause, Rose};
+ghost use Rattle.std.specs.Prelude.{◌≡◌, ◌<◌, ℕ, List, [], Some, length, IfOk, IfErr, OnOk};
+ghost use Rattle.mesa_fault.specs.Causes.{HasFaultCause};
 ghost use Rattle.mesa_delta.specs.declared.error.WriteError.TheVariants.{Draft as DraftFault};
 ghost use Rattle.mesa_delta.specs.Writing.{HasTaken, columns_of, draft_of, id_of};
 ghost use Rattle.mesa_schema.specs.declared.rows.Row.{Row as AnyRow};
 ghost use Rattle.mesa_tasks.specs.Made.{IsMadeFile};
 ghost use Rattle.mesa_load.specs.Filing.{AreFileRows, file_rows};
+ghost use Rattle.mesa_load.specs.Jobs.{IsCause};
 
 use crate::file_rows::FileRows;
 use mesa_delta::{DeltaWriter, WriteError};
@@ -28,7 +29,8 @@ pub(crate) fn write_file<M: Made, T: Draft<M>>(
     requires some { 0 < length (file_rows rows) }
     requires rows { AreFileRows schema.now (file_rows rows) }
     ensures made { IfOk result (λ made. IsMadeFile M.bytes M.id_of (record { columns = schema.now; rows = file_rows rows.entry }) made) }
-    ensures cause { IfErr result (λ e. (T.faults draft ≤ T.faults e.1) × (e.0 ≡ DraftFault → Rose (T.faults draft) (T.faults e.1))) }
+    ensures id { IfOk result (λ made. M.id_of made.made ≡ id) }
+    ensures cause { IfErr result (λ e. IsCause (T.faults draft) (T.faults e.1) e.0) }
 {
     let mut writer = match DeltaWriter::new(alloc, draft, id, schema) {
         Ok(writer) => writer,
@@ -64,7 +66,8 @@ fn finish<M: Made, T: Draft<M>>(writer: DeltaWriter<M, T>) -> Result<MadeFile<M>
     requires taken { (rows : List AnyRow) × (0 < length rows) × HasTaken T.bytes writer rows }
     requires own { T.id_of (draft_of writer) ≡ id_of writer }
     ensures made { IfOk result (λ made. (rows : List AnyRow) → 0 < length rows → HasTaken T.bytes writer rows → IsMadeFile M.bytes M.id_of (record { columns = columns_of writer; rows = rows }) made) }
-    ensures cause { IfErr result (λ e. (T.faults (draft_of writer) ≤ T.faults e.1) × (e.0 ≡ DraftFault → Rose (T.faults (draft_of writer)) (T.faults e.1))) }
+    ensures id { IfOk result (λ made. M.id_of made.made ≡ id_of writer) }
+    ensures cause { IfErr result (λ e. IsCause (T.faults (draft_of writer)) (T.faults e.1) e.0) }
 {
     writer.held();
     let (made, file) = writer.finish()?;

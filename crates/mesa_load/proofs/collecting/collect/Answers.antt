@@ -13,7 +13,7 @@ files-preserved g c =
     let before = g.B.Bench.faults c.files.bench in
     let now = g.B.Bench.faults c.keep-next.new.bench in
     let next = c.keep-next.ensures in
-    let both = sym c.and-kept.ensures in
+    let both = sym c.graver-kept.ensures in
     record {
       told = (subst (AllByRecursion (HasCause g.B.Draft.Draft.faults)) items inv.told).1;
       kept = subst (λ r. OnOk r (c.args.written.items ≡ map finished c.keep-next.new.files.items ++ c.pop_front.new.self.items)) both
@@ -22,5 +22,5 @@ files-preserved g c =
       room = omega (arith, inv.room, next.room, next.longer, ap length items);
       later = omega (arith, inv.later, next.later);
       quiet = subst (λ r. OnOk r (now ≡ first)) both (quiet_more c.files.kept c.keep-next.result first before now inv.quiet next.quiet);
-      refused = subst (λ r. IfErr r (IsUnwritten first now)) both (refused_more c.files.kept c.keep-next.result first before now inv.quiet inv.refused next.later next.refused);
+      refused = subst (λ r. IfErr r (IsUnwritten first now)) both (refused_more c.files.kept c.keep-next.result first before now inv.quiet inv.refused next.later next.quiet next.refused);
     }

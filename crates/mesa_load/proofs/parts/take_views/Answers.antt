@@ -1,11 +1,12 @@
 use Rattle.std.proofs.Common.{◌≡◌, ℕ, ◌+◌, ◌<◌, List, [], ◌∷◌, ◌++◌, Option, length, take, drop, refl, sym, ap, subst, ◌∙◌, arith}
 use Rattle.std.proofs.lemmas.List.{length-take-le, nil_from_length}
 use Rattle.std.proofs.Math.Seq.{take-length, drop-length}
+use Rattle.mesa_tasks.specs.Batches.{made_ids}
 use Rattle.mesa_tasks.specs.Made.{AreMadeViews, Content}
 use Rattle.mesa_tasks.specs.declared.made.MadeFile.{MadeFile}
 use Rattle.mesa_tasks.specs.declared.made.MadeView.{MadeView}
 use Rattle.mesa_load.specs.Plans.{AreMade}
-use Rattle.mesa_load.proofs.Filed.{views_more}
+use Rattle.mesa_load.proofs.Filed.{views_more, views_next}
 use Rattle.mesa_load.proofs.Places.{splits_at}
 use Rattle.mesa_load.proofs.parts.take_views.Goals as goal
 use Rattle.mesa_load.proofs.parts.take_views.Goals.{else-views-test, then-views-test+in_default}
@@ -41,16 +42,20 @@ lacking bytes id_of contents rest i files lt made none =
 
 pub views-preserved : goal.views-preserved
 views-preserved g c =
-    λ contents rest many made.
-    step g.M.Made.bytes g.M.Made.id_of contents rest c.views.view c.views.taken.items c.push.new.self.items (record { view = c.views.view; file = c.in-Some.file }) c.views.files.items c.pop_front.new.self.items
-    (omega (arith, c.views-test.true, many)) (c.views.invariant contents rest many made) c.in-Some.ensures.items c.in_ok-push.ensures.items refl
+    let one : MadeView _ = record { view = c.views.view; file = c.in-Some.file } in
+    record {
+      made = λ contents rest many made.
+          step g.M.Made.bytes g.M.Made.id_of contents rest c.views.view c.views.taken.items c.push.new.self.items one c.views.files.items c.pop_front.new.self.items
+          (omega (arith, c.views-test.true, many)) (c.views.invariant.made contents rest many made) c.in-Some.ensures.items c.in_ok-push.ensures.items refl;
+      ids = views_next g.M.Made.bytes g.M.Made.id_of (made_ids g.M.Made.id_of c.args.files.now.items) c.views.taken.items c.push.new.self.items one c.views.files.items c.pop_front.new.self.items c.views.invariant.ids c.in-Some.ensures.items c.in_ok-push.ensures.items;
+    }
 
-pub returns : goal.returns
-returns g c =
+pub returns-clause-views : goal.returns-clause-views
+returns-clause-views g c =
     λ contents rest many made.
     let bytes = g.M.Made.bytes in
     let id_of = g.M.Made.id_of in
-    let so_far = c.views.invariant contents rest many made in
+    let so_far = c.views.invariant.made contents rest many made in
     elim c.views-test.branch [
       | else-views-test w ↦
           let count : length contents ≡ c.views.view = omega (arith, many, w.views-test.false, c.views.auto.view-end) in
