@@ -19,7 +19,8 @@ fn put(rt: &impl Abort, area: &mut Vec<u8>, bytes: &[u8]) {
 // Adds a record to an area whose last gate is open.
 fn put_body(rt: &impl Abort, area: &mut Vec<u8>, body: &[u8]) {
     put(rt, area, &[1]);
-    put(rt, area, &(body.len() as u32).to_be_bytes());
+    let len = u32::try_from(body.len()).expect(rt, "a length");
+    put(rt, area, &len.to_be_bytes());
     put(rt, area, body);
 }
 
