@@ -77,22 +77,25 @@ fn moved(rt: &impl Abort, alloc: Global, area: Vec<u8>) -> Result<Store, Fail> {
     Ok(store)
 }
 
-// Stops the test where another store is found behind so many steps, at whatever moment its opening is stopped.
-fn expect_stated(rt: &impl Abort, alloc: Global, steps: usize, state: &str) -> Result<(), Fail> {
+// The store behind so many steps, which goes on in the other area. Stops the test where another one is found.
+fn expect_stated(rt: &impl Abort, alloc: Global, steps: usize, state: &str) -> Result<Store, Fail> {
     let mut store = moved(rt, alloc, area_of(rt, alloc, steps))?;
     let found = whole(rt, alloc, &mut store)?;
     assert_eq!(rt; found.as_str(), state);
-    expect_moments(rt, alloc, &store.disk, 0, state, state)
+    Ok(store)
 }
 
 #[test]
 fn each_step_is_stated(rt: HostRuntime) -> Result<(), Fail> {
     let alloc = rt.alloc();
-    expect_stated(&rt, alloc, 0, BEGUN)?;
+    let mut store = expect_stated(&rt, alloc, 0, BEGUN)?;
+    let mut state = BEGUN;
     for (number, step) in STEPS.iter().enumerate() {
-        expect_stated(&rt, alloc, number.saturating_add(1), step.state)?;
+        store = expect_stated(&rt, alloc, number.saturating_add(1), step.state)?;
+        state = step.state;
     }
-    Ok(())
+    // At whatever moment the last opening is stopped.
+    expect_moments(&rt, alloc, &store.disk, 0, state, state)
 }
 
 // The area of a table, and of so many versions that bring nothing.
