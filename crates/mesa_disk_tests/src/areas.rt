@@ -1,4 +1,9 @@
 // Journals of runs that are stated anew in the other area, stopped at every moment.
+ghost use Rattle.std.specs.Prelude.{◌≡◌, Some};
+ghost use Rattle.mesa_disk.specs.Image.{Image, area_of};
+ghost use Rattle.mesa_disk.specs.Memory.{story_of};
+ghost use Rattle.mesa_journal.specs.Areas.{holds_body, other_of};
+
 use crate::expected::expect_same;
 use mesa_commit::restate;
 use mesa_disk::{Area, Disk, MemDisk};
@@ -39,8 +44,13 @@ fn run_record(rt: &impl Abort, alloc: Global, run: u32) -> Framed {
     Framed::new(alloc, &body).expect(rt, "memory")
 }
 
-fn read(rt: &impl Abort, alloc: Global, disk: &mut MemDisk) -> LiveJournal {
-    read_live(alloc, disk).ok().expect(rt, "a journal")
+fn read(rt: &impl Abort, alloc: Global, disk: &mut MemDisk) -> LiveJournal
+    ensures { (i : Image) → (story_of disk.new).told ≡ Some i → result.holds ≡ holds_body (area_of (other_of result.live) i) }
+{
+    match read_live(alloc, disk) {
+        Ok(journal) => journal,
+        Err(_) => panic!(rt; "no journal"),
+    }
 }
 
 // The number of the last run, by a journal's last body.
@@ -97,8 +107,8 @@ fn area_bytes(rt: &impl Abort, alloc: Global, disk: &mut MemDisk, area: Area) ->
 }
 
 const ROW: [u8; 35] = [
-    1, 0, 0, 0, 0x13, 13, 0, 0, 0, 1, 0, 0, 0x19, 0x9a, 0, 0, 0, 0, 0, 0, 0, 0, 0, 0, 1, 0, 0, 0, 5,
-    1, 0, 0, 0x19, 0x9b, 0,
+    1, 0, 0, 0, 0x13, 13, 0, 0, 0, 1, 0, 0, 0x19, 0x9a, 0, 0, 0, 0, 0, 0, 0, 0, 0, 0, 1, 0, 0, 0,
+    5, 1, 0, 0, 0x19, 0x9b, 0,
 ];
 
 fn disk_of(rt: &impl Abort, alloc: Global, zero: Vec<u8>, one: Vec<u8>, fails: &[u64]) -> MemDisk {
