@@ -28,7 +28,7 @@ module _ {K D M B : Type 0} (ports : Ports K D M B) (script : Script) (b : Begun
   has_not_run (Err d) memory kept read = record { held = memory.0; faults = memory.1; same = memory.2; found = kept; read = read }
 
   pub ran_from : (r : Result (Left K D B) (Devices K D B))
-      → IfOk r (λ l. (w : Rows) → RanAnyhow script (start_of script b.catalog.catalogue w) l.history.items l.failed b.since ((ports.story b.disk).faults + (ports.story b.disk).read_faults) (ports.story l.disk))
+      → IfOk r (λ l. (w : Rows) → RanAnyhow script (start_of script b.catalog.catalogue w) l.history.items l.failed b.since ((ports.story b.disk).faults + (ports.story b.disk).read_faults) (ports.story l.disk) (ports.held out) (ports.held l.out))
       → IfOk r (λ l. length l.benches.items ≡ length benches)
       → IfOk r (λ l. (w : Rows) → HasBenchCounts ports.bench_faults (ports.story l.disk) script (begins (start_of script b.catalog.catalogue w)) l.history.items benches l.benches.items)
       → IfOk r (λ l. (w : Rows) → l.refused ≡ some_refused script (begins (start_of script b.catalog.catalogue w)) l.history.items)

@@ -1,5 +1,5 @@
 -- What a run under its name leaves, by what its lock and its vault tell of it.
-use Rattle.std.proofs.Common.{◌≡◌, ℕ, ◌+◌, ◌^◌, ◌<◌, ◌≤◌, List, [], ◌∷◌, ◌++◌, length, take, drop, Bool, not, refl, sym, ◌∙◌, ap, subst, arith, None}
+use Rattle.std.proofs.Common.{◌≡◌, ℕ, ◌+◌, ◌^◌, ◌<◌, ◌≤◌, List, [], ◌∷◌, ◌++◌, length, take, drop, Bool, not, refl, sym, ◌∙◌, ap, subst, arith, Option, None}
 use Rattle.std.proofs.lemmas.List.{append-nil, drop_all, take_all}
 use Rattle.std.specs.List.{AllByRecursion}
 use Rattle.std.specs.Prelude.{◌==◌, ◌&&◌}
@@ -14,6 +14,7 @@ use Rattle.mesa_history.specs.Run.{Run, State, begins}
 use Rattle.mesa_skeleton.specs.Bare.{bare_run, bare_state}
 use Rattle.mesa_skeleton.proofs.Alike.{go_alike, legal_alike}
 use Rattle.mesa_passes.specs.Answers.{AreTimely, HasCounted, HaveCounted}
+use Rattle.mesa_walk.specs.Printing.{IsPrintedButRows}
 use Rattle.mesa_walk.specs.Walk.{HasCounted as HasCountedFaults}
 use Rattle.mesa_ending.specs.Counting.{HasBenchCounts}
 use Rattle.mesa_ending.specs.Run.{RanAnyhow}
@@ -71,11 +72,12 @@ fits_room n turns room most is all few least = (omega (arith, is), omega (arith,
 
 pub ran_anyhow : (script : Script) (first start : State) → bare_state first ≡ bare_state start → (seen h : List Entry) → h ≡ seen → (running : Bool) (since counted : ℕ) (story : Story) → IsLegal first script seen (not running)
     → AllByRecursion (λ (e : Entry). since ≤ e.moment) h → AllByRecursion (λ (e : Entry). e.moment ≤ story.moment) h → HasCountedFaults counted story (count_in is_disk_fault script (begins start) h)
-    → RanAnyhow script start h (not running) since counted story
-ran_anyhow script first start same seen h is running since counted story legal from to counts = record {
+    → (before now : Option (List ℕ)) → IsPrintedButRows script (begins start) h (not (not running)) before now → RanAnyhow script start h (not running) since counted story before now
+ran_anyhow script first start same seen h is running since counted story legal from to counts before now printed = record {
   legal = subst (λ (x : List Entry). IsLegal start script x (not running)) (sym is) (legal_alike first start script seen (not running) same legal);
   moments = within h since story.moment from to;
   counts = counts;
+  printed = printed;
 }
 
 -- ---- no turn

@@ -104,11 +104,11 @@ module _ {K D M B : Type 0} (ports : Ports K D M B) (given : Devices K D B) (scr
   same_counts : counted ≡ old.faults + old.read_faults
   same_counts = omega (arith, has.faults, has.read_faults)
 
-  anyhow : (rows : Rows) → RanAnyhow script (start_of script c rows) l.history.items l.failed old.moment (old.faults + old.read_faults) (ports.story l.disk)
+  anyhow : (rows : Rows) → RanAnyhow script (start_of script c rows) l.history.items l.failed old.moment (old.faults + old.read_faults) (ports.story l.disk) (ports.held given.out) (ports.held l.out)
   anyhow rows =
-      subst (λ n. RanAnyhow script (start_of script c rows) l.history.items l.failed old.moment n (ports.story l.disk)) same_counts
-      (subst (λ m. RanAnyhow script (start_of script c rows) l.history.items l.failed m counted (ports.story l.disk)) has.since
-      (subst (λ s. RanAnyhow script s l.history.items l.failed b.since counted (ports.story l.disk)) (same_start rows) (ran.anyhow rows)))
+      subst (λ n. RanAnyhow script (start_of script c rows) l.history.items l.failed old.moment n (ports.story l.disk) (ports.held given.out) (ports.held l.out)) same_counts
+      (subst (λ m. RanAnyhow script (start_of script c rows) l.history.items l.failed m counted (ports.story l.disk) (ports.held given.out) (ports.held l.out)) has.since
+      (subst (λ s. RanAnyhow script s l.history.items l.failed b.since counted (ports.story l.disk) (ports.held given.out) (ports.held l.out)) (same_start rows) (ran.anyhow rows)))
 
   sound_begun : (rows : Rows) → IsSoundStore ports.bytes old c rows → IsSoundBegun ports.bytes b.since (ports.story b.disk) b.area b.end b.catalog.catalogue rows
   sound_begun rows s = record {

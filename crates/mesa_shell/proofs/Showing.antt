@@ -16,7 +16,7 @@ use Rattle.mesa_image.specs.Catalog.{Catalog}
 use Rattle.mesa_excerpt.specs.Excerpt.{CutsOut}
 use Rattle.mesa_ending.specs.Ports.{ports}
 use Rattle.mesa_ending.specs.Exits.{gen_line, memory_line, memory_status}
-use Rattle.mesa_ending.specs.Run.{Ran, RanSoundly}
+use Rattle.mesa_ending.specs.Run.{Ran, RanAnyhow, RanSoundly}
 use Rattle.mesa_ending.specs.Start.{start_of}
 use Rattle.mesa_ending.specs.Ending.{EndsShown, HasShown, Prints, RanInMemory, Shows}
 use Rattle.mesa_ending.specs.declared.done.Devices.{Devices}
@@ -38,7 +38,9 @@ module _ {K S D M B : Type 0} (held : K → Option (List ℕ)) (faults : K → �
     reads = ran.reads;
     number = ran.number;
     returned = ran.returned;
-    anyhow = ran.anyhow;
+    anyhow = λ rows.
+        subst (λ o. RanAnyhow script (start_of script c rows) l.history.items failed (story g.disk).moment ((story g.disk).faults + (story g.disk).read_faults) (story l.disk) (Some []) o) is
+        (subst (λ o. RanAnyhow script (start_of script c rows) l.history.items failed (story g.disk).moment ((story g.disk).faults + (story g.disk).read_faults) (story l.disk) o (kept l.out)) was (ran.anyhow rows));
     benches = ran.benches;
     answers = ran.answers;
     soundly = λ rows sound below.

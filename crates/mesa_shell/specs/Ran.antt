@@ -18,7 +18,7 @@ use Rattle.mesa_shell.specs.declared.running.Left.{Left}
 
 -- A run of a script from the catalogue of a store that was begun: what holds on any store whatever rows its files have, what holds on a sound one, whether the sink failed, and that as many benches come back as were given.
 pub record RanFrom {K D M B : Type 0} (ports : Ports K D M B) (script : Script) (b : Begun D) (out : K) (benches : List B) (l : Left K D B) : Type 0 where
-  pub anyhow : (rows : Rows) → RanAnyhow script (start_of script b.catalog.catalogue rows) l.history.items l.failed b.since ((ports.story b.disk).faults + (ports.story b.disk).read_faults) (ports.story l.disk)
+  pub anyhow : (rows : Rows) → RanAnyhow script (start_of script b.catalog.catalogue rows) l.history.items l.failed b.since ((ports.story b.disk).faults + (ports.story b.disk).read_faults) (ports.story l.disk) (ports.held out) (ports.held l.out)
   pub returned : length l.benches.items ≡ length benches
   pub counted : (rows : Rows) → HasBenchCounts ports.bench_faults (ports.story l.disk) script (begins (start_of script b.catalog.catalogue rows)) l.history.items benches l.benches.items
   pub told : (rows : Rows) → l.refused ≡ some_refused script (begins (start_of script b.catalog.catalogue rows)) l.history.items

@@ -85,7 +85,7 @@ fn run_named<
     ensures kept { IfErr result (λ d. (w : Rows) → N.sound w → AllFound (outset_from N.script (N.start w) N.since N.counted N.at_start) [] (D.story d.disk)) }
     ensures read { IfErr result (λ d. (w : Rows) → N.sound w → IsRead (D.story d.disk)) }
 
-    ensures anyhow { IfOk result (λ l. (w : Rows) → RanAnyhow N.script (N.start w) l.history.items l.failed N.since N.counted (D.story l.disk)) }
+    ensures anyhow { IfOk result (λ l. (w : Rows) → RanAnyhow N.script (N.start w) l.history.items l.failed N.since N.counted (D.story l.disk) N.at_start (K.held l.out)) }
     ensures returned { IfOk result (λ l. length l.benches.items ≡ length benches.items) }
     ensures benches { IfOk result (λ l. (w : Rows) → HasBenchCounts B.faults (D.story l.disk) N.script (begins (N.start w)) l.history.items benches.items l.benches.items) }
     ensures refused { IfOk result (λ l. (w : Rows) → l.refused ≡ some_refused N.script (begins (N.start w)) l.history.items) }

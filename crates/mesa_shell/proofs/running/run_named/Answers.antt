@@ -7,7 +7,7 @@ use Rattle.mesa_skeleton.specs.Rows.{no_rows}
 use Rattle.mesa_sessions.specs.mesa_core.Vault.{Stand}
 use Rattle.mesa_history.specs.Refused.{some_refused}
 use Rattle.mesa_history.specs.Run.{begins}
-use Rattle.mesa_walk.specs.Printing.{IsPrinted}
+use Rattle.mesa_walk.specs.Printing.{IsPrinted, IsPrintedButRows}
 use Rattle.mesa_walk.specs.Walk.{AllFound}
 use Rattle.mesa_catalog.specs.declared.begun.Begun.{Begun}
 use Rattle.mesa_ledger.specs.Vault.{IsRead}
@@ -101,6 +101,11 @@ returns-in-Err-serve-clause-read g c w sound =
 
 -- ---- the run
 
+-- not of not is the same
+not_not : (b : Bool) → not (not b) ≡ b
+not_not true = refl
+not_not false = refl
+
 pub returns-in-Ok-serve-clause-anyhow : goal.returns-in-Ok-serve-clause-anyhow
 returns-in-Ok-serve-clause-anyhow g c w =
     let N = g.N.Naming in
@@ -108,8 +113,10 @@ returns-in-Ok-serve-clause-anyhow g c w =
     let v = c.in-Ok-serve.vault.shown in
     let h = c.stop-disk.result.2.items in
     let story = g.D.Disk.story c.stop-disk.result.0 in
-    subst (λ (running : Bool). RanAnyhow N.script (N.start w) h (not running) N.since N.counted story) (sym c.running-failed.ensures.running)
-    (ran_anyhow N.script (N.start no_rows) (N.start w) (N.alike w) v.history h s.history v.running N.since N.counted story c.in-Ok-serve.ensures.legal s.since s.until (s.counts w))
+    let held = g.K.Sink.held c.stop-disk.result.1 in
+    subst (λ (running : Bool). RanAnyhow N.script (N.start w) h (not running) N.since N.counted story N.at_start held) (sym c.running-failed.ensures.running)
+    (ran_anyhow N.script (N.start no_rows) (N.start w) (N.alike w) v.history h s.history v.running N.since N.counted story c.in-Ok-serve.ensures.legal s.since s.until (s.counts w) N.at_start held
+    (subst (λ (b : Bool). IsPrintedButRows N.script (begins (N.start w)) h b N.at_start held) (sym (not_not v.running)) (s.blocks w)))
 
 pub returns-in-Ok-serve-clause-returned : goal.returns-in-Ok-serve-clause-returned
 returns-in-Ok-serve-clause-returned g c =
@@ -147,11 +154,6 @@ pub returns-in-Ok-serve-clause-whole : goal.returns-in-Ok-serve-clause-whole
 returns-in-Ok-serve-clause-whole g c is =
     let on = sym c.running-failed.ensures.running ∙ is_on c.running-failed.result is in
     c.stop-disk.ensures.whole on ∙ sym c.requires.faults
-
--- not of not is the same
-not_not : (b : Bool) → not (not b) ≡ b
-not_not true = refl
-not_not false = refl
 
 pub returns-in-Ok-serve-clause-soundly : goal.returns-in-Ok-serve-clause-soundly
 returns-in-Ok-serve-clause-soundly g c w sound below =
