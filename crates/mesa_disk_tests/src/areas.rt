@@ -1,5 +1,5 @@
 // Journals of runs that are stated anew in the other area, stopped at every moment.
-ghost use Rattle.std.specs.Prelude.{◌≡◌, Some};
+ghost use Rattle.std.specs.Prelude.{◌≡◌, IfSome, Some};
 ghost use Rattle.mesa_disk.specs.Image.{Image, area_of};
 ghost use Rattle.mesa_disk.specs.Memory.{story_of};
 ghost use Rattle.mesa_journal.specs.Areas.{holds_body, other_of};
@@ -44,13 +44,18 @@ fn run_record(rt: &impl Abort, alloc: Global, run: u32) -> Framed {
     Framed::new(alloc, &body).expect(rt, "memory")
 }
 
-fn read(rt: &impl Abort, alloc: Global, disk: &mut MemDisk) -> LiveJournal
-    ensures { (i : Image) → (story_of disk.new).told ≡ Some i → result.holds ≡ holds_body (area_of (other_of result.live) i) }
+// The journal of both areas, if it is read.
+fn read_both(alloc: Global, disk: &mut MemDisk) -> Option<LiveJournal>
+    ensures { IfSome result (λ x. (i : Image) → (story_of disk.new).told ≡ Some i → x.holds ≡ holds_body (area_of (other_of x.live) i)) }
 {
     match read_live(alloc, disk) {
-        Ok(journal) => journal,
-        Err(_) => panic!(rt; "no journal"),
+        Ok(journal) => Some(journal),
+        Err(_) => None,
     }
+}
+
+fn read(rt: &impl Abort, alloc: Global, disk: &mut MemDisk) -> LiveJournal {
+    read_both(alloc, disk).expect(rt, "a journal")
 }
 
 // The number of the last run, by a journal's last body.
@@ -68,7 +73,9 @@ fn begin(rt: &impl Abort, alloc: Global, disk: &mut MemDisk, number: u32, run: u
     if disk.journal_sync().is_err() {
         return false;
     }
-    let LiveJournal { live, holds, .. } = read(rt, alloc, disk);
+    let Some(LiveJournal { live, holds, .. }) = read_both(alloc, disk) else {
+        return false;
+    };
     let stated = checkpoint(rt, alloc, number, run);
     let next = run_record(rt, alloc, run.wrapping_add(1));
     let Ok(end) = restate(disk, live, holds, &stated) else {
@@ -77,7 +84,7 @@ fn begin(rt: &impl Abort, alloc: Global, disk: &mut MemDisk, number: u32, run: u
     append(disk, other_area(live), end, &next).is_ok()
 }
 
-// The calls are: a sync; the closed gate and a sync; the checkpoint, a sync, its gate and a sync; the run, a
+// The calls that change the disk are: a sync; the closed gate and a sync; the checkpoint, a sync, its gate and a sync; the run, a
 // sync, its gate and a sync. So the other area is live once the checkpoint's gate has come to the disk, and
 // the run is there once its own gate has.
 fn expect_images(
@@ -169,7 +176,7 @@ fn expect_stopped(rt: &impl Abort, alloc: Global, call: u64) {
 
 #[test]
 fn each_call_fails(rt: HostRuntime) {
-    for call in 0..11_u64 {
+    for call in 0..13_u64 {
         expect_stopped(&rt, rt.alloc(), call);
     }
 }
