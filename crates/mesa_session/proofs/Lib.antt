@@ -5,3 +5,4 @@ pub mod Merged
 pub mod Found
 pub mod Stepping
 pub mod Prepared
+pub mod Drawing

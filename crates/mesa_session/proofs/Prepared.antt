@@ -57,7 +57,7 @@ pub prepared_owes : {T : Type 0} (batch : Result (List Placed) BatchError) (befo
 prepared_owes batch before now (Ok p) refused quiet low = let same : now ≡ before = quiet in omega (arith, same)
 prepared_owes batch before now (Err (load.Batch refusal)) refused quiet low = let same : now ≡ before = refused.1 in omega (arith, same)
 prepared_owes batch before now (Err load.Draft) refused quiet low = let rose : min (before + 1) last ≤ now = refused.1 in omega (arith, rose, low)
-prepared_owes batch before now (Err load.Memory) refused quiet low = let later : before ≤ now = refused in omega (arith, later)
+prepared_owes batch before now (Err load.Memory) refused quiet low = let same : now ≡ before = refused in omega (arith, same)
 
 -- a load that wasn't prepared owes nothing
 pub unprepared_owes : {T : Type 0} (before now : ℕ) (made : Result T LoadError) → made ≡ Err load.Memory → now ≡ before → Owes before now (owed_by_load made)

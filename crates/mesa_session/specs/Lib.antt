@@ -2,3 +2,4 @@ pub use Rattle.mesa_core.specs as mesa_core
 pub use Rattle.mesa_core.specs.mesa_engine as mesa_engine
 pub use Rattle.mesa_core.specs.mesa_metadata as mesa_metadata
 pub mod Loads
+pub mod Drafts

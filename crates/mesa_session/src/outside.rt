@@ -1,11 +1,13 @@
 // What a session does between the turns of a query or a work.
 ghost use Rattle.std.specs.List.{AllByRecursion};
-ghost use Rattle.std.specs.Prelude.{◌≡◌, IsTrue, IfOk, IfErr};
+ghost use Rattle.std.specs.Prelude.{◌≡◌, ℕ, IsTrue, IfOk, IfErr, IfSome};
 ghost use Rattle.mesa_key.specs.Spelling.{is_spelling};
 ghost use Rattle.mesa_schema.specs.declared.rows.Row.{Row as AnyRow};
 ghost use Rattle.mesa_filter.specs.Query.{group_kinds as kinds_grouped};
 ghost use Rattle.mesa_script.specs.Rows.{rendered};
 ghost use Rattle.mesa_core.specs.mesa_passes.Answers.{Owes};
+ghost use Rattle.mesa_tasks.specs.Serials.{after_drafts};
+ghost use Rattle.mesa_compact.specs.Tasks.{AreNumbered};
 ghost use Rattle.mesa_service.specs.Drafts.{owed_by_work};
 ghost use Rattle.mesa_service.specs.Pins.{CanBeAnswered, HasAnswered, heading_in, known_pin};
 ghost use Rattle.mesa_service.specs.Works.{CanBeMerged, HasMerged, known_task};
@@ -61,6 +63,8 @@ pub(crate) fn merged<M: Made, B: Bench<M>, R: FileReader>(
     ensures known { known_task R.bytes task.new ≡ known_task R.bytes task.old }
     ensures merged { HasMerged M.bytes M.id_of R.bytes R.faults task.new result }
     ensures owes { Owes (B.faults bench.old) (B.faults bench.new) (owed_by_work result) }
+    ensures numbered { IfOk result (λ delta. IfSome delta.files (AreNumbered M.id_of ids.old)) }
+    ensures ids { (n : ℕ) × (ids.new ≡ after_drafts n ids.old) }
 {
     merge_task(alloc, bench, ids, task)
 }

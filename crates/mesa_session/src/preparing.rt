@@ -1,13 +1,15 @@
 // A load's rows with their files: outside its turns, and once more where what it saw has changed.
-ghost use Rattle.std.specs.Prelude.{◌≡◌, ◌≤◌, ◌<◌, ◌+◌, ◌^◌, List, Err, IfOk, IfNone, IfSome, OnErr};
+ghost use Rattle.std.specs.Prelude.{◌≡◌, ◌≤◌, ◌<◌, ◌+◌, ◌^◌, ℕ, List, Err, IfOk, IfNone, IfSome, OnErr};
 ghost use Rattle.mesa_fault.specs.Causes.{last};
 ghost use Rattle.mesa_model.specs.declared.entries.Entry.{Entry as AnyEntry};
 ghost use Rattle.mesa_skeleton.specs.Rows.{no_rows};
 ghost use Rattle.mesa_tasks.specs.declared.prepared.LoadError.TheVariants as load;
-ghost use Rattle.mesa_tasks.specs.Batches.{HasPrepared};
+ghost use Rattle.mesa_tasks.specs.Batches.{HasPrepared, batch_ids};
+ghost use Rattle.mesa_tasks.specs.Serials.{AreNext, after_drafts};
 ghost use Rattle.mesa_core.specs.mesa_passes.Answers.{Owes};
 ghost use Rattle.mesa_service.specs.Drafts.{owed_by_load};
 ghost use Rattle.mesa_service.specs.Sight.{sight_after};
+ghost use Rattle.mesa_session.specs.Drafts.{first_drafts};
 ghost use Rattle.mesa_session.specs.Loads.{StaysPrepared};
 
 use mesa_batch::{Glance, LoadRows};
@@ -26,7 +28,7 @@ pub fn ids_of(had: Option<Serials>, run: u32, session: u16) -> Serials
     requires run { run < 2 ^ 24 }
     requires session { session < 8 }
     ensures had { IfSome had (λ ids. result ≡ ids) }
-    ensures first { IfNone had (result ≡ record { run = run; session = session; next = 0 }) }
+    ensures first { IfNone had (result ≡ first_drafts run session) }
 {
     match had {
         Some(ids) => ids,
@@ -46,6 +48,8 @@ fn prepared_by<R: Threads + Sync, M: Made, B: Bench<M>>(
     ensures seen { IfOk seen (λ g. HasPrepared M.bytes M.id_of g rows.now result) }
     ensures unseen { OnErr seen (result ≡ Err load.Memory) }
     ensures owes { Owes (B.faults bench.old) (B.faults bench.new) (owed_by_load result) }
+    ensures numbered { IfOk result (λ p. AreNext ids.old ids.new (batch_ids M.id_of p.parts.items)) }
+    ensures ids { (n : ℕ) × (ids.new ≡ after_drafts n ids.old) }
 {
     match seen {
         Ok(glance) => prepare(rt, alloc, bench, ids, &glance, rows),
@@ -75,6 +79,8 @@ pub fn prepared_first<N: Naming, M: Made, R: Threads + Sync, B: Bench<M>>(
     ensures stays { (h : List AnyEntry) → IfOk looked (λ g. g ≡ sight_after N.script (N.start no_rows) (N.origin no_rows).generation h)
         → StaysPrepared M.bytes M.id_of (sight_after N.script (N.start no_rows) (N.origin no_rows).generation) h result.0 rows.now result.1 }
     ensures owes { Owes (B.faults bench.old) (B.faults bench.new) (owed_by_load result.1) }
+    ensures numbered { IfOk result.1 (λ p. AreNext ids.old ids.new (batch_ids M.id_of p.parts.items)) }
+    ensures ids { (n : ℕ) × (ids.new ≡ after_drafts n ids.old) }
 {
     sights_last();
     let generation = generation_seen(&looked);
@@ -103,8 +109,10 @@ pub(crate) fn prepared_now<
     requires { (sight_after N.script (N.start no_rows) (N.origin no_rows).generation vault.now.shown.history).generation ≡ generation
         → HasPrepared M.bytes M.id_of (sight_after N.script (N.start no_rows) (N.origin no_rows).generation vault.now.shown.history) rows.now made }
     ensures made { HasPrepared M.bytes M.id_of (sight_after N.script (N.start no_rows) (N.origin no_rows).generation vault.now.shown.history) rows.now result }
+    ensures unchanged { (sight_after N.script (N.start no_rows) (N.origin no_rows).generation vault.now.shown.history).generation ≡ generation → (result ≡ made) × (bench.new ≡ bench.old) × (ids.new ≡ ids.old) }
     ensures later { B.faults bench.new < last → B.faults bench.old ≤ B.faults bench.new }
     ensures owes { B.faults bench.new < last → B.faults bench.old + owed_by_load result ≤ B.faults bench.new + owed_by_load made }
+    ensures ids { (n : ℕ) × (ids.new ≡ after_drafts n ids.old) }
 {
     if vault.generation() == generation {
         return made;

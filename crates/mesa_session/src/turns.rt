@@ -1,5 +1,5 @@
 // One turn of each sort.
-ghost use Rattle.std.specs.Prelude.{◌≡◌, ◌<◌, ◌≤◌, ◌^◌, not, true, IfOk, IfErr, OnOk, Some, is_ok, length};
+ghost use Rattle.std.specs.Prelude.{◌≡◌, ◌<◌, ◌≤◌, ◌^◌, ℕ, not, true, IfOk, IfErr, OnOk, Some, is_ok, length};
 ghost use Rattle.mesa_history.specs.Legal.{is_query, is_work};
 ghost use Rattle.mesa_history.specs.Run.{First, Looked, Granted, Renewed, Finished, command_at};
 ghost use Rattle.mesa_history.specs.Turns.{place_then};
@@ -16,6 +16,7 @@ ghost use Rattle.mesa_service.specs.Pins.{CanBeAnswered, HasAnswered, IsOpenQuer
 ghost use Rattle.mesa_service.specs.Sight.{sight_after};
 ghost use Rattle.mesa_service.specs.Works.{CanBeMerged, HasMerged, WasGranted, known_task};
 ghost use Rattle.mesa_tasks.specs.Tasks.{claim_in};
+ghost use Rattle.mesa_tasks.specs.Serials.{after_drafts};
 ghost use Rattle.mesa_session.specs.Loads.{StaysPrepared};
 
 use crate::preparing::prepared_now;
@@ -116,6 +117,7 @@ pub fn publish_turn<
     ensures took { Took who.session pass result.0 1 }
     ensures mine { Mine N.script (N.start no_rows) result.0 who.session (place_then (not result.1) who.command Finished) }
     ensures answers { Answers N.script (N.start no_rows) who.session pass result.0 (B.faults bench.old) (B.faults bench.new) (owed_by_load made) }
+    ensures ids { (n : ℕ) × (ids.new ≡ after_drafts n ids.old) }
 {
     let mut held = lock.enter(rt, pass);
     let vault = held.value();

@@ -3,6 +3,7 @@ use Rattle.mesa_skeleton.specs.Rows.{no_rows}
 use Rattle.mesa_core.proofs.mesa_passes.Answering.{answers_at, answers_owed}
 use Rattle.mesa_core.proofs.mesa_passes.Turning.{took_both, took_fewer}
 use Rattle.mesa_service.specs.Drafts.{owed_by_load}
+use Rattle.mesa_session.proofs.Drawing.{drawn_both, taken_on, undrawn}
 use Rattle.mesa_session.proofs.commands.load.Goals as goal
 
 pub returns-clause-took : goal.returns-clause-took
@@ -14,3 +15,13 @@ returns-clause-answers g c =
 
 pub returns-then-not-ran-clause-answers : goal.returns-then-not-ran-clause-answers
 returns-then-not-ran-clause-answers g c = answers_at g.N.Naming.script (g.N.Naming.start no_rows) c.args.who.session _ _ _ 0 c.look_turn-pass.ensures.answers
+
+pub returns-then-not-ran-clause-ids : goal.returns-then-not-ran-clause-ids
+returns-then-not-ran-clause-ids g c = undrawn c.args.who.session _ c.requires.own
+
+pub returns-clause-ids : goal.returns-clause-ids
+returns-clause-ids g c =
+    taken_on c.args.who.session _ c.args.ids.now c.take.result c.ids_of-serials.result _ c.requires.own c.take.ensures.value
+    c.ids_of-serials.ensures.had
+    c.ids_of-serials.ensures.first
+    (drawn_both _ _ _ c.prepared_first-generation.ensures.ids c.publish_turn-pass.ensures.ids)

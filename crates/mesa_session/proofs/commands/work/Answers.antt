@@ -2,6 +2,7 @@ use Rattle.std.proofs.Common.{arith}
 use Rattle.mesa_skeleton.specs.Rows.{no_rows}
 use Rattle.mesa_core.proofs.mesa_passes.Answering.{answers_at, answers_both, answers_owed, answers_within}
 use Rattle.mesa_core.proofs.mesa_passes.Turning.{took_both, took_fewer}
+use Rattle.mesa_session.proofs.Drawing.{taken_on, undrawn}
 use Rattle.mesa_session.proofs.commands.work.Goals as goal
 
 pub returns-then-is_err-clause-took : goal.returns-then-is_err-clause-took
@@ -31,3 +32,15 @@ returns-in-Ok-renewed-clause-answers g c =
     let granted = answers_both g.N.Naming.script (g.N.Naming.start no_rows) c.args.who.session _ _ _ 0 0 0 c.renew_turn-pass.ensures.took.seen c.grant_turn-pass.ensures.answers c.renew_turn-pass.ensures.answers in
     answers_owed g.N.Naming.script (g.N.Naming.start no_rows) c.args.who.session _ _ _ _ _ _ _ c.complete_turn-in-Ok-renewed.ensures.took.seen granted c.merged-delta.ensures.owes
     (answers_at g.N.Naming.script (g.N.Naming.start no_rows) c.args.who.session _ _ _ _ c.complete_turn-in-Ok-renewed.ensures.answers)
+
+pub returns-in-Err-clause-ids : goal.returns-in-Err-clause-ids
+returns-in-Err-clause-ids g c = undrawn c.args.who.session _ c.requires.own
+
+pub returns-then-is_err-clause-ids : goal.returns-then-is_err-clause-ids
+returns-then-is_err-clause-ids g c = taken_on c.args.who.session _ c.args.ids.now c.take.result c.ids_of-serials.result _ c.requires.own c.take.ensures.value c.ids_of-serials.ensures.had c.ids_of-serials.ensures.first c.merged-delta.ensures.ids
+
+pub returns-in-Err-renewed-clause-ids : goal.returns-in-Err-renewed-clause-ids
+returns-in-Err-renewed-clause-ids g c = taken_on c.args.who.session _ c.args.ids.now c.take.result c.ids_of-serials.result _ c.requires.own c.take.ensures.value c.ids_of-serials.ensures.had c.ids_of-serials.ensures.first c.merged-delta.ensures.ids
+
+pub returns-in-Ok-renewed-clause-ids : goal.returns-in-Ok-renewed-clause-ids
+returns-in-Ok-renewed-clause-ids g c = taken_on c.args.who.session _ c.args.ids.now c.take.result c.ids_of-serials.result _ c.requires.own c.take.ensures.value c.ids_of-serials.ensures.had c.ids_of-serials.ensures.first c.merged-delta.ensures.ids

@@ -44,6 +44,7 @@ commands-preserved g c =
     record {
       took = took_fewer _ _ _ (3 * i + 3) (3 * (i + 1)) (omega arith) (took_both _ _ _ _ (3 * i) 3 c.commands.invariant.took c.run_command-next.ensures.took);
       answers = answers_both g.N.Naming.script (g.N.Naming.start no_rows) c.args.session _ _ _ _ _ _ c.run_command-next.ensures.took.seen c.commands.invariant.answers c.run_command-next.ensures.answers;
+      ids = c.run_command-next.ensures.ids.own;
       mine = subst (λ b. Mine g.N.Naming.script (g.N.Naming.start no_rows) c.run_command-next.result.0 c.args.session (place_then (not b) (i + 1) Finished)) ran c.run_command-next.ensures.mine;
     }
 
