@@ -1,6 +1,6 @@
 // Stores whose journal is stated anew in the other area.
-use crate::call::{Case, PLAIN, call_over, empty_disk};
-use crate::cases::{expect_case, expect_cases, expect_store, expect_text};
+use crate::call::{Case, PLAIN, call_over, empty_disk, script_run};
+use crate::cases::{expect_cases, expect_store, expect_text};
 use crate::expected::{expect_same, expect_that};
 use crate::sessions::replay::expect_replayed_behind;
 use crate::stores::crashes::{Stopped, expect_moments};
@@ -238,28 +238,27 @@ fn store_of(rt: &impl Abort, alloc: Global, stated: &Stated) -> String {
         cumulatives,
         singles,
     } = *stated;
-    let head = format!(in alloc; "0d{number}{run}{floor}{versions}0001").expect(rt, "memory");
-    let table = format!(in alloc; "0174{oldest}01016b00010176000000").expect(rt, "memory");
-    let rest = format!(in alloc; "00{totals}{base}{cumulatives}{singles}").expect(rt, "memory");
-    let len = (head.len() + table.len() + rest.len()) / 2;
-    format!(in alloc; "0100000005010000000100|01{len:08x}{head}{table}{rest}00\n{FILE}").expect(
-        rt, "memory",
-    )
+    let mut body = String::new(alloc);
+    write!(body, "0d{number}{run}{floor}{versions}0001").expect(rt, "memory");
+    write!(body, "0174{oldest}01016b00010176000000").expect(rt, "memory");
+    write!(body, "00{totals}{base}{cumulatives}{singles}").expect(rt, "memory");
+    let len = body.len() / 2;
+    format!(in alloc; "0100000005010000000100|01{len:08x}{body}00\n{FILE}").expect(rt, "memory")
 }
+
+static QUERIED: Case<'static> = Case {
+    script: b"query,t\nquery,t,0\n",
+    ..PLAIN
+};
 
 // Stops the test where a store with this checkpoint is opened, or changed.
 fn expect_misfit<R: Abort + Threads + Wait + Sync>(rt: &R, alloc: Global, stated: &Stated) {
     let store = store_of(rt, alloc, stated);
-    let case = Case {
-        name: stated.name,
-        script: b"query,t\n",
-        store: store.as_str(),
-        status: 7,
-        text: "mesa: damaged journal=1 at=0 want=fits found=misfit:0\n",
-        left: Some(store.as_str()),
-        ..PLAIN
-    };
-    let _disk = expect_case(rt, alloc, &case);
+    let disk = spelled(rt, alloc, store.as_str(), &[]);
+    let mut left = call_over(rt, alloc, disk, &QUERIED);
+    let text = "mesa: damaged journal=1 at=0 want=fits found=misfit:0\n";
+    expect_text(rt, stated.name, &left, 7, text);
+    expect_store(rt, alloc, &mut left.disk, store.as_str(), stated.name);
 }
 
 #[test]
@@ -273,15 +272,11 @@ fn checkpoints_that_do_not_fit(rt: HostRuntime) {
 fn a_checkpoint_that_fits(rt: HostRuntime) {
     let alloc = rt.alloc();
     let store = store_of(&rt, alloc, &STATED);
-    let case = Case {
-        name: "a checkpoint that fits",
-        script: b"query,t\nquery,t,0\n",
-        store: store.as_str(),
-        text: "0.1@0 rows 1 version=1\n1,5\n0.2@2 rows 1 version=0\n1,5\n",
-        ..PLAIN
-    };
-    let disk = expect_case(&rt, alloc, &case);
-    let left = call_over(&rt, alloc, disk, &CHECKED);
+    let disk = spelled(&rt, alloc, store.as_str(), &[]);
+    let left = call_over(&rt, alloc, disk, &QUERIED);
+    let text = "0.1@0 rows 1 version=1\n1,5\n0.2@2 rows 1 version=0\n1,5\n";
+    expect_text(&rt, "a checkpoint that fits", &left, 0, text);
+    let left = call_over(&rt, alloc, left.disk, &CHECKED);
     expect_text(&rt, "its check", &left, 0, "sound\n");
 }
 
@@ -487,10 +482,7 @@ fn go_on<R: Abort + Threads + Wait + Sync>(
     parts: &[Part],
 ) -> MemDisk {
     let script = whole(rt, alloc, parts);
-    let case = Case {
-        script: script.as_bytes(),
-        ..PLAIN
-    };
+    let case = script_run(script.as_bytes());
     let left = call_over(rt, alloc, disk, &case);
     expect_same(rt, &left.status, &0, &"a run of many loads");
     before.push_str(script.as_str()).expect(rt, "memory");
