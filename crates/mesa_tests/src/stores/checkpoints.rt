@@ -497,22 +497,28 @@ fn turn<R: Abort + Threads + Wait + Sync>(
     disk: MemDisk,
     before: &str,
     area: Area,
+    number: u32,
 ) -> MemDisk {
     let since = disk.clock();
-    let left = call_over(rt, alloc, disk, &asked());
+    let mut left = call_over(rt, alloc, disk, &asked());
     expect_replayed_behind(rt, alloc, before, QUESTIONS, &left.text);
     let answers = str::from_utf8(&left.text).unwrap_or("no text");
     for moment in since..=left.disk.clock() {
         expect_same_answers(rt, alloc, &left.disk, moment, answers);
     }
-    let len = left.disk.journal_len(area);
-    expect_that(
-        rt,
-        40 < len && len < 65_536,
-        &len,
-        &"the bytes of the other area",
-    );
+    expect_checkpoint(rt, &mut left.disk, area, number);
     left.disk
+}
+
+// Stops the test where an area doesn't begin with the checkpoint of a number.
+fn expect_checkpoint(rt: &impl Abort, disk: &mut MemDisk, area: Area, number: u32) {
+    let mut front = [0u8; 10];
+    if disk.journal_len(area) >= 10 {
+        disk.journal_read(area, 0, &mut front).expect(rt, "an area");
+    }
+    let [gate, _, _, _, _, kind, a, b, c, d] = front;
+    let found = (gate, kind, u32::from_be_bytes([a, b, c, d]));
+    expect_same(rt, &found, &(1, 13, number), &"the first record of an area");
 }
 
 // Stops the test where an image of a moment isn't sound or answers otherwise.
@@ -538,15 +544,17 @@ fn from_area_to_area(rt: HostRuntime) {
     let mut before = String::new(alloc);
     let mut disk = go_on(&rt, alloc, empty_disk(alloc), &mut before, &BEGINNING);
     let mut area = Area::One;
+    let mut number = 1;
     for round in &ROUNDS {
-        disk = turn(&rt, alloc, disk, before.as_str(), area);
+        disk = turn(&rt, alloc, disk, before.as_str(), area, number);
         disk = go_on(&rt, alloc, disk, &mut before, round);
         area = match area {
             Area::Zero => Area::One,
             Area::One => Area::Zero,
         };
+        number = number.wrapping_add(1);
     }
-    let disk = turn(&rt, alloc, disk, before.as_str(), area);
+    let disk = turn(&rt, alloc, disk, before.as_str(), area, number);
     let checked = call_over(&rt, alloc, disk, &CHECKED);
     expect_text(&rt, "the check of the store", &checked, 0, "sound\n");
 }

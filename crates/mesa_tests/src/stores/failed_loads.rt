@@ -102,7 +102,7 @@ static CASES: [FailedLoad; 7] = [
             name: "the adoption of a file that fails",
             ..CLOSED
         },
-        fails: &[18],
+        fails: &[19],
         stop: None,
         next: WITHOUT,
     },
@@ -111,7 +111,7 @@ static CASES: [FailedLoad; 7] = [
             name: "the write of a gate that fails",
             ..CLOSED
         },
-        fails: &[21],
+        fails: &[22],
         stop: None,
         next: WITHOUT,
     },
@@ -120,7 +120,7 @@ static CASES: [FailedLoad; 7] = [
             name: "the last sync that fails",
             ..CLOSED
         },
-        fails: &[22],
+        fails: &[23],
         stop: None,
         next: WITH,
     },

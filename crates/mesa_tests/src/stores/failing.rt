@@ -156,7 +156,7 @@ fn each_call_failing_up_to_the_last(rt: HostRuntime) {
             break;
         }
     }
-    // Opening takes nine calls, and each of the six commands that change the store four or more.
+    // Opening takes ten calls, and each of the six commands that change the store four or more.
     expect_that(
         &rt,
         33 <= calls && calls < 99,

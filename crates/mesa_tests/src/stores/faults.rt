@@ -207,13 +207,13 @@ const NEXT: Case<'static> = Case {
     ..PLAIN
 };
 
-// The calls on an empty disk. Opening reads the journal and lists the files, syncs, writes the first gate and
+// The calls on an empty disk. Opening reads both areas of the journal and lists the files, syncs, writes the first gate and
 // syncs, and appends the run's record by four calls: its body, a sync, its gate, a sync. A table takes four
 // calls, a load five, of which the first adopts its file, and the query a call for each of its two readers.
 // Of a record whose last sync failed the gate is open on this disk: the record is there.
 static CALLS: [Failing; 9] = [
     Failing {
-        calls: (0, 8),
+        calls: (0, 9),
         first: Case {
             status: 6,
             text: "mesa: disk fault\n",
@@ -226,7 +226,7 @@ static CALLS: [Failing; 9] = [
         },
     },
     Failing {
-        calls: (9, 11),
+        calls: (10, 12),
         first: Case {
             status: 1,
             text: "0.1@0 refused write_fault\n\
@@ -242,7 +242,7 @@ static CALLS: [Failing; 9] = [
         },
     },
     Failing {
-        calls: (12, 12),
+        calls: (13, 13),
         first: Case {
             status: 1,
             text: "0.1@0 refused write_fault\n\
@@ -258,7 +258,7 @@ static CALLS: [Failing; 9] = [
         },
     },
     Failing {
-        calls: (13, 16),
+        calls: (14, 17),
         first: Case {
             status: 1,
             text: "0.1@0 table t\n\
@@ -274,7 +274,7 @@ static CALLS: [Failing; 9] = [
         },
     },
     Failing {
-        calls: (17, 17),
+        calls: (18, 18),
         first: Case {
             status: 1,
             text: "0.1@0 table t\n\
@@ -290,7 +290,7 @@ static CALLS: [Failing; 9] = [
         },
     },
     Failing {
-        calls: (18, 21),
+        calls: (19, 22),
         first: Case {
             status: 1,
             text: "0.1@0 table t\n\
@@ -306,7 +306,7 @@ static CALLS: [Failing; 9] = [
         },
     },
     Failing {
-        calls: (22, 22),
+        calls: (23, 23),
         first: Case {
             status: 1,
             text: "0.1@0 table t\n\
@@ -322,7 +322,7 @@ static CALLS: [Failing; 9] = [
         },
     },
     Failing {
-        calls: (23, 24),
+        calls: (24, 25),
         first: Case {
             status: 1,
             text: "0.1@0 table t\n\
@@ -337,9 +337,9 @@ static CALLS: [Failing; 9] = [
             ..NEXT
         },
     },
-    // The next run's first call, which reads the journal.
+    // The next run's first call, which reads an area of the journal.
     Failing {
-        calls: (25, 25),
+        calls: (26, 26),
         first: Case {
             status: 0,
             text: "0.1@0 table t\n\
