@@ -112,7 +112,7 @@ fn reads_one_row(rt: HostRuntime) {
     for (format, agg, spelled, value) in &VALUES {
         let schema = schema(&rt, rt.alloc(), KeyType::Int, *agg);
         let bytes = block_of(&rt, rt.alloc(), spelled);
-        let block = read_block(rt.alloc(), *format, &schema, &bytes).expect(&rt, "a block");
+        let block = read_block(rt.alloc(), &schema, *format, &bytes).expect(&rt, "a block");
         assert_eq!(rt; block.len(), 1);
         let row = block.row(0);
         expect_same(&rt, &row.key, &&ONE[3..11], &"the row's key");
@@ -157,7 +157,7 @@ fn expect_faults(
 ) {
     let schema = schema(rt, alloc, kind, agg);
     for (bytes, fault) in faults {
-        let found = read_block(alloc, format, &schema, bytes).err();
+        let found = read_block(alloc, &schema, format, bytes).err();
         expect_same(rt, &found, &Some(*fault), bytes);
     }
 }

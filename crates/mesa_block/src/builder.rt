@@ -14,6 +14,7 @@ use mesa_schema::{LentRow, Schema};
 use mesa_value::Amount;
 use std::alloc::{AllocError, Global};
 use std::marker::Model;
+use std::mem::swap;
 
 /// How many bytes stand before a block's columns.
 const HEAD: usize = 3;
@@ -33,6 +34,8 @@ pub struct BlockBuilder {
     values: Vec<Amount>,
     len: usize,
     cells: Vec<u8>,
+    // Where a block is spelled, so that the caller's buffer stays as it is until the whole block stands.
+    spelled: Vec<u8>,
 }
 
 impl Model for BlockBuilder {
@@ -60,6 +63,7 @@ impl Drop for BlockBuilder {
             values: _,
             len: _,
             cells: _,
+            spelled: _,
         } = self;
     }
 }
@@ -80,6 +84,7 @@ impl BlockBuilder {
             values: Vec::new(alloc),
             len: HEAD,
             cells: Vec::new(alloc),
+            spelled: Vec::new(alloc),
         })
     }
 
@@ -105,19 +110,27 @@ impl BlockBuilder {
         Ok(true)
     }
 
-    /// Puts the bytes of the block into the buffer, in place of what is there, and the next block is empty.
+    /// Gives the bytes of the block in place of what is in the buffer, and the next block is empty. The buffers are exchanged: what was in the caller's is written over by the next block.
     pub fn take(&mut self, out: &mut Vec<u8>) -> Result<(), AllocError>
         requires { 0 < length self.old.rows }
         ensures spelled { OnOk result (out.new.items ≡ block self.old.layout self.old.rows) }
         ensures rows { OnOk result (AreRows self.old.layout self.old.rows) }
         ensures empty { OnOk result (self.new ≡ record self.old { rows = [] }) }
         ensures err { OnErr result (self.new ≡ self.old) }
+        ensures refused { OnErr result (out.new.items ≡ out.old.items) }
     {
         reads_back();
-        out.clear();
-        put_head(out, self.keys.len())?;
-        put_keys(self.alloc, out, &mut self.cells, &self.kinds, &self.keys)?;
-        put_values(out, &self.values, &self.widths)?;
+        self.spelled.clear();
+        put_head(&mut self.spelled, self.keys.len())?;
+        put_keys(
+            self.alloc,
+            &mut self.spelled,
+            &mut self.cells,
+            &self.kinds,
+            &self.keys,
+        )?;
+        put_values(&mut self.spelled, &self.values, &self.widths)?;
+        swap(out, &mut self.spelled);
         self.clear();
         Ok(())
     }

@@ -211,8 +211,8 @@ fn read_rows(
 /// The block of the format that the bytes spell, all of them.
 pub fn read_block(
     alloc: Global,
-    format: Format,
     schema: &Schema,
+    format: Format,
     bytes: &[u8],
 ) -> Result<Block, BlockError>
     // What is read makes a block, and the bytes are its spelling.

@@ -147,6 +147,14 @@ impl Index {
         &self.last
     }
 
+    /// Where a block begins in the file.
+    pub fn offset(&self, i: u32) -> u64
+        requires { i < length self.now.entries }
+        ensures { result ≡ (entry_of self.now.entries i).offset }
+    {
+        self.entry(i).offset
+    }
+
     /// A block's entry.
     pub(crate) fn entry(&self, i: u32) -> Entry
         requires { i < length self.now.entries }

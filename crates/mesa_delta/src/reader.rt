@@ -125,7 +125,7 @@ fn block_in(
     ensures none { IfOk result (λ o. IfNone o (IsNoneIn (record { format = format; columns = schema.now }) short.now bytes.now)) }
 {
     reads_blocks();
-    match read_block(alloc, format, schema, bytes) {
+    match read_block(alloc, schema, format, bytes) {
         Ok(block) => {
             if begins(&block, short) {
                 Ok(Some(block))

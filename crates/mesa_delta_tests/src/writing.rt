@@ -60,7 +60,7 @@ fn write_row(
 fn write_one(rt: &impl Abort, alloc: Global, fails: &[(u64, u64)]) -> Written {
     let calls = fails.to_vec(alloc).expect(rt, "memory");
     let schema = schema(rt, alloc, KeyType::Int);
-    match read_block(alloc, Format::Two, &schema, &TWO_FILE[..27]) {
+    match read_block(alloc, &schema, Format::Two, &TWO_FILE[..27]) {
         Ok(block) => write_row(rt, alloc, &schema, block.row(0), calls),
         Err(_) => panic!(rt; "no block"),
     }

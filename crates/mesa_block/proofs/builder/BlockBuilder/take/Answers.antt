@@ -27,5 +27,5 @@ returns-clause-spelled c =
     let count : length b.widths.items ≡ length b.schema.values = ap length h.widths ∙ length-map b.schema.values (λ (c : ValueColumn). width_of b.format c.agg) in
     let over : AreOver (length c.deref-3.result.now) b.keys c.deref-2.result.now = rw (c.deref-2.ensures.value, c.deref-3.ensures.value, count) h.over in
     let values = rw (c.deref-2.ensures.value, c.deref-3.ensures.value, count) at (c.in_ok-put_values.ensures b.keys over) in
-    subst (λ (x : Built). c.put_values.new.out.items ≡ block x.layout x.rows) c.self.view_is
-    (block_held (record { format = b.format; columns = b.schema }) b.kinds.items b.widths.items b.size b.keys b.values.items b.len c.len.result c.put_head.new.out.items c.put_keys.new.out.items c.put_values.new.out.items h c.len.ensures head keys values)
+    subst (λ (x : Built). c.swap.new.x.items ≡ block x.layout x.rows) c.self.view_is
+    (rw c.swap.ensures.x_after (block_held (record { format = b.format; columns = b.schema }) b.kinds.items b.widths.items b.size b.keys b.values.items b.len c.len.result c.put_head.new.out.items c.put_keys.new.out.items c.put_values.new.out.items h c.len.ensures head keys values))
