@@ -253,6 +253,7 @@ where
     fn reader(&mut self, id: FileId) -> Result<DirReader<S>, OpenFault>
         ensures opened { IfOk result (λ r. (i : Image) → (story_of self.old).told ≡ Some i
             → (b : List ℕ) × (file_of i id ≡ Some b) × (None ≡ Some b)) }
+        ensures untold { IfOk result (λ r. (story_of self.old).told ≡ None → (◌≡◌ {A = Option (List ℕ)} None None)) }
         ensures fresh { IfOk result (λ r. reader_faults r ≡ 0) }
         ensures absent { IfErr result (λ e. e ≡ Absent → (i : Image) → (story_of self.old).told ≡ Some i → file_of i id ≡ None) }
         ensures unmoved { Unmoved (story_of self.old) (story_of self.new) }

@@ -1,5 +1,5 @@
 -- Which calls on a bench in memory and on its drafts fail.
-use Rattle.std.specs.Prelude.{◌≡◌, ℕ, ◌+◌, ◌==◌, min, List, map}
+use Rattle.std.specs.Prelude.{◌≡◌, ◌⊎◌, ℕ, ◌+◌, ◌==◌, min, List, map}
 use Rattle.std.specs.List.{Contains, filter}
 use Rattle.mesa_fault.specs.Causes.{last}
 use Rattle.mesa_disk.specs.declared.memory.bench.MemBench.{MemBench}
@@ -12,6 +12,10 @@ failing_calls b = b.fails.items
 -- how many drafts were asked for
 abbrev pub drafts_made : MemBench → ℕ
 drafts_made b = b.drafts
+
+-- the ids under which drafts were given, in their order
+abbrev pub given_ids : MemBench → List ℕ
+given_ids b = b.given.items
 
 -- how often a bench has failed
 abbrev pub bench_faults : MemBench → ℕ
@@ -37,9 +41,9 @@ draft_calls d = d.calls
 abbrev pub calls_of : ℕ → List (ℕ × ℕ) → List ℕ
 calls_of draft fails = map (λ f. f.1) (filter (λ f. f.0 == draft) fails)
 
--- The next draft of a bench fails.
-abbrev pub DraftIsDue : MemBench → Type 0
-DraftIsDue b = Contains (failing_calls b) (drafts_made b, 0)
+-- The next draft of a bench fails, if it is asked for under this id: its number is one of those that are to fail, or a draft was given under this id before.
+abbrev pub DraftIsDue : MemBench → ℕ → Type 0
+DraftIsDue b id = Contains (failing_calls b) (drafts_made b, 0) ⊎ Contains (given_ids b) id
 
 -- The next call on a draft fails; they are counted from 1.
 abbrev pub CallIsDue : MemDraft → Type 0

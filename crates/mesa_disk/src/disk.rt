@@ -103,6 +103,7 @@ pub trait Disk<M: Made>: Send {
     fn reader(&mut self, id: FileId) -> Result<Self::Reader, OpenFault>
         ensures opened { IfOk result (λ r. (i : Image) → (story self.old).told ≡ Some i
             → (b : List ℕ) × (file_of i id ≡ Some b) × (Self.Reader.bytes r ≡ Some b)) }
+        ensures untold { IfOk result (λ r. (story self.old).told ≡ None → Self.Reader.bytes r ≡ None) }
         ensures fresh { IfOk result (λ r. Self.Reader.faults r ≡ 0) }
         ensures absent { IfErr result (λ e. e ≡ Absent → (i : Image) → (story self.old).told ≡ Some i → file_of i id ≡ None) }
         ensures unmoved { Unmoved (story self.old) (story self.new) }

@@ -265,3 +265,20 @@ fn the_named_calls_on_drafts_fail(rt: HostRuntime) {
     spoil_a_draft(&rt, &mut bench);
     make_a_draft(&rt, &mut bench);
 }
+
+// Stops the test of a bench that gives a draft under the id 9.
+fn expect_refused(rt: &impl Abort, bench: &mut MemBench, when: &str) {
+    let failed = Some(DraftError::Failed);
+    expect_same(rt, &bench.draft(FileId::of(9)).err(), &failed, &when);
+}
+
+#[test]
+fn a_bench_gives_an_id_once(rt: HostRuntime) {
+    let mut bench = MemBench::new(rt.alloc(), Vec::new(rt.alloc()));
+    let first = bench.draft(FileId::of(9)).expect(&rt, "a draft");
+    expect_refused(&rt, &mut bench, "while it is written");
+    bench.spoil(first);
+    expect_refused(&rt, &mut bench, "once it was given back");
+    let other = bench.draft(FileId::of(8)).expect(&rt, "another draft");
+    bench.spoil(other);
+}

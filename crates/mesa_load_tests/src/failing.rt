@@ -1,6 +1,5 @@
 // Drafts that fail one after another.
-use crate::loads::{VIEW_OF_A, expect_fault};
-use mesa_disk::MemBench;
+use crate::loads::{Session, VIEW_OF_A, expect_fault};
 use mesa_tasks::LoadError;
 use std::alloc::Global;
 use std::process::Abort;
@@ -24,10 +23,10 @@ static LOAD: &[u8] = b"t;1;3;1 t;1;4;-3";
 // Prepares a load through a bench whose one call fails, and again.
 fn fail_once<R: Abort + Threads + Sync>(rt: &R, alloc: Global, call: (u64, u64)) {
     let calls = vec![in alloc; call].expect(rt, "memory");
-    let mut bench = MemBench::new(alloc, calls);
+    let mut session = Session::new(alloc, calls);
     let failed = Some(LoadError::Draft);
-    expect_fault(rt, alloc, &mut bench, VIEW_OF_A, LOAD, failed);
-    expect_fault(rt, alloc, &mut bench, VIEW_OF_A, LOAD, None);
+    expect_fault(rt, alloc, &mut session, VIEW_OF_A, LOAD, failed);
+    expect_fault(rt, alloc, &mut session, VIEW_OF_A, LOAD, None);
 }
 
 #[test]
@@ -40,7 +39,7 @@ fn each_failed_call_of_a_draft_is_told(rt: HostRuntime) {
 #[test]
 fn two_drafts_that_fail_are_told_as_one(rt: HostRuntime) {
     let calls = vec![in rt.alloc(); (0, 2), (1, 1)].expect(&rt, "memory");
-    let mut bench = MemBench::new(rt.alloc(), calls);
+    let mut session = Session::new(rt.alloc(), calls);
     let failed = Some(LoadError::Draft);
-    expect_fault(&rt, rt.alloc(), &mut bench, VIEW_OF_A, LOAD, failed);
+    expect_fault(&rt, rt.alloc(), &mut session, VIEW_OF_A, LOAD, failed);
 }

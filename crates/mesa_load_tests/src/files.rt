@@ -1,8 +1,8 @@
 // Which files a batch gets.
 use crate::expected::expect_same;
-use crate::loads::{VIEW_OF_A, expect_fault, prepared};
+use crate::loads::{Session, VIEW_OF_A, expect_fault, prepared};
 use mesa_batch::BatchError;
-use mesa_disk::{Made, MemBench, MemMade};
+use mesa_disk::{Made, MemMade};
 use mesa_tasks::{LoadError, MadeFile, MadeFiles, Prepared, PreparedPart};
 use std::alloc::{AllocError, Global};
 use std::process::Abort;
@@ -93,8 +93,8 @@ fn told(rt: &impl Abort, alloc: Global, prepared: &Prepared<MemMade>) -> String 
 type Case = (Option<&'static [u8]>, &'static [u8], &'static str);
 
 // Stops the test of a load that is refused, or of which something else is told.
-fn expect<R: Abort + Threads + Sync>(rt: &R, alloc: Global, bench: &mut MemBench, case: &Case) {
-    let prepared = prepared(rt, alloc, bench, case.0, case.1).expect(rt, "what is prepared");
+fn expect<R: Abort + Threads + Sync>(rt: &R, alloc: Global, session: &mut Session, case: &Case) {
+    let prepared = prepared(rt, alloc, session, case.0, case.1).expect(rt, "what is prepared");
     let text = told(rt, alloc, &prepared);
     expect_same(rt, &text.as_str(), &case.2, case);
 }
@@ -108,20 +108,20 @@ static WITHOUT_VIEW: Case = (
 static WITH_VIEW: Case = (
     VIEW_OF_A,
     b"t;1;3;1 t;1;4;-3",
-    "generation=7 table=0 total=4 serial=0 rows=2 key=16 sum=-2 same=true view=0 serial=1 rows=1 key=8 sum=-2 same=true",
+    "generation=7 table=0 total=4 serial=1 rows=2 key=16 sum=-2 same=true view=0 serial=2 rows=1 key=8 sum=-2 same=true",
 );
 
 #[test]
 fn a_view_gets_files_once_it_is_there(rt: HostRuntime) {
     let alloc = rt.alloc();
-    let mut bench = MemBench::new(alloc, Vec::new(alloc));
-    expect(&rt, alloc, &mut bench, &WITHOUT_VIEW);
-    expect(&rt, alloc, &mut bench, &WITH_VIEW);
+    let mut session = Session::new(alloc, Vec::new(alloc));
+    expect(&rt, alloc, &mut session, &WITHOUT_VIEW);
+    expect(&rt, alloc, &mut session, &WITH_VIEW);
 }
 
-// A bench of which no draft can be made.
-fn no_bench(rt: &impl Abort, alloc: Global) -> MemBench {
-    MemBench::new(alloc, vec![in alloc; (0, 0)].expect(rt, "memory"))
+// A session whose bench makes no draft.
+fn no_bench(rt: &impl Abort, alloc: Global) -> Session {
+    Session::new(alloc, vec![in alloc; (0, 0)].expect(rt, "memory"))
 }
 
 static PAST_THE_BOUND: Case = (
@@ -132,16 +132,16 @@ static PAST_THE_BOUND: Case = (
 
 #[test]
 fn a_batch_past_the_bound_opens_no_draft(rt: HostRuntime) {
-    let mut bench = no_bench(&rt, rt.alloc());
-    expect(&rt, rt.alloc(), &mut bench, &PAST_THE_BOUND);
+    let mut session = no_bench(&rt, rt.alloc());
+    expect(&rt, rt.alloc(), &mut session, &PAST_THE_BOUND);
 }
 
 static NO_ROWS: Case = (VIEW_OF_A, b"", "generation=7");
 
 #[test]
 fn a_load_without_rows_has_no_part(rt: HostRuntime) {
-    let mut bench = no_bench(&rt, rt.alloc());
-    expect(&rt, rt.alloc(), &mut bench, &NO_ROWS);
+    let mut session = no_bench(&rt, rt.alloc());
+    expect(&rt, rt.alloc(), &mut session, &NO_ROWS);
 }
 
 // Loads that make no batch, and why.
@@ -167,9 +167,9 @@ static REFUSED: [(&[u8], BatchError); 4] = [
 
 #[test]
 fn rows_that_make_no_batch_are_refused(rt: HostRuntime) {
-    let mut bench = no_bench(&rt, rt.alloc());
+    let mut session = no_bench(&rt, rt.alloc());
     for (load, fault) in &REFUSED {
         let wanted = Some(LoadError::Batch(*fault));
-        expect_fault(&rt, rt.alloc(), &mut bench, None, load, wanted);
+        expect_fault(&rt, rt.alloc(), &mut session, None, load, wanted);
     }
 }

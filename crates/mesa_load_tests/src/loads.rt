@@ -96,29 +96,46 @@ pub fn load(rt: &impl Abort, alloc: Global, text: &[u8]) -> LoadRows {
     rows
 }
 
-/// Prepares a load of the table with this view, through a bench of which these calls fail.
+/// A session's bench, and the ids of its drafts, which go on from load to load.
+#[derive(Drop)]
+pub struct Session {
+    bench: MemBench,
+    ids: Serials,
+}
+
+impl Session {
+    /// A session whose bench fails these calls.
+    pub fn new(alloc: Global, fails: Vec<(u64, u64)>) -> Session {
+        Session {
+            bench: MemBench::new(alloc, fails),
+            ids: Serials::new(1, 2),
+        }
+    }
+}
+
+/// Prepares a load of the table with this view.
 pub fn prepared<R: Abort + Threads + Sync>(
     rt: &R,
     alloc: Global,
-    bench: &mut MemBench,
+    session: &mut Session,
     view: Option<&[u8]>,
     text: &[u8],
 ) -> Result<Prepared<MemMade>, LoadError> {
-    let mut ids = Serials::new(1, 2);
     let glance = glance(rt, alloc, view);
     let rows = load(rt, alloc, text);
-    prepare(rt, alloc, bench, &mut ids, &glance, &rows)
+    let Session { bench, ids } = session;
+    prepare(rt, alloc, bench, ids, &glance, &rows)
 }
 
 /// Stops the test of a load that is prepared though it isn't to be, or not prepared for another reason.
 pub fn expect_fault<R: Abort + Threads + Sync>(
     rt: &R,
     alloc: Global,
-    bench: &mut MemBench,
+    session: &mut Session,
     view: Option<&[u8]>,
     text: &[u8],
     wanted: Option<LoadError>,
 ) {
-    let found = prepared(rt, alloc, bench, view, text).err();
+    let found = prepared(rt, alloc, session, view, text).err();
     expect_same(rt, &found, &wanted, &text);
 }

@@ -1,5 +1,5 @@
 //! Drafts in memory, of which chosen calls fail.
-ghost use Rattle.std.specs.Prelude.{◌≡◌, ◌↔◌, ◌+◌, ◌<◌, ◌≤◌, min, ℕ, List, [], ◌++◌, IfOk, IfErr, IsErr, IsTrue, OnOk, Some, Err, option_map};
+ghost use Rattle.std.specs.Prelude.{◌≡◌, ◌↔◌, ◌+◌, ◌<◌, ◌≤◌, min, ℕ, List, [], ◌∷◌, ◌++◌, IfOk, IfErr, IsErr, IsTrue, OnErr, OnOk, Some, Err, option_map};
 ghost use Rattle.mesa_fault.specs.Causes.{last, Rose, HasFaultCause};
 ghost use Rattle.mesa_disk.specs.declared.failures.DraftError.TheVariants.{Failed as DraftFailed};
 
@@ -105,25 +105,37 @@ pub struct MemBench {
     alloc: Global,
     fails: Vec<(u64, u64)>,
     drafts: u64,
+    // The numbers of the ids that have drafts.
+    given: Vec<u64>,
     faults: FaultCount,
 }
 
 impl MemBench {
-    ghost use Rattle.mesa_disk.specs.Benches.{bench_faults, calls_of, drafts_made, failing_calls};
+    ghost use Rattle.mesa_disk.specs.Benches.{DraftIsDue, bench_faults, calls_of, drafts_made, failing_calls, given_ids};
 
-    /// A bench of which chosen calls fail, and no others: `draft` call d, counted from 0, where (d, 0)
+    /// A bench of which chosen calls fail: `draft` call d, counted from 0, where (d, 0)
     /// stands in `fails`, and call c, counted from 1, on the draft that it gave, where (d, c) does.
+    /// Of the others those fail that ask for an id once more.
     pub fn new(alloc: Global, fails: Vec<(u64, u64)>) -> MemBench
         ensures fails { failing_calls result ≡ fails.items }
         ensures counted { drafts_made result ≡ 0 }
+        ensures unasked { given_ids result ≡ [] }
         ensures faults { bench_faults result ≡ 0 }
     {
         MemBench {
             alloc,
             fails,
             drafts: 0,
+            given: Vec::new(alloc),
             faults: FaultCount::new(),
         }
+    }
+
+    // Whether the next draft, under this id, is one that fails.
+    fn is_due(&self, id: FileId) -> bool
+        ensures { IsTrue result ↔ DraftIsDue self.now id }
+    {
+        self.fails.contains(&(self.drafts, 0)) || self.given.contains(&id.number())
     }
 
     // The numbers of the calls on the draft of this number that fail.
@@ -141,7 +153,7 @@ impl MemBench {
 }
 
 impl Bench<MemMade> for MemBench {
-    ghost use Rattle.mesa_disk.specs.Benches.{DraftIsDue, IsFresh, bench_faults, draft_bytes, draft_faults, draft_id, drafts_made, failing_calls};
+    ghost use Rattle.mesa_disk.specs.Benches.{DraftIsDue, IsFresh, bench_faults, draft_bytes, draft_faults, draft_id, drafts_made, failing_calls, given_ids};
 
     type Draft = MemDraft;
 
@@ -152,20 +164,26 @@ impl Bench<MemMade> for MemBench {
         ensures empty { IfOk result (λ d. (b : List ℕ) → Some (draft_bytes d) ≡ Some b → b ≡ []) }
         ensures fresh { IfOk result (λ d. draft_faults d ≡ 0) }
         ensures cause { HasFaultCause (λ e. e ≡ DraftFailed) (bench_faults self.old) (bench_faults self.new) result }
-        ensures due { (result ≡ Err DraftFailed) ↔ DraftIsDue self.old }
+        ensures due { (result ≡ Err DraftFailed) ↔ DraftIsDue self.old id }
         ensures begun { IfOk result (IsFresh self.old) }
+        ensures given { OnOk result (given_ids self.new ≡ given_ids self.old ++ id ∷ []) }
+        ensures refused { OnErr result (given_ids self.new ≡ given_ids self.old) }
         ensures counted { drafts_made self.new ≡ min (drafts_made self.old + 1) last }
         ensures same { failing_calls self.new ≡ failing_calls self.old }
     {
         let number = self.drafts;
+        let is_due = self.is_due(id);
         self.drafts = number.saturating_add(1);
-        if self.fails.contains(&(number, 0)) {
+        if is_due {
             self.faults.rise();
             return Err(DraftError::Failed);
         }
         let Ok(fails) = self.fails_of(number) else {
             return Err(DraftError::Memory);
         };
+        if self.given.push(id.number()).is_err() {
+            return Err(DraftError::Memory);
+        }
         Ok(MemDraft {
             alloc: self.alloc,
             id,
@@ -181,6 +199,7 @@ impl Bench<MemMade> for MemBench {
         ensures quiet { draft_faults failed ≡ 0 → bench_faults self.new ≡ bench_faults self.old }
         ensures later { bench_faults self.old ≤ bench_faults self.new }
         ensures drafts { drafts_made self.new ≡ drafts_made self.old }
+        ensures given { given_ids self.new ≡ given_ids self.old }
         ensures same { failing_calls self.new ≡ failing_calls self.old }
     {
         if failed.faults.get() > 0 {

@@ -329,6 +329,7 @@ impl Disk<MemMade> for MemDisk {
     fn reader(&mut self, id: FileId) -> Result<MemReader, OpenFault>
         ensures opened { IfOk result (λ r. (i : Image) → (story_of self.old).told ≡ Some i
             → (b : List ℕ) × (file_of i id ≡ Some b) × (Some (reader_bytes r) ≡ Some b)) }
+        ensures untold { IfOk result (λ r. (story_of self.old).told ≡ None → Some (reader_bytes r) ≡ None) }
         ensures fresh { IfOk result (λ r. reader_faults r ≡ 0) }
         ensures absent { IfErr result (λ e. e ≡ Absent → (i : Image) → (story_of self.old).told ≡ Some i → file_of i id ≡ None) }
         ensures unmoved { Unmoved (story_of self.old) (story_of self.new) }
