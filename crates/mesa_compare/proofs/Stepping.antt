@@ -13,13 +13,17 @@ use Rattle.mesa_delta.specs.declared.input.Input.{Input}
 use Rattle.mesa_cursor.specs.Cursors.{HasGiven, IsAllOf}
 use Rattle.mesa_cursor.specs.declared.cursor.Cursor.{Cursor}
 use Rattle.mesa_merge.specs.Inputs.{AreAll, knowns_of}
-use Rattle.mesa_merge.specs.Merged.{HasMerged, inputs_of, last_in}
+use Rattle.mesa_merge.specs.Merged.{HasMerged, IsGoing, failed_of, inputs_of, last_in}
 use Rattle.mesa_merge.specs.Sums.{IsLastOf}
 use Rattle.mesa_merge.specs.declared.merge.Merge.{Merge}
 
-pub if_none_from : {X : Type 0} (o : Option X) (P : Type 0) → P → IfNone o P
+if_none_from : {X : Type 0} (o : Option X) (P : Type 0) → P → IfNone o P
 if_none_from None P p = p
 if_none_from (Some x) P p = tt
+
+-- a merge of whole files may go on
+pub may_go_on : {R : Type 0} (bytes : R → Option (List ℕ)) (m : Merge R) (s : Columns) (givens : List (List Row)) → HasMerged bytes s m givens → IfNone (failed_of m) (IsGoing bytes m)
+may_go_on bytes m s givens h = if_none_from (failed_of m) (IsGoing bytes m) (None, None, s, givens, h)
 
 pub no_row : {X : Type 0} (more : Bool) (x : X) → IsTrue (not more) → then_some more x ≡ None
 no_row true x end = cc

@@ -1,5 +1,5 @@
 // Streams read to their ends.
-ghost use Rattle.std.specs.Prelude.{◌≡◌, [], ◌∷◌, ◌++◌, ℕ, List, IsTrue, IfErr, OnOk, Some};
+ghost use Rattle.std.specs.Prelude.{◌≡◌, [], ◌∷◌, ◌++◌, ℕ, List, IsTrue, IfErr, OnOk, None, Some};
 ghost use Rattle.mesa_disk.specs.mesa_fault.Causes.{HasFaultCause};
 ghost use Rattle.mesa_disk.specs.mesa_file.declared.damage.Damage.{Damage as AnyDamage};
 ghost use Rattle.mesa_schema.specs.declared.rows.Row.{Row as AnyRow};
@@ -8,7 +8,7 @@ ghost use Rattle.mesa_schema.specs.Folded.{folded, rows_of};
 ghost use Rattle.mesa_fold.specs.Bound.{KeepsBound};
 ghost use Rattle.mesa_delta.specs.declared.error.FileError.TheVariants as file_error;
 ghost use Rattle.mesa_delta.specs.Reading.{IsIndexed, index_of};
-ghost use Rattle.mesa_cursor.specs.Cursors.{HasGiven, IsAllOf, IsInput, IsSameInput, reader_in};
+ghost use Rattle.mesa_cursor.specs.Cursors.{HasGiven, IsAllOf, IsInput, IsSameInput, low_of, reader_in};
 ghost use Rattle.mesa_merge.specs.Faults.{HaveFaultCause, faults_of};
 ghost use Rattle.mesa_merge.specs.Inputs.{AreAll, AreTold, knowns_of, lifted_parts};
 ghost use Rattle.mesa_merge.specs.Merged.{HasMerged, inputs_of};
@@ -32,6 +32,7 @@ pub(crate) fn finish_both<R: FileReader>(
 ) -> Result<(), FileError>
     requires merge { (s : Columns) × (givens : List (List AnyRow)) × HasMerged R.bytes s merge.old givens }
     requires input { IsInput R.bytes input.old }
+    requires whole { low_of cursor.old ≡ None }
     ensures rest { OnOk result ((s : Columns) (givens : List (List AnyRow)) → HasMerged R.bytes s merge.old givens → (IsTrue merged → AreAll (knowns_of R.bytes (inputs_of merge.old)) givens)
         → (after : List (List AnyRow)) × (more : List AnyRow) × AreAll (knowns_of R.bytes (inputs_of merge.old)) after × (folded (aggs_of s) after ≡ folded (aggs_of s) givens ++ more) × (IsTrue merged → more ≡ [])) }
     ensures rows { OnOk result ((given : List AnyRow) → HasGiven R.bytes input.old cursor.old given → (IsTrue read → IsAllOf R.bytes input.old given)
@@ -82,7 +83,8 @@ pub(crate) fn finish_input<R: FileReader>(
     input: &mut Input<R>,
     ended: bool,
 ) -> Result<(), FileError>
-    requires { IsInput R.bytes input.old }
+    requires input { IsInput R.bytes input.old }
+    requires whole { low_of cursor.old ≡ None }
     ensures rest { OnOk result ((given : List AnyRow) → HasGiven R.bytes input.old cursor.old given → (IsTrue ended → IsAllOf R.bytes input.old given)
         → (more : List AnyRow) × HasGiven R.bytes input.new cursor.new (given ++ more) × IsAllOf R.bytes input.new (given ++ more) × (IsTrue ended → more ≡ [])) }
     ensures same { IsSameInput R.bytes input.old input.new }

@@ -1,5 +1,5 @@
 // A view's file compared with the rows of a table's file, grouped.
-ghost use Rattle.std.specs.Prelude.{◌≡◌, ◌∷◌, [], ◌<◌, ℕ, List, length, map, slice_get, IfErr, IfOk, IfSome, IsTrue, Some};
+ghost use Rattle.std.specs.Prelude.{◌≡◌, ◌∷◌, [], ◌<◌, ℕ, List, length, map, slice_get, IfErr, IfOk, IfSome, IsTrue, None, Some};
 ghost use Rattle.mesa_disk.specs.mesa_fault.Causes.{HasFaultCause};
 ghost use Rattle.mesa_disk.specs.mesa_file.declared.damage.Damage.{Damage as AnyDamage};
 ghost use Rattle.mesa_schema.specs.declared.rows.Row.{Row as AnyRow};
@@ -9,7 +9,7 @@ ghost use Rattle.mesa_schema.specs.Views.{view_rows};
 ghost use Rattle.mesa_answer.specs.Answering.{KeepsSums};
 ghost use Rattle.mesa_delta.specs.Reading.{IsIndexed, index_of};
 ghost use Rattle.mesa_delta.specs.declared.error.FileError.TheVariants as file_error;
-ghost use Rattle.mesa_cursor.specs.Cursors.{HasGiven, IsInput, IsSameInput, lift_by, reader_in};
+ghost use Rattle.mesa_cursor.specs.Cursors.{HasGiven, IsInput, IsSameInput, lift_by, low_of, reader_in};
 ghost use Rattle.mesa_merge.specs.Faults.{HaveFaultCause};
 ghost use Rattle.mesa_difference.specs.Difference.{first_difference};
 
@@ -97,7 +97,8 @@ fn further_key<R: FileReader>(
     cursor: &mut Cursor,
     input: &mut Input<R>,
 ) -> Result<Option<KeyBytes>, FileError>
-    requires { IsInput R.bytes input.old }
+    requires input { IsInput R.bytes input.old }
+    requires whole { low_of cursor.old ≡ None }
     ensures difference { IfOk result (λ o. (given : List AnyRow) (b : List ℕ) (all : List AnyRow) → HasGiven R.bytes input.old cursor.old given → R.bytes (reader_in input.old) ≡ Some b → IsIndexed (index_of input.old.reader) all b
         → o ≡ first_difference given (map (lift_by input.old) all)) }
     ensures same { IsSameInput R.bytes input.old input.new }

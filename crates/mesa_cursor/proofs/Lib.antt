@@ -1,5 +1,10 @@
 pub mod Lifted
 pub mod Handing
-pub mod Giving
+pub mod Cutting
+pub mod Cuts
+pub mod Starting
 pub mod Rising
+pub mod Following
+pub mod Giving
+pub mod Taken
 pub mod Ending

@@ -19,9 +19,9 @@ pub lifts_all : (lift : Lift) (l : Lineage) (epoch : ℕ) (rows : List Row) → 
 lifts_all lift l epoch [] lifts all = refl
 lifts_all lift l epoch (row ∷ rows) lifts all = λ i. lifts row all.0.values i ∷ lifts_all lift l epoch rows lifts all.1 i
 
-forms : (s : Layout) (rows : List Row) → AllByRecursion (IsRow s) rows → AreRowsOf s.columns rows
-forms s [] all = tt
-forms s (row ∷ rows) all = (all.0.form, forms s rows all.1)
+pub row_forms : (s : Layout) (rows : List Row) → AllByRecursion (IsRow s) rows → AreRowsOf s.columns rows
+row_forms s [] all = tt
+row_forms s (row ∷ rows) all = (all.0.form, row_forms s rows all.1)
 
 forms_append : (s : Columns) (xs ys : List Row) → AreRowsOf s xs → AreRowsOf s ys → AreRowsOf s (xs ++ ys)
 forms_append s [] ys p q = q
@@ -29,7 +29,7 @@ forms_append s (x ∷ xs) ys p q = (p.0, forms_append s xs ys p.1 q)
 
 -- the rows of a block have the form of its columns
 pub block_forms : (s : Layout) (rows : List Row) → AreRows s rows → AreRowsOf s.columns rows
-block_forms s rows block = forms s rows block.good
+block_forms s rows block = row_forms s rows block.good
 
 -- and those of many blocks
 pub all_forms : (s : Layout) (parts : List (List Row)) → AllByRecursion (AreRows s) parts → AreRowsOf s.columns (rows_of parts)

@@ -1,31 +1,12 @@
 -- A file's rows one by one.
-use Rattle.std.proofs.Common.{◌≡◌, ℕ, ◌≤◌, List, [], ◌∷◌, ◌++◌, length, sym, ap, subst, ◌∙◌, arith, append_assoc}
+use Rattle.std.proofs.Common.{◌≡◌, ℕ, ◌≤◌, List, [], ◌∷◌, ◌++◌, subst, ◌∙◌}
 use Rattle.std.specs.Prelude.{Option, Err}
 use Rattle.mesa_disk.specs.mesa_fault.Causes.{HasFaultCause, Rose}
 use Rattle.mesa_schema.specs.declared.rows.Row.{Row}
-use Rattle.mesa_schema.specs.declared.lifting.Lift.{Lift}
-use Rattle.mesa_schema.specs.Lifting.{Lifts}
 use Rattle.mesa_schema.specs.Columns.{Columns}
 use Rattle.mesa_schema.specs.Rows.{AreRowsOf, IsRowOf}
 use Rattle.mesa_delta.specs.declared.input.Input.{Input}
-use Rattle.mesa_cursor.specs.declared.cursor.Cursor.{Cursor}
-use Rattle.mesa_cursor.specs.Cursors.{HasGiven, IsSameInput, at_hand, lift_of, next_of}
-
--- the row at hand is given
-pub taken : {R : Type 0} (bytes : R → Option (List ℕ)) (i : Input R) (was now : Cursor) (given : List Row) (row : Row) → at_hand was ≡ row ∷ at_hand now → lift_of now ≡ lift_of was → next_of now ≡ next_of was
-    → HasGiven bytes i was given → HasGiven bytes i now (given ++ row ∷ [])
-taken bytes i was now given row hand lift next h = record {
-  parts = h.parts;
-  input = h.input;
-  lifts = subst (λ (l : Lift). Lifts l i.evolving.value i.epoch) (sym lift) h.lifts;
-  read = h.read;
-  next = next ∙ h.next;
-  within = h.within;
-  few = omega (arith, h.few, ap length hand);
-  rows = append_assoc given (row ∷ []) (at_hand now) ∙ ap (λ rows. given ++ rows) (sym hand) ∙ h.rows;
-  whole = h.whole;
-  again = h.again;
-}
+use Rattle.mesa_cursor.specs.Cursors.{IsSameInput}
 
 -- one of many rows has the form of all
 pub form_in : (s : Columns) (front : List Row) (row : Row) (rows : List Row) → AreRowsOf s (front ++ row ∷ rows) → IsRowOf s row

@@ -1,7 +1,7 @@
 // A file's rows one by one.
-ghost use Rattle.std.specs.Prelude.{◌≡◌, [], ◌∷◌, ◌++◌, ℕ, List, IfOk, IfErr, IfSome, IfNone, Some};
+ghost use Rattle.std.specs.Prelude.{◌≡◌, [], ◌∷◌, ◌++◌, ℕ, List, IfOk, IfErr, IfSome, IfNone, None, Some};
 ghost use Rattle.std.specs.Bool.{then_some};
-ghost use Rattle.mesa_tasks.specs.mesa_cursor.Cursors.{HasGiven, IsAllOf, IsInput, IsSameInput, reader_in};
+ghost use Rattle.mesa_tasks.specs.mesa_cursor.Cursors.{HasGiven, IsAllOf, IsInput, IsSameInput, low_of, reader_in};
 ghost use Rattle.mesa_disk.specs.mesa_fault.Causes.{HasFaultCause};
 ghost use Rattle.mesa_disk.specs.mesa_file.declared.damage.Damage.{Damage as AnyDamage};
 ghost use Rattle.mesa_schema.specs.declared.rows.Row.{Row as AnyRow};
@@ -25,13 +25,15 @@ pub fn next_row<R: FileReader>(
     ensures some { IfOk result (λ more. IfSome (then_some more row.new) (λ next. (given : List AnyRow) → HasGiven R.bytes input.old cursor.old given → HasGiven R.bytes input.new cursor.new (given ++ next ∷ []) × IsRowOf (columns_of input.old.evolving.value) next)) }
     ensures none { IfOk result (λ more. IfNone (then_some more row.new) ((given : List AnyRow) → HasGiven R.bytes input.old cursor.old given → HasGiven R.bytes input.new cursor.new given × IsAllOf R.bytes input.new given)) }
 
+    ensures low { low_of cursor.new ≡ low_of cursor.old }
+
     // The input stays one, of the same file.
     ensures input { IsInput R.bytes input.old → IsInput R.bytes input.new }
     ensures same { IsSameInput R.bytes input.old input.new }
 
     // Read comes where the count of faults rose, and Damaged where the file isn't the recorded one.
     ensures cause { HasFaultCause (λ e. e ≡ file_error.Read) (R.faults (reader_in input.old)) (R.faults (reader_in input.new)) result }
-    ensures accepts { IfErr result (λ e. (d : AnyDamage) → e ≡ file_error.Damaged d → IsInput R.bytes input.old
+    ensures accepts { IfErr result (λ e. (d : AnyDamage) → e ≡ file_error.Damaged d → low_of cursor.old ≡ None → IsInput R.bytes input.old
         → (b : List ℕ) (all : List AnyRow) → R.bytes (reader_in input.old) ≡ Some b → IsIndexed (index_of input.old.reader) all b → ⊥) }
 {
     match cursor.fill(input) {

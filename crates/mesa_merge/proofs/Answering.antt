@@ -1,5 +1,6 @@
 -- What a call of a merge answers, by what it says of the row that the merge then lends.
-use Rattle.std.specs.Prelude.{ℕ, List, Bool, Option, Result, Ok, Err, IfOk, IfErr}
+use Rattle.std.proofs.Common.{◌≡◌, ap, false}
+use Rattle.std.specs.Prelude.{ℕ, List, Bool, Option, None, Result, Ok, Err, IfOk, IfErr}
 use Rattle.std.specs.Bool.{then_some}
 use Rattle.mesa_schema.specs.declared.rows.Row.{Row}
 use Rattle.mesa_delta.specs.declared.error.FileError.{FileError}
@@ -15,6 +16,9 @@ answered (Err e) m P h = tt
 pub answered_not : {R : Type 0} (r : Result Bool FileError) (m : Merge R) (P : FileError → Type 0) → IfErr r P → IfErr (answer_of r m) P
 answered_not (Ok more) m P h = tt
 answered_not (Err e) m P h = h
+
+pub answered_none : {R : Type 0} (r : Result Bool FileError) (m : Merge R) → r ≡ Ok false → answer_of r m ≡ Ok None
+answered_none r m e = ap (λ (q : Result Bool FileError). answer_of q m) e
 
 pub answered_cause : {R : Type 0} (IsFault : FileError → Type 0) (before now : List ℕ) (r : Result Bool FileError) (m : Merge R) → HaveFaultCause IsFault before now r → HaveFaultCause IsFault before now (answer_of r m)
 answered_cause IsFault before now (Ok more) m h = record { later = h.later; failed = tt; quiet = h.quiet; other = tt }

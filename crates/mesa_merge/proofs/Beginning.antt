@@ -10,9 +10,9 @@ use Rattle.mesa_cursor.specs.declared.cursor.Cursor.{Cursor}
 use Rattle.mesa_merge.specs.Inputs.{AreAlike, knowns_of}
 use Rattle.mesa_merge.specs.Merging.{AreReady, HasGivens, IsMerging}
 
-pub begun_merging : {R : Type 0} (bytes : R → Option (List ℕ)) (s : Columns) (inputs : List (Input R)) (cursors : List Cursor) (givens : List (List Row)) → AreAlike s (knowns_of bytes inputs) → HasGivens bytes inputs cursors givens → ((j : ℕ) → get_or givens j [] ≡ [])
-    → AreReady (length inputs) inputs cursors → IsMerging bytes s inputs cursors givens
-begun_merging bytes s inputs cursors givens alike given none ready = record {
+pub begun_merging : {R : Type 0} (bytes : R → Option (List ℕ)) (low : Option (List ℕ)) (s : Columns) (inputs : List (Input R)) (cursors : List Cursor) (givens : List (List Row)) → AreAlike s (knowns_of bytes inputs) → HasGivens bytes low inputs cursors givens → ((j : ℕ) → get_or givens j [] ≡ [])
+    → AreReady (length inputs) inputs cursors → IsMerging bytes low s inputs cursors givens
+begun_merging bytes low s inputs cursors givens alike given none ready = record {
   alike = alike;
   given = given;
   ready = ready;

@@ -8,6 +8,10 @@ pub if_none : {X : Type 0} (o : Option X) (P Q : Type 0) → (P → Q) → IfNon
 if_none None P Q f p = f p
 if_none (Some x) P Q f p = tt
 
+pub if_none2 : {X : Type 0} (o : Option X) (P Q S : Type 0) → (P → Q → S) → IfNone o P → IfNone o Q → IfNone o S
+if_none2 None P Q S f p q = f p q
+if_none2 (Some x) P Q S f p q = tt
+
 pub if_some : {X : Type 0} (o : Option X) (P Q : X → Type 0) → ((x : X) → P x → Q x) → IfSome o P → IfSome o Q
 if_some None P Q f p = tt
 if_some (Some x) P Q f p = f x p
@@ -20,10 +24,19 @@ pub if_err : {X E : Type 0} (r : Result X E) (P Q : E → Type 0) → ((e : E) �
 if_err (Ok x) P Q f p = tt
 if_err (Err e) P Q f p = f e p
 
+pub if_both : {X E : Type 0} (r : Result X E) (P Q S : X → Type 0) → ((x : X) → P x → Q x → S x) → IfOk r P → IfOk r Q → IfOk r S
+if_both (Ok x) P Q S f p q = f x p q
+if_both (Err e) P Q S f p q = tt
+
 -- of an Ok value two facts
 pub if_ok2 : {X E : Type 0} (r : Result X E) (A : Type 0) (P Q : X → Type 0) → ((x : X) → A → P x → Q x) → OnOk r A → IfOk r P → IfOk r Q
 if_ok2 (Ok x) A P Q f a p = f x a p
 if_ok2 (Err e) A P Q f a p = tt
+
+-- and three
+pub if_ok3 : {X E : Type 0} (r : Result X E) (A : Type 0) (P Q S : X → Type 0) → ((x : X) → A → P x → Q x → S x) → OnOk r A → IfOk r P → IfOk r Q → IfOk r S
+if_ok3 (Ok x) A P Q S f a p q = f x a p q
+if_ok3 (Err e) A P Q S f a p q = tt
 
 -- what holds where a test is true, or where it isn't
 pub if_true : (b : Bool) (P : Type 0) → b ≡ true → OnTrue b P → P

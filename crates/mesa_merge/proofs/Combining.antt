@@ -49,11 +49,11 @@ combined_form s row more next f g made = subst (IsRowOf s) (sym made) (record {
 })
 
 -- What taking a row from an input makes of the inputs: the promises of `advance`.
-pub record IsTaken {R : Type 0} (bytes : R → Option (List ℕ)) (s : Columns) (olds news : List (Input R)) (oldc newc : List Cursor) (i : ℕ) (givens : List (List Row)) (more : Row) : Type 0 where
+pub record IsTaken {R : Type 0} (bytes : R → Option (List ℕ)) (low : Option (List ℕ)) (s : Columns) (olds news : List (Input R)) (oldc newc : List Cursor) (i : ℕ) (givens : List (List Row)) (more : Row) : Type 0 where
   pub within : i < length olds
   pub rows : List Row
   pub there : get_or (hands_of oldc) i [] ≡ more ∷ rows
-  pub given : HasGivens bytes news newc (set givens i (get_or givens i [] ++ more ∷ []))
+  pub given : HasGivens bytes low news newc (set givens i (get_or givens i [] ++ more ∷ []))
   pub form : IsRowOf s more
   pub ahead : IsAhead more.key (get_or (hands_of newc) i [])
   pub others : (j : ℕ) → j ≢ i → get_or (hands_of newc) j [] ≡ get_or (hands_of oldc) j []
@@ -61,11 +61,11 @@ pub record IsTaken {R : Type 0} (bytes : R → Option (List ℕ)) (s : Columns) 
   pub known : knowns_of bytes news ≡ knowns_of bytes olds
 
 -- the first row of a key
-pub gather_first : PutsGiven → {R : Type 0} (bytes : R → Option (List ℕ)) (s : Columns) (olds news : List (Input R)) (oldc newc : List Cursor) (i : ℕ) (givens : List (List Row)) (row : Row)
-    → IsMerging bytes s olds oldc givens → IsLeastAt i (hands_of oldc) → IsTaken bytes s olds news oldc newc i givens row
-    → IsGathering bytes s news newc (i + 1) row (folded (aggs_of s) givens) (set givens i (get_or givens i [] ++ row ∷ []))
-gather_first laws bytes s olds news oldc newc i givens row m least t =
-    let lt : i < length givens = subst (λ n. i < n) (sym (givens_count bytes olds oldc givens m.given)) t.within in
+pub gather_first : PutsGiven → {R : Type 0} (bytes : R → Option (List ℕ)) (low : Option (List ℕ)) (s : Columns) (olds news : List (Input R)) (oldc newc : List Cursor) (i : ℕ) (givens : List (List Row)) (row : Row)
+    → IsMerging bytes low s olds oldc givens → IsLeastAt i (hands_of oldc) → IsTaken bytes low s olds news oldc newc i givens row
+    → IsGathering bytes low s news newc (i + 1) row (folded (aggs_of s) givens) (set givens i (get_or givens i [] ++ row ∷ []))
+gather_first laws bytes low s olds news oldc newc i givens row m least t =
+    let lt : i < length givens = subst (λ n. i < n) (sym (givens_count bytes low olds oldc givens m.given)) t.within in
     let step = first_step laws (aggs_of s) i (hands_of oldc) (hands_of newc) givens row t.rows m.rising least t.there lt t.ahead t.others in
     record {
       alike = subst (AreAlike s) (sym t.known) m.alike;
@@ -80,20 +80,20 @@ gather_first laws bytes s olds news oldc newc i givens row m least t =
     }
 
 -- the input of a further row of the key is behind those that are done with it
-pub gather_later : {R : Type 0} (bytes : R → Option (List ℕ)) (s : Columns) (inputs : List (Input R)) (cursors : List Cursor) (n i : ℕ) (row : Row) (front : List Row) (givens : List (List Row))
-    → IsGathering bytes s inputs cursors n row front givens → IsLeastOf row.key i (hands_of cursors) → n ≤ i
-gather_later bytes s inputs cursors n i row front givens g least = elim (beyond i n) [
+pub gather_later : {R : Type 0} (bytes : R → Option (List ℕ)) (low : Option (List ℕ)) (s : Columns) (inputs : List (Input R)) (cursors : List Cursor) (n i : ℕ) (row : Row) (front : List Row) (givens : List (List Row))
+    → IsGathering bytes low s inputs cursors n row front givens → IsLeastOf row.key i (hands_of cursors) → n ≤ i
+gather_later bytes low s inputs cursors n i row front givens g least = elim (beyond i n) [
   | inl lt ↦ absurd (stage_later row.key n i (hands_of cursors) givens g.stage least.least least.is lt)
   | inr le ↦ le
 ]
 
 -- a further row of the key
-pub gather_more : PutsGiven → {R : Type 0} (bytes : R → Option (List ℕ)) (s : Columns) (olds news : List (Input R)) (oldc newc : List Cursor) (n i : ℕ) (row more next : Row) (front : List Row) (givens : List (List Row))
-    → IsGathering bytes s olds oldc n row front givens → IsLeastOf row.key i (hands_of oldc) → IsTaken bytes s olds news oldc newc i givens more
+pub gather_more : PutsGiven → {R : Type 0} (bytes : R → Option (List ℕ)) (low : Option (List ℕ)) (s : Columns) (olds news : List (Input R)) (oldc newc : List Cursor) (n i : ℕ) (row more next : Row) (front : List Row) (givens : List (List Row))
+    → IsGathering bytes low s olds oldc n row front givens → IsLeastOf row.key i (hands_of oldc) → IsTaken bytes low s olds news oldc newc i givens more
     → next ≡ record row { values = row_combined (aggs_of s) row.values more.values }
-    → IsGathering bytes s news newc (i + 1) next front (set givens i (get_or givens i [] ++ more ∷ []))
-gather_more laws bytes s olds news oldc newc n i row more next front givens g least t made =
-    let lt : i < length givens = subst (λ k. i < k) (sym (givens_count bytes olds oldc givens g.given)) t.within in
+    → IsGathering bytes low s news newc (i + 1) next front (set givens i (get_or givens i [] ++ more ∷ []))
+gather_more laws bytes low s olds news oldc newc n i row more next front givens g least t made =
+    let lt : i < length givens = subst (λ k. i < k) (sym (givens_count bytes low olds oldc givens g.given)) t.within in
     let step = next_step laws (aggs_of s) row.key i n (hands_of oldc) (hands_of newc) givens front row more next t.rows g.stage least t.there lt t.ahead t.others g.fold g.below refl made in
     let key : row.key ≡ next.key = ap (λ (r : Row). r.key) (sym made) in
     let same : more.key ≡ row.key = ap (λ (r : Row). r.key) (heads_same _ _ _ _ (sym t.there ∙ least.least.there)) ∙ least.is in
@@ -110,10 +110,10 @@ gather_more laws bytes s olds news oldc newc n i row more next front givens g le
     }
 
 -- once none has the key any more
-pub gather_done : {R : Type 0} (bytes : R → Option (List ℕ)) (s : Columns) (inputs : List (Input R)) (cursors : List Cursor) (n : ℕ) (row : Row) (front : List Row) (givens : List (List Row))
-    → IsGathering bytes s inputs cursors n row front givens → (((j : ℕ) → IsFrom row.key (get_or (hands_of cursors) j [])) → (j : ℕ) → IsAhead row.key (get_or (hands_of cursors) j []))
-    → IsMerging bytes s inputs cursors givens
-gather_done bytes s inputs cursors n row front givens g none = record {
+pub gather_done : {R : Type 0} (bytes : R → Option (List ℕ)) (low : Option (List ℕ)) (s : Columns) (inputs : List (Input R)) (cursors : List Cursor) (n : ℕ) (row : Row) (front : List Row) (givens : List (List Row))
+    → IsGathering bytes low s inputs cursors n row front givens → (((j : ℕ) → IsFrom row.key (get_or (hands_of cursors) j [])) → (j : ℕ) → IsAhead row.key (get_or (hands_of cursors) j []))
+    → IsMerging bytes low s inputs cursors givens
+gather_done bytes low s inputs cursors n row front givens g none = record {
   alike = g.alike;
   given = g.given;
   ready = g.ready;

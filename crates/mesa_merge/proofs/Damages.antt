@@ -49,9 +49,9 @@ pub leaves_bound : (aggs : List Agg) (old new : List ℤ) → (AllCombine aggs o
 leaves_bound aggs old new off all = off (combine aggs old new all)
 
 -- the newest input that holds the key of a row so far is told
-pub sum_of : {R : Type 0} (bytes : R → Option (List ℕ)) (s : Columns) (inputs : List (Input R)) (cursors : List Cursor) (i at : ℕ) (row : Row) (front : List Row) (givens : List (List Row)) (file : Known) (d : Damage)
-    → IsGathering bytes s inputs cursors (i + 1) row front givens → (SumsKeep (aggs_of s) row.values → ⊥) → IsNewest row.key i at (hands_of cursors) → slice_get (knowns_of bytes inputs) at ≡ Some file → d ≡ sum_damage file.file.file → IsSumOf bytes inputs d
-sum_of bytes s inputs cursors i at row front givens file d g off newest one told = record {
+pub sum_of : {R : Type 0} (bytes : R → Option (List ℕ)) (low : Option (List ℕ)) (s : Columns) (inputs : List (Input R)) (cursors : List Cursor) (i at : ℕ) (row : Row) (front : List Row) (givens : List (List Row)) (file : Known) (d : Damage)
+    → IsGathering bytes low s inputs cursors (i + 1) row front givens → (SumsKeep (aggs_of s) row.values → ⊥) → IsNewest row.key i at (hands_of cursors) → slice_get (knowns_of bytes inputs) at ≡ Some file → d ≡ sum_damage file.file.file → IsSumOf bytes inputs d
+sum_of bytes low s inputs cursors i at row front givens file d g off newest one told = record {
   columns = s;
   alike = g.alike;
   givens = givens;
@@ -61,6 +61,7 @@ sum_of bytes s inputs cursors i at row front givens file d g off newest one told
   leaves = off;
   file = file;
   newest = record {
+    low = low;
     cursors = cursors;
     given = g.given;
     ready = g.ready;

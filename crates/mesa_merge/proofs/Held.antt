@@ -24,9 +24,9 @@ pub held_more : (cs : List Cursor) (n held : ℕ) (d : Cursor) → n < length cs
 held_more cs n held d lt is = omega (arith, is, sum_more cs n d lt)
 
 -- at most a block of each
-pub held_few : {R : Type 0} (bytes : R → Option (List ℕ)) (is : List (Input R)) (cs : List Cursor) (gs : List (List Row)) → HasGivens bytes is cs gs → sum_by length (hands_of cs) ≤ 1024 * length is
-held_few bytes [] [] gs h = omega arith
-held_few bytes [] (c ∷ cs) gs h = absurd h
-held_few bytes (i ∷ is) [] gs h = absurd h
-held_few bytes (i ∷ is) (c ∷ cs) [] h = absurd h
-held_few bytes (i ∷ is) (c ∷ cs) (g ∷ gs) h = omega (arith, h.0.few, held_few bytes is cs gs h.1, sum_next (at_hand c) (hands_of cs))
+pub held_few : {R : Type 0} (bytes : R → Option (List ℕ)) (low : Option (List ℕ)) (is : List (Input R)) (cs : List Cursor) (gs : List (List Row)) → HasGivens bytes low is cs gs → sum_by length (hands_of cs) ≤ 1024 * length is
+held_few bytes low [] [] gs h = omega arith
+held_few bytes low [] (c ∷ cs) gs h = absurd h
+held_few bytes low (i ∷ is) [] gs h = absurd h
+held_few bytes low (i ∷ is) (c ∷ cs) [] h = absurd h
+held_few bytes low (i ∷ is) (c ∷ cs) (g ∷ gs) h = omega (arith, h.0.few, held_few bytes low is cs gs h.1, sum_next (at_hand c) (hands_of cs))

@@ -1,5 +1,5 @@
 -- Inputs one after the other, with their cursors and what they have given.
-use Rattle.std.proofs.Common.{◌≡◌, ℕ, zero, suc, ◌<◌, ◌≤◌, List, [], ◌∷◌, inl, inr, refl, sym, ◌∙◌, ap, length, get_or, set, arith}
+use Rattle.std.proofs.Common.{◌≡◌, ℕ, zero, suc, ◌<◌, ◌≤◌, List, [], ◌∷◌, inl, inr, refl, sym, ◌∙◌, ap, length, get_or, set, arith, true}
 use Rattle.std.specs.Prelude.{Option, Some, slice_get, Result, Ok, Err}
 use Rattle.std.specs.List.{AllByRecursion}
 use Rattle.mesa_fault.specs.Causes.{HasFaultCause, Rose}
@@ -10,45 +10,48 @@ use Rattle.mesa_delta.specs.declared.error.FileError.{FileError}
 use Rattle.mesa_delta.specs.declared.error.FileError.TheVariants.{Read}
 use Rattle.mesa_delta.specs.declared.input.Input.{Input}
 use Rattle.mesa_cursor.specs.declared.cursor.Cursor.{Cursor}
-use Rattle.mesa_cursor.specs.Cursors.{HasGiven, IsInput, IsReady, IsSameInput, reader_in}
+use Rattle.mesa_cursor.specs.Cursors.{HasGivenFrom, IsInput, IsReady, IsSameInput, reader_in}
+use Rattle.mesa_cursor.specs.Cut.{is_from}
+use Rattle.mesa_cursor.proofs.Rising.{from_low}
 use Rattle.mesa_merge.specs.Faults.{HaveFaultCause, NoneFell, SomeRose, faults_of}
+use Rattle.mesa_merge.specs.Hands.{hands_of}
 use Rattle.mesa_merge.specs.Inputs.{AreAlike, AreTold, IsTold, known_of, knowns_of}
 use Rattle.mesa_merge.specs.Merging.{AreReady, HasGivens}
 
 -- ---- how many there are
 
-pub cursors_count : {R : Type 0} (bytes : R → Option (List ℕ)) (is : List (Input R)) (cs : List Cursor) (gs : List (List Row)) → HasGivens bytes is cs gs → length cs ≡ length is
-cursors_count bytes [] [] gs h = refl
-cursors_count bytes [] (c ∷ cs) gs h = absurd h
-cursors_count bytes (i ∷ is) [] gs h = absurd h
-cursors_count bytes (i ∷ is) (c ∷ cs) [] h = absurd h
-cursors_count bytes (i ∷ is) (c ∷ cs) (g ∷ gs) h = ap suc (cursors_count bytes is cs gs h.1)
+pub cursors_count : {R : Type 0} (bytes : R → Option (List ℕ)) (low : Option (List ℕ)) (is : List (Input R)) (cs : List Cursor) (gs : List (List Row)) → HasGivens bytes low is cs gs → length cs ≡ length is
+cursors_count bytes low [] [] gs h = refl
+cursors_count bytes low [] (c ∷ cs) gs h = absurd h
+cursors_count bytes low (i ∷ is) [] gs h = absurd h
+cursors_count bytes low (i ∷ is) (c ∷ cs) [] h = absurd h
+cursors_count bytes low (i ∷ is) (c ∷ cs) (g ∷ gs) h = ap suc (cursors_count bytes low is cs gs h.1)
 
-pub givens_count : {R : Type 0} (bytes : R → Option (List ℕ)) (is : List (Input R)) (cs : List Cursor) (gs : List (List Row)) → HasGivens bytes is cs gs → length gs ≡ length is
-givens_count bytes [] [] [] h = refl
-givens_count bytes [] [] (g ∷ gs) h = absurd h
-givens_count bytes [] (c ∷ cs) gs h = absurd h
-givens_count bytes (i ∷ is) [] gs h = absurd h
-givens_count bytes (i ∷ is) (c ∷ cs) [] h = absurd h
-givens_count bytes (i ∷ is) (c ∷ cs) (g ∷ gs) h = ap suc (givens_count bytes is cs gs h.1)
+pub givens_count : {R : Type 0} (bytes : R → Option (List ℕ)) (low : Option (List ℕ)) (is : List (Input R)) (cs : List Cursor) (gs : List (List Row)) → HasGivens bytes low is cs gs → length gs ≡ length is
+givens_count bytes low [] [] [] h = refl
+givens_count bytes low [] [] (g ∷ gs) h = absurd h
+givens_count bytes low [] (c ∷ cs) gs h = absurd h
+givens_count bytes low (i ∷ is) [] gs h = absurd h
+givens_count bytes low (i ∷ is) (c ∷ cs) [] h = absurd h
+givens_count bytes low (i ∷ is) (c ∷ cs) (g ∷ gs) h = ap suc (givens_count bytes low is cs gs h.1)
 
 -- ---- one of them, and a changed one
 
-pub given_at : {R : Type 0} (bytes : R → Option (List ℕ)) (is : List (Input R)) (cs : List Cursor) (gs : List (List Row)) (j : ℕ) (d : Input R) (e : Cursor) → HasGivens bytes is cs gs → j < length is → HasGiven bytes (get_or is j d) (get_or cs j e) (get_or gs j [])
-given_at bytes [] cs gs j d e h lt = absurd (omega (arith, lt))
-given_at bytes (i ∷ is) [] gs j d e h lt = absurd h
-given_at bytes (i ∷ is) (c ∷ cs) [] j d e h lt = absurd h
-given_at bytes (i ∷ is) (c ∷ cs) (g ∷ gs) zero d e h lt = h.0
-given_at bytes (i ∷ is) (c ∷ cs) (g ∷ gs) (suc j) d e h lt = given_at bytes is cs gs j d e h.1 (omega (arith, lt))
+pub given_at : {R : Type 0} (bytes : R → Option (List ℕ)) (low : Option (List ℕ)) (is : List (Input R)) (cs : List Cursor) (gs : List (List Row)) (j : ℕ) (d : Input R) (e : Cursor) → HasGivens bytes low is cs gs → j < length is → HasGivenFrom bytes low (get_or is j d) (get_or cs j e) (get_or gs j [])
+given_at bytes low [] cs gs j d e h lt = absurd (omega (arith, lt))
+given_at bytes low (i ∷ is) [] gs j d e h lt = absurd h
+given_at bytes low (i ∷ is) (c ∷ cs) [] j d e h lt = absurd h
+given_at bytes low (i ∷ is) (c ∷ cs) (g ∷ gs) zero d e h lt = h.0
+given_at bytes low (i ∷ is) (c ∷ cs) (g ∷ gs) (suc j) d e h lt = given_at bytes low is cs gs j d e h.1 (omega (arith, lt))
 
-pub given_set : {R : Type 0} (bytes : R → Option (List ℕ)) (is : List (Input R)) (cs : List Cursor) (gs : List (List Row)) (j : ℕ) (x : Input R) (y : Cursor) (z : List Row) → HasGivens bytes is cs gs → HasGiven bytes x y z → HasGivens bytes (set is j x) (set cs j y) (set gs j z)
-given_set bytes [] [] [] j x y z h one = h
-given_set bytes [] [] (g ∷ gs) j x y z h one = absurd h
-given_set bytes [] (c ∷ cs) gs j x y z h one = absurd h
-given_set bytes (i ∷ is) [] gs j x y z h one = absurd h
-given_set bytes (i ∷ is) (c ∷ cs) [] j x y z h one = absurd h
-given_set bytes (i ∷ is) (c ∷ cs) (g ∷ gs) zero x y z h one = (one, h.1)
-given_set bytes (i ∷ is) (c ∷ cs) (g ∷ gs) (suc j) x y z h one = (h.0, given_set bytes is cs gs j x y z h.1 one)
+pub given_set : {R : Type 0} (bytes : R → Option (List ℕ)) (low : Option (List ℕ)) (is : List (Input R)) (cs : List Cursor) (gs : List (List Row)) (j : ℕ) (x : Input R) (y : Cursor) (z : List Row) → HasGivens bytes low is cs gs → HasGivenFrom bytes low x y z → HasGivens bytes low (set is j x) (set cs j y) (set gs j z)
+given_set bytes low [] [] [] j x y z h one = h
+given_set bytes low [] [] (g ∷ gs) j x y z h one = absurd h
+given_set bytes low [] (c ∷ cs) gs j x y z h one = absurd h
+given_set bytes low (i ∷ is) [] gs j x y z h one = absurd h
+given_set bytes low (i ∷ is) (c ∷ cs) [] j x y z h one = absurd h
+given_set bytes low (i ∷ is) (c ∷ cs) (g ∷ gs) zero x y z h one = (one, h.1)
+given_set bytes low (i ∷ is) (c ∷ cs) (g ∷ gs) (suc j) x y z h one = (h.0, given_set bytes low is cs gs j x y z h.1 one)
 
 -- the givens stay where one is put back
 pub set_same : (gs : List (List Row)) (j : ℕ) → set gs j (get_or gs j []) ≡ gs
@@ -82,11 +85,19 @@ inputs_set bytes (i ∷ is) zero x d h lt one = (one h.0, h.1)
 inputs_set bytes (i ∷ is) (suc j) x d h lt one = (h.0, inputs_set bytes is j x d h.1 (omega (arith, lt)) one)
 
 -- what has given is an input
-pub givens_inputs : {R : Type 0} (bytes : R → Option (List ℕ)) (is : List (Input R)) (cs : List Cursor) (gs : List (List Row)) → HasGivens bytes is cs gs → AllByRecursion (IsInput bytes) is
-givens_inputs bytes [] cs gs h = tt
-givens_inputs bytes (i ∷ is) [] gs h = absurd h
-givens_inputs bytes (i ∷ is) (c ∷ cs) [] h = absurd h
-givens_inputs bytes (i ∷ is) (c ∷ cs) (g ∷ gs) h = (h.0.input, givens_inputs bytes is cs gs h.1)
+pub givens_inputs : {R : Type 0} (bytes : R → Option (List ℕ)) (low : Option (List ℕ)) (is : List (Input R)) (cs : List Cursor) (gs : List (List Row)) → HasGivens bytes low is cs gs → AllByRecursion (IsInput bytes) is
+givens_inputs bytes low [] cs gs h = tt
+givens_inputs bytes low (i ∷ is) [] gs h = absurd h
+givens_inputs bytes low (i ∷ is) (c ∷ cs) [] h = absurd h
+givens_inputs bytes low (i ∷ is) (c ∷ cs) (g ∷ gs) h = (h.0.input, givens_inputs bytes low is cs gs h.1)
+
+-- a row at hand lies at or above the low end
+pub givens_from : {R : Type 0} (bytes : R → Option (List ℕ)) (low : Option (List ℕ)) (is : List (Input R)) (cs : List Cursor) (gs : List (List Row)) (j : ℕ) (row : Row) (rows : List Row) → HasGivens bytes low is cs gs → j < length is → get_or (hands_of cs) j [] ≡ row ∷ rows → is_from low row.key ≡ true
+givens_from bytes low [] cs gs j row rows h lt hand = absurd (omega (arith, lt))
+givens_from bytes low (i ∷ is) [] gs j row rows h lt hand = absurd h
+givens_from bytes low (i ∷ is) (c ∷ cs) [] j row rows h lt hand = absurd h
+givens_from bytes low (i ∷ is) (c ∷ cs) (g ∷ gs) zero row rows h lt hand = from_low bytes low i c g row rows h.0 hand
+givens_from bytes low (i ∷ is) (c ∷ cs) (g ∷ gs) (suc j) row rows h lt hand = givens_from bytes low is cs gs j row rows h.1 (omega (arith, lt)) hand
 
 -- ---- what is known of them
 

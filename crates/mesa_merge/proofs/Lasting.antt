@@ -12,7 +12,7 @@ use Rattle.mesa_schema.specs.Laws.{AreUnder}
 use Rattle.mesa_merge.specs.Damaged.{IsNewestWith}
 use Rattle.mesa_merge.specs.Hands.{IsAhead}
 use Rattle.mesa_merge.specs.Inputs.{Known, knowns_of}
-use Rattle.mesa_merge.specs.Merged.{HasMerged, inputs_of}
+use Rattle.mesa_merge.specs.Merged.{HasMergedBetween, inputs_of}
 use Rattle.mesa_merge.specs.Merging.{AreAbove, IsGathering, IsMerging}
 use Rattle.mesa_merge.specs.Sums.{HasKey, IsLastOf}
 use Rattle.mesa_merge.specs.declared.merge.Merge.{Merge}
@@ -34,8 +34,8 @@ key_given key i givens row is lt j same =
     subst (λ n. HasKey key (get_or (set givens i (get_or givens i [] ++ row ∷ [])) n [])) place here
 
 -- the last input that gave a row of the key that is being combined
-pub last_of : {R : Type 0} (bytes : R → Option (List ℕ)) (s : Columns) (inputs : List (Input R)) (cursors : List Cursor) (i : ℕ) (row : Row) (front : List Row) (givens : List (List Row)) → IsGathering bytes s inputs cursors (i + 1) row front givens → IsLastOf row.key i givens
-last_of bytes s inputs cursors i row front givens g = record { holds = g.here i refl; newer = λ j more. g.stage.under j (omega (arith, more)) }
+pub last_of : {R : Type 0} (bytes : R → Option (List ℕ)) (low : Option (List ℕ)) (s : Columns) (inputs : List (Input R)) (cursors : List Cursor) (i : ℕ) (row : Row) (front : List Row) (givens : List (List Row)) → IsGathering bytes low s inputs cursors (i + 1) row front givens → IsLastOf row.key i givens
+last_of bytes low s inputs cursors i row front givens g = record { holds = g.here i refl; newer = λ j more. g.stage.under j (omega (arith, more)) }
 
 last_within : (key : List ℕ) (at : ℕ) (givens : List (List Row)) → HasKey key (get_or givens at []) → at < length givens
 last_within key at [] h = absurd h
@@ -43,12 +43,12 @@ last_within key zero (g ∷ givens) h = omega arith
 last_within key (suc at) (g ∷ givens) h = let rest = last_within key at givens h in omega (arith, rest)
 
 -- it is one of a merge's inputs
-pub last_there : {R : Type 0} (bytes : R → Option (List ℕ)) (s : Columns) (m : Merge R) (givens : List (List Row)) (key : List ℕ) (at : ℕ) → HasMerged bytes s m givens → IsLastOf key at givens → at < length (inputs_of m)
-last_there bytes s m givens key at h last = subst (λ n. at < n) (givens_count bytes m.inputs.items m.cursors.items givens h.given) (last_within key at givens last.holds)
+pub last_there : {R : Type 0} {low high : Option (List ℕ)} (bytes : R → Option (List ℕ)) (s : Columns) (m : Merge R) (givens : List (List Row)) (key : List ℕ) (at : ℕ) → HasMergedBetween bytes low high s m givens → IsLastOf key at givens → at < length (inputs_of m)
+last_there {low = low} bytes s m givens key at h last = subst (λ n. at < n) (givens_count bytes low m.inputs.items m.cursors.items givens h.given) (last_within key at givens last.holds)
 
 -- a merge that has given a row has begun
-begun_with : {R : Type 0} (bytes : R → Option (List ℕ)) (s : Columns) (m : Merge R) (givens : List (List Row)) (key : List ℕ) (at : ℕ) → HasMerged bytes s m givens → HasKey key (get_or givens at []) → IsMerging bytes s m.inputs.items m.cursors.items givens
-begun_with bytes s m givens key at h holds = elim (m.begun) as (λ b. m.begun ≡ b → IsMerging bytes s m.inputs.items m.cursors.items givens) [
+begun_with : {R : Type 0} (low high : Option (List ℕ)) (bytes : R → Option (List ℕ)) (s : Columns) (m : Merge R) (givens : List (List Row)) (key : List ℕ) (at : ℕ) → HasMergedBetween bytes low high s m givens → HasKey key (get_or givens at []) → IsMerging bytes low s m.inputs.items m.cursors.items givens
+begun_with low high bytes s m givens key at h holds = elim (m.begun) as (λ b. m.begun ≡ b → IsMerging bytes low s m.inputs.items m.cursors.items givens) [
   | true ↦ λ e. h.merging e
   | false ↦ λ e. absurd (subst (HasKey key) (h.fresh e at) holds)
 ] refl
@@ -66,10 +66,11 @@ ahead_given key at j hands givens above holds [] e = tt
 ahead_given key at j hands givens above holds (row ∷ rows) e = under_key key row.key (get_or givens at []) (above j row rows e at) holds
 
 -- no other input has a newer row of the key
-pub newest_given : {R : Type 0} (bytes : R → Option (List ℕ)) (s : Columns) (m : Merge R) (givens : List (List Row)) (key : List ℕ) (at : ℕ) (file : Known) → HasMerged bytes s m givens → IsLastOf key at givens → slice_get (knowns_of bytes (inputs_of m)) at ≡ Some file → IsNewestWith bytes (inputs_of m) key givens file
-newest_given bytes s m givens key at file h last one =
-    let merging = begun_with bytes s m givens key at h last.holds in
+pub newest_given : {R : Type 0} {low high : Option (List ℕ)} (bytes : R → Option (List ℕ)) (s : Columns) (m : Merge R) (givens : List (List Row)) (key : List ℕ) (at : ℕ) (file : Known) → HasMergedBetween bytes low high s m givens → IsLastOf key at givens → slice_get (knowns_of bytes (inputs_of m)) at ≡ Some file → IsNewestWith bytes (inputs_of m) key givens file
+newest_given {low = low} {high = high} bytes s m givens key at file h last one =
+    let merging = begun_with low high bytes s m givens key at h last.holds in
     record {
+      low = low;
       cursors = m.cursors.items;
       given = merging.given;
       ready = merging.ready;

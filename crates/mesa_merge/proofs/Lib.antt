@@ -15,6 +15,7 @@ pub mod Lasting
 pub mod Combining
 pub mod Beginning
 pub mod Handing
+pub mod Between
 pub mod Held
 pub mod Newest
 pub mod Damages

@@ -1,8 +1,9 @@
 -- Which input comes before which.
 use Rattle.std.proofs.Common.{◌≡◌, ◌⊎◌, inl, inr, ℕ, zero, suc, ◌<◌, ◌≤◌, List, [], ◌∷◌, refl, sym, ◌∙◌, ap, subst, get_or, min, arith}
 use Rattle.std.specs.declared.cmp.Ordering.TheVariants.{Less, Equal, Greater}
-use Rattle.std.specs.Prelude.{true}
-use Rattle.std.specs.Ordering.{is_ge}
+use Rattle.std.specs.Prelude.{true, false, Option, None, Some}
+use Rattle.std.specs.Ordering.{is_ge, is_le, is_lt}
+use Rattle.std.proofs.lemmas.Bool.{false≢true}
 use Rattle.std.specs.Cmp.Lexicographic.{nat_list_cmp_total}
 use Rattle.std.specs.Cmp.{eq_by_cmp_equiv}
 use Rattle.std.specs.FinMap.{slice_cmp-IsAntisymmetric, nat_cmp-IsAntisymmetric}
@@ -10,7 +11,9 @@ use Rattle.mesa_key.specs.Order.{byte_cmp}
 use Rattle.mesa_schema.specs.declared.rows.Row.{Row}
 use Rattle.mesa_schema.proofs.Folds.{is_equal}
 use Rattle.mesa_fold.proofs.Place.{flipped}
-use Rattle.mesa_merge.specs.Hands.{ComesBefore, IsAhead, IsBefore, IsFrom, IsLeastAt}
+use Rattle.mesa_cursor.specs.Cut.{is_under}
+use Rattle.mesa_cursor.proofs.Cutting.{at_below}
+use Rattle.mesa_merge.specs.Hands.{ComesBefore, IsAhead, IsBefore, IsFrom, IsLeastAt, IsPast}
 
 -- a key compared with itself
 pub same_key : (k : List ℕ) → byte_cmp k k ≡ Equal
@@ -116,3 +119,22 @@ nothing_ahead key (row ∷ rows) e = cc
 -- none is at hand
 pub ahead_none : (key : List ℕ) (hands : List (List Row)) → ((j : ℕ) → get_or hands j [] ≡ []) → (j : ℕ) → IsAhead key (get_or hands j [])
 ahead_none key hands none j = nothing_ahead key _ (none j)
+
+-- ---- rows at hand past an end
+
+at_most : (a b : List ℕ) → is_ge (byte_cmp b a) ≡ true → is_le (byte_cmp a b) ≡ true
+at_most a b h = elim (byte_cmp b a) as (λ o. byte_cmp b a ≡ o → is_ge o ≡ true → is_le (byte_cmp a b) ≡ true) [
+  | Less ↦ λ e g. absurd (false≢true g)
+  | Equal ↦ λ e g. ap is_le (flipped a b Equal e)
+  | Greater ↦ λ e g. ap is_le (flipped a b Greater e)
+] refl h
+
+-- what is at or above a key that isn't below the end isn't below it either
+pub past_from : (high : Option (List ℕ)) (key : List ℕ) (hand : List Row) → is_under high key ≡ false → IsFrom key hand → IsPast high hand
+past_from high key [] past from = tt
+past_from None key (row ∷ rows) past from = absurd (false≢true (sym past))
+past_from (Some high) key (row ∷ rows) past from = elim (byte_cmp row.key high) as (λ o. byte_cmp row.key high ≡ o → is_lt (byte_cmp row.key high) ≡ false) [
+  | Less ↦ λ e. absurd (false≢true (sym past ∙ ap is_lt (at_below key row.key high (at_most key row.key from) e)))
+  | Equal ↦ λ e. ap is_lt e
+  | Greater ↦ λ e. ap is_lt e
+] refl

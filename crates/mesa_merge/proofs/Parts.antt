@@ -5,19 +5,19 @@ use Rattle.mesa_value.specs.declared.Agg.{Agg}
 use Rattle.mesa_schema.specs.Folded.{folded, folded_at, keys_of, rows_of}
 use Rattle.mesa_delta.specs.declared.input.Input.{Input}
 use Rattle.mesa_cursor.specs.declared.cursor.Cursor.{Cursor}
-use Rattle.mesa_cursor.specs.Cursors.{HasGiven, at_hand}
+use Rattle.mesa_cursor.specs.Cursors.{HasGivenFrom, at_hand}
 use Rattle.mesa_merge.specs.Hands.{hands_of}
 use Rattle.mesa_merge.specs.Merged.{nothing_given}
 use Rattle.mesa_merge.specs.Merging.{HasGivens}
 
 -- one input more
-pub givens_push : {R : Type 0} (bytes : R → Option (List ℕ)) (is : List (Input R)) (cs : List Cursor) (n : ℕ) (c : Cursor) (d : Input R) → HasGivens bytes (take n is) cs (nothing_given (take n is)) → n < length is → HasGiven bytes (get_or is n d) c []
-    → HasGivens bytes (take (suc n) is) (cs ++ c ∷ []) (nothing_given (take (suc n) is))
-givens_push bytes [] cs n c d h lt one = absurd (omega (arith, lt))
-givens_push bytes (i ∷ is) [] zero c d h lt one = (one, tt)
-givens_push bytes (i ∷ is) (x ∷ cs) zero c d h lt one = absurd h
-givens_push bytes (i ∷ is) [] (suc n) c d h lt one = absurd h
-givens_push bytes (i ∷ is) (x ∷ cs) (suc n) c d h lt one = (h.0, givens_push bytes is cs n c d h.1 (omega (arith, lt)) one)
+pub givens_push : {R : Type 0} (bytes : R → Option (List ℕ)) (low : Option (List ℕ)) (is : List (Input R)) (cs : List Cursor) (n : ℕ) (c : Cursor) (d : Input R) → HasGivens bytes low (take n is) cs (nothing_given (take n is)) → n < length is → HasGivenFrom bytes low (get_or is n d) c []
+    → HasGivens bytes low (take (suc n) is) (cs ++ c ∷ []) (nothing_given (take (suc n) is))
+givens_push bytes low [] cs n c d h lt one = absurd (omega (arith, lt))
+givens_push bytes low (i ∷ is) [] zero c d h lt one = (one, tt)
+givens_push bytes low (i ∷ is) (x ∷ cs) zero c d h lt one = absurd h
+givens_push bytes low (i ∷ is) [] (suc n) c d h lt one = absurd h
+givens_push bytes low (i ∷ is) (x ∷ cs) (suc n) c d h lt one = (h.0, givens_push bytes low is cs n c d h.1 (omega (arith, lt)) one)
 
 pub none_push : (cs : List Cursor) (c : Cursor) → ((j : ℕ) → get_or (hands_of cs) j [] ≡ []) → at_hand c ≡ [] → (j : ℕ) → get_or (hands_of (cs ++ c ∷ [])) j [] ≡ []
 none_push [] c none one zero = one

@@ -38,7 +38,7 @@ upto_more : (k : List ℕ) (rows : List Row) (row : Row) → AreUpTo k rows → 
 upto_more k [] row p e = (ap is_ge (subst (λ q. byte_cmp k q ≡ Equal) (sym e) (same_key k)), tt)
 upto_more k (x ∷ xs) row p e = (p.0, upto_more k xs row p.1 e)
 
-upto_under : (k b : List ℕ) (rows : List Row) → AreUpTo k rows → byte_cmp k b ≡ Less → AreUnder b rows
+pub upto_under : (k b : List ℕ) (rows : List Row) → AreUpTo k rows → byte_cmp k b ≡ Less → AreUnder b rows
 upto_under k b [] p less = tt
 upto_under k b (x ∷ xs) p less = (over x.key k b p.0 less, upto_under k b xs p.1 less)
 

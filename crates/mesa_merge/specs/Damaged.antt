@@ -8,20 +8,27 @@ use Rattle.mesa_schema.specs.declared.rows.Row.{Row}
 use Rattle.mesa_schema.specs.Columns.{Columns, aggs_of}
 use Rattle.mesa_schema.specs.Folded.{folded}
 use Rattle.mesa_schema.specs.Laws.{AreUnder}
+use Rattle.mesa_delta.specs.Reading.{IsIndexed, index_of}
 use Rattle.mesa_delta.specs.declared.input.Input.{Input}
 use Rattle.mesa_cursor.specs.declared.cursor.Cursor.{Cursor}
+use Rattle.mesa_cursor.specs.Cursors.{IsFall, reader_in}
 use Rattle.mesa_scan.specs.Damaged.{IsDamaged}
 use Rattle.mesa_merge.specs.Hands.{IsAhead, hands_of}
 use Rattle.mesa_merge.specs.Inputs.{AreAlike, Known, known_of, knowns_of}
 use Rattle.mesa_merge.specs.Merging.{AreReady, HasGivens}
 use Rattle.mesa_merge.specs.Sums.{HasKey, sum_damage}
 
--- Damage of a block of one of the inputs: as its reader told it when the block was read, and never of a file whose index is true of it.
+-- From one block of a file to the next its keys fall, which is told where its rows are read from a key on, and never of a file whose index is true of it.
+pub record HasFall {R : Type 0} (bytes : R → Option (List ℕ)) (i : Input R) (d : Damage) : Type 0 where
+  pub falls : IsFall (index_of i.reader) d
+  pub unsound : (b : List ℕ) (all : List Row) → bytes (reader_in i) ≡ Some b → IsIndexed (index_of i.reader) all b → ⊥
+
+-- Damage of a block of one of the inputs: as its reader told it when the block was read, or a fall of keys.
 pub record IsBlockOf {R : Type 0} (bytes : R → Option (List ℕ)) (size : R → ℕ) (knowns : List Known) (d : Damage) : Type 0 where
   pub at : ℕ
   pub input : Input R
   pub one : slice_get knowns at ≡ Some (known_of bytes input)
-  pub damaged : IsDamaged bytes size input d
+  pub damaged : IsDamaged bytes size input d ⊎ HasFall bytes input d
 
 -- a value of a sum column is within the type of sums
 abbrev pub SumKeeps : Agg → ℤ → Type 0
@@ -36,10 +43,11 @@ SumsKeep [] values = ⊤
 SumsKeep (agg ∷ aggs) [] = ⊤
 SumsKeep (agg ∷ aggs) (value ∷ values) = SumKeeps agg value × SumsKeep aggs values
 
--- Of inputs that are being merged, this is the newest file that holds a key: where just these rows were given, it has given a row of the key or has one at hand, and each newer one has given lesser keys alone, and has a greater one at hand or is at its end.
+-- Of inputs that are being merged, this is the newest file that holds a key: where just these rows were given, from some key on or from the first, it has given a row of the key or has one at hand, and each newer one has given lesser keys alone, and has a greater one at hand or is at its end.
 pub record IsNewestWith {R : Type 0} (bytes : R → Option (List ℕ)) (inputs : List (Input R)) (key : List ℕ) (givens : List (List Row)) (file : Known) : Type 0 where
+  pub low : Option (List ℕ)
   pub cursors : List Cursor
-  pub given : HasGivens bytes inputs cursors givens
+  pub given : HasGivens bytes low inputs cursors givens
   pub ready : AreReady (length inputs) inputs cursors
   pub at : ℕ
   pub holds : HasKey key (get_or givens at [] ++ get_or (hands_of cursors) at [])

@@ -1,11 +1,12 @@
 -- The rows at hand of inputs that are merged, and which of them comes next.
-use Rattle.std.specs.Prelude.{◌≡◌, ℕ, ◌<◌, ◌≤◌, ◌⊎◌, List, [], ◌∷◌, map, get_or, true}
+use Rattle.std.specs.Prelude.{◌≡◌, ℕ, ◌<◌, ◌≤◌, ◌⊎◌, List, [], ◌∷◌, map, get_or, Option, true, false}
 use Rattle.std.specs.Ordering.{is_ge}
 use Rattle.std.specs.declared.cmp.Ordering.TheVariants.{Less}
 use Rattle.mesa_key.specs.Order.{byte_cmp}
 use Rattle.mesa_schema.specs.declared.rows.Row.{Row}
 use Rattle.mesa_cursor.specs.declared.cursor.Cursor.{Cursor}
 use Rattle.mesa_cursor.specs.Cursors.{at_hand}
+use Rattle.mesa_cursor.specs.Cut.{is_under}
 
 -- the rows at hand of each input
 abbrev pub hands_of : List Cursor → List (List Row)
@@ -20,6 +21,11 @@ IsAhead key (row ∷ rows) = byte_cmp key row.key ≡ Less
 abbrev pub IsFrom : List ℕ → List Row → Type 0
 IsFrom key [] = Unit {0}
 IsFrom key (row ∷ rows) = is_ge (byte_cmp row.key key) ≡ true
+
+-- and not below the high end of what is merged
+abbrev pub IsPast : Option (List ℕ) → List Row → Type 0
+IsPast high [] = Unit {0}
+IsPast high (row ∷ rows) = is_under high row.key ≡ false
 
 -- Of the inputs this one is the first whose row at hand has the least key.
 pub record IsLeastAt (i : ℕ) (hands : List (List Row)) : Type 0 where

@@ -10,19 +10,19 @@ use Rattle.mesa_schema.specs.Laws.{AreUnder}
 use Rattle.mesa_schema.specs.Rows.{AreRowsOf, IsRowOf}
 use Rattle.mesa_delta.specs.declared.input.Input.{Input}
 use Rattle.mesa_cursor.specs.declared.cursor.Cursor.{Cursor}
-use Rattle.mesa_cursor.specs.Cursors.{HasGiven, IsReady}
+use Rattle.mesa_cursor.specs.Cursors.{HasGivenFrom, IsReady}
 use Rattle.mesa_merge.specs.Hands.{IsAhead, IsFrom, hands_of}
 use Rattle.mesa_merge.specs.Inputs.{AreAlike, knowns_of}
 use Rattle.mesa_merge.specs.Sums.{HasKey}
 
--- each input has given just these rows
-abbrev pub HasGivens : {R : Type 0} → (R → Option (List ℕ)) → List (Input R) → List Cursor → List (List Row) → Type 0
-HasGivens bytes [] [] [] = ⊤
-HasGivens bytes [] [] (g ∷ gs) = ⊥
-HasGivens bytes [] (c ∷ cs) gs = ⊥
-HasGivens bytes (i ∷ is) [] gs = ⊥
-HasGivens bytes (i ∷ is) (c ∷ cs) [] = ⊥
-HasGivens bytes (i ∷ is) (c ∷ cs) (g ∷ gs) = HasGiven bytes i c g × HasGivens bytes is cs gs
+-- each input has given just these rows, from a key on where there is one
+abbrev pub HasGivens : {R : Type 0} → (R → Option (List ℕ)) → Option (List ℕ) → List (Input R) → List Cursor → List (List Row) → Type 0
+HasGivens bytes low [] [] [] = ⊤
+HasGivens bytes low [] [] (g ∷ gs) = ⊥
+HasGivens bytes low [] (c ∷ cs) gs = ⊥
+HasGivens bytes low (i ∷ is) [] gs = ⊥
+HasGivens bytes low (i ∷ is) (c ∷ cs) [] = ⊥
+HasGivens bytes low (i ∷ is) (c ∷ cs) (g ∷ gs) = HasGivenFrom bytes low i c g × HasGivens bytes low is cs gs
 
 -- of the first inputs, so many, each has a row at hand or is at its end
 abbrev pub AreReady : {R : Type 0} → ℕ → List (Input R) → List Cursor → Type 0
@@ -47,9 +47,9 @@ pub record IsStage (key : List ℕ) (n : ℕ) (hands givens : List (List Row)) :
   pub upto : (j : ℕ) → AreUpTo key (get_or givens j [])
 
 -- A row is the last of the fold of what was given: the rows of its key are being combined in it, of which the last of the first n inputs gave one.
-pub record IsGathering {R : Type 0} (bytes : R → Option (List ℕ)) (s : Columns) (inputs : List (Input R)) (cursors : List Cursor) (n : ℕ) (row : Row) (front : List Row) (givens : List (List Row)) : Type 0 where
+pub record IsGathering {R : Type 0} (bytes : R → Option (List ℕ)) (low : Option (List ℕ)) (s : Columns) (inputs : List (Input R)) (cursors : List Cursor) (n : ℕ) (row : Row) (front : List Row) (givens : List (List Row)) : Type 0 where
   pub alike : AreAlike s (knowns_of bytes inputs)
-  pub given : HasGivens bytes inputs cursors givens
+  pub given : HasGivens bytes low inputs cursors givens
   pub ready : AreReady (length inputs) inputs cursors
   pub stage : IsStage row.key n (hands_of cursors) givens
   pub formed : (j : ℕ) → AreRowsOf s (get_or givens j [])
@@ -59,9 +59,9 @@ pub record IsGathering {R : Type 0} (bytes : R → Option (List ℕ)) (s : Colum
   pub form : IsRowOf s row
 
 -- Of inputs that are lifted to these columns just these rows were given, so that all rows to come are above them.
-pub record IsMerging {R : Type 0} (bytes : R → Option (List ℕ)) (s : Columns) (inputs : List (Input R)) (cursors : List Cursor) (givens : List (List Row)) : Type 0 where
+pub record IsMerging {R : Type 0} (bytes : R → Option (List ℕ)) (low : Option (List ℕ)) (s : Columns) (inputs : List (Input R)) (cursors : List Cursor) (givens : List (List Row)) : Type 0 where
   pub alike : AreAlike s (knowns_of bytes inputs)
-  pub given : HasGivens bytes inputs cursors givens
+  pub given : HasGivens bytes low inputs cursors givens
   pub ready : AreReady (length inputs) inputs cursors
   pub formed : (j : ℕ) → AreRowsOf s (get_or givens j [])
   pub rising : AreAbove (hands_of cursors) givens

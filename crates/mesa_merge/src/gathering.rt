@@ -1,5 +1,5 @@
 // Rows of one key, combined.
-ghost use Rattle.std.specs.Prelude.{◌≡◌, ◌<◌, ◌+◌, ◌++◌, ◌∷◌, [], ℕ, List, length, IfErr, IfOk, IfSome, IfNone, OnOk, get_or};
+ghost use Rattle.std.specs.Prelude.{◌≡◌, ◌<◌, ◌+◌, ◌++◌, ◌∷◌, [], ℕ, List, length, Option, IfErr, IfOk, IfSome, IfNone, OnOk, get_or};
 ghost use Rattle.std.specs.List.{AllByRecursion};
 ghost use Rattle.mesa_file.specs.declared.damage.Damage.{Damage as AnyDamage};
 ghost use Rattle.mesa_schema.specs.declared.rows.Row.{Row as AnyRow};
@@ -14,7 +14,7 @@ ghost use Rattle.mesa_merge.specs.Faults.{HaveFaultCause, faults_of};
 ghost use Rattle.mesa_merge.specs.Hands.{IsAhead, IsFrom, IsLeastOf, hands_of};
 ghost use Rattle.mesa_merge.specs.Inputs.{AreTold, knowns_of, lifted_parts};
 ghost use Rattle.mesa_merge.specs.Matches.{IsTree};
-ghost use Rattle.mesa_merge.specs.Merging.{IsGathering, IsMerging};
+ghost use Rattle.mesa_merge.specs.Merging.{AreUpTo, IsGathering, IsMerging};
 ghost use Rattle.mesa_merge.specs.Sums.{IsLastOf};
 
 use crate::heads::combine_head;
@@ -56,15 +56,16 @@ pub(crate) fn gather<R: FileReader>(
     requires within { from < length inputs.old }
     requires count { length cursors.old ≡ length inputs.old }
     requires tree { IsTree (hands_of cursors.old) tree.old }
-    requires gathering { (s : Columns) × (front : List AnyRow) × (givens : List (List AnyRow)) × (aggs.now ≡ aggs_of s) × IsGathering R.bytes s inputs.old cursors.old (from + 1) row.old front givens }
+    requires gathering { (low : Option (List ℕ)) × (s : Columns) × (front : List AnyRow) × (givens : List (List AnyRow)) × (aggs.now ≡ aggs_of s) × IsGathering R.bytes low s inputs.old cursors.old (from + 1) row.old front givens }
     ensures tree { OnOk result (IsTree (hands_of cursors.new) tree.new) }
-    ensures merging { IfOk result (λ last. (s : Columns) (front : List AnyRow) (givens : List (List AnyRow)) → aggs.now ≡ aggs_of s → IsGathering R.bytes s inputs.old cursors.old (from + 1) row.old front givens
-        → (after : List (List AnyRow)) × IsMerging R.bytes s inputs.new cursors.new after × (folded (aggs_of s) after ≡ front ++ row.new ∷ []) × IsRowOf s row.new × IsLastOf row.new.key last after) }
+    ensures merging { IfOk result (λ last. (low : Option (List ℕ)) (s : Columns) (front : List AnyRow) (givens : List (List AnyRow)) → aggs.now ≡ aggs_of s → IsGathering R.bytes low s inputs.old cursors.old (from + 1) row.old front givens
+        → (after : List (List AnyRow)) × IsMerging R.bytes low s inputs.new cursors.new after × (folded (aggs_of s) after ≡ front ++ row.new ∷ []) × IsRowOf s row.new × ((j : ℕ) → AreUpTo row.new.key (get_or after j [])) × IsLastOf row.new.key last after) }
+    ensures key { IfOk result (λ last. row.new.key ≡ row.old.key) }
     ensures known { knowns_of R.bytes inputs.new ≡ knowns_of R.bytes inputs.old }
     ensures inputs { AllByRecursion (IsInput R.bytes) inputs.old → AllByRecursion (IsInput R.bytes) inputs.new }
     ensures cause { HaveFaultCause (λ e. e ≡ file_error.Read) (faults_of R.faults inputs.old) (faults_of R.faults inputs.new) result }
     ensures damaged { IfErr result (λ e. (d : AnyDamage) → e ≡ file_error.Damaged d → IsDamageOf R.bytes R.size inputs.new d) }
-    ensures accepts { IfErr result (λ e. (d : AnyDamage) → e ≡ file_error.Damaged d → (s : Columns) (front : List AnyRow) (givens : List (List AnyRow)) → aggs.now ≡ aggs_of s → IsGathering R.bytes s inputs.old cursors.old (from + 1) row.old front givens
+    ensures accepts { IfErr result (λ e. (d : AnyDamage) → e ≡ file_error.Damaged d → (low : Option (List ℕ)) (s : Columns) (front : List AnyRow) (givens : List (List AnyRow)) → aggs.now ≡ aggs_of s → IsGathering R.bytes low s inputs.old cursors.old (from + 1) row.old front givens
         → (contents : List (List AnyRow)) → AreTold (knowns_of R.bytes inputs.old) contents → KeepsBound (aggs_of s) [] (rows_of (lifted_parts (knowns_of R.bytes inputs.old) contents)) → ⊥) }
 {
     folds_go_on();

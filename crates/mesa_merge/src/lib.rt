@@ -8,6 +8,7 @@ mod making;
 mod matches;
 mod merge;
 mod next;
+mod stopping;
 mod streams;
 mod sums;
 

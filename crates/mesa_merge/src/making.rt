@@ -14,6 +14,7 @@ use crate::matches::{Tree, first_tree};
 use mesa_cursor::Cursor;
 use mesa_delta::Input;
 use mesa_disk::FileReader;
+use mesa_key::KeyBytes;
 use mesa_schema::Evolving;
 use mesa_value::Agg;
 use std::alloc::{AllocError, Global};
@@ -29,14 +30,15 @@ pub(crate) struct Parts {
 pub(crate) fn parts_of<R: FileReader>(
     alloc: Global,
     inputs: &[Input<R>],
+    low: &Option<KeyBytes>,
 ) -> Result<Parts, AllocError>
     requires { AllByRecursion (IsInput R.bytes) inputs.now }
-    ensures given { IfOk result (λ p. HasGivens R.bytes inputs.now p.cursors.items (nothing_given inputs.now)) }
+    ensures given { IfOk result (λ p. HasGivens R.bytes low.now inputs.now p.cursors.items (nothing_given inputs.now)) }
     ensures none { IfOk result (λ p. (j : ℕ) → get_or (hands_of p.cursors.items) j [] ≡ []) }
     ensures tree { IfOk result (λ p. IsTree (hands_of p.cursors.items) p.tree) }
     ensures columns { IfOk result (λ p. (s : Columns) → AreAlike s (knowns_of R.bytes inputs.now) → 0 < length inputs.now → p.aggs.items ≡ aggs_of s) }
 {
-    let cursors = cursors_of(alloc, inputs)?;
+    let cursors = cursors_of(alloc, inputs, low)?;
     let tree = first_tree(alloc, cursors.len())?;
     let aggs = aggs_in(alloc, inputs)?;
     Ok(Parts {
@@ -46,15 +48,19 @@ pub(crate) fn parts_of<R: FileReader>(
     })
 }
 
-// Each at its first row.
-fn cursors_of<R: FileReader>(alloc: Global, inputs: &[Input<R>]) -> Result<Vec<Cursor>, AllocError>
+// Each at its first row from the low end on, where there is one.
+fn cursors_of<R: FileReader>(
+    alloc: Global,
+    inputs: &[Input<R>],
+    low: &Option<KeyBytes>,
+) -> Result<Vec<Cursor>, AllocError>
     requires { AllByRecursion (IsInput R.bytes) inputs.now }
-    ensures given { IfOk result (λ cs. HasGivens R.bytes inputs.now cs.items (nothing_given inputs.now)) }
+    ensures given { IfOk result (λ cs. HasGivens R.bytes low.now inputs.now cs.items (nothing_given inputs.now)) }
     ensures none { IfOk result (λ cs. (j : ℕ) → get_or (hands_of cs.items) j [] ≡ []) }
 {
     let mut cursors = Vec::with_capacity(alloc, inputs.len())?;
     'inputs: for i in 0..inputs.len() {
-        cursors.push(Cursor::of(alloc, &inputs[i])?)?;
+        cursors.push(Cursor::from_key(alloc, &inputs[i], low)?)?;
     }
     Ok(cursors)
 }

@@ -1,5 +1,5 @@
 // Inputs that are read row by row, each at its cursor.
-ghost use Rattle.std.specs.Prelude.{◌≡◌, ◌≢◌, ◌<◌, ◌+◌, ◌++◌, ◌∷◌, [], ℕ, List, length, OnOk, IfErr, get_or, slice_set, min, sum_by, ◌^◌, ◌-◌};
+ghost use Rattle.std.specs.Prelude.{◌≡◌, ◌≢◌, ◌<◌, ◌+◌, ◌++◌, ◌∷◌, [], ℕ, List, length, Option, OnOk, IfErr, get_or, slice_set, min, sum_by, ◌^◌, ◌-◌};
 ghost use Rattle.std.specs.List.{AllByRecursion};
 ghost use Rattle.mesa_file.specs.declared.damage.Damage.{Damage as AnyDamage};
 ghost use Rattle.mesa_schema.specs.declared.rows.Row.{Row as AnyRow};
@@ -33,13 +33,13 @@ pub(crate) fn advance<R: FileReader>(
     ensures others { (j : ℕ) → j ≢ i → get_or (hands_of cursors.new) j [] ≡ get_or (hands_of cursors.old) j [] }
 
     // A row was at hand: it is given, and the row at hand then is above it.
-    ensures given { OnOk result ((row : AnyRow) (rows : List AnyRow) → get_or (hands_of cursors.old) i [] ≡ row ∷ rows → (givens : List (List AnyRow)) → HasGivens R.bytes inputs.old cursors.old givens
-        → HasGivens R.bytes inputs.new cursors.new (slice_set givens i (get_or givens i [] ++ row ∷ []))) }
-    ensures form { OnOk result ((row : AnyRow) (rows : List AnyRow) → get_or (hands_of cursors.old) i [] ≡ row ∷ rows → (s : Columns) (givens : List (List AnyRow)) → AreAlike s (knowns_of R.bytes inputs.old) → HasGivens R.bytes inputs.old cursors.old givens → IsRowOf s row) }
-    ensures above { OnOk result ((row : AnyRow) (rows : List AnyRow) → get_or (hands_of cursors.old) i [] ≡ row ∷ rows → (givens : List (List AnyRow)) → HasGivens R.bytes inputs.old cursors.old givens → IsAhead row.key (get_or (hands_of cursors.new) i [])) }
+    ensures given { OnOk result ((row : AnyRow) (rows : List AnyRow) → get_or (hands_of cursors.old) i [] ≡ row ∷ rows → (low : Option (List ℕ)) (givens : List (List AnyRow)) → HasGivens R.bytes low inputs.old cursors.old givens
+        → HasGivens R.bytes low inputs.new cursors.new (slice_set givens i (get_or givens i [] ++ row ∷ []))) }
+    ensures form { OnOk result ((row : AnyRow) (rows : List AnyRow) → get_or (hands_of cursors.old) i [] ≡ row ∷ rows → (low : Option (List ℕ)) (s : Columns) (givens : List (List AnyRow)) → AreAlike s (knowns_of R.bytes inputs.old) → HasGivens R.bytes low inputs.old cursors.old givens → IsRowOf s row) }
+    ensures above { OnOk result ((row : AnyRow) (rows : List AnyRow) → get_or (hands_of cursors.old) i [] ≡ row ∷ rows → (low : Option (List ℕ)) (givens : List (List AnyRow)) → HasGivens R.bytes low inputs.old cursors.old givens → IsAhead row.key (get_or (hands_of cursors.new) i [])) }
 
     // None was.
-    ensures began { OnOk result (get_or (hands_of cursors.old) i [] ≡ [] → (givens : List (List AnyRow)) → HasGivens R.bytes inputs.old cursors.old givens → HasGivens R.bytes inputs.new cursors.new givens) }
+    ensures began { OnOk result (get_or (hands_of cursors.old) i [] ≡ [] → (low : Option (List ℕ)) (givens : List (List AnyRow)) → HasGivens R.bytes low inputs.old cursors.old givens → HasGivens R.bytes low inputs.new cursors.new givens) }
 
     // Then one is, or the input is at its end.
     ensures ready { OnOk result ((n : ℕ) → AreReady n inputs.old cursors.old → AreReady n inputs.new cursors.new) }
@@ -49,8 +49,8 @@ pub(crate) fn advance<R: FileReader>(
     ensures known { knowns_of R.bytes inputs.new ≡ knowns_of R.bytes inputs.old }
     ensures inputs { AllByRecursion (IsInput R.bytes) inputs.old → AllByRecursion (IsInput R.bytes) inputs.new }
     ensures cause { HaveFaultCause (λ e. e ≡ file_error.Read) (faults_of R.faults inputs.old) (faults_of R.faults inputs.new) result }
-    ensures damaged { IfErr result (λ e. (d : AnyDamage) → e ≡ file_error.Damaged d → AllByRecursion (IsInput R.bytes) inputs.old → IsBlockOf R.bytes R.size (knowns_of R.bytes inputs.old) d) }
-    ensures accepts { IfErr result (λ e. (d : AnyDamage) → e ≡ file_error.Damaged d → AllByRecursion (IsInput R.bytes) inputs.old → (contents : List (List AnyRow)) → AreTold (knowns_of R.bytes inputs.old) contents → ⊥) }
+    ensures damaged { IfErr result (λ e. (d : AnyDamage) → e ≡ file_error.Damaged d → (low : Option (List ℕ)) (givens : List (List AnyRow)) → HasGivens R.bytes low inputs.old cursors.old givens → IsBlockOf R.bytes R.size (knowns_of R.bytes inputs.old) d) }
+    ensures accepts { IfErr result (λ e. (d : AnyDamage) → e ≡ file_error.Damaged d → (low : Option (List ℕ)) (givens : List (List AnyRow)) → HasGivens R.bytes low inputs.old cursors.old givens → (contents : List (List AnyRow)) → AreTold (knowns_of R.bytes inputs.old) contents → ⊥) }
 {
     let cursor = &mut cursors[i];
     let input = &mut inputs[i];

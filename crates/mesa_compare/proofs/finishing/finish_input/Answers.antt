@@ -10,13 +10,14 @@ use Rattle.mesa_compare.proofs.finishing.finish_input.Goals as goal
 pub returns-in-Err-clause-never : goal.returns-in-Err-clause-never
 returns-in-Err-clause-never g c = λ d is b all told indexed.
     let inv = c.rows.invariant in
-    c.in-Err.ensures.accepts d is inv.input b all (inv.same.told ∙ told) (subst (λ x. IsIndexed x all b) (sym inv.same.index) indexed)
+    c.in-Err.ensures.accepts d is inv.low inv.input b all (inv.same.told ∙ told) (subst (λ x. IsIndexed x all b) (sym inv.same.index) indexed)
 
 pub rows-init : goal.rows-init
 rows-init g c = record {
-  input = c.requires;
+  input = c.requires.input;
   same = record { index = refl; evolving = refl; epoch = refl; told = refl };
   faults = refl;
+  low = c.requires.whole;
   given = λ before h. ([], subst (HasGiven g.R.FileReader.bytes c.args.input.now c.args.cursor.now) (sym (append-nil before)) h);
 }
 
@@ -30,6 +31,7 @@ rows-preserved g c =
       input = c.in-Ok.ensures.input inv.input;
       same = same_input bytes c.args.input.now c.rows.input c.next_row.new.input inv.same c.in-Ok.ensures.same;
       faults = c.in-Ok.ensures.cause.quiet ∙ inv.faults;
+      low = c.next_row.ensures.low ∙ inv.low;
       given = λ before h.
           let now = inv.given before h in
           (now.0 ++ row ∷ [], subst (HasGiven bytes c.next_row.new.input c.next_row.new.cursor) (append_assoc before now.0 (row ∷ [])) (some (before ++ now.0) now.1).0);

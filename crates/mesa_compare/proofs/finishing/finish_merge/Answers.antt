@@ -10,15 +10,14 @@ use Rattle.mesa_merge.specs.Merged.{HasMerged, failed_of, row_in}
 use Rattle.std.specs.Prelude.{Ok, Err}
 use Rattle.mesa_delta.specs.declared.error.FileError.TheVariants.{Memory, Read}
 use Rattle.mesa_compare.proofs.Counting.{failed_after, quiet_after}
-use Rattle.mesa_compare.proofs.Stepping.{if_none_from}
+use Rattle.mesa_compare.proofs.Stepping.{may_go_on}
 use Rattle.mesa_compare.proofs.finishing.finish_merge.Goals as goal
 
 pub next-requires-after_bounds : goal.next-requires-after_bounds
 next-requires-after_bounds g c = λ _ _.
     let start = c.requires in
     let now = c.rows.invariant.merged start.0 start.1 start.2 in
-    let all : (s : Columns) × (givens : List (List Row)) × HasMerged g.R.FileReader.bytes s c.rows.merge givens = (start.0, now.0, now.2) in
-    if_none_from (failed_of c.rows.merge) ((s : Columns) × (givens : List (List Row)) × HasMerged g.R.FileReader.bytes s c.rows.merge givens) all
+    may_go_on g.R.FileReader.bytes c.rows.merge start.0 now.0 now.2
 
 pub rows-preserved : goal.rows-preserved
 rows-preserved g c =

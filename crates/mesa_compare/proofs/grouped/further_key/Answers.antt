@@ -16,13 +16,16 @@ use Rattle.mesa_compare.proofs.Stepping.{GivesOn, gives_on, lent_some}
 use Rattle.mesa_compare.proofs.grouped.further_key.Goals as goal
 
 pub returns-in-Err-clause-never : goal.returns-in-Err-clause-never
-returns-in-Err-clause-never g c = λ d is b all read indexed. c.in-Err.ensures.accepts d is c.requires b all read indexed
+returns-in-Err-clause-never g c = λ d is b all read indexed. c.in-Err.ensures.accepts d is c.requires.whole c.requires.input b all read indexed
 
 pub returns-in_err-finish_input-clause-never : goal.returns-in_err-finish_input-clause-never
 returns-in_err-finish_input-clause-never g c =
     let p = err_from_is_err_and c.from_residual-in_err-finish_input.result c.from_residual-in_err-finish_input.ensures.1 in
     let same = c.in-Ok.ensures.same in
     rw (p.1, p.2) (λ d is b all read indexed. c.in_err-finish_input.ensures.never d is b all (same.told ∙ read) (subst (λ x. IsIndexed x all b) (sym same.index) indexed))
+
+pub finish_input-requires-clause-whole : goal.finish_input-requires-clause-whole
+finish_input-requires-clause-whole g c κs within = c.next_row.ensures.low ∙ c.requires.whole
 
 -- ---- a row that the file has behind them, and none
 
@@ -41,8 +44,8 @@ returns-clause-difference g c = λ front b all h read indexed.
     let first : Shows c.in-Some.key None (option_map lent c.then_some-other.result) = rw c.in-Some.is at c.in_ok-difference.ensures.first in
     let shows : Shows c.in-Some.key None beside = λ before ones others one other rises rise. first before ones others one (other ∙ sym lends) rises rise in
     let none : beside ≡ None → more.0 ≡ [] = λ e. (let no : first_difference [] [] ≡ Some c.in-Some.key = shows [] [] [] refl (sym e) refl refl in absurd cc) in
-    let rises : IsTrue (keys_rise front) = front_rises front (at_hand c.args.cursor.now) (c.rises.ensures.rise front h) in
-    let rise : IsTrue (keys_rise (map (lift_by c.args.input.now) all)) = subst (λ (l : List Row). IsTrue (keys_rise l)) (sym whole) (front_rises given (at_hand c.finish_input.new.cursor) (c.rises-2.ensures.rise given more.1)) in
+    let rises : IsTrue (keys_rise front) = front_rises front (at_hand c.args.cursor.now) (c.rises.ensures.rise None front h) in
+    let rise : IsTrue (keys_rise (map (lift_by c.args.input.now) all)) = subst (λ (l : List Row). IsTrue (keys_rise l)) (sym whole) (front_rises given (at_hand c.finish_input.new.cursor) (c.rises-2.ensures.rise None given more.1)) in
     differs front None beside [] more.0 front _ c.in-Some.key shows total (λ e. refl) whole none rises rise
 
 pub returns-in_default-clause-difference : goal.returns-in_default-clause-difference

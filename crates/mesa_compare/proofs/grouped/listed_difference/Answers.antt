@@ -2,7 +2,7 @@ use Rattle.std.proofs.Common.{◌≡◌, ◌+◌, ◌≤◌, ◌++◌, List, len
 use Rattle.std.proofs.lemmas.Result.{err_from_is_err_and}
 use Rattle.std.proofs.lemmas.List.{take_all, take-append-drop}
 use Rattle.std.specs.Bool.{then_some}
-use Rattle.std.specs.Prelude.{Option, Some, IsTrue, option_map, option_to_list}
+use Rattle.std.specs.Prelude.{Option, None, Some, IsTrue, option_map, option_to_list}
 use Rattle.mesa_schema.specs.declared.rows.Row.{Row}
 use Rattle.mesa_schema.specs.Lent.{lent}
 use Rattle.mesa_schema.specs.Rows.{keys_rise}
@@ -40,9 +40,12 @@ loop-row-preserved g c =
 pub returns-in-Err-clause-never : goal.returns-in-Err-clause-never
 returns-in-Err-clause-never g c = λ d is b all read indexed.
     let inv = c.loop-row.invariant in
-    c.in-Err.ensures.accepts d is inv.input b all (inv.same.told ∙ read) (subst (λ x. IsIndexed x all b) (sym inv.same.index) indexed)
+    c.in-Err.ensures.accepts d is inv.read.key inv.input b all (inv.same.told ∙ read) (subst (λ x. IsIndexed x all b) (sym inv.same.index) indexed)
 
 -- ---- a difference, behind which the file is read to its end
+
+pub finish_input-requires-clause-whole : goal.finish_input-requires-clause-whole
+finish_input-requires-clause-whole g c κs within = c.next_row.ensures.low ∙ c.loop-row.invariant.read.key
 
 pub returns-in_err-finish_input-clause-never : goal.returns-in_err-finish_input-clause-never
 returns-in_err-finish_input-clause-never g c =
@@ -72,10 +75,13 @@ returns-in-Some-clause-difference g c = λ b all rises read indexed.
     let lends : option_map lent c.then_some-other.result ≡ beside = lent_some _ _ _ _ c.then_some-other.ensures c.lend-in-loop-row.ensures in
     let first : Shows c.in-Some.key (Some (lent c.lend.result)) (option_map lent c.then_some-other.result) = rw c.in-Some.is at c.in_ok-difference.ensures.first in
     let shows : Shows c.in-Some.key (Some row) beside = λ before ones others one other rises rise. first before ones others (one ∙ ap Some (sym c.lend.ensures)) (other ∙ sym lends) rises rise in
-    let rise : IsTrue (keys_rise (map (lift_by c.args.input.now) all)) = subst (λ (l : List Row). IsTrue (keys_rise l)) (sym whole) (front_rises given (at_hand c.finish_input.new.cursor) (c.rises.ensures.rise given more.1)) in
+    let rise : IsTrue (keys_rise (map (lift_by c.args.input.now) all)) = subst (λ (l : List Row). IsTrue (keys_rise l)) (sym whole) (front_rises given (at_hand c.finish_input.new.cursor) (c.rises.ensures.rise None given more.1)) in
     differs front (Some row) beside (drop (i + 1) rows) more.0 rows _ c.in-Some.key shows total (λ e. absurd cc) whole (λ e. more.3 (ended c.in-Ok.read c.next_row.new.row e)) rises rise
 
 -- ---- rows of the file behind them
+
+pub further_key-requires-clause-whole : goal.further_key-requires-clause-whole
+further_key-requires-clause-whole g c κs within = c.loop-row.invariant.read.key
 
 pub returns-clause-difference : goal.returns-clause-difference
 returns-clause-difference g c = if_ok c.further_key.result _ _ (λ o first b all rises read indexed.

@@ -14,14 +14,11 @@ use Rattle.mesa_difference.specs.Difference.{first_difference}
 use Rattle.mesa_compare.specs.Compared.{Shows}
 use Rattle.mesa_compare.proofs.Counting.{failed_after, quiet_after}
 use Rattle.mesa_compare.proofs.Differing.{differs, fold_of}
-use Rattle.mesa_compare.proofs.Stepping.{GoesOn, goes_on, if_none_from, lent_some}
+use Rattle.mesa_compare.proofs.Stepping.{GoesOn, goes_on, lent_some, may_go_on}
 use Rattle.mesa_compare.proofs.merged.first_key.Goals as goal
 
 pub next-requires-after_bounds : goal.next-requires-after_bounds
-next-requires-after_bounds g c = λ _ _.
-    let bytes = g.R.FileReader.bytes in
-    let all : (s : Columns) × (givens : List (List Row)) × HasMerged bytes s c.args.merge.now givens = (c.requires.0, c.requires.1, c.requires.2) in
-    if_none_from (failed_of c.args.merge.now) ((s : Columns) × (givens : List (List Row)) × HasMerged bytes s c.args.merge.now givens) all
+next-requires-after_bounds g c = λ _ _. may_go_on g.R.FileReader.bytes c.args.merge.now c.requires.0 c.requires.1 c.requires.2
 
 -- ---- failed reads and damage
 

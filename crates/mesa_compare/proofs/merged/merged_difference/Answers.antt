@@ -19,17 +19,13 @@ use Rattle.mesa_examine.proofs.Streams.{same_input}
 use Rattle.mesa_compare.specs.Compared.{Shows}
 use Rattle.mesa_compare.proofs.Counting.{failed_after, none_failed}
 use Rattle.mesa_compare.proofs.Differing.{differs, fold_of, front_rises, whole_of}
-use Rattle.mesa_compare.proofs.Stepping.{GivesOn, GoesOn, ended, gives_on, goes_on, if_none_from, lent_some, no_row}
+use Rattle.mesa_compare.proofs.Stepping.{GivesOn, GoesOn, ended, gives_on, goes_on, lent_some, may_go_on, no_row}
 use Rattle.mesa_compare.proofs.merged.merged_difference.Goals as goal
 
 -- ---- the loop
 
 pub next-requires-after_bounds : goal.next-requires-after_bounds
-next-requires-after_bounds g c = λ _ _.
-    let inv = c.rows.invariant in
-    let bytes = g.R.FileReader.bytes in
-    let all : (s : Columns) × (givens : List (List Row)) × HasMerged bytes s c.rows.merge givens = (columns_of c.args.input.now.evolving.value, inv.givens, inv.merged) in
-    if_none_from (failed_of c.rows.merge) ((s : Columns) × (givens : List (List Row)) × HasMerged bytes s c.rows.merge givens) all
+next-requires-after_bounds g c = λ _ _. may_go_on g.R.FileReader.bytes c.rows.merge (columns_of c.args.input.now.evolving.value) c.rows.invariant.givens c.rows.invariant.merged
 
 pub rows-preserved : goal.rows-preserved
 rows-preserved g c =
@@ -77,7 +73,18 @@ returns-in-Err-clause-never g c = λ d is contents b all told read indexed keeps
 pub returns-in-Err-next_row-clause-never : goal.returns-in-Err-next_row-clause-never
 returns-in-Err-next_row-clause-never g c = λ d is contents b all told read indexed keeps.
     let inv = c.rows.invariant in
-    c.in-Err-next_row.ensures.accepts d is inv.input b all (inv.same.told ∙ read) (subst (λ x. IsIndexed x all b) (sym inv.same.index) indexed)
+    c.in-Err-next_row.ensures.accepts d is inv.read.key inv.input b all (inv.same.told ∙ read) (subst (λ x. IsIndexed x all b) (sym inv.same.index) indexed)
+
+pub returns-in_err-difference-clause-cause : goal.returns-in_err-difference-clause-cause
+returns-in_err-difference-clause-cause g c =
+    let p = err_from_is_err_and c.from_residual-in_err-difference.result c.from_residual-in_err-difference.ensures.1 in
+    let inv = c.rows.invariant in
+    rw (p.1, p.2) (none_failed (λ e. e ≡ Read) _ _ _ _ (Err Memory) (c.in-Ok-next_row.ensures.cause.quiet ∙ inv.faults) ((c.in-Ok.ensures.next inv.merged.going).cause.quiet ∙ inv.counts) (λ e. cc))
+
+pub returns-in_err-difference-clause-never : goal.returns-in_err-difference-clause-never
+returns-in_err-difference-clause-never g c =
+    let p = err_from_is_err_and c.from_residual-in_err-difference.result c.from_residual-in_err-difference.ensures.1 in
+    rw (p.1, p.2) (λ d is contents b all told read indexed keeps. cc)
 
 -- ---- a difference, behind which both are read to their ends
 
@@ -89,6 +96,9 @@ finish_both-requires-clause-merge g c κs within =
     let answer = c.in-Ok.ensures.next inv.merged.going in
     let on = goes_on bytes s c.rows.merge c.next.new.self inv.givens (then_some c.in-Ok.given (row_in c.next.new.self)) inv.merged answer.some answer.none in
     (s, on.after, on.merged)
+
+pub finish_both-requires-clause-whole : goal.finish_both-requires-clause-whole
+finish_both-requires-clause-whole g c κs within = c.next_row.ensures.low ∙ c.rows.invariant.read.key
 
 pub returns-in_err-finish_both-clause-cause : goal.returns-in_err-finish_both-clause-cause
 returns-in_err-finish_both-clause-cause g c =
@@ -138,7 +148,7 @@ returns-in-Some-clause-difference g c = λ contents b all told read indexed.
     let first : Shows c.in-Some.key (option_map lent c.then_some-one.result) (option_map lent c.then_some-other.result) = rw c.in-Some.is at c.in_ok-difference.ensures.first in
     let shows : Shows c.in-Some.key row beside = λ front rows others one other rises rise. first front rows others (one ∙ sym lends) (other ∙ sym lends_beside) rises rise in
     let rises : IsTrue (keys_rise (folded (aggs_of s) (lifted_parts (knowns_of bytes (inputs_of c.args.merge.now)) contents))) = c.folds_by_key.ensures.rise (aggs_of s) (lifted_parts (knowns_of bytes (inputs_of c.args.merge.now)) contents) in
-    let rise : IsTrue (keys_rise (map (lift_by c.args.input.now) all)) = subst (λ (l : List Row). IsTrue (keys_rise l)) (sym whole) (front_rises given (at_hand c.finish_both.new.cursor) (c.rises.ensures.rise given more.1)) in
+    let rise : IsTrue (keys_rise (map (lift_by c.args.input.now) all)) = subst (λ (l : List Row). IsTrue (keys_rise l)) (sym whole) (front_rises given (at_hand c.finish_both.new.cursor) (c.rises.ensures.rise None given more.1)) in
     differs inv.given row beside rest.1 more.0 _ _ c.in-Some.key shows total (λ e. rest.4 (ended c.in-Ok.given (row_in c.next.new.self) e)) whole (λ e. more.3 (ended c.in-Ok-next_row.read c.next_row.new.row e)) rises rise
 
 -- ---- both at their ends

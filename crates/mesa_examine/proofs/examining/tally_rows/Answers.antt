@@ -7,7 +7,7 @@ use Rattle.mesa_examine.proofs.examining.tally_rows.Goals as goal
 pub returns-in-Err-clause-accepts : goal.returns-in-Err-clause-accepts
 returns-in-Err-clause-accepts g c = λ d is b all told indexed.
     let inv = c.rows.invariant in
-    c.in-Err.ensures.accepts d is inv.input b all (inv.same.told ∙ told) (subst (λ x. IsIndexed x all b) (sym inv.same.index) indexed)
+    c.in-Err.ensures.accepts d is inv.tallied.1.key inv.input b all (inv.same.told ∙ told) (subst (λ x. IsIndexed x all b) (sym inv.same.index) indexed)
 
 pub returns-then-not-more-clause-tallied : goal.returns-then-not-more-clause-tallied
 returns-then-not-more-clause-tallied g c = λ present start.

@@ -1,4 +1,5 @@
-use Rattle.std.proofs.Common.{◌≡◌, ◌+◌, ◌-◌, ◌<◌, List, length}
+use Rattle.std.proofs.Common.{◌≡◌, ℕ, ◌+◌, ◌-◌, ◌<◌, List, length}
+use Rattle.std.specs.Prelude.{Option}
 use Rattle.std.specs.List.{AllByRecursion}
 use Rattle.mesa_schema.specs.declared.rows.Row.{Row}
 use Rattle.mesa_schema.specs.Columns.{Columns, aggs_of}
@@ -19,8 +20,9 @@ invariant-same g l = record {
   known : knowns_of g.R.FileReader.bytes l.inputs ≡ knowns_of g.R.FileReader.bytes l.fn.inputs;
   inputs : AllByRecursion (IsInput g.R.FileReader.bytes) l.fn.inputs → AllByRecursion (IsInput g.R.FileReader.bytes) l.inputs;
   faults : faults_of g.R.FileReader.faults l.inputs ≡ faults_of g.R.FileReader.faults l.fn.inputs;
-  stage : (s : Columns) (front : List Row) (givens : List (List Row)) → l.aggs ≡ aggs_of s → IsGathering g.R.FileReader.bytes s l.fn.inputs l.fn.cursors (l.fn.from + 1) l.fn.row front givens
-      → (now : List (List Row)) × IsGathering g.R.FileReader.bytes s l.inputs l.cursors (l.from + 1) l.row front now;
+  key : l.row.key ≡ l.fn.row.key;
+  stage : (low : Option (List ℕ)) (s : Columns) (front : List Row) (givens : List (List Row)) → l.aggs ≡ aggs_of s → IsGathering g.R.FileReader.bytes low s l.fn.inputs l.fn.cursors (l.fn.from + 1) l.fn.row front givens
+      → (now : List (List Row)) × IsGathering g.R.FileReader.bytes low s l.inputs l.cursors (l.from + 1) l.row front now;
 }
 
 abbrev pub decreases-same : goal.decreases-same

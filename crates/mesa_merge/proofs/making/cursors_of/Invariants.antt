@@ -6,6 +6,6 @@ use Rattle.mesa_merge.proofs.making.cursors_of.Given as goal
 
 abbrev pub invariant-inputs : goal.invariant-inputs
 invariant-inputs g l = record {
-  given : HasGivens g.R.FileReader.bytes (take l.i l.inputs) l.cursors.items (nothing_given (take l.i l.inputs));
+  given : HasGivens g.R.FileReader.bytes l.low (take l.i l.inputs) l.cursors.items (nothing_given (take l.i l.inputs));
   none : (j : ℕ) → get_or (hands_of l.cursors.items) j [] ≡ [];
 }

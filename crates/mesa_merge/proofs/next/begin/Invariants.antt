@@ -1,4 +1,5 @@
 use Rattle.std.proofs.Common.{◌≡◌, ◌≤◌, ℕ, [], List, length, get_or}
+use Rattle.std.specs.Prelude.{Option}
 use Rattle.std.specs.List.{AllByRecursion}
 use Rattle.mesa_schema.specs.declared.rows.Row.{Row}
 use Rattle.mesa_cursor.specs.Cursors.{IsInput}
@@ -14,7 +15,7 @@ invariant-inputs g l = record {
   count : length l.cursors ≡ length l.inputs;
   tree : IsTree (hands_of l.cursors) l.tree;
   none : (j : ℕ) → l.i ≤ j → get_or (hands_of l.cursors) j [] ≡ [];
-  given : (givens : List (List Row)) → HasGivens g.R.FileReader.bytes l.fn.inputs l.fn.cursors givens → HasGivens g.R.FileReader.bytes l.inputs l.cursors givens;
+  given : (low : Option (List ℕ)) (givens : List (List Row)) → HasGivens g.R.FileReader.bytes low l.fn.inputs l.fn.cursors givens → HasGivens g.R.FileReader.bytes low l.inputs l.cursors givens;
   ready : AreReady l.i l.inputs l.cursors;
   known : knowns_of g.R.FileReader.bytes l.inputs ≡ knowns_of g.R.FileReader.bytes l.fn.inputs;
   kept : AllByRecursion (IsInput g.R.FileReader.bytes) l.fn.inputs → AllByRecursion (IsInput g.R.FileReader.bytes) l.inputs;

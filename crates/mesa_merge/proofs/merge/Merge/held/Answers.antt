@@ -8,5 +8,5 @@ pub returns-clause-held : goal.returns-clause-held
 returns-clause-held g c = c.held_by.ensures ∙ ap (λ cs. min (sum_by length (hands_of cs)) (2 ^ 64 - 1)) c.deref.ensures.value
 
 pub returns-clause-few : goal.returns-clause-few
-returns-clause-few g c = λ s givens h.
-    omega (arith, c.held_by.ensures, ap (λ cs. sum_by length (hands_of cs)) c.deref.ensures.value, held_few g.R.FileReader.bytes c.args.self.now.inputs.items c.args.self.now.cursors.items givens h.given)
+returns-clause-few g c = λ low high s givens h.
+    omega (arith, c.held_by.ensures, ap (λ cs. sum_by length (hands_of cs)) c.deref.ensures.value, held_few g.R.FileReader.bytes low c.args.self.now.inputs.items c.args.self.now.cursors.items givens h.given)

@@ -1,4 +1,5 @@
 use Rattle.std.proofs.Common.{inl, ◌≡◌, [], ℕ, List, length, get_or, refl, sym, ◌∙◌, ap, subst, arith}
+use Rattle.std.proofs.lemmas.Bool.{false≢true}
 use Rattle.std.specs.List.{AllByRecursion}
 use Rattle.mesa_schema.specs.Columns.{aggs_of}
 use Rattle.mesa_schema.specs.Folded.{rows_of}
@@ -15,24 +16,24 @@ use Rattle.mesa_merge.specs.Merging.{HasGivens}
 use Rattle.mesa_merge.proofs.Cases.{if_err, if_none, if_ok, if_some}
 use Rattle.mesa_merge.proofs.Causing.{cause_kept, cause_on}
 use Rattle.mesa_merge.proofs.Handing.{merged_with, refill}
-use Rattle.mesa_merge.proofs.Inputs.{cursors_count, givens_inputs}
+use Rattle.mesa_merge.proofs.Inputs.{cursors_count}
 use Rattle.mesa_merge.proofs.merge.Merge.step.Goals as goal
 
 pub begin-requires-clause-count : goal.begin-requires-clause-count
 begin-requires-clause-count g c = λ _ _.
     let m = c.args.self.now in
-    ap length c.deref_mut-2.ensures.value ∙ cursors_count g.R.FileReader.bytes m.inputs.items m.cursors.items c.requires.1 c.requires.2.given ∙ sym (ap length c.deref_mut.ensures.value)
+    ap length c.deref_mut-2.ensures.value ∙ cursors_count g.R.FileReader.bytes c.requires.0 m.inputs.items m.cursors.items c.requires.3 c.requires.4.given ∙ sym (ap length c.deref_mut.ensures.value)
 
 pub begin-requires-clause-none : goal.begin-requires-clause-none
-begin-requires-clause-none g c = λ _ _. subst (λ (cs : List Cursor). (j : ℕ) → get_or (hands_of cs) j [] ≡ []) (sym c.deref_mut-2.ensures.value) (c.requires.2.none c.if-self.false)
+begin-requires-clause-none g c = λ _ _. subst (λ (cs : List Cursor). (j : ℕ) → get_or (hands_of cs) j [] ≡ []) (sym c.deref_mut-2.ensures.value) (c.requires.4.none c.if-self.false)
 
 pub begin-requires-clause-tree : goal.begin-requires-clause-tree
 begin-requires-clause-tree g c = λ _ _.
     let m = c.args.self.now in
-    subst (λ (cs : List Cursor). IsTree (hands_of cs) m.tree) (sym c.deref_mut-2.ensures.value) c.requires.2.tree
+    subst (λ (cs : List Cursor). IsTree (hands_of cs) m.tree) (sym c.deref_mut-2.ensures.value) c.requires.4.tree
 
 pub further-requires : goal.further-requires
-further-requires g c = (c.type_bounds.send-R, (c.requires.0, c.requires.1, c.requires.2, c.if-self.true))
+further-requires g c = (c.type_bounds.send-R, (c.requires.0, c.requires.1, c.requires.2, c.requires.3, c.requires.4, c.if-self.true))
 
 pub further-requires-in-Ok-after_bounds : goal.further-requires-in-Ok-after_bounds
 further-requires-in-Ok-after_bounds g c = λ _ _.
@@ -40,14 +41,18 @@ further-requires-in-Ok-after_bounds g c = λ _ _.
     let m = c.args.self.now in
     let ei = refill m.inputs.len m.inputs.items c.begin.new.inputs (sym m.inputs.ok.0) (c.begin.auto.inputs ∙ ap length c.deref_mut.ensures.value) in
     let ec = refill m.cursors.len m.cursors.items c.begin.new.cursors (sym m.cursors.ok.0) (c.begin.auto.cursors ∙ ap length c.deref_mut-2.ensures.value) in
-    let s = c.requires.0 in
-    let given = c.requires.1 in
-    let h = c.requires.2 in (
+    let low = c.requires.0 in
+    let high = c.requires.1 in
+    let s = c.requires.2 in
+    let given = c.requires.3 in
+    let h = c.requires.4 in (
+      low,
+      high,
       s,
       given,
-      merged_with bytes s _ c.begin.new.inputs c.begin.new.cursors c.begin.new.tree given ei ec refl refl h.going (λ any. h.columns (omega (arith, any, c.begin.auto.inputs, ap length c.deref_mut.ensures.value))) c.in-Ok.ensures.tree
-          (c.in-Ok.ensures.merging s given (subst (λ xs. AreAlike s (knowns_of bytes xs)) (sym c.deref_mut.ensures.value) h.alike)
-          (subst (λ xs. HasGivens bytes xs c.deref_mut-2.result.now given) (sym c.deref_mut.ensures.value) (subst (λ cs. HasGivens bytes m.inputs.items cs given) (sym c.deref_mut-2.ensures.value) h.given)) (h.fresh c.if-self.false)),
+      merged_with bytes low high s _ c.begin.new.inputs c.begin.new.cursors c.begin.new.tree given ei ec refl refl h.going h.end h.below (λ any. h.columns (omega (arith, any, c.begin.auto.inputs, ap length c.deref_mut.ensures.value))) c.in-Ok.ensures.tree
+          (c.in-Ok.ensures.merging low s given (subst (λ xs. AreAlike s (knowns_of bytes xs)) (sym c.deref_mut.ensures.value) h.alike)
+          (subst (λ xs. HasGivens bytes low xs c.deref_mut-2.result.now given) (sym c.deref_mut.ensures.value) (subst (λ cs. HasGivens bytes low m.inputs.items cs given) (sym c.deref_mut-2.ensures.value) h.given)) (h.fresh c.if-self.false)),
       refl,
     )
 
@@ -60,13 +65,16 @@ returns-in-Ok g c =
     let ec = refill m.cursors.len m.cursors.items c.begin.new.cursors (sym m.cursors.ok.0) (c.begin.auto.cursors ∙ ap length c.deref_mut-2.ensures.value) in
     record {
       some =
-          if_ok (answer_of c.further-in-Ok.result c.further-in-Ok.new.self) _ _ (λ o some. if_some o _ _ (λ row more s givens h. more s givens (merged_with bytes s _ c.begin.new.inputs c.begin.new.cursors c.begin.new.tree givens ei ec refl refl h.going (λ any. h.columns (omega (arith, any, c.begin.auto.inputs, ap length c.deref_mut.ensures.value))) c.in-Ok.ensures.tree
-          (c.in-Ok.ensures.merging s givens (subst (λ xs. AreAlike s (knowns_of bytes xs)) (sym c.deref_mut.ensures.value) h.alike)
-          (subst (λ xs. HasGivens bytes xs c.deref_mut-2.result.now givens) (sym c.deref_mut.ensures.value) (subst (λ cs. HasGivens bytes m.inputs.items cs givens) (sym c.deref_mut-2.ensures.value) h.given)) (h.fresh c.if-self.false)))) some) c.further-in-Ok.ensures.some;
+          if_ok (answer_of c.further-in-Ok.result c.further-in-Ok.new.self) _ _ (λ o some. if_some o _ _ (λ row more low high s givens h. more low high s givens (merged_with bytes low high s _ c.begin.new.inputs c.begin.new.cursors c.begin.new.tree givens ei ec refl refl h.going h.end h.below (λ any. h.columns (omega (arith, any, c.begin.auto.inputs, ap length c.deref_mut.ensures.value))) c.in-Ok.ensures.tree
+          (c.in-Ok.ensures.merging low s givens (subst (λ xs. AreAlike s (knowns_of bytes xs)) (sym c.deref_mut.ensures.value) h.alike)
+          (subst (λ xs. HasGivens bytes low xs c.deref_mut-2.result.now givens) (sym c.deref_mut.ensures.value) (subst (λ cs. HasGivens bytes low m.inputs.items cs givens) (sym c.deref_mut-2.ensures.value) h.given)) (h.fresh c.if-self.false)))) some) c.further-in-Ok.ensures.some;
       none =
-          if_ok (answer_of c.further-in-Ok.result c.further-in-Ok.new.self) _ _ (λ o none. if_none o _ _ (λ more s givens h. more s givens (merged_with bytes s _ c.begin.new.inputs c.begin.new.cursors c.begin.new.tree givens ei ec refl refl h.going (λ any. h.columns (omega (arith, any, c.begin.auto.inputs, ap length c.deref_mut.ensures.value))) c.in-Ok.ensures.tree
-          (c.in-Ok.ensures.merging s givens (subst (λ xs. AreAlike s (knowns_of bytes xs)) (sym c.deref_mut.ensures.value) h.alike)
-          (subst (λ xs. HasGivens bytes xs c.deref_mut-2.result.now givens) (sym c.deref_mut.ensures.value) (subst (λ cs. HasGivens bytes m.inputs.items cs givens) (sym c.deref_mut-2.ensures.value) h.given)) (h.fresh c.if-self.false)))) none) c.further-in-Ok.ensures.none;
+          if_ok (answer_of c.further-in-Ok.result c.further-in-Ok.new.self) _ _ (λ o none. if_none o _ _ (λ more low high s givens h. more low high s givens (merged_with bytes low high s _ c.begin.new.inputs c.begin.new.cursors c.begin.new.tree givens ei ec refl refl h.going h.end h.below (λ any. h.columns (omega (arith, any, c.begin.auto.inputs, ap length c.deref_mut.ensures.value))) c.in-Ok.ensures.tree
+          (c.in-Ok.ensures.merging low s givens (subst (λ xs. AreAlike s (knowns_of bytes xs)) (sym c.deref_mut.ensures.value) h.alike)
+          (subst (λ xs. HasGivens bytes low xs c.deref_mut-2.result.now givens) (sym c.deref_mut.ensures.value) (subst (λ cs. HasGivens bytes low m.inputs.items cs givens) (sym c.deref_mut-2.ensures.value) h.given)) (h.fresh c.if-self.false)))) none) c.further-in-Ok.ensures.none;
+      ended = c.further-in-Ok.ensures.ended;
+      stays = λ ended. absurd (false≢true (sym c.if-self.false ∙ ended.begun));
+      high = c.further-in-Ok.ensures.high;
       known =
           c.further-in-Ok.ensures.known ∙ ap (knowns_of bytes) ei ∙ c.in-Ok.ensures.known ∙ ap (knowns_of bytes) c.deref_mut.ensures.value;
       inputs =
@@ -77,9 +85,9 @@ returns-in-Ok g c =
       damaged = c.further-in-Ok.ensures.damaged;
       accepts =
           let known = ap (knowns_of bytes) ei ∙ c.in-Ok.ensures.known ∙ ap (knowns_of bytes) c.deref_mut.ensures.value in
-          if_err (answer_of c.further-in-Ok.result c.further-in-Ok.new.self) _ _ (λ e accepts d is s givens h contents told bound. accepts d is s givens (merged_with bytes s _ c.begin.new.inputs c.begin.new.cursors c.begin.new.tree givens ei ec refl refl h.going (λ any. h.columns (omega (arith, any, c.begin.auto.inputs, ap length c.deref_mut.ensures.value))) c.in-Ok.ensures.tree
-          (c.in-Ok.ensures.merging s givens (subst (λ xs. AreAlike s (knowns_of bytes xs)) (sym c.deref_mut.ensures.value) h.alike)
-          (subst (λ xs. HasGivens bytes xs c.deref_mut-2.result.now givens) (sym c.deref_mut.ensures.value) (subst (λ cs. HasGivens bytes m.inputs.items cs givens) (sym c.deref_mut-2.ensures.value) h.given)) (h.fresh c.if-self.false))) contents
+          if_err (answer_of c.further-in-Ok.result c.further-in-Ok.new.self) _ _ (λ e accepts d is low high s givens h contents told bound. accepts d is low high s givens (merged_with bytes low high s _ c.begin.new.inputs c.begin.new.cursors c.begin.new.tree givens ei ec refl refl h.going h.end h.below (λ any. h.columns (omega (arith, any, c.begin.auto.inputs, ap length c.deref_mut.ensures.value))) c.in-Ok.ensures.tree
+          (c.in-Ok.ensures.merging low s givens (subst (λ xs. AreAlike s (knowns_of bytes xs)) (sym c.deref_mut.ensures.value) h.alike)
+          (subst (λ xs. HasGivens bytes low xs c.deref_mut-2.result.now givens) (sym c.deref_mut.ensures.value) (subst (λ cs. HasGivens bytes low m.inputs.items cs givens) (sym c.deref_mut-2.ensures.value) h.given)) (h.fresh c.if-self.false))) contents
           (subst (λ ks. AreTold ks contents) (sym known) told) (subst (λ ks. KeepsBound (aggs_of s) [] (rows_of (lifted_parts ks contents))) (sym known) bound)) c.further-in-Ok.ensures.accepts;
     }
 
@@ -92,6 +100,9 @@ returns-in-Err g c =
     record {
       some = tt;
       none = tt;
+      ended = tt;
+      stays = λ ended. absurd (false≢true (sym c.if-self.false ∙ ended.begun));
+      high = refl;
       known =
           ap (knowns_of bytes) ei ∙ c.in-Err.ensures.known ∙ ap (knowns_of bytes) c.deref_mut.ensures.value;
       inputs =
@@ -100,9 +111,11 @@ returns-in-Err g c =
       cause =
           cause_on _ _ _ _ _ refl (cause_kept _ _ _ _ _ (ap (faults_of faults) c.deref_mut.ensures.value) (sym (ap (faults_of faults) ei)) c.in-Err.ensures.cause) refl;
       damaged = λ d is.
+          let low = c.requires.0 in
+          let givens = c.requires.3 in
           let known = ap (knowns_of bytes) ei ∙ c.in-Err.ensures.known in
-          inl (subst (λ ks. IsBlockOf bytes g.R.FileReader.size ks d) (sym known) (c.in-Err.ensures.damaged d is (subst (AllByRecursion (IsInput bytes)) (sym c.deref_mut.ensures.value) (givens_inputs bytes m.inputs.items m.cursors.items c.requires.1 c.requires.2.given))));
+          inl (subst (λ ks. IsBlockOf bytes g.R.FileReader.size ks d) (sym known) (c.in-Err.ensures.damaged d is low givens (subst (λ xs. HasGivens bytes low xs c.deref_mut-2.result.now givens) (sym c.deref_mut.ensures.value) (subst (λ cs. HasGivens bytes low m.inputs.items cs givens) (sym c.deref_mut-2.ensures.value) c.requires.4.given))));
       accepts =
-          λ d is s givens h contents told bound.
-          c.in-Err.ensures.accepts d is (subst (AllByRecursion (IsInput bytes)) (sym c.deref_mut.ensures.value) (givens_inputs bytes m.inputs.items m.cursors.items givens h.given)) contents (subst (λ xs. AreTold (knowns_of bytes xs) contents) (sym c.deref_mut.ensures.value) told);
+          λ d is low high s givens h contents told bound.
+          c.in-Err.ensures.accepts d is low givens (subst (λ xs. HasGivens bytes low xs c.deref_mut-2.result.now givens) (sym c.deref_mut.ensures.value) (subst (λ cs. HasGivens bytes low m.inputs.items cs givens) (sym c.deref_mut-2.ensures.value) h.given)) contents (subst (λ xs. AreTold (knowns_of bytes xs) contents) (sym c.deref_mut.ensures.value) told);
     }
