@@ -125,7 +125,7 @@ decide_goes position s session (command.Load rows) = omega arith
 decide_goes position s session (command.Pin version) = omega arith
 decide_goes position s session (command.Release token) = omega arith
 decide_goes position s session (command.Expire table version) = omega arith
-decide_goes position s session (command.Work name) = omega arith
+decide_goes position s session (command.Work words) = omega arith
 
 grant_goes : (position : ℕ) (s : State) (o : Result Claim Reply) → 1 ≤ turns_at (grants position s o).stage
 grant_goes position s (Ok claim) = omega arith
@@ -141,7 +141,7 @@ complete_goes position s claim (Err refusal) = omega arith
 
 first_goes : (position : ℕ) (s : State) (session : ℕ) (c : Command) → 1 ≤ turns_at (standing position s session c (first_kind c) First).stage
 first_goes position s session (command.Load rows) = omega arith
-first_goes position s session (command.Work name) = grant_goes position s (claim_of s.warehouse s.machine position name)
+first_goes position s session (command.Work words) = grant_goes position s (claim_of s.warehouse s.machine position words.table)
 first_goes position s session (command.Query words) = let goes = decide_goes position s session (command.Query words) in omega (arith, goes)
 first_goes position s session (command.Explain words) = let goes = decide_goes position s session (command.Explain words) in omega (arith, goes)
 first_goes position s session (command.Table words) = omega arith
@@ -247,7 +247,7 @@ decide_stays position s session (command.Load rows) = done_keeps s.warehouse (lo
 decide_stays position s session (command.Pin version) = done_keeps s.warehouse (make_pin s.warehouse session version) (pin_keeps s.warehouse session version)
 decide_stays position s session (command.Release token) = done_keeps s.warehouse (release_pin s.warehouse session token) (release_keeps s.warehouse session token)
 decide_stays position s session (command.Expire table version) = done_keeps s.warehouse (expire_to s.warehouse table version) (expire_keeps s.warehouse table version)
-decide_stays position s session (command.Work name) = done_keeps s.warehouse (refuse_closed s.warehouse.closed >> Ok (s.warehouse, reply.Idle)) (nothing_keeps s.warehouse)
+decide_stays position s session (command.Work words) = done_keeps s.warehouse (refuse_closed s.warehouse.closed >> Ok (s.warehouse, reply.Idle)) (nothing_keeps s.warehouse)
 
 grant_stays : (position : ℕ) (s : State) (o : Result Claim Reply) → Stays s (grants position s o)
 grant_stays position s (Ok claim) = refl
@@ -263,7 +263,7 @@ completes_stays position s claim (Err refusal) = refl
 
 first_stays : (position : ℕ) (s : State) (session : ℕ) (c : Command) → Stays s (standing position s session c (first_kind c) First)
 first_stays position s session (command.Load rows) = refl
-first_stays position s session (command.Work name) = grant_stays position s (claim_of s.warehouse s.machine position name)
+first_stays position s session (command.Work words) = grant_stays position s (claim_of s.warehouse s.machine position words.table)
 first_stays position s session (command.Query words) = decide_stays position s session (command.Query words)
 first_stays position s session (command.Explain words) = decide_stays position s session (command.Explain words)
 first_stays position s session (command.Table words) = decide_stays position s session (command.Table words)

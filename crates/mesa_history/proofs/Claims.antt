@@ -135,7 +135,7 @@ module _ (position : ℕ) (s : State) (stage : Stage) where
   decides session (command.Pin asked) = deciding _ (step_grows s.warehouse session (command.Pin asked))
   decides session (command.Release token) = deciding _ (step_grows s.warehouse session (command.Release token))
   decides session (command.Expire table version) = deciding _ (step_grows s.warehouse session (command.Expire table version))
-  decides session (command.Work name) = deciding _ (step_grows s.warehouse session (command.Work name))
+  decides session (command.Work words) = deciding _ (step_grows s.warehouse session (command.Work words))
 
   -- ---- works
 

@@ -25,7 +25,7 @@ decide-closed position s session (command.Explain words) p is = rw is refl
 decide-closed position s session (command.Pin version) p is = ap (decided position s) (step-closed s.warehouse session (command.Pin version) p is)
 decide-closed position s session (command.Release token) p is = ap (decided position s) (step-closed s.warehouse session (command.Release token) p is)
 decide-closed position s session (command.Expire table version) p is = ap (decided position s) (step-closed s.warehouse session (command.Expire table version) p is)
-decide-closed position s session (command.Work table) p is = ap (decided position s) (step-closed s.warehouse session (command.Work table) p is)
+decide-closed position s session (command.Work words) p is = ap (decided position s) (step-closed s.warehouse session (command.Work words) p is)
 
 -- no command closes in its first turn
 no_first_close : (c : Command) → IsTrue (is_due_at c First kind.Close) → ⊥
@@ -38,7 +38,7 @@ no_first_close (command.Explain words) due = cc
 no_first_close (command.Pin version) due = cc
 no_first_close (command.Release token) due = cc
 no_first_close (command.Expire table version) due = cc
-no_first_close (command.Work table) due = cc
+no_first_close (command.Work words) due = cc
 
 -- no command is renewed in its first turn
 no_first_renewal : (c : Command) → IsTrue (is_due_at c First kind.Renew) → ⊥
@@ -51,7 +51,7 @@ no_first_renewal (command.Explain words) due = cc
 no_first_renewal (command.Pin version) due = cc
 no_first_renewal (command.Release token) due = cc
 no_first_renewal (command.Expire table version) due = cc
-no_first_renewal (command.Work table) due = cc
+no_first_renewal (command.Work words) due = cc
 
 module _ (position : ℕ) (s : State) (session : ℕ) (c : Command) (p : ℕ) (is : s.warehouse.closed ≡ Some p) where
   close-closed : (stage : Stage) → IsTrue (is_due_at c stage kind.Close) → is_answered stage ≡ false → standing position s session c kind.Close stage ≡ refuses position s (no.Closed p)

@@ -51,7 +51,7 @@ decide_goes position s session (command.Load rows) = never
 decide_goes position s session (command.Pin version) = never
 decide_goes position s session (command.Release token) = never
 decide_goes position s session (command.Expire table version) = never
-decide_goes position s session (command.Work name) = never
+decide_goes position s session (command.Work words) = never
 
 completes_goes : (position : ℕ) (s : State) (claim : Claim) (o : Result (Unit {0}) Refusal) → Goes (completes position s claim o).stage
 completes_goes position s claim (Ok ok) = never

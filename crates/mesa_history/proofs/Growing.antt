@@ -142,4 +142,4 @@ module _ (w : Warehouse) where
   step_grows session (command.Pin asked) = done_grows (make_pin w session asked) (pin_grows session asked)
   step_grows session (command.Release token) = done_grows (release_pin w session token) (release_grows session token)
   step_grows session (command.Expire table version) = done_grows (expire_to w table version) (expire_grows table version)
-  step_grows session (command.Work name) = done_grows _ nothing_grows
+  step_grows session (command.Work words) = done_grows _ nothing_grows

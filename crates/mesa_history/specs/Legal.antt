@@ -43,7 +43,7 @@ fits_prologue r e = not (r.prologue_over && (e.session == 0))
 -- the kind of a command's first turn
 abbrev pub first_kind : Command → Kind
 first_kind (command.Load rows) = kind.Look
-first_kind (command.Work name) = kind.Grant
+first_kind (command.Work words) = kind.Grant
 first_kind c = kind.Decide
 
 -- whether a turn of this kind is due: a load looks and is decided; a query is decided and, where it isn't refused, closes; a work is granted a lease, is renewed and closes, or closes without renewal; any other command is decided
@@ -129,7 +129,7 @@ is_query c = false
 
 -- whether a command is a work
 abbrev pub is_work : Command → Bool
-is_work (command.Work name) = true
+is_work (command.Work words) = true
 is_work c = false
 
 -- whether a command releases a pin

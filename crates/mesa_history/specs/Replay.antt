@@ -77,7 +77,7 @@ decide position s session c = decided position s (step s.warehouse session c)
 
 -- the table that a work names
 abbrev pub work_name : Command → List ℕ
-work_name (command.Work name) = name
+work_name (command.Work words) = words.table
 work_name c = []
 
 -- the state with another range machine

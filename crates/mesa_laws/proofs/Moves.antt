@@ -135,4 +135,4 @@ module _ (w : Warehouse) (P : Store → ℕ → List Accepted → Type 0) (moves
   step_moves session (command.Pin asked) = (pin_moves session asked).holds
   step_moves session (command.Release token) = (release_moves session token).holds
   step_moves session (command.Expire table version) = (expire_moves table version).holds
-  step_moves session (command.Work name) = (nothing_moves (command.Work name)).holds
+  step_moves session (command.Work words) = (nothing_moves (command.Work words)).holds

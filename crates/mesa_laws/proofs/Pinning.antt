@@ -109,7 +109,7 @@ module _ (w : Warehouse) (is : IsWellFormed w) (session : ℕ) (Q : Pin → Type
       let all : Pins (expire_to w (Some name) version) =
       after_check Pins no (refuse_closed w.closed) _ (λ open'. after_some Pins no (table_number w.store name) _ _ (λ number at. after_check Pins no (version_checked w (table_at w.store number).oldest version) _ (λ there. record { each = old _ }))) in
       all.each
-  pins_kept (command.Work name) = nothing_keeps.each
+  pins_kept (command.Work words) = nothing_keeps.each
 
 -- ---- a turn
 

@@ -77,4 +77,4 @@ module _ (w : Warehouse) where
       let all : S (expire_to w (Some name) version) =
       after_check S no (refuse_closed w.closed) _ (λ open'. after_some S no (table_number w.store name) _ _ (λ number at. after_check S no (version_checked w (table_at w.store number).oldest version) _ (λ there. record { same = λ refusal is. cc }))) in
       all.same
-  refused_stays session (command.Work name) = nothing_stays.same
+  refused_stays session (command.Work words) = nothing_stays.same

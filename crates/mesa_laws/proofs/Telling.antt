@@ -124,7 +124,7 @@ module _ (session position : ℕ) (s : State) where
   decides (command.Pin asked) stage = finishes s.warehouse session position (Some (command.Pin asked)) stage _ _ (pin_tells s.warehouse session asked)
   decides (command.Release token) stage = finishes s.warehouse session position (Some (command.Release token)) stage _ _ (release_tells s.warehouse session token)
   decides (command.Expire table version) stage = finishes s.warehouse session position (Some (command.Expire table version)) stage _ _ (expire_tells s.warehouse table version)
-  decides (command.Work name) stage = finishes s.warehouse session position (Some (command.Work name)) stage _ _ (nothing_tells s.warehouse)
+  decides (command.Work words) stage = finishes s.warehouse session position (Some (command.Work words)) stage _ _ (nothing_tells s.warehouse)
 
   stands : (c : Command) (k : Kind) (stage : Stage) → Tells s.warehouse session position (Some c) stage (standing position s session c k stage)
   stands c kind.Look stage = leaving s.warehouse session position (Some c) stage s Looked (λ at answer is. cc)

@@ -42,7 +42,7 @@ module _ (position : ℕ) (s : State) where
   decides session (command.Pin asked) = Steps (command.Pin asked) refl refl
   decides session (command.Release token) = Steps (command.Release token) refl refl
   decides session (command.Expire table version) = Steps (command.Expire table version) refl refl
-  decides session (command.Work name) = Steps (command.Work name) refl refl
+  decides session (command.Work words) = Steps (command.Work words) refl refl
 
   granting : (r : Result Claim Reply) → (grants position s r).state.warehouse.pins ≡ s.warehouse.pins
   granting (Ok claim) = refl

@@ -149,7 +149,7 @@ module _ (r : Run) (e : Entry) (P : Store → ℕ → List Accepted → Type 0) 
   decide_turns (command.Pin asked) = record { holds = step_moves r.state.warehouse P moves e.session (command.Pin asked) }
   decide_turns (command.Release token) = record { holds = step_moves r.state.warehouse P moves e.session (command.Release token) }
   decide_turns (command.Expire table version) = record { holds = step_moves r.state.warehouse P moves e.session (command.Expire table version) }
-  decide_turns (command.Work name) = record { holds = step_moves r.state.warehouse P moves e.session (command.Work name) }
+  decide_turns (command.Work words) = record { holds = step_moves r.state.warehouse P moves e.session (command.Work words) }
 
   standing_turns : (c : Command) (k : Kind) (stage : Stage) → Turns before P c (standing r.position r.state e.session c k stage)
   standing_turns c kind.Look stage = record { holds = moves.same }

@@ -18,4 +18,4 @@ step-closed w session (command.Pin version) position is = rw is refl
 step-closed w session (command.Release token) position is = rw is refl
 step-closed w session (command.Expire None version) position is = rw is refl
 step-closed w session (command.Expire (Some name) version) position is = rw is refl
-step-closed w session (command.Work table) position is = rw is refl
+step-closed w session (command.Work words) position is = rw is refl

@@ -60,6 +60,14 @@ pub struct ExplainWords {
     pub version: VersionWord,
 }
 
+/// A table of which deltas are to be merged, and into how many parts of its keys, 1 to 8, the merge
+/// is cut. The parts change nothing in what is merged.
+#[derive(Drop)]
+pub struct WorkWords {
+    pub table: Words,
+    pub parts: u8,
+}
+
 /// A command of a script.
 pub enum Command {
     Table(TableWords),
@@ -75,8 +83,7 @@ pub enum Command {
     Release(u32),
     /// The version below which none is to be asked for any more, of one table or of all.
     Expire { table: Option<Words>, version: u32 },
-    /// The table of which deltas are to be merged.
-    Work(Words),
+    Work(WorkWords),
 }
 
 // Each exit calls this, in place of letting go of each part itself.

@@ -1,7 +1,7 @@
 // Copies of commands, scripts and replies.
 use crate::{
     AlterWords, ChangeWords, Command, ExplainWords, KeyWords, Page, Refusal, Reply, Script,
-    TableWords, ValueWords, ViewWords,
+    TableWords, ValueWords, ViewWords, WorkWords,
 };
 use mesa_list::TryCopy;
 use std::alloc::AllocError;
@@ -79,6 +79,15 @@ impl TryCopy for ExplainWords {
     }
 }
 
+impl TryCopy for WorkWords {
+    fn copy(&self) -> Result<Self, AllocError> {
+        Ok(WorkWords {
+            table: self.table.copy()?,
+            parts: self.parts,
+        })
+    }
+}
+
 impl TryCopy for Command {
     fn copy(&self) -> Result<Self, AllocError> {
         Ok(match self {
@@ -100,7 +109,7 @@ impl TryCopy for Command {
                     version: *version,
                 }
             }
-            Command::Work(table) => Command::Work(table.copy()?),
+            Command::Work(words) => Command::Work(words.copy()?),
         })
     }
 }

@@ -10,7 +10,7 @@ mod replies;
 
 pub use commands::{
     AlterWords, ChangeWords, Command, ExplainWords, KeyWords, Script, Session, TableWords,
-    ValueWords, ViewWords,
+    ValueWords, ViewWords, WorkWords,
 };
 pub use entries::{Entry, Kind, Outcome};
 pub use laws::{closes_to_every_command, numbers_tell_entries};

@@ -1,9 +1,9 @@
 // What each record says, a function for each kind.
-ghost use Rattle.std.specs.Prelude.{◌≡◌, drop, IfErr, IfOk, Ok};
+ghost use Rattle.std.specs.Prelude.{◌≡◌, ◌==◌, drop, length, IfErr, IfOk, Ok};
 ghost use Rattle.csv.specs.Records.{fields_of};
 ghost use Rattle.mesa_batch.specs.Load.{row_from};
 ghost use Rattle.mesa_script.specs.Records.{Lease, Table, View, Alter, Row, Query, Explain, Pin, Release, Expire, Work};
-ghost use Rattle.mesa_script.specs.Items.{LeaseOf, RowOf, Single, item_of};
+ghost use Rattle.mesa_script.specs.Items.{LeaseOf, RowOf, Single, item_of, parts_of};
 ghost use Rattle.mesa_parse.specs.Failures.{Tells};
 ghost use Rattle.mesa_parse.specs.Said.{item_as, name_as};
 
@@ -11,12 +11,12 @@ use crate::changes::read_change;
 use crate::columns::{key_columns, names, value_columns};
 use crate::failed::Failed;
 use crate::kinds::Kind;
-use crate::numbers::{MAX_NUMBER, limit, number_in};
+use crate::numbers::{MAX_NUMBER, MAX_PARTS, limit, number_in};
 use crate::records::{RowFields, field, words};
 use crate::versions::version;
 use csv::ByteRecord;
 use mesa_filter::QueryWords;
-use mesa_model::{AlterWords, Command, ExplainWords, TableWords, ViewWords};
+use mesa_model::{AlterWords, Command, ExplainWords, TableWords, ViewWords, WorkWords};
 use mesa_script::Reason;
 use std::alloc::{AllocError, Global};
 
@@ -149,11 +149,25 @@ fn expire(alloc: Global, fields: &ByteRecord) -> Result<Command, Failed>
     })
 }
 
-// The table of which deltas are to be merged.
-fn work(alloc: Global, fields: &ByteRecord) -> Result<Command, AllocError>
-    ensures { IfOk result (λ command. item_of Work (fields_of fields.now) ≡ Ok (Single command)) }
+// Into how many parts a merge is cut.
+fn parts(fields: &ByteRecord) -> Result<u8, Reason>
+    ensures { result ≡ parts_of (length (fields_of fields.now) == 3) (fields_of fields.now) }
 {
-    Ok(Command::Work(words(alloc, fields, 1)?))
+    if fields.len() != 3 {
+        return Ok(1);
+    }
+    let parts = number_in(1, MAX_PARTS, field(fields, 2))?;
+    Ok(parts as u8)
+}
+
+// The table of which deltas are to be merged, and into how many parts the merge is cut.
+fn work(alloc: Global, fields: &ByteRecord) -> Result<Command, Failed>
+    ensures read { IfOk result (λ command. item_of Work (fields_of fields.now) ≡ Ok (Single command)) }
+    ensures refused { IfErr result (λ e. Tells e (item_of Work (fields_of fields.now))) }
+{
+    let parts = parts(fields)?;
+    let table = words(alloc, fields, 1)?;
+    Ok(Command::Work(WorkWords { table, parts }))
 }
 
 /// What a record of a kind says, or what is wrong with its words and numbers.

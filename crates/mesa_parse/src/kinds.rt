@@ -77,8 +77,8 @@ impl Kind {
         match self {
             Kind::Session | Kind::Commit => count == 1,
             Kind::Pin => count >= 1 && count <= 2,
-            Kind::Lease | Kind::Release | Kind::Work => count == 2,
-            Kind::Expire => count >= 2 && count <= 3,
+            Kind::Lease | Kind::Release => count == 2,
+            Kind::Expire | Kind::Work => count >= 2 && count <= 3,
             Kind::Row => count >= 2,
             Kind::Explain => count >= 2 && count <= 3,
             Kind::Query => count >= 2 && count <= 8,

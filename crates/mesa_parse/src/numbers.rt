@@ -1,5 +1,5 @@
 // Number words.
-ghost use Rattle.std.specs.Prelude.{◌≡◌};
+ghost use Rattle.std.specs.Prelude.{◌≡◌, ◌≤◌, IfOk};
 ghost use Rattle.mesa_script.specs.Words.{limit_of, number_in as number_between};
 
 use mesa_script::Reason;
@@ -7,9 +7,13 @@ use mesa_script::Reason;
 /// The greatest number word that a record may have.
 pub(crate) const MAX_NUMBER: u32 = 4_294_967_295;
 
+/// The most parts into which a merge may be cut.
+pub(crate) const MAX_PARTS: u32 = 8;
+
 /// The number that a word of decimal digits spells, in a range whose ends are included.
 pub fn number_in(low: u32, high: u32, word: &[u8]) -> Result<u32, Reason>
-    ensures { result ≡ number_between low high word.now }
+    ensures read { result ≡ number_between low high word.now }
+    ensures between { IfOk result (λ number. (low ≤ number) × (number ≤ high)) }
 {
     if word.is_empty() {
         return Err(Reason::Number);

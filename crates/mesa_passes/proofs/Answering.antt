@@ -109,7 +109,7 @@ builds_then outcome.Skipped closing would same false fault stays fits = absurd c
 may_then : (store : Store) (c : Option Command) (e : Entry) → builds_files_in store c ≡ true → e.outcome ≡ outcome.WriteFault → outcome_fits_in c e ≡ true → may_answer c e.kind ≡ true
 may_then store None e builds fault fits = absurd cc
 may_then store (Some (command.Load rows)) e builds fault fits = sym (ap (outcome_fits (command.Load rows) e.kind) fault) ∙ fits
-may_then store (Some (command.Work name)) e builds fault fits = sym (ap (outcome_fits (command.Work name) e.kind) fault) ∙ fits
+may_then store (Some (command.Work words)) e builds fault fits = sym (ap (outcome_fits (command.Work words) e.kind) fault) ∙ fits
 may_then store (Some (command.Table words)) e builds fault fits = absurd cc
 may_then store (Some (command.View words)) e builds fault fits = absurd cc
 may_then store (Some (command.Alter words)) e builds fault fits = absurd cc
@@ -143,7 +143,7 @@ none_renewing c = none_of_kind c kind.Renew refl refl
 pub none_asking : (c : Command) (k : Kind) → is_query c ≡ true → may_answer (Some c) k ≡ false
 none_asking (command.Query words) k is = refl
 none_asking (command.Load rows) k is = absurd cc
-none_asking (command.Work name) k is = absurd cc
+none_asking (command.Work words) k is = absurd cc
 none_asking (command.Table words) k is = refl
 none_asking (command.View words) k is = refl
 none_asking (command.Alter words) k is = refl

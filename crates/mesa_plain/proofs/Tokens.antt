@@ -124,7 +124,7 @@ gives w session (command.Explain words) = done_gives w (refuse_closed w.closed >
 gives w session (command.Pin version) = done_gives w (make_pin w session version) (pin_gives w session version)
 gives w session (command.Release token) = done_gives w (release_pin w session token) (release_gives w session token)
 gives w session (command.Expire table version) = done_gives w (expire_to w table version) (expire_gives w table version)
-gives w session (command.Work name) = done_gives w (refuse_closed w.closed >> Ok (w, reply.Idle)) (nothing_gives w reply.Idle)
+gives w session (command.Work words) = done_gives w (refuse_closed w.closed >> Ok (w, reply.Idle)) (nothing_gives w reply.Idle)
 
 -- a command gives each session at most one
 pub few_given : (w after : Warehouse) (session : ℕ) (c : Command) (given : Reply) → step w session c ≡ (after, given) → (count : ℕ) → GaveAtMost count w → GaveAtMost (count + 1) after

@@ -11,7 +11,7 @@ use Rattle.mesa_model.specs.Warehouse.{Warehouse}
 
 -- whether the plain warehouse does a command
 abbrev pub is_plain : Command → Bool
-is_plain (command.Work name) = false
+is_plain (command.Work words) = false
 is_plain (command.Explain words) = false
 is_plain c = true
 

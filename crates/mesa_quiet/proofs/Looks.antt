@@ -28,7 +28,7 @@ load_of (command.Explain words) is = absurd cc
 load_of (command.Pin asked) is = absurd cc
 load_of (command.Release token) is = absurd cc
 load_of (command.Expire table version) is = absurd cc
-load_of (command.Work name) is = absurd cc
+load_of (command.Work words) is = absurd cc
 
 -- a look is skipped exactly where the sink has failed
 pub skips : (running found : Bool) → is_skip (looking running found) ≡ not running

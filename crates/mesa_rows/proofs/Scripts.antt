@@ -182,6 +182,22 @@ work_without_table : refusal_of (script_of (lines (
 unfolding on_literals
 work_without_table = refl
 
+-- A work in no parts.
+split_zero_parts : refusal_of (script_of (lines (
+    codes "table,t,k int,v sum"
+    ∷ codes "work,t,0"
+    ∷ []))) ≡ codes "place=2 reason=number"
+unfolding on_literals
+split_zero_parts = refl
+
+-- A work in one part more than there may be.
+many_parts : refusal_of (script_of (lines (
+    codes "work,t,8"
+    ∷ codes "work,t,9"
+    ∷ []))) ≡ codes "place=2 reason=number"
+unfolding on_literals
+many_parts = refl
+
 -- A limit one past the greatest.
 great_limit : refusal_of (script_of (lines (
     codes "query,t,,,,,10000"

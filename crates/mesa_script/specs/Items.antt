@@ -40,6 +40,15 @@ expire_words true f = do
   n ← number_in 0 max_number (field 2 f)
   Ok (command.Expire (Some (field 1 f)) n)
 
+-- the most parts into which a merge may be cut
+abbrev pub max_parts : ℕ
+max_parts = 8
+
+-- into how many parts the merge of a work is cut: its third field says it, and it is one part where there is no such field
+abbrev pub parts_of : Bool → List (List ℕ) → Result ℕ Reason
+parts_of false f = Ok 1
+parts_of true f = number_in 1 max_parts (field 2 f)
+
 -- What a record of this name says, or what is wrong with its words and numbers; its words are looked at before its numbers.
 abbrev pub item_of : Name → List (List ℕ) → Result Item Reason
 item_of Lease f = do
@@ -72,4 +81,6 @@ item_of Release f = do
 item_of Expire f = do
   c ← expire_words (length f == 3) f
   Ok (Single c)
-item_of Work f = Ok (Single (command.Work (field 1 f)))
+item_of Work f = do
+  parts ← parts_of (length f == 3) f
+  Ok (Single (command.Work (record { table = field 1 f; parts = parts })))

@@ -79,7 +79,7 @@ fits_fields Explain fields = is_between 2 3 (length fields)
 fits_fields Pin fields = is_between 1 2 (length fields)
 fits_fields Release fields = length fields == 2
 fits_fields Expire fields = is_between 2 3 (length fields)
-fits_fields Work fields = length fields == 2
+fits_fields Work fields = is_between 2 3 (length fields)
 
 -- whether a word begins like the version of a pin
 abbrev pub asks_pin : List ℕ → Bool

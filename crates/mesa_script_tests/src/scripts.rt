@@ -141,14 +141,17 @@ fn push_command(out: &mut Vec<u8>, command: &Command) -> Result<(), AllocError> 
             push_number(out, *token)
         }
         Command::Expire { table, version } => push_expiry(out, table, *version),
-        Command::Work(table) => push_named(out, b"work", table),
+        Command::Work(words) => {
+            push_named(out, b"work", &words.table)?;
+            push_number(out, words.parts as u32)
+        }
     }
 }
 
 static TEXT: &str =
-    "lease,007\ntable,a,day int;country text,clicks sum;low min\nrow,a,1,US,10,2\nrow,b,2,\"U,K\",-3\ncommit\ncommit\nview,c,a,country,clicks\nquery,c,007,country=US,-,clicks\nquery,c\nexpire,1\nsession\nalter,a,add_value,high max,-5\nalter,a,drop_value,low\nalter,a,add_key,hour int,x\nquery,c,pin:07,,,,10000,c/0/1/country/555300\nquery,c,latest,,,,01\nexplain,c\nexplain,a,3\npin\npin,4294967295\nrelease,0\nexpire,a,007\nexpire,,0\nwork,a\n";
+    "lease,007\ntable,a,day int;country text,clicks sum;low min\nrow,a,1,US,10,2\nrow,b,2,\"U,K\",-3\ncommit\ncommit\nview,c,a,country,clicks\nquery,c,007,country=US,-,clicks\nquery,c\nexpire,1\nsession\nalter,a,add_value,high max,-5\nalter,a,drop_value,low\nalter,a,add_key,hour int,x\nquery,c,pin:07,,,,10000,c/0/1/country/555300\nquery,c,latest,,,,01\nexplain,c\nexplain,a,3\npin\npin,4294967295\nrelease,0\nexpire,a,007\nexpire,,0\nwork,a\nwork,a,08\n";
 
-static OUTLINES: [&str; 20] = [
+static OUTLINES: [&str; 21] = [
     "table a day country:clicks:low",
     "load a,1,US,10,2 b,2,U,K,-3",
     "load",
@@ -168,7 +171,8 @@ static OUTLINES: [&str; 20] = [
     "release 0",
     "expire a 7",
     "expire  0",
-    "work a",
+    "work a 1",
+    "work a 8",
 ];
 
 // Stops the test of a command with other words, its columns' types apart.
@@ -202,7 +206,7 @@ fn reads_a_script(rt: HostRuntime) {
 }
 
 // A script, its first bad record, and what is wrong with it.
-static BAD: [(&str, u64, Reason); 39] = [
+static BAD: [(&str, u64, Reason); 45] = [
     ("tabel,t\npin,pin:1\n", 1, Reason::Unknown),
     ("\u{feff}tabel,t\n", 1, Reason::Unknown),
     ("table,t,k int\n", 1, Reason::Fields),
@@ -242,6 +246,12 @@ static BAD: [(&str, u64, Reason); 39] = [
     ("expire,t,\n", 1, Reason::Number),
     ("expire,0,t\n", 1, Reason::Number),
     ("expire,t,4294967296\n", 1, Reason::Number),
+    ("table,t,k int,v sum\nwork,t,0\n", 2, Reason::Number),
+    ("work,t,9\n", 1, Reason::Number),
+    ("work,t,\n", 1, Reason::Number),
+    ("work,t,two\n", 1, Reason::Number),
+    ("work,t,+1\n", 1, Reason::Number),
+    ("work,t,1,1\n", 1, Reason::Fields),
 ];
 
 // Stops the test of a script that is taken, or refused otherwise.

@@ -96,7 +96,7 @@ rows_accepted room version x rest tail accepts =
     let c = draw (draw (draw b)) in
     let d = draw (draw (draw c)) in
     let work : List (List (List ℕ)) = (codes "work" ∷ codes "facts" ∷ []) ∷ (rest (draw (draw d)) ++ tail) in
-    let worked : Accepts (1 + room) work = then_single room (codes "work" ∷ codes "facts" ∷ []) (command.Work (codes "facts")) (rest (draw (draw d)) ++ tail) (λ place. refl) (accepts (draw (draw d))) in
+    let worked : Accepts (1 + room) work = then_single room (codes "work" ∷ codes "facts" ∷ []) (command.Work (record { table = codes "facts"; parts = 1 })) (rest (draw (draw d)) ++ tail) (λ place. refl) (accepts (draw (draw d))) in
     let load : List (List (List ℕ)) = (codes "commit" ∷ []) ∷ work in
     let fourth : List (List (List ℕ)) = row_fields version 3 d (draw d) (draw (draw d)) ∷ load in
     let third : List (List (List ℕ)) = row_fields version 2 c (draw c) (draw (draw c)) ∷ fourth in

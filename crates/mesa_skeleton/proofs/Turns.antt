@@ -75,7 +75,7 @@ decide_bare p s session (command.Load rows) = done_bare p s _ _ (step-bare s.war
 decide_bare p s session (command.Pin asked) = done_bare p s _ _ (step-bare s.warehouse session (command.Pin asked))
 decide_bare p s session (command.Release token) = done_bare p s _ _ (step-bare s.warehouse session (command.Release token))
 decide_bare p s session (command.Expire table version) = done_bare p s _ _ (step-bare s.warehouse session (command.Expire table version))
-decide_bare p s session (command.Work name) = done_bare p s _ _ (step-bare s.warehouse session (command.Work name))
+decide_bare p s session (command.Work words) = done_bare p s _ _ (step-bare s.warehouse session (command.Work words))
 
 -- ---- works
 

@@ -82,7 +82,7 @@ loaded_ends r (command.Explain words) stage s n m is = absurd cc
 loaded_ends r (command.Pin version) stage s n m is = absurd cc
 loaded_ends r (command.Release token) stage s n m is = absurd cc
 loaded_ends r (command.Expire table version) stage s n m is = absurd cc
-loaded_ends r (command.Work name) stage s n m is = absurd cc
+loaded_ends r (command.Work words) stage s n m is = absurd cc
 
 simple_ends : (r : Run) (c : Command) (stage : Stage) (s n m : ℕ) → IsTrue (is_simple c) → (turn_of r c (entry s n kind.Decide outcome.Stands m) stage outcome.Stands).stage ≡ Finished
 simple_ends r (command.Load rows) stage s n m is = absurd cc
@@ -94,7 +94,7 @@ simple_ends r (command.Explain words) stage s n m is = told_plan r.position r.st
 simple_ends r (command.Pin version) stage s n m is = refl
 simple_ends r (command.Release token) stage s n m is = refl
 simple_ends r (command.Expire table version) stage s n m is = refl
-simple_ends r (command.Work name) stage s n m is = absurd cc
+simple_ends r (command.Work words) stage s n m is = absurd cc
 
 -- ---- one turn
 

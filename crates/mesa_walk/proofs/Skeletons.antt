@@ -70,7 +70,7 @@ named_is sound books s are = named_bare s.warehouse.store ∙ ap (λ (w : Wareho
 -- so whether files are built for a command is told without rows
 pub builds_is : (sound : Bool) (books : Books) (s : State) (c : Command) → AreBooksOf sound books s → builds_files s.warehouse.store c ≡ builds_files books.bare.store c
 builds_is sound books s (command.Load rows) are = ap (λ (named : List Named). is_ok (batch_of named rows)) (named_is sound books s are)
-builds_is sound books s (command.Work name) are = refl
+builds_is sound books s (command.Work words) are = refl
 builds_is sound books s (command.Table words) are = refl
 builds_is sound books s (command.View words) are = refl
 builds_is sound books s (command.Alter words) are = refl

@@ -11,6 +11,7 @@ use Rattle.mesa_span.specs.Work.{next_work}
 use Rattle.mesa_skeleton.specs.mesa_model.declared.commands.Command.{Command}
 use Rattle.mesa_skeleton.specs.mesa_model.declared.commands.Command.TheVariants as command
 use Rattle.mesa_skeleton.specs.mesa_model.declared.commands.Script.{Script}
+use Rattle.mesa_skeleton.specs.mesa_model.declared.commands.WorkWords.{WorkWords}
 use Rattle.mesa_skeleton.specs.mesa_model.declared.entries.Entry.{Entry}
 use Rattle.mesa_skeleton.specs.mesa_model.declared.entries.Kind.{Kind}
 use Rattle.mesa_skeleton.specs.mesa_model.declared.entries.Kind.TheVariants as kind
@@ -107,7 +108,7 @@ swap_told (range.Base to) = refl
 swap_told (range.Cumulative from to) = refl
 
 module _ (o : Outset) (sound : Bool) (books : Books) (story : Story) (held : Option (List ℕ)) (h : List Entry) (running refused : Bool) (v : IsWalk o sound books story held h running refused)
-    (s n : ℕ) (low : s < 2 ^ 16) (few : n < 2 ^ 32) (name : List ℕ) (m : ℕ) (ran : running ≡ true) (at : ℕ) (place : at ≡ length h) where
+    (s n : ℕ) (low : s < 2 ^ 16) (few : n < 2 ^ 32) (words : WorkWords) (m : ℕ) (ran : running ≡ true) (at : ℕ) (place : at ≡ length h) where
   abbrev r : Run
   r = run_of o h
 
@@ -115,7 +116,10 @@ module _ (o : Outset) (sound : Bool) (books : Books) (story : Story) (held : Opt
   w = r.state.warehouse
 
   abbrev works : Command
-  works = command.Work name
+  works = command.Work words
+
+  abbrev name : List ℕ
+  name = words.table
 
   short : (k : Kind) (out : Outcome) → IsShort (entry s n k out m)
   short k out = record { session = low; command = few }
@@ -139,7 +143,7 @@ module _ (o : Outset) (sound : Bool) (books : Books) (story : Story) (held : Opt
   module _ (moment : m ≡ story.moment) (new : Story) (unmoved : Unmoved story new) where
     -- -- its first turn
 
-    module _ (due : IsDue o.script (run_of o h) s n (command.Work name) First) where
+    module _ (due : IsDue o.script (run_of o h) s n works First) where
       grant_is : (q : Result Claim Reply) → claim_of books.bare books.machine at name ≡ q → turn_of r works (entry s n kind.Grant outcome.Stands m) First outcome.Stands ≡ grants r.position r.state q
       grant_is q is = ap (grants r.position r.state) (claim_is ∙ is)
 
@@ -152,7 +156,7 @@ module _ (o : Outset) (sound : Bool) (books : Books) (story : Story) (held : Opt
           (granted_books at claim books) (machine_stands _ _ (λ i. claimed (v.state.machine i) (sym at_is i) claim) refl) refl
 
       -- and its lease may be renewed
-      pub granted_due : (claim : Claim) → claim_of books.bare books.machine at name ≡ Ok claim → IsDue o.script (run_of o (h ++ entry s n kind.Grant outcome.Stands m ∷ [])) s n (command.Work name) (Granted claim)
+      pub granted_due : (claim : Claim) → claim_of books.bare books.machine at name ≡ Ok claim → IsDue o.script (run_of o (h ++ entry s n kind.Grant outcome.Stands m ∷ [])) s n works (Granted claim)
       granted_due claim is = due_after o.script o.start h (entry s n kind.Grant outcome.Stands m) works First due (leaves (with_machine r.state (claimed r.state.machine r.position claim)) (Granted claim)) (grant_is (Ok claim) is) refl
 
       prints_none : (claim : Claim) → claim_of books.bare books.machine at name ≡ Ok claim → is_none (would_print r s works kind.Grant First) ≡ true
@@ -186,7 +190,7 @@ module _ (o : Outset) (sound : Bool) (books : Books) (story : Story) (held : Opt
 
     -- -- its second turn, and its close where the merge failed
 
-    module _ (claim : Claim) (due : IsDue o.script (run_of o h) s n (command.Work name) (Granted claim)) where
+    module _ (claim : Claim) (due : IsDue o.script (run_of o h) s n works (Granted claim)) where
       -- its lease holds anew
       pub renewed_turn : claim_checked books.bare books.machine at claim ≡ Ok tt → Counts story new false
           → WalksOn o sound (renewed_books at claim books) new held h (entry s n kind.Renew outcome.Stands m) running refused
@@ -196,7 +200,7 @@ module _ (o : Outset) (sound : Bool) (books : Books) (story : Story) (held : Opt
           (renewed_books at claim books) (machine_stands _ _ (λ i. claim_renewed (v.state.machine i) (sym at_is i) claim) refl) refl
 
       -- and it may be closed
-      pub renewed_due : claim_checked books.bare books.machine at claim ≡ Ok tt → IsDue o.script (run_of o (h ++ entry s n kind.Renew outcome.Stands m ∷ [])) s n (command.Work name) (Renewed claim)
+      pub renewed_due : claim_checked books.bare books.machine at claim ≡ Ok tt → IsDue o.script (run_of o (h ++ entry s n kind.Renew outcome.Stands m ∷ [])) s n works (Renewed claim)
       renewed_due holds = due_after o.script o.start h (entry s n kind.Renew outcome.Stands m) works (Granted claim) due (leaves (with_machine r.state (claim_renewed r.state.machine r.position claim)) (Renewed claim)) (ap (renews r.position r.state claim) (checked_is claim ∙ holds)) refl
 
       -- it is lost, or the books are closed
@@ -261,7 +265,7 @@ module _ (o : Outset) (sound : Bool) (books : Books) (story : Story) (held : Opt
 
     -- -- its close once its lease was renewed
 
-    module _ (claim : Claim) (due : IsDue o.script (run_of o h) s n (command.Work name) (Renewed claim)) where
+    module _ (claim : Claim) (due : IsDue o.script (run_of o h) s n works (Renewed claim)) where
       -- the lease is lost, or the books are closed: nothing changes
       pub lost_turn : (x : Refusal) → claim_checked books.bare books.machine at claim ≡ Err x → Counts story new false → (now : Bool) (new_held : Option (List ℕ)) → IsPut (block (entry s n kind.Close outcome.Stands m) (Some (told_at at (reply.Refused x)))) now held new_held
           → WalksOn o sound books new new_held h (entry s n kind.Close outcome.Stands m) now (refused || true)
@@ -279,7 +283,7 @@ module _ (o : Outset) (sound : Bool) (books : Books) (story : Story) (held : Opt
 
   -- ---- the swap
 
-  module _ (claim : Claim) (due : IsDue o.script (run_of o h) s n (command.Work name) (Renewed claim)) (holds : claim_checked books.bare books.machine at claim ≡ Ok tt) (new : Story) (moment : m ≡ new.moment) (passes : Passes story new)
+  module _ (claim : Claim) (due : IsDue o.script (run_of o h) s n works (Renewed claim)) (holds : claim_checked books.bare books.machine at claim ≡ Ok tt) (new : Story) (moment : m ≡ new.moment) (passes : Passes story new)
       (had : IsTrue sound → story.moment < last → AllStand o.stands story books.kept) (kept : Kept) (swaps : Swaps sound books claim kept) (writes : IsTrue sound → Writes o.stands story new books.kept kept) (now : Bool) (new_held : Option (List ℕ)) where
     abbrev swapped_state : State
     swapped_state = with_machine r.state (claim_done r.state.machine claim)

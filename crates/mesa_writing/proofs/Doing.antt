@@ -238,4 +238,4 @@ module _ (o : Outset) (g : Origin) (sound : Bool) (l : Ledger) (story : Story) (
   command_done (command.Explain words) r rep fit typed told has = absurd has
   command_done (command.Pin asked) r rep fit typed told has = absurd has
   command_done (command.Release token) r rep fit typed told has = absurd has
-  command_done (command.Work name) r rep fit typed told has = absurd has
+  command_done (command.Work words) r rep fit typed told has = absurd has

@@ -77,7 +77,7 @@ writes_decide l later (command.Query words) r rep has = absurd has
 writes_decide l later (command.Explain words) r rep has = absurd has
 writes_decide l later (command.Pin asked) r rep has = absurd has
 writes_decide l later (command.Release token) r rep has = absurd has
-writes_decide l later (command.Work name) r rep has = absurd has
+writes_decide l later (command.Work words) r rep has = absurd has
 
 -- there may be no memory for one
 pub writes_starve : (l : Ledger) (later : Rows → Rows) (c : Command) (r : Record) (rep : Reply) (position session : ℕ) → l.closed ≡ None → HasRecord l later c r rep → HasNotDone (books_of no_rows l) position session c NoMemory
@@ -90,7 +90,7 @@ writes_starve l later (command.Query words) r rep position session opened has = 
 writes_starve l later (command.Explain words) r rep position session opened has = absurd has
 writes_starve l later (command.Pin asked) r rep position session opened has = absurd has
 writes_starve l later (command.Release token) r rep position session opened has = absurd has
-writes_starve l later (command.Work name) r rep position session opened has = absurd has
+writes_starve l later (command.Work words) r rep position session opened has = absurd has
 
 -- its reply is printed as a head line alone
 pub writes_print : (l : Ledger) (later : Rows → Rows) (c : Command) (r : Record) (rep : Reply) → HasRecord l later c r rep → [] ≡ body_of no_lines rep
@@ -104,7 +104,7 @@ writes_print l later (command.Query words) r rep has = absurd has
 writes_print l later (command.Explain words) r rep has = absurd has
 writes_print l later (command.Pin asked) r rep has = absurd has
 writes_print l later (command.Release token) r rep has = absurd has
-writes_print l later (command.Work name) r rep has = absurd has
+writes_print l later (command.Work words) r rep has = absurd has
 
 -- one that isn't a load brings no files
 pub nothing_brought : (l : Ledger) (later : Rows → Rows) (c : Command) (r : Record) (rep : Reply) → deciding_stage c ≡ First → HasRecord l later c r rep → brought l.catalogue r ≡ []
@@ -118,7 +118,7 @@ nothing_brought l later (command.Query words) r rep simple has = absurd has
 nothing_brought l later (command.Explain words) r rep simple has = absurd has
 nothing_brought l later (command.Pin asked) r rep simple has = absurd has
 nothing_brought l later (command.Release token) r rep simple has = absurd has
-nothing_brought l later (command.Work name) r rep simple has = absurd has
+nothing_brought l later (command.Work words) r rep simple has = absurd has
 
 -- What the rules allow of a command that brings no files can be written.
 pub allowed_writes : {M : Type 0} (bytes : M → Option (List ℕ)) (l : Ledger) (c : Command) (r : Ruled) (made : Vec (Adoption M) Global) (adopted : ℕ) → deciding_stage c ≡ First → IsAllowed l c r → made.items ≡ [] → adopted ≡ l.adopted → adopted < 2 ^ 40
@@ -153,7 +153,7 @@ deciding_comes (command.Explain words) is = refl
 deciding_comes (command.Pin asked) is = refl
 deciding_comes (command.Release token) is = refl
 deciding_comes (command.Expire table version) is = refl
-deciding_comes (command.Work name) is = absurd cc
+deciding_comes (command.Work words) is = absurd cc
 
 -- ---- its session's command is over
 
@@ -169,4 +169,4 @@ module _ (script : Script) (start : State) (old new : Shown) (s n : ℕ) (ran : 
   writes_take (command.Explain words) has due = absurd has
   writes_take (command.Pin asked) has due = absurd has
   writes_take (command.Release token) has due = absurd has
-  writes_take (command.Work name) has due = absurd has
+  writes_take (command.Work words) has due = absurd has
