@@ -9,11 +9,11 @@ ghost use Rattle.mesa_load.specs.Collected.{HasCause, IsBegun};
 ghost use Rattle.mesa_load.specs.Filing.{AreFileRows, file_rows};
 ghost use Rattle.mesa_load.specs.Jobs.{AreDone, HasFiled, HaveIds, HasWritten, IsFit, IsReady, ProgressOf, content_in, view_in};
 ghost use Rattle.mesa_schema.specs.Changes.{columns_of};
-ghost use Rattle.mesa_schema.specs.Views.{view_columns, view_rows as content_of};
+ghost use Rattle.mesa_schema.specs.Views.{view_columns, view_rows};
 
 use crate::file_rows::FileRows;
+use crate::viewing::viewed;
 use crate::writing::write_file;
-use mesa_answer::view_rows;
 use mesa_batch::Batch;
 use mesa_delta::WriteError;
 use mesa_disk::{Draft, Made};
@@ -78,14 +78,13 @@ fn view_content(
     requires some { 0 < length (rows_at table batch.now) }
     requires rows { AreFileRows (columns_of evolving.now) (rows_at table batch.now) }
     ensures columns { IfOk result (λ x. x.0 ≡ view_columns (columns_of evolving.now) (view_in evolving.now view)) }
-    ensures content { IfOk result (λ x. x.1 ≡ content_of (columns_of evolving.now) (view_in evolving.now view) (rows_at table batch.now)) }
+    ensures content { IfOk result (λ x. x.1 ≡ view_rows (columns_of evolving.now) (view_in evolving.now view) (rows_at table batch.now)) }
     ensures some { IfOk result (λ x. 0 < length x.1) }
     ensures rows { IfOk result (λ x. AreFileRows x.0 x.1) }
 {
     groups_rise();
     let schema = evolving.view_schema(view)?;
-    let rows = batch.rows(table)?;
-    let found = view_rows(alloc, evolving, view, rows.as_slice())?;
+    let found = viewed(alloc, evolving, view, batch, table)?;
     Ok((schema, found))
 }
 

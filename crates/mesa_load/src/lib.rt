@@ -8,6 +8,7 @@ mod file_rows;
 mod parts;
 mod planning;
 mod preparing;
+mod viewing;
 mod writing;
 
 pub use preparing::prepare;
