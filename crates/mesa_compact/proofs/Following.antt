@@ -1,7 +1,7 @@
 -- Sums of a file's rows that keep their bound.
 use Rattle.std.proofs.Common.{◌≡◌, ℕ, zero, suc, ◌+◌, ◌<◌, ◌≤◌, ℤ, pos, negsuc, ◌+ℤ◌, List, [], ◌∷◌, ◌++◌, length, map, get_or, refl, sym, ap, ◌∙◌, arith, zero-add, true}
 use Rattle.std.specs.List.{AllByRecursion}
-use Rattle.std.specs.Prelude.{Some, slice_get, nat_abs}
+use Rattle.std.specs.Prelude.{Option, Some, slice_get, nat_abs}
 use Rattle.std.proofs.lemmas.Bool.{and_parts}
 use Rattle.std.proofs.lemmas.Int.{ints}
 use Rattle.std.proofs.lemmas.List.{length-map}
@@ -121,7 +121,7 @@ rises (row ∷ []) r = tt
 rises (row ∷ next ∷ rows) r = let parts = and_parts (is_lt (byte_cmp row.key next.key)) _ r in (is_less _ parts.0, rises (next ∷ rows) parts.1)
 
 -- the fold of what was given keeps the bound that the inputs keep
-pub folded_bound : FoldsTotals → (s : Columns) (givens parts : List (List Row)) → ((j : ℕ) → AreRowsOf s (get_or givens j [])) → AreFronts givens parts → KeepsBound (aggs_of s) [] (rows_of parts)
+pub folded_bound : FoldsTotals → (s : Columns) (low : Option (List ℕ)) (givens parts : List (List Row)) → ((j : ℕ) → AreRowsOf s (get_or givens j [])) → AreFronts low givens parts → KeepsBound (aggs_of s) [] (rows_of parts)
     → (c : ℕ) → slice_get (aggs_of s) c ≡ Some Sum → abs_total c (folded (aggs_of s) givens) < sum_bound
-folded_bound law s givens parts formed fronts bound c p =
-    omega (arith, law (aggs_of s) givens c p (full_all s givens formed (aggs_count s)), abs_fronts c givens parts fronts, bound c p)
+folded_bound law s low givens parts formed fronts bound c p =
+    omega (arith, law (aggs_of s) givens c p (full_all s givens formed (aggs_count s)), abs_fronts c low givens parts fronts, bound c p)

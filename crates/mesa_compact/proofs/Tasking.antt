@@ -1,6 +1,6 @@
 -- A task that was merged.
 use Rattle.std.specs.Prelude.{Result, Err, flat_map, Bool, true, false, ◌==◌}
-use Rattle.mesa_tasks.specs.GivingBack.{own_inputs}
+use Rattle.mesa_tasks.specs.GivingBack.{own_inputs, spare_inputs}
 use Rattle.mesa_file.specs.declared.damage.Damage.{Damage}
 use Rattle.mesa_merge.specs.Faults.{faults_of}
 use Rattle.mesa_merge.proofs.Inputs.{SameEnd}
@@ -23,6 +23,7 @@ use Rattle.mesa_tasks.specs.Inputs.{AreInputsOf, IsMergeOf}
 use Rattle.mesa_tasks.specs.Made.{IsMadeFile}
 use Rattle.mesa_tasks.specs.Tasks.{AreMergedViews, IsMerged}
 use Rattle.mesa_tasks.specs.declared.made.MadeFiles.{MadeFiles}
+use Rattle.mesa_tasks.specs.declared.merging.Spare.{Spare}
 use Rattle.mesa_tasks.specs.declared.merging.Task.{Task}
 
 -- a list that isn't empty
@@ -39,7 +40,7 @@ first_table bytes l (i ∷ is) d h some = h.0.1
 pub nothing_merged : {M R : Type 0} (bytes : M → Option (List ℕ)) (id_of : M → ℕ) (read : R → Option (List ℕ)) (l : Lineage) (t : Task R) → t.inputs.items ≡ [] → IsMerged bytes id_of read l t (record { files = None })
 nothing_merged bytes id_of read l t none = record {
   rows = [];
-  merge = subst (λ is. IsMergeOf read (columns_of l) is []) (sym none) (record { parts = []; whole = tt; fold = refl });
+  merge = subst (λ is. IsMergeOf read (columns_of l) is []) (sym none) (λ parts told. refl);
   files = refl;
 }
 
@@ -88,3 +89,16 @@ caused_lent faults bytes size a b is js ts old us new r q lent back h same =
     let before = subst (λ (vs : List (TaskView _)). HasCauses a b (faults_of faults (is ++ flat_map own_inputs vs)) (faults_of faults (js ++ flat_map own_inputs new)) (IsFilesDamage bytes size js new) r) lent h in
     let now = subst (λ (vs : List (TaskView _)). HasCauses a b (faults_of faults (is ++ flat_map own_inputs ts)) (faults_of faults (js ++ flat_map own_inputs vs)) (IsFilesDamage bytes size js vs) r) (sym back) before in
     caused_on _ _ a a b _ _ _ r q refl refl now same (λ d told. told)
+
+-- ---- causes at a task's own readers, beside further ones
+
+-- further readers are read by none
+pub caused_spare : {R T U : Type 0} (faults : R → ℕ) (IsTold Told : Damage → Type 0) (a b : ℕ) (is js : List (Input R)) (old new : List (Spare R)) (r : Result T CompactError) (q : Result U CompactError) → new ≡ old
+    → HasCauses a b (faults_of faults is) (faults_of faults js) IsTold r → SameEnd r q → ((d : Damage) → IsTold d → Told d) → HasCauses a b (faults_of faults (is ++ flat_map spare_inputs old)) (faults_of faults (js ++ flat_map spare_inputs new)) Told q
+caused_spare faults IsTold Told a b is js old new r q same h ends more =
+    let ss = flat_map spare_inputs old in
+    let left : HasCauses a b (faults_of faults is ++ faults_of faults ss) (faults_of faults js ++ faults_of faults ss) IsTold r = caused_left IsTold a b (faults_of faults is) (faults_of faults js) (faults_of faults ss) r h in
+    let all : HasCauses a b (faults_of faults (is ++ ss)) (faults_of faults (js ++ ss)) IsTold r =
+    subst (λ ns. HasCauses a b ns (faults_of faults (js ++ ss)) IsTold r) (sym (faults_append faults is ss)) (subst (λ ns. HasCauses a b (faults_of faults is ++ faults_of faults ss) ns IsTold r) (sym (faults_append faults js ss)) left) in
+    let now = subst (λ (spares : List (Spare _)). HasCauses a b (faults_of faults (is ++ ss)) (faults_of faults (js ++ flat_map spare_inputs spares)) IsTold r) (sym same) all in
+    caused_on IsTold Told a a b _ _ _ r q refl refl now ends more

@@ -1,7 +1,7 @@
 -- All rows of inputs, as a file.
 use Rattle.std.proofs.Common.{◌≡◌, ℕ, ◌<◌, List, [], ◌∷◌, ◌++◌, refl, sym, ◌∙◌, ap, subst, length, get_or, arith, length-append}
-use Rattle.std.proofs.lemmas.List.{append-nil, length-map}
-use Rattle.std.specs.Prelude.{Option, map, Result, Ok, Err, IfErr, IfOk}
+use Rattle.std.proofs.lemmas.List.{length-map}
+use Rattle.std.specs.Prelude.{Option, None, map, Result, Ok, Err, IfErr, IfOk}
 use Rattle.std.specs.FinMap.Entries.{by_order}
 use Rattle.std.specs.declared.cmp.Ordering.{Ordering}
 use Rattle.std.specs.declared.cmp.Ordering.TheVariants.{Less, Equal, Greater}
@@ -11,16 +11,17 @@ use Rattle.mesa_schema.specs.declared.rows.Row.{Row}
 use Rattle.mesa_schema.specs.Columns.{Columns, aggs_of}
 use Rattle.mesa_schema.specs.Folded.{folded, folded_at, keys_of, rows_of, with_key}
 use Rattle.mesa_delta.specs.declared.input.Input.{Input}
-use Rattle.mesa_merge.specs.Inputs.{AreAll, Known, knowns_of, lifted_in}
+use Rattle.mesa_merge.specs.Inputs.{AreAll, Known, known_of, knowns_of, lifted_in}
 use Rattle.mesa_merge.specs.Inputs.{lifted_parts as known_parts}
-use Rattle.mesa_merge.proofs.Ending.{AreFronts, all_told}
+use Rattle.mesa_merge.proofs.Ending.{AreFronts, all_told, fronts_same}
 use Rattle.mesa_fold.specs.Bound.{FoldsTotals}
 use Rattle.mesa_answer.specs.Answering.{KeepsSums}
 use Rattle.mesa_compact.specs.Bounded.{AreBounded}
 use Rattle.mesa_compact.proofs.Following.{folded_bound}
 use Rattle.mesa_schema.specs.Rows.{AreRowsOf}
 use Rattle.mesa_compact.specs.Damaged.{IsNewestOf}
-use Rattle.mesa_tasks.specs.Inputs.{HaveRows, IsMergeOf, present_parts}
+use Rattle.mesa_tasks.specs.Inputs.{IsMergeOf, present_parts}
+use Rattle.mesa_tasks.specs.Inputs.{AreTold as AreToldInputs}
 
 -- ---- some rows
 
@@ -57,27 +58,26 @@ newest_kept bytes before now id same newest = subst (λ (ks : List Known). IsNew
 
 -- ---- the merge of inputs
 
-parts_of : {R : Type 0} (bytes : R → Option (List ℕ)) (is : List (Input R)) (gs : List (List Row)) → AreAll (knowns_of bytes is) gs → (parts : List (List Row)) × HaveRows bytes is parts × (gs ≡ present_parts is parts)
-parts_of bytes [] [] all = ([], tt, refl)
-parts_of bytes [] (g ∷ gs) all = absurd all
-parts_of bytes (i ∷ is) [] all = absurd all
-parts_of bytes (i ∷ is) (g ∷ gs) all =
-    let more = parts_of bytes is gs all.1 in
-    (all.0.rows ∷ more.0, (all.0.whole, more.1), (λ k. all.0.lifts k ∷ more.2 k))
+-- where inputs are told, what all have given is the rows of their files at present
+told_parts : {R : Type 0} (bytes : R → Option (List ℕ)) (is : List (Input R)) (gs parts : List (List Row)) → AreAll (knowns_of bytes is) gs → AreToldInputs bytes is parts → gs ≡ present_parts is parts
+told_parts bytes [] [] [] all told = refl
+told_parts bytes [] [] (rows ∷ parts) all told = absurd told
+told_parts bytes [] (g ∷ gs) parts all told = absurd all
+told_parts bytes (i ∷ is) [] parts all told = absurd all
+told_parts bytes (i ∷ is) (g ∷ gs) [] all told = absurd told
+told_parts bytes (i ∷ is) (g ∷ gs) (rows ∷ parts) all told =
+    let one : g ≡ map (lifted_in (known_of bytes i)) rows = all.0.lifts ∙ ap (map (lifted_in (known_of bytes i))) (all.0.same told.0.0 rows told.0.1 told.0.2) in
+    λ k. one k ∷ told_parts bytes is gs parts all.1 told.1 k
 
 -- what all inputs have given folds to their merge
 pub merge_of : {R : Type 0} (bytes : R → Option (List ℕ)) (s : Columns) (is : List (Input R)) (gs : List (List Row)) → AreAll (knowns_of bytes is) gs → IsMergeOf bytes s is (folded (aggs_of s) gs)
-merge_of bytes s is gs all = let parts = parts_of bytes is gs all in record { parts = parts.0; whole = parts.1; fold = ap (folded (aggs_of s)) parts.2 }
+merge_of bytes s is gs all = λ parts told. ap (folded (aggs_of s)) (told_parts bytes is gs parts all told)
 
 -- ---- sums
 
-fronts_same : (gs : List (List Row)) → AreFronts gs gs
-fronts_same [] = tt
-fronts_same (g ∷ gs) = (([], sym (append-nil g)), fronts_same gs)
-
 -- all rows of inputs whose sums stay in their type fold to rows whose sums do
 pub told_sums : FoldsTotals → (s : Columns) (ks : List Known) (gs : List (List Row)) → ((j : ℕ) → AreRowsOf s (get_or gs j [])) → AreAll ks gs → AreBounded s ks → KeepsSums s (folded (aggs_of s) gs)
-told_sums law s ks gs formed all b = folded_bound law s gs (known_parts ks b.contents) formed (subst (AreFronts gs) (all_told ks gs b.contents all b.told) (fronts_same gs)) b.bound
+told_sums law s ks gs formed all b = folded_bound law s None gs (known_parts ks b.contents) formed (subst (AreFronts None gs) (all_told ks gs b.contents all b.told) (fronts_same gs)) b.bound
 
 -- ---- what a result has
 

@@ -7,6 +7,7 @@ use Rattle.mesa_tasks.specs.GivingBack.{own_inputs}
 use Rattle.mesa_tasks.specs.Serials.{Drafts, after_drafts, drawn}
 use Rattle.mesa_tasks.specs.declared.made.MadeFiles.{MadeFiles}
 use Rattle.mesa_tasks.specs.declared.made.MadeView.{MadeView}
+use Rattle.mesa_tasks.specs.declared.merging.Spare.{Spare}
 use Rattle.mesa_tasks.specs.declared.merging.Task.{Task}
 use Rattle.mesa_tasks.specs.declared.merging.TaskView.{TaskView}
 use Rattle.mesa_compact.specs.Damaged.{IsGroupsTotalOf, IsMergeDamage}
@@ -22,6 +23,18 @@ known_view bytes t = record { view = t.view; own = option_map (λ inputs. knowns
 abbrev pub known_views : {R : Type 0} → (R → Option (List ℕ)) → List (TaskView R) → List KnownView
 known_views bytes views = map (known_view bytes) views
 
+-- What is known of the readers of a further part.
+pub record KnownSpare : Type 0 where
+  pub files : List Known
+  pub views : List KnownView
+
+abbrev pub known_spare : {R : Type 0} → (R → Option (List ℕ)) → Spare R → KnownSpare
+known_spare bytes s = record { files = knowns_of bytes s.inputs.items; views = known_views bytes s.views.items }
+
+-- of those of all further parts
+abbrev pub known_spares : {R : Type 0} → (R → Option (List ℕ)) → List (Spare R) → List KnownSpare
+known_spares bytes spares = map (known_spare bytes) spares
+
 -- A task is the one that it was: the same work, and readers of the same files.
 pub record IsSameTask {R : Type 0} (bytes : R → Option (List ℕ)) (old new : Task R) : Type 0 where
   pub table : new.table ≡ old.table
@@ -31,6 +44,7 @@ pub record IsSameTask {R : Type 0} (bytes : R → Option (List ℕ)) (old new : 
   pub damage : new.damage ≡ old.damage
   pub inputs : knowns_of bytes new.inputs.items ≡ knowns_of bytes old.inputs.items
   pub views : known_views bytes new.views.items ≡ known_views bytes old.views.items
+  pub spare : known_spares bytes new.spare.items ≡ known_spares bytes old.spare.items
 
 -- The files of a merged range have the ids of the next drafts: the table's the first, and then the views' by their numbers.
 pub record AreNumbered {M : Type 0} (id_of : M → ℕ) (d : Drafts) (made : MadeFiles M) : Type 0 where

@@ -61,8 +61,8 @@ pub fn merged_file<M: Made, B: Bench<M>, R: FileReader>(
     made
 }
 
-// The newest file of inputs.
-pub(crate) fn newest_of<R: FileReader>(inputs: &[Input<R>]) -> FileId
+/// The newest file of inputs.
+pub fn newest_of<R: FileReader>(inputs: &[Input<R>]) -> FileId
     requires { 0 < length inputs.now }
     ensures { IsNewestOf (knowns_of R.bytes inputs.now) result }
 {

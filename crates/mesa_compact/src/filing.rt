@@ -13,8 +13,8 @@ use mesa_schema::Schema;
 use mesa_tasks::{CompactError, MadeFile};
 use std::alloc::Global;
 
-// A file of no rows yet, through a new draft under this id.
-pub(crate) fn begin_file<M: Made, B: Bench<M>>(
+/// A file of no rows yet, through a new draft under this id.
+pub fn begin_file<M: Made, B: Bench<M>>(
     alloc: Global,
     bench: &mut B,
     id: FileId,
@@ -41,8 +41,8 @@ pub(crate) fn begin_file<M: Made, B: Bench<M>>(
     }
 }
 
-// The file of all rows that a writer has taken.
-pub(crate) fn end_file<M: Made, B: Bench<M>>(
+/// The file of all rows that a writer has taken.
+pub fn end_file<M: Made, B: Bench<M>>(
     bench: &mut B,
     writer: DeltaWriter<M, B::Draft>,
 ) -> Result<MadeFile<M>, CompactError>
@@ -63,8 +63,8 @@ pub(crate) fn end_file<M: Made, B: Bench<M>>(
     }
 }
 
-// Gives back the draft of a file that isn't finished.
-pub(crate) fn give_up<M: Made, B: Bench<M>>(bench: &mut B, writer: DeltaWriter<M, B::Draft>)
+/// Gives back the draft of a file that isn't finished.
+pub fn give_up<M: Made, B: Bench<M>>(bench: &mut B, writer: DeltaWriter<M, B::Draft>)
     ensures counted { 0 < B.Draft.faults (draft_of writer) → Rose (B.faults bench.old) (B.faults bench.new) }
     ensures quiet { B.Draft.faults (draft_of writer) ≡ 0 → B.faults bench.new ≡ B.faults bench.old }
     ensures later { B.faults bench.old ≤ B.faults bench.new }

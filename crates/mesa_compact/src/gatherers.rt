@@ -14,8 +14,8 @@ use mesa_schema::{Evolving, Schema};
 use mesa_tasks::TaskView;
 use std::alloc::{AllocError, Global};
 
-// The places of each view's columns among its table's.
-pub(crate) fn regroupings(alloc: Global, evolving: &Evolving) -> Result<Vec<Regrouping>, AllocError>
+/// The places of each view's columns among its table's.
+pub fn regroupings(alloc: Global, evolving: &Evolving) -> Result<Vec<Regrouping>, AllocError>
     ensures seen { IfOk result (λ seen. AreSeen (columns_of evolving.now) evolving.now.views seen.items) }
     ensures places { IfOk result (λ seen. AllByRecursion (ArePlaces (columns_of evolving.now)) seen.items) }
 {
@@ -26,8 +26,8 @@ pub(crate) fn regroupings(alloc: Global, evolving: &Evolving) -> Result<Vec<Regr
     Ok(seen)
 }
 
-// For each view that has no files of its own a gatherer of all its groups, into which no row was put yet.
-pub(crate) fn gatherers<'a, R: FileReader>(
+/// For each view that has no files of its own a gatherer of all its groups, into which no row was put yet.
+pub fn gatherers_of<'a, R: FileReader>(
     alloc: Global,
     schema: &'a Schema,
     views: &[TaskView<R>],

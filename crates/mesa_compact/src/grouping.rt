@@ -17,12 +17,8 @@ use mesa_file::FileId;
 use mesa_schema::LentRow;
 use mesa_view::put_row;
 
-// Puts a row more into each gatherer. A sum that would leave its type is told of this file.
-pub(crate) fn put_all(
-    groups: &mut [Option<Groups>],
-    file: FileId,
-    row: LentRow,
-) -> Result<(), FileError>
+/// Puts a row more into each gatherer. A sum that would leave its type is told of this file.
+pub fn put_all(groups: &mut [Option<Groups>], file: FileId, row: LentRow) -> Result<(), FileError>
     requires gathering { (given : List AnyRow) × HavePut groups.old given }
     requires form { (s : Columns) × IsRowOf s (lent row) × AllByRecursion (TakesRows s) groups.old }
     ensures put { OnOk result ((given : List AnyRow) → HavePut groups.old given → HavePut groups.new (given ++ lent row.entry ∷ [])) }

@@ -10,5 +10,10 @@ mod pouring;
 mod task;
 mod views;
 
-pub use files::merged_file;
+pub use files::{merged_file, newest_of};
+pub use filing::{begin_file, end_file, give_up};
+pub use gatherers::{gatherers_of, regroupings};
+pub use grouping::put_all;
+pub use pouring::sum_fault;
 pub use task::merge_task;
+pub use views::view_files;

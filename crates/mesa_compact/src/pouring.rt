@@ -79,8 +79,8 @@ pub(crate) fn pour<M: Made, T: Draft<M>, R: FileReader>(
     Err(CompactError::File(FileError::Memory))
 }
 
-// The damage of a file with which a sum leaves its type.
-pub(crate) fn sum_fault(file: FileId) -> CompactError
+/// The damage of a file with which a sum leaves its type.
+pub fn sum_fault(file: FileId) -> CompactError
     ensures { result ≡ damaged_by (sum_damage file) }
 {
     CompactError::File(FileError::Damaged(Damage {

@@ -15,7 +15,7 @@ ghost use Rattle.mesa_compact.specs.Tasks.{AreNumbered, IsFilesDamage, IsSameTas
 ghost use Rattle.mesa_compact.specs.Writing.{HasCauses, damaged_by};
 
 use crate::files::{merged_file, newest_of};
-use crate::gatherers::{gatherers, regroupings};
+use crate::gatherers::{gatherers_of, regroupings};
 use crate::views::view_files;
 use mesa_delta::{FileError, Input};
 use mesa_disk::{Bench, FileReader, Made};
@@ -53,7 +53,7 @@ pub fn merge_task<M: Made, B: Bench<M>, R: FileReader>(
     }
 }
 
-// Merges a task whose files are all open.
+// Merges a task whose files are all open. It reads none of its further readers.
 fn merge_sound<M: Made, B: Bench<M>, R: FileReader>(
     alloc: Global,
     bench: &mut B,
@@ -64,9 +64,10 @@ fn merge_sound<M: Made, B: Bench<M>, R: FileReader>(
     ensures merged { IfOk result (λ delta. (l : Lineage) → IsTask R.bytes l task.old → IsMerged M.bytes M.id_of R.bytes l task.old delta) }
     ensures numbered { IfOk result (λ delta. IfSome delta.files (AreNumbered M.id_of ids.old)) }
     ensures ids { (n : ℕ) × (ids.new ≡ after_drafts n ids.old) }
-    ensures causes { HasCauses (B.faults bench.old) (B.faults bench.new) (faults_of R.faults (task_inputs task.old)) (faults_of R.faults (task_inputs task.new)) (IsFilesDamage R.bytes R.size task.new.inputs.items task.new.views.items) result }
+    ensures causes { HasCauses (B.faults bench.old) (B.faults bench.new) (faults_of R.faults (task.old.inputs.items ++ flat_map own_inputs task.old.views.items)) (faults_of R.faults (task.new.inputs.items ++ flat_map own_inputs task.new.views.items)) (IsFilesDamage R.bytes R.size task.new.inputs.items task.new.views.items) result }
     ensures accepts { IfErr result (λ e. (d : AnyDamage) → e ≡ damaged_by d → (l : Lineage) → IsTask R.bytes l task.old → IsBounded R.bytes l task.old → ⊥) }
     ensures same { IsSameTask R.bytes task.old task.new }
+    ensures spare { task.new.spare ≡ task.old.spare }
     ensures kept { (l : Lineage) → IsTask R.bytes l task.old → IsTask R.bytes l task.new }
 {
     if task.inputs.is_empty() {
@@ -114,7 +115,7 @@ fn merge_files<M: Made, B: Bench<M>, R: FileReader>(
     let Ok(seen) = regroupings(alloc, evolving) else {
         return Err(CompactError::File(FileError::Memory));
     };
-    let Ok(mut groups) = gatherers(alloc, evolving.present(), views, &seen) else {
+    let Ok(mut groups) = gatherers_of(alloc, evolving.present(), views, &seen) else {
         return Err(CompactError::File(FileError::Memory));
     };
     let newest = newest_of(inputs);

@@ -33,8 +33,8 @@ use mesa_tasks::{CompactError, MadeFile, MadeView, Serials, TaskView};
 use std::alloc::Global;
 use std::collections::VecDeque;
 
-// The files of all views, by their numbers: of the groups over the table's rows, or of the view's own files.
-pub(crate) fn view_files<M: Made, B: Bench<M>, R: FileReader>(
+/// The files of all views, by their numbers: of the groups over the table's rows, or of the view's own files.
+pub fn view_files<M: Made, B: Bench<M>, R: FileReader>(
     alloc: Global,
     bench: &mut B,
     ids: &mut Serials,

@@ -10,6 +10,7 @@ use Rattle.mesa_lease.specs.Book.{is_held, other_holder}
 use Rattle.mesa_model.specs.Refusals.{refuse_closed}
 use Rattle.mesa_model.specs.Warehouse.{Table, Warehouse, no_table, table_at}
 use Rattle.mesa_model.specs.declared.commands.Command.TheVariants as command
+use Rattle.mesa_model.specs.declared.commands.WorkWords.{WorkWords}
 use Rattle.mesa_model.specs.declared.entries.Entry.{Entry}
 use Rattle.mesa_model.specs.declared.replies.Refusal.{Refusal}
 use Rattle.mesa_model.specs.declared.replies.Refusal.TheVariants as no
@@ -47,9 +48,9 @@ pub record IsDueStill (l : Ledger) (claim : Claim) : Type 0 where
   pub later_next : next ≤ l.catalogue.next
   pub there : claim.table < length l.catalogue.tables
 
-pub due_still : (o : Outset) (g : Origin) (l : Ledger) (story : Story) (held : Option (List ℕ)) (h : List Entry) (running refused : Bool) → IsVault o g false l story held h running refused → (s number : ℕ) (name : List ℕ) (at : ℕ) (claim : Claim)
-    → IsDue o.script (run_of o h) s number (command.Work name) (Renewed claim) → claim_checked (books_of no_rows l).bare (books_of no_rows l).machine at claim ≡ Ok tt → IsDueStill l claim
-due_still o g l story held h running refused v s number name at claim due checked =
+pub due_still : (o : Outset) (g : Origin) (l : Ledger) (story : Story) (held : Option (List ℕ)) (h : List Entry) (running refused : Bool) → IsVault o g false l story held h running refused → (s number : ℕ) (words : WorkWords) (at : ℕ) (claim : Claim)
+    → IsDue o.script (run_of o h) s number (command.Work words) (Renewed claim) → claim_checked (books_of no_rows l).bare (books_of no_rows l).machine at claim ≡ Ok tt → IsDueStill l claim
+due_still o g l story held h running refused v s number words at claim due checked =
     let has : HasClaim (run_of o h).state claim = subst (λ (p : Place). HasClaimAt (run_of o h).state p.stage) due.place (vault_claims o g false l story held h running refused v s) in
     let live : is_live l.leases claim.table claim.lease ≡ true = held_is_live l.leases claim.table claim.lease at (checked_held l at claim checked) in
     let stays = subst (λ (m : Machine). is_live m.leases claim.table claim.lease ≡ true → ranges_at m claim.table ≡ has.was) v.walk.state.machine has.is.stays in

@@ -16,6 +16,7 @@ use Rattle.mesa_log.specs.declared.log.Log.{Log}
 use Rattle.mesa_log.specs.Printing.{PrintsBlock}
 use Rattle.mesa_metadata.specs.Memory.{Memory, with_ledger}
 use Rattle.mesa_model.specs.declared.commands.Command.TheVariants as command
+use Rattle.mesa_model.specs.declared.commands.WorkWords.{WorkWords}
 use Rattle.mesa_model.specs.declared.entries.Entry.{Entry}
 use Rattle.mesa_model.specs.declared.entries.Kind.TheVariants as kind
 use Rattle.mesa_output.specs.Output.{block}
@@ -38,7 +39,7 @@ use Rattle.mesa_completing.specs.declared.completing.Unswapped.TheVariants as wh
 -- ---- the vault behind it
 
 module _ (n : Starts) (w : Rows) (sound : Bool) (l : Ledger) (story : Story) (held : Option (List ℕ)) (h : List Entry) (running refused : Bool) (v : IsVault (outset_of n w) (n.origin w) sound l story held h running refused)
-    (s number : ℕ) (low : s < 2 ^ 16) (few : number < 2 ^ 32) (name : List ℕ) (m : ℕ) (moment : m ≡ story.moment) (ran : running ≡ true) (at : ℕ) (place : at ≡ length h) (claim : Claim) (due : IsDue n.script (run_of (outset_of n w) h) s number (command.Work name) (Renewed claim))
+    (s number : ℕ) (low : s < 2 ^ 16) (few : number < 2 ^ 32) (words : WorkWords) (m : ℕ) (moment : m ≡ story.moment) (ran : running ≡ true) (at : ℕ) (place : at ≡ length h) (claim : Claim) (due : IsDue n.script (run_of (outset_of n w) h) s number (command.Work words) (Renewed claim))
     (now : Bool) (new_held : Option (List ℕ)) where
   few_granted : (ended claim.table claim.lease l.leases).granted ≤ l.leases.granted + 1
   few_granted = subst (λ q. q ≤ l.leases.granted + 1) (sym (ended_granted claim.table claim.lease l.leases)) (omega arith)
@@ -47,10 +48,10 @@ module _ (n : Starts) (w : Rows) (sound : Bool) (l : Ledger) (story : Story) (he
       → IsVault (outset_of n w) (n.origin w) sound (unswapped_ledger e claim.table claim.lease l) story new_held (h ++ entry s number kind.Close (outcome_of (cause_met e)) m ∷ []) now (refused || is_refusal (reply_of (cause_met e)))
   unswapped_vault (why.Refused x) has put =
       still_vault (outset_of n w) (n.origin w) sound l story held h running refused v (entry s number kind.Close (outcome_of (cause_met (why.Refused x))) m) story new_held now (refused || true) (stays story)
-      (lost_turn (outset_of n w) sound (books_of v.rows l) story held h running refused v.walk s number low few name m ran at place moment story (stays story) claim due x has (counts_same story) now new_held put)
+      (lost_turn (outset_of n w) sound (books_of v.rows l) story held h running refused v.walk s number low few words m ran at place moment story (stays story) claim due x has (counts_same story) now new_held put)
   unswapped_vault why.Memory has put =
       leased_vault (outset_of n w) (n.origin w) sound l story held h running refused v (entry s number kind.Close (outcome_of (cause_met why.Memory)) m) story new_held now (refused || true) (stays story) (ended claim.table claim.lease l.leases) few_granted
-      (starved_turn (outset_of n w) sound (books_of v.rows l) story held h running refused v.walk s number low few name m ran at place moment story (stays story) claim due has (counts_same story) now new_held put)
+      (starved_turn (outset_of n w) sound (books_of v.rows l) story held h running refused v.walk s number low few words m ran at place moment story (stays story) claim due has (counts_same story) now new_held put)
 
 -- no damage keeps a range from being swapped in
 refused_undamaged : (e : Unswapped) → is_damaged (outcome_of (cause_met e)) ≡ false
@@ -60,8 +61,8 @@ refused_undamaged why.Memory = refl
 -- ---- the engine behind it
 
 module _ {K : Type 0} (held : K → Option (List ℕ)) (faults : K → ℕ) (n : Starts) (turns sinks : ℕ) (m after : Memory) (story : Story) (log later : Log K) (v : IsEngine held faults n turns sinks m story log)
-    (s number : ℕ) (low : s < 2 ^ 16) (few : number < 2 ^ 32) (name : List ℕ) (mo : ℕ) (moment : mo ≡ story.moment) (ran : not log.printer.broken ≡ true) (claim : Claim)
-    (due : (w : Rows) → IsDue n.script (run_at n.script (n.start w) log.history.items) s number (command.Work name) (Renewed claim)) (e : Unswapped) (has : HasNotSwapped (books_of no_rows m.ledger) (length log.history.items) claim e)
+    (s number : ℕ) (low : s < 2 ^ 16) (few : number < 2 ^ 32) (words : WorkWords) (mo : ℕ) (moment : mo ≡ story.moment) (ran : not log.printer.broken ≡ true) (claim : Claim)
+    (due : (w : Rows) → IsDue n.script (run_at n.script (n.start w) log.history.items) s number (command.Work words) (Renewed claim)) (e : Unswapped) (has : HasNotSwapped (books_of no_rows m.ledger) (length log.history.items) claim e)
     (cause : Cause) (cause_is : cause ≡ cause_met e)
     (grew : later.history.items ≡ log.history.items ++ entry s number kind.Close (outcome_of cause) mo ∷ []) (roomy : vec_capacity log.history ≤ vec_capacity later.history)
     (is : after ≡ with_ledger (unswapped_ledger e claim.table claim.lease m.ledger) m) where
@@ -72,14 +73,14 @@ module _ {K : Type 0} (held : K → Option (List ℕ)) (faults : K → ℕ) (n :
       subst (λ (x : Memory). IsVault (outset_of n w) (n.origin w) b x.ledger story (held later.printer.sink) (log.history.items ++ entry s number kind.Close (outcome_of cause) mo ∷ []) (not later.printer.broken) (log.refused || is_refusal (reply_of cause))) (sym is)
       (subst (λ (x : Cause). IsPut (block (entry s number kind.Close (outcome_of x) mo) (Some (told_at (length log.history.items) (reply_of x)))) (not later.printer.broken) (held log.printer.sink) (held later.printer.sink)
       → IsVault (outset_of n w) (n.origin w) b (unswapped_ledger e claim.table claim.lease m.ledger) story (held later.printer.sink) (log.history.items ++ entry s number kind.Close (outcome_of x) mo ∷ []) (not later.printer.broken) (log.refused || is_refusal (reply_of x))) (sym cause_is)
-      (unswapped_vault n w b m.ledger story (held log.printer.sink) log.history.items (not log.printer.broken) log.refused (v.vault w b ok) s number low few name mo moment ran (length log.history.items) refl claim (due w) (not later.printer.broken) (held later.printer.sink) e has) put))
+      (unswapped_vault n w b m.ledger story (held log.printer.sink) log.history.items (not log.printer.broken) log.refused (v.vault w b ok) s number low few words mo moment ran (length log.history.items) refl claim (due w) (not later.printer.broken) (held later.printer.sink) e has) put))
 
 -- ---- where it takes its session, as every close of a work that was renewed
 
-pub closed_takes : (n : Starts) (w : Rows) (old new : Shown) (s number : ℕ) (name : List ℕ) (claim : Claim) → IsDue n.script (run_at n.script (n.start w) old.history) s number (command.Work name) (Renewed claim) → (cause : Cause)
+pub closed_takes : (n : Starts) (w : Rows) (old new : Shown) (s number : ℕ) (words : WorkWords) (claim : Claim) → IsDue n.script (run_at n.script (n.start w) old.history) s number (command.Work words) (Renewed claim) → (cause : Cause)
     → new.history ≡ old.history ++ entry s number kind.Close (outcome_of cause) new.clock ∷ [] → old.running ≡ true → IsSeen n.script (n.start w) new → Takes n.script (n.start w) old new s number kind.Close Finished
-closed_takes n w old new s number name claim due cause grew ran seen =
-    complete_takes n.script (n.start w) old new s number (command.Work name) claim due (record { outcome = outcome_of cause; grew = grew; skipped = not_skipped cause ∙ ap not (sym ran); still = λ on. ran }) seen
+closed_takes n w old new s number words claim due cause grew ran seen =
+    complete_takes n.script (n.start w) old new s number (command.Work words) claim due (record { outcome = outcome_of cause; grew = grew; skipped = not_skipped cause ∙ ap not (sym ran); still = λ on. ran }) seen
 
 -- no file was being built
 pub no_draft : (closing : Bool) (u : Unswapped) → answers_bench closing (outcome_of (cause_met u)) ≡ false

@@ -10,6 +10,7 @@ use Rattle.mesa_span.specs.declared.works.Work.{Work}
 use Rattle.mesa_span.specs.declared.works.Work.TheVariants as range
 use Rattle.mesa_lease.specs.Book.{ended}
 use Rattle.mesa_model.specs.declared.commands.Command.TheVariants as command
+use Rattle.mesa_model.specs.declared.commands.WorkWords.{WorkWords}
 use Rattle.mesa_model.specs.declared.entries.Entry.{Entry}
 use Rattle.mesa_model.specs.declared.entries.Kind.TheVariants as kind
 use Rattle.mesa_model.specs.declared.entries.Outcome.TheVariants as outcome
@@ -68,7 +69,7 @@ module _ {K : Type 0} (held : K → Option (List ℕ)) (faults : K → ℕ) (n :
       absent_yet (next_id m.ledger) (first_id m.ledger.catalogue.run + s.adopted) (past_id m.ledger) (files_of bytes s.made.items) i (omega (arith, few')) is.adopts.given (λ id le lt. ready_still.fresh i told id le lt)
 
   module _ (session number : ℕ) (low : session < 2 ^ 16) (few : number < 2 ^ 32) (ran : not log.printer.broken ≡ true) (typed : IsTyped s.entry)
-      (name : List ℕ) (due : (w : Rows) → IsDue n.script (run_at n.script (n.start w) log.history.items) session number (command.Work name) (Renewed (claim_in t)))
+      (words : WorkWords) (due : (w : Rows) → IsDue n.script (run_at n.script (n.start w) log.history.items) session number (command.Work words) (Renewed (claim_in t)))
       (has : (w : Rows) → n.sound w → HasRange read was t (written_by (outset_of n w) (n.origin w).found log.history.items t.table)) (tell : (w : Rows) → n.sound w → AllTell bytes s.made.items)
       (body : List ℕ) (are : AreBytes body) (reads : record_at body ≡ Ok s.entry)
       (new : Story) (worked : IsWorked story new m.ledger.area m.ledger.end body (files_of bytes s.made.items) (removed_by m.ledger (length log.history.items) (dropped_ids m.ledger.catalogue s.entry)))
@@ -87,7 +88,7 @@ module _ {K : Type 0} (held : K → Option (List ℕ)) (faults : K → ℕ) (n :
         told_engine held faults n turns sinks m after story new log later (entry session number kind.Close outcome.Stands moment) v grew roomy moment_is worked.passes.later (let a = v.leased in omega (arith, a, leased)) (λ w sound. refl)
         (told_at (length log.history.items) (swapped_reply t.work)) false prints (refused ∙ ap (λ b. log.refused || b) (swap_told t.work))
         (λ put w b ok. subst (λ l. IsVault (outset_of n w) (n.origin w) b l new (held later.printer.sink) (h ++ entry session number kind.Close outcome.Stands moment ∷ []) (not later.printer.broken) (log.refused || false)) (sym ledger_is)
-        (swap_ends n w b m.ledger story (held log.printer.sink) h (not log.printer.broken) log.refused (v.vault w b ok) session number low few ran bytes read was t s is typed name (due w) (length h) refl checked (λ on. has w (ok on)) (λ on. tell w (ok on))
+        (swap_ends n w b m.ledger story (held log.printer.sink) h (not log.printer.broken) log.refused (v.vault w b ok) session number low few ran bytes read was t s is typed words (due w) (length h) refl checked (λ on. has w (ok on)) (λ on. tell w (ok on))
         body are new moment moment_is (not later.printer.broken) (held later.printer.sink) reads worked end whole counts rises put))
 
     -- It has failed, and the vault is closed.
@@ -99,5 +100,5 @@ module _ {K : Type 0} (held : K → Option (List ℕ)) (faults : K → ℕ) (n :
         told_engine held faults n turns sinks m after story new log later (entry session number kind.Close outcome.WriteFault moment) v grew roomy moment_is worked.passes.later (let a = v.leased in omega (arith, a, leased)) (λ w sound. refl)
         (told_at (length log.history.items) (reply_of Unwritten)) true prints refused
         (λ put w b ok. subst (λ l. IsVault (outset_of n w) (n.origin w) b l new (held later.printer.sink) (h ++ entry session number kind.Close outcome.WriteFault moment ∷ []) (not later.printer.broken) (log.refused || true)) (sym ledger_is)
-        (swap_fails n w b m.ledger story (held log.printer.sink) h (not log.printer.broken) log.refused (v.vault w b ok) session number low few ran bytes read was t s is typed name (due w) (length h) refl checked (λ on. has w (ok on)) (λ on. tell w (ok on))
+        (swap_fails n w b m.ledger story (held log.printer.sink) h (not log.printer.broken) log.refused (v.vault w b ok) session number low few ran bytes read was t s is typed words (due w) (length h) refl checked (λ on. has w (ok on)) (λ on. tell w (ok on))
         body are new moment moment_is (not later.printer.broken) (held later.printer.sink) reads worked counts put))

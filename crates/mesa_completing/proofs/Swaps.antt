@@ -12,6 +12,7 @@ use Rattle.mesa_span.specs.declared.works.Work.{Work}
 use Rattle.mesa_span.specs.declared.works.Work.TheVariants as range_of
 use Rattle.mesa_lease.specs.Book.{ended}
 use Rattle.mesa_model.specs.declared.commands.Command.TheVariants as command
+use Rattle.mesa_model.specs.declared.commands.WorkWords.{WorkWords}
 use Rattle.mesa_model.specs.declared.entries.Entry.{Entry}
 use Rattle.mesa_model.specs.declared.entries.Kind.TheVariants as kind
 use Rattle.mesa_model.specs.declared.entries.Outcome.TheVariants as outcome
@@ -85,7 +86,7 @@ not_among id (x ∷ files) none = (λ same. none (inl same), not_among id files 
 module _ (n : Starts) (w : Rows) (sound : Bool) (l : Ledger) (story : Story) (held : Option (List ℕ)) (h : List Entry) (running refused : Bool) (v : IsVault (outset_of n w) (n.origin w) sound l story held h running refused)
     (session number : ℕ) (low : session < 2 ^ 16) (few : number < 2 ^ 32) (ran : running ≡ true)
     {M R : Type 0} (bytes : M → Option (List ℕ)) (read : R → Option (List ℕ)) (was : Lineage) (t : Task R) (s : Swapped M) (is : IsSwapped bytes read l was t s) (typed : IsTyped s.entry)
-    (name : List ℕ) (due : IsDue n.script (run_of (outset_of n w) h) session number (command.Work name) (Renewed (claim_in t)))
+    (words : WorkWords) (due : IsDue n.script (run_of (outset_of n w) h) session number (command.Work words) (Renewed (claim_in t)))
     (at : ℕ) (place : at ≡ length h) (checked : claim_checked (books_of no_rows l).bare (books_of no_rows l).machine at (claim_in t) ≡ Ok tt)
     (range : IsTrue sound → HasRange read was t (written_by (outset_of n w) (n.origin w).found h t.table)) where
   abbrev c : Catalog
@@ -219,7 +220,7 @@ module _ (n : Starts) (w : Rows) (sound : Bool) (l : Ledger) (story : Story) (he
         → IsVault (outset_of n w) (n.origin w) sound after new new_held (h ++ entry session number kind.Close outcome.Stands m ∷ []) now (refused || false)
     stands_so counts bodies holds gone_now long rises put =
         swapped_vault n w sound l story held h running refused v session number low few m ran at place opened later (applied c r) made gone s.adopted is.adopts recorded (left_by l (length h) gone) removed clears new moment passes only writes now new_held
-        name claim due checked (generation_of (applied c r)) end swaps
+        words claim due checked (generation_of (applied c r)) end swaps
         (swapped_as (outset_of n w) (n.origin w) sound l story held h running refused v later agree claim (is_base t.work) (first_of t.work) (last_of t.work) t.epoch is.refs (work_same t.work) (generation_of (applied c r)) (left_by l (length h) gone) s.adopted end)
         counts bodies holds gone_now (λ ok. (moves ok).stocked) long (omega (arith, rises))
         (λ told ok. sources_stay (outset_of n w) (n.origin w) sound l story held h running refused v later agree (entry session number kind.Close outcome.Stands m) _ (swapped_reply t.work) told (swap_accepts t.work) (applied c r)
@@ -229,7 +230,7 @@ module _ (n : Starts) (w : Rows) (sound : Bool) (l : Ledger) (story : Story) (he
         → IsVault (outset_of n w) (n.origin w) sound (failed_ledger l at (ended t.table t.lease l.leases) s.adopted) new new_held (h ++ entry session number kind.Close outcome.WriteFault m ∷ []) now (refused || true)
     fails_so counts put =
         unswapped_vault n w sound l story held h running refused v session number low few m ran at place opened later (applied c r) made gone s.adopted is.adopts recorded (left_by l (length h) gone) removed clears new moment passes only writes now new_held
-        name claim due checked (generation_of (applied c r)) end swaps
+        words claim due checked (generation_of (applied c r)) end swaps
         (swapped_as (outset_of n w) (n.origin w) sound l story held h running refused v later agree claim (is_base t.work) (first_of t.work) (last_of t.work) t.epoch is.refs (work_same t.work) (generation_of (applied c r)) (left_by l (length h) gone) s.adopted end)
         counts put
 
@@ -238,7 +239,7 @@ module _ (n : Starts) (w : Rows) (sound : Bool) (l : Ledger) (story : Story) (he
 module _ (n : Starts) (w : Rows) (sound : Bool) (l : Ledger) (story : Story) (held : Option (List ℕ)) (h : List Entry) (running refused : Bool) (v : IsVault (outset_of n w) (n.origin w) sound l story held h running refused)
     (session number : ℕ) (low : session < 2 ^ 16) (few : number < 2 ^ 32) (ran : running ≡ true)
     {M R : Type 0} (bytes : M → Option (List ℕ)) (read : R → Option (List ℕ)) (was : Lineage) (t : Task R) (s : Swapped M) (is : IsSwapped bytes read l was t s) (typed : IsTyped s.entry)
-    (name : List ℕ) (due : IsDue n.script (run_of (outset_of n w) h) session number (command.Work name) (Renewed (claim_in t)))
+    (words : WorkWords) (due : IsDue n.script (run_of (outset_of n w) h) session number (command.Work words) (Renewed (claim_in t)))
     (at : ℕ) (place : at ≡ length h) (checked : claim_checked (books_of no_rows l).bare (books_of no_rows l).machine at (claim_in t) ≡ Ok tt)
     (range : IsTrue sound → HasRange read was t (written_by (outset_of n w) (n.origin w).found h t.table)) (tell : IsTrue sound → AllTell bytes s.made.items)
     (body : List ℕ) (are : AreBytes body) (new : Story) (m : ℕ) (moment : m ≡ new.moment) (now : Bool) (new_held : Option (List ℕ)) where
@@ -257,14 +258,14 @@ module _ (n : Starts) (w : Rows) (sound : Bool) (l : Ledger) (story : Story) (he
 
   ends_so : Ends (swap_of t is.refs)
   ends_so reads worked end whole counts rises put =
-      stands_so n w sound l story held h running refused v session number low few ran bytes read was t s is typed name due at place checked range new m moment worked.passes worked.only now new_held
-      (λ ok. store_swaps n w sound l story held h running refused v session number low few ran bytes read was t s is typed name due at place checked range body are reads new worked ok (tell ok)) end counts (v.bodies ++ body ∷ [])
-      (λ ok. store_holds n w sound l story held h running refused v session number low few ran bytes read was t s is typed name due at place checked range body are reads new end worked whole ok (tell ok)) whole.gone whole.long rises put
+      stands_so n w sound l story held h running refused v session number low few ran bytes read was t s is typed words due at place checked range new m moment worked.passes worked.only now new_held
+      (λ ok. store_swaps n w sound l story held h running refused v session number low few ran bytes read was t s is typed words due at place checked range body are reads new worked ok (tell ok)) end counts (v.bodies ++ body ∷ [])
+      (λ ok. store_holds n w sound l story held h running refused v session number low few ran bytes read was t s is typed words due at place checked range body are reads new end worked whole ok (tell ok)) whole.gone whole.long rises put
 
   failed_so : Fails (swap_of t is.refs)
   failed_so reads worked counts put =
-      fails_so n w sound l story held h running refused v session number low few ran bytes read was t s is typed name due at place checked range new m moment worked.passes worked.only now new_held
-      (λ ok. store_swaps n w sound l story held h running refused v session number low few ran bytes read was t s is typed name due at place checked range body are reads new worked ok (tell ok)) 0 counts put
+      fails_so n w sound l story held h running refused v session number low few ran bytes read was t s is typed words due at place checked range new m moment worked.passes worked.only now new_held
+      (λ ok. store_swaps n w sound l story held h running refused v session number low few ran bytes read was t s is typed words due at place checked range body are reads new worked ok (tell ok)) 0 counts put
 
   -- The device work is done, and the vault has the record: the lease has ended.
   pub swap_ends : Ends s.entry

@@ -8,6 +8,7 @@ ghost use Rattle.mesa_ledger.specs.Ledger.{books_of};
 ghost use Rattle.mesa_log.specs.Failure.{cause_in};
 ghost use Rattle.mesa_metadata.specs.Memory.{with_ledger};
 ghost use Rattle.mesa_model.specs.declared.commands.Command.TheVariants as command;
+ghost use Rattle.mesa_model.specs.declared.commands.WorkWords.{WorkWords};
 ghost use Rattle.mesa_model.specs.declared.entries.Kind.TheVariants as kind;
 ghost use Rattle.mesa_model.specs.declared.replies.Reply.TheVariants as reply;
 ghost use Rattle.mesa_schema.specs.Changes.{Lineage};
@@ -30,7 +31,7 @@ use mesa_lease::TABLES;
 use mesa_ledger::Naming;
 use mesa_log::{Failure, Who};
 use mesa_metadata::Metadata;
-use mesa_model::{Kind, Outcome, Refusal, Reply};
+use mesa_model::{Kind, Outcome, Refusal, Reply, WorkWords};
 use mesa_span::Work;
 use mesa_store::write_record;
 use mesa_swapping::Swapped;
@@ -77,7 +78,7 @@ fn refuse<N: Naming, M: Made, D: Disk<M>, K: Sink>(
     task: &Task<D::Reader>,
     why: Unswapped,
 ) -> Reply
-    requires due { (name : List ℕ) × IsDue N.script (run_at N.script (N.start no_rows) engine.old.shown.history) who.session who.command (command.Work name) (Renewed (claim_in task.now)) }
+    requires due { (words : WorkWords) × IsDue N.script (run_at N.script (N.start no_rows) engine.old.shown.history) who.session who.command (command.Work words) (Renewed (claim_in task.now)) }
     requires table { task.now.table < TABLES }
     requires why { HasNotSwapped (books_of no_rows engine.old.ledger) (length engine.old.shown.history) (claim_in task.now) why }
     requires room { length engine.old.shown.history < N.room }
@@ -101,7 +102,7 @@ fn swap_in<N: Naming, M: Made, D: Disk<M>, K: Sink>(
     task: &Task<D::Reader>,
     delta: NewDelta<M>,
 ) -> Reply
-    requires due { (name : List ℕ) × IsDue N.script (run_at N.script (N.start no_rows) engine.old.shown.history) who.session who.command (command.Work name) (Renewed (claim_in task.now)) }
+    requires due { (words : WorkWords) × IsDue N.script (run_at N.script (N.start no_rows) engine.old.shown.history) who.session who.command (command.Work words) (Renewed (claim_in task.now)) }
     requires table { task.now.table < TABLES }
     requires holds { claim_checked (books_of no_rows engine.old.ledger).bare (books_of no_rows engine.old.ledger).machine (length engine.old.shown.history) (claim_in task.now) ≡ Ok tt }
     requires finished { (was : Lineage) × IsFinished M.bytes M.id_of D.Reader.bytes was (stock_at engine.old.ledger.catalogue task.now.table).lineage task.now delta
@@ -160,7 +161,7 @@ fn close<N: Naming, M: Made, D: Disk<M>, K: Sink>(
     task: &Task<D::Reader>,
     delta: NewDelta<M>,
 ) -> Reply
-    requires due { (name : List ℕ) × IsDue N.script (run_at N.script (N.start no_rows) engine.old.shown.history) who.session who.command (command.Work name) (Renewed (claim_in task.now)) }
+    requires due { (words : WorkWords) × IsDue N.script (run_at N.script (N.start no_rows) engine.old.shown.history) who.session who.command (command.Work words) (Renewed (claim_in task.now)) }
     requires table { task.now.table < TABLES }
     requires finished { (was : Lineage) × IsFinished M.bytes M.id_of D.Reader.bytes was (stock_at engine.old.ledger.catalogue task.now.table).lineage task.now delta
         × ((w : Rows) → N.sound w → HasRange D.Reader.bytes was task.now (written_at N.script (N.start w) (N.origin w) engine.old.shown.history task.now.table)) }
@@ -187,11 +188,11 @@ pub fn complete<N: Naming, M: Made, D: Disk<M>, K: Sink>(
     alloc: Global,
     engine: &mut Engine<N, M, D, K>,
     who: Who,
-    name: &[u8],
+    words: &WorkWords,
     task: Task<D::Reader>,
     delta: NewDelta<M>,
 ) -> Reply
-    requires due { IsDue N.script (run_at N.script (N.start no_rows) engine.old.shown.history) who.session who.command (command.Work name.now) (Renewed (claim_in task)) }
+    requires due { IsDue N.script (run_at N.script (N.start no_rows) engine.old.shown.history) who.session who.command (command.Work words.now) (Renewed (claim_in task)) }
     requires table { task.table < TABLES }
     requires finished { (was : Lineage) × IsFinished M.bytes M.id_of D.Reader.bytes was (stock_at engine.old.ledger.catalogue task.table).lineage task delta
         × ((w : Rows) → N.sound w → HasRange D.Reader.bytes was task (written_at N.script (N.start w) (N.origin w) engine.old.shown.history task.table)) }

@@ -29,7 +29,7 @@ use mesa_lease::TABLES;
 use mesa_ledger::Naming;
 use mesa_log::{Failure, Who};
 use mesa_metadata::Metadata;
-use mesa_model::{Kind, Refusal, Reply};
+use mesa_model::{Kind, Refusal, Reply, WorkWords};
 use mesa_tasks::{CompactError, Task, retire_task};
 use mesa_works::give_back;
 
@@ -99,11 +99,11 @@ fn fall(
 pub fn give_up<N: Naming, M: Made, D: Disk<M>, K: Sink>(
     engine: &mut Engine<N, M, D, K>,
     who: Who,
-    name: &[u8],
+    words: &WorkWords,
     task: Task<D::Reader>,
     error: CompactError,
 ) -> Reply
-    requires due { IsDue N.script (run_at N.script (N.start no_rows) engine.old.shown.history) who.session who.command (command.Work name.now) (Granted (claim_in task)) }
+    requires due { IsDue N.script (run_at N.script (N.start no_rows) engine.old.shown.history) who.session who.command (command.Work words.now) (Granted (claim_in task)) }
     requires table { task.table < TABLES }
     requires read { is_read_fault (cause_of error) ≡ true → SomeFailed D.Reader.faults (task_inputs task) }
     requires damaged { MergeDiffered error }

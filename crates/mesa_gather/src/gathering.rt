@@ -1,5 +1,5 @@
 // Opening the files of a range.
-ghost use Rattle.std.specs.Prelude.{◌≡◌, ◌≢◌, ◌≤◌, ℕ, IfOk, IfSome, length, vec_capacity, vec_len};
+ghost use Rattle.std.specs.Prelude.{◌≡◌, ◌≢◌, ◌-◌, ◌≤◌, ℕ, IfOk, IfSome, length};
 ghost use Rattle.std.specs.List.{AllByRecursion};
 ghost use Rattle.mesa_schema.specs.Changes.{epoch_of};
 ghost use Rattle.mesa_disk.specs.Story.{Unmoved};
@@ -9,23 +9,26 @@ ghost use Rattle.mesa_plans.specs.mesa_image_laws.Moves.{is_base, last_of};
 ghost use Rattle.mesa_plans.specs.Lent.{AreOfEpochs, lent_in, with_rows};
 ghost use Rattle.mesa_shelf.specs.Meaning.{IsTable, stock_of};
 ghost use Rattle.mesa_tasks.specs.Opening.{Counted};
+ghost use Rattle.mesa_tasks.specs.Spares.{HasSpares};
 ghost use Rattle.mesa_tasks.specs.Tasks.{IsTask};
 ghost use Rattle.mesa_gather.specs.Gathered.{IsGathered, is_fault_among, unread_views};
 
+use crate::parts::{Part, Parts, open_parts};
 use mesa_disk::{Disk, Made};
 use mesa_plans::{Deltas, merged, table_files};
 use mesa_shelf::Table;
 use mesa_span::Work;
-use mesa_tasks::{Opened, Task, TaskView, Unopened, open_all};
+use mesa_tasks::{Spare, Task, Unopened};
 use std::alloc::Global;
 
-/// The task of a work on the table of a number, which has no lease yet: the table's files of its range are open. The first file that isn't the recorded one ends the opening, and is told in the task. Each view's rows are to be derived from the table's.
+/// The task of a work on the table of a number, which has no lease yet: the table's files of its range are open. They are opened once for each part of the merge, and at least once. The first file that isn't the recorded one ends the opening, and is told in the task. Each view's rows are to be derived from the table's.
 pub fn gather<M: Made, D: Disk<M>>(
     alloc: Global,
     disk: &mut D,
     table: &Table,
     number: u16,
     work: Work,
+    parts: u8,
 ) -> Result<Task<D::Reader>, Unopened>
     requires { (next : ℕ) × IsTable next table.now × AllByRecursion (λ d. d.epoch ≤ epoch_of table.now.evolving.value) (deltas_of (stock_of next table.now)) }
     ensures unmoved { Unmoved (D.story disk.old) (D.story disk.new) }
@@ -35,6 +38,7 @@ pub fn gather<M: Made, D: Disk<M>>(
     ensures task { IfOk result (IsTask D.Reader.bytes table.now.evolving.value) }
     ensures views { IfOk result (λ t. t.views.items ≡ unread_views 0 (length table.now.evolving.value.views)) }
     ensures damage { IfOk result (λ t. IfSome t.damage (λ d. d.want ≢ d.found)) }
+    ensures spare { IfOk result (HasSpares D.Reader.bytes (parts - 1)) }
     ensures files { (next : ℕ) → IsTable next table.now → IfOk result (IsGathered D.Reader.bytes D.Reader.faults (D.story disk.old).told (stock_of next table.now) work) }
 {
     let deltas = range_deltas(table, work);
@@ -42,12 +46,10 @@ pub fn gather<M: Made, D: Disk<M>>(
         return Err(Unopened::Memory);
     };
     let count = table.evolving.views();
-    let Ok(mut views) = Vec::with_capacity(alloc, count as usize) else {
-        return Err(Unopened::Memory);
-    };
-    match open_all(alloc, disk, &wanted) {
-        Ok(Opened { inputs, damage }) => {
-            number_views(&mut views, count);
+    match open_parts(alloc, disk, &wanted, count, parts) {
+        Ok(Parts { first, spare }) => {
+            let Part { readers, damage } = first;
+            let Spare { inputs, views } = readers;
             Ok(Task {
                 table: number,
                 work,
@@ -56,12 +58,10 @@ pub fn gather<M: Made, D: Disk<M>>(
                 inputs,
                 views,
                 damage,
+                spare,
             })
         }
-        Err(unopened) => {
-            views.destroy_empty();
-            Err(unopened)
-        }
+        Err(unopened) => Err(unopened),
     }
 }
 
@@ -74,16 +74,5 @@ fn range_deltas(table: &Table, work: Work) -> Deltas
     match work {
         Work::Base { to } => merged(table, true, to),
         Work::Cumulative { to, .. } => merged(table, false, to),
-    }
-}
-
-// A view of each number, with no files of its own.
-fn number_views<R>(views: &mut Vec<TaskView<R>>, count: u8)
-    requires empty { vec_len views.old ≡ 0 }
-    requires room { count ≤ vec_capacity views.old }
-    ensures { views.new.items ≡ unread_views 0 count }
-{
-    'views: for view in 0..count {
-        views.push_reserved(TaskView { view, inputs: None });
     }
 }

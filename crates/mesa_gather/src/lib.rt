@@ -2,5 +2,6 @@
 #![tactic(auto)]
 
 mod gathering;
+mod parts;
 
 pub use gathering::gather;

@@ -13,7 +13,7 @@ use Rattle.mesa_gather.specs.Gathered.{unread_views}
 use Rattle.mesa_service.specs.mesa_merge.Inputs.{Known, knowns_of}
 use Rattle.mesa_service.specs.Works.{known_task}
 use Rattle.mesa_service.specs.mesa_compact.Tasks.{KnownView, known_view}
-use Rattle.mesa_tasks.specs.Inputs.{AreInputsOf, present_parts}
+use Rattle.mesa_tasks.specs.Inputs.{AreInputsOf, IsMergeOf}
 use Rattle.mesa_tasks.specs.Tasks.{AreTaskViews, HasOwn, HaveMerged, IsMerged, IsTask}
 use Rattle.mesa_tasks.specs.declared.made.MadeFiles.{MadeFiles}
 use Rattle.mesa_tasks.specs.declared.merging.NewDelta.{NewDelta}
@@ -55,10 +55,13 @@ module _ {R : Type 0} (bytes : R → Option (List ℕ)) where
     none_merged rows none None have = none
     none_merged rows none (Some made) have = absurd (let some = have.0.rows.some in let zero = ap length none in omega (arith, some, zero))
 
+    no_parts : (s : Columns) (rows : List Row) → rows ≡ [] → IsMergeOf bytes s [] rows
+    no_parts s rows none [] told = none
+    no_parts s rows none (part ∷ parts) told = absurd told
+
     by : (inputs : List (Input R)) → t.inputs.items ≡ inputs → IsTask bytes was t × IsMerged made_bytes id_of bytes was t d
     by [] is =
-        let fold = ap (λ xs. folded (aggs_of (columns_of l)) (present_parts xs merged.merge.parts)) is in
-        let none : merged.rows ≡ [] = merged.merge.fold ∙ fold in (
+        let none : merged.rows ≡ [] = subst (λ xs. IsMergeOf bytes (columns_of l) xs merged.rows) is merged.merge [] tt in (
           record {
             epoch = known.epoch;
             inputs = subst (AreInputsOf bytes was) (sym is) tt;
@@ -66,7 +69,7 @@ module _ {R : Type 0} (bytes : R → Option (List ℕ)) where
           },
           record {
             rows = merged.rows;
-            merge = record { parts = merged.merge.parts; whole = merged.merge.whole; fold = none ∙ sym (ap (λ xs. folded (aggs_of (columns_of was)) (present_parts xs merged.merge.parts)) is) };
+            merge = subst (λ xs. IsMergeOf bytes (columns_of was) xs merged.rows) (sym is) (no_parts (columns_of was) merged.rows none);
             files = none_merged merged.rows none d.files merged.files;
           },
         )

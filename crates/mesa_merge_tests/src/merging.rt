@@ -66,6 +66,7 @@ fn merge_two<R: FileReader + Drop>(
         inputs,
         views,
         damage: None,
+        spare: Vec::new(alloc),
     };
     let mut ids = Serials::new(1, 2);
     merge_task(alloc, bench, &mut ids, &mut task)

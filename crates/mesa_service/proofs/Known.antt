@@ -6,10 +6,10 @@ use Rattle.mesa_schema.specs.declared.rows.Row.{Row}
 use Rattle.mesa_schema.specs.Changes.{epoch_of, lifted}
 use Rattle.mesa_schema.specs.Columns.{Columns, aggs_of}
 use Rattle.mesa_schema.specs.Folded.{folded}
-use Rattle.mesa_delta.specs.Reading.{IsWhole}
+use Rattle.mesa_delta.specs.Reading.{IsIndexed}
 use Rattle.mesa_delta.specs.declared.input.Input.{Input}
 use Rattle.mesa_compact.specs.mesa_merge.Inputs.{Known, known_of, knowns_of}
-use Rattle.mesa_compact.specs.mesa_tasks.Inputs.{HaveRows, IsMergeOf, present_parts}
+use Rattle.mesa_compact.specs.mesa_tasks.Inputs.{AreTold, IsMergeOf, present_parts}
 use Rattle.mesa_compact.specs.mesa_tasks.Tasks.{MergeOnlyTo}
 
 -- ---- lists
@@ -30,14 +30,14 @@ pub some_same : {X : Type 0} (x y : X) → Some x ≡ Some y → x ≡ y
 some_same x y is = cc
 
 module _ {R : Type 0} (bytes : R → Option (List ℕ)) where
-  pub have_rows : (old new : List (Input R)) (parts : List (List Row)) → knowns_of bytes new ≡ knowns_of bytes old → HaveRows bytes old parts → HaveRows bytes new parts
-  have_rows [] [] parts known have = have
-  have_rows [] (n ∷ new) parts known have = absurd (cons_none _ _ known)
-  have_rows (o ∷ old) [] parts known have = absurd (cons_none _ _ (sym known))
-  have_rows (o ∷ old) (n ∷ new) [] known have = have
-  have_rows (o ∷ old) (n ∷ new) (rows ∷ parts) known have =
+  pub told_back : (old new : List (Input R)) (parts : List (List Row)) → knowns_of bytes new ≡ knowns_of bytes old → AreTold bytes new parts → AreTold bytes old parts
+  told_back [] [] parts known told = told
+  told_back [] (n ∷ new) parts known told = absurd (cons_none _ _ known)
+  told_back (o ∷ old) [] parts known told = absurd (cons_none _ _ (sym known))
+  told_back (o ∷ old) (n ∷ new) [] known told = told
+  told_back (o ∷ old) (n ∷ new) (rows ∷ parts) known told =
       let same : known_of bytes n ≡ known_of bytes o = first_same _ _ _ _ known in
-      (subst (λ (k : Known). IsWhole k.file rows k.told) (sym same) have.0, have_rows old new parts (rest_same _ _ _ _ known) have.1)
+      (subst (λ (k : Known). (b : List ℕ) × (k.told ≡ Some b) × IsIndexed k.file rows b) same told.0, told_back old new parts (rest_same _ _ _ _ known) told.1)
 
   pub same_lifted : (old new : List (Input R)) (parts : List (List Row)) → knowns_of bytes new ≡ knowns_of bytes old → present_parts old parts ≡ present_parts new parts
   same_lifted [] [] parts known = refl
@@ -49,11 +49,7 @@ module _ {R : Type 0} (bytes : R → Option (List ℕ)) where
       λ j. map (λ (row : Row). lifted (same j).table (same j).epoch (epoch_of (same j).table) row) rows ∷ same_lifted old new parts (rest_same _ _ _ _ known) j
 
   pub merge_stays : (s : Columns) (old new : List (Input R)) (rows : List Row) → knowns_of bytes new ≡ knowns_of bytes old → IsMergeOf bytes s old rows → IsMergeOf bytes s new rows
-  merge_stays s old new rows known merge = record {
-    parts = merge.parts;
-    whole = have_rows old new merge.parts known merge.whole;
-    fold = merge.fold ∙ ap (folded (aggs_of s)) (same_lifted old new merge.parts known);
-  }
+  merge_stays s old new rows known merge = λ parts told. merge parts (told_back old new parts known told) ∙ ap (folded (aggs_of s)) (same_lifted old new parts known)
 
   pub only_stays : (s : Columns) (rows : List Row) (old new : Option (Vec (Input R) Global)) → option_map (λ inputs. knowns_of bytes inputs.items) new ≡ option_map (λ inputs. knowns_of bytes inputs.items) old → MergeOnlyTo bytes s rows old → MergeOnlyTo bytes s rows new
   only_stays s rows None None known only = tt

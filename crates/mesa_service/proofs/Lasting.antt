@@ -156,7 +156,7 @@ module _ (position : ℕ) (s : State) where
   decides session (command.Pin asked) = deciding (step s.warehouse session (command.Pin asked)) (done_keeps s.warehouse (make_pin s.warehouse session asked) (pin_keeps s.warehouse session asked))
   decides session (command.Release token) = deciding (step s.warehouse session (command.Release token)) (done_keeps s.warehouse (release_pin s.warehouse session token) (release_keeps s.warehouse session token))
   decides session (command.Expire table version) = deciding (step s.warehouse session (command.Expire table version)) (done_keeps s.warehouse (expire_to s.warehouse table version) (expire_keeps s.warehouse table version))
-  decides session (command.Work name) = deciding (step s.warehouse session (command.Work name)) (done_keeps s.warehouse _ (nothing_keeps s.warehouse))
+  decides session (command.Work words) = deciding (step s.warehouse session (command.Work words)) (done_keeps s.warehouse _ (nothing_keeps s.warehouse))
 
   granting : (r : Result Claim Reply) → Leaves s (grants position s r)
   granting (Err r) none = refl

@@ -1,5 +1,6 @@
 -- Works whose files are handed out, and what they are merged to.
 use Rattle.std.specs.Prelude.{◌≡◌, ℕ, List, ◌++◌, Option, None, IfSome, Result, Ok, Err, ⊤}
+use Rattle.std.specs.List.{AllByRecursion}
 use Rattle.mesa_file.specs.declared.damage.Damage.{Damage}
 use Rattle.mesa_span.specs.declared.works.Work.{Work}
 use Rattle.mesa_schema.specs.Changes.{Lineage}
@@ -8,6 +9,7 @@ use Rattle.mesa_compact.specs.Bounded.{IsBounded}
 use Rattle.mesa_compact.specs.Tasks.{KnownView, known_views}
 use Rattle.mesa_compact.specs.mesa_merge.Inputs.{Known, knowns_of}
 use Rattle.mesa_compact.specs.mesa_tasks.GivingBack.{task_inputs}
+use Rattle.mesa_compact.specs.mesa_tasks.Spares.{IsSpareOf}
 use Rattle.mesa_compact.specs.mesa_tasks.Tasks.{IsTask, IsMerged}
 use Rattle.mesa_compact.specs.mesa_tasks.declared.merging.CompactError.{CompactError}
 use Rattle.mesa_compact.specs.mesa_tasks.declared.merging.CompactError.TheVariants as compact
@@ -29,10 +31,11 @@ pub record KnownTask : Type 0 where
 abbrev pub known_task : {R : Type 0} → (R → Option (List ℕ)) → Task R → KnownTask
 known_task bytes t = record { table = t.table; work = t.work; lease = t.lease; epoch = t.epoch; files = knowns_of bytes t.inputs.items; views = known_views bytes t.views.items; damage = t.damage }
 
--- A task that can be merged: it is one of a table with some columns and views, and damage that was met where its files were opened differs from what was wanted.
+-- A task that can be merged: it is one of a table with some columns and views; damage that was met where its files were opened differs from what was wanted; and where none was met, its further readers are of just its files.
 pub record CanBeMerged {R : Type 0} (bytes : R → Option (List ℕ)) (t : Task R) : Type 0 where
   pub task : (l : Lineage) × IsTask bytes l t
   pub damage : IfSome t.damage Differs
+  pub spare : t.damage ≡ None → AllByRecursion (IsSpareOf bytes t) t.spare.items
 
 -- A task was handed out somewhere in a history: this was so of it by the history up to there.
 pub record WasGranted (granted : List Entry → KnownTask → Type 0) (h : List Entry) (t : KnownTask) : Type 0 where

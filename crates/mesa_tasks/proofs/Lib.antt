@@ -1,4 +1,5 @@
-mod Counts
-mod Retired
-mod Openings
+pub mod Counts
+pub mod Retired
+pub mod Openings
 mod Drafts
+pub mod Spares

@@ -23,10 +23,10 @@ module _ {R : Type 0} (bytes : R → Option (List ℕ)) (faults : R → ℕ) (to
   opened_less (v ∷ ws) (q ∷ is) w rest d all one = (all.0, opened_less ws is w rest d all.1 one)
 
   -- no reader has failed yet
-  pub opened_fresh : (ws : List Wanted) (is : List (Input R)) → HaveOpened bytes faults told ws is None → AllByRecursion (λ (i : Input R). faults (reader_in i) ≡ 0) is
-  opened_fresh ws [] all = tt
-  opened_fresh [] (i ∷ is) all = absurd all
-  opened_fresh (w ∷ ws) (i ∷ is) all = (all.0.fresh, opened_fresh ws is all.1)
+  pub opened_fresh : (ws : List Wanted) (is : List (Input R)) (d : Option Damage) → HaveOpened bytes faults told ws is d → AllByRecursion (λ (i : Input R). faults (reader_in i) ≡ 0) is
+  opened_fresh ws [] d all = tt
+  opened_fresh [] (i ∷ is) d all = absurd all
+  opened_fresh (w ∷ ws) (i ∷ is) d all = (all.0.fresh, opened_fresh ws is d all.1)
 
 pub taken_and_rest : {A : Type 0} (n : ℕ) (xs : List A) → take n xs ++ drop n xs ≡ xs
 taken_and_rest zero xs = refl

@@ -6,6 +6,7 @@ use Rattle.mesa_fault.specs.Causes.{Rose}
 use Rattle.mesa_disk.specs.Story.{Story}
 use Rattle.mesa_delta.specs.declared.input.Input.{Input}
 use Rattle.mesa_cursor.specs.Cursors.{reader_in}
+use Rattle.mesa_tasks.specs.declared.merging.Spare.{Spare}
 use Rattle.mesa_tasks.specs.declared.merging.Task.{Task}
 use Rattle.mesa_tasks.specs.declared.merging.TaskView.{TaskView}
 use Rattle.mesa_tasks.specs.declared.querying.Pinned.{Pinned}
@@ -31,9 +32,13 @@ inputs_in (Some inputs) = inputs.items
 abbrev pub own_inputs : {R : Type 0} → TaskView R → List (Input R)
 own_inputs v = inputs_in v.inputs
 
--- all inputs of a task: the table's, and then each view's
+-- all inputs of a further part: the table's, and then each view's
+abbrev pub spare_inputs : {R : Type 0} → Spare R → List (Input R)
+spare_inputs s = s.inputs.items ++ flat_map own_inputs s.views.items
+
+-- all inputs of a task: the table's, then each view's, and then those of each further part
 abbrev pub task_inputs : {R : Type 0} → Task R → List (Input R)
-task_inputs t = t.inputs.items ++ flat_map own_inputs t.views.items
+task_inputs t = t.inputs.items ++ flat_map own_inputs t.views.items ++ flat_map spare_inputs t.spare.items
 
 -- the inputs of a pinned query
 abbrev pub pinned_inputs : {R : Type 0} → Pinned R → List (Input R)

@@ -78,6 +78,10 @@ is_fault_in (Err un.Memory) = false
 abbrev pub HasBytes : {R : Type 0} → (R → Option (List ℕ)) → Option Image → ℕ → R → Type 0
 HasBytes bytes told id reader = (i : Image) → told ≡ Some i → (b : List ℕ) × (file_of i id ≡ Some b) × (bytes reader ≡ Some b)
 
+-- Where a read of the disk isn't told, a reader tells no bytes.
+abbrev pub IsUntold : {R : Type 0} → (R → Option (List ℕ)) → Option Image → R → Type 0
+IsUntold bytes told reader = told ≡ None → bytes reader ≡ None
+
 -- An index is what a tail with the recorded digest tells.
 abbrev pub IsRecordedIndex : {R : Type 0} → Wanted → Input R → Type 0
 IsRecordedIndex w i = (tail : List ℕ) × IsIndexOf w.file.now (wanted_layout w) tail (index_of i.reader) × (sha256 tail ≡ w.file.now.digest)
@@ -89,6 +93,7 @@ pub record IsOpened {R : Type 0} (bytes : R → Option (List ℕ)) (faults : R �
   pub input : IsInput bytes i
   pub index : IsRecordedIndex w i
   pub content : HasBytes bytes told w.file.now.id (reader_in i)
+  pub untold : IsUntold bytes told (reader_in i)
   pub fresh : faults (reader_in i) ≡ 0
 
 -- A file is absent, and that is told.

@@ -1,9 +1,9 @@
 // Giving readers back, which takes no memory and can't fail.
 ghost use Rattle.std.specs.Prelude.{[], ◌∷◌, flat_map};
 ghost use Rattle.mesa_disk.specs.Story.{Unmoved};
-ghost use Rattle.mesa_tasks.specs.GivingBack.{GivesBack, own_inputs, pinned_inputs, task_inputs};
+ghost use Rattle.mesa_tasks.specs.GivingBack.{GivesBack, own_inputs, pinned_inputs, spare_inputs, task_inputs};
 
-use crate::{Pinned, PinnedInput, Task, TaskView};
+use crate::{Pinned, PinnedInput, Spare, Task, TaskView};
 use mesa_delta::Input;
 use mesa_disk::{Disk, Made};
 
@@ -56,6 +56,27 @@ fn retire_views<M: Made, D: Disk<M>>(disk: &mut D, mut views: Vec<TaskView<D::Re
     views.destroy_empty();
 }
 
+/// Gives back the readers of a further part of a task.
+pub fn retire_spare<M: Made, D: Disk<M>>(disk: &mut D, spare: Spare<D::Reader>)
+    ensures unmoved { Unmoved (D.story disk.old) (D.story disk.new) }
+    ensures given { GivesBack D.Reader.faults (spare_inputs spare) (D.story disk.old) (D.story disk.new) }
+{
+    let Spare { inputs, views } = spare;
+    retire_all(disk, inputs);
+    retire_views(disk, views);
+}
+
+/// Gives back the readers of further parts of a task.
+pub fn retire_spares<M: Made, D: Disk<M>>(disk: &mut D, mut spares: Vec<Spare<D::Reader>>)
+    ensures unmoved { Unmoved (D.story disk.old) (D.story disk.new) }
+    ensures given { GivesBack D.Reader.faults (flat_map spare_inputs spares.items) (D.story disk.old) (D.story disk.new) }
+{
+    'spares: while let Some(spare) = spares.pop() {
+        retire_spare(disk, spare);
+    }
+    spares.destroy_empty();
+}
+
 /// Gives back the readers of a task.
 pub fn retire_task<M: Made, D: Disk<M>>(disk: &mut D, task: Task<D::Reader>)
     ensures unmoved { Unmoved (D.story disk.old) (D.story disk.new) }
@@ -69,9 +90,11 @@ pub fn retire_task<M: Made, D: Disk<M>>(disk: &mut D, task: Task<D::Reader>)
         inputs,
         views,
         damage: _damage,
+        spare,
     } = task;
     retire_all(disk, inputs);
     retire_views(disk, views);
+    retire_spares(disk, spare);
 }
 
 /// Gives back the readers of a query.

@@ -9,9 +9,11 @@ mod prepared;
 mod querying;
 mod serials;
 
-pub use giving_back::{retire_all, retire_input, retire_pinned, retire_task};
+pub use giving_back::{
+    retire_all, retire_input, retire_pinned, retire_spare, retire_spares, retire_task,
+};
 pub use made::{MadeFile, MadeFiles, MadeView};
-pub use merging::{CompactError, NewDelta, Task, TaskView};
+pub use merging::{CompactError, NewDelta, Spare, Task, TaskView};
 pub use opening::{Met, Opened, Unopened, Wanted, open_all, open_one};
 pub use prepared::{LoadError, Prepared, PreparedPart};
 pub use querying::{Pinned, PinnedInput};

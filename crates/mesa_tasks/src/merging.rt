@@ -25,6 +25,16 @@ pub struct Task<R> {
     pub views: Vec<TaskView<R>>,
     /// The first file that was absent or damaged when the files were opened; the merge answers it.
     pub damage: Option<Damage>,
+    /// Further readers of the same files, for each part after the first of a merge in parts. None where a file is
+    /// damaged.
+    pub spare: Vec<Spare<R>>,
+}
+
+/// Readers of a task's files for one more part of its merge, in the task's order.
+#[derive(Drop)]
+pub struct Spare<R> {
+    pub inputs: Vec<Input<R>>,
+    pub views: Vec<TaskView<R>>,
 }
 
 /// A view of a task's table.

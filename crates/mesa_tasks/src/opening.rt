@@ -8,7 +8,7 @@ ghost use Rattle.mesa_delta.specs.Indexed.{IsIndexOf};
 ghost use Rattle.mesa_delta.specs.Reading.{HasRead, IsReaderOf, index_of, reader_of};
 ghost use Rattle.mesa_delta.specs.Summary.{file_layout};
 ghost use Rattle.mesa_delta.specs.declared.error.FileError.TheVariants as file_error;
-ghost use Rattle.mesa_tasks.specs.Opening.{Counted, HasBytes, HasEpoch, HasMet, HaveOpened, IsDamageOf, is_fault_in, is_fault_met, is_read_fault, wanted_columns};
+ghost use Rattle.mesa_tasks.specs.Opening.{Counted, HasBytes, HasEpoch, HasMet, HaveOpened, IsDamageOf, IsUntold, is_fault_in, is_fault_met, is_read_fault, wanted_columns};
 
 use crate::retire_all;
 use mesa_delta::{DeltaReader, FileError, Input};
@@ -95,6 +95,7 @@ fn attach<M: Made, D: Disk<M>>(
     ensures over { IfOk result (λ r. IsReaderOf D.Reader.bytes (reader_of r) (index_of r)) }
     ensures read { IfOk result (λ r. HasRead D.Reader.bytes r []) }
     ensures bytes { IfOk result (λ r. HasBytes D.Reader.bytes (D.story disk.old).told file.now.id (reader_of r)) }
+    ensures untold { IfOk result (λ r. IsUntold D.Reader.bytes (D.story disk.old).told (reader_of r)) }
     ensures fresh { IfOk result (λ r. D.Reader.faults (reader_of r) ≡ 0) }
     ensures damaged { IfErr result (λ e. (d : AnyDamage) → e ≡ file_error.Damaged d → IsDamageOf (D.story disk.old).told schema.now file.now d) }
 {

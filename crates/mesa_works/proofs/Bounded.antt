@@ -1,4 +1,4 @@
--- No sum over the files of a range leaves its type where the store is sound.
+-- The files of a range are told where the store is sound, and no sum over them leaves its type.
 use Rattle.std.proofs.Common.{◌≡◌, ◌∙◌, ℕ, zero, suc, ◌<◌, List, [], ◌∷◌, length, map, true, refl, sym, ap, subst, zero-add, Option, None, Some}
 use Rattle.std.specs.Prelude.{flat_map, slice_get}
 use Rattle.std.specs.List.{AllByRecursion}
@@ -15,7 +15,7 @@ use Rattle.mesa_schema.specs.declared.rows.Row.{Row}
 use Rattle.mesa_schema.specs.declared.views.View.{View}
 use Rattle.mesa_delta.specs.declared.input.Input.{Input}
 use Rattle.mesa_metadata.specs.mesa_image.Catalog.{Catalog, Delta, Stock, stock_at}
-use Rattle.mesa_metadata.specs.mesa_image.Contents.{Rows}
+use Rattle.mesa_metadata.specs.mesa_image.Contents.{Rows, present}
 use Rattle.mesa_metadata.specs.mesa_image.Fitting.{delta_shelved, deltas_of, shelved}
 use Rattle.mesa_metadata.specs.mesa_image.Sound.{wants}
 use Rattle.mesa_ledger.proofs.mesa_image_laws.Lists.{all_unflat, stock_found}
@@ -25,7 +25,7 @@ use Rattle.mesa_ledger.specs.mesa_image_laws.Moves.{is_base, last_of}
 use Rattle.mesa_ledger.specs.Ledger.{Ledger}
 use Rattle.mesa_ledger.specs.Vault.{Origin, IsVault}
 use Rattle.mesa_ledger.proofs.Standing.{held_there}
-use Rattle.mesa_compact.specs.mesa_merge.Inputs.{knowns_of, lifted_parts}
+use Rattle.mesa_compact.specs.mesa_merge.Inputs.{AreTold, knowns_of, lifted_parts}
 use Rattle.mesa_model.specs.declared.entries.Entry.{Entry}
 use Rattle.mesa_gather.specs.Gathered.{IsGathered, unread_view}
 use Rattle.mesa_pinning.specs.Read.{own_file}
@@ -94,14 +94,21 @@ module _ (o : Outset) (g : Origin) (l : Ledger) (story : Story) (held : Option (
   all_open : HaveOpened bytes faults story.told gathered.wanted t.inputs.items None
   all_open = subst (HaveOpened bytes faults story.told gathered.wanted t.inputs.items) whole gathered.opened
 
+  -- The files of a range are told, and have the present rows of the deltas that are folded.
+  pub range_told : (contents : List (List Row)) × AreTold (knowns_of bytes t.inputs.items) contents
+      × (rows_of (lifted_parts (knowns_of bytes t.inputs.items) contents) ≡ rows_of (map (present v.rows (stock_at l.catalogue t.table).lineage) (merged_of (stock_at l.catalogue t.table) (is_base t.work) (last_of t.work))))
+  range_told = (
+    map (rows_seen v.rows) seen,
+    all_told v.rows image bytes faults story.told (v.read refl).1 gathered.wanted t.inputs.items seen (gathered.are ∙ sym (owned (flat_map (table_wanted lin) ds))) all_open (all_given v.rows image lin None tt ds given),
+    ap rows_of (lifted_are bytes faults story.told v.rows gathered.wanted t.inputs.items (flat_map (table_wanted lin) ds) gathered.are all_open) ∙ table_parts v.rows lin ds,
+  )
+
   table_bounded : AreBounded (columns_of lin) (knowns_of bytes t.inputs.items)
   table_bounded = record {
-    contents = map (rows_seen v.rows) seen;
-    told = all_told v.rows image bytes faults story.told (v.read refl).1 gathered.wanted t.inputs.items seen (gathered.are ∙ sym (owned (flat_map (table_wanted lin) ds))) all_open (all_given v.rows image lin None tt ds given);
+    contents = range_told.0;
+    told = range_told.1;
     bound = λ k sum.
-        let parts = lifted_are bytes faults story.told v.rows gathered.wanted t.inputs.items (flat_map (table_wanted lin) ds) gathered.are all_open in
-        let all = ap rows_of parts ∙ table_parts v.rows lin ds in
-        subst (λ n. n < sum_bound) (sym (zero-add _)) (subst (λ (rs : List Row). abs_total k rs < sum_bound) (sym all)
+        subst (λ n. n < sum_bound) (sym (zero-add _)) (subst (λ (rs : List Row). abs_total k rs < sum_bound) (sym range_told.2)
         (merged_sums v.rows c.floor c.next u (shaped_at c v.shaped t.table there) (stock_found (IsStocked v.rows) c.tables t.table there (v.stocked refl).0) (is_base t.work) (last_of t.work) k sum));
   }
 

@@ -17,6 +17,7 @@ use Rattle.mesa_rules.proofs.mesa_catalog.Stocks.{all_at}
 use Rattle.mesa_lease.specs.Book.{granted}
 use Rattle.mesa_model.specs.Warehouse.{Warehouse}
 use Rattle.mesa_model.specs.declared.commands.Command.TheVariants as command
+use Rattle.mesa_model.specs.declared.commands.WorkWords.{WorkWords}
 use Rattle.mesa_model.specs.declared.entries.Entry.{Entry}
 use Rattle.mesa_model.specs.declared.entries.Kind.TheVariants as kind
 use Rattle.mesa_model.specs.declared.entries.Outcome.TheVariants as outcome
@@ -93,19 +94,19 @@ any_rows rows l at name NoMemory has = has
 -- ---- its turn
 
 module _ (o : Outset) (g : Origin) (sound : Bool) (l : Ledger) (story : Story) (held : Option (List ℕ)) (h : List Entry) (running refused : Bool) (v : IsVault o g sound l story held h running refused)
-    (s number : ℕ) (low : s < 2 ^ 16) (few : number < 2 ^ 32) (name : List ℕ) (m : ℕ) (moment : m ≡ story.moment) (ran : running ≡ true) (at : ℕ) (place : at ≡ length h) (due : IsDue o.script (run_of o h) s number (command.Work name) First)
+    (s number : ℕ) (low : s < 2 ^ 16) (few : number < 2 ^ 32) (words : WorkWords) (m : ℕ) (moment : m ≡ story.moment) (ran : running ≡ true) (at : ℕ) (place : at ≡ length h) (due : IsDue o.script (run_of o h) s number (command.Work words) First)
     (new : Story) (unmoved : Unmoved story new) where
-  pub granted_vault : (claim : Claim) → claim_of (books_of no_rows l).bare (books_of no_rows l).machine at name ≡ Ok claim → Counts story new false
+  pub granted_vault : (claim : Claim) → claim_of (books_of no_rows l).bare (books_of no_rows l).machine at words.table ≡ Ok claim → Counts story new false
       → IsVault o g sound (leased_ledger l (granted claim.table at l.leases)) new held (h ++ entry s number kind.Grant outcome.Stands m ∷ []) running refused
   granted_vault claim is counts =
       leased_vault o g sound l story held h running refused v (entry s number kind.Grant outcome.Stands m) new held running refused unmoved (granted claim.table at l.leases) (omega arith)
-      (granted_turn o sound (books_of v.rows l) story held h running refused v.walk s number low few name m ran at place moment new unmoved due claim is counts)
+      (granted_turn o sound (books_of v.rows l) story held h running refused v.walk s number low few words m ran at place moment new unmoved due claim is counts)
 
-  pub ungranted_vault : (cause : Cause) → HasNoClaim (books_of no_rows l) at name cause → Counts story new (is_read_fault cause) → (now : Bool) (new_held : Option (List ℕ)) → IsPut (block (entry s number kind.Grant (outcome_of cause) m) (Some (told_at at (reply_of cause)))) now held new_held
+  pub ungranted_vault : (cause : Cause) → HasNoClaim (books_of no_rows l) at words.table cause → Counts story new (is_read_fault cause) → (now : Bool) (new_held : Option (List ℕ)) → IsPut (block (entry s number kind.Grant (outcome_of cause) m) (Some (told_at at (reply_of cause)))) now held new_held
       → IsVault o g sound l new new_held (h ++ entry s number kind.Grant (outcome_of cause) m ∷ []) now (refused || is_refusal (reply_of cause))
   ungranted_vault cause has counts now new_held put =
       still_vault o g sound l story held h running refused v (entry s number kind.Grant (outcome_of cause) m) new new_held now (refused || is_refusal (reply_of cause)) unmoved
-      (ungranted_turn o sound (books_of v.rows l) story held h running refused v.walk s number low few name m ran at place moment new unmoved due cause (any_rows v.rows l at name cause has) counts now new_held put)
+      (ungranted_turn o sound (books_of v.rows l) story held h running refused v.walk s number low few words m ran at place moment new unmoved due cause (any_rows v.rows l at words.table cause has) counts now new_held put)
 
 -- ---- the engine behind it
 
@@ -118,45 +119,45 @@ claim_undamaged books at name Unwritten has = refl
 claim_undamaged books at name NoMemory has = refl
 
 module _ {K : Type 0} (held : K → Option (List ℕ)) (faults : K → ℕ) (n : Starts) (turns sinks : ℕ) (m : Memory) (story new : Story) (log later : Log K) (v : IsEngine held faults n turns sinks m story log) (unmoved : Unmoved story new)
-    (s number : ℕ) (low : s < 2 ^ 16) (few : number < 2 ^ 32) (name : List ℕ) (mo : ℕ) (moment : mo ≡ new.moment) (ran : not log.printer.broken ≡ true) (at : ℕ) (place : at ≡ length log.history.items)
-    (due : (w : Rows) → IsDue n.script (run_at n.script (n.start w) log.history.items) s number (command.Work name) First) (roomy : vec_capacity log.history ≤ vec_capacity later.history) where
+    (s number : ℕ) (low : s < 2 ^ 16) (few : number < 2 ^ 32) (words : WorkWords) (mo : ℕ) (moment : mo ≡ new.moment) (ran : not log.printer.broken ≡ true) (at : ℕ) (place : at ≡ length log.history.items)
+    (due : (w : Rows) → IsDue n.script (run_at n.script (n.start w) log.history.items) s number (command.Work words) First) (roomy : vec_capacity log.history ≤ vec_capacity later.history) where
   same_moment : mo ≡ story.moment
   same_moment = moment ∙ unmoved.moment
 
   not_earlier : story.moment ≤ new.moment
   not_earlier = let same = unmoved.moment in omega arith
 
-  pub granted_engine : (claim : Claim) (after : Memory) → claim_of (books_of no_rows m.ledger).bare (books_of no_rows m.ledger).machine at name ≡ Ok claim → Counts story new false → after ≡ with_leases (granted claim.table at m.ledger.leases) (at + 1) m
+  pub granted_engine : (claim : Claim) (after : Memory) → claim_of (books_of no_rows m.ledger).bare (books_of no_rows m.ledger).machine at words.table ≡ Ok claim → Counts story new false → after ≡ with_leases (granted claim.table at m.ledger.leases) (at + 1) m
       → later.history.items ≡ log.history.items ++ entry s number kind.Grant outcome.Stands mo ∷ [] → later.printer ≡ log.printer → later.refused ≡ log.refused → IsEngine held faults n turns sinks after new later
   granted_engine claim after is counts gives grew printer refused =
       passed_engine held faults n turns sinks m after story new log later (entry s number kind.Grant outcome.Stands mo) v grew roomy moment not_earlier (let same = ap (λ (x : Memory). x.leased) gives in omega (arith, same, place)) (λ w sound. refl) printer refused
       (λ w b ok. subst (λ (x : Memory). IsVault (outset_of n w) (n.origin w) b x.ledger new (held log.printer.sink) (log.history.items ++ entry s number kind.Grant outcome.Stands mo ∷ []) (not log.printer.broken) log.refused) (sym gives)
-      (granted_vault (outset_of n w) (n.origin w) b m.ledger story (held log.printer.sink) log.history.items (not log.printer.broken) log.refused (v.vault w b ok) s number low few name mo same_moment ran at place (due w) new unmoved claim is counts))
+      (granted_vault (outset_of n w) (n.origin w) b m.ledger story (held log.printer.sink) log.history.items (not log.printer.broken) log.refused (v.vault w b ok) s number low few words mo same_moment ran at place (due w) new unmoved claim is counts))
 
-  pub ungranted_engine : (cause : Cause) → HasNoClaim (books_of no_rows m.ledger) at name cause → Counts story new (is_read_fault cause) → later.history.items ≡ log.history.items ++ entry s number kind.Grant (outcome_of cause) mo ∷ []
+  pub ungranted_engine : (cause : Cause) → HasNoClaim (books_of no_rows m.ledger) at words.table cause → Counts story new (is_read_fault cause) → later.history.items ≡ log.history.items ++ entry s number kind.Grant (outcome_of cause) mo ∷ []
       → PrintsBlock held faults log.printer later.printer (entry s number kind.Grant (outcome_of cause) mo) (told_at at (reply_of cause)) → later.refused ≡ (log.refused || is_refusal (reply_of cause)) → IsEngine held faults n turns sinks m new later
   ungranted_engine cause has counts grew prints refused =
-      told_engine held faults n turns sinks m m story new log later (entry s number kind.Grant (outcome_of cause) mo) v grew roomy moment not_earlier (let leased = v.leased in omega arith) (λ w sound. claim_undamaged (books_of no_rows m.ledger) at name cause has) (told_at at (reply_of cause)) (is_refusal (reply_of cause)) prints refused
-      (λ put w b ok. ungranted_vault (outset_of n w) (n.origin w) b m.ledger story (held log.printer.sink) log.history.items (not log.printer.broken) log.refused (v.vault w b ok) s number low few name mo same_moment ran at place (due w) new unmoved cause has counts (not later.printer.broken) (held later.printer.sink) put)
+      told_engine held faults n turns sinks m m story new log later (entry s number kind.Grant (outcome_of cause) mo) v grew roomy moment not_earlier (let leased = v.leased in omega arith) (λ w sound. claim_undamaged (books_of no_rows m.ledger) at words.table cause has) (told_at at (reply_of cause)) (is_refusal (reply_of cause)) prints refused
+      (λ put w b ok. ungranted_vault (outset_of n w) (n.origin w) b m.ledger story (held log.printer.sink) log.history.items (not log.printer.broken) log.refused (v.vault w b ok) s number low few words mo same_moment ran at place (due w) new unmoved cause has counts (not later.printer.broken) (held later.printer.sink) put)
 
 -- ---- where it takes its session
 
 module _ (o : Outset) (g : Origin) (sound : Bool) (l : Ledger) (story : Story) (held : Option (List ℕ)) (h : List Entry) (running refused : Bool) (v : IsVault o g sound l story held h running refused)
-    (s number : ℕ) (low : s < 2 ^ 16) (few : number < 2 ^ 32) (name : List ℕ) (ran : running ≡ true) (at : ℕ) (place : at ≡ length h) (due : IsDue o.script (run_of o h) s number (command.Work name) First)
+    (s number : ℕ) (low : s < 2 ^ 16) (few : number < 2 ^ 32) (words : WorkWords) (ran : running ≡ true) (at : ℕ) (place : at ≡ length h) (due : IsDue o.script (run_of o h) s number (command.Work words) First)
     (new_story : Story) (unmoved : Unmoved story new_story) (clock : ℕ) (new : Shown) (moment : new.clock ≡ new_story.moment) (seen : IsSeen o.script o.start new) where
   abbrev old : Shown
   old = record { history = h; running = running; clock = clock }
 
-  pub granted_takes : (claim : Claim) → claim_of (books_of no_rows l).bare (books_of no_rows l).machine at name ≡ Ok claim → new.history ≡ h ++ entry s number kind.Grant outcome.Stands new.clock ∷ [] → Takes o.script o.start old new s number kind.Grant (Granted claim)
+  pub granted_takes : (claim : Claim) → claim_of (books_of no_rows l).bare (books_of no_rows l).machine at words.table ≡ Ok claim → new.history ≡ h ++ entry s number kind.Grant outcome.Stands new.clock ∷ [] → Takes o.script o.start old new s number kind.Grant (Granted claim)
   granted_takes claim is grew =
-      takes_as o.script o.start old new s number (command.Work name) First kind.Grant (Granted claim) due outcome.Stands
-      (ap (λ q. (grants (run_of o h).position (run_of o h).state q).stage) (claim_is o sound (books_of v.rows l) story held h running refused v.walk s number low few name new.clock ran at place ∙ is))
+      takes_as o.script o.start old new s number (command.Work words) First kind.Grant (Granted claim) due outcome.Stands
+      (ap (λ q. (grants (run_of o h).position (run_of o h).state q).stage) (claim_is o sound (books_of v.rows l) story held h running refused v.walk s number low few words new.clock ran at place ∙ is))
       grew (ap not (sym ran)) (λ on. ran) seen
 
-  pub ungranted_takes : (cause : Cause) → HasNoClaim (books_of no_rows l) at name cause → is_skip (outcome_of cause) ≡ false → new.history ≡ h ++ entry s number kind.Grant (outcome_of cause) new.clock ∷ [] → Takes o.script o.start old new s number kind.Grant Finished
+  pub ungranted_takes : (cause : Cause) → HasNoClaim (books_of no_rows l) at words.table cause → is_skip (outcome_of cause) ≡ false → new.history ≡ h ++ entry s number kind.Grant (outcome_of cause) new.clock ∷ [] → Takes o.script o.start old new s number kind.Grant Finished
   ungranted_takes cause has stands grew =
-      takes_as o.script o.start old new s number (command.Work name) First kind.Grant Finished due (outcome_of cause)
-      (ungranted_ends o sound (books_of v.rows l) story held h running refused v.walk s number low few name new.clock ran at place (moment ∙ unmoved.moment) new_story unmoved due cause (any_rows v.rows l at name cause has))
+      takes_as o.script o.start old new s number (command.Work words) First kind.Grant Finished due (outcome_of cause)
+      (ungranted_ends o sound (books_of v.rows l) story held h running refused v.walk s number low few words new.clock ran at place (moment ∙ unmoved.moment) new_story unmoved due cause (any_rows v.rows l at words.table cause has))
       grew (stands ∙ ap not (sym ran)) (λ on. ran) seen
 
 -- a turn that answers isn't skipped

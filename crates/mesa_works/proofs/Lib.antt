@@ -1,7 +1,7 @@
 pub mod Claims
 pub mod Grants
 pub mod Renewals
-pub mod WholeFiles
+mod Spares
 pub mod Sound
 pub mod Ranges
 pub mod Bounded

@@ -6,6 +6,7 @@ use Rattle.mesa_disk.specs.Image.{Image}
 use Rattle.mesa_disk.specs.Story.{Story}
 use Rattle.mesa_schema.specs.Changes.{Lineage, columns_of}
 use Rattle.mesa_schema.specs.Columns.{aggs_of}
+use Rattle.mesa_schema.specs.Folded.{rows_of}
 use Rattle.mesa_history.specs.Sources.{Source, range_rows}
 use Rattle.mesa_metadata.specs.mesa_image.Catalog.{Catalog, Stock, stock_at}
 use Rattle.mesa_metadata.specs.mesa_image.Contents.{present}
@@ -22,14 +23,13 @@ use Rattle.mesa_model.specs.declared.entries.Entry.{Entry}
 use Rattle.mesa_gather.specs.Gathered.{IsGathered, unread_view}
 use Rattle.mesa_swapping.specs.Finished.{GroupOnly, HasRange, sources_in}
 use Rattle.mesa_tasks.specs.Inputs.{present_parts}
-use Rattle.mesa_tasks.specs.Opening.{HaveOpened}
 use Rattle.mesa_tasks.specs.Tasks.{IsTask}
 use Rattle.mesa_tasks.specs.declared.merging.Task.{Task}
 use Rattle.mesa_ledger.specs.mesa_walk.Walk.{Outset}
-use Rattle.mesa_works.proofs.Sound.{IsSoundDelta, all_rows, none_met, none_own, same_folded, sound_deltas, sound_merged}
-use Rattle.mesa_works.proofs.WholeFiles.{OneFile}
+use Rattle.mesa_works.proofs.Sound.{IsSoundDelta, none_met, none_own, present_lifted, same_folded, sound_deltas, sound_merged, told_inputs}
+use Rattle.mesa_works.proofs.Bounded.{range_told}
 
-module _ (law : OneFile) (o : Outset) (g : Origin) (l : Ledger) (story : Story) (held : Option (List ℕ)) (h : List Entry) (running refused : Bool) (v : IsVault o g true l story held h running refused) (opened : l.closed ≡ None)
+module _ (o : Outset) (g : Origin) (l : Ledger) (story : Story) (held : Option (List ℕ)) (h : List Entry) (running refused : Bool) (v : IsVault o g true l story held h running refused) (opened : l.closed ≡ None)
     {R : Type 0} (bytes : R → Option (List ℕ)) (faults : R → ℕ) (t : Task R) (there : t.table < length l.catalogue.tables) (may : may_be_work l.catalogue (stock_at l.catalogue t.table) (is_base t.work) (first_of t.work) (last_of t.work) ≡ true)
     (task : IsTask bytes (stock_at l.catalogue t.table).lineage t) (numbers : List ℕ) (views : t.views.items ≡ map unread_view numbers) (gathered : IsGathered bytes faults story.told (stock_at l.catalogue t.table) t.work t) where
   abbrev c : Catalog
@@ -58,19 +58,16 @@ module _ (law : OneFile) (o : Outset) (g : Origin) (l : Ledger) (story : Story) 
 
   -- A task whose files are those of its range has none that is damaged.
   pub has_no_damage : t.damage ≡ None
-  has_no_damage = none_met law bytes faults story.told image told_is v.rows lin (merged_of u (is_base t.work) (last_of t.work)) sound gathered.wanted t.inputs.items t.damage gathered.are gathered.opened
-
-  undamaged : HaveOpened bytes faults story.told gathered.wanted t.inputs.items None
-  undamaged = subst (HaveOpened bytes faults story.told gathered.wanted t.inputs.items) has_no_damage gathered.opened
+  has_no_damage = none_met bytes faults story.told image told_is v.rows lin (merged_of u (is_base t.work) (last_of t.work)) sound gathered.wanted t.inputs.items t.damage gathered.are gathered.opened
 
   -- It has its range.
   pub has_range : HasRange bytes (stock_at l.catalogue t.table).lineage t (written_by o g.found h t.table)
   has_range = record {
     epochs = subst (λ e. AllByRecursion (λ (s : Source). s.epoch ≤ e) (sources_in t written)) (sym task.epoch) (epochs_written v.rows (written_by o g.found h) c v.shaped (v.sourced refl) t.table there (first_of t.work) (last_of t.work));
     rows = λ its merge.
-        merge.fold
-        ∙ same_folded (aggs_of (columns_of lin)) (present_parts t.inputs.items merge.parts) (map (present v.rows lin) (merged_of u (is_base t.work) (last_of t.work)))
-        (all_rows law bytes faults story.told image told_is v.rows lin (merged_of u (is_base t.work) (last_of t.work)) sound gathered.wanted t.inputs.items merge.parts gathered.are undamaged merge.whole)
+        let all = range_told o g l story held h running refused v opened bytes faults t there numbers views gathered has_no_damage in
+        merge all.0 (told_inputs bytes t.inputs.items all.0 all.1)
+        ∙ same_folded (aggs_of (columns_of lin)) (present_parts t.inputs.items all.0) (map (present v.rows lin) (merged_of u (is_base t.work) (last_of t.work))) (ap rows_of (present_lifted bytes t.inputs.items all.0) ∙ all.2)
         ∙ work_written v.rows (written_by o g.found h) c v.shaped (v.sourced refl) t.table there (is_base t.work) (first_of t.work) (last_of t.work) may
         ∙ ap (λ e. range_rows lin e (sources_in t written)) (sym task.epoch);
     views = subst (GroupOnly bytes (columns_of lin) (range_rows lin t.epoch (sources_in t written)) lin.views) (sym views) (none_own bytes (columns_of lin) (range_rows lin t.epoch (sources_in t written)) lin.views numbers);

@@ -26,10 +26,11 @@ use Rattle.mesa_ledger.proofs.Lists.{all_also, all_joined}
 use Rattle.mesa_pinning.specs.mesa_plans.Files.{Want, files_wanted, table_wanted, want_of}
 use Rattle.mesa_gather.specs.Gathered.{unread_view}
 use Rattle.mesa_swapping.specs.Finished.{GroupOnly}
-use Rattle.mesa_tasks.specs.Inputs.{HaveRows, present_parts}
+use Rattle.mesa_compact.specs.mesa_merge.Inputs.{AreTold, known_of, knowns_of, lifted_in, lifted_parts}
+use Rattle.mesa_tasks.specs.Inputs.{present_parts}
+use Rattle.mesa_tasks.specs.Inputs.{AreTold as AreToldInputs}
 use Rattle.mesa_tasks.specs.Opening.{HaveOpened, IsOpened, wanted_columns, wanted_layout}
 use Rattle.mesa_tasks.specs.declared.opening.Wanted.{Wanted}
-use Rattle.mesa_works.proofs.WholeFiles.{OneFile, some_same, whole_rows}
 
 -- ---- lists
 
@@ -73,25 +74,10 @@ sound_merged rows i l t false to all =
 
 -- ---- files that were opened
 
-module _ (law : OneFile) {R : Type 0} (bytes : R → Option (List ℕ)) (faults : R → ℕ) (told : Option Image) (i : Image) (told_is : told ≡ Some i) (rows : Rows) (l : Lineage) where
+module _ {R : Type 0} (bytes : R → Option (List ℕ)) (faults : R → ℕ) (told : Option Image) (i : Image) (told_is : told ≡ Some i) (rows : Rows) (l : Lineage) where
   -- a file that is wanted is sound
   sound_want : (w : Wanted) (file : FileRef) (epoch : ℕ) → want_of w ≡ record { file = file; lineage = l; epoch = epoch } → IsSoundFile rows i (record { columns = columns_at l epoch; file = file }) → IsSoundFile rows i (record { columns = wanted_columns w; file = w.file.now })
   sound_want w file epoch same sound = subst (λ (x : Want). IsSoundFile rows i (record { columns = columns_at x.lineage x.epoch; file = x.file })) (sym same) sound
-
-  -- all rows of one file, at present
-  one_whole : (w : Wanted) (file : FileRef) (epoch : ℕ) → want_of w ≡ record { file = file; lineage = l; epoch = epoch } → IsSoundFile rows i (record { columns = columns_at l epoch; file = file }) → (j : Input R) → IsOpened bytes faults told w j → (part : List Row)
-      → IsWhole (index_of j.reader) part (bytes (reader_in j)) → map (lift_by j) part ≡ map (lifted l epoch (epoch_of l)) (rows file.id)
-  one_whole w file epoch same sound j opened part whole =
-      let its = sound_want w file epoch same sound in
-      let content = opened.content i told_is in
-      let index = opened.index in
-      let bytes_are = some_same content.0 (bytes_of rows (record { columns = wanted_columns w; file = w.file.now })) (sym content.1 ∙ its.there) in
-      let all : part ≡ rows w.file.now.id =
-      whole_rows law w.file.now (wanted_layout w) index.0 (index_of j.reader) w.file.now.id (rows w.file.now.id) part content.0 index.1 its.told.file its.told.true bytes_are (subst (IsWhole (index_of j.reader) part) content.2 whole) in
-      let lineage : j.evolving.value ≡ l = opened.lineage ∙ ap (λ (x : Want). x.lineage) same in
-      let since : j.epoch ≡ epoch = opened.epoch ∙ ap (λ (x : Want). x.epoch) same in
-      let mine : part ≡ rows file.id = all ∙ ap (λ (x : Want). rows x.file.id) same in
-      λ k. map (λ (row : Row). lifted (lineage k) (since k) (epoch_of (lineage k)) row) (mine k)
 
   -- ---- no damage was met
 
@@ -112,30 +98,19 @@ module _ (law : OneFile) {R : Type 0} (bytes : R → Option (List ℕ)) (faults 
   none_met [] all (w ∷ ws) is d same have = absurd (cons_none _ _ same)
   none_met (d ∷ ds) all ws is x same have = none_behind d.epoch (flat_map (table_wanted l) ds) (none_met ds all.1) d.files all.0 ws is x same have
 
-  -- ---- all rows
-
-  module _ (epoch : ℕ) (more : List Want) (after : List Row)
-      (rest : (ws : List Wanted) (is : List (Input R)) (parts : List (List Row)) → map want_of ws ≡ more → HaveOpened bytes faults told ws is None → HaveRows bytes is parts → rows_of (present_parts is parts) ≡ after) where
-    rows_behind : (o : Option Files) → AllByRecursion (IsSoundFile rows i) (files_shelved l epoch o) → (ws : List Wanted) (is : List (Input R)) (parts : List (List Row)) → map want_of ws ≡ files_wanted l epoch o ++ more → HaveOpened bytes faults told ws is None
-        → HaveRows bytes is parts → rows_of (present_parts is parts) ≡ map (lifted l epoch (epoch_of l)) (rows_if_any rows o) ++ after
-    rows_behind None all ws is parts same have whole = rest ws is parts same have whole
-    rows_behind (Some f) all [] is parts same have whole = absurd (cons_none _ _ (sym same))
-    rows_behind (Some f) all (w ∷ ws) [] parts same have whole = absurd have
-    rows_behind (Some f) all (w ∷ ws) (j ∷ is) [] same have whole = absurd whole
-    rows_behind (Some f) all (w ∷ ws) (j ∷ is) (part ∷ parts) same have whole =
-        let one = one_whole w f.file epoch (head_same _ _ _ _ same) all.0 j have.0 part whole.0 in
-        let others = rest ws is parts (rest_same _ _ _ _ same) have.1 whole.1 in
-        λ k. one k ++ others k
-
-  pub all_rows : (ds : List Delta) → AllByRecursion (IsSoundDelta rows i l) ds → (ws : List Wanted) (is : List (Input R)) (parts : List (List Row)) → map want_of ws ≡ flat_map (table_wanted l) ds → HaveOpened bytes faults told ws is None → HaveRows bytes is parts
-      → rows_of (present_parts is parts) ≡ rows_of (map (present rows l) ds)
-  all_rows [] all [] [] [] same have whole = refl
-  all_rows [] all [] [] (part ∷ parts) same have whole = absurd whole
-  all_rows [] all [] (j ∷ is) parts same have whole = absurd have
-  all_rows [] all (w ∷ ws) is parts same have whole = absurd (cons_none _ _ same)
-  all_rows (d ∷ ds) all ws is parts same have whole = rows_behind d.epoch (flat_map (table_wanted l) ds) (rows_of (map (present rows l) ds)) (all_rows ds all.1) d.files all.0 ws is parts same have whole
-
 -- ---- folds, and views
+
+-- inputs that are told, as a merge knows them, and their rows at present
+pub told_inputs : {R : Type 0} (bytes : R → Option (List ℕ)) (is : List (Input R)) (parts : List (List Row)) → AreTold (knowns_of bytes is) parts → AreToldInputs bytes is parts
+told_inputs bytes [] [] told = tt
+told_inputs bytes [] (rows ∷ parts) told = absurd told
+told_inputs bytes (i ∷ is) [] told = absurd told
+told_inputs bytes (i ∷ is) (rows ∷ parts) told = (told.0, told_inputs bytes is parts told.1)
+
+pub present_lifted : {R : Type 0} (bytes : R → Option (List ℕ)) (is : List (Input R)) (parts : List (List Row)) → present_parts is parts ≡ lifted_parts (knowns_of bytes is) parts
+present_lifted bytes [] parts = refl
+present_lifted bytes (i ∷ is) [] = refl
+present_lifted bytes (i ∷ is) (rows ∷ parts) = λ k. map (lifted_in (known_of bytes i)) rows ∷ present_lifted bytes is parts k
 
 -- parts with the same rows fold to the same
 pub same_folded : (aggs : List Agg) (xs ys : List (List Row)) → rows_of xs ≡ rows_of ys → folded aggs xs ≡ folded aggs ys

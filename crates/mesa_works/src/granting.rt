@@ -1,5 +1,5 @@
 // A work's grant.
-ghost use Rattle.std.specs.Prelude.{◌≡◌, ◌≢◌, ◌+◌, ◌<◌, ◌≤◌, ◌^◌, ℕ, List, true, length, None, Some, Ok, IfOk, IfSome, OnOk};
+ghost use Rattle.std.specs.Prelude.{◌≡◌, ◌≢◌, ◌+◌, ◌-◌, ◌<◌, ◌≤◌, ◌^◌, ℕ, List, true, length, None, Some, Ok, IfOk, IfSome, OnOk};
 ghost use Rattle.mesa_compact.specs.Bounded.{IsBounded};
 ghost use Rattle.mesa_gather.specs.Gathered.{unread_views};
 ghost use Rattle.mesa_history.specs.Machine.{claim_of};
@@ -12,11 +12,13 @@ ghost use Rattle.mesa_ledger.specs.Ledger.{books_of};
 ghost use Rattle.mesa_log.specs.Failure.{cause_in};
 ghost use Rattle.mesa_metadata.specs.Memory.{with_leases};
 ghost use Rattle.mesa_model.specs.declared.commands.Command.TheVariants as command;
+ghost use Rattle.mesa_model.specs.declared.commands.WorkWords.{WorkWords};
 ghost use Rattle.mesa_model.specs.declared.entries.Kind.TheVariants as kind;
 ghost use Rattle.mesa_skeleton.specs.Rows.{Rows, no_rows};
 ghost use Rattle.mesa_span.specs.Ranges.{base_before};
 ghost use Rattle.mesa_span.specs.Work.{next_work};
 ghost use Rattle.mesa_swapping.specs.Finished.{HasRange};
+ghost use Rattle.mesa_tasks.specs.Spares.{HasSpares};
 ghost use Rattle.mesa_tasks.specs.Tasks.{IsTask, claim_in};
 ghost use Rattle.mesa_ledger.specs.mesa_walk.Turns.{AnswersDisk, SomeRose, Takes};
 ghost use Rattle.mesa_ledger.specs.mesa_walk.Walk.{run_at};
@@ -25,7 +27,6 @@ ghost use Rattle.mesa_works.specs.Claims.{cause_met, claim_as};
 ghost use Rattle.mesa_ledger.specs.Written.{written_at};
 
 use crate::claiming::{Claimed, claim};
-use mesa_delta::one_file;
 use mesa_disk::{Disk, Made};
 use mesa_engine::Engine;
 use mesa_gather::gather;
@@ -34,16 +35,16 @@ use mesa_lease::TABLES;
 use mesa_ledger::Naming;
 use mesa_log::{Failure, Who};
 use mesa_metadata::Metadata;
-use mesa_model::{Kind, Outcome, Refusal, Reply};
+use mesa_model::{Kind, Outcome, Refusal, Reply, WorkWords};
 use mesa_tasks::{Task, Unopened};
 
 /// The first turn of a work: its table has a lease from it on, and the files of its range are open; unless the vault has closed, there is no such table, another work has the table, there is nothing to merge, or a file couldn't be opened.
 pub fn grant<N: Naming, M: Made, D: Disk<M>, K: Sink>(
     engine: &mut Engine<N, M, D, K>,
     who: Who,
-    name: &[u8],
+    words: &WorkWords,
 ) -> Result<Task<D::Reader>, Reply>
-    requires due { IsDue N.script (run_at N.script (N.start no_rows) engine.old.shown.history) who.session who.command (command.Work name.now) First }
+    requires due { IsDue N.script (run_at N.script (N.start no_rows) engine.old.shown.history) who.session who.command (command.Work words.now) First }
     requires room { length engine.old.shown.history < N.room }
     ensures turn { Takes N.script (N.start no_rows) engine.old.shown engine.new.shown who.session who.command kind.Grant (stage_if claim_in Granted result) }
     ensures disk { AnswersDisk N.script (N.start no_rows) engine.old.shown engine.new.shown (SomeRose engine.old.faults engine.new.faults) }
@@ -58,6 +59,9 @@ pub fn grant<N: Naming, M: Made, D: Disk<M>, K: Sink>(
     ensures views { IfOk result (λ t. t.views.items ≡ unread_views 0 (length (stock_at engine.old.ledger.catalogue t.table).lineage.views)) }
     ensures damage { IfOk result (λ t. IfSome t.damage (λ d. d.want ≢ d.found)) }
 
+    // Each of its files is open once more for each further part of the merge, unless one of them is damaged.
+    ensures spare { IfOk result (HasSpares D.Reader.bytes (words.now.parts - 1)) }
+
     // On a sound store no file was damaged, no sum over them leaves its type, and it has all that was written in its range.
     ensures whole { (w : Rows) → N.sound w → IfOk result (λ t. t.damage ≡ None) }
     ensures bounded { (w : Rows) → N.sound w → IfOk result (λ t. IsBounded D.Reader.bytes (stock_at engine.old.ledger.catalogue t.table).lineage t) }
@@ -68,8 +72,8 @@ pub fn grant<N: Naming, M: Made, D: Disk<M>, K: Sink>(
         return Err(Reply::Refused(Refusal::Memory));
     }
     let at = engine.log.position();
-    match claim(&engine.metadata, name, at) {
-        Ok(claimed) => take(engine, who, claimed),
+    match claim(&engine.metadata, words.table.as_slice(), at) {
+        Ok(claimed) => take(engine, who, claimed, words.parts),
         Err(failure) => Err(engine.fail(who, Kind::Grant, failure)),
     }
 }
@@ -79,8 +83,9 @@ fn take<N: Naming, M: Made, D: Disk<M>, K: Sink>(
     engine: &mut Engine<N, M, D, K>,
     who: Who,
     claimed: Claimed,
+    parts: u8,
 ) -> Result<Task<D::Reader>, Reply>
-    requires due { (name : List ℕ) × IsDue N.script (run_at N.script (N.start no_rows) engine.old.shown.history) who.session who.command (command.Work name) First × (claim_of (books_of no_rows engine.old.ledger).bare (books_of no_rows engine.old.ledger).machine (length engine.old.shown.history) name ≡ Ok (claim_as engine.old.ledger claimed)) }
+    requires due { (words : WorkWords) × IsDue N.script (run_at N.script (N.start no_rows) engine.old.shown.history) who.session who.command (command.Work words) First × (claim_of (books_of no_rows engine.old.ledger).bare (books_of no_rows engine.old.ledger).machine (length engine.old.shown.history) words.table ≡ Ok (claim_as engine.old.ledger claimed)) }
     requires there { claimed.table < length engine.old.ledger.catalogue.tables }
     requires low { claimed.table < TABLES }
     requires free { holder engine.old.ledger.leases claimed.table (length engine.old.shown.history) ≡ None }
@@ -97,14 +102,21 @@ fn take<N: Naming, M: Made, D: Disk<M>, K: Sink>(
     ensures task { IfOk result (λ t. IsTask D.Reader.bytes (stock_at engine.old.ledger.catalogue claimed.table).lineage t) }
     ensures views { IfOk result (λ t. t.views.items ≡ unread_views 0 (length (stock_at engine.old.ledger.catalogue t.table).lineage.views)) }
     ensures damage { IfOk result (λ t. IfSome t.damage (λ d. d.want ≢ d.found)) }
+    ensures spare { IfOk result (HasSpares D.Reader.bytes (parts - 1)) }
     ensures whole { (w : Rows) → N.sound w → IfOk result (λ t. t.damage ≡ None) }
     ensures bounded { (w : Rows) → N.sound w → IfOk result (λ t. IsBounded D.Reader.bytes (stock_at engine.old.ledger.catalogue t.table).lineage t) }
     ensures range { (w : Rows) → N.sound w → IfOk result (λ t. HasRange D.Reader.bytes (stock_at engine.old.ledger.catalogue t.table).lineage t (written_at N.script (N.start w) (N.origin w) engine.new.shown.history t.table)) }
 {
-    one_file();
     let alloc = *engine.log.history.allocator();
     let table = engine.metadata.catalog().table(claimed.table);
-    let gathered = gather(alloc, &mut engine.disk, table, claimed.table, claimed.work);
+    let gathered = gather(
+        alloc,
+        &mut engine.disk,
+        table,
+        claimed.table,
+        claimed.work,
+        parts,
+    );
     let moment = engine.disk.clock();
     match gathered {
         Ok(mut task) => {

@@ -22,7 +22,7 @@ use mesa_lease::TABLES;
 use mesa_ledger::Naming;
 use mesa_log::Who;
 use mesa_metadata::Metadata;
-use mesa_model::{Kind, Outcome, Refusal, Reply};
+use mesa_model::{Kind, Outcome, Refusal, Reply, WorkWords};
 use mesa_tasks::Task;
 
 // Lets a claim's lease hold anew from the turn at the position on, or says why it doesn't.
@@ -53,10 +53,10 @@ fn claims<R>(metadata: &mut Metadata, task: &Task<R>, position: u64) -> Result<(
 pub fn renew<N: Naming, M: Made, D: Disk<M>, K: Sink>(
     engine: &mut Engine<N, M, D, K>,
     who: Who,
-    name: &[u8],
+    words: &WorkWords,
     task: Task<D::Reader>,
 ) -> Result<Task<D::Reader>, Reply>
-    requires due { IsDue N.script (run_at N.script (N.start no_rows) engine.old.shown.history) who.session who.command (command.Work name.now) (Granted (claim_in task)) }
+    requires due { IsDue N.script (run_at N.script (N.start no_rows) engine.old.shown.history) who.session who.command (command.Work words.now) (Granted (claim_in task)) }
     requires table { task.table < TABLES }
     requires room { length engine.old.shown.history < N.room }
     ensures turn { Takes N.script (N.start no_rows) engine.old.shown engine.new.shown who.session who.command kind.Renew (stage_if claim_in Renewed result) }

@@ -1,6 +1,6 @@
 use Rattle.std.proofs.Common.{◌≡◌, ◌<◌, ◌++◌, ◌∷◌, [], inl, inr, ℕ, List, map, refl, sym, ◌∙◌, ap, subst, true, false}
 use Rattle.std.specs.List.{AllByRecursion}
-use Rattle.std.specs.Prelude.{slice_get, Some}
+use Rattle.std.specs.Prelude.{slice_get, None, Some}
 use Rattle.mesa_value.specs.declared.Agg.TheVariants.{Sum}
 use Rattle.mesa_batch.specs.Totals.{abs_total, sum_bound}
 use Rattle.mesa_block.specs.Rows.{Rise}
@@ -14,7 +14,7 @@ use Rattle.mesa_delta.specs.declared.error.FileError.TheVariants.{Damaged}
 use Rattle.mesa_delta.specs.Writing.{HasTaken, columns_of}
 use Rattle.mesa_answer.specs.Answering.{KeepsSums}
 use Rattle.mesa_merge.specs.Inputs.{AreTold, knowns_of, lifted_parts}
-use Rattle.mesa_merge.specs.Merged.{HasMerged, failed_of, inputs_of}
+use Rattle.mesa_merge.specs.Merged.{HasMerged, IsGoing, failed_of, inputs_of}
 use Rattle.mesa_merge.specs.Sums.{sum_damage}
 use Rattle.mesa_merge.proofs.Ending.{AreFronts, givens_fronts}
 use Rattle.mesa_merge.proofs.Lasting.{last_there}
@@ -32,8 +32,8 @@ pub next-requires-after_bounds : goal.next-requires-after_bounds
 next-requires-after_bounds g c = λ _ _.
     let start = c.requires.pouring in
     let now = c.rows.invariant.poured start.0 start.1 start.2 start.3 in
-    let all : (s : Columns) × (givens : List (List Row)) × HasMerged g.R.FileReader.bytes s c.rows.merge givens = (columns_of c.rows.writer, now.0, now.1) in
-    (if_none_from (failed_of c.rows.merge) ((s : Columns) × (givens : List (List Row)) × HasMerged g.R.FileReader.bytes s c.rows.merge givens) all)
+    let all : IsGoing g.R.FileReader.bytes c.rows.merge = (None, None, columns_of c.rows.writer, now.0, now.1) in
+    if_none_from (failed_of c.rows.merge) (IsGoing g.R.FileReader.bytes c.rows.merge) all
 
 pub last_file-newest-requires-after_bounds : goal.last_file-newest-requires-after_bounds
 last_file-newest-requires-after_bounds g c = λ _ _.
@@ -185,11 +185,11 @@ returns-then-not-allows-clause-accepts g c = λ d e givens h taken put contents 
     let next = goes_on g.R.FileReader.bytes _ _ _ _ _ _ (c.in-Ok.ensures.next now.1.going) c.if-not-more.false c.row-row.ensures s now.0 now.1 in
     let known : knowns_of bytes (inputs_of c.next.new.self) ≡ knowns_of bytes (inputs_of c.args.merge.now) = answer.known ∙ inv.known in
     let parts : List (List Row) = lifted_parts (knowns_of bytes (inputs_of c.next.new.self)) contents in
-    let fronts : AreFronts next.0 parts = givens_fronts bytes (inputs_of c.next.new.self) _ next.0 contents next.1.given (subst (λ ks. AreTold ks contents) (sym known) told) in
+    let fronts : AreFronts None next.0 parts = givens_fronts bytes None (inputs_of c.next.new.self) _ next.0 contents next.1.given (subst (λ ks. AreTold ks contents) (sym known) told) in
     let keeps : KeepsBound (aggs_of s) [] (rows_of parts) = subst (λ (t : Columns). KeepsBound (aggs_of t) [] (rows_of parts)) (sym inv.columns)
     (subst (λ ks. KeepsBound (aggs_of (columns_of c.args.writer.now)) [] (rows_of (lifted_parts ks contents))) (sym known) bound) in
     let all : (k : ℕ) → slice_get (aggs_of s) k ≡ Some Sum → abs_total k (folded (aggs_of s) now.0 ++ row ∷ []) < sum_bound =
-    subst (λ rows. (k : ℕ) → slice_get (aggs_of s) k ≡ Some Sum → abs_total k rows < sum_bound) next.2 (folded_bound c.folds_totals.ensures s next.0 parts (merged_formed bytes s c.next.new.self next.0 next.1) fronts keeps) in
+    subst (λ rows. (k : ℕ) → slice_get (aggs_of s) k ≡ Some Sum → abs_total k rows < sum_bound) next.2 (folded_bound c.folds_totals.ensures s None next.0 parts (merged_formed bytes s c.next.new.self next.0 next.1) fronts keeps) in
     let no : false ≡ true = sym c.if-not-allows.true ∙ (c.allows.ensures (folded (aggs_of s) now.0) now.2).1 (λ _. sums_follow s (folded (aggs_of s) now.0) row (taken_form s _ now.2.good) all) in
     cc
 
@@ -232,11 +232,11 @@ returns-in-Err-put_all-clause-accepts g c = λ d e givens h taken put contents t
     let next = goes_on g.R.FileReader.bytes _ _ _ _ _ _ (c.in-Ok.ensures.next now.1.going) c.if-not-more.false c.row-row.ensures s now.0 now.1 in
     let known : knowns_of bytes (inputs_of c.next.new.self) ≡ knowns_of bytes (inputs_of c.args.merge.now) = answer.known ∙ inv.known in
     let parts : List (List Row) = lifted_parts (knowns_of bytes (inputs_of c.next.new.self)) contents in
-    let fronts : AreFronts next.0 parts = givens_fronts bytes (inputs_of c.next.new.self) _ next.0 contents next.1.given (subst (λ ks. AreTold ks contents) (sym known) told) in
+    let fronts : AreFronts None next.0 parts = givens_fronts bytes None (inputs_of c.next.new.self) _ next.0 contents next.1.given (subst (λ ks. AreTold ks contents) (sym known) told) in
     let keeps : KeepsBound (aggs_of s) [] (rows_of parts) = subst (λ (t : Columns). KeepsBound (aggs_of t) [] (rows_of parts)) (sym inv.columns)
     (subst (λ ks. KeepsBound (aggs_of (columns_of c.args.writer.now)) [] (rows_of (lifted_parts ks contents))) (sym known) bound) in
     let all : KeepsSums s (folded (aggs_of s) now.0 ++ row ∷ []) =
-    subst (KeepsSums s) next.2 (folded_bound c.folds_totals.ensures s next.0 parts (merged_formed bytes s c.next.new.self next.0 next.1) fronts keeps) in
+    subst (KeepsSums s) next.2 (folded_bound c.folds_totals.ensures s None next.0 parts (merged_formed bytes s c.next.new.self next.0 next.1) fronts keeps) in
     let is : c.in-Err-put_all.unfit ≡ Damaged d = cc in
     c.in-Err-put_all.ensures.never d is s (folded (aggs_of s) now.0) now.3 (takes_kept s c.args.groups.now c.rows.groups inv.wanted (subst (λ (t : Columns). AllByRecursion (TakesRows t) c.args.groups.now) (sym inv.columns) c.requires.takes)) all
 

@@ -23,12 +23,12 @@ use Rattle.mesa_compact.proofs.Causing.{caused_memory}
 use Rattle.mesa_compact.proofs.Viewing.{drafts_more, drafts_more_of, mergeable, of_table, sources_kept, table_kept, views_count}
 use Rattle.mesa_compact.proofs.task.merge_files.Goals as goal
 
-pub gatherers-requires-clause-count : goal.gatherers-requires-clause-count
-gatherers-requires-clause-count g c = λ _ _.
+pub gatherers_of-requires-clause-count : goal.gatherers_of-requires-clause-count
+gatherers_of-requires-clause-count g c = λ _ _.
     ap length c.deref.ensures.value ∙ c.in-Ok.ensures.seen.count ∙ sym (views_count g.R.FileReader.bytes (columns_of c.args.evolving.now) 0 c.args.evolving.now.views c.args.views.now c.requires.views)
 
-pub gatherers-requires-clause-places : goal.gatherers-requires-clause-places
-gatherers-requires-clause-places g c = λ _ _.
+pub gatherers_of-requires-clause-places : goal.gatherers_of-requires-clause-places
+gatherers_of-requires-clause-places g c = λ _ _.
     subst (λ (s : Columns). AllByRecursion (ArePlaces s) c.deref.result.now) (sym c.present.ensures.columns) (subst (AllByRecursion (ArePlaces (columns_of c.args.evolving.now))) (sym c.deref.ensures.value) c.in-Ok.ensures.places)
 
 pub merged_file-requires-clause-inputs : goal.merged_file-requires-clause-inputs
@@ -42,15 +42,15 @@ view_files-requires-clause-sources g c = λ _ _.
     let s = columns_of c.args.evolving.now in
     let vs = c.args.evolving.now.views in
     let ts = c.args.views.now in
-    let groups = c.in-Ok-gatherers.groups in
+    let groups = c.in-Ok-gatherers_of.groups in
     let seen : AreSeen c.present.result.now vs c.deref.result.now = subst (λ (t : Columns). AreSeen t vs c.deref.result.now) (sym c.present.ensures.columns) (subst (AreSeen s vs) (sym c.deref.ensures.value) c.in-Ok.ensures.seen) in
-    let first : AreSources s vs ts groups.items = subst (λ (t : Columns). AreSources t vs ts groups.items) c.present.ensures.columns (c.in-Ok-gatherers.ensures.sources vs seen) in
+    let first : AreSources s vs ts groups.items = subst (λ (t : Columns). AreSources t vs ts groups.items) c.present.ensures.columns (c.in-Ok-gatherers_of.ensures.sources vs seen) in
     let now : AreSources s vs ts c.merged_file.new.groups = sources_kept s vs ts groups.items c.merged_file.new.groups first (c.in-Ok-merged_file.ensures.wanted ∙ ap (map wanted_in) c.deref_mut.ensures.value) in
     subst (AreSources s vs ts) (sym (refill groups.len groups.items c.merged_file.new.groups (sym groups.ok.0) (c.merged_file.auto.groups ∙ ap length c.deref_mut.ensures.value))) now
 
 pub view_files-requires-clause-put : goal.view_files-requires-clause-put
 view_files-requires-clause-put g c = λ _ _.
-    let groups = c.in-Ok-gatherers.groups in
+    let groups = c.in-Ok-gatherers_of.groups in
     let merged = c.in-Ok-merged_file.ensures.made in
     (merged.0, merged.2.rows.some, subst (λ (gs : List (Option Groups)). HavePut gs merged.0) (sym (refill groups.len groups.items c.merged_file.new.groups (sym groups.ok.0) (c.merged_file.auto.groups ∙ ap length c.deref_mut.ensures.value))) merged.3)
 
@@ -60,11 +60,11 @@ returns-in_default-clause-causes g c = caused_memory _ _ _ _ _ refl refl
 pub returns-in_default-clause-ids : goal.returns-in_default-clause-ids
 returns-in_default-clause-ids g c = (0, refl)
 
-pub returns-in_default-gatherers-clause-causes : goal.returns-in_default-gatherers-clause-causes
-returns-in_default-gatherers-clause-causes g c = caused_memory _ _ _ _ _ refl refl
+pub returns-in_default-gatherers_of-clause-causes : goal.returns-in_default-gatherers_of-clause-causes
+returns-in_default-gatherers_of-clause-causes g c = caused_memory _ _ _ _ _ refl refl
 
-pub returns-in_default-gatherers-clause-ids : goal.returns-in_default-gatherers-clause-ids
-returns-in_default-gatherers-clause-ids g c = (0, refl)
+pub returns-in_default-gatherers_of-clause-ids : goal.returns-in_default-gatherers_of-clause-ids
+returns-in_default-gatherers_of-clause-ids g c = (0, refl)
 
 -- ---- the table's file is not written
 
@@ -86,7 +86,7 @@ returns-in-Err-clause-accepts g c = λ d e bounded views.
 
 pub returns-in-Ok-view_files-clause-made : goal.returns-in-Ok-view_files-clause-made
 returns-in-Ok-view_files-clause-made g c =
-    let groups = c.in-Ok-gatherers.groups in
+    let groups = c.in-Ok-gatherers_of.groups in
     let merged = c.in-Ok-merged_file.ensures.made in
     let now = c.present-2.ensures.columns in (
       merged.0,
@@ -131,7 +131,7 @@ returns-clause-inputs_kept g c = table_kept g.R.FileReader.bytes c.args.evolving
 
 pub returns-clause-accepts : goal.returns-clause-accepts
 returns-clause-accepts g c = λ d e bounded views.
-    let groups = c.in-Ok-gatherers.groups in
+    let groups = c.in-Ok-gatherers_of.groups in
     let merged = c.in-Ok-merged_file.ensures.made in
     let now = c.present-2.ensures.columns in
     let known = knowns_of g.R.FileReader.bytes c.args.inputs.now.items in

@@ -1,5 +1,10 @@
-use Rattle.std.proofs.Common.{inl, inr, refl}
-use Rattle.mesa_compact.proofs.Causing.{caused_damage, caused_on, same_end}
+use Rattle.std.proofs.Common.{◌++◌, ap, flat_map, inl, inr, refl}
+use Rattle.std.specs.Prelude.{Vec}
+use Rattle.std.specs.declared.alloc.Global.{Global}
+use Rattle.mesa_tasks.specs.GivingBack.{own_inputs}
+use Rattle.mesa_tasks.specs.declared.merging.Spare.{Spare}
+use Rattle.mesa_compact.proofs.Causing.{caused_damage, same_end}
+use Rattle.mesa_compact.proofs.Tasking.{caused_spare}
 use Rattle.mesa_compact.proofs.task.merge_task.Goals as goal
 
 pub returns-in-Some-clause-causes : goal.returns-in-Some-clause-causes
@@ -9,4 +14,8 @@ pub returns-in-Some-clause-ids : goal.returns-in-Some-clause-ids
 returns-in-Some-clause-ids g c = (0, refl)
 
 pub returns-in-None-clause-causes : goal.returns-in-None-clause-causes
-returns-in-None-clause-causes g c = caused_on _ _ _ _ _ _ _ _ c.merge_sound.result c.merge_sound.result refl refl c.merge_sound.ensures.causes (same_end c.merge_sound.result) (λ d told. inr (c.in-None.is, told))
+returns-in-None-clause-causes g c =
+    let old = c.args.task.now in
+    let new = c.merge_sound.new.task in
+    caused_spare g.R.FileReader.faults _ _ _ _ (old.inputs.items ++ flat_map own_inputs old.views.items) (new.inputs.items ++ flat_map own_inputs new.views.items) old.spare.items new.spare.items c.merge_sound.result c.merge_sound.result
+    (ap (λ (v : Vec (Spare g.row.R.Denot) Global). v.items) c.merge_sound.ensures.spare) c.merge_sound.ensures.causes (same_end c.merge_sound.result) (λ d told. inr (c.in-None.is, told))

@@ -9,15 +9,16 @@ use Rattle.mesa_ledger.specs.mesa_walk.Turns.{AnswersDisk, AnswersDraft, Shown, 
 use Rattle.mesa_ledger.proofs.mesa_walk.Alike.{due_alike}
 use Rattle.mesa_ledger.proofs.mesa_walk.Faulting.{disk_also, rose_still}
 use Rattle.mesa_tasks.specs.Tasks.{claim_in}
+use Rattle.mesa_completing.specs.Swept.{IsSwept}
 use Rattle.mesa_completing.proofs.completing.complete.Goals as goal
 
 pub skip-requires-clause-due : goal.skip-requires-clause-due
 skip-requires-clause-due g c κs within w =
     let N = g.N.Naming in
     record {
-      asked = command.Work c.args.name.now;
+      asked = command.Work c.args.words.now;
       stage = Renewed (claim_in c.args.task);
-      due = due_alike N.script (N.start no_rows) (N.start w) c.args.engine.now.shown.history c.args.who.session c.args.who.command (command.Work c.args.name.now) (Renewed (claim_in c.args.task)) (N.alike w) refl c.requires.due;
+      due = due_alike N.script (N.start no_rows) (N.start w) c.args.engine.now.shown.history c.args.who.session c.args.who.command (command.Work c.args.words.now) (Renewed (claim_in c.args.task)) (N.alike w) refl c.requires.due;
       comes = refl;
     }
 
@@ -39,3 +40,11 @@ returns-clause-disk g c =
     let now = c.give_back-2.new.engine in
     subst (λ (x : Shown). AnswersDisk N.script (N.start no_rows) old.shown x (SomeRose old.faults now.faults)) (sym c.give_back-2.ensures.shown)
     (disk_also N.script (N.start no_rows) old.shown met.shown (λ (rose : SomeRose old.faults met.faults). rose_still old.faults met.faults now.faults rose c.give_back-2.ensures.faults) c.close-reply.ensures.disk)
+
+pub returns-clause-swept : goal.returns-clause-swept
+returns-clause-swept g c = λ from to is.
+    let met = c.close-reply.new.engine in
+    let now = c.give_back-2.new.engine in
+    subst (λ (x : Shown). IsSwept now.told now.ledger x.history) (sym c.give_back-2.ensures.shown)
+    (subst (λ l. IsSwept now.told l met.shown.history) (sym c.give_back-2.ensures.ledger)
+    (subst (λ t. IsSwept t met.ledger met.shown.history) (sym c.give_back-2.ensures.told) (c.close-reply.ensures.swept from to is)))

@@ -40,13 +40,13 @@ kept g c =
     let i = c.engine.inside in
     let s = c.args.who.session in
     let number = c.args.who.command in
-    let name = c.requires.due.0 in
+    let words = c.requires.due.0 in
     let claim = claim_in c.args.task.now in
     let h = i.log.history.items in
     let has = subst (λ (x : Standing). HasNotSwapped (books_of no_rows x.ledger) (length x.shown.history) claim c.args.why) (sym c.engine.view_is) c.requires.why in
     unswapped_engine g.K.Sink.held g.K.Sink.faults n N.room N.sink_faults i.metadata c.fall-failure.new.metadata (g.D.Disk.story i.disk) i.log c.fail.new.self c.engine.invariant
-    s number c.fail.ensures.short.session c.fail.ensures.short.command name c.clock-moment.result c.clock-moment.ensures (runs g c) claim
-    (λ w. due_alike N.script (N.start no_rows) (N.start w) h s number (command.Work name) (Renewed claim) (N.alike w) refl (due_at g c))
+    s number c.fail.ensures.short.session c.fail.ensures.short.command words c.clock-moment.result c.clock-moment.ensures (runs g c) claim
+    (λ w. due_alike N.script (N.start no_rows) (N.start w) h s number (command.Work words) (Renewed claim) (N.alike w) refl (due_at g c))
     c.args.why has (cause_in c.fall-failure.result) c.fall-failure.ensures.cause c.fail.ensures.items c.fail.ensures.room c.fall-failure.ensures.after c.fail.ensures.told c.fail.ensures.refused
 
 pub invariant_of-engine : goal.invariant_of-engine

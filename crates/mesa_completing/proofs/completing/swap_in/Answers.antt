@@ -239,11 +239,11 @@ kept_done g c =
     let finished : IsFinished bytes g.M.Made.id_of read was (stock_at l.catalogue t.table).lineage t c.args.delta =
     subst (λ (x : Standing). IsFinished bytes g.M.Made.id_of read was (stock_at x.ledger.catalogue t.table).lineage t c.args.delta) (sym c.engine.view_is) c.requires.finished.1 in
     let is : IsSwapped bytes read l was t s = c.in-Ok.ensures.swapped was finished in
-    let name = c.requires.due.0 in
+    let words = c.requires.due.0 in
     let session = c.args.who.session in
     let number = c.args.who.command in
-    let due : IsDue N.script (run_at N.script (N.start no_rows) h) session number (command.Work name) (Renewed (claim_in t)) =
-    subst (λ (x : Standing). IsDue N.script (run_at N.script (N.start no_rows) x.shown.history) session number (command.Work name) (Renewed (claim_in t))) (sym c.engine.view_is) c.requires.due.1 in
+    let due : IsDue N.script (run_at N.script (N.start no_rows) h) session number (command.Work words) (Renewed (claim_in t)) =
+    subst (λ (x : Standing). IsDue N.script (run_at N.script (N.start no_rows) x.shown.history) session number (command.Work words) (Renewed (claim_in t))) (sym c.engine.view_is) c.requires.due.1 in
     let has : (w : Rows) → n.sound w → HasRange read was t (written_by (outset_of n w) (n.origin w).found h t.table) =
     λ w sound. subst (λ (x : Standing). HasRange read was t (written_at N.script (N.start w) (N.origin w) x.shown.history t.table)) (sym c.engine.view_is) (c.requires.finished.2 w sound) in
     let tell = λ (w : Rows) (sound : n.sound w). all_tell bytes (c.requires.told w sound) s.made.items in
@@ -277,7 +277,7 @@ kept_done g c =
     }))) in
     let typed = (record_found body s.entry c.in-Ok.ensures.bytes c.in-Ok.ensures.reads).0.typed in
     let calls = does.read_cause in
-    let due_for = λ (w : Rows). due_alike N.script (N.start no_rows) (N.start w) h session number (command.Work name) (Renewed (claim_in t)) (N.alike w) refl due in
+    let due_for = λ (w : Rows). due_alike N.script (N.start no_rows) (N.start w) h session number (command.Work words) (Renewed (claim_in t)) (N.alike w) refl due in
     let end = c.in-Ok-write_record.end in
     let later = c.tell.new.self in
     let short : IsShort (entry session number kind.Close outcome.Stands c.clock.result) = subst IsShort c.turn-turn.ensures.same c.turn-turn.ensures.short in
@@ -297,7 +297,7 @@ kept_done g c =
     let prints = subst (λ p. PrintsBlock g.K.Sink.held g.K.Sink.faults i.log.printer later.printer (entry session number kind.Close outcome.Stands c.clock.result) (told_at p (swapped_reply t.work))) place
     (subst (λ x. PrintsBlock g.K.Sink.held g.K.Sink.faults i.log.printer later.printer x (told_at c.position-at.result (swapped_reply t.work))) c.turn-turn.ensures.same
     (subst (λ x. PrintsBlock g.K.Sink.held g.K.Sink.faults i.log.printer later.printer c.turn-turn.result (told_at c.position-at.result x)) c.range_of-reply.ensures told)) in
-    swapped_engine g.K.Sink.held g.K.Sink.faults n N.room N.sink_faults i.metadata story i.log c.engine.invariant bytes read was t s is holds session number short.session short.command ran typed name due_for has tell body c.in-Ok.ensures.bytes c.in-Ok.ensures.reads new worked
+    swapped_engine g.K.Sink.held g.K.Sink.faults n N.room N.sink_faults i.metadata story i.log c.engine.invariant bytes read was t s is holds session number short.session short.command ran typed words due_for has tell body c.in-Ok.ensures.bytes c.in-Ok.ensures.reads new worked
     c.clock.result c.clock.ensures c.end_lease.new.self later end whole counts ledger_is rises leased grew c.tell.ensures.room prints (c.tell.ensures.refused ∙ ap (λ x. i.log.refused || is_refusal x) c.range_of-reply.ensures)
 
 pub invariant_of-engine-in-Ok-write_record : goal.invariant_of-engine-in-Ok-write_record
@@ -326,17 +326,17 @@ returns-in-Ok-write_record g c =
     let h = i.log.history.items in
     let session = c.args.who.session in
     let number = c.args.who.command in
-    let name = c.requires.due.0 in
+    let words = c.requires.due.0 in
     let new = g.D.Disk.story c.write_record.new.disk in
     let later = c.tell.new.self in
-    let due : IsDue N.script (run_at N.script (N.start no_rows) h) session number (command.Work name) (Renewed (claim_in t)) =
-    subst (λ (x : Standing). IsDue N.script (run_at N.script (N.start no_rows) x.shown.history) session number (command.Work name) (Renewed (claim_in t))) (sym c.engine.view_is) c.requires.due.1 in
+    let due : IsDue N.script (run_at N.script (N.start no_rows) h) session number (command.Work words) (Renewed (claim_in t)) =
+    subst (λ (x : Standing). IsDue N.script (run_at N.script (N.start no_rows) x.shown.history) session number (command.Work words) (Renewed (claim_in t))) (sym c.engine.view_is) c.requires.due.1 in
     let ran : not i.log.printer.broken ≡ true = ap (λ (x : Standing). x.shown.running) c.engine.view_is ∙ c.requires.runs in
     let grew = c.tell.ensures.items ∙ ap (λ x. h ++ x ∷ []) c.turn-turn.ensures.same in
     let seen : Shown = record { history = later.history.items; running = not later.printer.broken; clock = new.moment } in
     record {
       turn = subst (λ (x : Standing). Takes N.script (N.start no_rows) x.shown seen session number kind.Close Finished) c.engine.view_is
-          (closed_takes n no_rows (record { history = h; running = not i.log.printer.broken; clock = (g.D.Disk.story i.disk).moment }) seen session number name (claim_in t) due (Replies (swapped_reply t.work))
+          (closed_takes n no_rows (record { history = h; running = not i.log.printer.broken; clock = (g.D.Disk.story i.disk).moment }) seen session number words (claim_in t) due (Replies (swapped_reply t.work))
           (grew ∙ ap (λ x. h ++ entry session number kind.Close outcome.Stands x ∷ []) c.clock.ensures) ran
           (vault_at_seen n c.end_lease.new.self.ledger new (g.K.Sink.held later.printer.sink) later.history.items (not later.printer.broken) later.refused new.moment (kept_done g c).vault));
       draft = subst (λ (x : Standing). AnswersDraft N.script (N.start no_rows) x.shown seen session ⊥) c.engine.view_is
@@ -371,11 +371,11 @@ kept_failed g c =
     let finished : IsFinished bytes g.M.Made.id_of read was (stock_at l.catalogue t.table).lineage t c.args.delta =
     subst (λ (x : Standing). IsFinished bytes g.M.Made.id_of read was (stock_at x.ledger.catalogue t.table).lineage t c.args.delta) (sym c.engine.view_is) c.requires.finished.1 in
     let is : IsSwapped bytes read l was t s = c.in-Ok.ensures.swapped was finished in
-    let name = c.requires.due.0 in
+    let words = c.requires.due.0 in
     let session = c.args.who.session in
     let number = c.args.who.command in
-    let due : IsDue N.script (run_at N.script (N.start no_rows) h) session number (command.Work name) (Renewed (claim_in t)) =
-    subst (λ (x : Standing). IsDue N.script (run_at N.script (N.start no_rows) x.shown.history) session number (command.Work name) (Renewed (claim_in t))) (sym c.engine.view_is) c.requires.due.1 in
+    let due : IsDue N.script (run_at N.script (N.start no_rows) h) session number (command.Work words) (Renewed (claim_in t)) =
+    subst (λ (x : Standing). IsDue N.script (run_at N.script (N.start no_rows) x.shown.history) session number (command.Work words) (Renewed (claim_in t))) (sym c.engine.view_is) c.requires.due.1 in
     let has : (w : Rows) → n.sound w → HasRange read was t (written_by (outset_of n w) (n.origin w).found h t.table) =
     λ w sound. subst (λ (x : Standing). HasRange read was t (written_at N.script (N.start w) (N.origin w) x.shown.history t.table)) (sym c.engine.view_is) (c.requires.finished.2 w sound) in
     let tell = λ (w : Rows) (sound : n.sound w). all_tell bytes (c.requires.told w sound) s.made.items in
@@ -409,7 +409,7 @@ kept_failed g c =
     }))) in
     let typed = (record_found body s.entry c.in-Ok.ensures.bytes c.in-Ok.ensures.reads).0.typed in
     let calls = does.read_cause in
-    let due_for = λ (w : Rows). due_alike N.script (N.start no_rows) (N.start w) h session number (command.Work name) (Renewed (claim_in t)) (N.alike w) refl due in
+    let due_for = λ (w : Rows). due_alike N.script (N.start no_rows) (N.start w) h session number (command.Work words) (Renewed (claim_in t)) (N.alike w) refl due in
     let later = c.fail-in-Err-write_record.new.self in
     let told = c.fail-in-Err-write_record.ensures in
     let after = c.end_lease-in-Err-write_record.new.self in
@@ -418,7 +418,7 @@ kept_failed g c =
     let ledger_is : after.ledger ≡ failed_ledger l (length h) (ended t.table t.lease l.leases) s.adopted =
     ap (λ (m : Memory). m.ledger) c.end_lease-in-Err-write_record.ensures ∙ ap (λ (k : Ledger). leased_ledger k (ended t.table t.lease k.leases)) failed_is in
     let leased : after.leased ≡ i.metadata.leased = ap (λ (m : Memory). m.leased) c.end_lease-in-Err-write_record.ensures ∙ ap (λ (m : Memory). m.leased) c.fail.ensures ∙ ap (λ (m : Memory). m.leased) reserved in
-    unswapped_engine g.K.Sink.held g.K.Sink.faults n N.room N.sink_faults i.metadata story i.log c.engine.invariant bytes read was t s is holds session number told.short.session told.short.command ran typed name due_for has tell body c.in-Ok.ensures.bytes c.in-Ok.ensures.reads new worked
+    unswapped_engine g.K.Sink.held g.K.Sink.faults n N.room N.sink_faults i.metadata story i.log c.engine.invariant bytes read was t s is holds session number told.short.session told.short.command ran typed words due_for has tell body c.in-Ok.ensures.bytes c.in-Ok.ensures.reads new worked
     c.clock-moment.result c.clock-moment.ensures after later counts ledger_is leased told.items told.room told.told told.refused
 
 pub invariant_of-engine-in-Err-write_record : goal.invariant_of-engine-in-Err-write_record
@@ -442,11 +442,11 @@ returns g c =
     let finished : IsFinished bytes g.M.Made.id_of read was (stock_at l.catalogue t.table).lineage t c.args.delta =
     subst (λ (x : Standing). IsFinished bytes g.M.Made.id_of read was (stock_at x.ledger.catalogue t.table).lineage t c.args.delta) (sym c.engine.view_is) c.requires.finished.1 in
     let is : IsSwapped bytes read l was t s = c.in-Ok.ensures.swapped was finished in
-    let name = c.requires.due.0 in
+    let words = c.requires.due.0 in
     let session = c.args.who.session in
     let number = c.args.who.command in
-    let due : IsDue N.script (run_at N.script (N.start no_rows) h) session number (command.Work name) (Renewed (claim_in t)) =
-    subst (λ (x : Standing). IsDue N.script (run_at N.script (N.start no_rows) x.shown.history) session number (command.Work name) (Renewed (claim_in t))) (sym c.engine.view_is) c.requires.due.1 in
+    let due : IsDue N.script (run_at N.script (N.start no_rows) h) session number (command.Work words) (Renewed (claim_in t)) =
+    subst (λ (x : Standing). IsDue N.script (run_at N.script (N.start no_rows) x.shown.history) session number (command.Work words) (Renewed (claim_in t))) (sym c.engine.view_is) c.requires.due.1 in
     let has : (w : Rows) → n.sound w → HasRange read was t (written_by (outset_of n w) (n.origin w).found h t.table) =
     λ w sound. subst (λ (x : Standing). HasRange read was t (written_at N.script (N.start w) (N.origin w) x.shown.history t.table)) (sym c.engine.view_is) (c.requires.finished.2 w sound) in
     let tell = λ (w : Rows) (sound : n.sound w). all_tell bytes (c.requires.told w sound) s.made.items in
@@ -480,7 +480,7 @@ returns g c =
     }))) in
     let typed = (record_found body s.entry c.in-Ok.ensures.bytes c.in-Ok.ensures.reads).0.typed in
     let calls = does.read_cause in
-    let due_for = λ (w : Rows). due_alike N.script (N.start no_rows) (N.start w) h session number (command.Work name) (Renewed (claim_in t)) (N.alike w) refl due in
+    let due_for = λ (w : Rows). due_alike N.script (N.start no_rows) (N.start w) h session number (command.Work words) (Renewed (claim_in t)) (N.alike w) refl due in
     let later = c.fail-in-Err-write_record.new.self in
     let told = c.fail-in-Err-write_record.ensures in
     let after = c.end_lease-in-Err-write_record.new.self in
@@ -490,12 +490,12 @@ returns g c =
     ap (λ (m : Memory). m.ledger) c.end_lease-in-Err-write_record.ensures ∙ ap (λ (k : Ledger). leased_ledger k (ended t.table t.lease k.leases)) failed_is in
     let leased : after.leased ≡ i.metadata.leased = ap (λ (m : Memory). m.leased) c.end_lease-in-Err-write_record.ensures ∙ ap (λ (m : Memory). m.leased) c.fail.ensures ∙ ap (λ (m : Memory). m.leased) reserved in
     let kept =
-    unswapped_engine g.K.Sink.held g.K.Sink.faults n N.room N.sink_faults i.metadata story i.log c.engine.invariant bytes read was t s is holds session number told.short.session told.short.command ran typed name due_for has tell body c.in-Ok.ensures.bytes c.in-Ok.ensures.reads new worked
+    unswapped_engine g.K.Sink.held g.K.Sink.faults n N.room N.sink_faults i.metadata story i.log c.engine.invariant bytes read was t s is holds session number told.short.session told.short.command ran typed words due_for has tell body c.in-Ok.ensures.bytes c.in-Ok.ensures.reads new worked
     c.clock-moment.result c.clock-moment.ensures after later counts ledger_is leased told.items told.room told.told told.refused in
     let seen : Shown = record { history = later.history.items; running = not later.printer.broken; clock = new.moment } in
     record {
       turn = subst (λ (x : Standing). Takes N.script (N.start no_rows) x.shown seen session number kind.Close Finished) c.engine.view_is
-          (closed_takes n no_rows (record { history = h; running = not i.log.printer.broken; clock = story.moment }) seen session number name (claim_in t) due Unwritten
+          (closed_takes n no_rows (record { history = h; running = not i.log.printer.broken; clock = story.moment }) seen session number words (claim_in t) due Unwritten
           (told.items ∙ ap (λ x. h ++ entry session number kind.Close outcome.WriteFault x ∷ []) c.clock-moment.ensures) ran
           (vault_at_seen n after.ledger new (g.K.Sink.held later.printer.sink) later.history.items (not later.printer.broken) later.refused new.moment kept.vault));
       draft =

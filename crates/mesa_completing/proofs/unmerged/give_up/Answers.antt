@@ -40,9 +40,9 @@ pub skip-requires-clause-due : goal.skip-requires-clause-due
 skip-requires-clause-due g c κs within w =
     let N = g.N.Naming in
     record {
-      asked = command.Work c.args.name.now;
+      asked = command.Work c.args.words.now;
       stage = Granted (claim_in c.args.task);
-      due = due_alike N.script (N.start no_rows) (N.start w) c.args.engine.now.shown.history c.args.who.session c.args.who.command (command.Work c.args.name.now) (Granted (claim_in c.args.task)) (N.alike w) refl c.requires.due;
+      due = due_alike N.script (N.start no_rows) (N.start w) c.args.engine.now.shown.history c.args.who.session c.args.who.command (command.Work c.args.words.now) (Granted (claim_in c.args.task)) (N.alike w) refl c.requires.due;
       comes = refl;
     }
 
@@ -62,9 +62,9 @@ returns-then-not-running-clause-draft g c =
     subst (λ (x : Shown). AnswersDraft N.script (N.start no_rows) c.args.engine.now.shown x c.args.who.session (c.args.error ≡ compact.Draft)) (sym c.give_back.ensures.shown) (λ low e grew is. absurd (c.skip.ensures.draft low e grew is))
 
 due_at : (g : _) (c : goal.After-fail g)
-    → IsDue g.N.Naming.script (run_at g.N.Naming.script (g.N.Naming.start no_rows) c.engine.inside.log.history.items) c.args.who.session c.args.who.command (command.Work c.args.name.now) (Granted (claim_in c.args.task))
+    → IsDue g.N.Naming.script (run_at g.N.Naming.script (g.N.Naming.start no_rows) c.engine.inside.log.history.items) c.args.who.session c.args.who.command (command.Work c.args.words.now) (Granted (claim_in c.args.task))
 due_at g c =
-    subst (λ (x : Standing). IsDue g.N.Naming.script (run_at g.N.Naming.script (g.N.Naming.start no_rows) x.shown.history) c.args.who.session c.args.who.command (command.Work c.args.name.now) (Granted (claim_in c.args.task)))
+    subst (λ (x : Standing). IsDue g.N.Naming.script (run_at g.N.Naming.script (g.N.Naming.start no_rows) x.shown.history) c.args.who.session c.args.who.command (command.Work c.args.words.now) (Granted (claim_in c.args.task)))
     (sym c.engine.view_is) c.requires.due
 
 runs : (g : _) (c : goal.After-fail g) → not c.engine.inside.log.printer.broken ≡ true
@@ -78,14 +78,14 @@ kept g c =
     let i = c.engine.inside in
     let s = c.args.who.session in
     let number = c.args.who.command in
-    let name = c.args.name.now in
+    let words = c.args.words.now in
     let claim = claim_in c.args.task in
     let cause = cause_in c.fall-failure.result in
     let h = i.log.history.items in
     let mo = c.clock-moment.result in
     given_up_engine g.K.Sink.held g.K.Sink.faults n N.room N.sink_faults i.metadata c.fall-failure.new.metadata (g.D.Disk.story i.disk) (g.D.Disk.story c.retire_task.new.disk) i.log c.fail.new.self c.engine.invariant
-    s number c.fail.ensures.short.session c.fail.ensures.short.command name mo (c.clock-moment.ensures ∙ c.retire_task.ensures.unmoved.moment) (omega arith) (runs g c) c.position-at.result c.position-at.ensures claim
-    (λ w. due_alike N.script (N.start no_rows) (N.start w) h s number (command.Work name) (Granted claim) (N.alike w) refl (due_at g c))
+    s number c.fail.ensures.short.session c.fail.ensures.short.command words mo (c.clock-moment.ensures ∙ c.retire_task.ensures.unmoved.moment) (omega arith) (runs g c) c.position-at.result c.position-at.ensures claim
+    (λ w. due_alike N.script (N.start no_rows) (N.start w) h s number (command.Work words) (Granted claim) (N.alike w) refl (due_at g c))
     c.retire_task.ensures.unmoved g.D.Reader.FileReader.faults (task_inputs c.args.task) c.retire_task.ensures.given c.args.error c.requires.read c.may_be_told.ensures c.requires.undamaged
     cause c.fall-failure.ensures.cause c.fail.ensures.items c.fail.ensures.room c.fall-failure.ensures.after
     (subst (λ at. PrintsBlock g.K.Sink.held g.K.Sink.faults i.log.printer c.fail.new.self.printer (entry s number kind.Close (outcome_of cause) mo) (told_at at (reply_of cause))) (sym c.position-at.ensures) c.fail.ensures.told)
@@ -108,7 +108,7 @@ returns-clause-turn g c =
     let cause = cause_in c.fall-failure.result in
     let new : Shown = record { history = later.history.items; running = not later.printer.broken; clock = new_story.moment } in
     subst (λ (x : Standing). Takes N.script (N.start no_rows) x.shown new s number kind.Close Finished) c.engine.view_is
-    (given_up_takes n no_rows (record { history = h; running = not i.log.printer.broken; clock = story.moment }) new s number c.args.name.now (claim_in c.args.task) (due_at g c) cause
+    (given_up_takes n no_rows (record { history = h; running = not i.log.printer.broken; clock = story.moment }) new s number c.args.words.now (claim_in c.args.task) (due_at g c) cause
     (c.fail.ensures.items ∙ ap (λ x. h ++ entry s number kind.Close (outcome_of cause) x ∷ []) c.clock-moment.ensures) (runs g c)
     (vault_at_seen n c.fall-failure.new.metadata.ledger new_story (g.K.Sink.held later.printer.sink) later.history.items (not later.printer.broken) later.refused new_story.moment (kept g c).vault))
 
@@ -155,7 +155,7 @@ returns-clause-disk g c =
     let e = entry s number kind.Close (outcome_of cause) c.clock-moment.result in
     let claim = claim_in c.args.task in
     let same = c.retire_task.ensures.unmoved.moment in
-    let there = begun_moment N.script (N.start no_rows) h s number (command.Work c.args.name.now) (Granted claim) (due_at g c) (λ first. absurd cc) in
+    let there = begun_moment N.script (N.start no_rows) h s number (command.Work c.args.words.now) (Granted claim) (due_at g c) (λ first. absurd cc) in
     let counts = given_counts g.D.Reader.FileReader.faults (task_inputs c.args.task) story new_story (is_read_fault cause) c.retire_task.ensures.given
     (λ is. c.requires.read (closing_read i.metadata.ledger.closed c.args.error (sym (ap is_read_fault c.fall-failure.ensures.cause) ∙ is))) in
     let new : Shown = record { history = later.history.items; running = not later.printer.broken; clock = new_story.moment } in

@@ -52,7 +52,7 @@ pub returns-in-Fault-clause-counted : goal.returns-in-Fault-clause-counted
 returns-in-Fault-clause-counted g c =
     counted_then (g.D.Disk.story c.args.disk.now) (g.D.Disk.story c.open_one.new.disk) (g.D.Disk.story c.retire_all.new.disk) true
     (counted_more _ _ _ true c.files.invariant.counted c.in-Fault.ensures.counted) c.retire_all.ensures.given.calls
-    (c.retire_all.ensures.given.quiet (opened_fresh _ _ _ _ _ c.files.invariant.opened))
+    (c.retire_all.ensures.given.quiet (opened_fresh _ _ _ _ _ None c.files.invariant.opened))
 
 pub returns-in-Memory-clause-unmoved : goal.returns-in-Memory-clause-unmoved
 returns-in-Memory-clause-unmoved g c = unmoved_more _ _ _ (unmoved_more _ _ _ c.files.invariant.unmoved c.open_one.ensures.unmoved) c.retire_all-in-Memory.ensures.unmoved
@@ -61,4 +61,4 @@ pub returns-in-Memory-clause-counted : goal.returns-in-Memory-clause-counted
 returns-in-Memory-clause-counted g c =
     counted_then (g.D.Disk.story c.args.disk.now) (g.D.Disk.story c.open_one.new.disk) (g.D.Disk.story c.retire_all-in-Memory.new.disk) false
     (counted_more _ _ _ false c.files.invariant.counted c.in-Memory.ensures.counted) c.retire_all-in-Memory.ensures.given.calls
-    (c.retire_all-in-Memory.ensures.given.quiet (opened_fresh _ _ _ _ _ c.files.invariant.opened))
+    (c.retire_all-in-Memory.ensures.given.quiet (opened_fresh _ _ _ _ _ None c.files.invariant.opened))

@@ -9,9 +9,9 @@ pub skip-requires-clause-due : goal.skip-requires-clause-due
 skip-requires-clause-due g c κs within w =
     let N = g.N.Naming in
     record {
-      asked = command.Work c.args.name.now;
+      asked = command.Work c.args.words.now;
       stage = First;
-      due = due_alike N.script (N.start no_rows) (N.start w) c.args.engine.now.shown.history c.args.who.session c.args.who.command (command.Work c.args.name.now) First (N.alike w) refl c.requires.due;
+      due = due_alike N.script (N.start no_rows) (N.start w) c.args.engine.now.shown.history c.args.who.session c.args.who.command (command.Work c.args.words.now) First (N.alike w) refl c.requires.due;
       comes = refl;
     }
 

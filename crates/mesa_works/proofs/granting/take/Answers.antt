@@ -1,4 +1,4 @@
-use Rattle.std.proofs.Common.{◌≡◌, ◌<◌, ◌≤◌, ◌+◌, [], ◌∷◌, ◌++◌, length, Bool, IsTrue, true, false, not, refl, sym, ◌∙◌, ap, subst, arith, Ok, None, Some}
+use Rattle.std.proofs.Common.{◌≡◌, ◌<◌, ◌≤◌, ◌+◌, ◌-◌, [], ◌∷◌, ◌++◌, length, Bool, IsTrue, true, false, not, refl, sym, ◌∙◌, ap, subst, arith, Ok, None, Some}
 use Rattle.std.specs.List.{AllByRecursion}
 use Rattle.mesa_schema.specs.Changes.{Lineage, epoch_of}
 use Rattle.mesa_span.specs.Ranges.{base_before}
@@ -41,6 +41,7 @@ use Rattle.mesa_works.proofs.Bounded.{is_bounded}
 use Rattle.mesa_works.proofs.Claims.{work_ends}
 use Rattle.mesa_works.proofs.Ranges.{has_no_damage, has_range}
 use Rattle.mesa_works.proofs.Grants.{answers, fault_counts, granted_engine, granted_takes, has_no_claim, never_unwritten, next_there, shaped_at, tables_there, ungranted_engine, ungranted_takes, unopened_counts}
+use Rattle.mesa_works.proofs.Spares.{leased_spares}
 use Rattle.mesa_works.proofs.granting.take.Goals as goal
 
 pub gather-gathered-requires-after_bounds : goal.gather-gathered-requires-after_bounds
@@ -66,13 +67,13 @@ due_at g c =
     subst (λ (x : Standing). IsDue N.script (run_at N.script (N.start no_rows) x.shown.history) c.args.who.session c.args.who.command (command.Work c.requires.due.0) First) (sym c.engine.view_is) c.requires.due.1
 
 claim_at : (g : _) (c : goal.After-pass g)
-    → claim_of (books_of no_rows c.engine.inside.metadata.ledger).bare (books_of no_rows c.engine.inside.metadata.ledger).machine c.position-at.result c.requires.due.0 ≡ Ok (claim_as c.engine.inside.metadata.ledger c.args.claimed)
+    → claim_of (books_of no_rows c.engine.inside.metadata.ledger).bare (books_of no_rows c.engine.inside.metadata.ledger).machine c.position-at.result c.requires.due.0.table ≡ Ok (claim_as c.engine.inside.metadata.ledger c.args.claimed)
 claim_at g c =
     let l = c.engine.inside.metadata.ledger in
-    let name = c.requires.due.0 in
-    let is : claim_of (books_of no_rows l).bare (books_of no_rows l).machine (length c.engine.inside.log.history.items) name ≡ Ok (claim_as l c.args.claimed) =
-    subst (λ (x : Standing). claim_of (books_of no_rows x.ledger).bare (books_of no_rows x.ledger).machine (length x.shown.history) name ≡ Ok (claim_as x.ledger c.args.claimed)) (sym c.engine.view_is) c.requires.due.2 in
-    subst (λ p. claim_of (books_of no_rows l).bare (books_of no_rows l).machine p name ≡ Ok (claim_as l c.args.claimed)) (sym c.position-at.ensures) is
+    let words = c.requires.due.0 in
+    let is : claim_of (books_of no_rows l).bare (books_of no_rows l).machine (length c.engine.inside.log.history.items) words.table ≡ Ok (claim_as l c.args.claimed) =
+    subst (λ (x : Standing). claim_of (books_of no_rows x.ledger).bare (books_of no_rows x.ledger).machine (length x.shown.history) words.table ≡ Ok (claim_as x.ledger c.args.claimed)) (sym c.engine.view_is) c.requires.due.2 in
+    subst (λ p. claim_of (books_of no_rows l).bare (books_of no_rows l).machine p words.table ≡ Ok (claim_as l c.args.claimed)) (sym c.position-at.ensures) is
 
 is_short : (g : _) (c : goal.After-pass g) → IsShort (entry c.args.who.session c.args.who.command kind.Grant outcome.Stands c.clock-moment.result)
 is_short g c = subst IsShort c.turn-turn.ensures.same c.turn-turn.ensures.short
@@ -84,13 +85,13 @@ kept g c =
     let i = c.engine.inside in
     let s = c.args.who.session in
     let number = c.args.who.command in
-    let name = c.requires.due.0 in
+    let words = c.requires.due.0 in
     let h = i.log.history.items in
     let story = g.D.Disk.story i.disk in
     let new = g.D.Disk.story c.gather-gathered.new.disk in
     let short = is_short g c in
-    granted_engine g.K.Sink.held g.K.Sink.faults (starts g c) N.room N.sink_faults i.metadata story new i.log c.pass.new.self c.engine.invariant c.gather-gathered.ensures.unmoved s number short.session short.command name c.clock-moment.result c.clock-moment.ensures (runs g c) c.position-at.result c.position-at.ensures
-    (λ w. due_alike N.script (N.start no_rows) (N.start w) h s number (command.Work name) First (N.alike w) refl (due_at g c)) c.pass.ensures.room
+    granted_engine g.K.Sink.held g.K.Sink.faults (starts g c) N.room N.sink_faults i.metadata story new i.log c.pass.new.self c.engine.invariant c.gather-gathered.ensures.unmoved s number short.session short.command words c.clock-moment.result c.clock-moment.ensures (runs g c) c.position-at.result c.position-at.ensures
+    (λ w. due_alike N.script (N.start no_rows) (N.start w) h s number (command.Work words) First (N.alike w) refl (due_at g c)) c.pass.ensures.room
     (claim_as i.metadata.ledger c.args.claimed) c.lease.new.metadata (claim_at g c) (fault_counts story new false c.in-Ok.ensures.counted) c.lease.ensures.granted (c.pass.ensures.items ∙ ap (λ x. h ++ x ∷ []) c.turn-turn.ensures.same) c.pass.ensures.printer c.pass.ensures.refused
 
 pub invariant_of-engine : goal.invariant_of-engine
@@ -195,7 +196,7 @@ was_open g c = ap (λ (x : Standing). x.ledger.closed) c.engine.view_is ∙ c.re
 pub returns-in-Ok-clause-whole : goal.returns-in-Ok-clause-whole
 returns-in-Ok-clause-whole g c w sound =
     let later = c.pass.new.self in
-    has_no_damage c.one_file.ensures (outset_of (starts g c) w) (g.N.Naming.origin w) (leased g c) (g.D.Disk.story c.gather-gathered.new.disk) (g.K.Sink.held later.printer.sink) later.history.items (not later.printer.broken) later.refused (vault_behind g c w true (λ ok. sound)) (was_open g c)
+    has_no_damage (outset_of (starts g c) w) (g.N.Naming.origin w) (leased g c) (g.D.Disk.story c.gather-gathered.new.disk) (g.K.Sink.held later.printer.sink) later.history.items (not later.printer.broken) later.refused (vault_behind g c w true (λ ok. sound)) (was_open g c)
     g.D.Reader.FileReader.bytes g.D.Reader.FileReader.faults (task_of g c) (table_there g c) (work_due g c) (is_task g c) _ c.in-Ok.ensures.views (gathered g c)
 
 pub returns-in-Ok-clause-bounded : goal.returns-in-Ok-clause-bounded
@@ -213,7 +214,7 @@ returns-in-Ok-clause-range g c w sound =
     let bytes = g.D.Reader.FileReader.bytes in
     let t = task_of g c in
     subst (λ (x : Standing). HasRange bytes (stock_at x.ledger.catalogue t.table).lineage t (written_at N.script (N.start w) (N.origin w) later.history.items t.table)) c.engine.view_is
-    (has_range c.one_file.ensures (outset_of (starts g c) w) (N.origin w) (leased g c) (g.D.Disk.story c.gather-gathered.new.disk) (g.K.Sink.held later.printer.sink) later.history.items (not later.printer.broken) later.refused (vault_behind g c w true (λ ok. sound)) (was_open g c)
+    (has_range (outset_of (starts g c) w) (N.origin w) (leased g c) (g.D.Disk.story c.gather-gathered.new.disk) (g.K.Sink.held later.printer.sink) later.history.items (not later.printer.broken) later.refused (vault_behind g c w true (λ ok. sound)) (was_open g c)
     bytes g.D.Reader.FileReader.faults t (table_there g c) (work_due g c) (is_task g c) _ c.in-Ok.ensures.views (gathered g c))
 
 pub returns-in-Ok-clause-views : goal.returns-in-Ok-clause-views
@@ -221,6 +222,9 @@ returns-in-Ok-clause-views g c =
     c.in-Ok.ensures.views
     ∙ ap (λ (u : Stock). unread_views 0 (length u.lineage.views)) (stock_is g c)
     ∙ ap (λ (x : Standing). unread_views 0 (length (stock_at x.ledger.catalogue c.in-Ok.task.table).lineage.views)) c.engine.view_is
+
+pub returns-in-Ok-clause-spare : goal.returns-in-Ok-clause-spare
+returns-in-Ok-clause-spare g c = leased_spares g.D.Reader.FileReader.bytes (c.args.parts - 1) c.in-Ok.task c.lease.result c.in-Ok.ensures.spare
 
 pub returns-in-Ok-clause-disk : goal.returns-in-Ok-clause-disk
 returns-in-Ok-clause-disk g c =
@@ -245,7 +249,7 @@ invariant_of-engine-in-Err g c =
     let i = c.engine.inside in
     let s = c.args.who.session in
     let number = c.args.who.command in
-    let name = c.requires.due.0 in
+    let words = c.requires.due.0 in
     let l = i.metadata.ledger in
     let h = i.log.history.items in
     let at = length h in
@@ -255,14 +259,14 @@ invariant_of-engine-in-Err g c =
     let later = c.fail-reply.new.self in
     let cause = cause_in c.failure_of.result in
     let short = c.fail-reply.ensures.short in
-    let due : IsDue N.script (run_at N.script (N.start no_rows) h) s number (command.Work name) First = subst (λ (x : Standing). IsDue N.script (run_at N.script (N.start no_rows) x.shown.history) s number (command.Work name) First) (sym c.engine.view_is) c.requires.due.1 in
-    let is : claim_of (books_of no_rows l).bare (books_of no_rows l).machine at name ≡ Ok claim = subst (λ (x : Standing). claim_of (books_of no_rows x.ledger).bare (books_of no_rows x.ledger).machine (length x.shown.history) name ≡ Ok (claim_as x.ledger c.args.claimed)) (sym c.engine.view_is) c.requires.due.2 in
+    let due : IsDue N.script (run_at N.script (N.start no_rows) h) s number (command.Work words) First = subst (λ (x : Standing). IsDue N.script (run_at N.script (N.start no_rows) x.shown.history) s number (command.Work words) First) (sym c.engine.view_is) c.requires.due.1 in
+    let is : claim_of (books_of no_rows l).bare (books_of no_rows l).machine at words.table ≡ Ok claim = subst (λ (x : Standing). claim_of (books_of no_rows x.ledger).bare (books_of no_rows x.ledger).machine (length x.shown.history) words.table ≡ Ok (claim_as x.ledger c.args.claimed)) (sym c.engine.view_is) c.requires.due.2 in
     let open' = ap (λ (x : Standing). x.ledger.closed) c.engine.view_is ∙ c.requires.opened in
     let ran : not i.log.printer.broken ≡ true = ap (λ (x : Standing). x.shown.running) c.engine.view_is ∙ c.requires.runs in
-    let has = subst (HasNoClaim (books_of no_rows l) at name) (sym c.failure_of.ensures) (has_no_claim l at name claim c.in-Err.unopened open' is) in
+    let has = subst (HasNoClaim (books_of no_rows l) at words.table) (sym c.failure_of.ensures) (has_no_claim l at words.table claim c.in-Err.unopened open' is) in
     let counts = subst (λ x. Counts story new (is_read_fault x)) (sym c.failure_of.ensures) (unopened_counts (Task g.row.D-Reader.Denot) story new c.in-Err.unopened c.in-Err.ensures.counted) in
-    ungranted_engine g.K.Sink.held g.K.Sink.faults n N.room N.sink_faults i.metadata story new i.log later c.engine.invariant c.gather-gathered.ensures.unmoved s number short.session short.command name c.clock-moment.result c.clock-moment.ensures ran at refl
-    (λ w. due_alike N.script (N.start no_rows) (N.start w) h s number (command.Work name) First (N.alike w) refl due) c.fail-reply.ensures.room
+    ungranted_engine g.K.Sink.held g.K.Sink.faults n N.room N.sink_faults i.metadata story new i.log later c.engine.invariant c.gather-gathered.ensures.unmoved s number short.session short.command words c.clock-moment.result c.clock-moment.ensures ran at refl
+    (λ w. due_alike N.script (N.start no_rows) (N.start w) h s number (command.Work words) First (N.alike w) refl due) c.fail-reply.ensures.room
     cause has counts c.fail-reply.ensures.items c.fail-reply.ensures.told c.fail-reply.ensures.refused
 
 pub returns-in-Err-clause-turn : goal.returns-in-Err-clause-turn
@@ -272,7 +276,7 @@ returns-in-Err-clause-turn g c =
     let i = c.engine.inside in
     let s = c.args.who.session in
     let number = c.args.who.command in
-    let name = c.requires.due.0 in
+    let words = c.requires.due.0 in
     let l = i.metadata.ledger in
     let h = i.log.history.items in
     let at = length h in
@@ -282,19 +286,19 @@ returns-in-Err-clause-turn g c =
     let later = c.fail-reply.new.self in
     let cause = cause_in c.failure_of.result in
     let short = c.fail-reply.ensures.short in
-    let due : IsDue N.script (run_at N.script (N.start no_rows) h) s number (command.Work name) First = subst (λ (x : Standing). IsDue N.script (run_at N.script (N.start no_rows) x.shown.history) s number (command.Work name) First) (sym c.engine.view_is) c.requires.due.1 in
-    let is : claim_of (books_of no_rows l).bare (books_of no_rows l).machine at name ≡ Ok claim = subst (λ (x : Standing). claim_of (books_of no_rows x.ledger).bare (books_of no_rows x.ledger).machine (length x.shown.history) name ≡ Ok (claim_as x.ledger c.args.claimed)) (sym c.engine.view_is) c.requires.due.2 in
+    let due : IsDue N.script (run_at N.script (N.start no_rows) h) s number (command.Work words) First = subst (λ (x : Standing). IsDue N.script (run_at N.script (N.start no_rows) x.shown.history) s number (command.Work words) First) (sym c.engine.view_is) c.requires.due.1 in
+    let is : claim_of (books_of no_rows l).bare (books_of no_rows l).machine at words.table ≡ Ok claim = subst (λ (x : Standing). claim_of (books_of no_rows x.ledger).bare (books_of no_rows x.ledger).machine (length x.shown.history) words.table ≡ Ok (claim_as x.ledger c.args.claimed)) (sym c.engine.view_is) c.requires.due.2 in
     let open' = ap (λ (x : Standing). x.ledger.closed) c.engine.view_is ∙ c.requires.opened in
     let ran : not i.log.printer.broken ≡ true = ap (λ (x : Standing). x.shown.running) c.engine.view_is ∙ c.requires.runs in
-    let has = subst (HasNoClaim (books_of no_rows l) at name) (sym c.failure_of.ensures) (has_no_claim l at name claim c.in-Err.unopened open' is) in
+    let has = subst (HasNoClaim (books_of no_rows l) at words.table) (sym c.failure_of.ensures) (has_no_claim l at words.table claim c.in-Err.unopened open' is) in
     let counts = subst (λ x. Counts story new (is_read_fault x)) (sym c.failure_of.ensures) (unopened_counts (Task g.row.D-Reader.Denot) story new c.in-Err.unopened c.in-Err.ensures.counted) in
     let kept =
-    ungranted_engine g.K.Sink.held g.K.Sink.faults n N.room N.sink_faults i.metadata story new i.log later c.engine.invariant c.gather-gathered.ensures.unmoved s number short.session short.command name c.clock-moment.result c.clock-moment.ensures ran at refl
-    (λ w. due_alike N.script (N.start no_rows) (N.start w) h s number (command.Work name) First (N.alike w) refl due) c.fail-reply.ensures.room
+    ungranted_engine g.K.Sink.held g.K.Sink.faults n N.room N.sink_faults i.metadata story new i.log later c.engine.invariant c.gather-gathered.ensures.unmoved s number short.session short.command words c.clock-moment.result c.clock-moment.ensures ran at refl
+    (λ w. due_alike N.script (N.start no_rows) (N.start w) h s number (command.Work words) First (N.alike w) refl due) c.fail-reply.ensures.room
     cause has counts c.fail-reply.ensures.items c.fail-reply.ensures.told c.fail-reply.ensures.refused in
     let shown : Shown = record { history = later.history.items; running = not later.printer.broken; clock = new.moment } in
     subst (λ (x : Standing). Takes N.script (N.start no_rows) x.shown shown s number kind.Grant Finished) c.engine.view_is
-    (ungranted_takes (outset_of n no_rows) (n.origin no_rows) false l story (g.K.Sink.held i.log.printer.sink) h (not i.log.printer.broken) i.log.refused (c.engine.invariant.vault no_rows false (λ z. absurd cc)) s number short.session short.command name ran at refl due new c.gather-gathered.ensures.unmoved story.moment shown refl
+    (ungranted_takes (outset_of n no_rows) (n.origin no_rows) false l story (g.K.Sink.held i.log.printer.sink) h (not i.log.printer.broken) i.log.refused (c.engine.invariant.vault no_rows false (λ z. absurd cc)) s number short.session short.command words ran at refl due new c.gather-gathered.ensures.unmoved story.moment shown refl
     (vault_at_seen n i.metadata.ledger new (g.K.Sink.held later.printer.sink) later.history.items (not later.printer.broken) later.refused new.moment kept.vault)
     cause has (ap (λ x. is_skip (outcome_of x)) c.failure_of.ensures ∙ answers c.in-Err.unopened) (c.fail-reply.ensures.items ∙ ap (λ x. h ++ entry s number kind.Grant (outcome_of cause) x ∷ []) c.clock-moment.ensures))
 

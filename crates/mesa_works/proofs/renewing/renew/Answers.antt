@@ -25,9 +25,9 @@ pub skip-requires-clause-due : goal.skip-requires-clause-due
 skip-requires-clause-due g c κs within w =
     let N = g.N.Naming in
     record {
-      asked = command.Work c.args.name.now;
+      asked = command.Work c.args.words.now;
       stage = Granted (claim_in c.args.task);
-      due = due_alike N.script (N.start no_rows) (N.start w) c.args.engine.now.shown.history c.args.who.session c.args.who.command (command.Work c.args.name.now) (Granted (claim_in c.args.task)) (N.alike w) refl c.requires.due;
+      due = due_alike N.script (N.start no_rows) (N.start w) c.args.engine.now.shown.history c.args.who.session c.args.who.command (command.Work c.args.words.now) (Granted (claim_in c.args.task)) (N.alike w) refl c.requires.due;
       comes = refl;
     }
 
@@ -48,14 +48,14 @@ invariant_of-engine g c =
     let i = c.engine.inside in
     let s = c.args.who.session in
     let number = c.args.who.command in
-    let name = c.args.name.now in
+    let words = c.args.words.now in
     let claim = claim_in c.args.task in
     let h = i.log.history.items in
     let short : IsShort (entry s number kind.Renew outcome.Stands c.clock.result) = subst IsShort c.turn-turn.ensures.same c.turn-turn.ensures.short in
-    let due : IsDue N.script (run_at N.script (N.start no_rows) h) s number (command.Work name) (Granted claim) = subst (λ (x : Standing). IsDue N.script (run_at N.script (N.start no_rows) x.shown.history) s number (command.Work name) (Granted claim)) (sym c.engine.view_is) c.requires.due in
+    let due : IsDue N.script (run_at N.script (N.start no_rows) h) s number (command.Work words) (Granted claim) = subst (λ (x : Standing). IsDue N.script (run_at N.script (N.start no_rows) x.shown.history) s number (command.Work words) (Granted claim)) (sym c.engine.view_is) c.requires.due in
     let ran : not i.log.printer.broken ≡ true = ap (λ (x : Standing). x.shown.running) c.engine.view_is ∙ sym c.running.ensures ∙ c.if-not-running.false in
-    renewed_engine g.K.Sink.held g.K.Sink.faults n N.room N.sink_faults i.metadata c.claims-claimed.new.metadata (g.D.Disk.story i.disk) i.log c.pass.new.self c.engine.invariant s number short.session short.command name c.clock.result c.clock.ensures ran c.position-at.result c.position-at.ensures claim
-    (λ w. due_alike N.script (N.start no_rows) (N.start w) h s number (command.Work name) (Granted claim) (N.alike w) refl due)
+    renewed_engine g.K.Sink.held g.K.Sink.faults n N.room N.sink_faults i.metadata c.claims-claimed.new.metadata (g.D.Disk.story i.disk) i.log c.pass.new.self c.engine.invariant s number short.session short.command words c.clock.result c.clock.ensures ran c.position-at.result c.position-at.ensures claim
+    (λ w. due_alike N.script (N.start no_rows) (N.start w) h s number (command.Work words) (Granted claim) (N.alike w) refl due)
     (c.pass.ensures.items ∙ ap (λ x. h ++ x ∷ []) c.turn-turn.ensures.same) c.pass.ensures.room c.in-Ok.ensures.held c.in-Ok.ensures.renewed c.pass.ensures.printer c.pass.ensures.refused
 
 pub invariant_of-engine-in-Err : goal.invariant_of-engine-in-Err
@@ -65,16 +65,16 @@ invariant_of-engine-in-Err g c =
     let i = c.engine.inside in
     let s = c.args.who.session in
     let number = c.args.who.command in
-    let name = c.args.name.now in
+    let words = c.args.words.now in
     let claim = claim_in c.args.task in
     let h = i.log.history.items in
     let later = c.tell.new.self in
     let short : IsShort (entry s number kind.Renew outcome.Stands c.clock.result) = subst IsShort c.turn-turn.ensures.same c.turn-turn.ensures.short in
-    let due : IsDue N.script (run_at N.script (N.start no_rows) h) s number (command.Work name) (Granted claim) = subst (λ (x : Standing). IsDue N.script (run_at N.script (N.start no_rows) x.shown.history) s number (command.Work name) (Granted claim)) (sym c.engine.view_is) c.requires.due in
+    let due : IsDue N.script (run_at N.script (N.start no_rows) h) s number (command.Work words) (Granted claim) = subst (λ (x : Standing). IsDue N.script (run_at N.script (N.start no_rows) x.shown.history) s number (command.Work words) (Granted claim)) (sym c.engine.view_is) c.requires.due in
     let ran : not i.log.printer.broken ≡ true = ap (λ (x : Standing). x.shown.running) c.engine.view_is ∙ sym c.running.ensures ∙ c.if-not-running.false in
     let prints = subst (λ x. PrintsBlock g.K.Sink.held g.K.Sink.faults i.log.printer later.printer x (told_at c.position-at.result (reply.Refused c.in-Err.refusal))) c.turn-turn.ensures.same (c.tell.ensures.told no_lines refl) in
-    lost_engine g.K.Sink.held g.K.Sink.faults n N.room N.sink_faults i.metadata c.claims-claimed.new.metadata (g.D.Disk.story i.disk) i.log later c.engine.invariant s number short.session short.command name c.clock.result c.clock.ensures ran c.position-at.result c.position-at.ensures claim
-    (λ w. due_alike N.script (N.start no_rows) (N.start w) h s number (command.Work name) (Granted claim) (N.alike w) refl due)
+    lost_engine g.K.Sink.held g.K.Sink.faults n N.room N.sink_faults i.metadata c.claims-claimed.new.metadata (g.D.Disk.story i.disk) i.log later c.engine.invariant s number short.session short.command words c.clock.result c.clock.ensures ran c.position-at.result c.position-at.ensures claim
+    (λ w. due_alike N.script (N.start no_rows) (N.start w) h s number (command.Work words) (Granted claim) (N.alike w) refl due)
     (c.tell.ensures.items ∙ ap (λ x. h ++ x ∷ []) c.turn-turn.ensures.same) c.tell.ensures.room c.in-Err.refusal c.in-Err.ensures.refused c.in-Err.ensures.same c.claims-claimed.ensures.leased prints c.tell.ensures.refused
 
 pub returns-in-Ok-clause-turn : goal.returns-in-Ok-clause-turn
@@ -84,22 +84,22 @@ returns-in-Ok-clause-turn g c =
     let i = c.engine.inside in
     let s = c.args.who.session in
     let number = c.args.who.command in
-    let name = c.args.name.now in
+    let words = c.args.words.now in
     let claim = claim_in c.args.task in
     let story = g.D.Disk.story i.disk in
     let h = i.log.history.items in
     let later = c.pass.new.self in
     let held = g.K.Sink.held i.log.printer.sink in
     let short : IsShort (entry s number kind.Renew outcome.Stands c.clock.result) = subst IsShort c.turn-turn.ensures.same c.turn-turn.ensures.short in
-    let due : IsDue N.script (run_at N.script (N.start no_rows) h) s number (command.Work name) (Granted claim) = subst (λ (x : Standing). IsDue N.script (run_at N.script (N.start no_rows) x.shown.history) s number (command.Work name) (Granted claim)) (sym c.engine.view_is) c.requires.due in
+    let due : IsDue N.script (run_at N.script (N.start no_rows) h) s number (command.Work words) (Granted claim) = subst (λ (x : Standing). IsDue N.script (run_at N.script (N.start no_rows) x.shown.history) s number (command.Work words) (Granted claim)) (sym c.engine.view_is) c.requires.due in
     let ran : not i.log.printer.broken ≡ true = ap (λ (x : Standing). x.shown.running) c.engine.view_is ∙ sym c.running.ensures ∙ c.if-not-running.false in
     let grew = c.pass.ensures.items ∙ ap (λ x. h ++ x ∷ []) c.turn-turn.ensures.same in
-    let kept = renewed_engine g.K.Sink.held g.K.Sink.faults n N.room N.sink_faults i.metadata c.claims-claimed.new.metadata story i.log later c.engine.invariant s number short.session short.command name c.clock.result c.clock.ensures ran c.position-at.result c.position-at.ensures claim
-    (λ w. due_alike N.script (N.start no_rows) (N.start w) h s number (command.Work name) (Granted claim) (N.alike w) refl due)
+    let kept = renewed_engine g.K.Sink.held g.K.Sink.faults n N.room N.sink_faults i.metadata c.claims-claimed.new.metadata story i.log later c.engine.invariant s number short.session short.command words c.clock.result c.clock.ensures ran c.position-at.result c.position-at.ensures claim
+    (λ w. due_alike N.script (N.start no_rows) (N.start w) h s number (command.Work words) (Granted claim) (N.alike w) refl due)
     grew c.pass.ensures.room c.in-Ok.ensures.held c.in-Ok.ensures.renewed c.pass.ensures.printer c.pass.ensures.refused in
     let new : Shown = record { history = later.history.items; running = not later.printer.broken; clock = story.moment } in
     subst (λ (x : Standing). Takes N.script (N.start no_rows) x.shown new s number kind.Renew (Renewed claim)) c.engine.view_is
-    (renewed_takes (outset_of n no_rows) (n.origin no_rows) false i.metadata.ledger story held h (not i.log.printer.broken) i.log.refused (c.engine.invariant.vault no_rows false (λ is. absurd cc)) s number short.session short.command name ran c.position-at.result c.position-at.ensures claim due story.moment new refl
+    (renewed_takes (outset_of n no_rows) (n.origin no_rows) false i.metadata.ledger story held h (not i.log.printer.broken) i.log.refused (c.engine.invariant.vault no_rows false (λ is. absurd cc)) s number short.session short.command words ran c.position-at.result c.position-at.ensures claim due story.moment new refl
     (vault_at_seen n c.claims-claimed.new.metadata.ledger story (g.K.Sink.held later.printer.sink) later.history.items (not later.printer.broken) later.refused story.moment kept.vault)
     (grew ∙ ap (λ x. h ++ entry s number kind.Renew outcome.Stands x ∷ []) c.clock.ensures) c.in-Ok.ensures.held)
 
@@ -110,24 +110,24 @@ returns-in-Err-clause-turn g c =
     let i = c.engine.inside in
     let s = c.args.who.session in
     let number = c.args.who.command in
-    let name = c.args.name.now in
+    let words = c.args.words.now in
     let claim = claim_in c.args.task in
     let story = g.D.Disk.story i.disk in
     let h = i.log.history.items in
     let later = c.tell.new.self in
     let held = g.K.Sink.held i.log.printer.sink in
     let short : IsShort (entry s number kind.Renew outcome.Stands c.clock.result) = subst IsShort c.turn-turn.ensures.same c.turn-turn.ensures.short in
-    let due : IsDue N.script (run_at N.script (N.start no_rows) h) s number (command.Work name) (Granted claim) = subst (λ (x : Standing). IsDue N.script (run_at N.script (N.start no_rows) x.shown.history) s number (command.Work name) (Granted claim)) (sym c.engine.view_is) c.requires.due in
+    let due : IsDue N.script (run_at N.script (N.start no_rows) h) s number (command.Work words) (Granted claim) = subst (λ (x : Standing). IsDue N.script (run_at N.script (N.start no_rows) x.shown.history) s number (command.Work words) (Granted claim)) (sym c.engine.view_is) c.requires.due in
     let ran : not i.log.printer.broken ≡ true = ap (λ (x : Standing). x.shown.running) c.engine.view_is ∙ sym c.running.ensures ∙ c.if-not-running.false in
     let grew = c.tell.ensures.items ∙ ap (λ x. h ++ x ∷ []) c.turn-turn.ensures.same in
     let prints = subst (λ x. PrintsBlock g.K.Sink.held g.K.Sink.faults i.log.printer later.printer x (told_at c.position-at.result (reply.Refused c.in-Err.refusal))) c.turn-turn.ensures.same (c.tell.ensures.told no_lines refl) in
-    let kept = lost_engine g.K.Sink.held g.K.Sink.faults n N.room N.sink_faults i.metadata c.claims-claimed.new.metadata story i.log later c.engine.invariant s number short.session short.command name c.clock.result c.clock.ensures ran c.position-at.result c.position-at.ensures claim
-    (λ w. due_alike N.script (N.start no_rows) (N.start w) h s number (command.Work name) (Granted claim) (N.alike w) refl due)
+    let kept = lost_engine g.K.Sink.held g.K.Sink.faults n N.room N.sink_faults i.metadata c.claims-claimed.new.metadata story i.log later c.engine.invariant s number short.session short.command words c.clock.result c.clock.ensures ran c.position-at.result c.position-at.ensures claim
+    (λ w. due_alike N.script (N.start no_rows) (N.start w) h s number (command.Work words) (Granted claim) (N.alike w) refl due)
     grew c.tell.ensures.room c.in-Err.refusal c.in-Err.ensures.refused c.in-Err.ensures.same c.claims-claimed.ensures.leased prints c.tell.ensures.refused in
     let new : Shown = record { history = later.history.items; running = not later.printer.broken; clock = story.moment } in
     subst (λ (x : Shown). Takes N.script (N.start no_rows) c.args.engine.now.shown x s number kind.Renew Finished) (sym c.give_back-in-Err.ensures.shown)
     (subst (λ (x : Standing). Takes N.script (N.start no_rows) x.shown new s number kind.Renew Finished) c.engine.view_is
-    (lost_takes (outset_of n no_rows) (n.origin no_rows) false i.metadata.ledger story held h (not i.log.printer.broken) i.log.refused (c.engine.invariant.vault no_rows false (λ is. absurd cc)) s number short.session short.command name ran c.position-at.result c.position-at.ensures claim due story.moment new refl
+    (lost_takes (outset_of n no_rows) (n.origin no_rows) false i.metadata.ledger story held h (not i.log.printer.broken) i.log.refused (c.engine.invariant.vault no_rows false (λ is. absurd cc)) s number short.session short.command words ran c.position-at.result c.position-at.ensures claim due story.moment new refl
     (vault_at_seen n c.claims-claimed.new.metadata.ledger story (g.K.Sink.held later.printer.sink) later.history.items (not later.printer.broken) later.refused story.moment kept.vault)
     (grew ∙ ap (λ x. h ++ entry s number kind.Renew outcome.Stands x ∷ []) c.clock.ensures) c.in-Err.refusal c.in-Err.ensures.refused))
 

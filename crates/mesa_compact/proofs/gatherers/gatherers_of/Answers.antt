@@ -7,7 +7,7 @@ use Rattle.mesa_compact.specs.Grouping.{HasPutIn, TakesRows, wanted_in}
 use Rattle.mesa_compact.specs.Sources.{ArePlaces, IsSourceOf}
 use Rattle.mesa_compact.proofs.Putting.{all_at}
 use Rattle.mesa_compact.proofs.Viewing.{all_pushed, get_some, some_pushed}
-use Rattle.mesa_compact.proofs.gatherers.gatherers.Goals as goal
+use Rattle.mesa_compact.proofs.gatherers.gatherers_of.Goals as goal
 
 pub gatherer-requires : goal.gatherer-requires
 gatherer-requires g c = (c.type_bounds.send-R, subst (ArePlaces c.args.schema.now) (sym c.index-seen-i.is) (all_at (ArePlaces c.args.schema.now) c.args.seen.now c.views.i c.index-seen-i.result c.requires.places (omega (arith, c.views-test.true, c.requires.count))))

@@ -6,7 +6,7 @@ use Rattle.mesa_answer.specs.declared.groups.Groups.{Groups}
 use Rattle.mesa_tasks.specs.declared.merging.TaskView.{TaskView}
 use Rattle.mesa_compact.specs.Grouping.{HavePut, TakesRows, wanted_in}
 use Rattle.mesa_compact.specs.Sources.{AreSeen, IsSourceOf}
-use Rattle.mesa_compact.proofs.gatherers.gatherers.Given as goal
+use Rattle.mesa_compact.proofs.gatherers.gatherers_of.Given as goal
 
 abbrev pub invariant-views : goal.invariant-views
 invariant-views g l = record {

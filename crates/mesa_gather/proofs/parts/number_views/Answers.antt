@@ -1,7 +1,7 @@
 use Rattle.std.proofs.Common.{◌++◌, ◌∷◌, [], ◌∙◌, ap, sym, arith}
 use Rattle.std.proofs.lemmas.List.FromFn.{map-range_with_len_more}
 use Rattle.mesa_gather.specs.Gathered.{unread_view}
-use Rattle.mesa_gather.proofs.gathering.number_views.Goals as goal
+use Rattle.mesa_gather.proofs.parts.number_views.Goals as goal
 
 pub push_reserved-requires : goal.push_reserved-requires
 push_reserved-requires g c = omega (arith, c.views.invariant.len, c.views.invariant.room, c.requires.room, c.views-test.true)

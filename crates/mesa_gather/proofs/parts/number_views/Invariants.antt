@@ -1,6 +1,6 @@
 use Rattle.std.proofs.Common.{◌≡◌, vec_capacity, vec_len}
 use Rattle.mesa_gather.specs.Gathered.{unread_views}
-use Rattle.mesa_gather.proofs.gathering.number_views.Given as goal
+use Rattle.mesa_gather.proofs.parts.number_views.Given as goal
 
 -- the views so far
 abbrev pub invariant-views : goal.invariant-views
