@@ -19,6 +19,7 @@ use Rattle.mesa_granted.specs.mesa_service.Works.{CanBeMerged, known_task}
 use Rattle.mesa_skeleton.specs.Rows.{Rows, no_rows}
 use Rattle.mesa_granted.specs.mesa_swapping.Finished.{HasRange}
 use Rattle.mesa_tasks.specs.Errors.{Differs}
+use Rattle.mesa_tasks.specs.Spares.{HasSpares}
 use Rattle.mesa_tasks.specs.Tasks.{IsTask}
 use Rattle.mesa_tasks.specs.declared.merging.Task.{Task}
 use Rattle.mesa_walk.specs.Walk.{run_at}
@@ -56,6 +57,6 @@ module _ {R : Type 0} (read : R → Option (List ℕ)) (script : Script) (start 
   granted_if (Err e) low there next task views whole bounded range = tt
 
   -- and what was granted can be merged
-  pub mergeable_if : {E : Type 0} (r : Result (Task R) E) → IfOk r (λ t. IsTask read (stock_at c t.table).lineage t) → IfOk r (λ t. IfSome t.damage Differs) → IfOk r (CanBeMerged read)
-  mergeable_if (Ok t) task damage = record { task = (_, task); damage = damage }
-  mergeable_if (Err e) task damage = tt
+  pub mergeable_if : {E : Type 0} (r : Result (Task R) E) (more : ℕ) → IfOk r (λ t. IsTask read (stock_at c t.table).lineage t) → IfOk r (λ t. IfSome t.damage Differs) → IfOk r (HasSpares read more) → IfOk r (CanBeMerged read)
+  mergeable_if (Ok t) more task damage spare = record { task = (_, task); damage = damage; spare = λ none. spare.each }
+  mergeable_if (Err e) more task damage spare = tt

@@ -10,7 +10,7 @@ ghost use Rattle.mesa_walk.specs.Turns.{is_load};
 use mesa_batch::LoadRows;
 use mesa_filter::QueryWords;
 use mesa_log::Who;
-use mesa_model::{Command, Script};
+use mesa_model::{Command, Script, WorkWords};
 
 // The command of a turn; commands are counted from 1.
 pub(crate) fn command_of(script: &Script, who: Who) -> Option<&Command>
@@ -43,13 +43,13 @@ pub(crate) fn words_of(script: &Script, who: Who) -> &QueryWords
     }
 }
 
-// The table's name of the work that a turn is of.
-pub(crate) fn name_of(script: &Script, who: Who) -> &[u8]
+// The words of the work that a turn is of.
+pub(crate) fn work_of(script: &Script, who: Who) -> &WorkWords
     requires { HasSort script.now who.session who.command is_work }
     ensures { command_at script.now who.session who.command ≡ Some (command.Work result.now) }
 {
     match command_of(script, who) {
-        Some(Command::Work(name)) => name.as_slice(),
+        Some(Command::Work(words)) => words,
         _ => unreachable!(),
     }
 }

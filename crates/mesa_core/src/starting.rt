@@ -92,6 +92,7 @@ impl<'s, N: Naming, M: Made, D: Disk<M>, K: Sink> Vault<'s, N, M, D, K> {
         // Its moments are those of the run.
         ensures since { AllByRecursion (λ e. N.since ≤ e.moment) result.2.items }
         ensures until { AllByRecursion (λ e. e.moment ≤ (D.story result.0).moment) result.2.items }
+        ensures later { N.since ≤ (D.story result.0).moment }
 
         // Each fault that it answers was counted, and the sink's count rose exactly where the sink failed.
         ensures counts { (w : Rows) → HasCounted N.counted (D.story result.0) (faults_in (outset_of (starts_of N.script N.start N.sound N.origin N.since N.counted N.at_start) w) result.2.items) }

@@ -66,6 +66,7 @@ impl<'s, N: Naming, M: Made, D: Disk<M>, K: Sink> Vault<'s, N, M, D, K> {
     /// The run's number.
     pub fn run(&self) -> u32
         ensures number { result ≡ self.now.run }
+        ensures origin { (w : Rows) → result ≡ (N.origin w).run }
         ensures few { result < 2 ^ 24 }
     {
         self.engine.run()

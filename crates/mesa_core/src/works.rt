@@ -19,7 +19,7 @@ ghost use Rattle.mesa_walk.specs.Walk.{run_at};
 ghost use Rattle.mesa_walk.specs.Works.{closing_stage, stage_if};
 
 use crate::Vault;
-use crate::asked::name_of;
+use crate::asked::work_of;
 use crate::standing::{allocator, catalogue};
 use mesa_completing::{complete, give_up, grant, renew};
 use mesa_disk::{Disk, Made};
@@ -41,8 +41,8 @@ impl<'s, N: Naming, M: Made, D: Disk<M>, K: Sink> Vault<'s, N, M, D, K> {
         ensures task { IfOk result (CanBeMerged D.Reader.bytes) }
         ensures granted { IfOk result (λ t. IsGranted D.Reader.bytes N.script N.start N.origin N.sound self.new.shown.history (known_task D.Reader.bytes t)) }
     {
-        let name = name_of(self.script, who);
-        let granted = grant(&mut self.engine, who, name);
+        let words = work_of(self.script, who);
+        let granted = grant(&mut self.engine, who, words);
         catalogue(&self.engine);
         granted
     }
@@ -57,8 +57,8 @@ impl<'s, N: Naming, M: Made, D: Disk<M>, K: Sink> Vault<'s, N, M, D, K> {
         ensures ran { OnOk result (self.old.shown.running ≡ true) }
         ensures same { IfOk result (λ t. t ≡ task) }
     {
-        let name = name_of(self.script, who);
-        renew(&mut self.engine, who, name, task)
+        let words = work_of(self.script, who);
+        renew(&mut self.engine, who, words, task)
     }
 
     /// A work's last turn: what its files were merged to, once its lease was renewed, or why they weren't.
@@ -85,17 +85,17 @@ impl<'s, N: Naming, M: Made, D: Disk<M>, K: Sink> Vault<'s, N, M, D, K> {
     {
         catalogue(&self.engine);
         let alloc = allocator(&self.engine);
-        let name = name_of(self.script, who);
+        let words = work_of(self.script, who);
         match merged {
             Ok(delta) => {
                 merges_are_known(&task, &delta);
                 ranges_go_on(&task);
                 tables_go_on();
-                complete(alloc, &mut self.engine, who, name, task, delta)
+                complete(alloc, &mut self.engine, who, words, task, delta)
             }
             Err(error) => {
                 bounds_are_known(&task);
-                give_up(&mut self.engine, who, name, task, error)
+                give_up(&mut self.engine, who, words, task, error)
             }
         }
     }

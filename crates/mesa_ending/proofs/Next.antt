@@ -98,7 +98,7 @@ module _ {K D M B : Type 0} (ports : Ports K D M B) (given : Devices K D B) (don
   -- what a run leaves, and what a crash leaves of it
   abbrev RunSound : Script → Type 0
   RunSound script =
-      (c : Catalog) (rows : Rows) → IsSoundStore ports.bytes old c rows → GoesOn ports given done → (run_at script (start_of script c rows) done.history.items).state.warehouse.closed ≡ None
+      (c : Catalog) (rows : Rows) → IsSoundStore ports.bytes old c rows → new.moment < last → (run_at script (start_of script c rows) done.history.items).state.warehouse.closed ≡ None
       → LeavesSound ports given done (kept_next (kept_of rows c) (record { script = script; turns = done.history.items }))
 
   abbrev RunFront : Script → Type 0
@@ -120,15 +120,15 @@ module _ {K D M B : Type 0} (ports : Ports K D M B) (given : Devices K D B) (don
   RestLeaves = RestSound × RestFront
 
   ran_sound : (script : Script) (k : Catalog) (failed : Bool) → Ran ports given done script k failed → RunSound script
-  ran_sound script k failed was c rows s goes unclosed =
+  ran_sound script k failed was c rows s below unclosed =
       let ran : Ran ports given done script c failed = subst (λ (x : Catalog). Ran ports given done script x failed) (sym (reads_same old c k rows s.start was.reads)) was in
       let start = start_of script c rows in
-      let well = ran.soundly rows s goes.1 in
+      let well = ran.soundly rows s below in
       let any = ran.anyhow rows in
       let read = well.reads unclosed in
       stands_sound ports.bytes new images s.files (kept_in (run_at script start done.history.items)) read.0 read.1
       (λ x may. found_last StandsFor script start done.history.items new.moment x any.legal.each (by_all done.history.items old.moment new.moment any.moments) unclosed
-      (well.crash goes.1 new.moment x goes.0 (omega arith) (images.counts_now new.moment x (omega arith) may)))
+      (well.crash below new.moment x any.clock (omega arith) (images.counts_now new.moment x (omega arith) may)))
 
   ran_front : (script : Script) (k : Catalog) (failed : Bool) → Ran ports given done script k failed → RunFront script
   ran_front script k failed was c rows s below unclosed t x from to left =
@@ -262,11 +262,11 @@ module _ {K D M B : Type 0} (ports : Ports K D M B) (given : Devices K D B) (don
 
   pub run_leaves_sound : (asked : Option Form) → RunLeavesSound ports given done asked input before now
   run_leaves_sound asked script c rows asks ends s goes unclosed = elim (all_leaves asked ends) [
-    | inl p ↦ subst (LeavesSound ports given done) (sym (ap (λ (h : List Entry). kept_in (run_at script (start_of script c rows) h)) p.0 ∙ kept_first script c rows)) (p.1.0 c rows s goes)
+    | inl p ↦ subst (LeavesSound ports given done) (sym (ap (λ (h : List Entry). kept_in (run_at script (start_of script c rows) h)) p.0 ∙ kept_first script c rows)) (p.1.0 c rows s (goes.0 p.0, goes.1))
     | inr p ↦
         let same = p.1 script asks in
         subst (λ (x : Script). LeavesSound ports given done (kept_in (run_at x (start_of x c rows) done.history.items))) (sym same)
-        (p.2.0 c rows s goes (subst (λ (x : Script). (run_at x (start_of x c rows) done.history.items).state.warehouse.closed ≡ None) same unclosed))
+        (p.2.0 c rows s goes.1 (subst (λ (x : Script). (run_at x (start_of x c rows) done.history.items).state.warehouse.closed ≡ None) same unclosed))
   ]
 
   pub crash_leaves_front : (asked : Option Form) → CrashLeavesFront ports given done asked input before now
@@ -284,5 +284,5 @@ module _ {K D M B : Type 0} (ports : Ports K D M B) (given : Devices K D B) (don
     | inr p ↦
         let script = p.0 in
         let unclosed = subst (λ (h : List Entry). (run_at script (start_of script c rows) h).state.warehouse.closed ≡ None) (sym none) (open_first script c rows) in
-        subst (LeavesSound ports given done) (ap (λ (h : List Entry). kept_in (run_at script (start_of script c rows) h)) none ∙ kept_first script c rows) (p.2.0 c rows s goes unclosed)
+        subst (LeavesSound ports given done) (ap (λ (h : List Entry). kept_in (run_at script (start_of script c rows) h)) none ∙ kept_first script c rows) (p.2.0 c rows s goes.1 unclosed)
   ]

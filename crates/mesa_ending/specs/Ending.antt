@@ -10,7 +10,7 @@ use Rattle.mesa_script.specs.Generated.{generated}
 use Rattle.mesa_script.specs.Script.{script_of}
 use Rattle.mesa_words.specs.declared.forms.Form.{Form}
 use Rattle.mesa_words.specs.declared.forms.Form.TheVariants as form
-use Rattle.mesa_excerpt.specs.Excerpt.{IsExcerpt, before_last_three}
+use Rattle.mesa_excerpt.specs.Excerpt.{IsExcerpt, IsExcerptButRows, before_last_three}
 use Rattle.mesa_skeleton.specs.Rows.{Rows}
 use Rattle.mesa_image.specs.Catalog.{Catalog}
 use Rattle.mesa_opening.specs.declared.error.OpenError.{OpenError}
@@ -97,11 +97,12 @@ module _ {K D M B : Type 0} (ports : Ports K D M B) (given : Devices K D B) (don
       Ran (in_memory ports) (record { out = []; disk = given.disk; benches = given.benches })
       (record { status = done.status; out = text; disk = done.disk; benches = done.benches; history = done.history }) script c failed
 
-  -- The sink has the line of the seed, and what the run printed for the script's last three commands where the store was sound; the status tells whether some reply is a refusal.
+  -- The sink has the line of the seed, and what the run printed for the script's last three commands: over a sound store their output, and over any store that but for the rows of pages and the fields of damages; the status tells whether some reply is a refusal.
   pub record Shows (seed versions : ℕ) (script : Script) (c : Catalog) : Type 0 where
     pub excerpt : List ℕ
     pub last_three : (rows : Rows) → IsSoundStore ports.bytes (ports.story given.disk) c rows → (ports.story done.disk).moment < last
         → IsExcerpt script (begins (start_of script c rows)) done.history.items (before_last_three script) excerpt
+    pub anyhow : (rows : Rows) → IsExcerptButRows script (begins (start_of script c rows)) done.history.items (before_last_three script) excerpt
     pub status : ℕ
     pub tells : (rows : Rows) → status ≡ status_of script (start_of script c rows) done.history.items
     pub prints : Prints status (gen_line seed versions ++ excerpt)

@@ -45,14 +45,18 @@ module _ {K D M B : Type 0} (ports : Ports K D M B) (given : Devices K D B) (don
   abbrev pub GoesOn : Type 0
   GoesOn = ((ports.story given.disk).moment ≤ (ports.story done.disk).moment) × ((ports.story done.disk).moment < last)
 
+  -- It is below its last value, and didn't fall where no turn was taken; in a run that takes turns it doesn't fall.
+  abbrev pub GoesOnAtRest : Type 0
+  GoesOnAtRest = (done.history.items ≡ [] → (ports.story given.disk).moment ≤ (ports.story done.disk).moment) × ((ports.story done.disk).moment < last)
+
   -- A call leaves the store sound, and it keeps this.
   abbrev pub LeavesSound : Kept → Type 0
   LeavesSound kept = IsSoundWith ports.bytes (ports.story done.disk) kept
 
-  -- A call that was asked for a run of a script over a sound store, while the clock goes on, leaves it sound unless a fault closed it; it keeps what it kept with all the turns.
+  -- A call that was asked for a run of a script over a sound store, while the clock is below its last value and doesn't fall where no turn is taken, leaves it sound unless a fault closed it; it keeps what it kept with all the turns.
   abbrev pub RunLeavesSound : Option Form → Option (List ℕ) → ℕ → ℕ → Type 0
   RunLeavesSound asked input before now =
-      (script : Script) (c : Catalog) (rows : Rows) → AsksFor asked input script → Ends ports given done asked input before now → IsSoundStore ports.bytes (ports.story given.disk) c rows → GoesOn
+      (script : Script) (c : Catalog) (rows : Rows) → AsksFor asked input script → Ends ports given done asked input before now → IsSoundStore ports.bytes (ports.story given.disk) c rows → GoesOnAtRest
       → (run_at script (start_of script c rows) done.history.items).state.warehouse.closed ≡ None → LeavesSound (kept_next (kept_of rows c) (record { script = script; turns = done.history.items }))
 
   -- And whatever moment a crash comes at, each image that it may have left has what the store kept with a front of the turns.

@@ -30,9 +30,10 @@ use Rattle.mesa_ending.specs.declared.done.Done.{Done}
 abbrev pub outset_from : Script → State → ℕ → ℕ → Option (List ℕ) → Outset
 outset_from script start since counted at_start = record { stands = StandsFor; script = script; start = start; since = since; counted = counted; at_start = at_start }
 
--- What holds of a run on any store: LEGAL; its moments lie between the clock at its start and at its end; no fault of the disk is answered twice; and the sink was given its entries' blocks, each in its order and as the entry tells it, but for the rows of a page and the fields of a damage, or where the sink failed a front of them. So its status goes by what was printed.
+-- What holds of a run on any store: LEGAL; the clock didn't fall, and its moments lie between the clock at its start and at its end; no fault of the disk is answered twice; and the sink was given its entries' blocks, each in its order and as the entry tells it, but for the rows of a page and the fields of a damage, or where the sink failed a front of them. So its status goes by what was printed.
 pub record RanAnyhow (script : Script) (start : State) (h : List Entry) (failed : Bool) (since counted : ℕ) (new : Story) (before now : Option (List ℕ)) : Type 0 where
   pub legal : IsLegal start script h failed
+  pub clock : since ≤ new.moment
   pub moments : AllByRecursion (λ (e : Entry). (since ≤ e.moment) × (e.moment ≤ new.moment)) h
   pub counts : HasCounted counted new (count_in is_disk_fault script (begins start) h)
   pub printed : IsPrintedButRows script (begins start) h (not failed) before now

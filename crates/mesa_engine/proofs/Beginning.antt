@@ -23,4 +23,4 @@ module _ (n : Starts) (w : Rows) (sound : Bool) (c : Catalog) (area : Area) (end
       (started_vault (outset_of n w) (n.origin w) sound c area end story held w is.bodies
       (started (outset_of n w) sound (books_of w (first_ledger (outset_of n w) c (n.origin w).generation area end)) story held
       (subst (λ l. AreBooksOf sound (books_of w l) (n.start w)) (sym ledger_is) is.state) is.since is.counted is.found is.sink)
-      is.ranges (ap (λ (b : Book). b.granted) is.leases) is.holds is.shaped is.own is.named_given (record { long = is.ready.long; fresh = is.ready.fresh; strays = is.ready.strays }) is.stocked is.sourced is.read)
+      (sym is.run) is.ranges (ap (λ (b : Book). b.granted) is.leases) is.holds is.shaped is.own is.named_given (record { long = is.ready.long; fresh = is.ready.fresh; strays = is.ready.strays }) is.stocked is.sourced is.read)

@@ -80,7 +80,7 @@ undone_alike a b l at s (command.Release token) cause has = failed_alike a b l (
 undone_alike a b l at s (command.Expire table version) cause has = failed_alike a b l (command.Expire table version) (λ w. expire_to w table version) cause has
 undone_alike a b l at s (command.Explain words) cause has = plan_alike a b l words cause has
 undone_alike a b l at s (command.Query words) cause has = answer_alike a b l s words cause has
-undone_alike a b l at s (command.Work name) cause has = claim_alike a b l at name cause has
+undone_alike a b l at s (command.Work words) cause has = claim_alike a b l at words.table cause has
 
 -- a command that is to be decided has no answer open
 pub deciding_unanswered : (c : Command) → is_answered (deciding_stage c) ≡ false
@@ -93,7 +93,7 @@ deciding_unanswered (command.Explain words) = refl
 deciding_unanswered (command.Pin asked) = refl
 deciding_unanswered (command.Release token) = refl
 deciding_unanswered (command.Expire table version) = refl
-deciding_unanswered (command.Work name) = refl
+deciding_unanswered (command.Work words) = refl
 
 -- ---- causes without a device
 
@@ -158,8 +158,8 @@ module _ (o : Outset) (g : Origin) (sound : Bool) (l : Ledger) (story : Story) (
     walks (command.Explain words) due cause has quiet now new_held put = unexplained_turn o sound (books_of v.rows l) story held h running refused v.walk s number low few m moment words due ran at place cause has now new_held put
     walks (command.Query words) due cause has quiet now new_held put =
         unpinned_turn o sound (books_of v.rows l) story held h running refused v.walk s number low few words m moment ran story (stays story) due cause has (counts cause quiet) at place now new_held put
-    walks (command.Work name) due cause has quiet now new_held put =
-        ungranted_turn o sound (books_of v.rows l) story held h running refused v.walk s number low few name m ran at place moment story (stays story) due cause has (counts cause quiet) now new_held put
+    walks (command.Work words) due cause has quiet now new_held put =
+        ungranted_turn o sound (books_of v.rows l) story held h running refused v.walk s number low few words m ran at place moment story (stays story) due cause has (counts cause quiet) now new_held put
 
     -- A turn that fails.
     pub failing_vault : (a : Rows) (c : Command) → IsDue o.script (run_of o h) s number c (deciding_stage c) → (cause : Cause) → HasNotDone (books_of a l) at s c cause → is_of_device cause ≡ false → (now : Bool) (new_held : Option (List ℕ))
@@ -195,7 +195,7 @@ module _ (o : Outset) (g : Origin) (sound : Bool) (l : Ledger) (story : Story) (
       takes_as o.script o.start old new s number (command.Query words) First kind.Decide Finished due (outcome_of cause)
       (unpinned_ends o sound (books_of v.rows l) story held h running refused v.walk s number low few words new.clock moment ran story (stays story) due cause (answer_alike a v.rows l s words cause has))
       grew (runs_on cause) (λ on. ran) seen
-  failing_takes (command.Work name) due cause has grew =
-      takes_as o.script o.start old new s number (command.Work name) First kind.Grant Finished due (outcome_of cause)
-      (ungranted_ends o sound (books_of v.rows l) story held h running refused v.walk s number low few name new.clock ran at place moment story (stays story) due cause (claim_alike a v.rows l at name cause has))
+  failing_takes (command.Work words) due cause has grew =
+      takes_as o.script o.start old new s number (command.Work words) First kind.Grant Finished due (outcome_of cause)
+      (ungranted_ends o sound (books_of v.rows l) story held h running refused v.walk s number low few words new.clock ran at place moment story (stays story) due cause (claim_alike a v.rows l at words.table cause has))
       grew (runs_on cause) (λ on. ran) seen

@@ -20,13 +20,14 @@ use Rattle.mesa_ledger.specs.Vault.{Starts, IsRead, IsReady, outset_of}
 use Rattle.mesa_catalog.specs.Lookups.{generation_of}
 use Rattle.mesa_metadata.specs.Memory.{opened_ledger}
 
--- What a run of a family finds at its start, where the files have these rows. On every store: the catalogue is that of its start's skeleton, and has the shape and the ids of one; the disk's clock and counts aren't behind those of the start; the sink has what the start says; and the disk is ready for the run's first record. On a sound store: a read gives an image, the journal that ends here, in this area, holds the catalogue with these rows, and whatever a crash since the start may have left is found.
+-- What a run of a family finds at its start, where the files have these rows. On every store: the catalogue is that of its start's skeleton and of this run, and has the shape and the ids of one; the disk's clock and counts aren't behind those of the start; the sink has what the start says; and the disk is ready for the run's first record. On a sound store: a read gives an image, the journal that ends here, in this area, holds the catalogue with these rows, and whatever a crash since the start may have left is found.
 pub record IsBegun (n : Starts) (w : Rows) (sound : Bool) (c : Catalog) (area : Area) (end turns : ℕ) (story : Story) (held : Option (List ℕ)) : Type 0 where
   pub bodies : List (List ℕ)
   pub state : AreBooksOf sound (books_of w (opened_ledger c area end turns)) (n.start w)
   pub leases : (n.start w).machine.leases ≡ begun max_tables turns
   pub ranges : HasRanges (n.start w)
   pub generation : (n.origin w).generation ≡ generation_of c
+  pub run : (n.origin w).run ≡ c.run
   pub shaped : IsCatalog c
   pub own : HasOwnIds c
   pub named_given : (id : ℕ) → Among id (named c) → id < first_id c.run + 0

@@ -32,7 +32,7 @@ deciding_stage c = First
 
 -- the kind of the turn that decides it
 abbrev pub deciding_kind : Command → Kind
-deciding_kind (command.Work name) = kind.Grant
+deciding_kind (command.Work words) = kind.Grant
 deciding_kind c = kind.Decide
 
 -- Why the turn that decides a command does nothing for it: it is refused as the books say, or a fault or want of memory stands in its way.
@@ -46,7 +46,7 @@ HasNotDone books position session (command.Release token) cause = HasFailed book
 HasNotDone books position session (command.Expire table version) cause = HasFailed books (command.Expire table version) (λ w. expire_to w table version) cause
 HasNotDone books position session (command.Explain words) cause = HasNoPlan books words cause
 HasNotDone books position session (command.Query words) cause = HasNoAnswer books session words cause
-HasNotDone books position session (command.Work name) cause = HasNoClaim books position name cause
+HasNotDone books position session (command.Work words) cause = HasNoClaim books position words.table cause
 
 -- whether a device has to have failed for a cause, or a file to be damaged
 abbrev pub is_of_device : Cause → Bool

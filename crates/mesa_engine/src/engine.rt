@@ -74,6 +74,7 @@ impl<N: Naming, M: Made, D: Disk<M>, K: Sink> Engine<N, M, D, K> {
     /// The run's number.
     pub fn run(&self) -> u32
         ensures number { result ≡ self.now.ledger.catalogue.run }
+        ensures origin { (w : Rows) → result ≡ (N.origin w).run }
         ensures few { result < 2 ^ 24 }
     {
         self.metadata.run()

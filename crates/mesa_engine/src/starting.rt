@@ -81,6 +81,7 @@ impl<N: Naming, M: Made, D: Disk<M>, K: Sink> Engine<N, M, D, K> {
         // Its moments are those of the run.
         ensures since { AllByRecursion (λ e. N.since ≤ e.moment) result.2.items }
         ensures until { AllByRecursion (λ e. e.moment ≤ (D.story result.0).moment) result.2.items }
+        ensures later { N.since ≤ (D.story result.0).moment }
 
         // Each fault that it answers was counted.
         ensures counts { (w : Rows) → HasCounted N.counted (D.story result.0) (faults_in (outset_of (starts_of N.script N.start N.sound N.origin N.since N.counted N.at_start) w) result.2.items) }

@@ -1,25 +1,20 @@
 -- What a run of one session prints for its last commands stands behind as many lines as there are commands before them, where none of these is a query.
-use Rattle.std.proofs.Common.{◌≡◌, ℕ, zero, suc, ◌+◌, ◌≤◌, ◌<◌, List, [], ◌∷◌, ◌++◌, length, Bool, true, false, refl, sym, ap, subst, ◌∙◌, append_assoc, append-nil, arith, Option, Some, None, eqb-true}
-use Rattle.std.specs.Prelude.{decimal, if◌then◌else◌}
+use Rattle.std.proofs.Common.{◌≡◌, ℕ, zero, suc, ◌+◌, ◌≤◌, ◌<◌, List, [], ◌∷◌, ◌++◌, length, Bool, true, false, refl, sym, ap, subst, ◌∙◌, append_assoc, arith, Option, Some, None, eqb-true}
+use Rattle.std.specs.Prelude.{if◌then◌else◌}
 use Rattle.std.specs.List.{AllByRecursion}
 use Rattle.mesa_model.specs.declared.commands.Command.{Command}
 use Rattle.mesa_model.specs.declared.commands.Script.{Script}
 use Rattle.mesa_model.specs.declared.entries.Entry.{Entry}
-use Rattle.mesa_model.specs.declared.entries.Outcome.{Outcome}
-use Rattle.mesa_model.specs.declared.entries.Outcome.TheVariants as outcome
 use Rattle.mesa_history.specs.Legal.{AllFit}
-use Rattle.mesa_history.specs.Replay.{go, place_after, runs, turn_as, turned}
+use Rattle.mesa_history.specs.Replay.{go, place_after, runs, told_by, turn_as, turned}
 use Rattle.mesa_history.specs.Run.{Answered, CutOff, Finished, First, Granted, Looked, Place, Renewed, Run, Stage, State, Told, begins, command_at, place_of}
 use Rattle.mesa_history.proofs.Due.{due_turn, fit_below}
 use Rattle.mesa_history.proofs.Places.{place_of-go}
-use Rattle.mesa_output.specs.Output.{IsBlockAs, IsOutput, block}
-use Rattle.mesa_script.specs.Replies.{head_line, reply_text}
-use Rattle.mesa_script.specs.Rows.{body_of}
-use Rattle.mesa_walk.specs.Undamaged.{NoneDamaged, is_damaged}
-use Rattle.mesa_excerpt.specs.Excerpt.{HasPlainNames, IsExcerpt, before_last_three, is_unasked}
+use Rattle.mesa_excerpt.specs.Excerpt.{HasPlainNames, IsExcerptBy, Output, before_last_three, is_unasked}
 use Rattle.mesa_excerpt.proofs.Behind.{behind_nothing}
 use Rattle.mesa_excerpt.specs.Lines.{IsUnbroken, behind_lines}
-use Rattle.mesa_excerpt.proofs.Breaks.{decimal_unbroken, unbroken_both, unbroken_parts}
+use Rattle.mesa_excerpt.proofs.Blocks.{IsMadeOf}
+use Rattle.mesa_excerpt.proofs.Breaks.{unbroken_parts}
 use Rattle.mesa_excerpt.proofs.Reading.{EndsWithQueries}
 use Rattle.mesa_excerpt.proofs.Turn.{Good, GoesOn, IsTurn, turn_good}
 
@@ -31,26 +26,6 @@ behind_line n [] rest is = refl
 behind_line n (b ∷ line) rest is =
     let parts = unbroken_parts b line is in
     ap (λ (t : Bool). if t then behind_lines n (line ++ 10 ∷ rest) else behind_lines (suc n) (line ++ 10 ∷ rest)) parts.0 ∙ behind_line n line rest parts.1
-
--- ---- blocks
-
-no_block : (o : Outcome) (e : Entry) (text : List ℕ) → is_damaged o ≡ false → IsBlockAs o e None text → text ≡ []
-unfolding block
-no_block outcome.Stands e text well is = is
-no_block outcome.Memory e text well is = is
-no_block outcome.ReadFault e text well is = is
-no_block outcome.WriteFault e text well is = is
-no_block outcome.Damaged e text well is = absurd cc
-no_block outcome.Skipped e text well is = is
-
-one_block : (o : Outcome) (e : Entry) (told : Told) (text : List ℕ) → is_damaged o ≡ false → IsBlockAs o e (Some told) text → text ≡ head_line e.session e.command told.at told.reply ++ body_of told.heading told.reply
-unfolding block
-one_block outcome.Stands e told text well is = is
-one_block outcome.Memory e told text well is = is
-one_block outcome.ReadFault e told text well is = is
-one_block outcome.WriteFault e told text well is = is
-one_block outcome.Damaged e told text well is = absurd cc
-one_block outcome.Skipped e told text well is = is
 
 -- ---- the place of the session
 
@@ -72,7 +47,7 @@ rises number (Renewed claim) = omega arith
 rises number Finished = omega arith
 rises number CutOff = omega arith
 
-module _ (script : Script) (first : ℕ) (one : length script.sessions ≡ 1) where
+module _ (is_output : Output) (is_piece : Entry → Option Told → List ℕ → Type 0) (made : IsMadeOf is_output is_piece) (script : Script) (first : ℕ) (one : length script.sessions ≡ 1) where
   own : (r : Run) (e : Entry) (h : List Entry) → AllFit script r (e ∷ h) → e.session ≡ 0
   own r e h all = let below = (fit_below script r (e ∷ h) 1 (omega (arith, one)) all).0 in omega (arith, below)
 
@@ -96,7 +71,7 @@ module _ (script : Script) (first : ℕ) (one : length script.sessions ≡ 1) wh
       (omega (arith, number, over), later (go script r e) h (omega (arith, next, more, over)) all.1)
 
   -- one entry more before
-  entry_more : (r : Run) (e : Entry) (h : List Entry) (text : List ℕ) → e.command ≤ first → IsExcerpt script (go script r e) h first text → IsExcerpt script r (e ∷ h) first text
+  entry_more : (r : Run) (e : Entry) (h : List Entry) (text : List ℕ) → e.command ≤ first → IsExcerptBy is_output script (go script r e) h first text → IsExcerptBy is_output script r (e ∷ h) first text
   unfolding runs
   entry_more r e h text le x = record {
     past = e ∷ x.past;
@@ -108,23 +83,26 @@ module _ (script : Script) (first : ℕ) (one : length script.sessions ≡ 1) wh
   }
 
   module _ (unasked : (n : ℕ) (c : Command) → n ≤ first → command_at script 0 n ≡ Some c → is_unasked c ≡ true) where
-    good_turn : (r : Run) (e : Entry) (h : List Entry) → AllFit script r (e ∷ h) → is_damaged e.outcome ≡ false → HasPlainNames r.state.warehouse.store → GoesOn (place_of r 0).stage → e.command ≤ first → Good (turned script r e)
+    good_turn : (r : Run) (e : Entry) (h : List Entry) → AllFit script r (e ∷ h) → HasPlainNames r.state.warehouse.store → GoesOn (place_of r 0).stage → e.command ≤ first → Good (turned script r e)
     unfolding AllFit turned
-    good_turn r e h all well plain on le =
+    good_turn r e h all plain on le =
         let turn = due_turn script r e all.0.due in
         let session = own r e h all in
         let asked : is_unasked turn.command ≡ true = unasked e.command turn.command le (subst (λ s. command_at script s e.command ≡ Some turn.command) session turn.known) in
         subst (λ o. Good (turn_as r e o)) (sym turn.known)
-        (turn_good r turn.command e (place_of r e.session).stage e.outcome plain asked (subst (λ s. GoesOn (place_of r s).stage) (sym session) on) well)
+        (turn_good r turn.command e (place_of r e.session).stage e.outcome plain asked (subst (λ s. GoesOn (place_of r s).stage) (sym session) on))
 
     -- the excerpt of a history from where a session has come to a command that is among the first
-    pub cut : (r : Run) (h : List Entry) (text : List ℕ) (left : ℕ) → AllFit script r h → NoneDamaged h → HasPlainNames r.state.warehouse.store → GoesOn (place_of r 0).stage → left + (place_of r 0).number ≡ first + 1
-        → IsOutput script r h text → IsExcerpt script r h first (behind_lines left text)
-    unfolding AllFit IsOutput runs behind_lines go
-    cut r h text zero all well plain on count output = record { past = []; rest = h; split = refl; before = tt; behind = later r h (omega (arith, count)) all; output = output }
-    cut r [] text (suc left) all well plain on count output = record { past = []; rest = []; split = refl; before = tt; behind = tt; output = ap (behind_lines (suc left)) output ∙ behind_nothing (suc left) }
-    cut r (e ∷ h) text (suc left) all well plain on count output =
-        by (λ more goes there. cut (go script r e) h output.1.0 more all.1 well.1 good.names goes there output.1.1.1) (turned script r e).told refl good.turn
+    pub cut : (r : Run) (h : List Entry) (text : List ℕ) (left : ℕ) → AllFit script r h → HasPlainNames r.state.warehouse.store → GoesOn (place_of r 0).stage → left + (place_of r 0).number ≡ first + 1
+        → is_output script r h text → IsExcerptBy is_output script r h first (behind_lines left text)
+    unfolding AllFit runs behind_lines go
+    cut r h text zero all plain on count output = record { past = []; rest = h; split = refl; before = tt; behind = later r h (omega (arith, count)) all; output = output }
+    cut r [] text (suc left) all plain on count output =
+        let none : text ≡ [] = made.nothing script r text output in
+        let same : text ≡ behind_lines (suc left) text = none ∙ sym (ap (behind_lines (suc left)) none ∙ behind_nothing (suc left)) in
+        record { past = []; rest = []; split = refl; before = tt; behind = tt; output = subst (is_output script r []) same output }
+    cut r (e ∷ h) text (suc left) all plain on count output =
+        by (λ more goes there. cut (go script r e) h rest more all.1 good.names goes there parts.1.1.1) (turned script r e).told refl good.turn
       where
         number : e.command ≡ (place_of r 0).number
         number = due_number r e h all
@@ -133,47 +111,43 @@ module _ (script : Script) (first : ℕ) (one : length script.sessions ≡ 1) wh
         le = omega (arith, number, count)
 
         good : Good (turned script r e)
-        good = good_turn r e h all well.0 plain on le
+        good = good_turn r e h all plain on le
+
+        parts : (piece : List ℕ) × ((rest : List ℕ) × (is_piece e (told_by script r e) piece × is_output script (go script r e) h rest × (text ≡ piece ++ rest)))
+        parts = made.more script r e h text output
 
         piece : List ℕ
-        piece = output.0
+        piece = parts.0
 
         rest : List ℕ
-        rest = output.1.0
+        rest = parts.1.0
 
         next : place_of (go script r e) 0 ≡ place_after (place_of r 0).number (turned script r e).stage
         next = place_next r e h all
 
         Rest : Type 0
-        Rest = (more : ℕ) → GoesOn (place_of (go script r e) 0).stage → more + (place_of (go script r e) 0).number ≡ first + 1 → IsExcerpt script (go script r e) h first (behind_lines more rest)
+        Rest = (more : ℕ) → GoesOn (place_of (go script r e) 0).stage → more + (place_of (go script r e) 0).number ≡ first + 1 → IsExcerptBy is_output script (go script r e) h first (behind_lines more rest)
 
-        by : Rest → (o : Option Told) → (turned script r e).told ≡ o → IsTurn o (turned script r e).stage → IsExcerpt script r (e ∷ h) first (behind_lines (suc left) text)
+        by : Rest → (o : Option Told) → (turned script r e).told ≡ o → IsTurn o (turned script r e).stage → IsExcerptBy is_output script r (e ∷ h) first (behind_lines (suc left) text)
         by cuts None told goes =
             let place : place_of (go script r e) 0 ≡ record { number = (place_of r 0).number; stage = (turned script r e).stage } = next ∙ stays (place_of r 0).number (turned script r e).stage goes in
-            let empty : piece ≡ [] = no_block e.outcome e piece well.0 (subst (λ o. IsBlockAs e.outcome e o piece) told output.1.1.0) in
-            let same : text ≡ rest = output.1.1.2 ∙ ap (λ (p : List ℕ). p ++ rest) empty in
+            let empty : piece ≡ [] = made.empty e piece (subst (λ o. is_piece e o piece) told parts.1.1.0) in
+            let same : text ≡ rest = parts.1.1.2 ∙ ap (λ (p : List ℕ). p ++ rest) empty in
             let here = ap (λ (p : Place). p.number) place in
-            entry_more r e h _ le (subst (λ t. IsExcerpt script (go script r e) h first (behind_lines (suc left) t)) (sym same)
+            entry_more r e h _ le (subst (λ t. IsExcerptBy is_output script (go script r e) h first (behind_lines (suc left) t)) (sym same)
             (cuts (suc left) (subst (λ (p : Place). GoesOn p.stage) (sym place) goes) (omega (arith, here, count))))
         by cuts (Some told) tells ends =
             let place : place_of (go script r e) 0 ≡ record { number = (place_of r 0).number + 1; stage = First } = next ∙ ap (place_after (place_of r 0).number) ends.0 in
             let here = ap (λ (p : Place). p.number) place in
-            let line : List ℕ = decimal e.session ++ 46 ∷ decimal e.command ++ 64 ∷ decimal told.at ++ 32 ∷ reply_text told.reply in
-            let whole : piece ≡ line ++ 10 ∷ [] =
-            one_block e.outcome e told piece well.0 (subst (λ o. IsBlockAs e.outcome e o piece) tells output.1.1.0)
-            ∙ ap (λ (b : List ℕ). head_line e.session e.command told.at told.reply ++ b) (ends.1.body told.heading) ∙ append-nil _ in
-            let unbroken : IsUnbroken line =
-            unbroken_both (decimal e.session ++ 46 ∷ decimal e.command ++ 64 ∷ decimal told.at) (32 ∷ reply_text told.reply)
-            (unbroken_both (decimal e.session ++ 46 ∷ decimal e.command) (64 ∷ decimal told.at)
-            (unbroken_both (decimal e.session) (46 ∷ decimal e.command) (decimal_unbroken e.session) (decimal_unbroken e.command)) (decimal_unbroken told.at)) ends.1.text in
-            let same : text ≡ line ++ 10 ∷ rest = output.1.1.2 ∙ ap (λ (p : List ℕ). p ++ rest) whole ∙ append_assoc line (10 ∷ []) rest in
-            let cut_off : behind_lines (suc left) text ≡ behind_lines left rest = ap (behind_lines (suc left)) same ∙ behind_line left line rest unbroken in
-            entry_more r e h _ le (subst (IsExcerpt script (go script r e) h first) (sym cut_off)
+            let line = made.line e told piece ends.1 (subst (λ o. is_piece e o piece) tells parts.1.1.0) in
+            let same : text ≡ line.line ++ 10 ∷ rest = parts.1.1.2 ∙ ap (λ (p : List ℕ). p ++ rest) line.is ∙ append_assoc line.line (10 ∷ []) rest in
+            let cut_off : behind_lines (suc left) text ≡ behind_lines left rest = ap (behind_lines (suc left)) same ∙ behind_line left line.line rest line.unbroken in
+            entry_more r e h _ le (subst (IsExcerptBy is_output script (go script r e) h first) (sym cut_off)
             (cuts left (subst (λ (p : Place). GoesOn p.stage) (sym place) tt) (omega (arith, here, count))))
 
 -- The excerpt of a whole run.
-pub excerpt_cut : (script : Script) → EndsWithQueries script → (start : State) (h : List Entry) (text : List ℕ) → AllFit script (begins start) h → NoneDamaged h → HasPlainNames start.warehouse.store → IsOutput script (begins start) h text
-    → IsExcerpt script (begins start) h (before_last_three script) (behind_lines (before_last_three script) text)
+pub excerpt_cut : (is_output : Output) (is_piece : Entry → Option Told → List ℕ → Type 0) → IsMadeOf is_output is_piece → (script : Script) → EndsWithQueries script → (start : State) (h : List Entry) (text : List ℕ) → AllFit script (begins start) h
+    → HasPlainNames start.warehouse.store → is_output script (begins start) h text → IsExcerptBy is_output script (begins start) h (before_last_three script) (behind_lines (before_last_three script) text)
 unfolding place_of
-excerpt_cut script ends start h text all well names output =
-    cut script (before_last_three script) ends.one ends.unasked (begins start) h text (before_last_three script) all well names tt refl output
+excerpt_cut is_output is_piece made script ends start h text all names output =
+    cut is_output is_piece made script (before_last_three script) ends.one ends.unasked (begins start) h text (before_last_three script) all names tt refl output

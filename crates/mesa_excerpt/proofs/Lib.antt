@@ -3,6 +3,7 @@ pub mod Breaks
 pub mod Checks
 pub mod Names
 pub mod Short
+pub mod Blocks
 pub mod Turn
 pub mod Cutting
 pub mod Plain

@@ -17,7 +17,7 @@ use Rattle.mesa_script.specs.declared.script.Reason.TheVariants as reason
 use Rattle.mesa_script.specs.declared.script.ScriptError.{ScriptError}
 use Rattle.mesa_script.specs.declared.script.ScriptError.TheVariants as bad
 use Rattle.mesa_script.specs.Generated.{draw, generated}
-use Rattle.mesa_script.specs.Items.{EndOfLoad, Item, LeaseOf, NextSession, RowOf, Single, expire_words, item_of}
+use Rattle.mesa_script.specs.Items.{EndOfLoad, Item, LeaseOf, NextSession, RowOf, Single, expire_words, item_of, parts_of}
 use Rattle.mesa_script.specs.Records.{Alter, Commit, Expire, Explain, Lease, Name, Pin, Query, Release, Row, Session, Table, View, Work, field, fits_fields, name_of}
 use Rattle.mesa_script.specs.Script.{Read, fits_order, item_at, max_commands, nothing_read, read_from, records_of, script_from, script_of, with_item, with_record}
 use Rattle.mesa_excerpt.specs.Excerpt.{before_last_three, is_unasked}
@@ -100,7 +100,7 @@ plain_item View f is = says_it IsPlainItem (Single _) refl
 plain_item Row f is = says_it IsPlainItem (RowOf _) tt
 plain_item Commit f is = says_it IsPlainItem EndOfLoad tt
 plain_item Expire f is = expiry_item (length f == 3) f
-plain_item Work f is = says_it IsPlainItem (Single _) refl
+plain_item Work f is = says_then IsPlainItem (parts_of (length f == 3) f) _ (λ parts. says_it IsPlainItem (Single _) refl)
 plain_item Lease f is = absurd cc
 plain_item Session f is = absurd cc
 plain_item Alter f is = absurd cc

@@ -45,17 +45,23 @@ use Rattle.mesa_excerpt.proofs.Checks.{on_check, on_if, on_other, on_other_check
 use Rattle.mesa_excerpt.specs.Excerpt.{ArePlainColumns, HasPlainNames, IsPlainColumn, IsPlainTable}
 use Rattle.mesa_excerpt.proofs.Names.{chosen_plain, loaded_plain, named_columns, named_plain, sum_plain, table_plain}
 
--- a reply without lines behind its head line, and without a line break in it
+-- whether a reply is a page
+abbrev pub is_page : Reply → Bool
+is_page (reply.Page page) = true
+is_page r = false
+
+-- a reply that is no page, without lines behind its head line, and without a line break in it
 pub record IsShort (r : Reply) : Type 0 where
   pub text : IsUnbroken (reply_text r)
   pub body : (heading : Heading) → body_of heading r ≡ []
+  pub unpaged : is_page r ≡ false
 
 -- a refusal without a line break
 abbrev pub IsShortRefusal : Refusal → Type 0
 IsShortRefusal e = IsUnbroken (refusal_text e)
 
 pub refused_short : (e : Refusal) → IsShortRefusal e → IsShort (reply.Refused e)
-refused_short e is = record { text = is; body = λ heading. refl }
+refused_short e is = record { text = is; body = λ heading. refl; unpaged = refl }
 
 -- a text, a number behind it, and what follows
 numbered : (text : List ℕ) (n : ℕ) → IsUnbroken text → IsUnbroken (text ++ decimal n)
@@ -171,7 +177,7 @@ module _ (w : Warehouse) (plain : HasPlainNames w.store) where
   closed next good = on_check Does (refuse_closed w.closed) next (λ e is. refusing e (closed_short w.closed e is)) good
 
   pub nothing_does : Does (refuse_closed w.closed >> Ok (w, reply.Idle))
-  nothing_does = closed _ (record { names = plain; short = record { text = refl; body = λ heading. refl } })
+  nothing_does = closed _ (record { names = plain; short = record { text = refl; body = λ heading. refl; unpaged = refl } })
 
   pub table_does : (words : TableWords) → Does (make_table w words)
   table_does words =
@@ -184,7 +190,7 @@ module _ (w : Warehouse) (plain : HasPlainNames w.store) where
       record {
         names = all_append IsPlainTable w.store.tables (_ ∷ []) plain
             ((name_unbroken words.table named, named_columns (columns_asked words).values (and_parts (list_all is_name (key_names (columns_asked words))) _ good).1), tt);
-        short = record { text = name_unbroken words.table named; body = λ heading. refl };
+        short = record { text = name_unbroken words.table named; body = λ heading. refl; unpaged = refl };
       }))))))
 
   pub view_does : (words : ViewWords) → Does (make_view w words)
@@ -198,7 +204,7 @@ module _ (w : Warehouse) (plain : HasPlainNames w.store) where
       on_check Does (view_of_table_checked t words) _ (λ e is. refusing e ((rules t words table).short e is)) (
       record {
         names = all_set IsPlainTable w.store.tables number _ table plain;
-        short = record { text = name_unbroken words.view named; body = λ heading. refl };
+        short = record { text = name_unbroken words.view named; body = λ heading. refl; unpaged = refl };
       })))))
     where
       last : (b : Bool) → Bounds (refuse_if b (no.TablesFull max_views))
@@ -218,7 +224,7 @@ module _ (w : Warehouse) (plain : HasPlainNames w.store) where
       on_check Does (bounds_checked placed 0 w.store.tables) _ (λ e is. refusing e ((bounds_short placed 0 w.store.tables plain).short e is)) (
       record {
         names = loaded_plain placed 0 w.store.tables plain;
-        short = record { text = two_numbers [] _ w.next (length placed) refl refl; body = λ heading. refl };
+        short = record { text = two_numbers [] _ w.next (length placed) refl refl; body = λ heading. refl; unpaged = refl };
       }))))
 
   pub expire_does : (table : Option (List ℕ)) (version : ℕ) → Does (expire_to w table version)
@@ -227,7 +233,7 @@ module _ (w : Warehouse) (plain : HasPlainNames w.store) where
       on_check Does (version_checked w w.store.floor version) _ (λ e is. refusing e ((version_short w w.store.floor version).short e is)) (
       record {
         names = all_map IsPlainTable (table_from version) w.store.tables plain;
-        short = record { text = decimal_unbroken version; body = λ heading. refl };
+        short = record { text = decimal_unbroken version; body = λ heading. refl; unpaged = refl };
       }))
   expire_does (Some name) version =
       closed _ (
@@ -235,5 +241,5 @@ module _ (w : Warehouse) (plain : HasPlainNames w.store) where
       on_check Does (version_checked w (table_at w.store number).oldest version) _ (λ e is. refusing e ((version_short w (table_at w.store number).oldest version).short e is)) (
       record {
         names = all_set IsPlainTable w.store.tables number (table_from version (table_at w.store number)) (table_plain w.store number plain) plain;
-        short = record { text = numbered (name ++ codes " oldest=") version (unbroken_both name (codes " oldest=") (named_plain w.store name number plain found) refl); body = λ heading. refl };
+        short = record { text = numbered (name ++ codes " oldest=") version (unbroken_both name (codes " oldest=") (named_plain w.store name number plain found) refl); body = λ heading. refl; unpaged = refl };
       })))

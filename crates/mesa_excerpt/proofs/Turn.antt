@@ -20,11 +20,11 @@ use Rattle.mesa_model.specs.Warehouse.{newest_of, table_at}
 use Rattle.mesa_model.specs.Relations.{table_number}
 use Rattle.mesa_history.specs.mesa_span.Work.{next_work}
 use Rattle.mesa_history.specs.Machine.{Claim, claim_checked, claim_of, ranges_at, refuse_busy, swapped_reply}
-use Rattle.mesa_history.specs.Replay.{Turned, closed_if, closed_off, closes, completes, decide, grants, refused_turn, refuses, renews, standing, turn_of, work_name}
+use Rattle.mesa_history.specs.Replay.{Turned, closed_if, closed_off, closes, completes, decide, grants, refused_turn, refuses, renews, some_damage, standing, turn_of, work_name}
 use Rattle.mesa_history.specs.Run.{Answered, CutOff, Finished, First, Granted, Looked, Renewed, Run, Stage, State, Told}
 use Rattle.mesa_lease.specs.Book.{holder, other_holder}
-use Rattle.mesa_walk.specs.Undamaged.{is_damaged}
 use Rattle.mesa_excerpt.specs.Excerpt.{HasPlainNames, is_unasked}
+use Rattle.mesa_excerpt.proofs.Blocks.{damage_unbroken}
 use Rattle.mesa_excerpt.proofs.Breaks.{decimal_unbroken, unbroken_both}
 use Rattle.mesa_excerpt.proofs.Checks.{on_check, on_other_check, on_some}
 use Rattle.mesa_excerpt.proofs.Short.{IsShort, IsShortRefusal, closed_short, expire_does, load_does, nothing_does, refused_short, table_does, two_numbers, view_does}
@@ -58,7 +58,7 @@ module _ (position : ℕ) (s : State) (plain : HasPlainNames s.warehouse.store) 
   decides session (command.View words) is = let d = view_does s.warehouse plain words in record { names = d.names; turn = (refl, d.short) }
   decides session (command.Load rows) is = let d = load_does s.warehouse plain rows in record { names = d.names; turn = (refl, d.short) }
   decides session (command.Expire table version) is = let d = expire_does s.warehouse plain table version in record { names = d.names; turn = (refl, d.short) }
-  decides session (command.Work name) is = let d = nothing_does s.warehouse plain in record { names = d.names; turn = (refl, d.short) }
+  decides session (command.Work words) is = let d = nothing_does s.warehouse plain in record { names = d.names; turn = (refl, d.short) }
   decides session (command.Alter words) is = absurd cc
   decides session (command.Query words) is = absurd cc
   decides session (command.Explain words) is = absurd cc
@@ -75,7 +75,7 @@ module _ (position : ℕ) (s : State) (plain : HasPlainNames s.warehouse.store) 
 
   busy : (o : Option ℕ) (e : Reply) → refuse_busy o ≡ Err e → IsShort e
   busy None e is = absurd cc
-  busy (Some lease) e is = (let same : reply.Busy lease ≡ e = cc in subst IsShort same (record { text = decimal_unbroken lease; body = λ heading. refl }))
+  busy (Some lease) e is = (let same : reply.Busy lease ≡ e = cc in subst IsShort same (record { text = decimal_unbroken lease; body = λ heading. refl; unpaged = refl }))
 
   granted : (name : List ℕ) → Good (grants position s (claim_of s.warehouse s.machine position name))
   granted name =
@@ -84,7 +84,7 @@ module _ (position : ℕ) (s : State) (plain : HasPlainNames s.warehouse.store) 
       on_some Grants (table_number s.warehouse.store name) _ _ (ungranted _ (refused_short (no.NoTable None) refl)) (λ table found.
       on_check Grants (refuse_busy (holder s.machine.leases table position)) _ (λ e is. ungranted e (busy (holder s.machine.leases table position) e is)) (
       on_some Grants (next_work (ranges_at s.machine table) (table_at s.warehouse.store table).oldest (newest_of s.warehouse)) reply.Idle (λ w. Ok (record { table = table; lease = s.machine.leases.granted + 1; work = w }))
-      (ungranted reply.Idle (record { text = refl; body = λ heading. refl })) (λ w due. record { good = record { names = plain; turn = tt } })))) in
+      (ungranted reply.Idle (record { text = refl; body = λ heading. refl; unpaged = refl })) (λ w due. record { good = record { names = plain; turn = tt } })))) in
       all.good
 
   lost_short : (lease : ℕ) (o : Option ℕ) → IsShortRefusal (no.Lost lease o)
@@ -110,8 +110,8 @@ module _ (position : ℕ) (s : State) (plain : HasPlainNames s.warehouse.store) 
   renewed claim (Err e) is = refusing position s refl e (is.short e refl)
 
   swapped : (w : Work) → IsShort (swapped_reply w)
-  swapped (work.Base to) = record { text = unbroken_both (decimal 0) (32 ∷ decimal to) (decimal_unbroken 0) (decimal_unbroken to); body = λ heading. refl }
-  swapped (work.Cumulative from to) = record { text = unbroken_both (decimal from) (32 ∷ decimal to) (decimal_unbroken from) (decimal_unbroken to); body = λ heading. refl }
+  swapped (work.Base to) = record { text = unbroken_both (decimal 0) (32 ∷ decimal to) (decimal_unbroken 0) (decimal_unbroken to); body = λ heading. refl; unpaged = refl }
+  swapped (work.Cumulative from to) = record { text = unbroken_both (decimal from) (32 ∷ decimal to) (decimal_unbroken from) (decimal_unbroken to); body = λ heading. refl; unpaged = refl }
 
   completed : (claim : Claim) (r : Result (Unit {0}) Refusal) → Claims r → Good (completes position s claim r)
   completed claim (Ok ok) is = record { names = plain; turn = (refl, swapped claim.work) }
@@ -158,13 +158,12 @@ closing_plain : (closing : Bool) (position : ℕ) (s : State) → HasPlainNames 
 closing_plain true position s plain = plain
 closing_plain false position s plain = plain
 
--- A turn of a command that isn't a query, where it meets no damage.
-pub turn_good : (r : Run) (c : Command) (e : Entry) (stage : Stage) (o : Outcome) → HasPlainNames r.state.warehouse.store → is_unasked c ≡ true → GoesOn stage → is_damaged o ≡ false
-    → Good (turn_of r c e stage o)
-turn_good r c e stage outcome.Stands plain is on well = stands r.position r.state plain e.session c is e.kind stage on
-turn_good r c e stage outcome.Memory plain is on well = refuses_turn r.position r.state plain e.kind stage no.Memory refl
-turn_good r c e stage outcome.ReadFault plain is on well = refuses_turn r.position r.state plain e.kind stage no.ReadFault refl
-turn_good r c e stage outcome.WriteFault plain is on well =
+-- A turn of a command that isn't a query.
+pub turn_good : (r : Run) (c : Command) (e : Entry) (stage : Stage) (o : Outcome) → HasPlainNames r.state.warehouse.store → is_unasked c ≡ true → GoesOn stage → Good (turn_of r c e stage o)
+turn_good r c e stage outcome.Stands plain is on = stands r.position r.state plain e.session c is e.kind stage on
+turn_good r c e stage outcome.Memory plain is on = refuses_turn r.position r.state plain e.kind stage no.Memory refl
+turn_good r c e stage outcome.ReadFault plain is on = refuses_turn r.position r.state plain e.kind stage no.ReadFault refl
+turn_good r c e stage outcome.WriteFault plain is on =
     refuses_turn r.position (closed_if (closes r.moment e) r.position r.state) (closing_plain (closes r.moment e) r.position r.state plain) e.kind stage no.WriteFault refl
-turn_good r c e stage outcome.Damaged plain is on well = absurd cc
-turn_good r c e stage outcome.Skipped plain is on well = record { names = plain; turn = tt }
+turn_good r c e stage outcome.Damaged plain is on = refuses_turn r.position r.state plain e.kind stage (no.Damaged some_damage) (damage_unbroken some_damage)
+turn_good r c e stage outcome.Skipped plain is on = record { names = plain; turn = tt }

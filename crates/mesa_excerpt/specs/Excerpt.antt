@@ -10,7 +10,7 @@ use Rattle.mesa_history.specs.Run.{Run, State, begins, commands_of}
 use Rattle.mesa_history.specs.Legal.{AllFit}
 use Rattle.mesa_script.specs.Generated.{generated}
 use Rattle.mesa_script.specs.Script.{script_of}
-use Rattle.mesa_walk.specs.Undamaged.{NoneDamaged}
+use Rattle.mesa_walk.specs.Printing.{IsOutputButRows}
 use Rattle.mesa_excerpt.specs.Lines.{IsUnbroken}
 use Rattle.mesa_history.specs.Replay.{runs}
 use Rattle.mesa_model.specs.declared.commands.Command.{Command}
@@ -18,14 +18,26 @@ use Rattle.mesa_model.specs.declared.commands.Command.TheVariants as command
 use Rattle.mesa_model.specs.declared.commands.Script.{Script}
 use Rattle.mesa_model.specs.declared.entries.Entry.{Entry}
 
+-- What makes a text of the entries of a history.
+abbrev pub Output : Type 1
+Output = Script → Run → List Entry → List ℕ → Type 0
+
 -- The text is what a history prints for the commands behind the first so many: the output of the entries of those commands.
-pub record IsExcerpt (script : Script) (r : Run) (h : List Entry) (first : ℕ) (text : List ℕ) : Type 0 where
+pub record IsExcerptBy (is_output : Output) (script : Script) (r : Run) (h : List Entry) (first : ℕ) (text : List ℕ) : Type 0 where
   pub past : List Entry
   pub rest : List Entry
   pub split : h ≡ past ++ rest
   pub before : AllByRecursion (λ (e : Entry). e.command ≤ first) past
   pub behind : AllByRecursion (λ (e : Entry). first < e.command) rest
-  pub output : IsOutput script (runs script r past) rest text
+  pub output : is_output script (runs script r past) rest text
+
+-- where all is told
+abbrev pub IsExcerpt : Script → Run → List Entry → ℕ → List ℕ → Type 0
+IsExcerpt = IsExcerptBy IsOutput
+
+-- on any store: the same but for the rows of pages and the fields of damages
+abbrev pub IsExcerptButRows : Script → Run → List Entry → ℕ → List ℕ → Type 0
+IsExcerptButRows = IsExcerptBy IsOutputButRows
 
 -- how many commands the prologue has before its last three
 abbrev pub before_last_three : Script → ℕ
@@ -37,7 +49,7 @@ is_unasked (command.Table words) = true
 is_unasked (command.View words) = true
 is_unasked (command.Load rows) = true
 is_unasked (command.Expire table version) = true
-is_unasked (command.Work name) = true
+is_unasked (command.Work words) = true
 is_unasked c = false
 
 -- a value column's name has no line break
@@ -55,8 +67,13 @@ IsPlainTable t = IsUnbroken t.name × ArePlainColumns (columns_of t.lineage)
 abbrev pub HasPlainNames : Store → Type 0
 HasPlainNames s = AllByRecursion IsPlainTable s.tables
 
--- A piece of a text: where the text is the output of a run of a generated script, over names without a line break and without damage, the piece is the excerpt of its last three commands.
-abbrev pub CutsOut : Script → List ℕ → List ℕ → Type 0
-CutsOut script text piece =
-    (seed versions : ℕ) (start : State) (h : List Entry) → script_of (generated seed versions) ≡ Ok script → HasPlainNames start.warehouse.store → AllFit script (begins start) h → NoneDamaged h
-    → IsOutput script (begins start) h text → IsExcerpt script (begins start) h (before_last_three script) piece
+-- Where the text is the output of a run of a generated script, over names without a line break, the piece is the excerpt of its last three commands.
+abbrev pub CutsBy : Output → Script → List ℕ → List ℕ → Type 0
+CutsBy is_output script text piece =
+    (seed versions : ℕ) (start : State) (h : List Entry) → script_of (generated seed versions) ≡ Ok script → HasPlainNames start.warehouse.store → AllFit script (begins start) h
+    → is_output script (begins start) h text → IsExcerptBy is_output script (begins start) h (before_last_three script) piece
+
+-- A piece of a text, which is such an excerpt where all is told, and on any store.
+pub record CutsOut (script : Script) (text piece : List ℕ) : Type 0 where
+  pub whole : CutsBy IsOutput script text piece
+  pub anyhow : CutsBy IsOutputButRows script text piece

@@ -30,10 +30,10 @@ first_ledger o c generation area end = record { catalogue = c; generation = gene
 
 -- Before the first turn.
 pub started_vault : (o : Outset) (g : Origin) (sound : Bool) (c : Catalog) (area : Area) (end : ℕ) (story : Story) (held : Option (List ℕ)) (rows : Rows) (bodies : List (List ℕ)) → IsWalk o sound (books_of rows (first_ledger o c g.generation area end)) story held [] true false
-    → HasRanges o.start → o.start.machine.leases.granted ≡ 0 → (IsTrue sound → IsHeld story area bodies end c rows) → IsCatalog c → HasOwnIds c → ((id : ℕ) → Among id (named c) → id < next_id (first_ledger o c g.generation area end))
+    → c.run ≡ g.run → HasRanges o.start → o.start.machine.leases.granted ≡ 0 → (IsTrue sound → IsHeld story area bodies end c rows) → IsCatalog c → HasOwnIds c → ((id : ℕ) → Among id (named c) → id < next_id (first_ledger o c g.generation area end))
     → IsReady (first_ledger o c g.generation area end) story → (IsTrue sound → AreStocked rows c) → (IsTrue sound → HasSources rows (all_written g.found []) c) → (IsTrue sound → IsRead story) → IsVault o g sound (first_ledger o c g.generation area end) story held [] true false
 unfolding count_in accepted_in
-started_vault o g sound c area end story held rows bodies walk ranges none stands shaped own named_given ready stocked sourced read = record {
+started_vault o g sound c area end story held rows bodies walk numbered ranges none stands shaped own named_given ready stocked sourced read = record {
   rows = rows;
   bodies = bodies;
   seen = λ position. c;
@@ -44,7 +44,7 @@ started_vault o g sound c area end story held rows bodies walk ranges none stand
   own = own;
   copies = tt;
   versions = tt;
-  counts = record { leases = omega (arith, none); given = tt; adopted = omega arith; generation = omega arith };
+  counts = record { leases = omega (arith, none); given = tt; adopted = omega arith; generation = omega arith; run = numbered };
   filed = filed_first 0 (next_id (first_ledger o c g.generation area end)) (named c) named_given;
   ready = λ is. ready;
   read = read;

@@ -46,6 +46,7 @@ module _ (o : Outset) (g : Origin) (sound : Bool) (l : Ledger) (story : Story) (
         given = subst (λ n. AllByRecursion (λ x. x ≤ n) given) (sym more) counts;
         adopted = subst (λ n. l.adopted ≤ most_files * n) (sym more) (omega (arith, v.counts.adopted));
         generation = v.counts.generation ∙ ap (λ n. g.generation + n) (sym (silent_changes o.script (begins o.start) h e on.silent));
+        run = v.counts.run;
       };
       filed = subst (λ n. AreFiled n (next_id l) (named l.catalogue) l.trash (map ids_held (holders seen after))) (sym more) kept.filed;
       ready = λ is. ready_unmoved story new same after (was_ready is);

@@ -128,6 +128,7 @@ module _ (o : Outset) (g : Origin) (sound : Bool) (l : Ledger) (story : Story) (
           given = subst (λ n. AllByRecursion (λ x. x ≤ n) l.given) (sym more) (more_given (length h) l.given v.counts.given);
           adopted = few_now;
           generation = counted_now;
+          run = recorded.run ∙ v.counts.run;
         };
         filed = subst (λ n. AreFiled n (next_id after) (named c) after.trash pins) (sym more) (subst (λ n. AreFiled (length h + 1) (first_id n + adopted) (named c) after.trash pins) (sym recorded.run) clears.filed);
         ready = λ is. record {
@@ -166,6 +167,7 @@ module _ (o : Outset) (g : Origin) (sound : Bool) (l : Ledger) (story : Story) (
       given = subst (λ n. AllByRecursion (λ x. x ≤ n) l.given) (sym more) (more_given (length h) l.given v.counts.given);
       adopted = few_now;
       generation = v.counts.generation ∙ ap (λ n. g.generation + n) (sym (silent_changes o.script (begins o.start) h e on.silent));
+      run = v.counts.run;
     };
     filed = subst (λ n. AreFiled n later_id (named l.catalogue) l.trash pins) (sym more) (filed_lost (length h) (next_id l) (named l.catalogue) l.trash pins v.filed made later_id adopts.given later_le);
     ready = λ is. absurd (let never : Some position ≡ None = is in cc);

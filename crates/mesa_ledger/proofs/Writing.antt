@@ -10,6 +10,7 @@ use Rattle.mesa_span.specs.declared.works.Work.{Work}
 use Rattle.mesa_span.specs.declared.works.Work.TheVariants as range
 use Rattle.mesa_image_laws.specs.mesa_model.declared.commands.Command.{Command}
 use Rattle.mesa_image_laws.specs.mesa_model.declared.commands.Command.TheVariants as command
+use Rattle.mesa_image_laws.specs.mesa_model.declared.commands.WorkWords.{WorkWords}
 use Rattle.mesa_image_laws.specs.mesa_model.declared.entries.Entry.{Entry}
 use Rattle.mesa_image_laws.specs.mesa_model.declared.entries.Kind.TheVariants as kind
 use Rattle.mesa_image_laws.specs.mesa_model.declared.entries.Outcome.{Outcome}
@@ -89,7 +90,7 @@ module _ (n : Starts) (w : Rows) (sound : Bool) (l : Ledger) (story : Story) (he
 
   -- ---- the swap of a work
 
-  module _ (name : List ℕ) (claim : Claim) (due : IsDue (outset_of n w).script (run_of (outset_of n w) h) session number (command.Work name) (Renewed claim)) (checked : claim_checked (books_of v.rows l).bare (books_of v.rows l).machine at claim ≡ Ok tt) (generation end : ℕ)
+  module _ (words : WorkWords) (claim : Claim) (due : IsDue (outset_of n w).script (run_of (outset_of n w) h) session number (command.Work words) (Renewed claim)) (checked : claim_checked (books_of v.rows l).bare (books_of v.rows l).machine at claim ≡ Ok tt) (generation end : ℕ)
       (swaps : Swaps sound (books_of v.rows l) claim (kept_of later x))
       (books_are : books_of later (recorded_ledger l x generation waits (ended claim.table claim.lease l.leases) adopted end) ≡ swapped_books claim (kept_of later x) (books_of v.rows l)) where
     abbrev closes_with : Outcome → Entry
@@ -108,7 +109,7 @@ module _ (n : Starts) (w : Rows) (sound : Bool) (l : Ledger) (story : Story) (he
       where
         on : WalksWith o sound (books_of later swapped_ledger) new new_held h (closes_with outcome.Stands) now (refused || false) (swapped_reply claim.work)
         on = subst (λ b. WalksWith o sound b new new_held h (closes_with outcome.Stands) now (refused || false) (swapped_reply claim.work)) (sym books_are)
-            (swapped_turn o sound (books_of v.rows l) story held h running refused v.walk session number low few name m ran at place claim due checked new moment passes (λ ok low. stands_now o g sound l story held h running refused v was_open ok) (kept_of later x) swaps writes now new_held
+            (swapped_turn o sound (books_of v.rows l) story held h running refused v.walk session number low few words m ran at place claim due checked new moment passes (λ ok low. stands_now o g sound l story held h running refused v was_open ok) (kept_of later x) swaps writes now new_held
             counts (λ ok low. held_stand new l.area bodies end x later (holds ok)) put)
 
         no_schemas : (r : Work) → l.generation ≡ l.generation + one_if (is_of_schemas (swapped_reply r))
@@ -120,5 +121,5 @@ module _ (n : Starts) (w : Rows) (sound : Bool) (l : Ledger) (story : Story) (he
         → IsVault o g sound (failed_ledger l at (ended claim.table claim.lease l.leases) adopted) new new_held (h ++ closes_with outcome.WriteFault ∷ []) now (refused || true)
     unswapped_vault counts put =
         failed_vault o g sound l story held h running refused v (closes_with outcome.WriteFault) new new_held now (refused || true) made adopted adopts x waits removed clears only at (ended claim.table claim.lease l.leases)
-        (unswapped_turn o sound (books_of v.rows l) story held h running refused v.walk session number low few name m ran at place claim due checked new moment passes (λ ok low. stands_now o g sound l story held h running refused v was_open ok) (kept_of later x) swaps writes now new_held counts put)
+        (unswapped_turn o sound (books_of v.rows l) story held h running refused v.walk session number low few words m ran at place claim due checked new moment passes (λ ok low. stands_now o g sound l story held h running refused v was_open ok) (kept_of later x) swaps writes now new_held counts put)
         (subst (λ q. q ≤ l.leases.granted) (sym (ended_granted claim.table claim.lease l.leases)) (omega arith))

@@ -61,17 +61,19 @@ AllStocked rows seen l = AreStocked rows l.catalogue × AllByRecursion (λ (x : 
 abbrev pub IsVersioned : HeldPin → Type 0
 IsVersioned p = (common_oldest (skeletons p.copy) ≤ p.version) × (p.version < p.copy.next)
 
--- What a run finds at its start beside its state: what was written of each table, and the catalogue's generation.
+-- What a run has at its start beside its state: its number, what was written of each table, and the catalogue's generation.
 pub record Origin : Type 0 where
+  pub run : ℕ
   pub found : ℕ → List Written
   pub generation : ℕ
 
--- The counts of a vault: of leases and of pins none is more than there were turns, no turn adopted more files than there can be, and the catalogue's generation rose once for each turn that made or changed a table, a view or columns.
+-- The counts of a vault: of leases and of pins none is more than there were turns, no turn adopted more files than there can be, the catalogue's generation rose once for each turn that made or changed a table, a view or columns, and its run is this one.
 pub record AreCounted (o : Outset) (g : Origin) (l : Ledger) (h : List Entry) : Type 0 where
   pub leases : l.leases.granted ≤ length h
   pub given : AllByRecursion (λ n. n ≤ length h) l.given
   pub adopted : l.adopted ≤ most_files * length h
   pub generation : l.generation ≡ g.generation + schema_changes o.script (begins o.start) h
+  pub run : l.catalogue.run ≡ g.run
 
 -- What a vault keeps, for rows that its files may have, and the catalogues that stood at its open queries' positions: the walk of its history with the books of its ledger; that each image stands for its catalogue while it is open; the shape of its catalogues, and its counts; its files, which a read gives where the store was sound; and what its rows are and were made of.
 pub record IsVault (o : Outset) (g : Origin) (sound : Bool) (l : Ledger) (story : Story) (held : Option (List ℕ)) (h : List Entry) (running refused : Bool) : Type 0 where

@@ -23,7 +23,7 @@ pub trait Naming {
     /// Whether the store was sound when the run began, and its files had these rows.
     ghost sound: { Rows → Type 0 };
 
-    /// What had been written of each table by then, and how often tables, views and columns had changed.
+    /// Its number, what had been written of each table by then, and how often tables, views and columns had changed.
     ghost origin: { Rows → Origin };
 
     /// The disk's clock when the run began.
@@ -51,7 +51,7 @@ impl Naming for Brand {
 
     ghost sound = { λ rows. ⊥ };
 
-    ghost origin = { λ rows. record { found = λ table. []; generation = 0 } };
+    ghost origin = { λ rows. record { run = 0; found = λ table. []; generation = 0 } };
 
     ghost since = { 0 };
 

@@ -21,31 +21,30 @@ session_stays zero d = refl
 session_stays (suc n) d = session_stays n d
 
 -- ids that were not drawn go on
-pub undrawn : (session : ℕ) (old : Option Drafts) → AreOf session old → GoOn session old old
-undrawn session None own = record { own = tt; on = tt; begun = tt }
-undrawn session (Some d) own = record { own = own; on = (0, refl); begun = tt }
+pub undrawn : (run session : ℕ) (old : Option Drafts) → AreOf run session old → GoOn run session old old
+undrawn run session None own = record { own = tt; on = tt; begun = tt }
+undrawn run session (Some d) own = record { own = own; on = (0, refl); begun = tt }
 
 -- and so do those that were
-goes_on : (session run : ℕ) (old : Option Drafts) (first now : Drafts) → AreOf session old → IfSome old (λ d. first ≡ d) → IfNone old (first ≡ first_drafts run session) → (n : ℕ) × (now ≡ after_drafts n first) → GoOn session old (Some now)
-goes_on session run None first now own had begins more =
+goes_on : (run session : ℕ) (old : Option Drafts) (first now : Drafts) → AreOf run session old → IfSome old (λ d. first ≡ d) → IfNone old (first ≡ first_drafts run session) → (n : ℕ) × (now ≡ after_drafts n first) → GoOn run session old (Some now)
+goes_on run session None first now own had begins more =
     let all : now ≡ after_drafts more.0 (first_drafts run session) = more.1 ∙ ap (after_drafts more.0) begins in
-    let same : now.run ≡ run = ap (λ (d : Drafts). d.run) all ∙ run_stays more.0 (first_drafts run session) in
     record {
-      own = ap (λ (d : Drafts). d.session) all ∙ session_stays more.0 (first_drafts run session);
+      own = (ap (λ (d : Drafts). d.run) all ∙ run_stays more.0 (first_drafts run session), ap (λ (d : Drafts). d.session) all ∙ session_stays more.0 (first_drafts run session));
       on = tt;
-      begun = (more.0, all ∙ ap (λ (r : ℕ). after_drafts more.0 (first_drafts r session)) (sym same));
+      begun = (more.0, all);
     }
-goes_on session run (Some d) first now own had begins more =
+goes_on run session (Some d) first now own had begins more =
     let all : now ≡ after_drafts more.0 d = more.1 ∙ ap (after_drafts more.0) had in
     record {
-      own = ap (λ (x : Drafts). x.session) all ∙ session_stays more.0 d ∙ own;
+      own = (ap (λ (x : Drafts). x.run) all ∙ run_stays more.0 d ∙ own.0, ap (λ (x : Drafts). x.session) all ∙ session_stays more.0 d ∙ own.1);
       on = (more.0, ap Some all);
       begun = tt;
     }
 
--- those that a command took
-pub taken_on : (session run : ℕ) (old taken : Option Drafts) (first now : Drafts) → AreOf session old → taken ≡ old → IfSome taken (λ d. first ≡ d) → IfNone taken (first ≡ first_drafts run session) → (n : ℕ) × (now ≡ after_drafts n first) → GoOn session old (Some now)
-taken_on session run old taken first now own same had begins more =
-    goes_on session run old first now own
+-- those that a command took, whose turn told its run's number
+pub taken_on : (run number session : ℕ) (old taken : Option Drafts) (first now : Drafts) → number ≡ run → AreOf run session old → taken ≡ old → IfSome taken (λ d. first ≡ d) → IfNone taken (first ≡ first_drafts number session) → (n : ℕ) × (now ≡ after_drafts n first) → GoOn run session old (Some now)
+taken_on run number session old taken first now told own same had begins more =
+    goes_on run session old first now own
     (subst (λ (o : Option Drafts). IfSome o (λ d. first ≡ d)) same had)
-    (subst (λ (o : Option Drafts). IfNone o (first ≡ first_drafts run session)) same begins) more
+    (subst (λ (o : Option Drafts). IfNone o (first ≡ first_drafts run session)) same (subst (λ (r : ℕ). IfNone taken (first ≡ first_drafts r session)) told begins)) more

@@ -56,11 +56,11 @@ fn load<
     requires room { (3 ≤ pass.room) × (pass.limit ≤ N.room) }
     requires mine { Mine N.script (N.start no_rows) pass who.session (at_stage who.command First) }
     requires known { command_at N.script who.session who.command ≡ Some (command.Load rows.now) }
-    requires own { AreOf who.session ids.old }
+    requires own { AreOf (N.origin no_rows).run who.session ids.old }
     ensures took { Took who.session pass result.0 3 }
     ensures mine { Mine N.script (N.start no_rows) result.0 who.session (place_then (not result.1) who.command Finished) }
     ensures answers { Answers N.script (N.start no_rows) who.session pass result.0 (B.faults bench.old) (B.faults bench.new) 0 }
-    ensures ids { GoOn who.session ids.old ids.new }
+    ensures ids { GoOn (N.origin no_rows).run who.session ids.old ids.new }
 {
     let (pass, ran, run, looked) = look_turn(rt, lock, pass, who);
     if !ran {
@@ -139,11 +139,11 @@ fn work<'s, N: Naming + Send, M: Made, D: Disk<M>, K: Sink + Send, R: Wait, B: B
     requires room { (3 ≤ pass.room) × (pass.limit ≤ N.room) }
     requires mine { Mine N.script (N.start no_rows) pass who.session (at_stage who.command First) }
     requires sort { HasSort N.script who.session who.command is_work }
-    requires own { AreOf who.session ids.old }
+    requires own { AreOf (N.origin no_rows).run who.session ids.old }
     ensures took { Took who.session pass result.0 3 }
     ensures mine { Mine N.script (N.start no_rows) result.0 who.session (place_then (not result.1) who.command Finished) }
     ensures answers { Answers N.script (N.start no_rows) who.session pass result.0 (B.faults bench.old) (B.faults bench.new) 0 }
-    ensures ids { GoOn who.session ids.old ids.new }
+    ensures ids { GoOn (N.origin no_rows).run who.session ids.old ids.new }
 {
     let (pass, ran, run, task) = grant_turn(rt, lock, pass, who);
     let mut task = match task {
@@ -198,11 +198,11 @@ pub(crate) fn run_command<
     requires room { (3 ≤ pass.room) × (pass.limit ≤ N.room) }
     requires mine { Mine N.script (N.start no_rows) pass who.session (at_stage who.command First) }
     requires known { command_at N.script who.session who.command ≡ Some command.now }
-    requires own { AreOf who.session ids.old }
+    requires own { AreOf (N.origin no_rows).run who.session ids.old }
     ensures took { Took who.session pass result.0 3 }
     ensures mine { Mine N.script (N.start no_rows) result.0 who.session (place_then (not result.1) who.command Finished) }
     ensures answers { Answers N.script (N.start no_rows) who.session pass result.0 (B.faults bench.old) (B.faults bench.new) 0 }
-    ensures ids { GoOn who.session ids.old ids.new }
+    ensures ids { GoOn (N.origin no_rows).run who.session ids.old ids.new }
 {
     match command {
         Command::Load(rows) => load(rt, alloc, lock, pass, who, rows, bench, ids),

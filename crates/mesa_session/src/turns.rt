@@ -52,6 +52,7 @@ pub fn look_turn<'s, N: Naming + Send, M: Made, D: Disk<M>, K: Sink + Send, R: W
     ensures took { Took who.session pass result.0 1 }
     ensures mine { Mine N.script (N.start no_rows) result.0 who.session (place_then (not result.1) who.command Looked) }
     ensures run { result.2 < 2 ^ 24 }
+    ensures number { result.2 ≡ (N.origin no_rows).run }
     ensures glance { IfOk result.3 (λ g. g ≡ sight_after N.script (N.start no_rows) (N.origin no_rows).generation (history_of result.0.seen)) }
     ensures answers { Answers N.script (N.start no_rows) who.session pass result.0 0 0 0 }
 {
@@ -195,6 +196,7 @@ pub fn grant_turn<'s, N: Naming + Send, M: Made, D: Disk<M>, K: Sink + Send, R: 
     ensures mine { Mine N.script (N.start no_rows) result.0 who.session (place_then (not result.1) who.command (stage_if claim_in Granted result.3)) }
     ensures ran { OnOk result.3 (result.1 ≡ true) }
     ensures run { result.2 < 2 ^ 24 }
+    ensures number { result.2 ≡ (N.origin no_rows).run }
     ensures task { IfOk result.3 (CanBeMerged D.Reader.bytes) }
     ensures granted { IfOk result.3 (λ t. WasGranted (IsGranted D.Reader.bytes N.script N.start N.origin N.sound) (history_of result.0.seen) (known_task D.Reader.bytes t)) }
     ensures answers { Answers N.script (N.start no_rows) who.session pass result.0 0 0 0 }

@@ -98,6 +98,7 @@ module _ {D : Type 0} (story : D → Story) (b : Begun D) (ready : IsReadyToRun 
       leases = same_leases script c b.area b.end w;
       ranges = has_ranges script c w;
       generation = refl;
+      run = refl;
       shaped = ready.shaped;
       own = ready.own;
       named_given = given;
@@ -119,6 +120,7 @@ module _ {D : Type 0} (story : D → Story) (b : Begun D) (ready : IsReadyToRun 
       leases = same_leases script c b.area b.end w;
       ranges = has_ranges script c w;
       generation = refl;
+      run = refl;
       shaped = ready.shaped;
       own = ready.own;
       named_given = given;

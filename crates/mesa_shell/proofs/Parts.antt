@@ -71,9 +71,10 @@ fits_room n turns room most is all few least = (omega (arith, is), omega (arith,
 -- ---- the whole
 
 pub ran_anyhow : (script : Script) (first start : State) → bare_state first ≡ bare_state start → (seen h : List Entry) → h ≡ seen → (running : Bool) (since counted : ℕ) (story : Story) → IsLegal first script seen (not running)
-    → AllByRecursion (λ (e : Entry). since ≤ e.moment) h → AllByRecursion (λ (e : Entry). e.moment ≤ story.moment) h → HasCountedFaults counted story (count_in is_disk_fault script (begins start) h)
+    → since ≤ story.moment → AllByRecursion (λ (e : Entry). since ≤ e.moment) h → AllByRecursion (λ (e : Entry). e.moment ≤ story.moment) h → HasCountedFaults counted story (count_in is_disk_fault script (begins start) h)
     → (before now : Option (List ℕ)) → IsPrintedButRows script (begins start) h (not (not running)) before now → RanAnyhow script start h (not running) since counted story before now
-ran_anyhow script first start same seen h is running since counted story legal from to counts before now printed = record {
+ran_anyhow script first start same seen h is running since counted story legal clock from to counts before now printed = record {
+  clock = clock;
   legal = subst (λ (x : List Entry). IsLegal start script x (not running)) (sym is) (legal_alike first start script seen (not running) same legal);
   moments = within h since story.moment from to;
   counts = counts;

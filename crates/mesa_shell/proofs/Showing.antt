@@ -10,10 +10,10 @@ use Rattle.mesa_history.specs.Run.{begins}
 use Rattle.mesa_script.specs.Generated.{generated}
 use Rattle.mesa_script.specs.Script.{script_of}
 use Rattle.mesa_skeleton.specs.Rows.{Rows}
-use Rattle.mesa_walk.specs.Printing.{HasAll}
+use Rattle.mesa_walk.specs.Printing.{HasAll, HasAllButRows, IsOutputButRows}
 use Rattle.mesa_walk.specs.mesa_output.Output.{IsOutput}
 use Rattle.mesa_image.specs.Catalog.{Catalog}
-use Rattle.mesa_excerpt.specs.Excerpt.{CutsOut}
+use Rattle.mesa_excerpt.specs.Excerpt.{CutsOut, HasPlainNames}
 use Rattle.mesa_ending.specs.Ports.{ports}
 use Rattle.mesa_ending.specs.Exits.{gen_line, memory_line, memory_status}
 use Rattle.mesa_ending.specs.Run.{Ran, RanAnyhow, RanSoundly}
@@ -61,14 +61,19 @@ module _ {K S D M B : Type 0} (held : K → Option (List ℕ)) (faults : K → �
     last_three = λ rows sound below.
         let well = ran.soundly rows sound below in
         let all : HasAll script (begins (start_of script c rows)) l.history.items (Some []) (Some text) = well.output in
-        cuts seed versions (start_of script c rows) l.history.items read
-        (start_plain script c rows ran.reads.0 ran.reads.1 ran.reads.3.bytes ran.reads.3.records)
-        (ran.anyhow rows).legal.each well.undamaged
+        cuts.whole seed versions (start_of script c rows) l.history.items read (plain rows) (ran.anyhow rows).legal.each
         (subst (IsOutput script (begins (start_of script c rows)) l.history.items) (sym all.held) all.output);
+    anyhow = λ rows.
+        let all : HasAllButRows script (begins (start_of script c rows)) l.history.items (Some []) (Some text) = (ran.anyhow rows).printed in
+        cuts.anyhow seed versions (start_of script c rows) l.history.items read (plain rows) (ran.anyhow rows).legal.each
+        (subst (IsOutputButRows script (begins (start_of script c rows)) l.history.items) (sym all.held) all.output);
     status = if l.refused then 1 else 0;
     tells = λ rows. ap (λ (b : Bool). if b then 1 else 0) (told rows);
     prints = prints;
   }
+    where
+      plain : (rows : Rows) → HasPlainNames (start_of script c rows).warehouse.store
+      plain rows = start_plain script c rows ran.reads.0 ran.reads.1 ran.reads.3.bytes ran.reads.3.records
 
   pub shown_ended : (n : ℕ)
       → Ran (ports kept kept_faults story bytes bench_faults) (record { out = empty; disk = g.disk; benches = g.benches }) (record { status = n; out = l.out; disk = l.disk; benches = l.benches; history = l.history }) script c l.failed

@@ -5,6 +5,6 @@ use Rattle.mesa_image_laws.specs.Sourced.{found_written}
 use Rattle.mesa_catalog.specs.Lookups.{generation_of}
 use Rattle.mesa_ledger.specs.Vault.{Origin}
 
--- what a run finds written of each table of a catalogue, and how often its tables, views and columns had changed
+-- the number of a run by its catalogue, what it finds written of each table, and how often tables, views and columns had changed
 abbrev pub origin_of : Catalog → Rows → Origin
-origin_of c rows = record { found = λ number. found_written rows (stock_at c number); generation = generation_of c }
+origin_of c rows = record { run = c.run; found = λ number. found_written rows (stock_at c number); generation = generation_of c }

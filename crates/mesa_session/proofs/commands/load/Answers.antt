@@ -17,11 +17,11 @@ pub returns-then-not-ran-clause-answers : goal.returns-then-not-ran-clause-answe
 returns-then-not-ran-clause-answers g c = answers_at g.N.Naming.script (g.N.Naming.start no_rows) c.args.who.session _ _ _ 0 c.look_turn-pass.ensures.answers
 
 pub returns-then-not-ran-clause-ids : goal.returns-then-not-ran-clause-ids
-returns-then-not-ran-clause-ids g c = undrawn c.args.who.session _ c.requires.own
+returns-then-not-ran-clause-ids g c = undrawn (g.N.Naming.origin no_rows).run c.args.who.session _ c.requires.own
 
 pub returns-clause-ids : goal.returns-clause-ids
 returns-clause-ids g c =
-    taken_on c.args.who.session _ c.args.ids.now c.take.result c.ids_of-serials.result _ c.requires.own c.take.ensures.value
+    taken_on (g.N.Naming.origin no_rows).run _ c.args.who.session c.args.ids.now c.take.result c.ids_of-serials.result _ c.look_turn-pass.ensures.number c.requires.own c.take.ensures.value
     c.ids_of-serials.ensures.had
     c.ids_of-serials.ensures.first
     (drawn_both _ _ _ c.prepared_first-generation.ensures.ids c.publish_turn-pass.ensures.ids)

@@ -34,13 +34,13 @@ returns-in-Ok-renewed-clause-answers g c =
     (answers_at g.N.Naming.script (g.N.Naming.start no_rows) c.args.who.session _ _ _ _ c.complete_turn-in-Ok-renewed.ensures.answers)
 
 pub returns-in-Err-clause-ids : goal.returns-in-Err-clause-ids
-returns-in-Err-clause-ids g c = undrawn c.args.who.session _ c.requires.own
+returns-in-Err-clause-ids g c = undrawn (g.N.Naming.origin no_rows).run c.args.who.session _ c.requires.own
 
 pub returns-then-is_err-clause-ids : goal.returns-then-is_err-clause-ids
-returns-then-is_err-clause-ids g c = taken_on c.args.who.session _ c.args.ids.now c.take.result c.ids_of-serials.result _ c.requires.own c.take.ensures.value c.ids_of-serials.ensures.had c.ids_of-serials.ensures.first c.merged-delta.ensures.ids
+returns-then-is_err-clause-ids g c = taken_on (g.N.Naming.origin no_rows).run _ c.args.who.session c.args.ids.now c.take.result c.ids_of-serials.result _ c.grant_turn-pass.ensures.number c.requires.own c.take.ensures.value c.ids_of-serials.ensures.had c.ids_of-serials.ensures.first c.merged-delta.ensures.ids
 
 pub returns-in-Err-renewed-clause-ids : goal.returns-in-Err-renewed-clause-ids
-returns-in-Err-renewed-clause-ids g c = taken_on c.args.who.session _ c.args.ids.now c.take.result c.ids_of-serials.result _ c.requires.own c.take.ensures.value c.ids_of-serials.ensures.had c.ids_of-serials.ensures.first c.merged-delta.ensures.ids
+returns-in-Err-renewed-clause-ids g c = taken_on (g.N.Naming.origin no_rows).run _ c.args.who.session c.args.ids.now c.take.result c.ids_of-serials.result _ c.grant_turn-pass.ensures.number c.requires.own c.take.ensures.value c.ids_of-serials.ensures.had c.ids_of-serials.ensures.first c.merged-delta.ensures.ids
 
 pub returns-in-Ok-renewed-clause-ids : goal.returns-in-Ok-renewed-clause-ids
-returns-in-Ok-renewed-clause-ids g c = taken_on c.args.who.session _ c.args.ids.now c.take.result c.ids_of-serials.result _ c.requires.own c.take.ensures.value c.ids_of-serials.ensures.had c.ids_of-serials.ensures.first c.merged-delta.ensures.ids
+returns-in-Ok-renewed-clause-ids g c = taken_on (g.N.Naming.origin no_rows).run _ c.args.who.session c.args.ids.now c.take.result c.ids_of-serials.result _ c.grant_turn-pass.ensures.number c.requires.own c.take.ensures.value c.ids_of-serials.ensures.had c.ids_of-serials.ensures.first c.merged-delta.ensures.ids

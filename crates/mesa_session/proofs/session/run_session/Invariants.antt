@@ -11,6 +11,6 @@ abbrev pub invariant-commands : goal.invariant-commands
 invariant-commands g l = record {
   took : Took l.session l.fn.pass l.pass (3 * l.i);
   answers : Answers g.N.Naming.script (g.N.Naming.start no_rows) l.session l.fn.pass l.pass (g.B.Bench.faults l.fn.bench) (g.B.Bench.faults l.bench) 0;
-  ids : AreOf l.session l.ids;
+  ids : AreOf (g.N.Naming.origin no_rows).run l.session l.ids;
   mine : Mine g.N.Naming.script (g.N.Naming.start no_rows) l.pass l.session (at_stage (l.i + 1) First);
 }

@@ -115,7 +115,7 @@ returns-in-Ok-serve-clause-anyhow g c w =
     let story = g.D.Disk.story c.stop-disk.result.0 in
     let held = g.K.Sink.held c.stop-disk.result.1 in
     subst (λ (running : Bool). RanAnyhow N.script (N.start w) h (not running) N.since N.counted story N.at_start held) (sym c.running-failed.ensures.running)
-    (ran_anyhow N.script (N.start no_rows) (N.start w) (N.alike w) v.history h s.history v.running N.since N.counted story c.in-Ok-serve.ensures.legal s.since s.until (s.counts w) N.at_start held
+    (ran_anyhow N.script (N.start no_rows) (N.start w) (N.alike w) v.history h s.history v.running N.since N.counted story c.in-Ok-serve.ensures.legal s.later s.since s.until (s.counts w) N.at_start held
     (subst (λ (b : Bool). IsPrintedButRows N.script (begins (N.start w)) h b N.at_start held) (sym (not_not v.running)) (s.blocks w)))
 
 pub returns-in-Ok-serve-clause-returned : goal.returns-in-Ok-serve-clause-returned

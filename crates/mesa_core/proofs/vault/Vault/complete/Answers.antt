@@ -17,8 +17,8 @@ use Rattle.mesa_core.proofs.Due.{due_of, sort_of}
 use Rattle.mesa_core.proofs.Merged.{answers_more, finished_as, unmerged_differed, unmerged_failed, unmerged_whole}
 use Rattle.mesa_core.proofs.vault.Vault.complete.Goals as goal
 
-pub name_of-name-requires : goal.name_of-name-requires
-name_of-name-requires g c = sort_of g.N.Naming.script _ _ c.args.who.session c.args.who.command (closing_stage (not (is_ok c.args.merged)) (claim_in c.args.task)) is_work c.self.invariant.script c.requires.due
+pub work_of-words-requires : goal.work_of-words-requires
+work_of-words-requires g c = sort_of g.N.Naming.script _ _ c.args.who.session c.args.who.command (closing_stage (not (is_ok c.args.merged)) (claim_in c.args.task)) is_work c.self.invariant.script c.requires.due
 
 pub complete-requires-clause-due : goal.complete-requires-clause-due
 complete-requires-clause-due g c κs within =
@@ -26,8 +26,8 @@ complete-requires-clause-due g c κs within =
     let who = c.args.who in
     let claim = claim_in c.args.task in
     let due = subst (λ m. Asks N.script (run_at N.script (N.start no_rows) c.args.self.now.shown.history) who.session who.command (closing_stage (not (is_ok m)) claim) is_work) c.in-Ok.is c.requires.due in
-    due_of N.script _ (run_at N.script (N.start no_rows) c.self.inside.engine.shown.history) who.session who.command (Renewed claim) is_work (command.Work c.name_of-name.result.now) c.self.invariant.script
-    (subst (λ (s : Stand). Asks N.script (run_at N.script (N.start no_rows) s.shown.history) who.session who.command (Renewed claim) is_work) (sym c.self.view_is) due) c.name_of-name.ensures
+    due_of N.script _ (run_at N.script (N.start no_rows) c.self.inside.engine.shown.history) who.session who.command (Renewed claim) is_work (command.Work c.work_of-words.result.now) c.self.invariant.script
+    (subst (λ (s : Stand). Asks N.script (run_at N.script (N.start no_rows) s.shown.history) who.session who.command (Renewed claim) is_work) (sym c.self.view_is) due) c.work_of-words.ensures
 
 pub complete-requires-clause-table : goal.complete-requires-clause-table
 complete-requires-clause-table g c κs within = c.requires.granted.was.low
@@ -51,8 +51,8 @@ give_up-requires-clause-due g c κs within =
     let who = c.args.who in
     let claim = claim_in c.args.task in
     let due = subst (λ m. Asks N.script (run_at N.script (N.start no_rows) c.args.self.now.shown.history) who.session who.command (closing_stage (not (is_ok m)) claim) is_work) c.in-Err.is c.requires.due in
-    due_of N.script _ (run_at N.script (N.start no_rows) c.self.inside.engine.shown.history) who.session who.command (Granted claim) is_work (command.Work c.name_of-name.result.now) c.self.invariant.script
-    (subst (λ (s : Stand). Asks N.script (run_at N.script (N.start no_rows) s.shown.history) who.session who.command (Granted claim) is_work) (sym c.self.view_is) due) c.name_of-name.ensures
+    due_of N.script _ (run_at N.script (N.start no_rows) c.self.inside.engine.shown.history) who.session who.command (Granted claim) is_work (command.Work c.work_of-words.result.now) c.self.invariant.script
+    (subst (λ (s : Stand). Asks N.script (run_at N.script (N.start no_rows) s.shown.history) who.session who.command (Granted claim) is_work) (sym c.self.view_is) due) c.work_of-words.ensures
 
 pub give_up-requires-clause-table : goal.give_up-requires-clause-table
 give_up-requires-clause-table g c κs within = c.requires.granted.was.low

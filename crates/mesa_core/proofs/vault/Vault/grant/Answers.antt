@@ -11,15 +11,15 @@ use Rattle.mesa_core.proofs.Due.{due_of, sort_of}
 use Rattle.mesa_core.proofs.Granted.{granted_if, mergeable_if}
 use Rattle.mesa_core.proofs.vault.Vault.grant.Goals as goal
 
-pub name_of-name-requires : goal.name_of-name-requires
-name_of-name-requires g c = sort_of g.N.Naming.script _ _ c.args.who.session c.args.who.command First is_work c.self.invariant.script c.requires.due
+pub work_of-words-requires : goal.work_of-words-requires
+work_of-words-requires g c = sort_of g.N.Naming.script _ _ c.args.who.session c.args.who.command First is_work c.self.invariant.script c.requires.due
 
 pub grant-granted-requires-clause-due : goal.grant-granted-requires-clause-due
 grant-granted-requires-clause-due g c κs within =
     let N = g.N.Naming in
     let who = c.args.who in
-    due_of N.script _ (run_at N.script (N.start no_rows) c.self.inside.engine.shown.history) who.session who.command First is_work (command.Work c.name_of-name.result.now) c.self.invariant.script
-    (subst (λ (s : Stand). Asks N.script (run_at N.script (N.start no_rows) s.shown.history) who.session who.command First is_work) (sym c.self.view_is) c.requires.due) c.name_of-name.ensures
+    due_of N.script _ (run_at N.script (N.start no_rows) c.self.inside.engine.shown.history) who.session who.command First is_work (command.Work c.work_of-words.result.now) c.self.invariant.script
+    (subst (λ (s : Stand). Asks N.script (run_at N.script (N.start no_rows) s.shown.history) who.session who.command First is_work) (sym c.self.view_is) c.requires.due) c.work_of-words.ensures
 
 pub returns-clause-task : goal.returns-clause-task
 returns-clause-task g c =
@@ -27,7 +27,7 @@ returns-clause-task g c =
     let e = c.grant-granted.ensures in
     mergeable_if g.D.Reader.FileReader.bytes N.script N.start N.origin N.sound (N.origin no_rows).generation c.grant-granted.new.engine.shown.history c.self.inside.engine.ledger.catalogue
     (subst (IsCatalogAfter N.script N.start (N.origin no_rows).generation c.grant-granted.new.engine.shown.history) e.catalogue c.catalogue.ensures)
-    c.grant-granted.result e.task e.damage
+    c.grant-granted.result _ e.task e.damage e.spare
 
 pub returns-clause-granted : goal.returns-clause-granted
 returns-clause-granted g c =

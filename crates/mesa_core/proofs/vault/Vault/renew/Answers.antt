@@ -10,16 +10,16 @@ use Rattle.mesa_core.specs.Vault.{Stand}
 use Rattle.mesa_core.proofs.Due.{due_of, sort_of}
 use Rattle.mesa_core.proofs.vault.Vault.renew.Goals as goal
 
-pub name_of-name-requires : goal.name_of-name-requires
-name_of-name-requires g c = sort_of g.N.Naming.script _ _ c.args.who.session c.args.who.command (Granted (claim_in c.args.task)) is_work c.self.invariant.script c.requires.due
+pub work_of-words-requires : goal.work_of-words-requires
+work_of-words-requires g c = sort_of g.N.Naming.script _ _ c.args.who.session c.args.who.command (Granted (claim_in c.args.task)) is_work c.self.invariant.script c.requires.due
 
 pub renew-requires-clause-due : goal.renew-requires-clause-due
 renew-requires-clause-due g c κs within =
     let N = g.N.Naming in
     let who = c.args.who in
     let stage = Granted (claim_in c.args.task) in
-    due_of N.script _ (run_at N.script (N.start no_rows) c.self.inside.engine.shown.history) who.session who.command stage is_work (command.Work c.name_of-name.result.now) c.self.invariant.script
-    (subst (λ (s : Stand). Asks N.script (run_at N.script (N.start no_rows) s.shown.history) who.session who.command stage is_work) (sym c.self.view_is) c.requires.due) c.name_of-name.ensures
+    due_of N.script _ (run_at N.script (N.start no_rows) c.self.inside.engine.shown.history) who.session who.command stage is_work (command.Work c.work_of-words.result.now) c.self.invariant.script
+    (subst (λ (s : Stand). Asks N.script (run_at N.script (N.start no_rows) s.shown.history) who.session who.command stage is_work) (sym c.self.view_is) c.requires.due) c.work_of-words.ensures
 
 pub renew-requires-clause-table : goal.renew-requires-clause-table
 renew-requires-clause-table g c κs within = c.requires.granted.was.low

@@ -23,6 +23,9 @@ returns-clause-since g c = c.self.invariant.begun
 pub returns-clause-until : goal.returns-clause-until
 returns-clause-until g c = (c.self.invariant.vault no_rows false (λ is. absurd cc)).walk.by
 
+pub returns-clause-later : goal.returns-clause-later
+returns-clause-later g c = (c.self.invariant.vault no_rows false (λ is. absurd cc)).walk.begun
+
 pub returns-clause-counts : goal.returns-clause-counts
 returns-clause-counts g c w = (c.self.invariant.vault w false (λ is. absurd cc)).walk.counts
 
