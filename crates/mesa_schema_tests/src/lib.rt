@@ -1,4 +1,4 @@
-//! What names, schemas, views and batches take and refuse.
+//! What names, schemas, views and batches take and refuse, and digests of rows.
 #![tactic(auto)]
 
 #[cfg(test)]
@@ -7,6 +7,8 @@ mod batches;
 mod changes;
 #[cfg(test)]
 mod columns;
+#[cfg(test)]
+mod digests;
 #[cfg(test)]
 mod expected;
 #[cfg(test)]

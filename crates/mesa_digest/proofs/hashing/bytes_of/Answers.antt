@@ -1,0 +1,8 @@
+use Rattle.std.proofs.Common.{rules, ◌≡◌, ap, ◌∙◌}
+use Rattle.std.specs.Int.{w128, cast_unsigned, to_be_bytes}
+use Rattle.mesa_digest.specs.Digests.{amount_bytes}
+use Rattle.mesa_digest.proofs.hashing.bytes_of.Goals as goal
+
+pub returns : goal.returns
+unfolding amount_bytes
+returns c = search rules
