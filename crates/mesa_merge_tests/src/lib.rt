@@ -1,4 +1,4 @@
-//! Tests of merging files, over files that are written byte by byte.
+//! Tests of merging files, whole and in parts, over files that are written byte by byte.
 #![tactic(auto)]
 
 #[cfg(test)]
@@ -8,4 +8,10 @@ mod files;
 #[cfg(test)]
 mod merging;
 #[cfg(test)]
+mod parts;
+#[cfg(test)]
+mod splitting;
+#[cfg(test)]
 mod tests;
+#[cfg(test)]
+mod watched;

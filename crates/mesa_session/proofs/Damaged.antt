@@ -15,7 +15,6 @@ use Rattle.mesa_delta.specs.declared.input.Input.{Input}
 use Rattle.mesa_cursor.specs.Cursors.{reader_in}
 use Rattle.mesa_scan.specs.Damaged.{IsDamaged}
 use Rattle.mesa_compact.specs.mesa_view.SumDamage.{IsSumDamage}
-use Rattle.mesa_compact.specs.mesa_merge.Damaged.{HasFall}
 use Rattle.mesa_compact.specs.mesa_merge.Faults.{SomeRose, faults_of}
 use Rattle.mesa_tasks.specs.declared.querying.PinnedInput.{PinnedInput}
 use Rattle.mesa_query.specs.Files.{IsDamageIn}
@@ -23,6 +22,7 @@ use Rattle.mesa_query.specs.Sums.{IsSumIn}
 use Rattle.mesa_tasks.specs.declared.merging.Task.{Task}
 use Rattle.mesa_compact.specs.Damaged.{IsMergeDamage}
 use Rattle.mesa_compact.specs.Tasks.{IsFilesDamage, IsTaskDamage}
+use Rattle.mesa_split.specs.Split.{IsSplitDamage}
 use Rattle.mesa_tasks.specs.GivingBack.{SomeFailed}
 use Rattle.mesa_tasks.specs.Errors.{Differs}
 
@@ -88,12 +88,8 @@ query_differs bytes size w terms view d old new (inr sum) = sum_differs _ d sum.
 
 -- ---- damage of a merge
 
-given_differs : {R : Type 0} (bytes : R → Option (List ℕ)) (size : R → ℕ) (i : Input R) (d : Damage) → IsDamaged bytes size i d ⊎ HasFall bytes i d → Differs d
-given_differs bytes size i d (inl damaged) = damaged_differs bytes size i d damaged
-given_differs bytes size i d (inr fall) = told_as d _ fall.falls.told (λ same. unlike_fits 0 same)
-
 merge_differs : {R : Type 0} (bytes : R → Option (List ℕ)) (size : R → ℕ) (inputs : List (Input R)) (d : Damage) → IsMergeDamage bytes size inputs d → Differs d
-merge_differs bytes size inputs d (inl (inl block)) = given_differs bytes size block.input d block.damaged
+merge_differs bytes size inputs d (inl (inl block)) = elim block.damaged [ inl damaged ↦ damaged_differs bytes size block.input d damaged | inr fall ↦ told_as d _ fall.falls.told (λ same. unlike_fits 0 same) ]
 merge_differs bytes size inputs d (inl (inr sum)) = told_as d _ sum.told (λ same. unlike_fits 0 same)
 merge_differs bytes size inputs d (inr total) = told_as d _ total.told (λ same. unlike_fits 0 same)
 
@@ -110,3 +106,9 @@ files_differs bytes size t d (inr (inr total)) = told_as d _ total.told (λ same
 pub task_differs : {R : Type 0} (bytes : R → Option (List ℕ)) (size : R → ℕ) (old new : Task R) (d : Damage) → IfSome old.damage Differs → IsTaskDamage bytes size old new d → Differs d
 task_differs bytes size old new d met (inl is) = some_differs old.damage d met is
 task_differs bytes size old new d met (inr (none, files)) = files_differs bytes size new d files
+
+-- and so does what is told of a task that is merged in parts
+pub split_differs : {R : Type 0} (bytes : R → Option (List ℕ)) (size : R → ℕ) (old new : Task R) (d : Damage) → IfSome old.damage Differs → IsSplitDamage bytes size old new d → Differs d
+split_differs bytes size old new d met (inl is) = some_differs old.damage d met is
+split_differs bytes size old new d met (inr (none, inl files)) = files_differs bytes size new d files
+split_differs bytes size old new d met (inr (none, inr spare)) = merge_differs bytes size spare.spare.inputs.items d spare.told

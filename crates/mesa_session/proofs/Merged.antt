@@ -23,14 +23,14 @@ use Rattle.mesa_tasks.specs.declared.merging.NewDelta.{NewDelta}
 use Rattle.mesa_tasks.specs.declared.merging.Task.{Task}
 use Rattle.mesa_tasks.specs.declared.merging.TaskView.{TaskView}
 use Rattle.mesa_compact.specs.Bounded.{AreBounded, AreOwnBounded, IsBounded}
-use Rattle.mesa_compact.specs.Tasks.{IsSameTask, IsTaskDamage, KnownView, known_view, known_views}
+use Rattle.mesa_compact.specs.Tasks.{IsSameTask, KnownView, known_view, known_views}
 use Rattle.mesa_service.proofs.Known.{cons_none, first_same, merge_stays, none_some, only_stays, rest_same, some_same}
 use Rattle.mesa_compact.specs.Writing.{HasCauses, IsDraftFault, damaged_by}
 use Rattle.mesa_tasks.specs.Errors.{Differs}
 use Rattle.mesa_core.specs.mesa_passes.Answers.{Owes}
 use Rattle.mesa_service.specs.Drafts.{owed_by_work}
 use Rattle.mesa_service.specs.Works.{IsDeltaOf, known_task}
-use Rattle.mesa_session.proofs.Damaged.{rose_failed, task_differs}
+use Rattle.mesa_session.proofs.Damaged.{rose_failed}
 
 -- ---- what is known
 
@@ -93,16 +93,16 @@ module _ {R : Type 0} (bytes : R → Option (List ℕ)) where
   }
 
   -- what came of a merge
-  pub closes : {M : Type 0} (made_bytes : M → Option (List ℕ)) (id_of : M → ℕ) (faults size : R → ℕ) (l : Lineage) (old new : Task R) (before now : ℕ) (r : Result (NewDelta M) CompactError) → IsSameTask bytes old new → IfSome old.damage Differs → IsTask bytes l old → IfOk r (λ delta. (k : Lineage) → IsTask bytes k old → IsMerged made_bytes id_of bytes k old delta) → HasCauses before now (faults_of faults (task_inputs old)) (faults_of faults (task_inputs new)) (IsTaskDamage bytes size old new) r
+  pub closes : {M : Type 0} (made_bytes : M → Option (List ℕ)) (id_of : M → ℕ) (faults : R → ℕ) (l : Lineage) (old new : Task R) (before now : ℕ) (r : Result (NewDelta M) CompactError) (Met : Damage → Type 0) → ((d : Damage) → Met d → Differs d) → IsSameTask bytes old new → IsTask bytes l old → IfOk r (λ delta. (k : Lineage) → IsTask bytes k old → IsMerged made_bytes id_of bytes k old delta) → HasCauses before now (faults_of faults (task_inputs old)) (faults_of faults (task_inputs new)) Met r
       → IfErr r (λ e. (d : Damage) → e ≡ damaged_by d → old.damage ≡ None → (k : Lineage) → IsTask bytes k old → IsBounded bytes k old → ⊥) → IsDeltaOf made_bytes id_of bytes faults l new r
-  closes made_bytes id_of faults size l old new before now (Ok delta) same met task merged causes accepts = merged_stays made_bytes id_of l old new delta same (merged l task)
-  closes made_bytes id_of faults size l old new before now (Err compact.Draft) same met task merged causes accepts = tt
-  closes made_bytes id_of faults size l old new before now (Err (compact.File file.Read)) same met task merged causes accepts = rose_failed faults _ (task_inputs new) (causes.reads.failed refl)
-  closes made_bytes id_of faults size l old new before now (Err (compact.File (file.Damaged d))) same met task merged causes accepts = record {
-    differs = task_differs bytes size old new d met (causes.damaged d refl);
+  closes made_bytes id_of faults l old new before now (Ok delta) Met differs same task merged causes accepts = merged_stays made_bytes id_of l old new delta same (merged l task)
+  closes made_bytes id_of faults l old new before now (Err compact.Draft) Met differs same task merged causes accepts = tt
+  closes made_bytes id_of faults l old new before now (Err (compact.File file.Read)) Met differs same task merged causes accepts = rose_failed faults _ (task_inputs new) (causes.reads.failed refl)
+  closes made_bytes id_of faults l old new before now (Err (compact.File (file.Damaged d))) Met differs same task merged causes accepts = record {
+    differs = differs d (causes.damaged d refl);
     never = λ none bounded. accepts d refl (sym same.damage ∙ none) l task (bounded_stays l old new same bounded);
   }
-  closes made_bytes id_of faults size l old new before now (Err (compact.File file.Memory)) same met task merged causes accepts = tt
+  closes made_bytes id_of faults l old new before now (Err (compact.File file.Memory)) Met differs same task merged causes accepts = tt
 
 -- a bench counted the faults that a merge tells
 pub merged_owes : {T : Type 0} (before now : ℕ) (r : Result T CompactError) → HasFaultCause IsDraftFault before now r → Owes before now (owed_by_work r)

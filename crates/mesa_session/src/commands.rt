@@ -123,7 +123,16 @@ fn query<'s, N: Naming + Send, M: Made, D: Disk<M>, K: Sink + Send, R: Wait>(
 }
 
 // A work is granted, merged outside, renewed, and completed. One whose merge failed isn't renewed.
-fn work<'s, N: Naming + Send, M: Made, D: Disk<M>, K: Sink + Send, R: Wait, B: Bench<M>, G: Gate>(
+fn work<
+    's,
+    N: Naming + Send,
+    M: Made,
+    D: Disk<M>,
+    K: Sink + Send,
+    R: Threads + Wait + Sync,
+    B: Bench<M>,
+    G: Gate,
+>(
     rt: &R,
     alloc: Global,
     lock: &TurnLock<Vault<'s, N, M, D, K>>,
@@ -154,7 +163,7 @@ fn work<'s, N: Naming + Send, M: Made, D: Disk<M>, K: Sink + Send, R: Wait, B: B
         }
     };
     let mut serials = ids_of(ids.take(), run, who.session);
-    let delta = merged(alloc, bench, &mut serials, &mut task);
+    let delta = merged(rt, alloc, bench, &mut serials, &mut task);
     *ids = Some(serials);
     gate.reach(rt, Point::Merged, who.session);
     if delta.is_err() {

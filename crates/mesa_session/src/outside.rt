@@ -1,6 +1,6 @@
 // What a session does between the turns of a query or a work.
 ghost use Rattle.std.specs.List.{AllByRecursion};
-ghost use Rattle.std.specs.Prelude.{◌≡◌, ℕ, IsTrue, IfOk, IfErr, IfSome};
+ghost use Rattle.std.specs.Prelude.{◌≡◌, ◌-◌, ◌≤◌, ℕ, IsTrue, IfOk, IfErr, IfSome, length};
 ghost use Rattle.mesa_key.specs.Spelling.{is_spelling};
 ghost use Rattle.mesa_schema.specs.declared.rows.Row.{Row as AnyRow};
 ghost use Rattle.mesa_filter.specs.Query.{group_kinds as kinds_grouped};
@@ -21,8 +21,10 @@ use mesa_model::Page;
 use mesa_print::render;
 use mesa_query::answer;
 use mesa_script::Rendered;
+use mesa_split::{merge_split, sample};
 use mesa_tasks::{CompactError, NewDelta, Pinned, Serials, Task};
-use std::alloc::Global;
+use std::alloc::{AllocError, Global};
+use std::thread::Threads;
 
 // A query's page as it is printed.
 fn printed(alloc: Global, page: &Page, query: &Query) -> Result<Rendered, FileError>
@@ -52,8 +54,20 @@ pub(crate) fn answered<R: FileReader>(
     }
 }
 
-/// A task's delta, or why there is none.
-pub(crate) fn merged<M: Made, B: Bench<M>, R: FileReader>(
+// The most parts behind the first one.
+const MORE_PARTS: usize = 7;
+
+// Into how many parts a task may be cut: one is merged from its own readers, and each further one from
+// a spare's.
+fn parts_of<R>(task: &Task<R>) -> u8
+    ensures { result - 1 ≤ length task.now.spare.items }
+{
+    task.spare.len().min(MORE_PARTS) as u8 + 1
+}
+
+// The delta of a task that is cut into parts, or why there is none.
+fn merged_in_parts<T: Threads + Sync, M: Made, B: Bench<M>, R: FileReader>(
+    rt: &T,
     alloc: Global,
     bench: &mut B,
     ids: &mut Serials,
@@ -66,5 +80,30 @@ pub(crate) fn merged<M: Made, B: Bench<M>, R: FileReader>(
     ensures numbered { IfOk result (λ delta. IfSome delta.files (AreNumbered M.id_of ids.old)) }
     ensures ids { (n : ℕ) × (ids.new ≡ after_drafts n ids.old) }
 {
-    merge_task(alloc, bench, ids, task)
+    match sample(alloc, &task.inputs, parts_of(task)) {
+        Ok(cuts) => merge_split(rt, alloc, bench, ids, task, &cuts),
+        Err(AllocError) => Err(CompactError::File(FileError::Memory)),
+    }
+}
+
+/// A task's delta, or why there is none. Where there are further readers of its files, parts of it are
+/// merged side by side.
+pub(crate) fn merged<T: Threads + Sync, M: Made, B: Bench<M>, R: FileReader>(
+    rt: &T,
+    alloc: Global,
+    bench: &mut B,
+    ids: &mut Serials,
+    task: &mut Task<R>,
+) -> Result<NewDelta<M>, CompactError>
+    requires { CanBeMerged R.bytes task.old }
+    ensures known { known_task R.bytes task.new ≡ known_task R.bytes task.old }
+    ensures merged { HasMerged M.bytes M.id_of R.bytes R.faults task.new result }
+    ensures owes { Owes (B.faults bench.old) (B.faults bench.new) (owed_by_work result) }
+    ensures numbered { IfOk result (λ delta. IfSome delta.files (AreNumbered M.id_of ids.old)) }
+    ensures ids { (n : ℕ) × (ids.new ≡ after_drafts n ids.old) }
+{
+    if task.spare.is_empty() {
+        return merge_task(alloc, bench, ids, task);
+    }
+    merged_in_parts(rt, alloc, bench, ids, task)
 }

@@ -1,0 +1,338 @@
+-- A task that was merged in parts.
+use Rattle.std.proofs.Common.{◌≡◌, ◌⊎◌, inl, inr, ℕ, zero, suc, ◌<◌, List, [], ◌∷◌, ◌++◌, get_or, map, refl, sym, ap, subst, ◌∙◌, arith, Global, Vec}
+use Rattle.std.specs.Prelude.{Err, Option, None, Result, Some, slice_get, flat_map, option_map}
+use Rattle.std.specs.List.{AllByRecursion}
+use Rattle.sha2.specs.Sha256.{sha256}
+use Rattle.mesa_schema.specs.declared.rows.Row.{Row}
+use Rattle.mesa_schema.specs.Changes.{Lineage, columns_at, columns_of, epoch_of, lifted}
+use Rattle.mesa_schema.specs.Columns.{Columns, aggs_of}
+use Rattle.mesa_schema.specs.Folded.{folded, rows_of}
+use Rattle.mesa_schema.specs.Lineages.{IsLineage}
+use Rattle.mesa_schema.specs.Rows.{AreRowsOf}
+use Rattle.mesa_schema.proofs.PresentRows.{present_form}
+use Rattle.mesa_fold.specs.Bound.{FoldsTotals}
+use Rattle.mesa_fold.specs.mesa_batch.Totals.{abs_total, sum_bound}
+use Rattle.mesa_delta.specs.mesa_block.Layout.{Layout}
+use Rattle.mesa_delta.specs.mesa_block.Rows.{IsRow}
+use Rattle.mesa_delta.specs.Indexed.{IsIndexOf}
+use Rattle.mesa_delta.specs.Summary.{file_layout}
+use Rattle.mesa_delta.specs.declared.error.FileError.{FileError}
+use Rattle.mesa_delta.specs.declared.error.FileError.TheVariants.{Damaged, Read}
+use Rattle.mesa_delta.specs.declared.input.Input.{Input}
+use Rattle.mesa_cursor.specs.Cursors.{IsInput, lift_by}
+use Rattle.mesa_cursor.specs.Cut.{CutsRise}
+use Rattle.mesa_file.specs.declared.damage.Damage.{Damage}
+use Rattle.mesa_merge.specs.Damaged.{IsDamageOf}
+use Rattle.mesa_merge.specs.Faults.{HaveFaultCause, faults_of}
+use Rattle.mesa_merge.specs.Inputs.{AreInputs as AreMergeable}
+use Rattle.mesa_merge.specs.Inputs.{AreTold, Known, known_of, knowns_of, lifted_parts}
+use Rattle.mesa_merge.proofs.Bounds.{full_all}
+use Rattle.mesa_merge.proofs.Combining.{aggs_count}
+use Rattle.mesa_merge.proofs.Inputs.{SameEnd}
+use Rattle.mesa_answer.specs.Answering.{KeepsSums}
+use Rattle.mesa_tasks.specs.Inputs.{AreInputsOf, IsMergeOf, lineage_of, present_parts}
+use Rattle.mesa_tasks.specs.Inputs.{AreTold as AreToldInputs}
+use Rattle.mesa_tasks.specs.Spares.{AreSpareInputs, AreSpareViews, HasSpareOwn, IsSpareInput, IsSpareOf}
+use Rattle.mesa_tasks.specs.declared.merging.Task.{Task}
+use Rattle.mesa_tasks.specs.declared.merging.TaskView.{TaskView}
+use Rattle.mesa_tasks.specs.GivingBack.{own_inputs, spare_inputs}
+use Rattle.mesa_tasks.specs.Tasks.{HaveMerged, IsMerged}
+use Rattle.mesa_tasks.specs.declared.made.MadeFiles.{MadeFiles}
+use Rattle.mesa_tasks.specs.declared.merging.CompactError.{CompactError}
+use Rattle.mesa_tasks.specs.declared.merging.CompactError.TheVariants.{File}
+use Rattle.mesa_tasks.specs.declared.merging.Spare.{Spare}
+use Rattle.mesa_tasks.proofs.Spares.{spares_are, spares_told}
+use Rattle.mesa_compact.specs.Bounded.{AreBounded}
+use Rattle.mesa_compact.specs.Damaged.{IsMergeDamage}
+use Rattle.mesa_compact.specs.Tasks.{KnownView, known_spares, known_view, known_views}
+use Rattle.mesa_compact.specs.Writing.{HasCauses}
+use Rattle.mesa_compact.proofs.Causing.{caused_file, caused_left, caused_on, caused_right}
+use Rattle.mesa_compact.proofs.Viewing.{faults_append, mergeable, of_table}
+use Rattle.mesa_split.specs.Lending.{items_of, lists_of, views_of}
+use Rattle.mesa_split.specs.Parts.{ArePartsOf, HaveCut, gained}
+use Rattle.mesa_split.specs.Split.{IsGained, IsSpareDamage}
+use Rattle.mesa_split.proofs.Joined.{parts_fold}
+use Rattle.mesa_split.proofs.Verdicts.{Tells, have_parts}
+
+-- ---- what is told
+
+pub told_knowns : {R : Type 0} (bytes : R → Option (List ℕ)) (is : List (Input R)) (contents : List (List Row)) → AreToldInputs bytes is contents → AreTold (knowns_of bytes is) contents
+told_knowns bytes [] [] told = tt
+told_knowns bytes [] (rows ∷ contents) told = absurd told
+told_knowns bytes (i ∷ is) [] told = absurd told
+told_knowns bytes (i ∷ is) (rows ∷ contents) told = (told.0, told_knowns bytes is contents told.1)
+
+pub knowns_told : {R : Type 0} (bytes : R → Option (List ℕ)) (is : List (Input R)) (contents : List (List Row)) → AreTold (knowns_of bytes is) contents → AreToldInputs bytes is contents
+knowns_told bytes [] [] told = tt
+knowns_told bytes [] (rows ∷ contents) told = absurd told
+knowns_told bytes (i ∷ is) [] told = absurd told
+knowns_told bytes (i ∷ is) (rows ∷ contents) told = (told.0, knowns_told bytes is contents told.1)
+
+pub present_knowns : {R : Type 0} (bytes : R → Option (List ℕ)) (is : List (Input R)) (contents : List (List Row)) → lifted_parts (knowns_of bytes is) contents ≡ present_parts is contents
+present_knowns bytes [] contents = refl
+present_knowns bytes (i ∷ is) [] = refl
+present_knowns bytes (i ∷ is) (rows ∷ contents) = ap (λ parts. map (lift_by i) rows ∷ parts) (present_knowns bytes is contents)
+
+spare_lifts : {R : Type 0} (bytes : R → Option (List ℕ)) (is js : List (Input R)) (contents : List (List Row)) → AreSpareInputs bytes is js → lifted_parts (knowns_of bytes js) contents ≡ lifted_parts (knowns_of bytes is) contents
+spare_lifts bytes [] [] contents spares = refl
+spare_lifts bytes [] (j ∷ js) contents spares = absurd spares
+spare_lifts bytes (i ∷ is) [] contents spares = absurd spares
+spare_lifts bytes (i ∷ is) (j ∷ js) [] spares = refl
+spare_lifts bytes (i ∷ is) (j ∷ js) (rows ∷ contents) spares = λ k. map (lifted (spares.0.lineage k) (spares.0.epoch k) (epoch_of (spares.0.lineage k))) rows ∷ spare_lifts bytes is js contents spares.1 k
+
+-- a spare's inputs tell what the task's do
+spare_tells : {R : Type 0} (bytes : R → Option (List ℕ)) (is js : List (Input R)) → AreSpareInputs bytes is js → Tells bytes is js
+spare_tells bytes is js spares = λ contents told. (told_knowns bytes js contents (spares_told bytes is js contents spares (knowns_told bytes is contents told)), spare_lifts bytes is js contents spares)
+
+pub lists_tell : {R : Type 0} (bytes : R → Option (List ℕ)) (own : Vec (Input R) Global) (ss : List (Spare R)) → AllByRecursion (λ (s : Spare R). AreSpareInputs bytes own.items s.inputs.items) ss → AllByRecursion (Tells bytes own.items) (items_of (lists_of own ss))
+lists_tell {R = R} bytes own ss spares = ((λ contents told. (told, refl)), each ss spares) where
+  each : (ss : List (Spare R)) → AllByRecursion (λ (s : Spare R). AreSpareInputs bytes own.items s.inputs.items) ss → AllByRecursion (Tells bytes own.items) (items_of (map (λ (s : Spare R). s.inputs) ss))
+  each [] spares = tt
+  each (s ∷ ss) spares = (spare_tells bytes own.items s.inputs.items spares.0, each ss spares.1)
+
+spares_each : {R : Type 0} (bytes : R → Option (List ℕ)) (is js : List (Input R)) → AreSpareInputs bytes is js → AllByRecursion (IsInput bytes) js
+spares_each bytes [] [] spares = tt
+spares_each bytes [] (j ∷ js) spares = absurd spares
+spares_each bytes (i ∷ is) [] spares = absurd spares
+spares_each bytes (i ∷ is) (j ∷ js) spares = (spares.0.input, spares_each bytes is js spares.1)
+
+-- all lists are of inputs
+pub lists_each : {R : Type 0} (bytes : R → Option (List ℕ)) (own : Vec (Input R) Global) (ss : List (Spare R)) → AllByRecursion (IsInput bytes) own.items → AllByRecursion (λ (s : Spare R). AreSpareInputs bytes own.items s.inputs.items) ss → AllByRecursion (AllByRecursion (IsInput bytes)) (items_of (lists_of own ss))
+lists_each {R = R} bytes own ss all spares = (all, each ss spares) where
+  each : (ss : List (Spare R)) → AllByRecursion (λ (s : Spare R). AreSpareInputs bytes own.items s.inputs.items) ss → AllByRecursion (AllByRecursion (IsInput bytes)) (items_of (map (λ (s : Spare R). s.inputs) ss))
+  each [] spares = tt
+  each (s ∷ ss) spares = (spares_each bytes own.items s.inputs.items spares.0, each ss spares.1)
+
+-- the parts, one after the other, are the merge of the inputs
+pub parts_merge : {R : Type 0} (bytes : R → Option (List ℕ)) (s : Columns) (cuts : List (List ℕ)) (is : List (Input R)) (parts : List (List Row)) → CutsRise None cuts → ArePartsOf s None cuts (knowns_of bytes is) parts → IsMergeOf bytes s is (rows_of parts)
+parts_merge bytes s cuts is parts rise are = λ contents told.
+    parts_fold s cuts (knowns_of bytes is) parts contents rise are (told_knowns bytes is contents told) ∙ ap (folded (aggs_of s)) (present_knowns bytes is contents)
+
+-- ---- sums
+
+good_form : (s : Layout) (rows : List Row) → AllByRecursion (IsRow s) rows → AreRowsOf s.columns rows
+good_form s [] all = tt
+good_form s (row ∷ rows) all = (all.0.form, good_form s rows all.1)
+
+lifted_forms : (l : Lineage) (epoch : ℕ) (rows : List Row) → IsLineage l → AreRowsOf (columns_at l epoch) rows → AreRowsOf (columns_of l) (map (lifted l epoch (epoch_of l)) rows)
+lifted_forms l epoch [] is form = tt
+lifted_forms l epoch (row ∷ rows) is form = (present_form l epoch row is form.0, lifted_forms l epoch rows is form.1)
+
+-- told rows have the form at present
+told_formed : {R : Type 0} (bytes : R → Option (List ℕ)) (l : Lineage) (is : List (Input R)) (contents : List (List Row)) → IsLineage l → AreInputsOf bytes l is → AreTold (knowns_of bytes is) contents → (j : ℕ) → AreRowsOf (columns_of l) (get_or (lifted_parts (knowns_of bytes is) contents) j [])
+told_formed bytes l [] contents line are told j = tt
+told_formed bytes l (i ∷ is) [] line are told j = absurd told
+told_formed bytes l (i ∷ is) (rows ∷ contents) line are told zero =
+    let own : Lineage = lineage_of i in
+    let form : AreRowsOf (columns_at own i.epoch) rows = subst (λ (s : Columns). AreRowsOf s rows) are.0.0.columns (good_form _ rows told.0.2.file.good) in
+    subst (λ (t : Lineage). AreRowsOf (columns_of t) (map (lifted own i.epoch (epoch_of own)) rows)) are.0.1 (lifted_forms own i.epoch rows (subst IsLineage (sym are.0.1) line) form)
+told_formed bytes l (i ∷ is) (rows ∷ contents) line are told (suc j) = told_formed bytes l is contents line are.1 told.1 j
+
+-- where the inputs keep the bound, so do the rows of the parts
+pub parts_keep : {R : Type 0} (bytes : R → Option (List ℕ)) (l : Lineage) (cuts : List (List ℕ)) (is : List (Input R)) (parts : List (List Row)) → FoldsTotals → IsLineage l → AreInputsOf bytes l is → CutsRise None cuts → ArePartsOf (columns_of l) None cuts (knowns_of bytes is) parts
+    → AreBounded (columns_of l) (knowns_of bytes is) → KeepsSums (columns_of l) (rows_of parts)
+parts_keep bytes l cuts is parts law line are rise made b = λ c sum.
+    let s : Columns = columns_of l in
+    let all : List (List Row) = lifted_parts (knowns_of bytes is) b.contents in
+    let same : rows_of parts ≡ folded (aggs_of s) all = parts_fold s cuts (knowns_of bytes is) parts b.contents rise made b.told in
+    subst (λ rows. abs_total c rows < sum_bound) (sym same) (omega (arith, law (aggs_of s) all c sum (full_all s all (told_formed bytes l is b.contents line are b.told) (aggs_count s)), b.bound c sum))
+
+-- ---- lists before and after
+
+abbrev first_of : {A : Type 0} → A → List A → A
+first_of d [] = d
+first_of d (x ∷ xs) = x
+
+abbrev rest_of : {A : Type 0} → List A → List A
+rest_of [] = []
+rest_of (x ∷ xs) = xs
+
+module _ {R : Type 0} (bytes : R → Option (List ℕ)) where
+  abbrev Known_lists : Vec (Input R) Global → List (Spare R) → List (List Known)
+  Known_lists own ss = map (knowns_of bytes) (items_of (lists_of own ss))
+
+  abbrev pub Known_spares : List (Spare R) → List (List Known)
+  Known_spares ss = map (λ (s : Spare R). knowns_of bytes s.inputs.items) ss
+
+  spares_known : (ss : List (Spare R)) → map (knowns_of bytes) (items_of (map (λ (s : Spare R). s.inputs) ss)) ≡ Known_spares ss
+  spares_known [] = refl
+  spares_known (s ∷ ss) = ap (λ ks. knowns_of bytes s.inputs.items ∷ ks) (spares_known ss)
+
+  pub own_known : (old new : Vec (Input R) Global) (os ns : List (Spare R)) → Known_lists new ns ≡ Known_lists old os → knowns_of bytes new.items ≡ knowns_of bytes old.items
+  own_known old new os ns same = ap (first_of []) same
+
+  pub rest_known : (old new : Vec (Input R) Global) (os ns : List (Spare R)) → Known_lists new ns ≡ Known_lists old os → Known_spares ns ≡ Known_spares os
+  rest_known old new os ns same = sym (spares_known ns) ∙ ap rest_of same ∙ spares_known os
+
+  pub lists_known : (old new : Vec (Input R) Global) (os ns : List (Spare R)) → lists_of new ns ≡ lists_of old os → Known_lists new ns ≡ Known_lists old os
+  lists_known old new os ns same = ap (λ (ls : List (Vec (Input R) Global)). map (knowns_of bytes) (items_of ls)) same
+
+  rest_inputs : (ss : List (Spare R)) → AllByRecursion (AllByRecursion (IsInput bytes)) (items_of (map (λ (s : Spare R). s.inputs) ss)) → AllByRecursion (λ (s : Spare R). AllByRecursion (IsInput bytes) s.inputs.items) ss
+  rest_inputs [] all = tt
+  rest_inputs (s ∷ ss) all = (all.0, rest_inputs ss all.1)
+
+  pub spares_inputs : (own : Vec (Input R) Global) (ss : List (Spare R)) → AllByRecursion (AllByRecursion (IsInput bytes)) (items_of (lists_of own ss)) → AllByRecursion (λ (s : Spare R). AllByRecursion (IsInput bytes) s.inputs.items) ss
+  spares_inputs own ss all = rest_inputs ss all.1
+
+  pub spares_ready : (l : Lineage) (own : Vec (Input R) Global) (ss : List (Spare R)) → AreInputsOf bytes l own.items → AllByRecursion (λ (s : Spare R). AreSpareInputs bytes own.items s.inputs.items) ss → AllByRecursion (λ (s : Spare R). AreMergeable bytes (columns_of l) s.inputs.items) ss
+  spares_ready l own [] are spares = tt
+  spares_ready l own (s ∷ ss) are spares = (mergeable bytes (columns_of l) s.inputs.items (of_table bytes l s.inputs.items (spares_are bytes l own.items s.inputs.items spares.0 are)), spares_ready l own ss are spares.1)
+
+  -- ---- damage
+
+  spare_at : (ss : List (Spare R)) (at : ℕ) (n : List (Input R)) → slice_get (items_of (map (λ (s : Spare R). s.inputs) ss)) at ≡ Some n → (s : Spare R) × (slice_get ss at ≡ Some s) × (n ≡ s.inputs.items)
+  spare_at [] at n is = absurd cc
+  spare_at (s ∷ ss) zero n is = (s, refl, cc)
+  spare_at (s ∷ ss) (suc at) n is = spare_at ss at n is
+
+  pub damage_at : (size : R → ℕ) (own : Vec (Input R) Global) (ss : List (Spare R)) (d : Damage) → (at : ℕ) × (n : List (Input R)) × (slice_get (items_of (lists_of own ss)) at ≡ Some n) × IsDamageOf bytes size n d → IsMergeDamage bytes size own.items d ⊎ IsSpareDamage bytes size ss d
+  damage_at size own ss d all = by all.0 all.2 where
+    by : (at : ℕ) → slice_get (items_of (lists_of own ss)) at ≡ Some all.1 → IsMergeDamage bytes size own.items d ⊎ IsSpareDamage bytes size ss d
+    by zero is = let same : all.1 ≡ own.items = cc in inl (inl (subst (λ n. IsDamageOf bytes size n d) same all.3))
+    by (suc at) is =
+        let spare = spare_at ss at all.1 is in
+        inr (record { at = at; spare = spare.0; one = spare.1; told = inl (subst (λ n. IsDamageOf bytes size n d) spare.2 all.3) })
+
+pub each_input : {R : Type 0} (bytes : R → Option (List ℕ)) (l : Lineage) (is : List (Input R)) → AreInputsOf bytes l is → AllByRecursion (IsInput bytes) is
+each_input bytes l [] are = tt
+each_input bytes l (i ∷ is) are = (are.0.0, each_input bytes l is are.1)
+
+-- ---- a task and its spares afterwards
+
+module _ {R : Type 0} (bytes : R → Option (List ℕ)) where
+  pub spares_same : (os ns : List (Spare R)) → Known_spares bytes ns ≡ Known_spares bytes os → views_of ns ≡ views_of os → known_spares bytes ns ≡ known_spares bytes os
+  spares_same [] [] files views = refl
+  spares_same [] (n ∷ ns) files views = absurd cc
+  spares_same (o ∷ os) [] files views = absurd cc
+  spares_same (o ∷ os) (n ∷ ns) files views =
+      λ i. record { files = first_of [] (files i); views = known_views bytes (first_of n.views (views i)).items } ∷ spares_same os ns (ap rest_of files) (ap rest_of views) i
+
+  own_again : (i j k : Input R) → IsSpareInput bytes i k → known_of bytes j ≡ known_of bytes i → IsSpareInput bytes j k
+  own_again i j k s same = record {
+    file = s.file;
+    first = subst (λ (x : Known). (tail : List ℕ) × IsIndexOf s.file (file_layout (columns_at x.table x.epoch) s.file) tail x.file × (sha256 tail ≡ s.file.digest)) (sym same) s.first;
+    second = s.second;
+    lineage = s.lineage ∙ ap (λ (x : Known). x.table) (sym same);
+    epoch = s.epoch ∙ ap (λ (x : Known). x.epoch) (sym same);
+    input = s.input;
+    told = λ b is. s.told b (ap (λ (x : Known). x.told) (sym same) ∙ is);
+  }
+
+  spare_again : (i j k : Input R) → IsSpareInput bytes i j → known_of bytes k ≡ known_of bytes j → IsInput bytes k → IsSpareInput bytes i k
+  spare_again i j k s same input = record {
+    file = s.file;
+    first = s.first;
+    second = subst (λ (x : Known). (tail : List ℕ) × IsIndexOf s.file (file_layout (columns_at x.table x.epoch) s.file) tail x.file × (sha256 tail ≡ s.file.digest)) (sym same) s.second;
+    lineage = ap (λ (x : Known). x.table) same ∙ s.lineage;
+    epoch = ap (λ (x : Known). x.epoch) same ∙ s.epoch;
+    input = input;
+    told = λ b is. ap (λ (x : Known). x.told) same ∙ s.told b is;
+  }
+
+  owns_again : (is js ks : List (Input R)) → AreSpareInputs bytes is ks → knowns_of bytes js ≡ knowns_of bytes is → AreSpareInputs bytes js ks
+  owns_again [] [] ks h same = h
+  owns_again [] (j ∷ js) ks h same = absurd cc
+  owns_again (i ∷ is) [] ks h same = absurd cc
+  owns_again (i ∷ is) (j ∷ js) [] h same = absurd h
+  owns_again (i ∷ is) (j ∷ js) (k ∷ ks) h same = (own_again i j k h.0 (ap (first_of (known_of bytes i)) same), owns_again is js ks h.1 (ap rest_of same))
+
+  spares_again : (is js ks : List (Input R)) → AreSpareInputs bytes is js → knowns_of bytes ks ≡ knowns_of bytes js → AllByRecursion (IsInput bytes) ks → AreSpareInputs bytes is ks
+  spares_again is [] [] h same each = h
+  spares_again is [] (k ∷ ks) h same each = absurd cc
+  spares_again is (j ∷ js) [] h same each = absurd cc
+  spares_again [] (j ∷ js) (k ∷ ks) h same each = absurd h
+  spares_again (i ∷ is) (j ∷ js) (k ∷ ks) h same each = (spare_again i j k h.0 (ap (first_of (known_of bytes j)) same) each.0, spares_again is js ks h.1 (ap rest_of same) each.1)
+
+  own_views_again : (o n s : Option (Vec (Input R) Global)) → HasSpareOwn bytes o s → option_map (λ (v : Vec (Input R) Global). knowns_of bytes v.items) n ≡ option_map (λ (v : Vec (Input R) Global). knowns_of bytes v.items) o → HasSpareOwn bytes n s
+  own_views_again None None s h same = h
+  own_views_again None (Some n) s h same = absurd cc
+  own_views_again (Some o) None s h same = absurd cc
+  own_views_again (Some o) (Some n) None h same = absurd h
+  own_views_again (Some o) (Some n) (Some s) h same = owns_again o.items n.items s.items h cc
+
+  views_again : (ts us vs : List (TaskView R)) → AreSpareViews bytes ts vs → known_views bytes us ≡ known_views bytes ts → AreSpareViews bytes us vs
+  views_again [] [] vs h same = h
+  views_again [] (u ∷ us) vs h same = absurd cc
+  views_again (t ∷ ts) [] vs h same = absurd cc
+  views_again (t ∷ ts) (u ∷ us) [] h same = absurd h
+  views_again (t ∷ ts) (u ∷ us) (v ∷ vs) h same =
+      let one : known_view bytes u ≡ known_view bytes t = ap (first_of (known_view bytes t)) same in
+      (h.0 ∙ ap (λ (k : KnownView). k.view) (sym one), own_views_again t.inputs u.inputs v.inputs h.1 (ap (λ (k : KnownView). k.own) one), views_again ts us vs h.2 (ap rest_of same))
+
+  -- the spares of a task whose readers stay the same are still its spares
+  pub spares_stay : (old new : Task R) (os ns : List (Spare R)) → AllByRecursion (IsSpareOf bytes old) os → knowns_of bytes new.inputs.items ≡ knowns_of bytes old.inputs.items → known_views bytes new.views.items ≡ known_views bytes old.views.items
+      → Known_spares bytes ns ≡ Known_spares bytes os → views_of ns ≡ views_of os → AllByRecursion (λ (s : Spare R). AllByRecursion (IsInput bytes) s.inputs.items) ns → AllByRecursion (IsSpareOf bytes new) ns
+  spares_stay old new [] [] all inputs views files seen each = tt
+  spares_stay old new [] (n ∷ ns) all inputs views files seen each = absurd cc
+  spares_stay old new (o ∷ os) [] all inputs views files seen each = absurd cc
+  spares_stay old new (o ∷ os) (n ∷ ns) all inputs views files seen each = (
+    record {
+      inputs = owns_again old.inputs.items new.inputs.items n.inputs.items (spares_again old.inputs.items o.inputs.items n.inputs.items all.0.inputs (ap (first_of []) files) each.0) inputs;
+      views = subst (λ (v : Vec (TaskView R) Global). AreSpareViews bytes new.views.items v.items) (ap (first_of n.views) (sym seen)) (views_again old.views.items new.views.items o.views.items all.0.views views);
+    },
+    spares_stay old new os ns all.1 inputs views (ap rest_of files) (ap rest_of seen) each.1,
+  )
+
+  pub spares_read : (t : Task R) (ss : List (Spare R)) → AllByRecursion (IsSpareOf bytes t) ss → AllByRecursion (λ (s : Spare R). AreSpareInputs bytes t.inputs.items s.inputs.items) ss
+  spares_read t [] all = tt
+  spares_read t (s ∷ ss) all = (all.0.inputs, spares_read t ss all.1)
+
+-- ---- the parts of a task that were all merged
+
+pub made_parts : {R : Type 0} (bytes : R → Option (List ℕ)) (faults size : R → ℕ) (l : Lineage) (s : Columns) (cuts keys : List (List ℕ)) (old new : Vec (Input R) Global) (os ns : List (Spare R)) (rs : List (Result (List Row) FileError)) → s ≡ columns_of l → keys ≡ cuts
+    → HaveCut bytes faults size s None keys (items_of (lists_of old os)) (items_of (lists_of new ns)) rs → AllByRecursion (λ (x : Spare R). AreSpareInputs bytes old.items x.inputs.items) os → AllByRecursion IsGained rs → ArePartsOf (columns_of l) None cuts (knowns_of bytes old.items) (map gained rs)
+made_parts bytes faults size l s cuts keys old new os ns rs columns same cut spares all =
+    let here = subst (λ (t : Columns). HaveCut bytes faults size t None keys (items_of (lists_of old os)) (items_of (lists_of new ns)) rs) columns cut in
+    subst (λ (ks : List (List ℕ)). ArePartsOf (columns_of l) None ks (knowns_of bytes old.items) (map gained rs)) same
+    (have_parts bytes faults size (columns_of l) old.items None keys (items_of (lists_of old os)) (items_of (lists_of new ns)) rs here (lists_tell bytes old os spares) all)
+
+-- ---- causes
+
+pub split_failed : {R T U : Type 0} (faults : R → ℕ) (IsTold : Damage → Type 0) (a : ℕ) (old new more : List (Input R)) (ss os ns us : List (Spare R)) (e : FileError) → os ≡ ss → us ≡ ns
+    → HaveFaultCause {T = T} {E = FileError} (λ x. x ≡ Read) (faults_of faults (old ++ more ++ flat_map spare_inputs os)) (faults_of faults (new ++ more ++ flat_map spare_inputs ns)) (Err e) → ((d : Damage) → e ≡ Damaged d → IsTold d)
+    → HasCauses {T = U} a a (faults_of faults (old ++ more ++ flat_map spare_inputs ss)) (faults_of faults (new ++ more ++ flat_map spare_inputs us)) IsTold (Err (File e))
+split_failed {T = T} {U = U} faults IsTold a old new more ss os ns us e lent back cause told =
+    let before = subst (λ xs. HaveFaultCause {T = T} {E = FileError} (λ x. x ≡ Read) (faults_of faults (old ++ more ++ flat_map spare_inputs xs)) (faults_of faults (new ++ more ++ flat_map spare_inputs ns)) (Err e)) lent cause in
+    let now = subst (λ xs. HaveFaultCause {T = T} {E = FileError} (λ x. x ≡ Read) (faults_of faults (old ++ more ++ flat_map spare_inputs ss)) (faults_of faults (new ++ more ++ flat_map spare_inputs xs)) (Err e)) (sym back) before in
+    caused_file {T = T} {U = U} IsTold a a _ _ _ e refl refl now told
+
+-- the counts stay where all parts were merged
+pub split_quiet : {R : Type 0} (faults : R → ℕ) (old new more : List (Input R)) (ss os ns us : List (Spare R)) → os ≡ ss → us ≡ ns
+    → faults_of faults (new ++ more ++ flat_map spare_inputs ns) ≡ faults_of faults (old ++ more ++ flat_map spare_inputs os) → faults_of faults (new ++ more ++ flat_map spare_inputs us) ≡ faults_of faults (old ++ more ++ flat_map spare_inputs ss)
+split_quiet faults old new more ss os ns us lent back quiet =
+    ap (λ xs. faults_of faults (new ++ more ++ flat_map spare_inputs xs)) back ∙ quiet ∙ ap (λ xs. faults_of faults (old ++ more ++ flat_map spare_inputs xs)) lent
+
+pub split_written : {R T U : Type 0} (faults : R → ℕ) (IsTold Told : Damage → Type 0) (a b : ℕ) (is js vs ws : List (Input R)) (os ns : List (Spare R)) (r : Result T CompactError) (q : Result U CompactError)
+    → faults_of faults (js ++ vs ++ flat_map spare_inputs ns) ≡ faults_of faults (is ++ vs ++ flat_map spare_inputs os) → HasCauses a b (faults_of faults vs) (faults_of faults ws) IsTold r → SameEnd r q → ((d : Damage) → IsTold d → Told d)
+    → HasCauses a b (faults_of faults (is ++ vs ++ flat_map spare_inputs os)) (faults_of faults (js ++ ws ++ flat_map spare_inputs ns)) Told q
+split_written {R = R} faults IsTold Told a b is js vs ws os ns r q stays h same more =
+    let ss : List (Input R) = flat_map spare_inputs ns in
+    let right = caused_right IsTold a b (faults_of faults js) (faults_of faults vs) (faults_of faults ws) r h in
+    let left = caused_left IsTold a b (faults_of faults js ++ faults_of faults vs) (faults_of faults js ++ faults_of faults ws) (faults_of faults ss) r right in
+    let flat : (xs : List (Input R)) → (faults_of faults js ++ faults_of faults xs) ++ faults_of faults ss ≡ faults_of faults (js ++ xs ++ ss) = λ xs. sym (faults_append faults (js ++ xs) ss ∙ ap (λ ns. ns ++ faults_of faults ss) (faults_append faults js xs)) in
+    let all = subst (λ xs. HasCauses a b xs (faults_of faults (js ++ ws ++ ss)) IsTold r) (flat vs) (subst (λ xs. HasCauses a b ((faults_of faults js ++ faults_of faults vs) ++ faults_of faults ss) xs IsTold r) (flat ws) left) in
+    caused_on IsTold Told a a b _ _ _ r q refl stays all same more
+
+-- causes at a task whose parts were all merged: those of the writing of its files. Views and spares were lent, and came back.
+pub split_ended : {R T U : Type 0} (faults : R → ℕ) (IsTold Told : Damage → Type 0) (a b : ℕ) (is js : List (Input R)) (ts lent got us : List (TaskView R)) (ss os gots ns : List (Spare R)) (r : Result T CompactError) (q : Result U CompactError)
+    → lent ≡ ts → us ≡ got → os ≡ ss → ns ≡ gots → faults_of faults (js ++ flat_map own_inputs ts ++ flat_map spare_inputs gots) ≡ faults_of faults (is ++ flat_map own_inputs ts ++ flat_map spare_inputs os)
+    → HasCauses a b (faults_of faults (flat_map own_inputs lent)) (faults_of faults (flat_map own_inputs got)) IsTold r → SameEnd r q → ((d : Damage) → IsTold d → Told d)
+    → HasCauses a b (faults_of faults (is ++ flat_map own_inputs ts ++ flat_map spare_inputs ss)) (faults_of faults (js ++ flat_map own_inputs us ++ flat_map spare_inputs ns)) Told q
+split_ended {R = R} faults IsTold Told a b is js ts lent got us ss os gots ns r q views back spares returned stays h same more =
+    let vs : List (Input R) = flat_map own_inputs ts in
+    let here = subst (λ (xs : List (TaskView R)). HasCauses a b (faults_of faults (flat_map own_inputs xs)) (faults_of faults (flat_map own_inputs got)) IsTold r) views h in
+    let quiet = stays ∙ ap (λ (xs : List (Spare R)). faults_of faults (is ++ vs ++ flat_map spare_inputs xs)) spares in
+    let all = split_written faults IsTold Told a b is js vs (flat_map own_inputs got) ss gots r q quiet here same more in
+    subst (λ (xs : List (Spare R)). HasCauses a b (faults_of faults (is ++ vs ++ flat_map spare_inputs ss)) (faults_of faults (js ++ flat_map own_inputs us ++ flat_map spare_inputs xs)) Told q) (sym returned)
+    (subst (λ (xs : List (TaskView R)). HasCauses a b (faults_of faults (is ++ vs ++ flat_map spare_inputs ss)) (faults_of faults (js ++ flat_map own_inputs xs ++ flat_map spare_inputs gots)) Told q) (sym back) all)
+
+-- ---- what was merged
+
+-- the rows of the parts are the merge of the task, and its files have them
+pub split_merged : {M R : Type 0} (bytes : M → Option (List ℕ)) (id_of : M → ℕ) (read : R → Option (List ℕ)) (l own : Lineage) (t : Task R) (rows : List Row) (files : Option (MadeFiles M)) → own ≡ l → IsMergeOf read (columns_of own) t.inputs.items rows → HaveMerged bytes id_of read own t rows files
+    → IsMerged bytes id_of read l t (record { files = files })
+split_merged bytes id_of read l own t rows files same merge have = record {
+  rows = rows;
+  merge = subst (λ (o : Lineage). IsMergeOf read (columns_of o) t.inputs.items rows) same merge;
+  files = subst (λ (o : Lineage). HaveMerged bytes id_of read o t rows files) same have;
+}

@@ -1,0 +1,16 @@
+use Rattle.std.proofs.Common.{◌≡◌, map, take}
+use Rattle.mesa_delta.specs.Writing.{columns_of, draft_of, id_of}
+use Rattle.mesa_compact.specs.Grouping.{wanted_in}
+use Rattle.mesa_split.specs.Parts.{joined}
+use Rattle.mesa_split.specs.Written.{HasPoured}
+use Rattle.mesa_split.proofs.writing.write_parts.Given as goal
+
+abbrev pub invariant-parts : goal.invariant-parts
+invariant-parts g l = record {
+  poured : HasPoured g.T.Draft.bytes l.writer l.groups (joined (take l.part-index l.parts));
+  columns : columns_of l.writer ≡ columns_of l.fn.writer;
+  id : id_of l.writer ≡ id_of l.fn.writer;
+  draft : g.T.Draft.id_of (draft_of l.writer) ≡ g.T.Draft.id_of (draft_of l.fn.writer);
+  faults : g.T.Draft.faults (draft_of l.writer) ≡ g.T.Draft.faults (draft_of l.fn.writer);
+  wanted : map wanted_in l.groups ≡ map wanted_in l.fn.groups;
+}

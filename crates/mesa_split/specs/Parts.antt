@@ -1,0 +1,62 @@
+-- Parts of merged inputs.
+use Rattle.std.specs.Prelude.{◌≡◌, ℕ, List, [], ◌∷◌, map, IfErr, IfOk, Result, Ok, Err, Option, None, Some, IsTrue}
+use Rattle.std.specs.List.{AllByRecursion}
+use Rattle.mesa_file.specs.declared.damage.Damage.{Damage}
+use Rattle.mesa_schema.specs.declared.rows.Row.{Row}
+use Rattle.mesa_schema.specs.Columns.{Columns, aggs_of}
+use Rattle.mesa_schema.specs.Folded.{folded, rows_of}
+use Rattle.mesa_schema.specs.Rows.{AreRowsOf, keys_rise}
+use Rattle.mesa_fold.specs.Bound.{KeepsBound}
+use Rattle.mesa_delta.specs.declared.error.FileError.{FileError}
+use Rattle.mesa_delta.specs.declared.error.FileError.TheVariants.{Damaged, Read}
+use Rattle.mesa_delta.specs.declared.input.Input.{Input}
+use Rattle.mesa_cursor.specs.Cursors.{IsInput}
+use Rattle.mesa_cursor.specs.Cut.{cut, lies_in}
+use Rattle.mesa_merge.specs.Damaged.{IsDamageOf}
+use Rattle.mesa_merge.specs.Faults.{HaveFaultCause, faults_of}
+use Rattle.mesa_merge.specs.Inputs.{AreTold, Known, knowns_of, lifted_parts}
+
+-- Rows are a part of the fold of inputs: they have the columns' form, their keys rise and lie between two ends, and where the inputs' bytes are told, each the file of its index, they are the cut of the fold of these files' rows.
+pub record IsPartOf (s : Columns) (low high : Option (List ℕ)) (knowns : List Known) (rows : List Row) : Type 0 where
+  pub form : AreRowsOf s rows
+  pub rise : IsTrue (keys_rise rows)
+  pub within : AllByRecursion (λ (row : Row). IsTrue (lies_in low high row.key)) rows
+  pub told : (contents : List (List Row)) → AreTold knowns contents → rows ≡ cut low high (folded (aggs_of s) (lifted_parts knowns contents))
+
+-- What came of the merge of inputs between two keys, by the inputs before and after: their rows there, or why there are none.
+pub record HasCut {R : Type 0} (bytes : R → Option (List ℕ)) (faults size : R → ℕ) (s : Columns) (low high : Option (List ℕ)) (old new : List (Input R)) (answer : Result (List Row) FileError) : Type 0 where
+  pub rows : IfOk answer (IsPartOf s low high (knowns_of bytes old))
+  -- The inputs stay the same, whatever is answered.
+  pub known : knowns_of bytes new ≡ knowns_of bytes old
+  pub inputs : AllByRecursion (IsInput bytes) new
+  -- Each error has the cause that it has where files are merged whole.
+  pub cause : HaveFaultCause (λ e. e ≡ Read) (faults_of faults old) (faults_of faults new) answer
+  pub damaged : IfErr answer (λ e. (d : Damage) → e ≡ Damaged d → IsDamageOf bytes size new d)
+  pub accepts : IfErr answer (λ e. (d : Damage) → e ≡ Damaged d → (contents : List (List Row)) → AreTold (knowns_of bytes old) contents
+      → KeepsBound (aggs_of s) [] (rows_of (lifted_parts (knowns_of bytes old) contents)) → ⊥)
+
+-- Lists of inputs were merged side by side at these cuts, from this end on, one list for each part; further lists stay as they are.
+abbrev pub HaveCut : {R : Type 0} → (R → Option (List ℕ)) → (R → ℕ) → (R → ℕ) → Columns → Option (List ℕ) → List (List ℕ) → List (List (Input R)) → List (List (Input R)) → List (Result (List Row) FileError) → Type 0
+HaveCut bytes faults size s low keys [] news answers = ⊥
+HaveCut bytes faults size s low keys (old ∷ olds) [] answers = ⊥
+HaveCut bytes faults size s low keys (old ∷ olds) (new ∷ news) [] = ⊥
+HaveCut bytes faults size s low [] (old ∷ olds) (new ∷ news) (answer ∷ []) = HasCut bytes faults size s low None old new answer × (news ≡ olds)
+HaveCut bytes faults size s low [] (old ∷ olds) (new ∷ news) (answer ∷ next ∷ answers) = ⊥
+HaveCut bytes faults size s low (key ∷ keys) (old ∷ olds) (new ∷ news) (answer ∷ answers) = HasCut bytes faults size s low (Some key) old new answer × HaveCut bytes faults size s (Some key) keys olds news answers
+
+-- Lists of rows are the parts of the fold of inputs at these cuts, from this end on.
+abbrev pub ArePartsOf : Columns → Option (List ℕ) → List (List ℕ) → List Known → List (List Row) → Type 0
+ArePartsOf s low [] knowns [] = ⊥
+ArePartsOf s low [] knowns (rows ∷ []) = IsPartOf s low None knowns rows
+ArePartsOf s low [] knowns (rows ∷ next ∷ more) = ⊥
+ArePartsOf s low (key ∷ keys) knowns [] = ⊥
+ArePartsOf s low (key ∷ keys) knowns (rows ∷ more) = IsPartOf s low (Some key) knowns rows × ArePartsOf s (Some key) keys knowns more
+
+-- the rows of a part; none where it has failed
+abbrev pub gained : Result (List Row) FileError → List Row
+gained (Ok rows) = rows
+gained (Err e) = []
+
+-- the rows of all parts, one part after the other
+abbrev pub joined : List (Result (List Row) FileError) → List Row
+joined answers = rows_of (map gained answers)
