@@ -1,9 +1,7 @@
 pub mod Closes
-pub mod Contents
 pub mod Digests
 pub mod Opens
 pub mod Sees
 pub mod States
 pub mod Telling
-pub mod There
 pub mod Versions

@@ -4,7 +4,7 @@ use Rattle.std.specs.Prelude.{find, option_map}
 use Rattle.std.specs.List.{AllByRecursion}
 use Rattle.std.specs.Option.{ok_or}
 use Rattle.mesa_asking.specs.Seeing.{catalogue_asked, pinned_asked}
-use Rattle.mesa_asking.proofs.Contents.{HasContents, kept_catalog, pinned_contents, present_contents}
+use Rattle.mesa_pinning.proofs.Contents.{HasContents, kept_catalog, pinned_contents, present_contents}
 use Rattle.mesa_asking.proofs.Sees.{asked_there}
 use Rattle.mesa_asking.proofs.Versions.{common_most, version_there}
 use Rattle.mesa_catalog.proofs.Loads.{find_mapped, found_holds}

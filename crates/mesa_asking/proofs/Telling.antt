@@ -4,10 +4,10 @@ use Rattle.std.specs.Prelude.{find, option_map}
 use Rattle.std.specs.List.{AllByRecursion}
 use Rattle.mesa_asking.specs.Opening.{HasItsFiles, HasUnsoundFile, IsHeaded, tells_damage}
 use Rattle.mesa_asking.specs.Seeing.{catalogue_asked}
-use Rattle.mesa_asking.proofs.Contents.{seen_columns, seen_content}
+use Rattle.mesa_pinning.proofs.Contents.{seen_columns, seen_content}
 use Rattle.mesa_asking.proofs.Opens.{Answers, one_answer, opened_from}
 use Rattle.mesa_asking.proofs.States.{sees_state, version_range}
-use Rattle.mesa_asking.proofs.There.{name_there}
+use Rattle.mesa_pinning.proofs.There.{name_there}
 use Rattle.mesa_catalog.proofs.Loads.{found_holds}
 use Rattle.mesa_catalog.proofs.Stocks.{all_at}
 use Rattle.mesa_commit.specs.Images.{Has}

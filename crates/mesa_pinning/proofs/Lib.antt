@@ -7,3 +7,5 @@ pub mod Sums
 pub mod Bounds
 pub mod Unsound
 pub mod Telling
+pub mod Contents
+pub mod There

@@ -6,9 +6,12 @@ use Rattle.mesa_schema.specs.Changes.{Lineage, columns_of}
 use Rattle.mesa_schema.specs.Columns.{Columns, aggs_of}
 use Rattle.mesa_schema.specs.Folded.{folded, rows_of}
 use Rattle.mesa_schema.specs.Lineages.{is_view_of}
-use Rattle.mesa_schema.specs.Views.{view_rows}
+use Rattle.mesa_schema.specs.Rows.{AreRowsOf}
+use Rattle.mesa_schema.specs.Views.{view_key_places, view_rows, view_value_places}
 use Rattle.mesa_schema.specs.declared.rows.Row.{Row}
 use Rattle.mesa_schema.specs.declared.views.View.{View}
+use Rattle.mesa_schema.proofs.Forms.{folded_form}
+use Rattle.mesa_schema.proofs.GroupKeys.{groups_form}
 use Rattle.mesa_schema.proofs.Lists.{all_both}
 use Rattle.mesa_filter.specs.Query.{BuiltQuery, IsQueryOf, group_kinds}
 use Rattle.mesa_query.specs.mesa_answer.Answering.{KeepsSums}
@@ -29,7 +32,7 @@ use Rattle.mesa_plans.proofs.mesa_image_laws.Plans.{planned_folds}
 use Rattle.mesa_rules.proofs.mesa_catalog.Stocks.{all_at}
 use Rattle.mesa_query.specs.mesa_merge.Inputs.{Known, knowns_of}
 use Rattle.mesa_pinning.specs.Read.{IsPinnedFor, relation_read, view_read}
-use Rattle.mesa_pinning.specs.Told.{AreOfRelation, Tells, parts_known, parts_under}
+use Rattle.mesa_pinning.specs.Told.{AreOfRelation, TellContent, Tells, parts_known, parts_under}
 use Rattle.mesa_pinning.proofs.Bounds.{all_under, read_sums}
 use Rattle.mesa_pinning.proofs.Folding.{relation_folds, table_folds}
 use Rattle.mesa_pinning.proofs.Given.{AreGiven, IsGiven, IsSeen, all_given, all_parts, all_told, part_of, rows_seen}
@@ -37,9 +40,9 @@ use Rattle.mesa_pinning.proofs.Reading.{IsThere, all_of, all_pinned, columns_rea
 use Rattle.mesa_plans.proofs.Among.{all_planned}
 use Rattle.mesa_plans.specs.Files.{Seen}
 use Rattle.mesa_query.specs.Files.{inputs_in, owns_in}
-use Rattle.mesa_query.specs.Relation.{page_over}
+use Rattle.mesa_query.specs.Relation.{page_over, parts_pinned, parts_ungrouped, rows_ungrouped}
 use Rattle.mesa_rules.specs.declared.found.Found.{Found}
-use Rattle.mesa_tasks.specs.Pins.{HasViewOf, IsOfRelation, IsPinned, IsPinnedInput, view_at}
+use Rattle.mesa_tasks.specs.Pins.{HasViewOf, IsOfRelation, IsPinned, IsPinnedInput, rows_pinned, view_at}
 use Rattle.mesa_tasks.specs.declared.querying.Pinned.{Pinned}
 use Rattle.mesa_tasks.specs.declared.querying.PinnedInput.{PinnedInput}
 
@@ -112,7 +115,29 @@ module _ (rows : Rows) (oldest next : ℕ) (t : Stock) (shaped : IsShaped oldest
   pub content_folds : (view : Option ℕ) → IsThere t.lineage view → folded (aggs_of (columns_read t.lineage view)) (map (part_of rows view) (relation_read t.lineage view (planned t version))) ≡ content_read rows t view version
   content_folds view there = by_view view there ∙ ap (rows_by (columns_of l) (view_at l view)) (planned_folds rows oldest next t shaped stocked version)
 
+  -- It has the form of the relation's columns.
+  pub content_form : (view : Option ℕ) → IsThere t.lineage view → AreRowsOf (columns_read t.lineage view) (content_read rows t view version)
+  content_form view there = by (view_at l view) where
+    whole : AreRowsOf (columns_of t.lineage) (content rows t version)
+    whole = subst (AreRowsOf (columns_of l)) (planned_folds rows oldest next t shaped stocked version) (folded_form (columns_of l) (map (present rows l) ds) (rows_formed rows l ds (all_formed rows l ds shaped.lineage formed)))
+
+    by : (o : Option View) → AreRowsOf (view_seen (columns_of t.lineage) o) (rows_by (columns_of t.lineage) o (content rows t version))
+    by None = whole
+    by (Some v) = groups_form (columns_of l) (view_key_places (columns_of l) v) (view_value_places (columns_of l) v) (content rows t version) whole
+
 -- ---- what a pinned query's files tell
+
+-- the relation's rows, by what is known of the files
+parts_are : {R : Type 0} (bytes : R → Option (List ℕ)) (view : Option ℕ) (files : List (PinnedInput R)) (contents : List (List Row)) → parts_pinned view files contents ≡ parts_known view (knowns_of bytes (inputs_in files)) (owns_in files) contents
+parts_are bytes view [] contents = refl
+parts_are bytes view (file ∷ files) [] = refl
+parts_are bytes view (file ∷ files) (rows ∷ contents) = ap (λ (more : List (List Row)). rows_pinned view file rows ∷ more) (parts_are bytes view files contents)
+
+-- and its rows before any are grouped
+under_is : {R : Type 0} (bytes : R → Option (List ℕ)) (view : Option ℕ) (files : List (PinnedInput R)) (contents : List (List Row)) → parts_ungrouped view files contents ≡ parts_under view (knowns_of bytes (inputs_in files)) (owns_in files) contents
+under_is bytes view [] contents = refl
+under_is bytes view (file ∷ files) [] = refl
+under_is bytes view (file ∷ files) (rows ∷ contents) = ap (λ (more : List (List Row)). rows_ungrouped view file rows ∷ more) (under_is bytes view files contents)
 
 module _ {R : Type 0} (bytes : R → Option (List ℕ)) (faults : R → ℕ) (told : Option Image) (t : Stock) (f : Found) (p : Pinned R) (is : IsPinnedFor bytes faults told t f p) (there : IsThere t.lineage f.relation.view) where
   abbrev s : Columns
@@ -158,6 +183,23 @@ module _ {R : Type 0} (bytes : R → Option (List ℕ)) (faults : R → ℕ) (to
               ∙ same_page s k p.query p.view ks (owns_in p.inputs.items) contents mine known;
           at = ap (λ (x : Page). x.version) page ∙ sym is.version;
           heading = heading ∙ ap (λ (x : BuiltQuery). record { kinds = group_kinds x; prefix = x.prefix }) (sym is.query);
+        }
+
+    -- They tell that content.
+    pub pinned_content : TellContent bytes (columns_read t.lineage f.relation.view) p (content_read rows t f.relation.view f.query.version)
+    pinned_content =
+        let view = f.relation.view in
+        let ks = knowns_of bytes (inputs_in p.inputs.items) in
+        let contents = map (rows_seen rows) seen in
+        record {
+          contents = contents;
+          told = all_told rows image bytes faults told is_told is.files.wanted (inputs_in p.inputs.items) seen is.files.are is.files.opened all_seen;
+          sums = subst (KeepsSums s) (sym (ap rows_of (under_is bytes p.view p.inputs.items contents ∙ (λ j. parts_under (is.view j) ks (is.files.own j) contents) ∙ all_under bytes faults told rows view is.files.wanted (inputs_in p.inputs.items) seen is.files.are is.files.opened)))
+              (read_sums rows oldest next t shaped stocked f.query.version view there);
+          fold = ap (folded (aggs_of s)) (parts_are bytes p.view p.inputs.items contents ∙ (λ j. parts_known (is.view j) ks (is.files.own j) contents)
+              ∙ all_parts rows image bytes faults told is_told view is.files.wanted (inputs_in p.inputs.items) seen is.files.are is.files.opened)
+              ∙ content_folds rows oldest next t shaped stocked f.query.version view there;
+          form = content_form rows oldest next t shaped stocked f.query.version view there;
         }
 
 -- ---- the files of a catalogue

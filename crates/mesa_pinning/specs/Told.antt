@@ -1,14 +1,15 @@
 -- What the files of a query tell of its answer.
 use Rattle.std.specs.Prelude.{◌≡◌, ℕ, List, [], ◌∷◌, map, Bool, Option, ⊤}
 use Rattle.mesa_schema.specs.declared.rows.Row.{Row}
-use Rattle.mesa_schema.specs.Columns.{Columns}
-use Rattle.mesa_schema.specs.Folded.{rows_of}
+use Rattle.mesa_schema.specs.Columns.{Columns, aggs_of}
+use Rattle.mesa_schema.specs.Rows.{AreRowsOf}
+use Rattle.mesa_schema.specs.Folded.{folded, rows_of}
 use Rattle.mesa_query.specs.mesa_answer.Answering.{KeepsSums}
 use Rattle.mesa_filter.specs.Query.{BuiltQuery, group_kinds}
 use Rattle.mesa_query.specs.mesa_merge.Inputs.{AreTold, Known, knowns_of, lifted_in}
 use Rattle.mesa_model.specs.Query.{Answer}
 use Rattle.mesa_query.specs.Files.{inputs_in, owns_in}
-use Rattle.mesa_query.specs.Relation.{page_over, rows_under}
+use Rattle.mesa_query.specs.Relation.{page_over, parts_pinned, parts_ungrouped, rows_under}
 use Rattle.mesa_tasks.specs.Pins.{IsOfRelation, relation_rows}
 use Rattle.mesa_tasks.specs.declared.querying.Pinned.{Pinned}
 
@@ -44,3 +45,11 @@ pub record TellAnswer (q : BuiltQuery) (version : ℕ) (view : Option ℕ) (file
 -- The same of a query's files as they are handed out.
 abbrev pub Tells : {R : Type 0} → (R → Option (List ℕ)) → Pinned R → Answer → Type 0
 Tells bytes p answer = TellAnswer p.query p.version p.view (knowns_of bytes (inputs_in p.inputs.items)) (owns_in p.inputs.items) answer
+
+-- A query's files tell the content of its relation, which has these columns: their bytes are told, no sum over their rows leaves its type, and the relation's rows in all of them fold to it.
+pub record TellContent {R : Type 0} (bytes : R → Option (List ℕ)) (s : Columns) (p : Pinned R) (content : List Row) : Type 0 where
+  pub contents : List (List Row)
+  pub told : AreTold (knowns_of bytes (inputs_in p.inputs.items)) contents
+  pub sums : KeepsSums s (rows_of (parts_ungrouped p.view p.inputs.items contents))
+  pub fold : folded (aggs_of s) (parts_pinned p.view p.inputs.items contents) ≡ content
+  pub form : AreRowsOf s content

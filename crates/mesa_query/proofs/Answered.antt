@@ -55,7 +55,7 @@ fold_filtered s terms parts = filtered_folds (λ key. meets (key_of (kinds_of s)
 -- ---- the answer
 
 -- The matching rows of parts, grouped, are the answer over their fold.
-answered : (s : Columns) (q : BuiltQuery) (parts : List (List Row)) (given : List Row) → AnswersParts → IsQueryOf s q → AreRowsOf s given → given ≡ filtered s q.asked.terms (rows_of parts)
+pub answered : (s : Columns) (q : BuiltQuery) (parts : List (List Row)) (given : List Row) → AnswersParts → IsQueryOf s q → AreRowsOf s given → given ≡ filtered s q.asked.terms (rows_of parts)
     → answer_rows s q.asked (folded (aggs_of s) parts) ≡ grouped s q.asked.columns q.asked.values given
 answered s q parts given law is form e =
     let terms : List Term = q.asked.terms in

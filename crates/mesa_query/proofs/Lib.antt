@@ -6,3 +6,5 @@ pub mod Contents
 pub mod Holding
 pub mod Owned
 pub mod Answered
+pub mod AllGroups
+pub mod Differing

@@ -2,6 +2,7 @@ pub use Rattle.mesa_answer.specs as mesa_answer
 pub use Rattle.mesa_merge.specs as mesa_merge
 pub use Rattle.mesa_scan.specs as mesa_scan
 pub mod Relation
+pub mod Whole
 pub mod Files
 pub mod Sums
 pub mod Laws

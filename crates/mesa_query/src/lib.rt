@@ -7,6 +7,8 @@ mod laws;
 mod newest;
 mod regrouped;
 mod relation;
+mod unpaged;
 
 pub use answering::answer;
 pub use laws::views_fold_ungrouped;
+pub use unpaged::whole;

@@ -9,8 +9,8 @@ mod schemas;
 mod versions;
 
 pub use found::Found;
-pub use lookups::table_number;
-pub use queries::{explain, query};
+pub use lookups::{relation_asked, table_number};
+pub use queries::{explain, query, relation_schema};
 pub use ruled::Ruled;
 pub use schemas::{alter, table, view};
 pub use versions::{expire, expire_table, pin};

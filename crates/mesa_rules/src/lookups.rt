@@ -22,8 +22,8 @@ pub fn table_number(catalog: &Catalog, name: &[u8]) -> Option<u16>
     None
 }
 
-// The table or the view of a name: tables and views share one space of names.
-pub(crate) fn relation_asked(catalog: &Catalog, name: &[u8]) -> Option<Relation>
+/// The table or the view of a name: tables and views share one space of names. Takes no memory.
+pub fn relation_asked(catalog: &Catalog, name: &[u8]) -> Option<Relation>
     ensures found { result ≡ relation_of catalog.now.catalogue name.now }
     ensures table { IfSome result (λ r. r.table < length catalog.now.catalogue.tables) }
     ensures view { IfSome result (λ r. IfSome r.view (λ view. view < length (stock_at catalog.now.catalogue r.table).lineage.views)) }

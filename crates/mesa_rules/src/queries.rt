@@ -76,13 +76,13 @@ fn checked_relation(
     let Some(relation) = relation_asked(catalog, words.relation.as_slice()) else {
         return Err(Failure::Refused(Refusal::NoTable { row: None }));
     };
-    let schema = schema_of(catalog, relation)?;
+    let schema = relation_schema(catalog, relation)?;
     check_query(alloc, &schema, words)?;
     Ok((relation, schema))
 }
 
-// The columns of a relation.
-fn schema_of(catalog: &Catalog, relation: Relation) -> Result<Schema, AllocError>
+/// The columns of a relation.
+pub fn relation_schema(catalog: &Catalog, relation: Relation) -> Result<Schema, AllocError>
     requires table { relation.table < length catalog.now.catalogue.tables }
     requires view { IfSome relation.view (λ view. view < length (stock_at catalog.now.catalogue relation.table).lineage.views) }
     ensures { IfOk result (λ s. s ≡ columns_at catalog.now.catalogue relation) }

@@ -1,9 +1,9 @@
 use Rattle.std.proofs.Common.{◌≡◌, ◌<◌, ◌≤◌, length, map, true, sym, subst}
 use Rattle.std.specs.Prelude.{IfSome}
 use Rattle.std.specs.List.{AllByRecursion}
-use Rattle.mesa_asking.proofs.Contents.{columns_found}
+use Rattle.mesa_pinning.proofs.Contents.{columns_found}
 use Rattle.mesa_asking.proofs.Opens.{has_no_asked, has_no_files, met_damage, rules_undamaged}
-use Rattle.mesa_asking.proofs.There.{name_there, view_within}
+use Rattle.mesa_pinning.proofs.There.{name_there, view_within}
 use Rattle.mesa_asking.proofs.opening.files_asked.Goals as goal
 use Rattle.mesa_catalog.proofs.Stocks.{all_at}
 use Rattle.mesa_filter.specs.Query.{IsQueryOf}

@@ -1,0 +1,3 @@
+pub mod AllAsked
+pub mod Newest
+pub mod Content

@@ -1,0 +1,41 @@
+use Rattle.std.proofs.Common.{List, subst, sym, arith}
+use Rattle.std.proofs.lemmas.List.{with_items_is}
+use Rattle.std.specs.List.{AllByRecursion}
+use Rattle.mesa_schema.specs.Folded.{rows_of}
+use Rattle.mesa_merge.specs.Inputs.{AreTold, knowns_of}
+use Rattle.std.specs.Prelude.{◌⊎◌}
+use Rattle.mesa_answer.specs.Answering.{KeepsSums}
+use Rattle.mesa_query.specs.Whole.{all_wanted}
+use Rattle.mesa_answer.proofs.Results.{if_err}
+use Rattle.mesa_tasks.specs.Pins.{IsPinnedInput}
+use Rattle.mesa_tasks.specs.declared.querying.PinnedInput.{PinnedInput}
+use Rattle.mesa_query.specs.Files.{IsDamageIn, inputs_in}
+use Rattle.mesa_query.specs.Relation.{parts_ungrouped}
+use Rattle.mesa_query.specs.Sums.{IsSumIn}
+use Rattle.mesa_query.proofs.unpaged.whole.Goals as goal
+
+pub returns-clause-pinned : goal.returns-clause-pinned
+returns-clause-pinned g c = λ s is. record {
+  query = is.query;
+  inputs = subst (AllByRecursion (IsPinnedInput g.R.FileReader.bytes s c.args.pinned.now.view)) (sym (with_items_is c.args.pinned.now.inputs c.whole_from.new.files (omega arith)))
+      (c.whole_from.ensures.pinned s (subst (AllByRecursion (IsPinnedInput g.R.FileReader.bytes s c.args.pinned.now.view)) (sym c.deref_mut.ensures.value) is.inputs));
+}
+
+pub returns-clause-never : goal.returns-clause-never
+returns-clause-never g c =
+    let bytes = g.R.FileReader.bytes in
+    let view = c.args.pinned.now.view in
+    if_err c.whole_from.result _ _ (λ e never d is s h contents told keeps.
+    never d is s h.query (subst (AllByRecursion (IsPinnedInput bytes s view)) (sym c.deref_mut.ensures.value) h.inputs) contents
+    (subst (λ (files : List (PinnedInput _)). AreTold (knowns_of bytes (inputs_in files)) contents) (sym c.deref_mut.ensures.value) told)
+    (subst (λ (files : List (PinnedInput _)). KeepsSums s (rows_of (parts_ungrouped view files contents))) (sym c.deref_mut.ensures.value) keeps)) c.whole_from.ensures.never
+
+pub returns-clause-damaged : goal.returns-clause-damaged
+returns-clause-damaged g c =
+    let bytes = g.R.FileReader.bytes in
+    let view = c.args.pinned.now.view in
+    let q = c.args.pinned.now.query in
+    if_err c.whole_from.result _ _ (λ e damaged d is s h.
+    let files = damaged d is s h.query (subst (AllByRecursion (IsPinnedInput bytes s view)) (sym c.deref_mut.ensures.value) h.inputs) in
+    let before = subst (λ (old : List (PinnedInput _)). IsDamageIn bytes g.R.FileReader.size d old c.whole_from.new.files ⊎ IsSumIn bytes (all_wanted s q) q.asked.terms view old d) c.deref_mut.ensures.value files in
+    subst (λ (new : List (PinnedInput _)). IsDamageIn bytes g.R.FileReader.size d c.args.pinned.now.inputs.items new ⊎ IsSumIn bytes (all_wanted s q) q.asked.terms view c.args.pinned.now.inputs.items d) (sym (with_items_is c.args.pinned.now.inputs c.whole_from.new.files (omega arith))) before) c.whole_from.ensures.damaged

@@ -1,0 +1,84 @@
+// The whole answer to a pinned query, from its files.
+ghost use Rattle.std.specs.Prelude.{◌≡◌, ◌⊎◌, List, IfOk, IfErr};
+ghost use Rattle.std.specs.List.{AllByRecursion};
+ghost use Rattle.mesa_file.specs.declared.damage.Damage.{Damage as AnyDamage};
+ghost use Rattle.mesa_schema.specs.declared.rows.Row.{Row as AnyRow};
+ghost use Rattle.mesa_schema.specs.Columns.{Columns};
+ghost use Rattle.mesa_schema.specs.Folded.{rows_of};
+ghost use Rattle.mesa_schema.specs.Rows.{AreRowsOf};
+ghost use Rattle.mesa_filter.specs.Query.{IsQueryOf};
+ghost use Rattle.mesa_delta.specs.declared.error.FileError.TheVariants as file_error;
+ghost use Rattle.mesa_merge.specs.Faults.{HaveFaultCause, faults_of};
+ghost use Rattle.mesa_merge.specs.Inputs.{AreTold, knowns_of};
+ghost use Rattle.mesa_answer.specs.Answering.{KeepsSums, grouped_columns};
+ghost use Rattle.mesa_tasks.specs.Pins.{IsPinned, IsPinnedInput};
+ghost use Rattle.mesa_query.specs.Files.{IsDamageIn, inputs_in, owns_in};
+ghost use Rattle.mesa_query.specs.Relation.{parts_pinned, parts_ungrouped};
+ghost use Rattle.mesa_query.specs.Sums.{IsSumIn};
+ghost use Rattle.mesa_query.specs.Whole.{all_wanted, whole_over};
+
+use crate::gathering::gather_all;
+use crate::relation::relation_columns;
+use mesa_answer::{Groups, answer_over_parts};
+use mesa_delta::FileError;
+use mesa_disk::FileReader;
+use mesa_filter::Query;
+use mesa_list::Items;
+use mesa_schema::RowList;
+use mesa_tasks::{Pinned, PinnedInput};
+use std::alloc::Global;
+
+/// All rows of the answer to a pinned query, without a page's cut, from its files in the order of their versions.
+pub fn whole<R: FileReader>(alloc: Global, pinned: &mut Pinned<R>) -> Result<RowList, FileError>
+    requires { (s : Columns) × IsPinned R.bytes s pinned.old }
+
+    // Where each file is told and its index is true of it, these are the rows of the answer over the relation's rows in all of them; on every store they have the form that is asked.
+    ensures rows { IfOk result (λ rows. (s : Columns) → IsPinned R.bytes s pinned.old → (contents : List (List AnyRow)) → AreTold (knowns_of R.bytes (inputs_in pinned.old.inputs.items)) contents
+        → rows ≡ whole_over s pinned.old.query (parts_pinned pinned.old.view pinned.old.inputs.items contents)) }
+    ensures form { IfOk result (λ rows. (s : Columns) → IsPinned R.bytes s pinned.old → AreRowsOf (grouped_columns s pinned.old.query.asked.columns pinned.old.query.asked.values) rows) }
+
+    // It stays the same query, over the same files.
+    ensures pinned { (s : Columns) → IsPinned R.bytes s pinned.old → IsPinned R.bytes s pinned.new }
+    ensures rest { pinned.new ≡ record pinned.old { inputs = pinned.new.inputs } }
+    ensures known { knowns_of R.bytes (inputs_in pinned.new.inputs.items) ≡ knowns_of R.bytes (inputs_in pinned.old.inputs.items) }
+    ensures own { owns_in pinned.new.inputs.items ≡ owns_in pinned.old.inputs.items }
+
+    // Read comes where the count of faults of a reader rose, and Damaged where a file isn't the recorded one, and no block was taken of those behind it, or where a sum would leave its type, and then of the newest file that holds its group. It never comes where all files are told and true and the absolute values of the rows add up to an amount in each sum column.
+    ensures cause { HaveFaultCause (λ e. e ≡ file_error.Read) (faults_of R.faults (inputs_in pinned.old.inputs.items)) (faults_of R.faults (inputs_in pinned.new.inputs.items)) result }
+    ensures damaged { IfErr result (λ e. (d : AnyDamage) → e ≡ file_error.Damaged d → (s : Columns) → IsPinned R.bytes s pinned.old
+        → IsDamageIn R.bytes R.size d pinned.old.inputs.items pinned.new.inputs.items ⊎ IsSumIn R.bytes (all_wanted s pinned.old.query) pinned.old.query.asked.terms pinned.old.view pinned.old.inputs.items d) }
+    ensures never { IfErr result (λ e. (d : AnyDamage) → e ≡ file_error.Damaged d → (s : Columns) → IsPinned R.bytes s pinned.old → (contents : List (List AnyRow)) → AreTold (knowns_of R.bytes (inputs_in pinned.old.inputs.items)) contents
+        → KeepsSums s (rows_of (parts_ungrouped pinned.old.view pinned.old.inputs.items contents)) → ⊥) }
+{
+    whole_from(alloc, &pinned.query, pinned.view, &mut pinned.inputs)
+}
+
+// The rows of the answer to a query, from these files.
+fn whole_from<R: FileReader>(
+    alloc: Global,
+    query: &Query,
+    view: Option<u8>,
+    files: &mut [PinnedInput<R>],
+) -> Result<RowList, FileError>
+    requires { (s : Columns) × IsQueryOf s query.now × AllByRecursion (IsPinnedInput R.bytes s view) files.old }
+    ensures rows { IfOk result (λ rows. (s : Columns) → IsQueryOf s query.now → AllByRecursion (IsPinnedInput R.bytes s view) files.old → (contents : List (List AnyRow)) → AreTold (knowns_of R.bytes (inputs_in files.old)) contents
+        → rows ≡ whole_over s query.now (parts_pinned view files.old contents)) }
+    ensures form { IfOk result (λ rows. (s : Columns) → IsQueryOf s query.now → AllByRecursion (IsPinnedInput R.bytes s view) files.old → AreRowsOf (grouped_columns s query.now.asked.columns query.now.asked.values) rows) }
+    ensures pinned { (s : Columns) → AllByRecursion (IsPinnedInput R.bytes s view) files.old → AllByRecursion (IsPinnedInput R.bytes s view) files.new }
+    ensures known { knowns_of R.bytes (inputs_in files.new) ≡ knowns_of R.bytes (inputs_in files.old) }
+    ensures own { owns_in files.new ≡ owns_in files.old }
+    ensures cause { HaveFaultCause (λ e. e ≡ file_error.Read) (faults_of R.faults (inputs_in files.old)) (faults_of R.faults (inputs_in files.new)) result }
+    ensures damaged { IfErr result (λ e. (d : AnyDamage) → e ≡ file_error.Damaged d → (s : Columns) → IsQueryOf s query.now → AllByRecursion (IsPinnedInput R.bytes s view) files.old
+        → IsDamageIn R.bytes R.size d files.old files.new ⊎ IsSumIn R.bytes (all_wanted s query.now) query.now.asked.terms view files.old d) }
+    ensures never { IfErr result (λ e. (d : AnyDamage) → e ≡ file_error.Damaged d → (s : Columns) → IsQueryOf s query.now → AllByRecursion (IsPinnedInput R.bytes s view) files.old → (contents : List (List AnyRow)) → AreTold (knowns_of R.bytes (inputs_in files.old)) contents
+        → KeepsSums s (rows_of (parts_ungrouped view files.old contents)) → ⊥) }
+{
+    answer_over_parts();
+    let Some(first) = files.first() else {
+        return Ok(Items::new(alloc));
+    };
+    let schema = relation_columns(view, first)?;
+    let mut groups = Groups::all(alloc, &schema, query.columns(), query.values())?;
+    gather_all(alloc, &mut groups, view, files, query.filter())?;
+    Ok(groups.into_rows()?)
+}
