@@ -5,21 +5,24 @@ use Rattle.mesa_disk.specs.Image.{Image}
 use Rattle.mesa_disk.specs.Story.{Story}
 use Rattle.mesa_words.specs.declared.forms.Form.TheVariants as form
 use Rattle.mesa_commit.specs.Images.{Has}
+use Rattle.mesa_skeleton.specs.Rows.{Rows}
 use Rattle.mesa_image.specs.Catalog.{Catalog}
 use Rattle.mesa_image.specs.Fitting.{shelved}
 use Rattle.mesa_image.specs.Sound.{AreStocked, IsSound, wants}
 use Rattle.mesa_opening.specs.declared.error.OpenError.{OpenError}
 use Rattle.mesa_opening.specs.declared.error.OpenError.TheVariants as open_error
-use Rattle.mesa_opening.specs.Opening.{ReadsAs}
+use Rattle.mesa_opening.specs.Opening.{IsSoundStart, ReadsAs}
 use Rattle.mesa_verdict.specs.Faults.{Fault}
 use Rattle.mesa_verdict.specs.Verdict.{IsFirstFault}
 use Rattle.mesa_ending.specs.Ports.{Ports}
 use Rattle.mesa_ending.specs.Exits.{verdict_status}
-use Rattle.mesa_ending.specs.Ending.{EndedReading, Ends, EndsCheck, Prints}
+use Rattle.mesa_ending.specs.Ending.{EndedReading, Ends, EndsCheck, HasLooked, Prints}
 use Rattle.mesa_ending.specs.Completing.{Decides, IsUndamaged, NoneRose}
 use Rattle.mesa_ending.specs.declared.done.Devices.{Devices}
 use Rattle.mesa_ending.specs.declared.done.Done.{Done}
 use Rattle.mesa_ending.proofs.Journals.{same_catalog}
+use Rattle.mesa_ending.proofs.Readable.{reads_same, sound_fits, sound_whole}
+use Rattle.mesa_ending.proofs.Undamaged.{sound_undamaged}
 
 pub low_verdict : (fault : Option Fault) → verdict_status fault ≤ 1
 low_verdict None = omega arith
@@ -66,6 +69,36 @@ module _ {K D M B : Type 0} (ports : Ports K D M B) (g : Devices K D B) (done : 
   check_decides is ends = elim ends [
     | inl p ↦ unread is p.0 p.1 p.2
     | inr p ↦ inl (let status = printed _ _ p.2.ended.2 in let low = low_verdict p.1 in omega (arith, status, low))
+  ]
+
+  looked_decides : (c : Catalog) (rows : Rows) (name : List ℕ) → IsSoundStart (ports.story g.disk) c rows → (d : Catalog) → HasLooked ports g done d name → Decides done
+  looked_decides c rows name start d h = elim h.ended [
+    | inl p ↦ inl (let status = printed _ _ p.1.2 in omega (arith, status))
+    | inr rest ↦ elim rest [
+      | inl p ↦ inl (let status = printed _ _ p.2.2 in omega (arith, status))
+      | inr more ↦ elim more [
+        | inl p ↦ absurd (p.2.never rows (subst (λ x. IsSoundStart (ports.story g.disk) x rows) (reads_same (ports.story g.disk) c d rows start h.reads) start))
+        | inr p ↦ inl (let status = printed _ _ p.5.2 in omega (arith, status))
+      ]
+    ]
+  ]
+
+  sound_unread : (c : Catalog) (rows : Rows) → IsSoundStart (ports.story g.disk) c rows → (e : OpenError) → (e ≡ open_error.RunsFull → ⊥) → EndedReading ports g done e → Decides done
+  sound_unread c rows s open_error.Fault other p = absurd (⊎_elim still.disk still.reads p.0.reason)
+  sound_unread c rows s (open_error.Journal area at want found) other p =
+      absurd (⊎_elim (sound_whole s.image s.bodies c rows p.0.reason.0 at want found s.sound) (sound_fits s.image s.bodies c rows p.0.reason.0 at want found s.sound) (p.0.reason.2 s.image s.told))
+  sound_unread c rows s (open_error.File d) other p = absurd (sound_undamaged s.image s.bodies c rows s.sound d (p.0.reason.0 s.image s.told))
+  sound_unread c rows s open_error.RunsFull other p = absurd (other refl)
+  sound_unread c rows s open_error.Memory other p = inr (printed _ _ p.1.2)
+
+  -- A name that is looked up in a sound store is refused, or has its digests printed, or memory was short.
+  pub looks : (name : List ℕ) (c : Catalog) (rows : Rows) (input : Option (List ℕ)) (before now : ℕ) → IsSoundStart (ports.story g.disk) c rows → Ends ports g done (Some (form.Digest name)) input before now → Decides done
+  looks name c rows input before now s ends = elim ends [
+    | inl p ↦ elim p.1 [
+      | inl q ↦ sound_unread c rows s q.0 q.1 q.2
+      | inr q ↦ looked_decides c rows name s q.0 q.1
+    ]
+    | inr p ↦ inr (printed _ _ p.1.1.2)
   ]
 
   -- A check of a store that isn't damaged comes to a verdict, or memory was short.

@@ -163,6 +163,7 @@ module _ {K D M B : Type 0} (ports : Ports K D M B) (g : Devices K D B) (done : 
       | inr q ↦ read ports g done source_before source_now nothing c rows room input asks.bytes script asks.known asks.short asks.read q.1
     ]
     form_ends (Some form.Check) input script asks p = absurd asks
+    form_ends (Some (form.Digest name)) input script asks p = absurd asks
     form_ends (Some (form.Gen seed versions)) input script asks p = generated_ends script seed versions asks p.1
 
     -- Where a script is asked for, the store is sound and may have a run more, and nothing failed, every reply is the reference warehouse's, or memory.

@@ -26,7 +26,7 @@ use Rattle.mesa_ending.specs.Ports.{Ports, in_memory}
 use Rattle.mesa_ending.specs.Start.{AreTold, IsSoundStore, start_of}
 use Rattle.mesa_ending.specs.Run.{Ran}
 use Rattle.mesa_ending.specs.Unopened.{StaysSound}
-use Rattle.mesa_ending.specs.Ending.{EndedOpening, Ends, EndsCheck, EndsForm, EndsGenerated, EndsRun, EndsScript, EndsText, HasRun, HasShown, LacksMemory}
+use Rattle.mesa_ending.specs.Ending.{EndedOpening, Ends, EndsCheck, EndsDigest, EndsForm, EndsGenerated, EndsNamed, EndsRun, EndsScript, EndsText, HasRun, HasShown, LacksMemory}
 use Rattle.mesa_ending.specs.Completing.{AsksFor}
 use Rattle.mesa_ending.specs.Life.{kept_next}
 use Rattle.mesa_ending.specs.Next.{CrashLeavesFront, GoesOn, HasFront, IsSoundWith, LeavesSound, OpensSound, RestLeavesSound, RunLeavesSound}
@@ -248,10 +248,26 @@ module _ {K D M B : Type 0} (ports : Ports K D M B) (given : Devices K D B) (don
     | inr p ↦ inl (p.2.ended.0, unmoved_leaves ports given done images p.2.unmoved)
   ]
 
+  looked_ends : (c : Catalog) (name : List ℕ) → EndsNamed ports given done c name → done.history.items ≡ []
+  looked_ends c name ends = elim ends [
+    | inl p ↦ p.1.0
+    | inr rest ↦ elim rest [
+      | inl p ↦ p.2.0
+      | inr more ↦ elim more [ inl p ↦ p.3.0 | inr p ↦ p.5.0 ]
+    ]
+  ]
+
+  digest_leaves : (name : List ℕ) → EndsDigest ports given done name → Leaves (Some (form.Digest name))
+  digest_leaves name ends = elim ends [
+    | inl p ↦ inl (p.2.1.0, unmoved_leaves ports given done images p.2.0.unmoved)
+    | inr p ↦ inl (looked_ends p.0 name p.1.ended, unmoved_leaves ports given done images p.1.unmoved)
+  ]
+
   form_leaves : (asked : Option Form) → EndsForm ports given done asked input before now → Leaves asked
   form_leaves None p = inl (p.1.1.0, uncalled_leaves ports given done images p.1.0)
   form_leaves (Some form.Run) p = source_leaves p
   form_leaves (Some form.Check) p = check_leaves p.1
+  form_leaves (Some (form.Digest name)) p = digest_leaves name p.1
   form_leaves (Some (form.Gen seed versions)) p = generated_leaves seed versions p.1
 
   all_leaves : (asked : Option Form) → Ends ports given done asked input before now → Leaves asked

@@ -3,6 +3,7 @@ use Rattle.std.proofs.Common.{◌≡◌, ◌⊎◌, inl, inr, ◌≤◌, ◌<◌
 use Rattle.std.specs.Prelude.{◌≢◌, IfSome, Ok, if◌then◌else◌}
 use Rattle.mesa_fault.specs.Causes.{Rose}
 use Rattle.mesa_disk.specs.Story.{Unmoved}
+use Rattle.mesa_disk.specs.mesa_file.declared.damage.Damage.{Damage}
 use Rattle.mesa_model.specs.declared.commands.Script.{Script}
 use Rattle.mesa_history.specs.Refused.{some_refused}
 use Rattle.mesa_history.specs.Run.{begins}
@@ -14,13 +15,15 @@ use Rattle.mesa_skeleton.specs.Rows.{no_rows}
 use Rattle.mesa_image.specs.Catalog.{Catalog}
 use Rattle.mesa_opening.specs.declared.error.OpenError.{OpenError}
 use Rattle.mesa_opening.specs.declared.error.OpenError.TheVariants as open_error
+use Rattle.mesa_look.specs.Latest.{relation_named}
+use Rattle.mesa_opening.specs.Opening.{ReadsAs}
 use Rattle.mesa_verdict.specs.Faults.{Fault}
 use Rattle.mesa_ending.specs.Ports.{Ports}
 use Rattle.mesa_ending.specs.Exits.{max_input, memory_line, memory_status, open_status, usage_line, usage_status}
 use Rattle.mesa_ending.specs.Start.{start_of}
-use Rattle.mesa_ending.specs.Ending.{EndedBefore, EndedOpening, Ends, EndsCheck, EndsForm, EndsGenerated, EndsInput, EndsRun, EndsScript, EndsText, HasRun, HasShown, HasVerdict, IsWhole, Prints}
+use Rattle.mesa_ending.specs.Ending.{EndedBefore, EndedOpening, Ends, EndsCheck, EndsDigest, EndsForm, EndsGenerated, EndsInput, EndsRun, EndsScript, EndsText, HasLooked, HasRun, HasShown, HasVerdict, IsDamagedWithin, IsWhole, Prints}
 use Rattle.mesa_ending.specs.Unopened.{HasSameCounts}
-use Rattle.mesa_ending.specs.Statuses.{HasOpeningReason, IsNoScript, IsUntouched, Tells, WasAsked, WasChecked, WasGenerated, WasRun}
+use Rattle.mesa_ending.specs.Statuses.{HasMetDamage, HasOpeningReason, IsNoScript, IsUntouched, Tells, WasAsked, WasChecked, WasGenerated, WasLookedUp, WasRun}
 use Rattle.mesa_ending.specs.declared.done.Devices.{Devices}
 use Rattle.mesa_ending.specs.declared.done.Done.{Done}
 use Rattle.mesa_ending.proofs.Checked.{low_verdict, sound_exactly}
@@ -75,6 +78,9 @@ module _ {K D M B : Type 0} (ports : Ports K D M B) (given : Devices K D B) (don
   abbrev Untouched : Type 0
   Untouched = IsUntouched ports given done
 
+  abbrev Met : Type 0
+  Met = HasMetDamage ports given done asked
+
   -- what a status would tell that a call ends with which runs nothing
   record Would (n : ℕ) : Type 0 where
     two : 2 ≤ n
@@ -84,7 +90,7 @@ module _ {K D M B : Type 0} (ports : Ports K D M B) (given : Devices K D B) (don
     source : n ≡ 4 → Rose before now
     quiet : n ≢ 4 → now ≡ before
     disk : n ≡ 6 → Unopened open_error.Fault
-    damaged : n ≡ 7 → (e : OpenError) × (open_status e ≡ 7) × Unopened e
+    damaged : n ≡ 7 → ((e : OpenError) × (open_status e ≡ 7) × Unopened e) ⊎ Met
     full : n ≡ 9 → IfSome input (λ bytes. max_input < length bytes) ⊎ Unopened open_error.RunsFull
     uncalled : Early n → done.disk ≡ given.disk
     untouched : Late n → Untouched
@@ -125,7 +131,7 @@ module _ {K D M B : Type 0} (ports : Ports K D M B) (given : Devices K D B) (don
   ]
 
   -- a status that tells of an opening, or of want of memory
-  late : (n : ℕ) → 6 ≤ n → now ≡ before → (n ≡ 6 → Unopened open_error.Fault) → (n ≡ 7 → (e : OpenError) × (open_status e ≡ 7) × Unopened e)
+  late : (n : ℕ) → 6 ≤ n → now ≡ before → (n ≡ 6 → Unopened open_error.Fault) → (n ≡ 7 → ((e : OpenError) × (open_status e ≡ 7) × Unopened e) ⊎ Met)
       → (n ≡ 9 → IfSome input (λ bytes. max_input < length bytes) ⊎ Unopened open_error.RunsFull) → (Late n → Untouched) → Would n
   late n le quiet disk damaged full untouched = record {
     two = omega (arith, le);
@@ -147,9 +153,9 @@ module _ {K D M B : Type 0} (ports : Ports K D M B) (given : Devices K D B) (don
   unopened : now ≡ before → (e : OpenError) → Unopened e → (e ≢ open_error.Fault → e ≢ open_error.Memory → Untouched) → Would (open_status e)
   unopened quiet open_error.Fault why left = late 6 (omega arith) quiet (λ e. why) (λ e. absurd (omega (arith, e))) (λ e. absurd (omega (arith, e))) (λ e. absurd (not_late 6 (inl (omega arith)) e))
   unopened quiet (open_error.Journal area at want found) why left =
-      late 7 (omega arith) quiet (λ e. absurd (omega (arith, e))) (λ e. (open_error.Journal area at want found, refl, why)) (λ e. absurd (omega (arith, e))) (λ e. left (λ fault. absurd cc) (λ memory. absurd cc))
+      late 7 (omega arith) quiet (λ e. absurd (omega (arith, e))) (λ e. inl (open_error.Journal area at want found, refl, why)) (λ e. absurd (omega (arith, e))) (λ e. left (λ fault. absurd cc) (λ memory. absurd cc))
   unopened quiet (open_error.File d) why left =
-      late 7 (omega arith) quiet (λ e. absurd (omega (arith, e))) (λ e. (open_error.File d, refl, why)) (λ e. absurd (omega (arith, e))) (λ e. left (λ fault. absurd cc) (λ memory. absurd cc))
+      late 7 (omega arith) quiet (λ e. absurd (omega (arith, e))) (λ e. inl (open_error.File d, refl, why)) (λ e. absurd (omega (arith, e))) (λ e. left (λ fault. absurd cc) (λ memory. absurd cc))
   unopened quiet open_error.RunsFull why left =
       late 9 (omega arith) quiet (λ e. absurd (omega (arith, e))) (λ e. absurd (omega (arith, e))) (λ e. inr why) (λ e. left (λ fault. absurd cc) (λ memory. absurd cc))
   unopened quiet open_error.Memory why left = memory quiet
@@ -215,6 +221,36 @@ module _ {K D M B : Type 0} (ports : Ports K D M B) (given : Devices K D B) (don
     check_tells quiet ends = elim ends [
       | inl p ↦ line_tells (open_status p.0) _ (unopened quiet p.0 p.2.0.reason (λ fault memory. (p.2.0.unmoved, p.2.0.quiet fault))) p.2.1.2
       | inr p ↦ verdict_tells quiet p.0 p.1 p.2
+    ]
+
+  -- the digests of a relation
+  module _ (name : List ℕ) (meant : WasLookedUp ports given done name → WasAsked ports given done asked input) (met : (c : Catalog) (d : Damage) → ReadsAs (ports.story given.disk) c → IsDamagedWithin ports given done c d → Met) where
+    refused_tells : now ≡ before → (c : Catalog) (line : List ℕ) → ReadsAs (ports.story given.disk) c → HasSameCounts (ports.story given.disk) (ports.story done.disk)
+        → (relation_named c name ≡ None) ⊎ (c.next ≡ 0) → Prints ports given done 1 line → Told
+    refused_tells quiet c line reads same why prints = elim prints [
+      | inl q ↦ ended_tells quiet (omega (arith, q.0)) (meant (record { catalogue = c; reads = reads; refused = λ e. why; told = λ e. absurd (omega (arith, e, q.0)); quiet = same })) q.1
+      | inr q ↦ failed_tells (λ four other. quiet) q.0 q.1
+    ]
+
+    looked_tells : now ≡ before → (c : Catalog) → HasLooked ports given done c name → Told
+    looked_tells quiet c h = elim h.ended [
+      | inl p ↦ refused_tells quiet c _ h.reads h.quiet (inl p.0) p.1.2
+      | inr rest ↦ elim rest [
+        | inl p ↦ refused_tells quiet c _ h.reads h.quiet (inr p.1) p.2.2
+        | inr more ↦ elim more [
+          | inl p ↦ line_tells 7 _ (late 7 (omega arith) quiet (λ e. absurd (omega (arith, e))) (λ e. inr (met c p.1 h.reads p.2)) (λ e. absurd (omega (arith, e))) (λ e. (h.unmoved, h.quiet))) p.3.2
+          | inr p ↦ elim p.5.2 [
+            | inl q ↦ ended_tells quiet (omega (arith, q.0)) (meant (record { catalogue = c; reads = h.reads; refused = λ e. absurd (omega (arith, e, q.0)); told = λ e. (p.0, p.1, p.2, p.3, p.4, q.2); quiet = h.quiet })) q.1
+            | inr q ↦ failed_tells (λ four other. quiet) q.0 q.1
+          ]
+        ]
+      ]
+    ]
+
+    digest_tells : now ≡ before → EndsDigest ports given done name → Told
+    digest_tells quiet ends = elim ends [
+      | inl p ↦ line_tells (open_status p.0) _ (unopened quiet p.0 p.2.0.reason (λ fault memory. (p.2.0.unmoved, p.2.0.quiet fault))) p.2.1.2
+      | inr p ↦ looked_tells quiet p.0 p.1
     ]
 
   -- the script of a seed
@@ -314,6 +350,7 @@ module _ {K D M B : Type 0} (ports : Ports K D M B) (given : Devices K D B) (don
   form_tells None p = usage_tells ports given done None input before now p.0 refl p.1
   form_tells (Some form.Run) p = source_tells ports given done (Some form.Run) input before now (λ was. was) p
   form_tells (Some form.Check) p = check_tells ports given done (Some form.Check) input before now (λ was. was) p.0 p.1
+  form_tells (Some (form.Digest name)) p = digest_tells ports given done (Some (form.Digest name)) input before now name (λ was. was) (λ c d reads within. (c, d, reads, within)) p.0 p.1
   form_tells (Some (form.Gen seed versions)) p = generated_tells ports given done (Some (form.Gen seed versions)) input before now seed versions (λ was. was) p.0 p.1
 
   pub all_tells : (asked : Option Form) → Ends ports given done asked input before now → Tells ports given done asked input before now

@@ -56,6 +56,7 @@ AsksFor None input script = ⊥
 AsksFor (Some form.Run) input script = IsInput input script
 AsksFor (Some form.Check) input script = ⊥
 AsksFor (Some (form.Gen seed versions)) input script = script_of (generated seed versions) ≡ Ok script
+AsksFor (Some (form.Digest name)) input script = ⊥
 
 -- The store is sound, and may have a run more.
 pub record HasRoomToRun {K D M B : Type 0} (ports : Ports K D M B) (given : Devices K D B) (c : Catalog) (rows : Rows) : Type 0 where
@@ -89,6 +90,6 @@ pub record NoneRose {K D M B : Type 0} (ports : Ports K D M B) (given : Devices 
   pub disk : Rose (ports.story given.disk).faults (ports.story done.disk).faults → ⊥
   pub reads : Rose (ports.story given.disk).read_faults (ports.story done.disk).read_faults → ⊥
 
--- The status is that of a verdict, or of want of memory.
+-- The status is that of a verdict or of a name that was looked up, or of want of memory.
 abbrev pub Decides : {K D B : Type 0} → Done K D B → Type 0
 Decides done = (done.status ≤ refused_status) ⊎ (done.status ≡ memory_status)

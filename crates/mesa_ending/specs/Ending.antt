@@ -1,8 +1,9 @@
 -- How a call of the program may end over a store.
-use Rattle.std.specs.Prelude.{◌≡◌, ◌≢◌, ◌⊎◌, ◌<◌, ◌≤◌, ℕ, Bool, true, false, List, [], ◌++◌, length, take, Option, None, Some, IfSome, Ok, Err}
+use Rattle.std.specs.Prelude.{◌≡◌, ◌≢◌, ◌⊎◌, ◌<◌, ◌≤◌, ℕ, Bool, true, false, List, [], ◌++◌, length, take, Option, None, Some, IfSome, IsTrue, Ok, Err, is_some}
 use Rattle.std.specs.Io.KnownBytes.{Appends}
 use Rattle.mesa_fault.specs.Causes.{Rose, last}
 use Rattle.mesa_disk.specs.Story.{Unmoved}
+use Rattle.mesa_disk.specs.mesa_file.declared.damage.Damage.{Damage}
 use Rattle.mesa_model.specs.declared.commands.Script.{Script}
 use Rattle.mesa_script.specs.declared.script.ScriptError.{ScriptError}
 use Rattle.mesa_history.specs.Run.{begins}
@@ -15,11 +16,13 @@ use Rattle.mesa_skeleton.specs.Rows.{Rows}
 use Rattle.mesa_image.specs.Catalog.{Catalog}
 use Rattle.mesa_opening.specs.declared.error.OpenError.{OpenError}
 use Rattle.mesa_opening.specs.declared.error.OpenError.TheVariants as open_error
-use Rattle.mesa_opening.specs.Opening.{ReadsAs}
+use Rattle.mesa_opening.specs.Opening.{IsSoundStart, ReadsAs}
 use Rattle.mesa_verdict.specs.Faults.{Fault}
 use Rattle.mesa_verdict.specs.Verdict.{IsFirstFault}
+use Rattle.mesa_look.specs.Latest.{CanBeLookedAt, relation_named}
+use Rattle.mesa_look.specs.Looked.{IsDigestOf}
 use Rattle.mesa_ending.specs.Ports.{Ports, in_memory}
-use Rattle.mesa_ending.specs.Exits.{gen_line, max_input, status_of, sink_status, usage_status, usage_line, source_status, source_line, length_status, length_line, script_status, script_line, open_status, open_line, verdict_status, verdict_line, memory_status, memory_line}
+use Rattle.mesa_ending.specs.Exits.{answered_status, digest_line, gen_line, no_table_line, no_version_line, refused_status, max_input, status_of, sink_status, usage_status, usage_line, source_status, source_line, length_status, length_line, script_status, script_line, open_status, open_line, verdict_status, verdict_line, memory_status, memory_line}
 use Rattle.mesa_ending.specs.Start.{AreTold, IsSoundStore, start_of}
 use Rattle.mesa_ending.specs.Run.{Ran}
 use Rattle.mesa_ending.specs.Unopened.{HasSameCounts, IsUnopened, IsUnread, StaysSound}
@@ -121,11 +124,13 @@ module _ {K D M B : Type 0} (ports : Ports K D M B) (given : Devices K D B) (don
   abbrev pub EndsGenerated : ℕ → ℕ → Type 0
   EndsGenerated seed versions = ((script : Script) × (script_of (generated seed versions) ≡ Ok script) × EndsShown seed versions script) ⊎ EndedBefore memory_status memory_line
 
-  -- ---- the verdict on a store
+  -- ---- the store is read, and stays as it is
 
   -- The store isn't read, for a reason, and nothing moved: neither an area nor a file changed, nor what a crash may leave.
   abbrev pub EndedReading : OpenError → Type 0
   EndedReading e = IsUnread (ports.story given.disk) (ports.story done.disk) e × Ended (open_status e) (open_line e)
+
+  -- ---- the verdict on a store
 
   -- The store reads as a catalogue, of which this is the first fault, if there is one; no count of the disk's faults rose, nothing moved, and the line of this verdict was due.
   pub record HasVerdict (c : Catalog) (fault : Option Fault) : Type 0 where
@@ -139,7 +144,33 @@ module _ {K D M B : Type 0} (ports : Ports K D M B) (given : Devices K D B) (don
   abbrev pub EndsCheck : Type 0
   EndsCheck = ((e : OpenError) × (e ≢ open_error.RunsFull) × EndedReading e) ⊎ ((c : Catalog) × (fault : Option Fault) × HasVerdict c fault)
 
-  -- ---- the three forms
+  -- ---- the digests of a relation
+
+  -- A file in which the relation's rows stand, or a sum over them, is damaged in a way that opening the store doesn't find: what was found isn't what is wanted, and over a sound store it never comes.
+  pub record IsDamagedWithin (c : Catalog) (d : Damage) : Type 0 where
+    pub differs : d.want ≢ d.found
+    pub never : (rows : Rows) → IsSoundStart (ports.story given.disk) c rows → ⊥
+
+  -- How a call ends over a store that reads as this catalogue: no relation has the name; or one has it and there is no version; or there is one, and a file of the relation is damaged, or the line of its digests at the newest version was due.
+  abbrev pub EndsNamed : Catalog → List ℕ → Type 0
+  EndsNamed c name =
+      ((relation_named c name ≡ None) × Ended refused_status no_table_line)
+      ⊎ (IsTrue (is_some (relation_named c name)) × (c.next ≡ 0) × Ended refused_status no_version_line)
+      ⊎ (CanBeLookedAt c name × (d : Damage) × IsDamagedWithin c d × Ended (open_status (open_error.File d)) (open_line (open_error.File d)))
+      ⊎ ((version : ℕ) × (rows : ℕ) × (ordered : List ℕ) × (set : ℕ) × IsDigestOf (ports.story given.disk) c name version rows ordered set × Ended answered_status (digest_line name version rows ordered set))
+
+  -- The store reads as a catalogue, no count of the disk's faults rose, nothing moved, and the catalogue decides.
+  pub record HasLooked (c : Catalog) (name : List ℕ) : Type 0 where
+    pub reads : ReadsAs (ports.story given.disk) c
+    pub quiet : HasSameCounts (ports.story given.disk) (ports.story done.disk)
+    pub unmoved : Unmoved (ports.story given.disk) (ports.story done.disk)
+    pub ended : EndsNamed c name
+
+  -- How a call ends whose words are `digest` with a name: the disk failed, the journal or a file is damaged, or memory was short, in opening the store or behind it; or the name was looked up. How many runs the store has had is nothing to a digest.
+  abbrev pub EndsDigest : List ℕ → Type 0
+  EndsDigest name = ((e : OpenError) × (e ≢ open_error.RunsFull) × EndedReading e) ⊎ ((c : Catalog) × HasLooked c name)
+
+  -- ---- the four forms
 
   -- How a call ends whose words have this form: only `run` calls the source.
   abbrev pub EndsForm : Option Form → Option (List ℕ) → ℕ → ℕ → Type 0
@@ -147,6 +178,7 @@ module _ {K D M B : Type 0} (ports : Ports K D M B) (given : Devices K D B) (don
   EndsForm (Some form.Run) input before now = EndsRun input before now
   EndsForm (Some form.Check) input before now = (now ≡ before) × EndsCheck
   EndsForm (Some (form.Gen seed versions)) input before now = (now ≡ before) × EndsGenerated seed versions
+  EndsForm (Some (form.Digest name)) input before now = (now ≡ before) × EndsDigest name
 
   -- How a call ends: by the form of its words; for `run` by its source's count of faults and by its bytes, where the source tells them. Or memory was too short to read the words.
   abbrev pub Ends : Option Form → Option (List ℕ) → ℕ → ℕ → Type 0

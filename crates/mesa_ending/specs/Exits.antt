@@ -1,5 +1,6 @@
 -- The statuses that a call ends with, and the line that it prints where it runs nothing.
 use Rattle.std.specs.Prelude.{ℕ, List, [], ◌∷◌, ◌++◌, codes, decimal, if◌then◌else◌, Option, None, Some}
+use Rattle.std.specs.Int.{w128, to_be_bytes}
 use Rattle.mesa_model.specs.mesa_filter.Hex.{hex_of}
 use Rattle.mesa_model.specs.declared.commands.Script.{Script}
 use Rattle.mesa_model.specs.declared.entries.Entry.{Entry}
@@ -58,6 +59,24 @@ verdict_text (Some f) = codes "unsound table=" ++ f.table ++ codes " range=[" ++
 abbrev pub verdict_line : Option Fault → List ℕ
 verdict_line fault = verdict_text fault ++ codes "\n"
 
+-- ---- the digests of a relation were asked for
+
+-- no relation has the name
+abbrev pub no_table_line : List ℕ
+no_table_line = codes "digest refused no_table\n"
+
+-- there is no version
+abbrev pub no_version_line : List ℕ
+no_version_line = codes "digest refused future asked=latest newest=none\n"
+
+-- how many rows there are, and their digests
+abbrev pub digests_text : ℕ → List ℕ → ℕ → List ℕ
+digests_text rows ordered set = codes " rows=" ++ decimal rows ++ codes " ordered=" ++ hex_of ordered ++ codes " set=" ++ hex_of (to_be_bytes w128 set)
+
+-- the digests of a relation at a version
+abbrev pub digest_line : List ℕ → ℕ → ℕ → List ℕ → ℕ → List ℕ
+digest_line name version rows ordered set = codes "digest " ++ name ++ codes " version=" ++ decimal version ++ digests_text rows ordered set ++ codes "\n"
+
 -- ---- the disk wasn't called
 
 -- the words have none of the forms
@@ -65,7 +84,7 @@ abbrev pub usage_status : ℕ
 usage_status = 2
 
 abbrev pub usage_line : List ℕ
-usage_line = codes "mesa: usage: mesa run | mesa check | mesa gen SEED VERSIONS\n"
+usage_line = codes "mesa: usage: mesa run | mesa check | mesa gen SEED VERSIONS | mesa digest NAME\n"
 
 -- the source failed
 abbrev pub source_status : ℕ

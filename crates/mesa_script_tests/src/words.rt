@@ -4,43 +4,72 @@ use mesa_generate::generate;
 use mesa_words::{Form, read_form};
 use std::str;
 
-// Words, and their form if they have one.
-static WORDS: [(&[&str], Option<Form>); 16] = [
-    (&["run"], Some(Form::Run)),
-    (&["check"], Some(Form::Check)),
+// What words ask for.
+#[derive(Clone, Copy, Debug, PartialEq, Eq)]
+enum Asked<'a> {
+    Nothing,
+    Run,
+    Check,
+    Gen { seed: u32, versions: u32 },
+    Digest(&'a [u8]),
+}
+
+fn what_is_asked(form: &Option<Form>) -> Asked<'_> {
+    match form {
+        None => Asked::Nothing,
+        Some(Form::Run) => Asked::Run,
+        Some(Form::Check) => Asked::Check,
+        Some(Form::Gen { seed, versions }) => Asked::Gen {
+            seed: *seed,
+            versions: *versions,
+        },
+        Some(Form::Digest { relation }) => Asked::Digest(relation.as_slice()),
+    }
+}
+
+static WORDS: [(&[&str], Asked<'static>); 23] = [
+    (&["run"], Asked::Run),
+    (&["check"], Asked::Check),
     (
         &["gen", "1", "20000"],
-        Some(Form::Gen {
+        Asked::Gen {
             seed: 1,
             versions: 20_000,
-        }),
+        },
     ),
     (
         &["gen", "065536", "01"],
-        Some(Form::Gen {
+        Asked::Gen {
             seed: 65_536,
             versions: 1,
-        }),
+        },
     ),
-    (&[], None),
-    (&[""], None),
-    (&["help"], None),
-    (&["run", "run"], None),
-    (&["gen", "1"], None),
-    (&["gen", "1", "1", "1"], None),
-    (&["gen", "65537", "1"], None),
-    (&["gen", "1", "0"], None),
-    (&["gen", "+1", "1"], None),
-    (&["gen", "--", "1", "1"], None),
-    (&["run", "--help"], None),
-    (&["-h"], None),
+    (&["digest", "t"], Asked::Digest(b"t")),
+    (&["digest", "digest"], Asked::Digest(b"digest")),
+    (&["digest", ""], Asked::Digest(b"")),
+    (&[], Asked::Nothing),
+    (&[""], Asked::Nothing),
+    (&["help"], Asked::Nothing),
+    (&["run", "run"], Asked::Nothing),
+    (&["gen", "1"], Asked::Nothing),
+    (&["gen", "1", "1", "1"], Asked::Nothing),
+    (&["gen", "65537", "1"], Asked::Nothing),
+    (&["gen", "1", "0"], Asked::Nothing),
+    (&["gen", "+1", "1"], Asked::Nothing),
+    (&["gen", "--", "1", "1"], Asked::Nothing),
+    (&["digest"], Asked::Nothing),
+    (&["digest", "t", "u"], Asked::Nothing),
+    (&["digest", "-t"], Asked::Nothing),
+    (&["digests", "t"], Asked::Nothing),
+    (&["run", "--help"], Asked::Nothing),
+    (&["-h"], Asked::Nothing),
 ];
 
 #[test]
 fn reads_words(rt: HostRuntime) {
-    for (words, form) in &WORDS {
+    for (words, wanted) in &WORDS {
         let found = read_form(rt.alloc(), words).expect(&rt, "memory");
-        expect_same(&rt, &found, form, words);
+        expect_same(&rt, &what_is_asked(&found), wanted, words);
     }
 }
 

@@ -5,13 +5,14 @@ use Rattle.mesa_words.specs.declared.forms.Form.TheVariants as form
 use Rattle.mesa_model.specs.declared.commands.Script.{Script}
 use Rattle.mesa_skeleton.specs.Rows.{Rows}
 use Rattle.mesa_image.specs.Catalog.{Catalog}
+use Rattle.mesa_ending.specs.mesa_opening.Opening.{IsSoundStart}
 use Rattle.mesa_ending.specs.Ports.{Ports}
 use Rattle.mesa_ending.specs.Completing.{AsksFor, Completes, Decides, HasRoomToRun, IsUndamaged, NoneRose, NothingFailed}
 use Rattle.mesa_ending.specs.Ending.{Ends, EndsForm}
 use Rattle.mesa_ending.specs.Statuses.{Tells}
 use Rattle.mesa_ending.specs.declared.done.Devices.{Devices}
 use Rattle.mesa_ending.specs.declared.done.Done.{Done}
-use Rattle.mesa_ending.proofs.Checked.{decides}
+use Rattle.mesa_ending.proofs.Checked.{decides, looks}
 use Rattle.mesa_ending.proofs.Completing.{completes}
 use Rattle.mesa_ending.proofs.Telling.{all_tells}
 
@@ -21,6 +22,7 @@ module _ {K D M B : Type 0} (ports : Ports K D M B) (given : Devices K D B) (don
     pub ends : Ends ports given done asked input before now
     pub tells : Tells ports given done asked input before now
     pub completes : (script : Script) (c : Catalog) (rows : Rows) → AsksFor asked input script → HasRoomToRun ports given c rows → NothingFailed ports given done before now → Completes done
+    pub looks : (name : List ℕ) (c : Catalog) (rows : Rows) → asked ≡ Some (form.Digest name) → IsSoundStart (ports.story given.disk) c rows → NoneRose ports given done → Decides done
     pub decides : asked ≡ Some form.Check → IsUndamaged (ports.story given.disk) → NoneRose ports given done → Decides done
 
   pub answered : Ends ports given done asked input before now → IsAnswered
@@ -28,6 +30,7 @@ module _ {K D M B : Type 0} (ports : Ports K D M B) (given : Devices K D B) (don
     ends = ends;
     tells = all_tells ports given done input before now asked ends;
     completes = λ script c rows asks room nothing. completes ports given done before now nothing c rows room asked input script asks ends;
+    looks = λ name c rows is sound none. looks ports given done none name c rows input before now sound (subst (λ (a : Option Form). Ends ports given done a input before now) is ends);
     decides = λ is whole none. decides ports given done none input before now whole (subst (λ (a : Option Form). Ends ports given done a input before now) is ends);
   }
 

@@ -1,4 +1,5 @@
 pub mod Beginning
+pub mod Digests
 pub mod Forms
 pub mod Leaving
 pub mod Opened

@@ -18,7 +18,7 @@ use mesa_telling::{ended_checked, ended_opening};
 use std::alloc::Global;
 
 // The disk of a store that was read.
-fn disk_of<D>(opened: Opened<D>) -> D
+pub(crate) fn disk_of<D>(opened: Opened<D>) -> D
     ensures { result ≡ opened.disk }
 {
     let Opened { disk, catalog, .. } = opened;

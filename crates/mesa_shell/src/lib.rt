@@ -2,6 +2,7 @@
 #![tactic(auto)]
 
 mod checking;
+mod digesting;
 mod generating;
 mod opening;
 mod running;

@@ -1,5 +1,5 @@
 // The top call.
-ghost use Rattle.std.specs.Prelude.{◌≡◌, ◌≢◌, ◌≤◌, Some, length, map};
+ghost use Rattle.std.specs.Prelude.{◌≡◌, ◌≢◌, ◌≤◌, ℕ, List, Some, length, map};
 ghost use Rattle.mesa_image.specs.Catalog.{Catalog as AnyCatalog};
 ghost use Rattle.mesa_model.specs.declared.commands.Script.{Script as AnyScript};
 ghost use Rattle.mesa_skeleton.specs.Rows.{Rows};
@@ -8,9 +8,12 @@ ghost use Rattle.mesa_ending.specs.Ending as spec;
 ghost use Rattle.mesa_ending.specs.Ports.{ports};
 ghost use Rattle.mesa_ending.specs.Scripts.{IsSmall};
 ghost use Rattle.mesa_ending.specs.Statuses.{Tells};
+ghost use Rattle.mesa_ending.specs.mesa_opening.Opening.{IsSoundStart};
 ghost use Rattle.mesa_words.specs.Forms.{form_of};
+ghost use Rattle.mesa_words.specs.declared.forms.Form.TheVariants as form;
 
 use crate::checking::check_store;
+use crate::digesting::digest_relation;
 use crate::generating::run_generated;
 use crate::opening::open;
 use crate::running::{Left, run_begun};
@@ -120,14 +123,16 @@ fn run_source<
 }
 
 // The line of words that have no form.
-const USAGE: &[u8] = b"mesa: usage: mesa run | mesa check | mesa gen SEED VERSIONS\n";
+const USAGE: &[u8] =
+    b"mesa: usage: mesa run | mesa check | mesa gen SEED VERSIONS | mesa digest NAME\n";
 
 /// The program. With the word `run` alone it reads a script from the source, opens the store on the
 /// disk, runs the script over it, each session but the first in a thread of its own, and prints every
 /// reply onto the sink. With `gen`, a seed and a number of versions it runs the script that these give
 /// in the same way, and prints the replies to the last three of its commands. Session s builds its
 /// files on bench s. With `check` it reads the store, changes nothing, and prints that it is sound, or
-/// its first fault.
+/// its first fault. With `digest` and a name it reads the store, changes nothing, and prints how many
+/// rows the relation of that name has at the newest version, and their two digests.
 pub fn mesa<
     S: Source,
     M: Made,
@@ -155,6 +160,9 @@ pub fn mesa<
     ensures completes { (script : AnyScript) (c : AnyCatalog) (rows : Rows) → AsksFor (form_of (map (λ w. w.now) words.now)) (S.left src.old) script → HasRoomToRun (ports K.held K.faults D.story M.bytes B.faults) (record { out = out; disk = disk; benches = benches }) c rows
         → NothingFailed (ports K.held K.faults D.story M.bytes B.faults) (record { out = out; disk = disk; benches = benches }) result (S.faults src.old) (S.faults src.new) → Completes result }
 
+    // Where a name is to be looked up in a sound store and nothing fails, it is refused, or its digests are printed, or memory was short.
+    ensures looks { (name : List ℕ) (c : AnyCatalog) (rows : Rows) → form_of (map (λ w. w.now) words.now) ≡ Some (form.Digest name) → IsSoundStart (D.story disk) c rows → NoneRose (ports K.held K.faults D.story M.bytes B.faults) (record { out = out; disk = disk; benches = benches }) result → Decides result }
+
     // Where a store that isn't damaged is to be checked and nothing fails, there is a verdict, or memory was short.
     ensures decides { form_of (map (λ w. w.now) words.now) ≡ Some Form.Check → IsUndamaged (D.story disk) → NoneRose (ports K.held K.faults D.story M.bytes B.faults) (record { out = out; disk = disk; benches = benches }) result → Decides result }
 {
@@ -165,6 +173,9 @@ pub fn mesa<
             run_generated(rt, alloc, seed, versions, given, gate)
         }
         Ok(Some(Form::Check)) => check_store(alloc, given),
+        Ok(Some(Form::Digest { relation })) => {
+            digest_relation(alloc, given, relation.as_slice())
+        }
         Ok(None) => ended(alloc, given, statuses::USAGE, USAGE),
         Err(AllocError) => lacks_memory(alloc, given),
     }

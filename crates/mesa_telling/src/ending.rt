@@ -18,7 +18,7 @@ use mesa_verdict::Verdict;
 use std::alloc::Global;
 
 // What such a call leaves, once its line was printed.
-fn without_run<K, D, B>(
+pub(crate) fn without_run<K, D, B>(
     alloc: Global,
     printer: Printer<K>,
     disk: D,

@@ -3,7 +3,7 @@
 /// The script was run, and no reply is a refusal.
 pub const ANSWERED: u8 = 0;
 
-/// The script was run, and some reply is a refusal.
+/// The script was run, and some reply is a refusal; or a digest was refused.
 pub const REFUSED: u8 = 1;
 
 /// The store was checked, and is sound.
@@ -11,6 +11,9 @@ pub const SOUND: u8 = 0;
 
 /// The store was checked, and has a fault.
 pub const UNSOUND: u8 = 1;
+
+/// The digests of a relation were printed.
+pub const DIGESTED: u8 = 0;
 
 /// The words have none of the forms.
 pub const USAGE: u8 = 2;
@@ -24,7 +27,7 @@ pub const SOURCE_FAULT: u8 = 4;
 /// The sink failed; it has a front of what was to be printed.
 pub const SINK_FAULT: u8 = 5;
 
-/// The disk failed while the store was opened or checked.
+/// The disk failed while the store was opened, checked or digested.
 pub const DISK_FAULT: u8 = 6;
 
 /// The store is damaged.

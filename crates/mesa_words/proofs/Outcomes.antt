@@ -1,6 +1,6 @@
 -- Words either have a form, and clap takes them, or have none, and clap or a hyphen refuses them.
 use Rattle.std.proofs.Common.{◌≡◌, ◌⊎◌, inl, inr, ℕ, List, [], ◌∷◌, Bool, true, false, refl, sym, ap, subst, ◌∙◌, Some, None}
-use Rattle.std.specs.Prelude.{codes, map, ◌||◌, if◌then◌else◌, Result, Ok, Err}
+use Rattle.std.specs.Prelude.{codes, map, ◌==◌, ◌||◌, if◌then◌else◌, Result, Ok, Err}
 use Rattle.std.specs.List.{AllByRecursion, list_any}
 use Rattle.std.specs.Str.{bytes_eq}
 use Rattle.std.proofs.lemmas.Slice.Eq.{bytes_eq-Decides}
@@ -13,10 +13,10 @@ use Rattle.mesa_script.specs.declared.script.Reason.{Reason}
 use Rattle.mesa_script.specs.declared.script.Reason.TheVariants as reason
 use Rattle.mesa_script.specs.Words.{number_in}
 use Rattle.mesa_words.specs.Command.{mesa}
-use Rattle.mesa_words.specs.Forms.{form_of, gen_from, gen_of, max_seed}
-use Rattle.mesa_words.specs.Found.{begins_hyphen, form_found}
-use Rattle.mesa_words.specs.declared.forms.Form.TheVariants.{Run, Check}
-use Rattle.mesa_words.proofs.Walking.{HasSome, IsPlain, check_stray, gen_matches, gen_none, gen_one, gen_stray, gen_two, run_stray, top_stray}
+use Rattle.mesa_words.specs.Forms.{begins_hyphen, digest_of, form_of, gen_from, gen_of, max_seed}
+use Rattle.mesa_words.specs.Found.{form_found}
+use Rattle.mesa_words.specs.declared.forms.Form.TheVariants.{Run, Check, Digest}
+use Rattle.mesa_words.proofs.Walking.{HasSome, IsPlain, check_stray, digest_matches, digest_none, digest_one, digest_stray, gen_matches, gen_none, gen_one, gen_stray, gen_two, run_stray, top_stray}
 
 -- ---- words that begin with no hyphen
 
@@ -51,11 +51,21 @@ behind_gen (seed ∷ []) all = refused (gen_one seed all.0) refl
 behind_gen (seed ∷ versions ∷ []) all = taken (gen_two seed versions all.0 all.1.0) (ap form_found (gen_matches seed versions all.0 all.1.0))
 behind_gen (seed ∷ versions ∷ word ∷ rest) all = refused (gen_stray seed versions word rest all.0 all.1.0 all.1.1.0) refl
 
-no_form : (word : Text) (rest : List Text) → bytes_eq (codes "run") word ≡ false → bytes_eq (codes "check") word ≡ false → bytes_eq (codes "gen") word ≡ false → form_of (word ∷ rest) ≡ None
-no_form word [] run check gen = (λ i. if run i then Some Run else if check i then Some Check else None)
-no_form word (a ∷ []) run check gen = refl
-no_form word (a ∷ b ∷ []) run check gen = ap (λ t. if t then gen_of a b else None) gen
-no_form word (a ∷ b ∷ c ∷ rest) run check gen = refl
+unhyphened : (word : Text) → IsPlain word → begins_hyphen word ≡ false
+unhyphened [] plain = refl
+unhyphened (b ∷ word) plain = elim (b == 45) as (λ t. (if t then Some word else None) ≡ None → t ≡ false) [ true ↦ λ e. cc | false ↦ λ e. refl ] plain
+
+behind_digest : (rest : List Text) → AllPlain rest → Outcome (codes "digest" ∷ rest)
+behind_digest [] all = refused digest_none refl
+behind_digest (name ∷ []) all = taken (digest_one name all.0) (ap form_found (digest_matches name all.0) ∙ ap (λ t. if t then None else Some (Digest name)) (sym (unhyphened name all.0)))
+behind_digest (name ∷ word ∷ []) all = refused (digest_stray name word [] all.0 all.1.0) refl
+behind_digest (name ∷ word ∷ more ∷ rest) all = refused (digest_stray name word (more ∷ rest) all.0 all.1.0) refl
+
+no_form : (word : Text) (rest : List Text) → bytes_eq (codes "run") word ≡ false → bytes_eq (codes "check") word ≡ false → bytes_eq (codes "gen") word ≡ false → bytes_eq (codes "digest") word ≡ false → form_of (word ∷ rest) ≡ None
+no_form word [] run check gen digest = (λ i. if run i then Some Run else if check i then Some Check else None)
+no_form word (a ∷ []) run check gen digest = ap (λ t. if t then digest_of a else None) digest
+no_form word (a ∷ b ∷ []) run check gen digest = ap (λ t. if t then gen_of a b else None) gen
+no_form word (a ∷ b ∷ c ∷ rest) run check gen digest = refl
 
 no_words : Outcome []
 unfolding clap_on_literals
@@ -69,7 +79,10 @@ outcome (word ∷ rest) all = elim (same (codes "run") word) [
     | inl e ↦ subst (λ w. Outcome (w ∷ rest)) e (behind_check rest all.1)
     | inr check ↦ elim (same (codes "gen") word) [
       | inl e ↦ subst (λ w. Outcome (w ∷ rest)) e (behind_gen rest all.1)
-      | inr gen ↦ refused (top_stray word rest all.0 run check gen) (no_form word rest run check gen)
+      | inr gen ↦ elim (same (codes "digest") word) [
+        | inl e ↦ subst (λ w. Outcome (w ∷ rest)) e (behind_digest rest all.1)
+        | inr digest ↦ refused (top_stray word rest all.0 run check gen digest) (no_form word rest run check gen digest)
+      ]
     ]
   ]
 ]
@@ -131,7 +144,9 @@ first_or false b P e x y = y e
 pub hyphened_none : (words : Words) → is_hyphened words ≡ true → form_of (texts words) ≡ None
 hyphened_none [] e = cc e
 hyphened_none (word ∷ []) e = first_or (begins_hyphen word.now) false _ e (λ is. hyphen_first (λ w. form_of (w ∷ []) ≡ None) word.now is (λ rest. refl)) (λ is. cc is)
-hyphened_none (a ∷ b ∷ []) e = refl
+hyphened_none (word ∷ name ∷ []) e =
+    first_or (begins_hyphen word.now) _ _ e (λ is. hyphen_first (λ w. form_of (w ∷ name.now ∷ []) ≡ None) word.now is (λ rest. refl))
+    (λ e1. first_or (begins_hyphen name.now) false _ e1 (λ is. hyphen_first (λ w. form_of (word.now ∷ w ∷ []) ≡ None) name.now is (λ rest. neither (bytes_eq (codes "digest") word.now) None)) (λ is. cc is))
 hyphened_none (word ∷ seed ∷ versions ∷ []) e =
     first_or (begins_hyphen word.now) _ _ e (λ is. hyphen_first (λ w. form_of (w ∷ seed.now ∷ versions.now ∷ []) ≡ None) word.now is (λ rest. refl))
     (λ e1. first_or (begins_hyphen seed.now) _ _ e1 (λ is. hyphen_first (λ w. form_of (word.now ∷ w ∷ versions.now ∷ []) ≡ None) seed.now is (λ rest. neither (bytes_eq (codes "gen") word.now) None))

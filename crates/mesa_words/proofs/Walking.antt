@@ -13,7 +13,7 @@ use Rattle.std.specs.Option.{option_map_or}
 use Rattle.clap.proofs.OnLiterals.{clap_on_literals}
 use Rattle.clap.specs.declared.builder.value_parser.Reading.TheVariants.{AsWritten}
 use Rattle.clap.specs.declared.parser.matches.ValueSource.TheVariants.{CommandLine}
-use Rattle.mesa_words.specs.Command.{gen, mesa}
+use Rattle.mesa_words.specs.Command.{digest, gen, mesa}
 
 -- the word begins with no hyphen
 abbrev pub IsPlain : Text → Type 0
@@ -121,6 +121,10 @@ names_check = record { walks = refl; turn = refl }
 names_gen : IsCommand (codes "gen")
 unfolding clap_on_literals
 names_gen = record { walks = refl; turn = refl }
+
+names_digest : IsCommand (codes "digest")
+unfolding clap_on_literals
+names_digest = record { walks = refl; turn = refl }
 
 -- ---- what is wrong
 
@@ -245,13 +249,77 @@ seed_of seed versions = refl
 versions_of : (seed versions : Text) → first_of (codes "versions") (gen_rows seed versions) ≡ Some versions
 versions_of seed versions = refl
 
+-- ---- `digest` has one word behind it
+
+abbrev pub digest_leaf : Shape
+digest_leaf = built_leaf (inherited (with_leaf_noted (marked_built mesa.top)) digest.top)
+
+abbrev name_held : Text → Held
+name_held name = record { rows = []; pending = Some (codes "relation", name ∷ []); skip = 0 }
+
+name_walked : (name : Text) → IsPlain name → walked digest_leaf.rules [] (at nothing_held 1) name ≡ at (name_held name) 2
+name_walked name plain = walked_plain digest_leaf.rules [] nothing_held 1 name plain refl
+
+name_turn : (name : Text) → IsPlain name → turn_fault digest_leaf [] (at nothing_held 1) name ≡ []
+name_turn name plain = turn_plain digest_leaf [] nothing_held 1 name plain refl
+
+digest_walk : (name : Text) (rest : List Text) → IsPlain name → walk_fault digest_leaf [] (at nothing_held 1) (name ∷ rest) ≡ walk_fault digest_leaf [] (at (name_held name) 2) rest
+unfolding walk_fault
+digest_walk name rest p = ap₂ or_else (name_turn name p) (ap (λ w. walk_fault digest_leaf [] w rest) (name_walked name p))
+
+pub digest_stray : (name word : Text) (rest : List Text) → IsPlain name → IsPlain word → HasSome (fault_of mesa (codes "digest" ∷ name ∷ word ∷ rest))
+digest_stray name word rest p plain =
+    subst HasSome (sym (named_fault (codes "digest") (name ∷ word ∷ rest) names_digest))
+    (or_some (level_fault digest_leaf [] nothing_held (name ∷ word ∷ rest) false []) _
+    (or_some (walk_fault digest_leaf [] (walk_from nothing_held) (name ∷ word ∷ rest)) _
+    (subst HasSome (sym (digest_walk name (word ∷ rest) p))
+    (stray digest_leaf [] (name_held name) 2 word rest plain refl tt))))
+
+-- what is wrong with the words behind `digest`, by where the walk ends
+abbrev digest_faults : Kinds → Held → Kinds
+digest_faults faults end =
+    or_else faults
+    (or_else (settle_fault digest_leaf.rules digest_leaf.args_override_self end)
+    (or_else (defaults_fault (settled digest_leaf.rules end).rows digest_leaf.rules)
+    (check_fault digest_leaf (finished digest_leaf.rules end) false)))
+
+pub digest_none : HasSome (fault_of mesa (codes "digest" ∷ []))
+unfolding clap_on_literals
+digest_none = tt
+
+digest_level : (name : Text) → IsPlain name → level_fault digest_leaf [] nothing_held (name ∷ []) false [] ≡ []
+unfolding walk_fault defaults_fault
+digest_level name p = ap₂ digest_faults (digest_walk name [] p) (ap (λ (w : Walk). w.held) (name_walked name p))
+
+digest_entered : (words : List Text) → faults_at [] (stop (codes "digest") words) ≡ or_else (level_fault digest_leaf [] nothing_held words false []) []
+unfolding defaults_fault
+digest_entered words = refl
+
+pub digest_one : (name : Text) → IsPlain name → fault_of mesa (codes "digest" ∷ name ∷ []) ≡ []
+digest_one name p =
+    named_fault (codes "digest") (name ∷ []) names_digest
+    ∙ digest_entered (name ∷ [])
+    ∙ ap (λ (faults : Kinds). or_else faults []) (digest_level name p)
+
+-- the matches of `digest`
+abbrev pub digest_rows : Text → List Row
+digest_rows name = finished digest_leaf.rules (name_held name)
+
+pub digest_matches : (name : Text) → IsPlain name → subcommand_of mesa (codes "digest" ∷ name ∷ []) ≡ Some (codes "digest", digest_rows name)
+digest_matches name p =
+    named_stop (codes "digest") (name ∷ []) names_digest
+    ∙ ap (λ (w : Walk). Some (codes "digest", finished digest_leaf.rules w.held)) (name_walked name p)
+
+name_of : (name : Text) → first_of (codes "relation") (digest_rows name) ≡ Some name
+name_of name = refl
+
 -- ---- the first word
 
 -- the command that a word names, by the comparisons with each
-abbrev met_by : Bool → Bool → Bool → Option Text
-met_by run check gen = option_map (λ (s : Text × List Text). s.0) (if run || false then Some (codes "run", []) else if check || false then Some (codes "check", []) else if gen || false then Some (codes "gen", []) else None)
+abbrev met_by : Bool → Bool → Bool → Bool → Option Text
+met_by run check gen digest = option_map (λ (s : Text × List Text). s.0) (if run || false then Some (codes "run", []) else if check || false then Some (codes "check", []) else if gen || false then Some (codes "gen", []) else if digest || false then Some (codes "digest", []) else None)
 
-pub top_stray : (word : Text) (rest : List Text) → IsPlain word → bytes_eq (codes "run") word ≡ false → bytes_eq (codes "check") word ≡ false → bytes_eq (codes "gen") word ≡ false → HasSome (fault_of mesa (word ∷ rest))
-top_stray word rest plain run check gen =
-    let none : subcommand_met names idle word ≡ None = (λ i. met_by (run i) (check i) (gen i)) in
+pub top_stray : (word : Text) (rest : List Text) → IsPlain word → bytes_eq (codes "run") word ≡ false → bytes_eq (codes "check") word ≡ false → bytes_eq (codes "gen") word ≡ false → bytes_eq (codes "digest") word ≡ false → HasSome (fault_of mesa (word ∷ rest))
+top_stray word rest plain run check gen digest =
+    let none : subcommand_met names idle word ≡ None = (λ i. met_by (run i) (check i) (gen i) (digest i)) in
     or_some (walk_fault top names (walk_from nothing_held) (word ∷ rest)) _ (stray top names nothing_held 1 word rest plain none tt)

@@ -11,10 +11,14 @@ needed id = record (new_rule id) { required = true }
 abbrev pub gen : App
 gen = with_rule (with_rule (new_app (codes "gen")) (needed (codes "seed"))) (needed (codes "versions"))
 
+-- `digest` has the name of a relation
+abbrev pub digest : App
+digest = with_rule (new_app (codes "digest")) (needed (codes "relation"))
+
 -- all words are arguments, none asks for help, and one of the commands has to stand there
 abbrev pub set_up : Shape → Shape
 set_up s = record s { no_binary_name = true; disable_help_flag = true; disable_help_subcommand = true; subcommand_required = true }
 
--- the command line: `run`, `check`, or `gen` with its two texts
+-- the command line: `run`, `check`, `gen` with its two texts, or `digest` with its one
 abbrev pub mesa : App
-mesa = with_subcommand (with_subcommand (with_subcommand (on_top set_up (new_app (codes "mesa"))) (new_app (codes "run")).top) (new_app (codes "check")).top) gen.top
+mesa = with_subcommand (with_subcommand (with_subcommand (with_subcommand (on_top set_up (new_app (codes "mesa"))) (new_app (codes "run")).top) (new_app (codes "check")).top) gen.top) digest.top

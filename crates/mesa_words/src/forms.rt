@@ -2,13 +2,15 @@
 ghost use Rattle.std.specs.Prelude.{◌≡◌, ◌≢◌, IfOk, None, codes, false, map};
 ghost use Rattle.std.specs.List.{list_any};
 ghost use Rattle.clap.specs.Words.{first_value, found_of, subcommand_rows_of};
-ghost use Rattle.mesa_words.specs.Forms.{form_of, gen_of};
-ghost use Rattle.mesa_words.specs.Found.{begins_hyphen, form_found, gen_found};
+ghost use Rattle.mesa_words.specs.Forms.{begins_hyphen, form_of, gen_of};
+ghost use Rattle.mesa_words.specs.Found.{digest_found, form_found, gen_found};
 
 use crate::command::mesa_command;
 use clap::ArgMatches;
 use clap::error::ErrorKind;
+use mesa_list::Items;
 use mesa_parse::number_in;
+use mesa_schema::Words;
 use std::alloc::{AllocError, Global};
 
 /// The greatest seed.
@@ -18,7 +20,7 @@ const MAX_SEED: u32 = 65_536;
 const MAX_VERSIONS: u32 = 20_000;
 
 /// What the program is asked to do.
-#[derive(Clone, Copy, Debug, PartialEq, Eq)]
+#[derive(Drop)]
 pub enum Form {
     /// To run a script.
     Run,
@@ -26,6 +28,8 @@ pub enum Form {
     Check,
     /// To run the script that a seed gives.
     Gen { seed: u32, versions: u32 },
+    /// To print the digests of the relation of this name.
+    Digest { relation: Words },
 }
 
 // A script to be generated, where both words are numbers in their ranges.
@@ -47,17 +51,32 @@ fn found_gen(found: &ArgMatches) -> Option<Form>
     }
 }
 
-// The form that the matches of the command line say.
-fn found_form(matches: &ArgMatches) -> Option<Form>
-    ensures { result ≡ form_found (subcommand_rows_of matches.now) }
+// What the matches of `digest` say.
+fn found_digest(alloc: Global, found: &ArgMatches) -> Result<Option<Form>, AllocError>
+    ensures { IfOk result (λ form. form ≡ digest_found (first_value (found_of found.now) (codes "relation"))) }
 {
-    let (name, found) = matches.subcommand()?;
+    let Some(name) = found.get_str("relation") else {
+        return Ok(None);
+    };
+    let relation = Items::from_bytes(alloc, name.as_bytes())?;
+    Ok(Some(Form::Digest { relation }))
+}
+
+// The form that the matches of the command line say.
+fn found_form(alloc: Global, matches: &ArgMatches) -> Result<Option<Form>, AllocError>
+    ensures { IfOk result (λ form. form ≡ form_found (subcommand_rows_of matches.now)) }
+{
+    let Some((name, found)) = matches.subcommand() else {
+        return Ok(None);
+    };
     if name == "run" {
-        Some(Form::Run)
+        Ok(Some(Form::Run))
     } else if name == "check" {
-        Some(Form::Check)
+        Ok(Some(Form::Check))
+    } else if name == "digest" {
+        found_digest(alloc, found)
     } else {
-        found_gen(found)
+        Ok(found_gen(found))
     }
 }
 
@@ -91,7 +110,7 @@ fn parsed_form(alloc: Global, words: &[&str]) -> Result<Option<Form>, AllocError
     ensures { IfOk result (λ form. form ≡ form_of (map (λ word. word.now) words.now)) }
 {
     match mesa_command(alloc)?.try_get_matches_from(words) {
-        Ok(matches) => Ok(found_form(&matches)),
+        Ok(matches) => found_form(alloc, &matches),
         Err(error) => no_form(error.kind()),
     }
 }

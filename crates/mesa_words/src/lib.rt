@@ -1,4 +1,5 @@
-//! The words that the program is called with: `run`, `check`, or `gen SEED VERSIONS`.
+//! The words that the program is called with: `run`, `check`, `gen SEED VERSIONS`,
+//! or `digest NAME`.
 #![tactic(auto)]
 
 mod command;

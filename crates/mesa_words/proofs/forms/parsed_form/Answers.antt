@@ -12,7 +12,7 @@ returns-in-Ok c =
     let app : app_of c.in_ok-mesa_command.field-0 ≡ mesa = c.in_ok-mesa_command.ensures in
     let found = (c.in-Ok.ensures.matches (ap is_simple app)).1 ∙ ap (λ a. subcommand_of a (texts words)) app in
     let none = sym (ap (λ a. fault_of a (texts words)) app) ∙ c.in-Ok.ensures.kinds (ap is_simple_and_free app) in
-    c.found_form.ensures ∙ ap form_found found ∙ taken_form words c.requires none
+    IfOk-weaker c.found_form.result _ _ (λ form is. is ∙ ap form_found found ∙ taken_form words c.requires none) c.found_form.ensures
 
 pub returns-in-Err : goal.returns-in-Err
 returns-in-Err c =
