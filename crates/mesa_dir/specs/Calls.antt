@@ -12,6 +12,8 @@ pub data Call : Type 0 where
   Created : List ℕ → Call
   -- a file of this folder was opened for writing, and made if it was missing
   OpenedWithin : List ℕ → Bool → Call
+  -- a folder was made in this one; with an error its kind
+  MadeFolder : List ℕ → Option ErrorKind → Call
   -- this file was locked, or one in this folder was
   Locked : Bool → Call
   -- how many bytes the file has

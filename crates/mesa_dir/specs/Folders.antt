@@ -12,4 +12,4 @@ area_calls {G = ghosts} a = ghosts.calls a.file
 
 -- the calls of an open folder
 abbrev pub folder_asked : {S H C : Type 0} {G : Ghosts S H C} → Folder S H C G → Asked
-folder_asked {G = ghosts} f = asked (ghosts.calls f.opened.folder) (area_calls f.zero) (area_calls f.one)
+folder_asked {G = ghosts} f = asked (ghosts.closed_calls f.above) (ghosts.calls f.opened.folder) (area_calls f.zero) (area_calls f.one)

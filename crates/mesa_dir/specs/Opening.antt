@@ -1,10 +1,25 @@
 -- What is done while a folder is opened.
-use Rattle.std.specs.Prelude.{◌≡◌, ℕ, ◌+◌, true, List, length, Option, codes}
+use Rattle.std.specs.Prelude.{◌≡◌, ◌⊎◌, ℕ, ◌+◌, true, List, length, Option, None, Some, codes}
 use Rattle.std.specs.declared.io.ErrorKind.{ErrorKind}
-use Rattle.mesa_dir.specs.Calls.{Call, IsOpened, Locked, Measured, OpenedWithin, Read, Removed, Synced, WroteAt, with_call}
+use Rattle.std.specs.declared.io.ErrorKind.TheVariants.{AlreadyExists}
+use Rattle.mesa_dir.specs.Calls.{Call, IsOpened, Locked, MadeFolder, Measured, OpenedWithin, Read, Removed, Synced, WroteAt, with_call}
 use Rattle.mesa_dir.specs.Paths.{IsNumbered, one_path_of, within, zero_path_of}
 
--- The calls since those first: the bytes before the place `end` were read piece by piece, and each piece was at once written again as it was read, where it was read.
+-- One call made the folder of this path, or found that it was there.
+pub record IsFolderMade (path : List ℕ) (old new : Option (List Call)) : Type 0 where
+  pub answer : Option ErrorKind
+  pub there : (answer ≡ None) ⊎ (answer ≡ Some AlreadyExists)
+  pub made : new ≡ with_call (MadeFolder path answer) old
+
+-- All that was done with the current folder: it was opened, the folder of this path was made in it or found there, and then the names in it were synced.
+pub record IsNameSynced (path : List ℕ) (told : Option (List Call)) : Type 0 where
+  pub opened : Option (List Call)
+  pub is_opened : IsOpened (codes ".") opened
+  pub made : Option (List Call)
+  pub is_made : IsFolderMade path opened made
+  pub synced : told ≡ with_call (Synced true) made
+
+-- The calls since those first: the bytes before this place were read piece by piece, and each piece was at once written again as it was read, where it was read.
 pub data WrittenAgain (first : Option (List Call)) : ℕ → Option (List Call) → Type 0 where
   nothing : WrittenAgain first 0 first
   piece : (at : ℕ) (bytes : List ℕ) (told : Option (List Call)) → WrittenAgain first at told

@@ -15,6 +15,8 @@ use std::io::{self, ErrorKind};
 #[derive(Drop)]
 pub(crate) struct Folder<S: System> {
     system: S,
+    // What is left of the folder that has its name.
+    above: S::Closed,
     opened: OpenedFolder<S>,
     has_all_names: bool,
     zero: AreaFile<S>,
@@ -22,7 +24,7 @@ pub(crate) struct Folder<S: System> {
     // A sync failed. The system may then forget what it couldn't write, and let the next sync succeed.
     has_lost: bool,
     ghost named: { has_all_names ≡ true → is_named (S.calls opened.folder) ≡ true },
-    ghost whole: { has_lost ≡ false → IsTrusted (asked (S.calls opened.folder) (S.calls zero.file) (S.calls one.file)) },
+    ghost whole: { has_lost ≡ false → IsTrusted (asked (S.closed_calls above) (S.calls opened.folder) (S.calls zero.file) (S.calls one.file)) },
 }
 
 /// A folder, and the lengths of its areas.
@@ -56,12 +58,14 @@ impl<S: System> Folder<S> {
 
     // Settles both areas, and syncs the names.
     fn settle(system: S, files: OpenedFiles<S>) -> io::Result<Found<S>>
-        requires { IsTrusted (asked (S.calls files.opened.folder) (S.calls files.zero) (S.calls files.one)) }
+        requires { IsTrusted (asked (S.closed_calls files.above) (S.calls files.opened.folder) (S.calls files.zero) (S.calls files.one)) }
+        ensures above { IfOk result (λ f. (folder_asked f.folder).above ≡ S.closed_calls files.above) }
         ensures names { IfOk result (λ f. (folder_asked f.folder).names ≡ with_call (Synced true) (S.calls files.opened.folder)) }
         ensures zero { IfOk result (λ f. IsSettled (S.calls files.zero) f.zero_len (folder_asked f.folder).zero) }
         ensures one { IfOk result (λ f. IsSettled (S.calls files.one) f.one_len (folder_asked f.folder).one) }
     {
         let OpenedFiles {
+            above,
             mut opened,
             zero,
             one,
@@ -71,6 +75,7 @@ impl<S: System> Folder<S> {
         system.sync(&mut opened.folder)?;
         let folder = Folder {
             system,
+            above,
             opened,
             has_all_names: true,
             zero,

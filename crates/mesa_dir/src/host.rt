@@ -28,7 +28,7 @@ impl System for HostRuntime {
         self.alloc()
     }
 
-    fn make_folder(&self, path: &str) -> io::Result<()> {
+    fn make_folder(&self, _above: &mut File, path: &str) -> io::Result<()> {
         fs::create_dir(self, path)
     }
 

@@ -1,6 +1,6 @@
 // What a folder asks of the system.
 ghost use Rattle.std.specs.Prelude.{◌≡◌, List, Option, IfOk, is_ok};
-ghost use Rattle.mesa_dir.specs.Calls.{Call, Created, IsCreated, IsOpened, Locked, Measured, Opened, OpenedWithin, Read, Removed, Renamed, Synced, SyncedBytes, Wrote, WroteAt, failure, with_call};
+ghost use Rattle.mesa_dir.specs.Calls.{Call, Created, IsCreated, IsOpened, Locked, MadeFolder, Measured, Opened, OpenedWithin, Read, Removed, Renamed, Synced, SyncedBytes, Wrote, WroteAt, failure, with_call};
 
 use std::alloc::Global;
 use std::io;
@@ -25,8 +25,9 @@ pub trait System: Copy {
     /// What memory is taken from.
     fn memory(&self) -> Global;
 
-    /// Makes a folder.
-    fn make_folder(&self, path: &str) -> io::Result<()>;
+    /// Makes a folder in an open one.
+    fn make_folder(&self, above: &mut Self::Handle, path: &str) -> io::Result<()>
+        ensures { calls above.new ≡ with_call (MadeFolder path.now (failure result)) (calls above.old) };
 
     /// Opens a file or a folder for reading.
     fn open(&self, path: &str) -> io::Result<Self::Handle>

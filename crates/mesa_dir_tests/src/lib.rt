@@ -4,6 +4,8 @@
 #[cfg(test)]
 mod areas;
 #[cfg(test)]
+mod calls;
+#[cfg(test)]
 mod expected;
 #[cfg(test)]
 mod files;
@@ -11,3 +13,8 @@ mod files;
 mod folders;
 #[cfg(test)]
 mod openings;
+#[cfg(test)]
+mod recorder;
+mod told;
+
+pub use told::Told;
