@@ -33,6 +33,7 @@ pub fn check<M: Made, D: Disk<M>>(
 ) -> Result<Verdict, CheckError>
     requires { IsOpened (D.story opened.old.disk) opened.old }
     ensures verdict { IfOk result (λ v. IsFirstFault (D.story opened.old.disk) opened.old.catalog.catalogue (fault_told v)) }
+    ensures rest { opened.new ≡ record opened.old { disk = opened.new.disk } }
     ensures unmoved { Unmoved (D.story opened.old.disk) (D.story opened.new.disk) }
     ensures counted { Counted (D.story opened.old.disk) (D.story opened.new.disk) (is_read_failure result) }
 {
