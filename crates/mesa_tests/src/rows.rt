@@ -1,5 +1,6 @@
 // Scripts of one session over an empty store, and words and streams that run none.
 mod changes;
+mod digests;
 mod expiries;
 mod generated;
 mod limits;

@@ -9,7 +9,8 @@ use std::str;
 use std::sync::Wait;
 use std::thread::Threads;
 
-const USAGE: &str = "mesa: usage: mesa run | mesa check | mesa gen SEED VERSIONS\n";
+const USAGE: &str =
+    "mesa: usage: mesa run | mesa check | mesa gen SEED VERSIONS | mesa digest NAME\n";
 
 const ONE: &str = "gen 1 1\n\
      0.5@5 rows 1 version=0\n\

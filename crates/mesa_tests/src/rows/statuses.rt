@@ -17,7 +17,8 @@ static ONE_ROW_BLOCKS: [&str; 4] = [
     "0.4@5 rows 1 version=1\n1,5\n",
 ];
 
-const USAGE: &str = "mesa: usage: mesa run | mesa check | mesa gen SEED VERSIONS\n";
+const USAGE: &str =
+    "mesa: usage: mesa run | mesa check | mesa gen SEED VERSIONS | mesa digest NAME\n";
 
 const UNSERVED: Case<'static> = Case {
     name: "words that aren't served",
@@ -29,7 +30,7 @@ const UNSERVED: Case<'static> = Case {
     ..PLAIN
 };
 
-static ENDINGS: [Case<'static>; 7] = [
+static ENDINGS: [Case<'static>; 10] = [
     Case {
         words: &[],
         ..UNSERVED
@@ -40,6 +41,18 @@ static ENDINGS: [Case<'static>; 7] = [
     },
     Case {
         words: &["check", "x"],
+        ..UNSERVED
+    },
+    Case {
+        words: &["digest"],
+        ..UNSERVED
+    },
+    Case {
+        words: &["digest", "t", "u"],
+        ..UNSERVED
+    },
+    Case {
+        words: &["digest", "-t"],
         ..UNSERVED
     },
     Case {

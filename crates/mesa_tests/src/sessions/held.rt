@@ -6,7 +6,7 @@ use crate::devices::{Hold, Place, READER};
 /// The number of the first file that run 1 adopts.
 const RUN_1: u64 = 1 << 40;
 
-static CASES: [Case<'static>; 8] = [
+static CASES: [Case<'static>; 9] = [
     // Session 1 merges until session 2, whose lease came once its own had ended, has merged too. Its file is
     // never adopted.
     Case {
@@ -23,6 +23,49 @@ static CASES: [Case<'static>; 8] = [
          session\n\
          query,t,1\n\
          work,t\n",
+        holds: &[
+            Hold {
+                session: 2,
+                at: Place::Started,
+                until: (1, Place::Merged),
+            },
+            Hold {
+                session: 1,
+                at: Place::Merged,
+                until: (2, Place::Merged),
+            },
+            Hold {
+                session: 2,
+                at: Place::Merged,
+                until: (1, Place::Printed),
+            },
+        ],
+        status: 1,
+        text: "0.1@0 table t\n\
+         0.2@2 loaded version=0 rows=1\n\
+         0.3@4 loaded version=1 rows=1\n\
+         0.4@5 expired oldest=1\n\
+         2.1@7 rows 1 version=1\n\
+         1,11\n\
+         1.1@10 refused lost lease=1 holder=2\n\
+         2.2@12 swapped 0 1\n",
+        files: Some(&[RUN_1 + 2]),
+        ..PLAIN
+    },
+    Case {
+        name: "lost lease, of works in parts",
+        script: b"lease,3\n\
+         table,t,k int,v sum\n\
+         row,t,1,5\n\
+         commit\n\
+         row,t,1,6\n\
+         commit\n\
+         expire,1\n\
+         session\n\
+         work,t,4\n\
+         session\n\
+         query,t,1\n\
+         work,t,2\n",
         holds: &[
             Hold {
                 session: 2,

@@ -15,19 +15,25 @@ use std::thread::Threads;
 
 // ---- an empty warehouse behind many runs
 
-// So many runs of an empty warehouse end at 65,540.
-const RUNS: u32 = 6_554;
+/// So many runs of an empty warehouse end at 65,540.
+pub const RUNS: u32 = 6_554;
 
 // What the next run leaves in area 1: the checkpoint of the number 1, and the run's record behind it.
 const AREA_1: &str = "01000000130d000000010000199a000000000000000000000100000005010000199b00";
 
-// Area 0 of so many runs.
-fn runs(rt: &impl Abort, alloc: Global, count: u32) -> String {
-    let mut area = String::new(alloc);
-    for run in 1..=count {
+/// Adds the records of so many runs behind this one, and a gate that is shut.
+pub fn push_runs(rt: &impl Abort, area: &mut String, last: u32, count: u32) {
+    for more in 1..=count {
+        let run = last.wrapping_add(more);
         write!(area, "010000000501{run:08x}").expect(rt, "memory");
     }
     area.push_str("00").expect(rt, "memory");
+}
+
+// Area 0 of so many runs.
+fn runs(rt: &impl Abort, alloc: Global, count: u32) -> String {
+    let mut area = String::new(alloc);
+    push_runs(rt, &mut area, 0, count);
     area
 }
 
@@ -71,7 +77,14 @@ fn no_checkpoint_before(rt: HostRuntime) {
 }
 
 // Makes a call of the opening fail, and looks at what is left; tells whether the opening came so far.
-fn fails<R: Abort + Threads + Wait + Sync>(rt: &R, alloc: Global, store: &str, call: u64) -> bool {
+fn fails<R: Abort + Threads + Wait + Sync>(
+    rt: &R,
+    alloc: Global,
+    store: &str,
+    call: u64,
+    asked: &Case<'_>,
+    wanted: (u8, &str),
+) -> bool {
     let left = call_over(rt, alloc, spelled(rt, alloc, store, &[call]), &PLAIN);
     if left.status == 0 {
         return false;
@@ -79,29 +92,40 @@ fn fails<R: Abort + Threads + Wait + Sync>(rt: &R, alloc: Global, store: &str, c
     expect_text(rt, "an opening that fails", &left, 6, "mesa: disk fault\n");
     let checked = call_over(rt, alloc, left.disk, &CHECKED);
     expect_text(rt, "the check behind it", &checked, 0, "sound\n");
-    let left = call_over(rt, alloc, checked.disk, &LOADED);
-    expect_text(rt, "a load behind it", &left, 0, ONE_VERSION);
+    let left = call_over(rt, alloc, checked.disk, asked);
+    expect_text(rt, "the answers behind it", &left, wanted.0, wanted.1);
     true
+}
+
+/// Stops the test of a store that an opening states anew where one of its calls failed, and behind that it doesn't answer with this status and text.
+pub fn expect_failing<R: Abort + Threads + Wait + Sync>(
+    rt: &R,
+    alloc: Global,
+    store: &str,
+    asked: &Case<'_>,
+    wanted: (u8, &str),
+) {
+    let mut calls = 0u64;
+    for call in 0..40 {
+        calls = call;
+        if !fails(rt, alloc, store, call, asked, wanted) {
+            break;
+        }
+    }
+    // Two reads and a list of files, and then eleven calls that write or sync.
+    expect_that(
+        rt,
+        14 <= calls && calls < 39,
+        &calls,
+        &"the calls of an opening",
+    );
 }
 
 #[test]
 fn each_call_of_an_opening_that_states_anew_fails(rt: HostRuntime) {
     let alloc = rt.alloc();
     let store = runs(&rt, alloc, RUNS);
-    let mut calls = 0u64;
-    for call in 0..40 {
-        calls = call;
-        if !fails(&rt, alloc, store.as_str(), call) {
-            break;
-        }
-    }
-    // Two reads and a list of files, and then eleven calls that write or sync.
-    expect_that(
-        &rt,
-        14 <= calls && calls < 39,
-        &calls,
-        &"the calls of an opening",
-    );
+    expect_failing(&rt, alloc, store.as_str(), &LOADED, (0, ONE_VERSION));
 }
 
 // ---- what a checkpoint may say
@@ -510,8 +534,8 @@ fn turn<R: Abort + Threads + Wait + Sync>(
     left.disk
 }
 
-// Stops the test where an area doesn't begin with the checkpoint of a number.
-fn expect_checkpoint(rt: &impl Abort, disk: &mut MemDisk, area: Area, number: u32) {
+/// Stops the test where an area doesn't begin with the checkpoint of a number.
+pub fn expect_checkpoint(rt: &impl Abort, disk: &mut MemDisk, area: Area, number: u32) {
     let mut front = [0u8; 10];
     if disk.journal_len(area) >= 10 {
         disk.journal_read(area, 0, &mut front).expect(rt, "an area");

@@ -31,6 +31,26 @@ static SCRIPT: &str = "table,t,a int;b int,v sum\n\
      commit\n\
      work,u\n";
 
+// The same, with works whose merges are cut into parts.
+static SCRIPT_IN_PARTS: &str = "table,t,a int;b int,v sum\n\
+     table,u,k int,m max\n\
+     view,w,t,a,v\n\
+     row,t,1,1,5\n\
+     row,t,1,2,7\n\
+     row,u,9,3\n\
+     commit\n\
+     row,t,1,1,-2\n\
+     row,t,2,1,4\n\
+     commit\n\
+     expire,1\n\
+     work,t,4\n\
+     alter,u,add_value,n min,7\n\
+     row,t,1,1,1\n\
+     row,u,9,5,2\n\
+     row,u,8,1,1\n\
+     commit\n\
+     work,u,2\n";
+
 // What each image is asked: its tables, its view, which deltas a query reads, and one load more.
 const QUESTIONS: &[u8] = b"query,t\n\
      query,u\n\
@@ -268,13 +288,23 @@ pub fn expect_moments<R: Abort + Threads + Wait + Sync>(
     }
 }
 
-#[test]
-fn a_run_stopped_at_each_moment(rt: HostRuntime) {
-    let left = run(&rt, rt.alloc(), SCRIPT);
-    expect_same(&rt, &left.status, &0, &"the run that is stopped");
+// The same of a script of this test.
+fn expect_stopped<R: Abort + Threads + Wait + Sync>(rt: &R, alloc: Global, script: &str) {
+    let left = run(rt, alloc, script);
+    expect_same(rt, &left.status, &0, &"the run that is stopped");
     let stopped = Stopped {
         asked: &ASKED,
         fronts: &FRONTS,
     };
-    expect_moments(&rt, rt.alloc(), stopped, &left);
+    expect_moments(rt, alloc, stopped, &left);
+}
+
+#[test]
+fn a_run_stopped_at_each_moment(rt: HostRuntime) {
+    expect_stopped(&rt, rt.alloc(), SCRIPT);
+}
+
+#[test]
+fn a_run_in_parts_stopped_at_each_moment(rt: HostRuntime) {
+    expect_stopped(&rt, rt.alloc(), SCRIPT_IN_PARTS);
 }

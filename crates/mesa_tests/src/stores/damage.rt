@@ -166,11 +166,15 @@ fn damage_that_an_opening_tells(rt: HostRuntime) {
 
 // The file's block has the value 6 in place of 5. An opening doesn't read it, and neither does a query whose
 // filter leaves it out; what reads it is refused with both digests, and nothing else is.
-static CHANGED: [Case<'static>; 1] = [Case {
-    name: "a changed block",
-    store: "01000000050100000001010000000b02017401016b000101760001000000700500000000000100000000000000000100000000000000000000000067000000000000000100000001000880000000000000010008800000000000000101000000000000000560845b21d56050bcccbfbef5313b8190744ac8bbd75fad7200d951fe1268d3930001000000000000000501000000070500000001000000\n\
-     0000010000000000 0000018000000000000001000000000000000680000000000000010000000000000000000000000000000000000013cb43fefe3754e6c6547db5d4ef40d734649323eb54dab57d202f18edb41a1efe000000000000000000010000000101014d455341444c5431",
-    script: b"query,t\n\
+const OTHER_BLOCK: &str =
+    "01000000050100000001010000000b02017401016b000101760001000000700500000000000100000000000000000100000000000000000000000067000000000000000100000001000880000000000000010008800000000000000101000000000000000560845b21d56050bcccbfbef5313b8190744ac8bbd75fad7200d951fe1268d3930001000000000000000501000000070500000001000000\n\
+     0000010000000000 0000018000000000000001000000000000000680000000000000010000000000000000000000000000000000000013cb43fefe3754e6c6547db5d4ef40d734649323eb54dab57d202f18edb41a1efe000000000000000000010000000101014d455341444c5431";
+
+static CHANGED: [Case<'static>; 2] = [
+    Case {
+        name: "a changed block",
+        store: OTHER_BLOCK,
+        script: b"query,t\n\
      query,t,,k=2\n\
      row,t,2,9\n\
      commit\n\
@@ -178,8 +182,8 @@ static CHANGED: [Case<'static>; 1] = [Case {
      expire,1\n\
      work,t\n\
      query,t,1\n",
-    status: 1,
-    text: "0.1@0 refused damaged file=0000010000000000 place=0 want=sha256:cb43fefe3754e6c6547db5d4ef40d734649323eb54dab57d202f18edb41a1efe found=sha256:5840990f2ebfdd9ba2a937e8bec1f974c68436754df59e0eb650b7106a9a6ccb\n\
+        status: 1,
+        text: "0.1@0 refused damaged file=0000010000000000 place=0 want=sha256:cb43fefe3754e6c6547db5d4ef40d734649323eb54dab57d202f18edb41a1efe found=sha256:5840990f2ebfdd9ba2a937e8bec1f974c68436754df59e0eb650b7106a9a6ccb\n\
      0.2@2 rows 0 version=1\n\
      0.3@5 loaded version=2 rows=1\n\
      0.4@6 rows 1 version=2\n\
@@ -187,8 +191,24 @@ static CHANGED: [Case<'static>; 1] = [Case {
      0.5@8 expired oldest=1\n\
      0.6@10 refused damaged file=0000010000000000 place=0 want=sha256:cb43fefe3754e6c6547db5d4ef40d734649323eb54dab57d202f18edb41a1efe found=sha256:5840990f2ebfdd9ba2a937e8bec1f974c68436754df59e0eb650b7106a9a6ccb\n\
      0.7@11 refused damaged file=0000010000000000 place=0 want=sha256:cb43fefe3754e6c6547db5d4ef40d734649323eb54dab57d202f18edb41a1efe found=sha256:5840990f2ebfdd9ba2a937e8bec1f974c68436754df59e0eb650b7106a9a6ccb\n",
-    ..PLAIN
-}];
+        ..PLAIN
+    },
+    Case {
+        name: "a changed block, and works in parts",
+        store: OTHER_BLOCK,
+        script: b"row,t,2,9\n\
+         commit\n\
+         expire,1\n\
+         work,t,4\n\
+         work,t,8\n",
+        status: 1,
+        text: "0.1@1 loaded version=2 rows=1\n\
+         0.2@2 expired oldest=1\n\
+         0.3@4 refused damaged file=0000010000000000 place=0 want=sha256:cb43fefe3754e6c6547db5d4ef40d734649323eb54dab57d202f18edb41a1efe found=sha256:5840990f2ebfdd9ba2a937e8bec1f974c68436754df59e0eb650b7106a9a6ccb\n\
+         0.4@6 refused damaged file=0000010000000000 place=0 want=sha256:cb43fefe3754e6c6547db5d4ef40d734649323eb54dab57d202f18edb41a1efe found=sha256:5840990f2ebfdd9ba2a937e8bec1f974c68436754df59e0eb650b7106a9a6ccb\n",
+        ..PLAIN
+    },
+];
 
 #[test]
 fn a_changed_block(rt: HostRuntime) {
@@ -312,4 +332,64 @@ static MISFITS: [Case<'static>; 4] = [
 #[test]
 fn values_of_another_width(rt: HostRuntime) {
     expect_cases(&rt, rt.alloc(), &MISFITS);
+}
+
+// What a digest tells of damage: an opening's is told whatever the name is, and a block's where the relation's rows are read.
+const DIGEST: Case<'static> = Case {
+    words: &["digest", "t"],
+    source_fails: &[0],
+    status: 7,
+    turns: Some(0),
+    ..PLAIN
+};
+
+static DIGESTS: [Case<'static>; 6] = [
+    Case {
+        name: "a digest where a record is cut short",
+        store: CUT_RECORD,
+        text: "mesa: damaged journal=0 at=10 want=length:21 found=length:17\n",
+        left: Some(CUT_RECORD),
+        ..DIGEST
+    },
+    Case {
+        name: "a digest of a file cut short",
+        store: CUT_FILE,
+        text: "mesa: damaged file=0000010000000000 place=0 want=length:111 found=length:110\n",
+        left: Some(CUT_FILE),
+        ..DIGEST
+    },
+    Case {
+        name: "a digest of a changed block",
+        store: OTHER_BLOCK,
+        text: "mesa: damaged file=0000010000000000 place=0 want=sha256:cb43fefe3754e6c6547db5d4ef40d734649323eb54dab57d202f18edb41a1efe found=sha256:5840990f2ebfdd9ba2a937e8bec1f974c68436754df59e0eb650b7106a9a6ccb\n",
+        left: Some(OTHER_BLOCK),
+        ..DIGEST
+    },
+    Case {
+        name: "a digest of a sum of eight bytes",
+        store: NARROW_SUM,
+        text: "mesa: damaged file=0000010000000000 place=0 want=fits found=misfit:0\n",
+        left: Some(NARROW_SUM),
+        ..DIGEST
+    },
+    Case {
+        name: "a digest of no relation in a store with a damaged file",
+        words: &["digest", "u"],
+        store: CUT_FILE,
+        text: "mesa: damaged file=0000010000000000 place=0 want=length:111 found=length:110\n",
+        ..DIGEST
+    },
+    Case {
+        name: "a digest of a file that can't be read",
+        store: NARROW_SUM,
+        read_fails: Some((0x100_0000_0000, 0)),
+        status: 6,
+        text: "mesa: disk fault\n",
+        ..DIGEST
+    },
+];
+
+#[test]
+fn digests_of_damaged_stores(rt: HostRuntime) {
+    expect_cases(&rt, rt.alloc(), &DIGESTS);
 }

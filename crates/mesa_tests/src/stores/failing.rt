@@ -2,7 +2,7 @@
 // store stands as it did before the command that failed or behind it.
 use crate::call::{Case, Left, PLAIN, call_over};
 use crate::cases::expect_text;
-use crate::expected::expect_that;
+use crate::expected::{expect_same, expect_that};
 use crate::stores::shown::spelled;
 use mesa_model::{Entry, Kind, Outcome};
 use std::alloc::Global;
@@ -22,6 +22,22 @@ static RUN: Case<'static> = Case {
      commit\n\
      expire,1\n\
      work,t\n\
+     query,t,1\n\
+     query,t\n",
+    ..PLAIN
+};
+
+// The same with a work whose files are opened four times.
+static RUN_IN_PARTS: Case<'static> = Case {
+    script: b"table,t,k int,v replace\n\
+     row,t,1,5\n\
+     commit\n\
+     row,t,1,6\n\
+     commit\n\
+     row,t,1,4\n\
+     commit\n\
+     expire,1\n\
+     work,t,4\n\
      query,t,1\n\
      query,t\n",
     ..PLAIN
@@ -129,14 +145,19 @@ fn expect_either(rt: &impl Abort, history: &[Entry], asked: &Left, call: u64) {
 }
 
 // Makes a call of a run's disk fail, and looks at what is left; tells whether the run came so far.
-fn fails<R: Abort + Threads + Wait + Sync>(rt: &R, alloc: Global, call: u64) -> bool {
+fn fails<R: Abort + Threads + Wait + Sync>(
+    rt: &R,
+    alloc: Global,
+    case: &Case<'_>,
+    call: u64,
+) -> bool {
     let disk = spelled(rt, alloc, "", &[call]);
     let Left {
         status,
         text: _text,
         history,
         disk,
-    } = call_over(rt, alloc, disk, &RUN);
+    } = call_over(rt, alloc, disk, case);
     if status == 0 {
         return false;
     }
@@ -147,20 +168,36 @@ fn fails<R: Abort + Threads + Wait + Sync>(rt: &R, alloc: Global, call: u64) -> 
     true
 }
 
-#[test]
-fn each_call_failing_up_to_the_last(rt: HostRuntime) {
-    let mut calls = 0u64;
+// Makes each call of the disk fail, one in each run, up to the first run in which none does. Gives its number.
+fn first_unfailing<R: Abort + Threads + Wait + Sync>(
+    rt: &R,
+    alloc: Global,
+    case: &Case<'_>,
+) -> u64 {
     for call in 0..100 {
-        calls = call;
-        if !fails(&rt, rt.alloc(), call) {
-            break;
+        if !fails(rt, alloc, case, call) {
+            return call;
         }
     }
+    100
+}
+
+#[test]
+fn each_call_failing_up_to_the_last(rt: HostRuntime) {
+    let calls = first_unfailing(&rt, rt.alloc(), &RUN);
     // Opening takes ten calls, and each of the six commands that change the store four or more.
     expect_that(
         &rt,
         33 <= calls && calls < 99,
         &calls,
         &"the calls of a run",
+    );
+    let in_parts = first_unfailing(&rt, rt.alloc(), &RUN_IN_PARTS);
+    // The work has two files, and each is opened three times more.
+    expect_same(
+        &rt,
+        &in_parts,
+        &calls.wrapping_add(6),
+        &"the calls of a run in parts",
     );
 }

@@ -11,7 +11,7 @@ use std::thread::Threads;
 const RUN_1: u64 = 1 << 40;
 
 // A file of one block takes two appends: its block and its tail.
-static DRAFTS: [Case<'static>; 4] = [
+static DRAFTS: [Case<'static>; 5] = [
     Case {
         name: "a second load's draft that isn't made",
         draft_fails: &[(1, 0)],
@@ -32,6 +32,14 @@ static DRAFTS: [Case<'static>; 4] = [
         name: "a work's draft that isn't made, and one that isn't written",
         draft_fails: &[(2, 0), (3, 1)],
         script: WORKS,
+        status: 1,
+        text: TWO_WORKS_REFUSED,
+        ..PLAIN
+    },
+    Case {
+        name: "the same of works in parts",
+        draft_fails: &[(2, 0), (3, 1)],
+        script: WORKS_IN_PARTS,
         status: 1,
         text: TWO_WORKS_REFUSED,
         ..PLAIN
@@ -90,6 +98,17 @@ const WORKS: &[u8] = b"table,t,k int,v sum\n\
      work,t\n\
      query,t\n";
 
+const WORKS_IN_PARTS: &[u8] = b"table,t,k int,v sum\n\
+     row,t,1,5\n\
+     commit\n\
+     row,t,1,6\n\
+     commit\n\
+     expire,1\n\
+     work,t,2\n\
+     work,t,4\n\
+     work,t,8\n\
+     query,t\n";
+
 const TWO_WORKS_REFUSED: &str = "0.1@0 table t\n\
      0.2@2 loaded version=0 rows=1\n\
      0.3@4 loaded version=1 rows=1\n\
@@ -114,7 +133,41 @@ const QUERIES: &[u8] = b"table,t,k int,v sum\n\
      query,t\n";
 
 // The first read of a reader is of the file's tail, in the first turn of its query or work; the next is of a block.
-static READS: [Case<'static>; 4] = [
+const UNOPENED: Case<'static> = Case {
+    name: "a work that can't open a file",
+    read_fails: Some((RUN_1 + 1, 0)),
+    script: WORKS,
+    status: 1,
+    text: "0.1@0 table t\n\
+     0.2@2 loaded version=0 rows=1\n\
+     0.3@4 loaded version=1 rows=1\n\
+     0.4@5 expired oldest=1\n\
+     0.5@6 refused read_fault\n\
+     0.6@9 swapped 0 1\n\
+     0.7@10 idle\n\
+     0.8@11 rows 1 version=1\n\
+     1,11\n",
+    ..PLAIN
+};
+
+const UNREAD: Case<'static> = Case {
+    name: "a work that can't read a block",
+    read_fails: Some((RUN_1, 1)),
+    script: WORKS,
+    status: 1,
+    text: "0.1@0 table t\n\
+     0.2@2 loaded version=0 rows=1\n\
+     0.3@4 loaded version=1 rows=1\n\
+     0.4@5 expired oldest=1\n\
+     0.5@7 refused read_fault\n\
+     0.6@10 swapped 0 1\n\
+     0.7@11 idle\n\
+     0.8@12 rows 1 version=1\n\
+     1,11\n",
+    ..PLAIN
+};
+
+static READS: [Case<'static>; 6] = [
     Case {
         name: "a query that can't open a file",
         read_fails: Some((RUN_1 + 1, 0)),
@@ -141,37 +194,17 @@ static READS: [Case<'static>; 4] = [
          1,11\n",
         ..PLAIN
     },
+    UNOPENED,
+    UNREAD,
     Case {
-        name: "a work that can't open a file",
-        read_fails: Some((RUN_1 + 1, 0)),
-        script: WORKS,
-        status: 1,
-        text: "0.1@0 table t\n\
-         0.2@2 loaded version=0 rows=1\n\
-         0.3@4 loaded version=1 rows=1\n\
-         0.4@5 expired oldest=1\n\
-         0.5@6 refused read_fault\n\
-         0.6@9 swapped 0 1\n\
-         0.7@10 idle\n\
-         0.8@11 rows 1 version=1\n\
-         1,11\n",
-        ..PLAIN
+        name: "a work in parts that can't open a file",
+        script: WORKS_IN_PARTS,
+        ..UNOPENED
     },
     Case {
-        name: "a work that can't read a block",
-        read_fails: Some((RUN_1, 1)),
-        script: WORKS,
-        status: 1,
-        text: "0.1@0 table t\n\
-         0.2@2 loaded version=0 rows=1\n\
-         0.3@4 loaded version=1 rows=1\n\
-         0.4@5 expired oldest=1\n\
-         0.5@7 refused read_fault\n\
-         0.6@10 swapped 0 1\n\
-         0.7@11 idle\n\
-         0.8@12 rows 1 version=1\n\
-         1,11\n",
-        ..PLAIN
+        name: "a work in parts that can't read a block",
+        script: WORKS_IN_PARTS,
+        ..UNREAD
     },
 ];
 

@@ -3,9 +3,11 @@ use crate::call::{Case, Left, PLAIN, call_over};
 use crate::cases::{expect_in_turn_over, expect_text};
 use crate::expected::expect_same;
 use crate::sessions::replay::expect_replayed_behind;
+use crate::stores::checkpoints::{RUNS, expect_checkpoint, expect_failing, push_runs};
 use crate::stores::crashes::{Stopped, expect_moments};
 use crate::stores::older::STORE;
-use crate::stores::shown::spelled;
+use crate::stores::shown::{shown, spelled};
+use mesa_disk::Area;
 use std::alloc::Global;
 use std::process::Abort;
 use std::str;
@@ -113,19 +115,32 @@ fn asked() -> Case<'static> {
     }
 }
 
+// A store, what made it, and the commands that a run does then.
+#[derive(Clone, Copy)]
+struct Start<'a> {
+    store: &'a str,
+    before: &'a str,
+    commands: &'a [&'a str],
+}
+
 // The first so many commands behind a text.
-fn front(rt: &impl Abort, alloc: Global, before: &str, commands: usize) -> String {
+fn front(rt: &impl Abort, alloc: Global, before: &str, all: &[&str], commands: usize) -> String {
     let mut script = String::from_str(alloc, before).expect(rt, "memory");
-    for command in COMMANDS.iter().take(commands) {
+    for command in all.iter().take(commands) {
         script.push_str(command).expect(rt, "memory");
     }
     script
 }
 
-// What the first so many commands leave of the old store, all of which are done.
-fn left_behind<R: Abort + Threads + Wait + Sync>(rt: &R, alloc: Global, commands: usize) -> Left {
-    let script = front(rt, alloc, "", commands);
-    let disk = spelled(rt, alloc, STORE, &[]);
+// What the first so many commands leave of the store, all of which are done.
+fn left_behind<R: Abort + Threads + Wait + Sync>(
+    rt: &R,
+    alloc: Global,
+    start: Start<'_>,
+    commands: usize,
+) -> Left {
+    let script = front(rt, alloc, "", start.commands, commands);
+    let disk = spelled(rt, alloc, start.store, &[]);
     let case = Case {
         script: script.as_bytes(),
         ..PLAIN
@@ -139,22 +154,27 @@ fn left_behind<R: Abort + Threads + Wait + Sync>(rt: &R, alloc: Global, commands
 fn answers_behind<R: Abort + Threads + Wait + Sync>(
     rt: &R,
     alloc: Global,
+    start: Start<'_>,
     commands: usize,
 ) -> Vec<u8> {
-    let left = left_behind(rt, alloc, commands);
+    let left = left_behind(rt, alloc, start, commands);
     let checked = call_over(rt, alloc, left.disk, &CHECKED);
     expect_text(rt, "a store of both formats", &checked, 0, "sound\n");
     let Left { text, .. } = call_over(rt, alloc, checked.disk, &asked());
-    let before = front(rt, alloc, BEFORE, commands);
+    let before = front(rt, alloc, start.before, start.commands, commands);
     expect_replayed_behind(rt, alloc, before.as_str(), QUESTIONS, &text);
     text
 }
 
 // The same behind each front, from none of the commands to all.
-fn answers<R: Abort + Threads + Wait + Sync>(rt: &R, alloc: Global) -> Vec<Vec<u8>> {
+fn answers<R: Abort + Threads + Wait + Sync>(
+    rt: &R,
+    alloc: Global,
+    start: Start<'_>,
+) -> Vec<Vec<u8>> {
     let mut answers = Vec::new(alloc);
-    for commands in 0..=COMMANDS.len() {
-        let text = answers_behind(rt, alloc, commands);
+    for commands in 0..=start.commands.len() {
+        let text = answers_behind(rt, alloc, start, commands);
         answers.push(text).expect(rt, "memory");
     }
     answers
@@ -170,16 +190,98 @@ fn texts<'a>(rt: &impl Abort, alloc: Global, answers: &'a [Vec<u8>]) -> Vec<&'a 
     texts
 }
 
-#[test]
-fn both_formats_stopped_at_each_moment(rt: HostRuntime) {
-    let alloc = rt.alloc();
-    let answers = answers(&rt, alloc);
-    let fronts = texts(&rt, alloc, &answers);
-    let left = left_behind(&rt, alloc, COMMANDS.len());
+// Stops the test where the store answers otherwise behind some of the commands than the plain warehouse, or where an
+// image of a moment of the run of all of them does.
+fn expect_stopped<R: Abort + Threads + Wait + Sync>(rt: &R, alloc: Global, start: Start<'_>) {
+    let answers = answers(rt, alloc, start);
+    let fronts = texts(rt, alloc, &answers);
+    let left = left_behind(rt, alloc, start, start.commands.len());
     let asked = asked();
     let stopped = Stopped {
         asked: &asked,
         fronts: &fronts,
     };
-    expect_moments(&rt, alloc, stopped, &left);
+    expect_moments(rt, alloc, stopped, &left);
+}
+
+#[test]
+fn both_formats_stopped_at_each_moment(rt: HostRuntime) {
+    let start = Start {
+        store: STORE,
+        before: BEFORE,
+        commands: &COMMANDS,
+    };
+    expect_stopped(&rt, rt.alloc(), start);
+}
+
+// ---- the same in a journal that is stated anew
+
+// Adds an area, and the records of runs behind its own where the last of these is one of them.
+fn push_area(rt: &impl Abort, text: &mut String, digits: &str, last: Option<u32>) {
+    let Some(last) = last else {
+        text.push_str(digits).expect(rt, "memory");
+        return;
+    };
+    // All but the gate behind the last record.
+    let records = digits.strip_suffix("00").expect(rt, "a gate that is shut");
+    text.push_str(records).expect(rt, "memory");
+    push_runs(rt, text, last, RUNS);
+}
+
+// A store in whose live area so many runs stand behind the last one that the next opening states it anew.
+fn filled(rt: &impl Abort, alloc: Global, store: &str, live: Area, last: u32) -> String {
+    let (areas, lines) = store.split_once('\n').expect(rt, "files");
+    let (zero, one) = areas.split_once('|').unwrap_or((areas, ""));
+    let mut text = String::new(alloc);
+    push_area(rt, &mut text, zero, (live == Area::Zero).then_some(last));
+    text.push_str("|").expect(rt, "memory");
+    push_area(rt, &mut text, one, (live == Area::One).then_some(last));
+    text.push_str("\n").expect(rt, "memory");
+    text.push_str(lines).expect(rt, "memory");
+    text
+}
+
+// Stops the test of a store that the next opening doesn't state anew in this area, whatever moment or call of that, or
+// of the commands behind it, it is stopped at. The answers have this status.
+fn expect_stated<R: Abort + Threads + Wait + Sync>(
+    rt: &R,
+    alloc: Global,
+    start: Start<'_>,
+    status: u8,
+    area: Area,
+    number: u32,
+) {
+    let mut opened = left_behind(rt, alloc, start, 0);
+    expect_checkpoint(rt, &mut opened.disk, area, number);
+    let answers = answers_behind(rt, alloc, start, 0);
+    let answers = str::from_utf8(&answers).expect(rt, "a text");
+    expect_failing(rt, alloc, start.store, &asked(), (status, answers));
+    expect_stopped(rt, alloc, start);
+}
+
+// How many of the commands are done in the first area.
+const FIRST: usize = 3;
+
+// From area 0 to area 1, where loads, a work and sums beyond 64 bits follow, and then back, with the other commands.
+#[test]
+fn both_formats_stated_anew_and_back(rt: HostRuntime) {
+    let alloc = rt.alloc();
+    let store = filled(&rt, alloc, STORE, Area::Zero, 1);
+    let there = Start {
+        store: store.as_str(),
+        before: BEFORE,
+        commands: &COMMANDS[..FIRST],
+    };
+    expect_stated(&rt, alloc, there, 1, Area::One, 1);
+    let mut left = left_behind(&rt, alloc, there, FIRST);
+    let stated = shown(&rt, alloc, &mut left.disk);
+    let before = front(&rt, alloc, BEFORE, &COMMANDS, FIRST);
+    // The runs behind the first one, and the one that stated the journal anew.
+    let store = filled(&rt, alloc, stated.as_str(), Area::One, RUNS + 2);
+    let back = Start {
+        store: store.as_str(),
+        before: before.as_str(),
+        commands: &COMMANDS[FIRST..],
+    };
+    expect_stated(&rt, alloc, back, 0, Area::Zero, 2);
 }
