@@ -1,5 +1,5 @@
 #!/usr/bin/env python3
-"""Measures `check` over a table of 1,000,000 rows with a view, beside SHA-256 alone over the store's files.
+"""Measures `check` over a table of 1,000,000 rows with a view, beside SHA-256 alone over the store's files, and `digest` of the table.
 
     bench/checks.py [PROGRAM]
 
@@ -48,6 +48,12 @@ def checked(program, folder, name):
     print(f"| {name} | {size:,} | {found.seconds:.2f} | {found.busy:.2f} | {alone:.2f} | {alone / found.busy:.2f} | {part} | {found.peak:.0f} | {found.printed.strip()} |", flush=True)
 
 
+def digested(program, folder, name):
+    """Prints how long the digests of the table take."""
+    found = least([run(program, folder, [], words=("digest", "t")) for _ in range(3)])
+    print(f"digest of the table, {name}: {found.seconds:.2f} s, of the processors {found.busy:.2f} s, peak {found.peak:.0f} MB: {found.printed.strip()}", flush=True)
+
+
 def main():
     program = given_program()
     allow_open_files()
@@ -57,6 +63,7 @@ def main():
     with new_folder() as folder:
         run(program, folder, loads())
         checked(program, folder, "nothing merged")
+        digested(program, folder, "nothing merged")
         run(program, folder, ["work,t"] * 2)
         checked(program, folder, "two cumulatives")
 
