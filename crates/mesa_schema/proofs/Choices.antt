@@ -1,7 +1,7 @@
 -- Columns that are chosen by name.
 use Rattle.std.proofs.Common.{◌≡◌, ℕ, ◌+◌, ◌<◌, List, [], ◌∷◌, ◌++◌, length, map, drop, get_or, Bool, true, false, cond, refl, sym, ◌∙◌, ap, Some, None, Ok, Err, drop-cons, append_assoc, add-one, suc}
-use Rattle.std.specs.Prelude.{◌==◌, is_some, find, option_map, slice_get}
-use Rattle.std.specs.List.{cons_option, list_all}
+use Rattle.std.specs.Prelude.{◌==◌, ◌||◌, is_some, find, option_map, slice_get}
+use Rattle.std.specs.List.{cons_option, list_all, list_any}
 use Rattle.std.proofs.Math.ListN.{get_or-map}
 use Rattle.std.proofs.lemmas.Option.{slice_get-get_or}
 use Rattle.mesa_schema.specs.declared.columns.ValueColumn.{ValueColumn}
@@ -87,3 +87,15 @@ pub replace_none : (columns : List ValueColumn) (asked : List (List ℕ)) (i : �
 replace_none columns asked i name l n p =
     let names : List (List ℕ) = map (λ (c : ValueColumn). c.name) columns in
     ap (find is_replace) (sym (ap (λ ns. chosen (places_in names ns) columns) (next asked i name l n) ∙ chosen-nowhere names columns name (drop (i + 1) asked) p))
+
+-- Something passes of the places of names where it passes of a name's place.
+any_first : (b rest all : Bool) → rest ≡ all → (b || rest) ≡ ((b || false) || all)
+any_first true rest all same = refl
+any_first false rest all same = same
+
+pub any_placed : (p : ℕ → Bool) (names asked : List (List ℕ)) → list_any p (places_in names asked) ≡ list_any (λ name. list_any p (places_in names (name ∷ []))) asked
+any_placed p names [] = refl
+any_placed p names (name ∷ asked) = elim (place_of name names) as (λ o. list_any p (cons_option o (places_in names asked)) ≡ (list_any p (cons_option o []) || list_any (λ n. list_any p (places_in names (n ∷ []))) asked)) [
+  | None ↦ any_placed p names asked
+  | Some i ↦ any_first (p i) (list_any p (places_in names asked)) (list_any (λ n. list_any p (places_in names (n ∷ []))) asked) (any_placed p names asked)
+]

@@ -1,20 +1,21 @@
 -- A table's columns keep the rules through a recast.
-use Rattle.std.proofs.Common.{◌≡◌, ◌+◌, ◌-◌, ◌<◌, List, [], ◌∷◌, true, false, cond, refl, ◌∙◌, ap, arith, Option, Some, None, Result, Ok, Err, is_ok, find, nat_le}
+use Rattle.std.proofs.Common.{◌≡◌, ◌+◌, ◌-◌, ◌<◌, List, [], ◌∷◌, true, false, cond, refl, ◌∙◌, ap, arith, Bool, Option, Some, None, Result, Ok, Err, is_ok, find, nat_le}
 use Rattle.std.specs.Prelude.{not}
 use Rattle.std.specs.List.{AllByRecursion, list_all}
 use Rattle.std.proofs.lemmas.Bool.{and_from, and_parts, leb-false}
 use Rattle.std.proofs.lemmas.List.{take_all}
-use Rattle.mesa_list.specs.Checks.{refused_as}
+use Rattle.mesa_list.specs.Checks.{◌>>◌, refuse_if, refused_as}
 use Rattle.mesa_schema.specs.declared.columns.KeyColumn.{KeyColumn}
 use Rattle.mesa_schema.specs.declared.columns.ValueColumn.{ValueColumn}
 use Rattle.mesa_schema.specs.declared.changes.Change.{Change}
 use Rattle.mesa_schema.specs.declared.views.View.{View}
+use Rattle.mesa_schema.specs.declared.recasts.RecastError.TheVariants.{EpochsFull}
 use Rattle.mesa_schema.specs.declared.views.ViewError.{ViewError}
 use Rattle.mesa_schema.specs.declared.views.ViewError.TheVariants.{NoKey, NoValue}
 use Rattle.mesa_schema.specs.Columns.{Columns, key_names, value_names}
 use Rattle.mesa_schema.specs.Changes.{Lineage, columns_after, columns_of, epoch_of, max_changes}
 use Rattle.mesa_schema.specs.Lineages.{IsLineage, is_view_of}
-use Rattle.mesa_schema.specs.Recasts.{IsRecastOf, Recast, choice_refusal, keeps_view, recast_checked, recast_columns, recast_lineage, refuse_left, refuse_losing, replace_left}
+use Rattle.mesa_schema.specs.Recasts.{IsRecastOf, Recast, choice_refusal, columns_checked, keeps_view, recast_checked, recast_columns, recast_lineage, refuse_left, refuse_losing, replace_left, views_kept}
 use Rattle.mesa_schema.specs.Schema.{is_schema}
 use Rattle.mesa_schema.specs.Views.{choice_checked}
 use Rattle.mesa_schema.proofs.LineageRules.{present_schema}
@@ -59,14 +60,14 @@ pub record IsAllowed (l : Lineage) (r : Recast) : Type 0 where
 
 pub recast_allowed : (l : Lineage) (r : Recast) → recast_checked l r ≡ Ok tt → IsAllowed l r
 recast_allowed l r h =
-    let first = passed_first (refused_as choice_refusal (choice_checked (key_names (columns_of l)) NoKey r.keys)) _ (ap is_ok h) in
+    let columns = passed_first (columns_checked (columns_of l) r) _ (ap is_ok h) in
+    let first = passed_first (refused_as choice_refusal (choice_checked (key_names (columns_of l)) NoKey r.keys)) _ columns.0 in
     let second = passed_first (refused_as choice_refusal (choice_checked (value_names (columns_of l)) NoValue r.values)) _ first.1 in
-    let third = passed_first (refuse_left (replace_left (columns_of l) r)) _ second.1 in
-    let fourth = passed_first (refuse_losing (find (λ v. not (keeps_view r v)) l.views)) _ third.1 in
+    let views = passed_first (views_kept l.views r) _ columns.1 in
     record {
-      rules = record { keys = refused_ok _ first.0; values = refused_ok _ second.0; replaces = none_left (replace_left (columns_of l) r) third.0 };
-      kept = all_kept r l.views (none_losing _ fourth.0);
-      room = leb-false max_changes (epoch_of l) (passed_last (nat_le max_changes (epoch_of l)) _ fourth.1);
+      rules = record { keys = refused_ok _ first.0; values = refused_ok _ second.0; replaces = none_left (replace_left (columns_of l) r) second.1 };
+      kept = all_kept r l.views (none_losing _ views.0);
+      room = leb-false max_changes (epoch_of l) (passed_last (nat_le max_changes (epoch_of l)) _ views.1);
     }
 
 -- ---- the law
@@ -89,3 +90,21 @@ lineage_recast l r is h =
       few_changes = omega (arith, room);
       few_views = is.few_views;
     }
+
+-- A recast that was allowed goes on to be, but for the views.
+ok_is : {E : Type 0} (c : Result (Unit {0}) E) → is_ok c ≡ true → c ≡ Ok tt
+ok_is (Ok x) h = refl
+ok_is (Err e) h = cc
+
+then_room : {E : Type 0} (full : Bool) (e : E) (c : Result (Unit {0}) E) → full ≡ false → (c >> refuse_if full e) ≡ c
+then_room full e (Ok x) h = ap (λ b. refuse_if b e) h
+then_room full e (Err refused) h = refl
+
+pub recast_goes_on : (l later : Lineage) (r : Recast) → recast_checked l r ≡ Ok tt → columns_of later ≡ columns_of l → epoch_of later ≡ epoch_of l → recast_checked later r ≡ views_kept later.views r
+recast_goes_on l later r h columns epoch =
+    let own = passed_first (columns_checked (columns_of l) r) _ (ap is_ok h) in
+    let views = passed_first (views_kept l.views r) _ own.1 in
+    let there : columns_checked (columns_of later) r ≡ Ok tt = ap (λ s. columns_checked s r) columns ∙ ok_is (columns_checked (columns_of l) r) own.0 in
+    let room : nat_le max_changes (epoch_of later) ≡ false = ap (nat_le max_changes) epoch ∙ passed_last (nat_le max_changes (epoch_of l)) _ views.1 in
+    ap (λ c. c >> (views_kept later.views r >> refuse_if (nat_le max_changes (epoch_of later)) EpochsFull)) there
+    ∙ then_room (nat_le max_changes (epoch_of later)) EpochsFull (views_kept later.views r) room

@@ -1,7 +1,7 @@
 -- Searching a mapped list.
 use Rattle.std.proofs.Common.{◌≡◌, ℕ, ◌+◌, List, [], ◌∷◌, map, Bool, true, false, cond, refl, sym, ◌∙◌, ap, Some}
-use Rattle.std.specs.Prelude.{◌||◌, find, is_some, position}
-use Rattle.std.specs.List.{list_any, position_from}
+use Rattle.std.specs.Prelude.{◌&&◌, ◌||◌, find, is_some, position}
+use Rattle.std.specs.List.{list_all, list_any, position_from}
 use Rattle.std.proofs.lemmas.List.{map-id}
 use Rattle.std.proofs.lemmas.Iterator.Adapters.{position_from-zero}
 
@@ -28,3 +28,8 @@ is_some_find p (x ∷ xs) = elim (p x) as (λ t. is_some (cond t (Some x) (find 
 -- A list of names is the list of its names.
 pub map_same : (xs : List (List ℕ)) → map (λ x. x) xs ≡ xs
 map_same xs = map-id xs
+
+-- All of a mapped list pass where all of the list do.
+pub all_mapped : {A B : Type 0} (p : B → Bool) (f : A → B) (xs : List A) → list_all p (map f xs) ≡ list_all (λ x. p (f x)) xs
+all_mapped p f [] = refl
+all_mapped p f (x ∷ xs) = ap (λ b. p (f x) && b) (all_mapped p f xs)

@@ -54,12 +54,12 @@ orderless (c ∷ columns) none =
     ] refl
 
 -- what an allowed view says
-record Asks (s : Columns) (v : View) : Type 0 where
-  keys : is_ok (choice_checked (key_names s) NoKey v.keys) ≡ true
-  values : is_ok (choice_checked (value_names s) NoValue v.values) ≡ true
-  free : find is_replace (values_named s v.values) ≡ None
+pub record Asks (s : Columns) (v : View) : Type 0 where
+  pub keys : is_ok (choice_checked (key_names s) NoKey v.keys) ≡ true
+  pub values : is_ok (choice_checked (value_names s) NoValue v.values) ≡ true
+  pub free : find is_replace (values_named s v.values) ≡ None
 
-asks : (s : Columns) (v : View) → is_view_of s v ≡ true → Asks s v
+pub asks : (s : Columns) (v : View) → is_view_of s v ≡ true → Asks s v
 asks s v h =
     let first = passed_first (choice_checked (key_names s) NoKey v.keys) _ h in
     let second = passed_first (choice_checked (value_names s) NoValue v.values) _ first.1 in

@@ -27,7 +27,7 @@ columns_count (type ∷ types) bytes = ap suc (columns_count types (drop (column
 parts_of : (s : Columns) (row : Row) → IsRowOf s row → key_columns (kinds_of s) row.key ≡ map value_spelling (key_of (kinds_of s) row.key)
 parts_of s row form = ap (key_columns (kinds_of s)) (sym form.spelled) ∙ columns_spelled (kinds_of s) (key_of (kinds_of s) row.key) form.key
 
-bytes_of : (s : Columns) (columns values : List ℕ) (row : Row) → IsRowOf s row → (regrouped s columns values row).key ≡ key_spelling (chosen columns (key_of (kinds_of s) row.key))
+pub bytes_of : (s : Columns) (columns values : List ℕ) (row : Row) → IsRowOf s row → (regrouped s columns values row).key ≡ key_spelling (chosen columns (key_of (kinds_of s) row.key))
 bytes_of s columns values row form =
     let key : List KeyValue = key_of (kinds_of s) row.key in
     ap (λ ps. concat (chosen columns ps)) (parts_of s row form) ∙ ap (λ (ps : List (List ℕ)). concat ps) (chosen_mapped value_spelling columns key) ∙ concat_spelled (chosen columns key)

@@ -17,7 +17,7 @@ use Rattle.mesa_schema.specs.Lineages.{HasDefault, IsLineage, is_view_of}
 use Rattle.mesa_schema.specs.Views.{max_views, view_columns, view_rows, with_view}
 use Rattle.mesa_schema.specs.Folded.{folded, grouped, regrouped, row_combined, rows_of, values_at}
 use Rattle.mesa_schema.specs.Put.{put_row}
-use Rattle.mesa_schema.specs.Recasts.{IsRecastOf, Recast, keeps_view, recast_checked, recast_columns, recast_lineage, recast_rows}
+use Rattle.mesa_schema.specs.Recasts.{IsRecastOf, Recast, keeps_view, recast_checked, recast_columns, recast_lineage, recast_rows, views_kept}
 use Rattle.mesa_schema.specs.Carried.{AreTurnsOf, Turn, carried, columns_through}
 
 -- each row has a value for each column
@@ -205,3 +205,7 @@ CarriesForm = (s : Columns) (turns : List Turn) (rows : List Row) → AreTurnsOf
 -- A table follows the rules through an allowed recast.
 abbrev pub RecastLineages : Type 0
 RecastLineages = (l : Lineage) (r : Recast) → IsLineage l → recast_checked l r ≡ Ok tt → IsLineage (recast_lineage l r)
+
+-- Where a recast was allowed of a table, and the table has the columns and the epoch that it had, only a view can be against it.
+abbrev pub RecastsGoOn : Type 0
+RecastsGoOn = (l later : Lineage) (r : Recast) → recast_checked l r ≡ Ok tt → columns_of later ≡ columns_of l → epoch_of later ≡ epoch_of l → recast_checked later r ≡ views_kept later.views r

@@ -79,13 +79,22 @@ abbrev pub refuse_losing : Option View → Result (Unit {0}) RecastError
 refuse_losing None = Ok tt
 refuse_losing (Some v) = Err (no.InView v.name)
 
+-- no view uses a column that a recast leaves out, or the first that does
+abbrev pub views_kept : List View → Recast → Result (Unit {0}) RecastError
+views_kept views r = refuse_losing (find (λ v. not (keeps_view r v)) views)
+
+-- what a recast asks for is a choice of the columns, with a replace column only beside every key column
+abbrev pub columns_checked : Columns → Recast → Result (Unit {0}) RecastError
+columns_checked s r = do
+  refused_as choice_refusal (choice_checked (key_names s) view.NoKey r.keys)
+  refused_as choice_refusal (choice_checked (value_names s) view.NoValue r.values)
+  refuse_left (replace_left s r)
+
 -- The rules of a recast in their order: its columns are a choice of the table's; a replace column asks for every key column; no view loses a column; and the number of changes, last.
 abbrev pub recast_checked : Lineage → Recast → Result (Unit {0}) RecastError
 recast_checked l r = do
-  refused_as choice_refusal (choice_checked (key_names (columns_of l)) view.NoKey r.keys)
-  refused_as choice_refusal (choice_checked (value_names (columns_of l)) view.NoValue r.values)
-  refuse_left (replace_left (columns_of l) r)
-  refuse_losing (find (λ v. not (keeps_view r v)) l.views)
+  columns_checked (columns_of l) r
+  views_kept l.views r
   refuse_if (nat_le max_changes (epoch_of l)) no.EpochsFull
 
 -- The lineage of a recast table: these columns begin the next epoch, there are no changes yet, and the views stay.

@@ -14,7 +14,8 @@ use crate::allowing::{
 };
 use crate::choosing::{check_chosen, chosen_columns, replace_place};
 use crate::epochs::{added_keys, change_columns};
-use crate::{Change, ChangeError, Lift, Name, Row, Schema, View, ViewError};
+use crate::recasts::{allows_columns, check_columns, check_views, keeps_views};
+use crate::{Change, ChangeError, Lift, Name, RecastError, Row, Schema, View, ViewError};
 use mesa_list::{Items, TryCopy};
 use std::alloc::{AllocError, Global};
 use std::marker::Model;
@@ -267,6 +268,28 @@ impl Evolving {
         self.changes.push(change)?;
         self.present = Some(present);
         Ok(())
+    }
+
+    /// Whether the table may be recast to these of its columns, in this order, or the first reason against it.
+    pub fn check_recast(&self, keys: &[Name], values: &[Name]) -> Result<(), RecastError>
+        ensures passes { OnOk result (recast_checked self.now (record { keys = keys.now; values = values.now }) ≡ Ok tt) }
+        ensures refused { IfErr result (λ e. e ≢ RecastError.Memory → recast_checked self.now (record { keys = keys.now; values = values.now }) ≡ Err e) }
+    {
+        check_columns(self.present(), keys, values)?;
+        check_views(self.views.as_slice(), keys, values)?;
+        if !self.has_room() {
+            return Err(RecastError::EpochsFull);
+        }
+        Ok(())
+    }
+
+    /// Whether `check_recast` would pass, but for want of memory.
+    pub fn allows_recast(&self, keys: &[Name], values: &[Name]) -> bool
+        ensures { result ≡ is_ok (recast_checked self.now (record { keys = keys.now; values = values.now })) }
+    {
+        self.has_room()
+            && allows_columns(self.present(), keys, values)
+            && keeps_views(self.views.as_slice(), keys, values)
     }
 
     /// The table with these of its present columns, in this order: they begin the next epoch. Its views stay.

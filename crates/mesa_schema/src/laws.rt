@@ -1,5 +1,5 @@
 // What holds of every fold, grouping, lifted row and table, whichever function made them.
-ghost use Rattle.mesa_schema.specs.Laws.{CarriesFolds, CarriesForm, ChangedColumns, ChangedLineages, FiltersFold, FoldsForm, FoldsFull, FoldsRise, GroupsFolds, GroupsForm, GroupsRise, GroupsWhole, GroupsWholeFolds, KeepsForm, KeysGrow, LiftedFolds, LiftedForms, LiftedKeys, LiftedMore, LiftedNow, LiftedRise, LiftsFolds, NewLineages, PutsGiven, PutsOne, RecastLineages, RecastsFold, RecastsForm, RecastsRise, Refolds, SameFolds, ViewedLineages, ViewsOutlast, ViewsOutlive};
+ghost use Rattle.mesa_schema.specs.Laws.{CarriesFolds, CarriesForm, ChangedColumns, ChangedLineages, FiltersFold, FoldsForm, FoldsFull, FoldsRise, GroupsFolds, GroupsForm, GroupsRise, GroupsWhole, GroupsWholeFolds, KeepsForm, KeysGrow, LiftedFolds, LiftedForms, LiftedKeys, LiftedMore, LiftedNow, LiftedRise, LiftsFolds, NewLineages, PutsGiven, PutsOne, RecastLineages, RecastsFold, RecastsGoOn, RecastsForm, RecastsRise, Refolds, SameFolds, ViewedLineages, ViewsOutlast, ViewsOutlive};
 
 /// Parts that stand one after the other may be folded first.
 pub fn folds_again()
@@ -68,12 +68,13 @@ pub fn views_outlive()
     ensures { ViewsOutlive }
 {}
 
-/// Rows may be folded before a recast or after it; recast rows have the form of its columns, and their keys rise; and a table follows the rules through it.
+/// Rows may be folded before a recast or after it; recast rows have the form of its columns, and their keys rise; and a table follows the rules through it. A recast that was allowed stays so while the table has its columns and its epoch, but for views that came since.
 pub fn recasts_fold()
     ensures folds { RecastsFold }
     ensures form { RecastsForm }
     ensures rise { RecastsRise }
     ensures lineages { RecastLineages }
+    ensures goes_on { RecastsGoOn }
 {}
 
 /// Views outlast a recast that keeps their columns.
