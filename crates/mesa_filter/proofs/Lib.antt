@@ -1,3 +1,4 @@
+pub mod PlacesAmong
 pub mod Forms
 pub mod Fronts
 pub mod HexDigits

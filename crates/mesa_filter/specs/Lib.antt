@@ -6,3 +6,4 @@ pub mod Walk
 pub mod Laws
 pub mod Pruning
 pub mod Query
+pub mod Among

@@ -1,14 +1,20 @@
 // Filters.
-ghost use Rattle.std.specs.Prelude.{◌≡◌, ◌≢◌, IfOk, IfErr, IsTrue, take};
+ghost use Rattle.std.specs.Prelude.{◌≡◌, ◌≢◌, ◌<◌, ◌^◌, IfOk, IfErr, IsTrue, length, map, take};
+ghost use Rattle.std.specs.List.{AllByRecursion};
 ghost use Rattle.mesa_key.specs.Spelling.{is_spelling, key_of};
-ghost use Rattle.mesa_schema.specs.Columns.{kinds_of};
-ghost use Rattle.mesa_filter.specs.Filter.{filter_of, meets};
+ghost use Rattle.mesa_schema.specs.Columns.{chosen, kinds_of};
+ghost use Rattle.mesa_filter.specs.declared.terms.Term.{Term as AnyTerm};
+ghost use Rattle.mesa_filter.specs.Among.{Holds, term_among};
+ghost use Rattle.mesa_filter.specs.Filter.{are_within, filter_of, meets};
 ghost use Rattle.std.specs.Bool.{OnFalse};
 ghost use Rattle.mesa_filter.specs.Walk.{may_meet_from};
 ghost use Rattle.mesa_filter.specs.Pruning.{NoneMeets};
+ghost use Rattle.mesa_filter.specs.Query.{are_places};
 
+use crate::among::terms_among;
 use crate::matching::{columns_may_meet, columns_meet, last_named};
 use crate::parsing::terms;
+use crate::query::kinds_at;
 use crate::{FilterError, Term};
 use mesa_key::KeyType;
 use mesa_list::{Items, TryCopy};
@@ -59,6 +65,33 @@ impl Filter {
         ensures { result.now ≡ self.now.kinds }
     {
         self.kinds.as_slice()
+    }
+
+    /// The terms, all of which a key has to meet.
+    pub fn terms(&self) -> &[Term]
+        ensures terms { result.now ≡ self.now.terms }
+        ensures within { IsTrue (are_within self.now.kinds self.now.terms) }
+    {
+        self.terms.as_slice()
+    }
+
+    /// The same filter of the keys that have the columns at these places.
+    pub(crate) fn among(&self, keys: &[u16]) -> Result<Self, AllocError>
+        requires keys { IsTrue (are_places self.now.kinds keys.now) }
+        requires few { length keys.now < 2 ^ 16 }
+        requires terms { AllByRecursion (λ (t : AnyTerm). Holds keys.now t.column) self.now.terms }
+        ensures kinds { IfOk result (λ f. f.kinds ≡ chosen keys.now self.now.kinds) }
+        ensures terms { IfOk result (λ f. f.terms ≡ map (term_among keys.now) self.now.terms) }
+    {
+        let alloc = self.kinds.allocator();
+        let kinds = kinds_at(alloc, self.kinds(), keys)?;
+        let terms = terms_among(alloc, keys, self.terms.as_slice())?;
+        let named = last_named(terms.as_slice());
+        Ok(Filter {
+            kinds,
+            terms,
+            named,
+        })
     }
 
     /// Whether a key meets the filter: an encoded key of the columns that the filter was read for. Nothing of it is copied, and no column behind the last one that a term names is looked at.

@@ -1,6 +1,7 @@
 //! What a query asks: filters, columns, versions and resume keys.
 #![tactic(auto)]
 
+mod among;
 mod asking;
 mod copies;
 mod filter;
@@ -16,6 +17,7 @@ mod words;
 
 pub use filter::Filter;
 pub use laws::filters_folds;
+pub use places::chosen_places;
 pub use query::Query;
 pub use terms::{Comparison, FilterError, Term};
 pub use words::{QueryError, QueryWords, VersionWord};

@@ -1,14 +1,14 @@
 // The places of the columns that a query asks.
-ghost use Rattle.std.specs.Prelude.{◌≡◌, ◌≢◌, ◌≤◌, ◌<◌, IsTrue, IfOk, IfErr, length, map, Ok, Err};
+ghost use Rattle.std.specs.Prelude.{◌≡◌, ◌≢◌, ◌≤◌, ◌<◌, ◌^◌, IsTrue, IfOk, IfErr, length, map, Ok, Err};
 ghost use Rattle.std.specs.Option.{ok_or};
 ghost use Rattle.mesa_list.specs.Split.{split_at};
-ghost use Rattle.mesa_schema.specs.Columns.{place_of as place_among};
+ghost use Rattle.mesa_schema.specs.Columns.{place_of as place_among, places_in};
 ghost use Rattle.mesa_filter.specs.Asked.{group_columns, places_below, places_of, value_columns};
 ghost use Rattle.mesa_filter.specs.Query.{are_places};
 
 use crate::QueryError;
 use mesa_list::{Items, Parts};
-use mesa_schema::{Named, Schema, place_of};
+use mesa_schema::{Name, Named, Schema, place_of};
 use std::alloc::{AllocError, Global};
 
 /// Places of columns among those of their sort.
@@ -49,6 +49,25 @@ pub(crate) fn value_places(
         return Ok(all_places(alloc, columns)?);
     }
     named_places(alloc, columns, words)
+}
+
+/// The places of these names among columns, for those that are there.
+pub fn chosen_places<C: Named>(
+    alloc: Global,
+    names: &[Name],
+    columns: &[C],
+) -> Result<Vec<u16>, AllocError>
+    requires { length columns.now ≤ 2 ^ 16 }
+    ensures places { IfOk result (λ found. found.items ≡ places_in (map C.name_of columns.now) names.now) }
+    ensures within { IfOk result (λ found. IsTrue (are_places columns.now found.items)) }
+{
+    let mut found = Vec::new(alloc);
+    for name in names {
+        if let Some(place) = place_of(name.bytes(), columns) {
+            found.push(place as u16)?;
+        }
+    }
+    Ok(found)
 }
 
 // The places of all columns.

@@ -3,8 +3,12 @@ ghost use Rattle.std.specs.Prelude.{◌≡◌, ◌≢◌, IsTrue, IfOk, IfErr, O
 ghost use Rattle.mesa_schema.specs.Columns.{chosen};
 ghost use Rattle.mesa_filter.specs.Asked.{asked_of};
 ghost use Rattle.mesa_filter.specs.Resume.{resume_of};
-ghost use Rattle.mesa_filter.specs.Query.{IsQueryOf, built, group_kinds as kinds_grouped, query_of};
+ghost use Rattle.std.specs.List.{AllByRecursion};
+ghost use Rattle.mesa_filter.specs.declared.terms.Term.{Term as AnyTerm};
+ghost use Rattle.mesa_filter.specs.Among.{Holds, query_among};
+ghost use Rattle.mesa_filter.specs.Query.{IsQueryOf, are_places, built, group_kinds as kinds_grouped, query_of};
 
+use crate::among::places_among;
 use crate::asking::{Asking, what_is_asked};
 use crate::resuming::{prefix, resume_key};
 use crate::{Filter, QueryError, QueryWords};
@@ -163,6 +167,39 @@ impl Query {
     }
 }
 
+impl Query {
+    /// The same query of a relation whose key columns and value columns are those at these places among the ones that it is asked of now. Its version and its page stay, and so do its resume keys.
+    pub fn among(&self, keys: &[u16], values: &[u16]) -> Result<Query, AllocError>
+        requires keys { IsTrue (are_places self.now.kinds keys.now) }
+        requires columns { AllByRecursion (Holds keys.now) self.now.asked.columns }
+        requires terms { AllByRecursion (λ (t : AnyTerm). Holds keys.now t.column) self.now.asked.terms }
+        ensures { IfOk result (λ q. q ≡ query_among keys.now values.now self.now) }
+    {
+        // No relation has that many columns.
+        if keys.len() > u16::MAX as usize || values.len() > u16::MAX as usize {
+            return Err(AllocError);
+        }
+        let alloc = self.group_kinds.allocator();
+        let asking = Asking {
+            columns: places_among(alloc, keys, self.columns())?,
+            values: places_among(alloc, values, self.values())?,
+            filter: self.asking.filter.among(keys)?,
+        };
+        let resume = match &self.resume {
+            None => None,
+            Some(key) => Some(key.copy()?),
+        };
+        Ok(Query {
+            asking,
+            group_kinds: self.group_kinds.copy()?,
+            version: self.version,
+            limit: self.limit,
+            resume,
+            prefix: self.prefix.copy()?,
+        })
+    }
+}
+
 impl TryCopy for Query {
     fn copy(&self) -> Result<Self, AllocError> {
         let resume = match &self.resume {
@@ -181,7 +218,11 @@ impl TryCopy for Query {
 }
 
 // The types of the columns at these places.
-fn kinds_at(alloc: Global, kinds: &[KeyType], places: &[u16]) -> Result<Items<KeyType>, AllocError>
+pub(crate) fn kinds_at(
+    alloc: Global,
+    kinds: &[KeyType],
+    places: &[u16],
+) -> Result<Items<KeyType>, AllocError>
     ensures { IfOk result (λ found. found ≡ chosen places.now kinds.now) }
 {
     let mut found = Items::new(alloc);
