@@ -1,11 +1,10 @@
 -- A batch of rows in their order.
-use Rattle.std.proofs.Common.{◌≡◌, ℕ, zero, suc, ◌<◌, List, [], ◌∷◌, length, map, get_or, refl, sym, ◌∙◌, ap, subst, arith, None, Some}
+use Rattle.std.proofs.Common.{◌≡◌, ℕ, zero, suc, ◌<◌, List, [], ◌∷◌, length, map, get_or, refl, sym, ◌∙◌, ap, subst, arith, cond, true, false, None, Some}
 use Rattle.std.specs.Prelude.{◌==◌, filter, option_map, slice_get, slice_index_or}
 use Rattle.std.specs.List.{All, range_with_len}
 use Rattle.std.specs.List.Sorted.{IsPermutation, IsStrictlySortedBy}
-use Rattle.std.proofs.lemmas.List.{length-map}
+use Rattle.std.proofs.lemmas.List.{get_or-map, length-map}
 use Rattle.std.proofs.lemmas.Option.{slice_get-get_or, slice_get-map}
-use Rattle.std.proofs.lemmas.List.Elements.{All-from_get_or}
 use Rattle.std.proofs.lemmas.List.FromFn.{fill_by_all}
 use Rattle.std.proofs.lemmas.List.Sorted.{IsPermutation-map}
 use Rattle.mesa_value.specs.declared.Agg.{Agg}
@@ -13,7 +12,9 @@ use Rattle.mesa_schema.specs.declared.rows.Row.{Row}
 use Rattle.mesa_schema.specs.Columns.{Columns}
 use Rattle.mesa_schema.specs.Folded.{folded}
 use Rattle.mesa_batch.specs.Batch.{Placed, rows_for}
+use Rattle.mesa_batch.specs.declared.spots.Spot.{Spot}
 use Rattle.mesa_batch.specs.Flat.{IsFirstTwice, placed_at, placed_cmp, rows_over}
+use Rattle.mesa_batch.specs.Heads.{IsSpot, place_of, places_for}
 use Rattle.mesa_batch.specs.Gathered.{Batched, rows_at}
 use Rattle.mesa_batch.specs.Totals.{abs_totals}
 use Rattle.mesa_batch.proofs.Reordered.{filter_map, sorted-fold, sorted-folded, sorted-totals}
@@ -72,5 +73,20 @@ module _ (rows : List Placed) (order : List ℕ) (tables : List (List ℕ)) (b :
   finished-totals table s = ap (abs_totals s) (has table) ∙ sorted-totals s table rows (in_order rows order) (reordered rows order ordered)
 
 -- each row's table is there
-pub parts-there : (count : ℕ) (rows : List Placed) (order : List ℕ) → IsOrder rows order → All (λ (p : Placed). p.table < count) rows → All (λ place. (placed_at rows place).table < count) order
-parts-there count rows order ordered all = All-from_get_or (λ place. (placed_at rows place).table < count) order 0 (λ k h. all (get_or order k 0) _ (in_range rows order ordered k h))
+pub spots-there : (count : ℕ) (rows : List Placed) (spots : List Spot) → IsOrder rows (map place_of spots) → All (IsSpot rows) spots → All (λ (p : Placed). p.table < count) rows → All (λ (s : Spot). s.table < count) spots
+spots-there count rows spots ordered are all = λ k d h.
+    let s : Spot = get_or spots k d in
+    let there : get_or (map place_of spots) k 0 < length rows = in_range rows (map place_of spots) ordered k (omega (arith, h, length-map spots place_of)) in
+    let within : s.place < length rows = subst (λ n. n < length rows) (get_or-map place_of spots k d 0 h) there in
+    subst (λ n. n < count) (sym (are k d h).table) (all s.place _ within)
+
+-- the places of a table's spots are those of its rows
+pub places-parted : (rows : List Placed) (table : ℕ) (spots : List Spot) → All (IsSpot rows) spots → places_for table spots ≡ filter (λ place. (placed_at rows place).table == table) (map place_of spots)
+places-parted rows table [] are = refl
+places-parted rows table (s ∷ spots) are =
+    let rest : places_for table spots ≡ filter (λ place. (placed_at rows place).table == table) (map place_of spots) = places-parted rows table spots (λ k d h. are (suc k) d (omega (arith, h))) in
+    let is : IsSpot rows s = are 0 s (omega arith) in
+    let mine : List Spot = filter (λ (s : Spot). s.table == table) spots in
+    let its : List ℕ = filter (λ place. (placed_at rows place).table == table) (map place_of spots) in
+    ap (λ t. map place_of (cond (t == table) (s ∷ mine) mine)) is.table
+    ∙ elim ((placed_at rows s.place).table == table) as (λ b. map place_of (cond b (s ∷ mine) mine) ≡ cond b (s.place ∷ its) its) [ true ↦ ap (λ l. s.place ∷ l) rest | false ↦ rest ]

@@ -2,7 +2,9 @@ pub mod Fields
 pub mod Finished
 pub mod Flats
 pub mod FoldedRows
+pub mod Heads
 pub mod Inserted
+pub mod KeptTotals
 pub mod LastTotals
 pub mod LoadedRows
 pub mod NameNumbers

@@ -2,6 +2,7 @@ pub mod Batch
 pub mod Flat
 pub mod Gathered
 pub mod Glance
+pub mod Heads
 pub mod Load
 pub mod Laws
 pub mod Numbers

@@ -1,5 +1,5 @@
 -- Absolute totals: what keeps every sum within its type.
-use Rattle.std.specs.Prelude.{ℕ, ◌+◌, ◌≤◌, min, pos, nat_abs, List, [], ◌∷◌, ◌++◌, map, zip, sum_by, slice_index_or, take, drop, length, nat_le, Bool, true, false, if◌then◌else◌, Option, position, unwrap_or, ⊤}
+use Rattle.std.specs.Prelude.{ℕ, ◌+◌, ◌≤◌, min, pos, nat_abs, List, [], ◌∷◌, ◌++◌, map, zip, sum_by, slice_index_or, take, drop, length, nat_le, Bool, true, false, if◌then◌else◌, Option, Some, None, position, slice_get, unwrap_or, ⊤}
 pub use Rattle.mesa_value.specs.Agg.{sum_bound}
 use Rattle.mesa_value.specs.declared.Agg.{Agg}
 use Rattle.mesa_value.specs.declared.Agg.TheVariants as agg
@@ -7,6 +7,7 @@ use Rattle.mesa_schema.specs.declared.rows.Row.{Row}
 use Rattle.mesa_schema.specs.declared.changes.Change.{Change}
 use Rattle.mesa_schema.specs.declared.changes.Change.TheVariants.{AddKey, AddValue, DropValue}
 use Rattle.mesa_schema.specs.Columns.{Columns, aggs_of, place_of, value_names}
+use Rattle.mesa_schema.specs.Recasts.{Recast, recast_values}
 
 abbrev pub is_sum : Agg → Bool
 is_sum agg.Sum = true
@@ -55,6 +56,20 @@ abbrev pub totals_after : Columns → Change → List ℕ → List ℕ
 totals_after s (AddValue column default) totals = if is_sum column.agg then totals ++ 0 ∷ [] else totals
 totals_after s (DropValue name) totals = totals_without (aggs_of s) (unwrap_or (place_of name (value_names s)) (length s.values)) totals
 totals_after s (AddKey column default) totals = totals
+
+-- the total of a column, where it is a sum column, and others behind it
+abbrev pub with_total : Option Agg → ℕ → List ℕ → List ℕ
+with_total None total rest = rest
+with_total (Some a) total rest = if is_sum a then total ∷ rest else rest
+
+-- the totals of the value columns at these places
+abbrev pub chosen_totals : List Agg → List ℕ → List ℕ → List ℕ
+chosen_totals aggs totals [] = []
+chosen_totals aggs totals (place ∷ places) = with_total (slice_get aggs place) (slice_index_or totals (sums_in (take place aggs)) 0) (chosen_totals aggs totals places)
+
+-- The totals after a recast: those of the sum columns that are kept, in their new order.
+abbrev pub totals_recast : Columns → Recast → List ℕ → List ℕ
+totals_recast s r totals = chosen_totals (aggs_of s) totals (recast_values s r)
 
 -- as many totals, each at most the other
 abbrev pub AreAtMost : List ℕ → List ℕ → Type 0

@@ -101,7 +101,7 @@ impl BatchBuilder {
                 second: u64::from(second) + 1,
             });
         }
-        let tables = parted(columns.allocator(), columns.len(), &rows, &order)?;
+        let tables = parted(columns.allocator(), columns.len(), &order)?;
         Ok(Batch::of(columns, rows, tables))
     }
 }

@@ -9,7 +9,9 @@ mod laws;
 mod loading;
 mod ordering;
 mod reading;
+mod recasting;
 mod shared;
+mod spots;
 mod totals;
 mod words;
 
@@ -18,5 +20,6 @@ pub use builder::BatchBuilder;
 pub use glance::{Glance, Glanced};
 pub use laws::{goes_row_by_row, keeps_forms, totals_last};
 pub use loading::{LoadRows, RowView, Words};
+pub use recasting::{row_totals, sums_among, totals_recast};
 pub use totals::{OVER_BOUND, fits};
 pub use words::{BatchError, RowWords};

@@ -1,80 +1,58 @@
 // The order of gathered rows: by table, and then by key.
-ghost use Rattle.std.specs.Prelude.{◌≡◌, ◌<◌, ◌^◌, ℕ, [], filter, ◌==◌, ◌++◌, ◌∷◌, cond, length, slice_index_or, IfOk, OnOk};
+ghost use Rattle.std.specs.Prelude.{◌≡◌, ◌<◌, ℕ, [], ◌==◌, ◌++◌, ◌∷◌, cond, length, map, slice_index_or, IfOk, OnOk};
 ghost use Rattle.std.specs.List.{All, range_with_len};
 ghost use Rattle.std.specs.List.Sorted.{IsPermutation, IsSorted};
-ghost use Rattle.mesa_batch.specs.Flat.{IsFirstTwice, earlier_twice, is_twice, placed_at, placed_cmp, spot_cmp};
+ghost use Rattle.mesa_batch.specs.declared.spots.Spot.{Spot};
+ghost use Rattle.mesa_batch.specs.Flat.{IsFirstTwice, earlier_twice, is_twice, spot_cmp};
+ghost use Rattle.mesa_batch.specs.Heads.{IsSpot, place_of, places_for};
 
 use crate::flat::FlatRows;
+use crate::spots::{Spot, compare, is_same, spots};
 use mesa_list::Items;
 use std::alloc::{AllocError, Global};
-use std::cmp::Ordering;
 
-/// The places of all rows, in the order of their tables and keys; those of one table and key in their own.
-pub(crate) fn ordered(alloc: Global, rows: &FlatRows) -> Result<Vec<u32>, AllocError>
-    ensures permutation { IfOk result (λ order. IsPermutation (range_with_len 0 (length rows.now)) order.items) }
-    ensures sorted { IfOk result (λ order. IsSorted (spot_cmp rows.now) order.items) }
+/// The spots of all rows, in the order of their tables and keys; those of one table and key in the order of their places.
+pub(crate) fn ordered(alloc: Global, rows: &FlatRows) -> Result<Vec<Spot>, AllocError>
+    ensures permutation { IfOk result (λ order. IsPermutation (range_with_len 0 (length rows.now)) (map place_of order.items)) }
+    ensures sorted { IfOk result (λ order. IsSorted (spot_cmp rows.now) (map place_of order.items)) }
+    ensures spots { IfOk result (λ order. All (IsSpot rows.now) order.items) }
 {
-    let mut order = places(alloc, rows.len() as u32)?;
-    sort(rows, &mut order);
-    Ok(order)
+    let mut spots = spots(alloc, rows)?;
+    sort(rows, &mut spots);
+    Ok(spots)
 }
 
-// So many places, counted from 0.
-fn places(alloc: Global, count: u32) -> Result<Vec<u32>, AllocError>
-    ensures { IfOk result (λ places. places.items ≡ range_with_len 0 count) }
+fn sort(rows: &FlatRows, spots: &mut [Spot])
+    requires { All (IsSpot rows.now) spots.old }
+    ensures permutation { IsPermutation (map place_of spots.old) (map place_of spots.new) }
+    ensures sorted { IsSorted (spot_cmp rows.now) (map place_of spots.new) }
+    ensures spots { All (IsSpot rows.now) spots.new }
 {
-    let mut places = Vec::with_capacity(alloc, count as usize)?;
-    'places: for place in 0..count {
-        places.push(place)?;
-    }
-    Ok(places)
-}
-
-fn sort(rows: &FlatRows, order: &mut [u32])
-    ensures permutation { IsPermutation order.old order.new }
-    ensures sorted { IsSorted (spot_cmp rows.now) order.new }
-{
-    order.sort_unstable_by(|a, b| compare(rows, *a, *b));
-}
-
-// How two places are ordered.
-fn compare(rows: &FlatRows, a: u32, b: u32) -> Ordering
-    ensures { result ≡ spot_cmp rows.now a b }
-{
-    match compare_rows(rows, a as usize, b as usize) {
-        Ordering::Equal => a.cmp(&b),
-        order => order,
-    }
-}
-
-// How the rows at two places are ordered.
-fn compare_rows(rows: &FlatRows, a: usize, b: usize) -> Ordering
-    ensures { result ≡ placed_cmp (placed_at rows.now a) (placed_at rows.now b) }
-{
-    match rows.table(a).cmp(&rows.table(b)) {
-        Ordering::Equal => rows.key(a).cmp(rows.key(b)),
-        order => order,
-    }
+    spots.sort_unstable_by(|a, b| compare(rows, a, b));
 }
 
 /// Of the neighbours in this order that have one table and key, those whose second one comes first.
-pub(crate) fn first_twice(rows: &FlatRows, order: &[u32]) -> Option<(u32, u32)>
-    ensures { IsFirstTwice rows.now order.now (length order.now) result }
+pub(crate) fn first_twice(rows: &FlatRows, order: &[Spot]) -> Option<(u32, u32)>
+    requires { All (IsSpot rows.now) order.now }
+    ensures { let places = map place_of order.now in IsFirstTwice rows.now places (length places) result }
 {
     let mut found = None;
     'places: for place in 1..order.len() {
-        found = earlier(rows, found, (order[place - 1], order[place]));
+        found = earlier(rows, found, &order[place - 1], &order[place]);
     }
     found
 }
 
 // What was found so far, or these neighbours, where they have one table and key and their second one comes before.
-fn earlier(rows: &FlatRows, found: Option<(u32, u32)>, pair: (u32, u32)) -> Option<(u32, u32)>
-    ensures { result ≡ earlier_twice (is_twice rows.now pair.0 pair.1) found pair }
+fn earlier(rows: &FlatRows, found: Option<(u32, u32)>, a: &Spot, b: &Spot) -> Option<(u32, u32)>
+    requires first { IsSpot rows.now a.now }
+    requires second { IsSpot rows.now b.now }
+    ensures { result ≡ earlier_twice (is_twice rows.now a.now.place b.now.place) found (a.now.place, b.now.place) }
 {
-    if !is_same(rows, pair.0 as usize, pair.1 as usize) {
+    if !is_same(rows, a, b) {
         return found;
     }
+    let pair = (a.place, b.place);
     match found {
         None => Some(pair),
         Some(before) => {
@@ -87,26 +65,18 @@ fn earlier(rows: &FlatRows, found: Option<(u32, u32)>, pair: (u32, u32)) -> Opti
     }
 }
 
-// Whether the rows at two places have one table and key.
-fn is_same(rows: &FlatRows, a: usize, b: usize) -> bool
-    ensures { result ≡ is_twice rows.now a b }
-{
-    rows.table(a) == rows.table(b) && rows.key(b) == rows.key(a)
-}
-
 /// The places of each table's rows, in this order.
 pub(crate) fn parted(
     alloc: Global,
     count: usize,
-    rows: &FlatRows,
-    order: &[u32],
+    order: &[Spot],
 ) -> Result<Items<Items<u32>>, AllocError>
-    requires { All (λ place. (placed_at rows.now place).table < count) order.now }
-    ensures { IfOk result (λ tables. (table : ℕ) → slice_index_or tables table [] ≡ filter (λ place. (placed_at rows.now place).table == table) order.now) }
+    requires { All (λ (s : Spot). s.table < count) order.now }
+    ensures { IfOk result (λ tables. (table : ℕ) → slice_index_or tables table [] ≡ places_for table order.now) }
 {
     let mut tables = empty_tables(alloc, count)?;
-    'order: for place in order {
-        push_place(&mut tables, rows.table(*place as usize), *place)?;
+    'order: for spot in order {
+        push_place(&mut tables, spot.table, spot.place)?;
     }
     Ok(tables)
 }

@@ -86,7 +86,7 @@ fn absolute_total(column: usize, rows: &FlatRows, places: &[u32]) -> u128
     total
 }
 
-fn absolute_value(column: usize, values: &[Amount]) -> u128
+pub(crate) fn absolute_value(column: usize, values: &[Amount]) -> u128
     ensures value { result ≡ nat_abs (slice_index_or values.now column (pos 0)) }
     ensures small { result ≤ 2 ^ 127 }
 {

@@ -4,4 +4,5 @@ pub mod Columns
 pub mod Kept
 pub mod Merged
 pub mod Place
+pub mod RecastTotals
 pub mod Sums

@@ -6,5 +6,5 @@ mod laws;
 mod merging;
 
 pub use fold::{combine_into, combines_all, fold_in};
-pub use laws::folds_totals;
+pub use laws::{folds_totals, totals_outlast};
 pub use merging::merge;
