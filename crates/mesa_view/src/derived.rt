@@ -16,7 +16,7 @@ ghost use Rattle.mesa_scan.specs.Damaged.{IsDamaged};
 ghost use Rattle.mesa_scan.specs.Scanning.{IsFilterOf};
 ghost use Rattle.mesa_answer.specs.Answering.{KeepsSums, grouped_columns};
 ghost use Rattle.mesa_answer.specs.Gathered.{HasPut, wanted_of};
-ghost use Rattle.mesa_view.specs.SumDamage.{IsSumDamage};
+ghost use Rattle.mesa_view.specs.SumDamage.{IsFileSum, every_group, view_groups};
 
 use crate::error::GatherError;
 use crate::filters::every_row;
@@ -48,9 +48,9 @@ pub fn derive<R: FileReader>(
     ensures input { IsInput R.bytes input.new }
     ensures same { IsSameInput R.bytes input.old input.new }
 
-    // Read comes where the count of faults rose, and Damaged where the file isn't the recorded one or a sum would leave its type.
+    // Read comes where the count of faults rose, and Damaged where the file isn't the recorded one, or a sum of the view's groups really leaves its type with one of the file's rows.
     ensures cause { HasFaultCause (λ e. e ≡ file_error.Read) (R.faults (reader_in input.old)) (R.faults (reader_in input.new)) result }
-    ensures damaged { IfErr result (λ e. (d : AnyDamage) → e ≡ file_error.Damaged d → IsDamaged R.bytes R.size input.old d ⊎ IsSumDamage (index_of input.old.reader).file d) }
+    ensures damaged { IfErr result (λ e. (d : AnyDamage) → e ≡ file_error.Damaged d → IsDamaged R.bytes R.size input.old d ⊎ IfSome (slice_get input.old.evolving.value.views view) (λ v. IsFileSum R.bytes (view_groups (columns_of input.old.evolving.value) v) input.old d)) }
     ensures never { IfErr result (λ e. (d : AnyDamage) → e ≡ file_error.Damaged d → (b : List ℕ) (all : List AnyRow) → R.bytes (reader_in input.old) ≡ Some b → IsIndexed (index_of input.old.reader) all b
         → KeepsSums (columns_of input.old.evolving.value) (map (lift_by input.old) all) → ⊥) }
 {
@@ -77,7 +77,7 @@ fn group_file<R: FileReader>(
     ensures input { IsInput R.bytes input.new }
     ensures same { IsSameInput R.bytes input.old input.new }
     ensures cause { HasFaultCause (λ e. e ≡ file_error.Read) (R.faults (reader_in input.old)) (R.faults (reader_in input.new)) result }
-    ensures damaged { IfErr result (λ e. (d : AnyDamage) → e ≡ file_error.Damaged d → IsDamaged R.bytes R.size input.old d ⊎ IsSumDamage (index_of input.old.reader).file d) }
+    ensures damaged { IfErr result (λ e. (d : AnyDamage) → e ≡ file_error.Damaged d → IsDamaged R.bytes R.size input.old d ⊎ IsFileSum R.bytes (every_group table.now columns.now values.now) input.old d) }
     ensures never { IfErr result (λ e. (d : AnyDamage) → e ≡ file_error.Damaged d → (b : List ℕ) (all : List AnyRow) → R.bytes (reader_in input.old) ≡ Some b → IsIndexed (index_of input.old.reader) all b
         → KeepsSums (columns_of input.old.evolving.value) (map (lift_by input.old) all) → ⊥) }
 {
@@ -98,6 +98,7 @@ fn gather_alone<R: FileReader>(
     requires columns { (wanted_of groups.old).schema ≡ columns_of input.old.evolving.value }
     requires input { IsInput R.bytes input.old }
     requires filter { IsFilterOf input.old filter.now }
+    requires every { filter.now.terms ≡ [] }
     ensures put { OnOk result ((more : List AnyRow) × HasPut groups.new more
         × ((b : List ℕ) (all : List AnyRow) → R.bytes (reader_in input.old) ≡ Some b → IsIndexed (index_of input.old.reader) all b
         → more ≡ filtered (columns_of input.old.evolving.value) filter.now.terms (map (lift_by input.old) all))) }
@@ -105,7 +106,7 @@ fn gather_alone<R: FileReader>(
     ensures input { IsInput R.bytes input.new }
     ensures same { IsSameInput R.bytes input.old input.new }
     ensures cause { HasFaultCause (λ e. e ≡ file_error.Read) (R.faults (reader_in input.old)) (R.faults (reader_in input.new)) result }
-    ensures damaged { IfErr result (λ e. (d : AnyDamage) → e ≡ file_error.Damaged d → IsDamaged R.bytes R.size input.old d ⊎ IsSumDamage (index_of input.old.reader).file d) }
+    ensures damaged { IfErr result (λ e. (d : AnyDamage) → e ≡ file_error.Damaged d → IsDamaged R.bytes R.size input.old d ⊎ IsFileSum R.bytes (wanted_of groups.old) input.old d) }
     ensures never { IfErr result (λ e. (d : AnyDamage) → e ≡ file_error.Damaged d → (b : List ℕ) (all : List AnyRow) → R.bytes (reader_in input.old) ≡ Some b → IsIndexed (index_of input.old.reader) all b
         → KeepsSums (columns_of input.old.evolving.value) (filtered (columns_of input.old.evolving.value) filter.now.terms (map (lift_by input.old) all)) → ⊥) }
 {

@@ -7,7 +7,7 @@ ghost use Rattle.mesa_schema.specs.Rows.{AreRowsOf, IsRowOf};
 ghost use Rattle.mesa_delta.specs.declared.error.FileError.TheVariants as file_error;
 ghost use Rattle.mesa_answer.specs.Answering.{KeepsSums};
 ghost use Rattle.mesa_answer.specs.Gathered.{HasPut, key_at_hand, wanted_of};
-ghost use Rattle.mesa_answer.specs.Sums.{SumLeavesAmong};
+ghost use Rattle.mesa_answer.specs.Sums.{SumLeaves, SumLeavesAmong};
 ghost use Rattle.mesa_answer.specs.declared.error.GroupError.TheVariants as group_error;
 ghost use Rattle.mesa_view.specs.SumDamage.{IsSumDamage};
 
@@ -24,9 +24,11 @@ pub fn put_row(groups: &mut Groups, file: FileId, row: LentRow) -> Result<(), Fi
     ensures put { OnOk result ((given : List AnyRow) → HasPut groups.old given → HasPut groups.new (given ++ lent row.entry ∷ [])) }
     ensures wanted { wanted_of groups.new ≡ wanted_of groups.old }
 
-    // Nothing is read here, and damage is a sum, which leaves its type only where the absolute values of the rows may add up to more than it holds.
+    // Nothing is read here, and damage is a sum, which really leaves its type with this row: that of the group whose key is at hand then,
     ensures unread { IfErr result (λ e. e ≢ file_error.Read) }
     ensures damaged { IfErr result (λ e. (d : AnyDamage) → e ≡ file_error.Damaged d → IsSumDamage file d) }
+    ensures leaves { IfErr result (λ e. (d : AnyDamage) → e ≡ file_error.Damaged d → (given : List AnyRow) → HasPut groups.old given → SumLeaves (wanted_of groups.old) given (lent row.entry) (key_at_hand groups.new)) }
+    // and only where the absolute values of the rows may add up to more than it holds.
     ensures never { IfErr result (λ e. (d : AnyDamage) → e ≡ file_error.Damaged d → (given : List AnyRow) → HasPut groups.old given → KeepsSums (wanted_of groups.old).schema (given ++ lent row.entry ∷ []) → ⊥) }
 {
     match groups.put(row) {

@@ -1,4 +1,4 @@
-use Rattle.std.proofs.Common.{◌≡◌, ◌∙◌, ◌-◌, ◌^◌, List, ap, subst, sym, arith}
+use Rattle.std.proofs.Common.{◌≡◌, ◌∙◌, ◌-◌, ◌^◌, List, ap, subst, sym, arith, inl, inr}
 use Rattle.std.proofs.lemmas.Result.{err_from_is_err_and}
 use Rattle.std.specs.Prelude.{map}
 use Rattle.mesa_schema.specs.Changes.{columns_of}
@@ -12,6 +12,7 @@ use Rattle.mesa_answer.specs.Answering.{KeepsSums, grouped_columns}
 use Rattle.mesa_answer.specs.Gathered.{wanted_of}
 use Rattle.mesa_answer.specs.Gathering.{Wanted}
 use Rattle.mesa_answer.proofs.Steps.{all_groups}
+use Rattle.mesa_view.specs.SumDamage.{IsFileSum}
 use Rattle.mesa_view.proofs.Blocks.{every_passes}
 use Rattle.mesa_view.proofs.derived.group_file.Goals as goal
 
@@ -23,6 +24,14 @@ returns-in_err-gather_alone-clause-never g c =
     let rows = map (lift_by c.args.input.now) all in
     let every : filtered s c.in_ok-filter.filter.terms rows ≡ rows = ap (λ (terms : List Term). filtered s terms rows) c.in_ok-filter.ensures.terms ∙ every_passes s rows in
     c.in_err-gather_alone.ensures.never d e b all told indexed (subst (KeepsSums s) (sym every) keeps))
+
+pub returns-in_err-gather_alone-clause-damaged : goal.returns-in_err-gather_alone-clause-damaged
+returns-in_err-gather_alone-clause-damaged g c =
+    let p = err_from_is_err_and c.from_residual-in_err-gather_alone.result c.from_residual-in_err-gather_alone.ensures.1 in
+    rw (p.1, p.2) (λ d e. elim (c.in_err-gather_alone.ensures.damaged d e) [
+      | inl damaged ↦ inl damaged
+      | inr sum ↦ inr (subst (λ (w : Wanted). IsFileSum g.R.FileReader.bytes w c.args.input.now d) c.in_ok-groups.ensures.wanted sum)
+    ])
 
 pub into_rows-requires : goal.into_rows-requires
 into_rows-requires g c =
