@@ -1,6 +1,7 @@
 pub mod Joined
 pub mod Written
-pub mod Rising
+pub mod Cuts
+pub mod Buffers
 pub mod Loans
 pub mod Verdicts
 pub mod Splitting

@@ -1,10 +1,11 @@
 -- Rows that are written behind others.
 use Rattle.std.proofs.Common.{◌≡◌, ℕ, zero, suc, ◌+◌, ◌<◌, List, [], ◌∷◌, ◌++◌, refl, sym, ◌∙◌, ap, subst, length, get_or, take, arith, append_assoc, add-one, true}
-use Rattle.std.specs.Prelude.{drop, nat_abs, pos, Result}
+use Rattle.std.specs.Prelude.{drop, nat_abs, pos, Result, Some, slice_get}
 use Rattle.std.specs.List.{AllByRecursion}
 use Rattle.std.specs.Ordering.{is_lt}
 use Rattle.std.proofs.lemmas.Bool.{and_from, and_parts}
 use Rattle.std.proofs.lemmas.List.{append-nil, take-append-drop}
+use Rattle.std.proofs.lemmas.Option.{get_or_from_slice_get, slice_get_within}
 use Rattle.std.proofs.lemmas.List.Sums.{sum_by-append}
 use Rattle.mesa_key.specs.Order.{byte_cmp}
 use Rattle.mesa_schema.specs.declared.rows.Row.{Row}
@@ -16,7 +17,7 @@ use Rattle.mesa_answer.specs.Answering.{KeepsSums}
 use Rattle.mesa_split.specs.Parts.{gained, joined}
 
 -- the rows up to one more
-pub take_one : (rows : List Row) (i : ℕ) (row : Row) → i < length rows → row ≡ get_or rows i row → take (i + 1) rows ≡ take i rows ++ row ∷ []
+take_one : (rows : List Row) (i : ℕ) (row : Row) → i < length rows → row ≡ get_or rows i row → take (i + 1) rows ≡ take i rows ++ row ∷ []
 take_one rows i row lt is = rw add-one (steps rows i row lt is) where
   steps : (rows : List Row) (i : ℕ) (row : Row) → i < length rows → row ≡ get_or rows i row → take (suc i) rows ≡ take i rows ++ row ∷ []
   steps [] i row lt is = absurd (omega arith)
@@ -44,7 +45,7 @@ up_to given rows i h =
       whole [] (suc i) = refl
       whole (x ∷ xs) (suc i) = ap (λ ys. x ∷ ys) (whole xs i)
 
-pub all_at : (P : Row → Type 0) (rows : List Row) (i : ℕ) (d : Row) → AllByRecursion P rows → i < length rows → P (get_or rows i d)
+all_at : (P : Row → Type 0) (rows : List Row) (i : ℕ) (d : Row) → AllByRecursion P rows → i < length rows → P (get_or rows i d)
 all_at P [] i d all lt = absurd (omega arith)
 all_at P (x ∷ xs) zero d all lt = all.0
 all_at P (x ∷ xs) (suc i) d all lt = all_at P xs i d all.1 (omega arith)
@@ -58,12 +59,22 @@ pub sums_front : (s : Columns) (xs ys : List Row) → KeepsSums s (xs ++ ys) →
 sums_front s xs ys h = λ c p. omega (arith, h c p, total_append c xs ys)
 
 -- of rows whose sums stay in their type those up to one more, behind others
-pub sums_behind : (s : Columns) (given rows : List Row) (i : ℕ) (row : Row) → i < length rows → row ≡ get_or rows i row → KeepsSums s (given ++ rows) → KeepsSums s ((given ++ take i rows) ++ row ∷ [])
+sums_behind : (s : Columns) (given rows : List Row) (i : ℕ) (row : Row) → i < length rows → row ≡ get_or rows i row → KeepsSums s (given ++ rows) → KeepsSums s ((given ++ take i rows) ++ row ∷ [])
 sums_behind s given rows i row lt is keeps =
     let n = i + 1 in
     let whole : given ++ rows ≡ (given ++ take n rows) ++ drop n rows = sym (append_assoc given (take n rows) (drop n rows) ∙ ap (λ rs. given ++ rs) (take-append-drop n rows)) in
     let more : given ++ take n rows ≡ (given ++ take i rows) ++ row ∷ [] = ap (λ rs. given ++ rs) (take_one rows i row lt is) ∙ sym (append_assoc given (take i rows) (row ∷ [])) in
     subst (KeepsSums s) more (sums_front s (given ++ take n rows) (drop n rows) (subst (KeepsSums s) whole keeps))
+
+-- the same of the row at a place
+pub take_there : (rows : List Row) (i : ℕ) (row : Row) → slice_get rows i ≡ Some row → take (i + 1) rows ≡ take i rows ++ row ∷ []
+take_there rows i row at = take_one rows i row (slice_get_within rows i row at) (sym (get_or_from_slice_get rows i row row at))
+
+pub there_of : (P : Row → Type 0) (rows : List Row) (i : ℕ) (row : Row) → AllByRecursion P rows → slice_get rows i ≡ Some row → P row
+there_of P rows i row all at = subst P (get_or_from_slice_get rows i row row at) (all_at P rows i row all (slice_get_within rows i row at))
+
+pub sums_there : (s : Columns) (given rows : List Row) (i : ℕ) (row : Row) → slice_get rows i ≡ Some row → KeepsSums s (given ++ rows) → KeepsSums s ((given ++ take i rows) ++ row ∷ [])
+sums_there s given rows i row at keeps = sums_behind s given rows i row (slice_get_within rows i row at) (sym (get_or_from_slice_get rows i row row at)) keeps
 
 -- ---- parts
 

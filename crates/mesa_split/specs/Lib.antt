@@ -3,4 +3,5 @@ pub mod Parts
 pub mod Lending
 pub mod Written
 pub mod Split
+pub mod Sampling
 pub mod Laws

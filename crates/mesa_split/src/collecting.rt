@@ -1,11 +1,10 @@
 // The rows of inputs between two keys.
-ghost use Rattle.std.specs.Prelude.{◌≡◌, ◌++◌, ◌∷◌, [], ℕ, List, Option, IfErr, IfOk, OnOk};
+ghost use Rattle.std.specs.Prelude.{◌≡◌, [], ℕ, List, Option, IfErr, IfOk};
 ghost use Rattle.std.specs.List.{AllByRecursion};
 ghost use Rattle.mesa_file.specs.declared.damage.Damage.{Damage as AnyDamage};
 ghost use Rattle.mesa_schema.specs.declared.rows.Row.{Row as AnyRow};
 ghost use Rattle.mesa_schema.specs.Columns.{Columns, aggs_of};
 ghost use Rattle.mesa_schema.specs.Folded.{folded, rows_of};
-ghost use Rattle.mesa_schema.specs.Lent.{lent};
 ghost use Rattle.mesa_fold.specs.Bound.{KeepsBound};
 ghost use Rattle.mesa_delta.specs.declared.error.FileError.TheVariants as file_error;
 ghost use Rattle.mesa_cursor.specs.Cursors.{IsInput};
@@ -15,13 +14,13 @@ ghost use Rattle.mesa_merge.specs.Inputs.{AreInputs, AreTold, knowns_of, lifted_
 ghost use Rattle.mesa_merge.specs.Merged.{HasMergedBetween, inputs_of};
 ghost use Rattle.mesa_split.specs.Parts.{HasCut, IsPartOf};
 
+use crate::flat::FlatRows;
 use mesa_delta::{FileError, Input};
 use mesa_disk::FileReader;
 use mesa_key::KeyBytes;
-use mesa_list::Items;
 use mesa_merge::Merge;
-use mesa_schema::{LentRow, Row, RowList, Schema, folds_by_key};
-use std::alloc::{AllocError, Global};
+use mesa_schema::{Schema, folds_by_key};
+use std::alloc::Global;
 
 /// The rows of inputs between two keys, and the inputs again. At most a block of each input is held beside these rows.
 pub(crate) fn cut_rows<R: FileReader>(
@@ -30,7 +29,7 @@ pub(crate) fn cut_rows<R: FileReader>(
     inputs: Vec<Input<R>>,
     low: Option<KeyBytes>,
     high: Option<KeyBytes>,
-) -> (Vec<Input<R>>, Result<RowList, FileError>)
+) -> (Vec<Input<R>>, Result<FlatRows, FileError>)
     requires { AreInputs R.bytes schema.now inputs.items }
     ensures { HasCut R.bytes R.faults R.size schema.now low high inputs.items result.0.items result.1 }
 {
@@ -44,7 +43,7 @@ pub(crate) fn cut_rows<R: FileReader>(
 }
 
 // All rows of a merge that has given none yet. They are fewer than a number of 64 bits can count.
-fn collect<R: FileReader>(alloc: Global, merge: &mut Merge<R>) -> Result<RowList, FileError>
+fn collect<R: FileReader>(alloc: Global, merge: &mut Merge<R>) -> Result<FlatRows, FileError>
     requires { (low : Option (List ℕ)) × (high : Option (List ℕ)) × (s : Columns) × (givens : List (List AnyRow)) × HasMergedBetween R.bytes low high s merge.old givens × (folded (aggs_of s) givens ≡ []) }
     ensures rows { IfOk result (λ rows. (low high : Option (List ℕ)) (s : Columns) (givens : List (List AnyRow)) → HasMergedBetween R.bytes low high s merge.old givens → folded (aggs_of s) givens ≡ []
         → IsPartOf s low high (knowns_of R.bytes (inputs_of merge.old)) rows) }
@@ -56,7 +55,7 @@ fn collect<R: FileReader>(alloc: Global, merge: &mut Merge<R>) -> Result<RowList
         → (contents : List (List AnyRow)) → AreTold (knowns_of R.bytes (inputs_of merge.old)) contents → KeepsBound (aggs_of s) [] (rows_of (lifted_parts (knowns_of R.bytes (inputs_of merge.old)) contents)) → ⊥) }
 {
     folds_by_key();
-    let mut rows = Items::new(alloc);
+    let mut rows = FlatRows::new(alloc);
     'rows: for _ in 0..u64::MAX {
         let more = match merge.next() {
             Ok(more) => more,
@@ -65,18 +64,9 @@ fn collect<R: FileReader>(alloc: Global, merge: &mut Merge<R>) -> Result<RowList
         if !more {
             return Ok(rows);
         }
-        let Ok(()) = add_row(alloc, &mut rows, merge.row()) else {
+        let Ok(()) = rows.push(merge.row()) else {
             return Err(FileError::Memory);
         };
     }
     Err(FileError::Memory)
-}
-
-// Adds a copy of a row.
-fn add_row(alloc: Global, rows: &mut RowList, row: LentRow) -> Result<(), AllocError>
-    ensures { OnOk result (rows.new ≡ rows.old ++ lent row.entry ∷ []) }
-{
-    let mut copy = Row::empty(alloc);
-    copy.fill(row)?;
-    rows.push(copy)
 }

@@ -10,13 +10,14 @@ ghost use Rattle.mesa_compact.specs.Grouping.{HavePut, TakesRows, wanted_in};
 ghost use Rattle.mesa_compact.specs.Writing.{HasCauses, damaged_by};
 ghost use Rattle.mesa_split.specs.Parts.{joined};
 
+use crate::flat::FlatRows;
 use crate::writing::write_parts;
 use mesa_answer::Groups;
 use mesa_compact::{begin_file, end_file, give_up};
 use mesa_delta::FileError;
 use mesa_disk::{Bench, Made};
 use mesa_file::FileId;
-use mesa_schema::{RowList, Schema};
+use mesa_schema::Schema;
 use mesa_tasks::{CompactError, MadeFile};
 use std::alloc::Global;
 
@@ -26,7 +27,7 @@ pub(crate) fn parts_file<M: Made, B: Bench<M>>(
     bench: &mut B,
     id: FileId,
     schema: &Schema,
-    parts: &[Result<RowList, FileError>],
+    parts: &[Result<FlatRows, FileError>],
     groups: &mut [Option<Groups>],
     newest: FileId,
 ) -> Result<MadeFile<M>, CompactError>
@@ -45,7 +46,7 @@ pub(crate) fn parts_file<M: Made, B: Bench<M>>(
         Ok(writer) => writer,
         Err(error) => return Err(error),
     };
-    match write_parts(&mut writer, parts, groups, newest) {
+    match write_parts(alloc, &mut writer, parts, groups, newest) {
         Ok(()) => end_file(bench, writer),
         Err(error) => {
             give_up(bench, writer);

@@ -20,11 +20,12 @@ ghost use Rattle.mesa_compact.specs.Damaged.{IsMergeDamage};
 ghost use Rattle.mesa_split.specs.Parts.{gained, joined};
 ghost use Rattle.mesa_split.specs.Split.{IsFailureOf, IsGained, IsNotBy, IsSomeBy, IsSpareDamage};
 
+use crate::flat::FlatRows;
 use crate::lending::merged_parts;
 use mesa_delta::{FileError, Input};
 use mesa_disk::FileReader;
 use mesa_fold::folds_totals;
-use mesa_schema::{Evolving, KeyList, RowList};
+use mesa_schema::{Evolving, KeyList};
 use mesa_tasks::Spare;
 use std::alloc::Global;
 use std::thread::Threads;
@@ -37,7 +38,7 @@ pub(crate) fn parts_of<T: Threads + Sync, R: FileReader>(
     cuts: &KeyList,
     inputs: &mut Vec<Input<R>>,
     spare: &mut [Spare<R>],
-) -> Result<Vec<Result<RowList, FileError>>, FileError>
+) -> Result<Vec<Result<FlatRows, FileError>>, FileError>
     requires cuts { CutsRise None cuts.now }
     requires few { length cuts.now ≤ length spare.old }
     requires inputs { AreInputsOf R.bytes evolving.now inputs.old.items }
@@ -73,7 +74,7 @@ pub(crate) fn parts_of<T: Threads + Sync, R: FileReader>(
 }
 
 // Why not all parts were merged: a failed read where there is one, since its reader has counted it, and else the first part's error.
-fn failure(parts: &[Result<RowList, FileError>]) -> Option<FileError>
+fn failure(parts: &[Result<FlatRows, FileError>]) -> Option<FileError>
     ensures { IsFailureOf parts.now result }
 {
     if has_failed_read(parts) {
@@ -82,7 +83,7 @@ fn failure(parts: &[Result<RowList, FileError>]) -> Option<FileError>
     first_error(parts)
 }
 
-fn has_failed_read(parts: &[Result<RowList, FileError>]) -> bool
+fn has_failed_read(parts: &[Result<FlatRows, FileError>]) -> bool
     ensures some { result ≡ true → IsSomeBy file_error.Read parts.now }
     ensures none { result ≡ false → AllByRecursion (IsNotBy file_error.Read) parts.now }
 {
@@ -94,7 +95,7 @@ fn has_failed_read(parts: &[Result<RowList, FileError>]) -> bool
     false
 }
 
-fn is_failed_read(part: &Result<RowList, FileError>) -> bool
+fn is_failed_read(part: &Result<FlatRows, FileError>) -> bool
     ensures some { result ≡ true → part.now ≡ Err file_error.Read }
     ensures none { result ≡ false → IsNotBy file_error.Read part.now }
 {
@@ -107,7 +108,7 @@ fn is_failed_read(part: &Result<RowList, FileError>) -> bool
 }
 
 // The error of the first part that has one.
-fn first_error(parts: &[Result<RowList, FileError>]) -> Option<FileError>
+fn first_error(parts: &[Result<FlatRows, FileError>]) -> Option<FileError>
     ensures some { IfSome result (λ e. IsSomeBy e parts.now) }
     ensures none { IfNone result (AllByRecursion IsGained parts.now) }
 {
@@ -119,7 +120,7 @@ fn first_error(parts: &[Result<RowList, FileError>]) -> Option<FileError>
     None
 }
 
-fn error_of(part: &Result<RowList, FileError>) -> Option<FileError>
+fn error_of(part: &Result<FlatRows, FileError>) -> Option<FileError>
     ensures some { IfSome result (λ e. part.now ≡ Err e) }
     ensures none { IfNone result (IsGained part.now) }
 {
@@ -130,7 +131,7 @@ fn error_of(part: &Result<RowList, FileError>) -> Option<FileError>
 }
 
 /// Whether no part has a row.
-pub(crate) fn are_empty(parts: &[Result<RowList, FileError>]) -> bool
+pub(crate) fn are_empty(parts: &[Result<FlatRows, FileError>]) -> bool
     ensures empty { result ≡ true → joined parts.now ≡ [] }
     ensures some { result ≡ false → 0 < length (joined parts.now) }
 {
@@ -142,7 +143,7 @@ pub(crate) fn are_empty(parts: &[Result<RowList, FileError>]) -> bool
     true
 }
 
-fn has_rows(part: &Result<RowList, FileError>) -> bool
+fn has_rows(part: &Result<FlatRows, FileError>) -> bool
     ensures some { result ≡ true → 0 < length (gained part.now) }
     ensures none { result ≡ false → gained part.now ≡ [] }
 {

@@ -6,11 +6,12 @@ ghost use Rattle.mesa_tasks.specs.declared.merging.Spare.{Spare as AnySpare};
 ghost use Rattle.mesa_split.specs.Lending.{AreEmpty, AreLent, answers_of, items_of, lists_in, lists_of, returned, views_of};
 ghost use Rattle.mesa_split.specs.Parts.{HaveCut};
 
+use crate::flat::FlatRows;
 use crate::parts::{Part, merge_parts};
 use mesa_delta::{FileError, Input};
 use mesa_disk::FileReader;
 use mesa_key::KeyBytes;
-use mesa_schema::{RowList, Schema};
+use mesa_schema::Schema;
 use mesa_tasks::Spare;
 use std::alloc::{AllocError, Global};
 use std::collections::VecDeque;
@@ -25,7 +26,7 @@ pub(crate) fn merged_parts<T: Threads + Sync, R: FileReader>(
     cuts: &[KeyBytes],
     inputs: &mut Vec<Input<R>>,
     spare: &mut [Spare<R>],
-) -> Result<Vec<Result<RowList, FileError>>, AllocError>
+) -> Result<Vec<Result<FlatRows, FileError>>, AllocError>
     requires few { length cuts.now ≤ length spare.old }
     requires inputs { AreInputs R.bytes schema.now inputs.old.items }
     requires spare { AllByRecursion (λ (s : AnySpare R). AreInputs R.bytes schema.now s.inputs.items) spare.old }
@@ -92,8 +93,8 @@ fn give_back<R: FileReader>(
     further: usize,
     inputs: &mut Vec<Input<R>>,
     spare: &mut [Spare<R>],
-    mut answers: Vec<Result<RowList, FileError>>,
-) -> Vec<Result<RowList, FileError>>
+    mut answers: Vec<Result<FlatRows, FileError>>,
+) -> Vec<Result<FlatRows, FileError>>
     requires count { length parts.items ≡ further + 1 }
     requires few { further ≤ length spare.old }
     requires empty { AreEmpty (further + 1) (lists_of inputs.old spare.old) }
@@ -119,7 +120,7 @@ fn give_back<R: FileReader>(
 }
 
 // What came of a part, whose inputs take the place of none.
-fn taken<R: FileReader>(part: Part<R>, inputs: &mut Vec<Input<R>>) -> Result<RowList, FileError>
+fn taken<R: FileReader>(part: Part<R>, inputs: &mut Vec<Input<R>>) -> Result<FlatRows, FileError>
     requires { inputs.old.items ≡ [] }
     ensures answer { result ≡ part.rows }
     ensures inputs { inputs.new ≡ part.inputs }
@@ -131,7 +132,7 @@ fn taken<R: FileReader>(part: Part<R>, inputs: &mut Vec<Input<R>>) -> Result<Row
 }
 
 // What came of a part, whose inputs go to a spare that has none.
-fn spare_taken<R: FileReader>(part: Part<R>, spare: &mut Spare<R>) -> Result<RowList, FileError>
+fn spare_taken<R: FileReader>(part: Part<R>, spare: &mut Spare<R>) -> Result<FlatRows, FileError>
     requires { spare.old.inputs.items ≡ [] }
     ensures answer { result ≡ part.rows }
     ensures inputs { spare.new.inputs ≡ part.inputs }

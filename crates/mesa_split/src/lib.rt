@@ -3,6 +3,7 @@
 
 mod collecting;
 mod files;
+mod flat;
 mod judging;
 mod laws;
 mod lending;

@@ -7,11 +7,12 @@ ghost use Rattle.mesa_split.specs.Parts.{HasCut};
 ghost use Rattle.mesa_split.specs.declared.parts.Part.{Part as AnyPart};
 
 use crate::collecting::cut_rows;
+use crate::flat::FlatRows;
 use mesa_delta::{FileError, Input};
 use mesa_disk::FileReader;
 use mesa_key::KeyBytes;
 use mesa_list::TryCopy;
-use mesa_schema::{RowList, Schema};
+use mesa_schema::Schema;
 use std::alloc::{AllocError, Global};
 use std::thread::Threads;
 use std::{mem, thread};
@@ -22,7 +23,7 @@ const THREADS: usize = 8;
 /// A part of a range: readers of all its files, and its rows once they are merged.
 pub(crate) struct Part<R> {
     pub(crate) inputs: Vec<Input<R>>,
-    pub(crate) rows: Result<RowList, FileError>,
+    pub(crate) rows: Result<FlatRows, FileError>,
 }
 
 /// Merges the parts at these cuts side by side, in a few threads. Each part's merge holds at most a block of each of its inputs.
@@ -68,7 +69,7 @@ fn rows_at<R: FileReader>(
     cuts: &[KeyBytes],
     place: usize,
     inputs: Vec<Input<R>>,
-) -> (Vec<Input<R>>, Result<RowList, FileError>)
+) -> (Vec<Input<R>>, Result<FlatRows, FileError>)
     requires { AreInputs R.bytes schema.now inputs.items }
     ensures { HasCut R.bytes R.faults R.size schema.now (low_at None cuts.now place) (slice_get cuts.now place) inputs.items result.0.items result.1 }
 {

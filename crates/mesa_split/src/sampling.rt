@@ -1,8 +1,8 @@
 // Keys at which a range is cut into parts.
-ghost use Rattle.std.specs.Prelude.{◌≡◌, ◌≤◌, ◌-◌, ◌+◌, ◌++◌, ◌∷◌, [], true, IfOk, OnOk, None, length};
-ghost use Rattle.std.specs.declared.cmp.Ordering.TheVariants.{Less};
-ghost use Rattle.mesa_key.specs.Order.{byte_cmp};
+ghost use Rattle.std.specs.Prelude.{◌≡◌, ◌≤◌, ◌<◌, ◌-◌, ◌⊎◌, [], IfNone, IfOk, IfSome, OnOk, None, length};
+ghost use Rattle.mesa_delta.specs.Places.{shorts_of};
 ghost use Rattle.mesa_cursor.specs.Cut.{CutsRise};
+ghost use Rattle.mesa_split.specs.Sampling.{AreCutsOf, HasMost, end_of, indexes_of, lies_above, part_key, risen, spread, with_key};
 
 use mesa_delta::{Index, Input};
 use mesa_disk::FileReader;
@@ -10,7 +10,6 @@ use mesa_key::{KeyBytes, compare};
 use mesa_list::Items;
 use mesa_schema::KeyList;
 use std::alloc::{AllocError, Global};
-use std::cmp::Ordering;
 
 /// The keys that divide the rows of inputs into at most so many parts: short keys of blocks of the input with the most of them, at equal distances. Equal ones are left out, so there may be fewer parts.
 pub fn sample<R: FileReader>(
@@ -18,65 +17,83 @@ pub fn sample<R: FileReader>(
     inputs: &[Input<R>],
     parts: u8,
 ) -> Result<KeyList, AllocError>
+    ensures cuts { IfOk result (λ cuts. AreCutsOf (indexes_of inputs.now) parts cuts) }
     ensures few { IfOk result (λ cuts. length cuts ≤ parts - 1) }
     ensures rise { IfOk result (λ cuts. CutsRise None cuts) }
 {
-    let mut most: Option<&Index> = None;
-    'inputs: for input in inputs {
-        let index = input.reader.index();
-        if most.is_none_or(|other| other.blocks() < index.blocks()) {
-            most = Some(index);
-        }
-    }
-    match most {
+    match most_blocks(inputs) {
         Some(index) => sample_index(alloc, index, parts),
         None => Ok(Items::new(alloc)),
     }
 }
 
-// Short keys of an index at equal distances.
+// The index with the most blocks, and the first one of those that have as many; none where there are no inputs.
+fn most_blocks<R: FileReader>(inputs: &[Input<R>]) -> Option<&Index>
+    ensures most { IfSome result (λ index. HasMost (indexes_of inputs.now) index.now) }
+    ensures none { IfNone result (indexes_of inputs.now ≡ []) }
+{
+    let mut most: Option<&Index> = None;
+    'inputs: for input in inputs {
+        most = Some(longer(most, input.reader.index()));
+    }
+    most
+}
+
+// The index with more blocks; the first one where both have as many.
+fn longer<'a>(first: Option<&'a Index>, other: &'a Index) -> &'a Index
+    ensures alone { IfNone first.entry (result.now ≡ other.now) }
+    ensures one { IfSome first.entry (λ index. (result.now ≡ other.now) ⊎ (result.now ≡ index.now)) }
+    ensures most { IfSome first.entry (λ index. (length other.now.entries ≤ length result.now.entries) × (length index.now.entries ≤ length result.now.entries)) }
+{
+    match first {
+        Some(index) => {
+            if index.blocks() < other.blocks() {
+                other
+            } else {
+                index
+            }
+        }
+        None => other,
+    }
+}
+
+// Short keys of an index at equal distances, each once.
 fn sample_index(alloc: Global, index: &Index, parts: u8) -> Result<KeyList, AllocError>
-    ensures few { IfOk result (λ cuts. length cuts ≤ parts - 1) }
-    ensures rise { IfOk result (λ cuts. CutsRise None cuts) }
+    ensures { IfOk result (λ cuts. cuts ≡ risen None (spread parts (shorts_of index.now.entries))) }
 {
     let mut cuts: KeyList = Items::new(alloc);
     'parts: for part in 1..parts {
-        let block = u64::from(index.blocks()) * u64::from(part) / u64::from(parts);
-        let key = Items::from_bytes(alloc, index.short(block as u32))?;
+        let key = Items::from_bytes(alloc, first_short(index, part, parts))?;
         add_cut(&mut cuts, key)?;
     }
     Ok(cuts)
 }
 
+// The short key with which a part begins, of so many into which the blocks are divided.
+fn first_short(index: &Index, part: u8, parts: u8) -> &[u8; 16]
+    requires { part < parts }
+    ensures { result.now ≡ part_key parts (shorts_of index.now.entries) part }
+{
+    let block = u64::from(index.blocks()) * u64::from(part) / u64::from(parts);
+    index.short(block as u32)
+}
+
 // Adds a key that is above all cuts so far; any other is left out.
 fn add_cut(cuts: &mut KeyList, key: KeyBytes) -> Result<(), AllocError>
-    requires { CutsRise None cuts.old }
-    ensures few { OnOk result (length cuts.new ≤ length cuts.old + 1) }
-    ensures rise { OnOk result (CutsRise None cuts.new) }
+    ensures { OnOk result (cuts.new ≡ with_key None cuts.old key) }
 {
-    if !is_above(cuts.as_slice(), key.as_slice()) {
-        return Ok(());
+    if is_above(cuts.as_slice(), key.as_slice()) {
+        cuts.push(key)?;
     }
-    cuts.push(key)?;
     Ok(())
 }
 
-// Whether a key is above all of these cuts.
+// Whether a key is above the last of these cuts.
 fn is_above(cuts: &[KeyBytes], key: &[u8]) -> bool
-    ensures { result ≡ true → CutsRise None cuts.now → CutsRise None (cuts.now ++ key.now ∷ []) }
+    ensures { result ≡ lies_above (end_of None cuts.now) key.now }
 {
     match cuts.last() {
-        Some(last) => is_less(last.as_slice(), key),
+        Some(last) => compare(last.as_slice(), key).is_lt(),
         None => true,
-    }
-}
-
-fn is_less(key: &[u8], other: &[u8]) -> bool
-    ensures { result ≡ true → byte_cmp key.now other.now ≡ Less }
-{
-    match compare(key, other) {
-        Ordering::Less => true,
-        Ordering::Equal => false,
-        Ordering::Greater => false,
     }
 }

@@ -20,12 +20,13 @@ ghost use Rattle.mesa_split.specs.Parts.{joined};
 ghost use Rattle.mesa_split.specs.Split.{IsPartsDamage, IsSplitDamage};
 
 use crate::files::parts_file;
+use crate::flat::FlatRows;
 use crate::judging::{are_empty, parts_of};
 use mesa_compact::{gatherers_of, newest_of, regroupings, view_files};
 use mesa_delta::FileError;
 use mesa_disk::{Bench, FileReader, Made};
 use mesa_file::FileId;
-use mesa_schema::{Evolving, KeyList, RowList};
+use mesa_schema::{Evolving, KeyList};
 use mesa_tasks::{CompactError, MadeFiles, NewDelta, Serials, Task, TaskView};
 use std::alloc::Global;
 use std::thread::Threads;
@@ -130,7 +131,7 @@ fn write_files<M: Made, B: Bench<M>, R: FileReader>(
     bench: &mut B,
     ids: &mut Serials,
     evolving: &Evolving,
-    parts: &[Result<RowList, FileError>],
+    parts: &[Result<FlatRows, FileError>],
     newest: FileId,
     views: &mut [TaskView<R>],
 ) -> Result<MadeFiles<M>, CompactError>

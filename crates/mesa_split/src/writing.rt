@@ -12,18 +12,20 @@ ghost use Rattle.mesa_compact.specs.Writing.{HasCauses, damaged_by};
 ghost use Rattle.mesa_split.specs.Parts.{gained, joined};
 ghost use Rattle.mesa_split.specs.Written.{HasPoured};
 
+use crate::flat::FlatRows;
 use mesa_answer::Groups;
 use mesa_compact::{put_all, sum_fault};
 use mesa_delta::{DeltaWriter, FileError};
 use mesa_disk::{Draft, Made};
 use mesa_file::FileId;
-use mesa_schema::{Row, RowList};
 use mesa_tasks::CompactError;
+use std::alloc::Global;
 
 /// Gives a writer the rows of parts, one part after the other, and puts them into the groups. A total that leaves its type is told of this file.
 pub(crate) fn write_parts<M: Made, T: Draft<M>>(
+    alloc: Global,
     writer: &mut DeltaWriter<M, T>,
-    parts: &[Result<RowList, FileError>],
+    parts: &[Result<FlatRows, FileError>],
     groups: &mut [Option<Groups>],
     newest: FileId,
 ) -> Result<(), CompactError>
@@ -39,8 +41,9 @@ pub(crate) fn write_parts<M: Made, T: Draft<M>>(
     ensures causes { (reads : List ℕ) → HasCauses (T.faults (draft_of writer.old)) (T.faults (draft_of writer.new)) reads reads (λ d. d ≡ sum_damage newest) result }
     ensures accepts { IfErr result (λ e. (d : AnyDamage) → e ≡ damaged_by d → KeepsSums (columns_of writer.old) (joined parts.now) → ⊥) }
 {
+    let none = FlatRows::new(alloc);
     'parts: for part in parts {
-        match write_rows(writer, rows_of_part(part), groups, newest) {
+        match write_rows(writer, rows_of_part(part, &none), groups, newest) {
             Ok(()) => {}
             Err(error) => return Err(error),
         }
@@ -49,19 +52,20 @@ pub(crate) fn write_parts<M: Made, T: Draft<M>>(
 }
 
 // The rows of a part; none where it has failed.
-fn rows_of_part(part: &Result<RowList, FileError>) -> &[Row]
+fn rows_of_part<'a>(part: &'a Result<FlatRows, FileError>, none: &'a FlatRows) -> &'a FlatRows
+    requires { none.now ≡ [] }
     ensures { result.now ≡ gained part.now }
 {
     match part {
-        Ok(rows) => rows.as_slice(),
-        Err(_) => &[],
+        Ok(rows) => rows,
+        Err(_) => none,
     }
 }
 
 // Gives a writer more rows, and puts them into the groups.
 fn write_rows<M: Made, T: Draft<M>>(
     writer: &mut DeltaWriter<M, T>,
-    rows: &[Row],
+    rows: &FlatRows,
     groups: &mut [Option<Groups>],
     newest: FileId,
 ) -> Result<(), CompactError>
@@ -76,8 +80,8 @@ fn write_rows<M: Made, T: Draft<M>>(
     ensures causes { (reads : List ℕ) → HasCauses (T.faults (draft_of writer.old)) (T.faults (draft_of writer.new)) reads reads (λ d. d ≡ sum_damage newest) result }
     ensures accepts { IfErr result (λ e. (d : AnyDamage) → e ≡ damaged_by d → (given : List AnyRow) → HasPoured T.bytes writer.old groups.old given → IsTrue (keys_rise (given ++ rows.now)) → KeepsSums (columns_of writer.old) (given ++ rows.now) → ⊥) }
 {
-    'rows: for row in rows {
-        let next = row.lend();
+    'rows: for i in 0..rows.len() {
+        let next = rows.row(i);
         if !writer.allows(next) {
             return Err(sum_fault(newest));
         }

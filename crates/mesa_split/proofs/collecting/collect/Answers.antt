@@ -12,6 +12,7 @@ use Rattle.mesa_merge.specs.Inputs.{AreTold, knowns_of, lifted_parts}
 use Rattle.mesa_merge.specs.Merged.{HasMergedBetween, failed_of, inputs_of}
 use Rattle.mesa_compact.proofs.Poured.{if_none_from}
 use Rattle.mesa_split.proofs.Collected.{all_one_more, failed_cause, gained_cause, goes_between, memory_caused}
+use Rattle.mesa_split.proofs.Buffers.{as_long}
 use Rattle.mesa_split.proofs.collecting.collect.Goals as goal
 
 pub rows-init : goal.rows-init
@@ -29,6 +30,15 @@ next-requires-after_bounds g c = λ _ _.
     let all : (low : Option (List ℕ)) × (high : Option (List ℕ)) × (s : Columns) × (givens : List (List Row)) × HasMergedBetween g.R.FileReader.bytes low high s c.rows.merge givens = (start.0, start.1, start.2, now.0, now.1) in
     (if_none_from (failed_of c.rows.merge) ((low : Option (List ℕ)) × (high : Option (List ℕ)) × (s : Columns) × (givens : List (List Row)) × HasMergedBetween g.R.FileReader.bytes low high s c.rows.merge givens) all)
 
+pub push-requires : goal.push-requires
+push-requires g c =
+    let start = c.requires in
+    let now = c.rows.invariant.merging start.0 start.1 start.2 start.3 start.4 start.5 in
+    let row : Row = lent c.row.result in
+    let answer = c.in-Ok.ensures.between now.1.going in
+    let some = goes_between g.R.FileReader.bytes _ _ _ _ _ row answer c.if-not-more.false c.row.ensures in
+    as_long start.2 c.rows.rows row now.3 (some start.0 start.1 start.2 now.0 now.1).3
+
 pub rows-preserved : goal.rows-preserved
 rows-preserved g c =
     let start = c.requires in
@@ -36,7 +46,7 @@ rows-preserved g c =
     let answer = c.in-Ok.ensures.between (inv.merging start.0 start.1 start.2 start.3 start.4 start.5).1.going in
     let row : Row = lent c.row.result in
     let some = goes_between g.R.FileReader.bytes _ _ _ _ _ row answer c.if-not-more.false c.row.ensures in
-    let added : c.add_row.new.rows ≡ c.rows.rows ++ row ∷ [] = c.in-Ok-add_row.ensures in
+    let added : c.push.new.self ≡ c.rows.rows ++ row ∷ [] = c.in-Ok-push.ensures.ok in
     record {
       merging = λ low high s givens h none.
           let now = inv.merging low high s givens h none in

@@ -1,10 +1,12 @@
-use Rattle.std.proofs.Common.{◌-◌, ◌≤◌, length, None}
-use Rattle.mesa_cursor.specs.Cut.{CutsRise}
+use Rattle.std.proofs.Common.{◌≡◌, ◌-◌, ◌≤◌, None}
+use Rattle.mesa_delta.specs.Places.{shorts_of}
+use Rattle.mesa_split.specs.Sampling.{risen}
+use Rattle.mesa_split.proofs.Cuts.{spread_to}
 use Rattle.mesa_split.proofs.sampling.sample_index.Given as goal
 
 abbrev pub invariant-parts : goal.invariant-parts
 invariant-parts l = record {
-  few : length l.cuts ≤ l.part - 1;
-  all : length l.cuts ≤ l.parts - 1;
-  rise : CutsRise None l.cuts;
+  from : 1 ≤ l.part;
+  to : l.part - 1 ≤ l.parts - 1;
+  cuts : l.cuts ≡ risen None (spread_to l.parts (shorts_of l.index.entries) l.part);
 }

@@ -1,4 +1,5 @@
 use Rattle.std.proofs.Common.{◌≡◌, ◌+◌, ◌++◌, ◌∷◌, [], take, true, false, refl, sym, ◌∙◌, ap, subst, append_assoc}
+use Rattle.std.specs.Prelude.{Some, slice_get}
 use Rattle.mesa_schema.specs.declared.rows.Row.{Row}
 use Rattle.mesa_schema.specs.Columns.{Columns}
 use Rattle.mesa_schema.specs.Lent.{lent}
@@ -11,35 +12,35 @@ use Rattle.mesa_compact.specs.Grouping.{HavePut}
 use Rattle.mesa_compact.proofs.Causing.{caused_damage, caused_ok, caused_unread, caused_write, no_write_damage}
 use Rattle.mesa_compact.proofs.Following.{rises, sums_follow, taken_form}
 use Rattle.mesa_compact.proofs.Putting.{takes_kept}
-use Rattle.mesa_split.proofs.Written.{all_at, sums_behind, take_one, up_to}
+use Rattle.mesa_split.proofs.Written.{sums_there, take_there, there_of, up_to}
 use Rattle.mesa_split.proofs.writing.write_rows.Goals as goal
 
 pub put_all-requires-clause-gathering : goal.put_all-requires-clause-gathering
 put_all-requires-clause-gathering g c =
     let start = c.requires.poured in
-    (start.0 ++ take c.rows.row-index c.args.rows.now, (c.rows.invariant.poured start.0 start.1 start.2).put)
+    (start.0 ++ take c.rows.i c.args.rows.now, (c.rows.invariant.poured start.0 start.1 start.2).put)
 
 pub put_all-requires-clause-form : goal.put_all-requires-clause-form
 put_all-requires-clause-form g c =
     let s = columns_of c.args.writer.now in
-    (s, subst (IsRowOf s) (sym (c.lend-next.ensures ∙ c.row-item.is)) (all_at (IsRowOf s) c.args.rows.now c.rows.row-index c.row-item.result c.requires.form c.rows-test.true), takes_kept s c.args.groups.now c.rows.groups c.rows.invariant.wanted c.requires.takes)
+    (s, there_of (IsRowOf s) c.args.rows.now c.rows.i (lent c.row-next.result) c.requires.form c.row-next.ensures, takes_kept s c.args.groups.now c.rows.groups c.rows.invariant.wanted c.requires.takes)
 
 pub push-requires-after_bounds : goal.push-requires-after_bounds
 push-requires-after_bounds g c = λ _ _.
     let start = c.requires.poured in
     let rows = c.args.rows.now in
-    let i = c.rows.row-index in
+    let i = c.rows.i in
     let given = start.0 in
     let inv = c.rows.invariant in
     let now = inv.poured given start.1 start.2 in
-    let next : Row = lent c.lend-next.result in
-    let is : next ≡ c.row-item.result = c.lend-next.ensures in
+    let next : Row = lent c.row-next.result in
+    let at : slice_get rows i ≡ Some next = c.row-next.ensures in
     let more : (given ++ take i rows) ++ next ∷ [] ≡ given ++ take (i + 1) rows =
-    append_assoc given (take i rows) (next ∷ []) ∙ ap (λ rs. given ++ rs) (ap (λ x. take i rows ++ x ∷ []) is ∙ sym (take_one rows i c.row-item.result c.rows-test.true c.row-item.is)) in (
+    append_assoc given (take i rows) (next ∷ []) ∙ ap (λ rs. given ++ rs) (sym (take_there rows i next at)) in (
       given ++ take i rows,
       now.taken,
       record {
-        form = subst (λ (s : Columns). IsRowOf s next) (sym inv.columns) (subst (IsRowOf (columns_of c.args.writer.now)) (sym (is ∙ c.row-item.is)) (all_at (IsRowOf (columns_of c.args.writer.now)) rows i c.row-item.result c.requires.form c.rows-test.true));
+        form = subst (λ (s : Columns). IsRowOf s next) (sym inv.columns) (there_of (IsRowOf (columns_of c.args.writer.now)) rows i next c.requires.form at);
         greater = rises ((given ++ take i rows) ++ next ∷ []) (ap keys_rise more ∙ up_to given rows (i + 1) start.2);
         sums = (c.allows.ensures (given ++ take i rows) now.taken).0 c.if-not-allows.false;
       },
@@ -48,15 +49,15 @@ push-requires-after_bounds g c = λ _ _.
 pub rows-preserved : goal.rows-preserved
 rows-preserved g c =
     let rows = c.args.rows.now in
-    let i = c.rows.row-index in
+    let i = c.rows.i in
     let inv = c.rows.invariant in
-    let next : Row = lent c.lend-next.result in
-    let is : next ≡ c.row-item.result = c.lend-next.ensures in
+    let next : Row = lent c.row-next.result in
+    let at : slice_get rows i ≡ Some next = c.row-next.ensures in
     record {
       poured = λ given h rise.
           let now = inv.poured given h rise in
           let more : (given ++ take i rows) ++ next ∷ [] ≡ given ++ take (i + 1) rows =
-          append_assoc given (take i rows) (next ∷ []) ∙ ap (λ rs. given ++ rs) (ap (λ x. take i rows ++ x ∷ []) is ∙ sym (take_one rows i c.row-item.result c.rows-test.true c.row-item.is)) in
+          append_assoc given (take i rows) (next ∷ []) ∙ ap (λ rs. given ++ rs) (sym (take_there rows i next at)) in
           record {
             taken = subst (HasTaken g.T.Draft.bytes c.push.new.self) more (c.in-Ok-push.ensures.taken (given ++ take i rows) now.taken);
             put = subst (HavePut c.put_all.new.groups) more (c.in-Ok.ensures.put (given ++ take i rows) now.put);
@@ -74,15 +75,15 @@ returns-then-not-allows-clause-causes g c = λ reads. caused_damage _ _ _ reads 
 pub returns-then-not-allows-clause-accepts : goal.returns-then-not-allows-clause-accepts
 returns-then-not-allows-clause-accepts g c = λ d e given h rise keeps.
     let rows = c.args.rows.now in
-    let i = c.rows.row-index in
+    let i = c.rows.i in
     let inv = c.rows.invariant in
     let s : Columns = columns_of c.rows.writer in
-    let next : Row = lent c.lend-next.result in
-    let is : next ≡ c.row-item.result = c.lend-next.ensures in
+    let next : Row = lent c.row-next.result in
+    let at : slice_get rows i ≡ Some next = c.row-next.ensures in
     let now = inv.poured given h rise in
     let all : KeepsSums s ((given ++ take i rows) ++ next ∷ []) =
     subst (λ (t : Columns). KeepsSums t ((given ++ take i rows) ++ next ∷ [])) (sym inv.columns)
-    (subst (λ (x : Row). KeepsSums (columns_of c.args.writer.now) ((given ++ take i rows) ++ x ∷ [])) (sym is) (sums_behind (columns_of c.args.writer.now) given rows i c.row-item.result c.rows-test.true c.row-item.is keeps)) in
+    (sums_there (columns_of c.args.writer.now) given rows i next at keeps) in
     let no : false ≡ true = sym c.if-not-allows.true ∙ (c.allows.ensures (given ++ take i rows) now.taken).1 (λ _. sums_follow s (given ++ take i rows) next (taken_form s _ now.taken.good) all) in
     cc
 
@@ -92,14 +93,15 @@ returns-in-Err-clause-causes g c = λ reads. caused_unread _ _ _ reads reads c.i
 pub returns-in-Err-clause-accepts : goal.returns-in-Err-clause-accepts
 returns-in-Err-clause-accepts g c = λ d e given h rise keeps.
     let rows = c.args.rows.now in
-    let i = c.rows.row-index in
+    let i = c.rows.i in
     let inv = c.rows.invariant in
     let s : Columns = columns_of c.args.writer.now in
-    let is : lent c.lend-next.result ≡ c.row-item.result = c.lend-next.ensures in
+    let next : Row = lent c.row-next.result in
+    let at : slice_get rows i ≡ Some next = c.row-next.ensures in
     let now = inv.poured given h rise in
     let damaged : c.in-Err.unfit ≡ Damaged d = cc in
     c.in-Err.ensures.never d damaged s (given ++ take i rows) now.put (takes_kept s c.args.groups.now c.rows.groups inv.wanted c.requires.takes)
-    (subst (λ (x : Row). KeepsSums s ((given ++ take i rows) ++ x ∷ [])) (sym is) (sums_behind s given rows i c.row-item.result c.rows-test.true c.row-item.is keeps))
+    (sums_there s given rows i next at keeps)
 
 pub returns-in-Err-push-clause-causes : goal.returns-in-Err-push-clause-causes
 returns-in-Err-push-clause-causes g c = λ reads. caused_write _ _ _ _ reads reads c.in-Err-push.error c.from.result c.rows.invariant.faults refl c.from.ensures c.in-Err-push.ensures.cause

@@ -9,7 +9,7 @@ use Rattle.mesa_split.proofs.writing.write_rows.Given as goal
 
 abbrev pub invariant-rows : goal.invariant-rows
 invariant-rows g l = record {
-  poured : (given : List Row) → HasPoured g.T.Draft.bytes l.fn.writer l.fn.groups given → IsTrue (keys_rise (given ++ l.rows)) → HasPoured g.T.Draft.bytes l.writer l.groups (given ++ take l.row-index l.rows);
+  poured : (given : List Row) → HasPoured g.T.Draft.bytes l.fn.writer l.fn.groups given → IsTrue (keys_rise (given ++ l.rows)) → HasPoured g.T.Draft.bytes l.writer l.groups (given ++ take l.i l.rows);
   columns : columns_of l.writer ≡ columns_of l.fn.writer;
   id : id_of l.writer ≡ id_of l.fn.writer;
   draft : g.T.Draft.id_of (draft_of l.writer) ≡ g.T.Draft.id_of (draft_of l.fn.writer);
