@@ -35,10 +35,10 @@ one_or_none : (b : Bool) → (if b then 1 else 0) ≤ 1
 one_or_none true = omega arith
 one_or_none false = omega arith
 
-err_ok : (r : Result Script ScriptError) (e : ScriptError) (s : Script) → r ≡ Err e → r ≡ Ok s → ⊥
+pub err_ok : (r : Result Script ScriptError) (e : ScriptError) (s : Script) → r ≡ Err e → r ≡ Ok s → ⊥
 err_ok r e s a b = let both : Err e ≡ Ok s = sym a ∙ b in cc both
 
-ok_same : (r : Result Script ScriptError) (s t : Script) → r ≡ Ok s → r ≡ Ok t → s ≡ t
+pub ok_same : (r : Result Script ScriptError) (s t : Script) → r ≡ Ok s → r ≡ Ok t → s ≡ t
 ok_same r s t a b = let both : Ok s ≡ Ok t = sym a ∙ b in cc both
 
 counts_none : (n faults reads f r : ℕ) → faults + reads + n ≤ f + r → f ≤ faults → r ≤ reads → n ≡ 0
@@ -52,21 +52,28 @@ never : Rose 0 0 → ⊥
 never rose = omega (arith, rose)
 
 module _ {K D M B : Type 0} (ports : Ports K D M B) (g : Devices K D B) (done : Done K D B) (source_before source_now : ℕ) (nothing : NothingFailed ports g done source_before source_now) where
+  pub printed_short : (line : List ℕ) → Ended ports g done 8 line → done.status ≡ 8
+  printed_short line ended = ⊎_elim (λ p. p.0) (λ p. absurd (nothing.sink p.1)) ended.2
+
   printed : (line : List ℕ) → Ended ports g done 8 line → Completes done
-  printed line ended = ⊎_elim (λ p. inl p.0) (λ p. absurd (nothing.sink p.1)) ended.2
+  printed line ended = inl (printed_short line ended)
 
   module _ (c : Catalog) (rows : Rows) (room : HasRoomToRun ports g c rows) where
-    same : (d : Catalog) → ReadsAs (ports.story g.disk) d → c ≡ d
+    pub same : (d : Catalog) → ReadsAs (ports.story g.disk) d → c ≡ d
     same d reads = reads_same (ports.story g.disk) c d rows room.sound.start reads
 
-    opening : (e : OpenError) → EndedOpening ports g done e → Completes done
-    opening open_error.Fault p = absurd (⊎_elim nothing.disk nothing.reads p.0.reason)
-    opening (open_error.Journal area at want found) p =
+    -- a store that isn't opened lacked memory
+    pub opening_short : (e : OpenError) → EndedOpening ports g done e → done.status ≡ 8
+    opening_short open_error.Fault p = absurd (⊎_elim nothing.disk nothing.reads p.0.reason)
+    opening_short (open_error.Journal area at want found) p =
         let s = room.sound.start in
         absurd (⊎_elim (sound_whole s.image s.bodies c rows p.0.reason.0 at want found s.sound) (sound_fits s.image s.bodies c rows p.0.reason.0 at want found s.sound) (p.0.reason.2 s.image s.told))
-    opening (open_error.File d) p = let s = room.sound.start in absurd (sound_undamaged s.image s.bodies c rows s.sound d (p.0.reason.0 s.image s.told))
-    opening open_error.RunsFull p = absurd (let is = ap (λ (x : Catalog). x.run) (same p.0.reason.0 p.0.reason.1) in omega (arith, is, room.number, p.0.reason.2))
-    opening open_error.Memory p = printed _ p.1
+    opening_short (open_error.File d) p = let s = room.sound.start in absurd (sound_undamaged s.image s.bodies c rows s.sound d (p.0.reason.0 s.image s.told))
+    opening_short open_error.RunsFull p = absurd (let is = ap (λ (x : Catalog). x.run) (same p.0.reason.0 p.0.reason.1) in omega (arith, is, room.number, p.0.reason.2))
+    opening_short open_error.Memory p = printed_short _ p.1
+
+    opening : (e : OpenError) → EndedOpening ports g done e → Completes done
+    opening e p = inl (opening_short e p)
 
     module _ (script : Script) (small : IsSmall script) (d : Catalog) (ran : Ran ports g done script d false) where
       abbrev from : Run
@@ -84,7 +91,7 @@ module _ {K D M B : Type 0} (ports : Ports K D M B) (g : Devices K D B) (done : 
           let still = not_risen (ports.bench_faults b.before) (ports.bench_faults b.after) b.still in
           bench_none _ _ _ (ran.benches rows nothing.clock s b.before b.after b.was b.is still.1) still.0
 
-      quiet : AllQuiet done.history.items
+      pub quiet : AllQuiet done.history.items
       quiet =
           let legal = (ran.anyhow rows).legal in
           all_quiet script from done.history.items (sessions_there script from done.history.items legal.each) on_disk on_benches

@@ -17,3 +17,5 @@ pub mod Alone
 pub mod Closed
 pub mod Next
 pub mod Life
+pub mod Lives
+pub mod Unfailed

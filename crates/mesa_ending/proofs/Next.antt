@@ -1,5 +1,5 @@
 -- A call leaves a sound store sound, unless a fault closed it.
-use Rattle.std.proofs.Common.{◌≡◌, ◌⊎◌, inl, inr, ◌≤◌, ◌<◌, ℕ, List, [], ◌∷◌, Bool, true, false, refl, sym, ◌∙◌, ap, subst, arith, Option, Some, None, Result, Ok, Err}
+use Rattle.std.proofs.Common.{◌≡◌, ◌⊎◌, inl, inr, ◌≤◌, ◌<◌, ℕ, List, [], ◌∷◌, ◌++◌, Bool, true, false, refl, sym, ◌∙◌, ap, subst, arith, Option, Some, None, Result, Ok, Err}
 use Rattle.std.specs.List.{AllByRecursion}
 use Rattle.std.specs.Prelude.{IfSome}
 use Rattle.mesa_fault.specs.Causes.{last}
@@ -55,6 +55,10 @@ kept_first script c rows = refl
 open_first : (script : Script) (c : Catalog) (rows : Rows) → (run_at script (start_of script c rows) []).state.warehouse.closed ≡ None
 unfolding runs
 open_first script c rows = refl
+
+none_before : (past rest : List Entry) → [] ≡ past ++ rest → past ≡ []
+none_before [] rest is = refl
+none_before (e ∷ past) rest is = cc
 
 -- what a disk promises of the images that a crash may leave: what a read gives is one; this moment is one of those since an earlier one; and since this moment there is no other, while the clock is below its last value
 pub record HasImages (story : Story) : Type 0 where
@@ -292,6 +296,18 @@ module _ {K D M B : Type 0} (ports : Ports K D M B) (given : Devices K D B) (don
         let same = p.1 script asks in
         subst (λ (y : Script). HasFront y (kept_of rows c) done.history.items t x) (sym same)
         (p.2.1 c rows s below (subst (λ (y : Script). (run_at y (start_of y c rows) done.history.items).state.warehouse.closed ≡ None) same unclosed) t x from to left)
+  ]
+
+  -- and each image that a crash amid a call without turns left has what there was
+  pub rest_leaves_front : (asked : Option Form) (c : Catalog) (rows : Rows) → Ends ports given done asked input before now → done.history.items ≡ [] → IsSoundStore ports.bytes (ports.story given.disk) c rows → (ports.story done.disk).moment < last
+      → (t : ℕ) (x : Image) → (ports.story given.disk).moment ≤ t → t ≤ (ports.story done.disk).moment → (ports.story done.disk).may_have_left t x → StandsFor x (kept_of rows c)
+  rest_leaves_front asked c rows ends none s below t x from to left = elim (all_leaves asked ends) [
+    | inl p ↦ p.1.1 c rows s below t x from to left
+    | inr p ↦
+        let script = p.0 in
+        let unclosed = subst (λ (h : List Entry). (run_at script (start_of script c rows) h).state.warehouse.closed ≡ None) (sym none) (open_first script c rows) in
+        let front : HasFront script (kept_of rows c) done.history.items t x = p.2.1 c rows s below unclosed t x from to left in
+        subst (StandsFor x) (ap (λ (h : List Entry). kept_in (run_at script (start_of script c rows) h)) (none_before front.past front.rest (sym none ∙ front.split)) ∙ kept_first script c rows) front.stands
   ]
 
   pub rest_leaves_sound : (asked : Option Form) → RestLeavesSound ports given done asked input before now

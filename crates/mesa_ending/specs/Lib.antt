@@ -13,3 +13,5 @@ pub mod Statuses
 pub mod Completing
 pub mod Next
 pub mod Life
+pub mod Lives
+pub mod Alone

@@ -1,7 +1,9 @@
 // Laws of scripts, and of stores that a run starts from.
 ghost use Rattle.std.specs.Prelude.{◌≡◌, ℕ, List, [], Ok, Option};
 ghost use Rattle.mesa_disk.specs.Image.{Image as AnyImage};
+ghost use Rattle.mesa_ending.specs.Alone.{RunsUnfailed};
 ghost use Rattle.mesa_ending.specs.Life.{LifeLaw, kept_at_first};
+ghost use Rattle.mesa_ending.specs.Lives.{LivesLaw};
 ghost use Rattle.mesa_ending.specs.Next.{CrashLeavesFront, OpensSound, RestLeavesSound, RunLeavesSound};
 ghost use Rattle.mesa_ending.specs.Ports.{ports};
 ghost use Rattle.mesa_ending.specs.Scripts.{IsSmall};
@@ -62,4 +64,17 @@ pub fn calls_leave_sound_stores<M: Made, D: Disk<M>, K, B>()
 /// can be queried is the fold of all batches that were accepted through it.
 pub fn contents_are_folds_of_all_batches()
     ensures { LifeLaw }
+{}
+
+/// A life of calls and crashes that begins with an empty store is such a list of runs: the store is sound behind
+/// it, and keeps what they come to.
+pub fn lives_are_lists_of_runs<M: Made, D: Disk<M>, K, B>()
+    ensures { (held : K → Option (List ℕ)) (sink_faults : K → ℕ) (bench_faults : B → ℕ) → LivesLaw (ports held sink_faults D.story M.bytes bench_faults) }
+{}
+
+/// Where no count rose in a run and no printed reply is memory, each turn but a look stands; so of one session
+/// alone the sink was given one text.
+pub fn unfailed_runs_stand<M: Made, D: Disk<M>, K, B>()
+    ensures { (held : K → Option (List ℕ)) (sink_faults : K → ℕ) (bench_faults : B → ℕ) (given : Devices K D B) (done : Done K D B) (input : Option (List ℕ)) (before now : ℕ)
+        → RunsUnfailed (ports held sink_faults D.story M.bytes bench_faults) given done input before now }
 {}
