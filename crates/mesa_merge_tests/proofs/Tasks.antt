@@ -1,5 +1,5 @@
 -- Further readers of two files, whose table's views have no files of their own.
-use Rattle.std.proofs.Common.{◌≡◌, ℕ, zero, suc, ◌+◌, ◌<◌, List, [], ◌∷◌, ◌++◌, length, take, sym, subst, ◌∙◌, arith, Global, Vec}
+use Rattle.std.proofs.Common.{◌≡◌, ℕ, zero, suc, ◌+◌, ◌<◌, List, [], ◌∷◌, ◌++◌, length, take, sym, subst, ap, ◌∙◌, arith, Global, Vec}
 use Rattle.std.specs.Prelude.{Option, None, Some}
 use Rattle.std.specs.List.{AllByRecursion}
 use Rattle.mesa_file.specs.declared.file_ref.FileRef.{FileRef}
@@ -8,6 +8,7 @@ use Rattle.mesa_schema.specs.Columns.{Columns}
 use Rattle.mesa_schema.specs.Changes.{Lineage, columns_of}
 use Rattle.mesa_delta.specs.declared.input.Input.{Input}
 use Rattle.mesa_cursor.specs.Cursors.{reader_in}
+use Rattle.mesa_merge.specs.Inputs.{AreInputs}
 use Rattle.mesa_tasks.specs.Spares.{AreSpareInputs, AreSpareViews, HasSpareOwn, IsSpareInput, IsSpareOf}
 use Rattle.mesa_tasks.specs.Tasks.{AreTaskViews}
 use Rattle.mesa_tasks.specs.declared.merging.Spare.{Spare}
@@ -25,6 +26,13 @@ view_pushed bytes s n (v ∷ vs) zero number [] h lt e = (omega (arith, e), tt, 
 view_pushed bytes s n (v ∷ vs) zero number (u ∷ ts) h lt e = absurd h
 view_pushed bytes s n (v ∷ vs) (suc i) number [] h lt e = absurd h
 view_pushed bytes s n (v ∷ vs) (suc i) number (u ∷ ts) h lt e = (h.0, h.1, view_pushed bytes s (n + 1) vs i number ts h.2 (omega (arith, lt)) (omega (arith, e)))
+
+-- opened inputs may be merged
+pub opened_inputs : {R : Type 0} (bytes : R → Option (List ℕ)) (older newer : FileRef) (l : Lineage) (is : List (Input R)) → AreOpened bytes older newer l is → AreInputs bytes (columns_of l) is
+opened_inputs bytes older newer l [] h = absurd h
+opened_inputs bytes older newer l (a ∷ []) h = absurd h
+opened_inputs bytes older newer l (a ∷ b ∷ []) h = record { each = (h.0.input, (h.1.input, tt)); alike = (ap (λ (t : Lineage). columns_of t) h.0.table, (ap (λ (t : Lineage). columns_of t) h.1.table, tt)) }
+opened_inputs bytes older newer l (a ∷ b ∷ c ∷ more) h = absurd h
 
 module _ {R : Type 0} (bytes : R → Option (List ℕ)) where
   -- ---- spares, whose readers tell no bytes

@@ -8,6 +8,8 @@ mod files;
 #[cfg(test)]
 mod merging;
 #[cfg(test)]
+mod overflow;
+#[cfg(test)]
 mod parts;
 #[cfg(test)]
 mod splitting;

@@ -83,8 +83,8 @@ fn no_files<R: FileReader + Drop>(
     Ok(views)
 }
 
-// Inputs over both files.
-fn inputs_of<R: FileReader + Drop>(
+/// Inputs over both files.
+pub fn inputs_of<R: FileReader + Drop>(
     rt: &impl Abort,
     alloc: Global,
     files: &Files,
