@@ -7,6 +7,7 @@ ghost use Rattle.mesa_batch.specs.Flat.{is_twice, placed_at};
 ghost use Rattle.mesa_batch.specs.Heads.{IsSpot, has_same_head, head_of, heads_cmp, place_of, spotted_cmp};
 
 use crate::flat::FlatRows;
+use mesa_key::compare as compare_bytes;
 use std::alloc::{AllocError, Global};
 use std::cmp::Ordering;
 
@@ -123,7 +124,7 @@ fn compare_heads(a: &Spot, b: &Spot) -> Ordering
 fn compare_keys(rows: &FlatRows, a: u32, b: u32) -> Ordering
     ensures { result ≡ ordering_then (byte_cmp (placed_at rows.now a).row.key (placed_at rows.now b).row.key) (nat_cmp a b) }
 {
-    match rows.key(a as usize).cmp(rows.key(b as usize)) {
+    match compare_bytes(rows.key(a as usize), rows.key(b as usize)) {
         Ordering::Equal => a.cmp(&b),
         order => order,
     }

@@ -8,7 +8,7 @@ ghost use Rattle.mesa_block.specs.Reading.{bad_text, bad_column, is_less, out_of
 
 use crate::column::Column;
 use crate::flat::Block;
-use mesa_key::{KeyText, KeyType};
+use mesa_key::{KeyText, KeyType, compare};
 use std::cmp::Ordering;
 
 // The first cell that is no text key.
@@ -51,7 +51,7 @@ pub fn bad_text_of(kinds: &[KeyType], columns: &[Column]) -> Option<usize>
 pub fn rises(before: &[u8], key: &[u8]) -> bool
     ensures { result ≡ is_less (byte_cmp before.now key.now) }
 {
-    match before.cmp(key) {
+    match compare(before, key) {
         Ordering::Less => true,
         Ordering::Equal => false,
         Ordering::Greater => false,

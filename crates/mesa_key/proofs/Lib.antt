@@ -1,5 +1,6 @@
 pub mod Columns
 pub mod Cuts
+pub mod Eights
 pub mod IntOrder
 pub mod KeyOrder
 pub mod Keys
