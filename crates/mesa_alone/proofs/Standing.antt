@@ -5,6 +5,7 @@ use Rattle.mesa_history.specs.mesa_span.mesa_list.Checks.{◌>>◌, refuse_if, r
 use Rattle.mesa_history.specs.mesa_schema.Names.{is_name}
 use Rattle.mesa_history.specs.mesa_schema.Schema.{schema_checked}
 use Rattle.mesa_history.specs.mesa_schema.Changes.{columns_of, change_checked}
+use Rattle.mesa_history.specs.mesa_schema.Recasts.{Recast}
 use Rattle.mesa_history.specs.mesa_batch.Batch.{batch_of}
 use Rattle.mesa_history.specs.mesa_model.declared.commands.Command.{Command}
 use Rattle.mesa_history.specs.mesa_model.declared.commands.Command.TheVariants as command
@@ -32,8 +33,8 @@ use Rattle.mesa_history.specs.mesa_model.Versions.{common_oldest, version_asked,
 use Rattle.mesa_history.specs.mesa_model.Warehouse.{Warehouse, max_tables, max_versions, max_pins, table_at}
 use Rattle.mesa_history.specs.Alone.{kind_due}
 use Rattle.mesa_history.specs.Legal.{first_kind, is_due_at, is_stands, is_unrenewed, same_kind}
-use Rattle.mesa_history.specs.Machine.{Claim, claim_checked, claim_of, explained}
-use Rattle.mesa_history.specs.Replay.{Turned, standing, decide, decided_explain, decided_query, grants, renews, completes, place_after}
+use Rattle.mesa_history.specs.Machine.{Claim, Errand, Merges, Recasts, claim_checked, claim_of, explained, recast_claim_of, still_checked}
+use Rattle.mesa_history.specs.Replay.{Turned, standing, decide, decided_explain, decided_query, does, grants, recasts, renews, completes, place_after}
 use Rattle.mesa_history.specs.Run.{State, Stage, First, Looked, Answered, Granted, Renewed, Finished, CutOff, Place}
 use Rattle.mesa_history.proofs.Checks.{ok_bind, ok_then}
 
@@ -126,6 +127,7 @@ decide_goes position s session (command.Pin version) = omega arith
 decide_goes position s session (command.Release token) = omega arith
 decide_goes position s session (command.Expire table version) = omega arith
 decide_goes position s session (command.Work words) = omega arith
+decide_goes position s session (command.Recast words) = omega arith
 
 grant_goes : (position : ℕ) (s : State) (o : Result Claim Reply) → 1 ≤ turns_at (grants position s o).stage
 grant_goes position s (Ok claim) = omega arith
@@ -135,13 +137,22 @@ renew_goes : (position : ℕ) (s : State) (claim : Claim) (o : Result (Unit {0})
 renew_goes position s claim (Ok ok) = omega arith
 renew_goes position s claim (Err refusal) = omega arith
 
+recast_goes : (position : ℕ) (s : State) (claim : Claim) (r : Recast) (o : Result (Unit {0}) Refusal) → 3 ≤ turns_at (recasts position s claim r o).stage
+recast_goes position s claim r (Ok ok) = omega arith
+recast_goes position s claim r (Err refusal) = omega arith
+
+does_goes : (position : ℕ) (s : State) (claim : Claim) (errand : Errand) → 3 ≤ turns_at (does position s claim errand).stage
+does_goes position s claim (Merges work) = omega arith
+does_goes position s claim (Recasts epoch r) = recast_goes position s claim r (still_checked (table_at s.warehouse.store claim.table).lineage epoch r)
+
 complete_goes : (position : ℕ) (s : State) (claim : Claim) (o : Result (Unit {0}) Refusal) → 3 ≤ turns_at (completes position s claim o).stage
-complete_goes position s claim (Ok ok) = omega arith
+complete_goes position s claim (Ok ok) = does_goes position s claim claim.errand
 complete_goes position s claim (Err refusal) = omega arith
 
 first_goes : (position : ℕ) (s : State) (session : ℕ) (c : Command) → 1 ≤ turns_at (standing position s session c (first_kind c) First).stage
 first_goes position s session (command.Load rows) = omega arith
 first_goes position s session (command.Work words) = grant_goes position s (claim_of s.warehouse s.machine position words.table)
+first_goes position s session (command.Recast words) = grant_goes position s (recast_claim_of s.warehouse s.machine position words)
 first_goes position s session (command.Query words) = let goes = decide_goes position s session (command.Query words) in omega (arith, goes)
 first_goes position s session (command.Explain words) = let goes = decide_goes position s session (command.Explain words) in omega (arith, goes)
 first_goes position s session (command.Table words) = omega arith
@@ -248,6 +259,7 @@ decide_stays position s session (command.Pin version) = done_keeps s.warehouse (
 decide_stays position s session (command.Release token) = done_keeps s.warehouse (release_pin s.warehouse session token) (release_keeps s.warehouse session token)
 decide_stays position s session (command.Expire table version) = done_keeps s.warehouse (expire_to s.warehouse table version) (expire_keeps s.warehouse table version)
 decide_stays position s session (command.Work words) = done_keeps s.warehouse (refuse_closed s.warehouse.closed >> Ok (s.warehouse, reply.Idle)) (nothing_keeps s.warehouse)
+decide_stays position s session (command.Recast words) = done_keeps s.warehouse (refuse_closed s.warehouse.closed >> Ok (s.warehouse, reply.Idle)) (nothing_keeps s.warehouse)
 
 grant_stays : (position : ℕ) (s : State) (o : Result Claim Reply) → Stays s (grants position s o)
 grant_stays position s (Ok claim) = refl
@@ -257,13 +269,22 @@ renews_stays : (position : ℕ) (s : State) (claim : Claim) (o : Result (Unit {0
 renews_stays position s claim (Ok ok) = refl
 renews_stays position s claim (Err refusal) = refl
 
+recasts_stays : (position : ℕ) (s : State) (claim : Claim) (r : Recast) (o : Result (Unit {0}) Refusal) → Stays s (recasts position s claim r o)
+recasts_stays position s claim r (Ok ok) = refl
+recasts_stays position s claim r (Err refusal) = refl
+
+does_stays : (position : ℕ) (s : State) (claim : Claim) (errand : Errand) → Stays s (does position s claim errand)
+does_stays position s claim (Merges work) = refl
+does_stays position s claim (Recasts epoch r) = recasts_stays position s claim r (still_checked (table_at s.warehouse.store claim.table).lineage epoch r)
+
 completes_stays : (position : ℕ) (s : State) (claim : Claim) (o : Result (Unit {0}) Refusal) → Stays s (completes position s claim o)
-completes_stays position s claim (Ok ok) = refl
+completes_stays position s claim (Ok ok) = does_stays position s claim claim.errand
 completes_stays position s claim (Err refusal) = refl
 
 first_stays : (position : ℕ) (s : State) (session : ℕ) (c : Command) → Stays s (standing position s session c (first_kind c) First)
 first_stays position s session (command.Load rows) = refl
 first_stays position s session (command.Work words) = grant_stays position s (claim_of s.warehouse s.machine position words.table)
+first_stays position s session (command.Recast words) = grant_stays position s (recast_claim_of s.warehouse s.machine position words)
 first_stays position s session (command.Query words) = decide_stays position s session (command.Query words)
 first_stays position s session (command.Explain words) = decide_stays position s session (command.Explain words)
 first_stays position s session (command.Table words) = decide_stays position s session (command.Table words)

@@ -3,7 +3,8 @@ ghost use Rattle.mesa_alone.specs.Alone.{PrintsAlone, RunsAlone};
 
 /// Let at most one session of a script have commands, and let a run begin on a store that isn't closed. Where
 /// every turn but a look stands, its history has the entries, but for their moments and the outcomes of looks,
-/// that the script's sessions make one after another without a fault. So each work was renewed before its close.
+/// that the script's sessions make one after another without a fault. So each work and each recast was renewed
+/// before its close.
 pub fn one_session_runs_alone()
     ensures { RunsAlone }
 {}

@@ -2,5 +2,6 @@ pub mod Alterings
 pub mod Makings
 pub mod Namings
 pub mod Queries
+pub mod Recastings
 pub mod SumColumns
 pub mod Viewings

@@ -6,12 +6,14 @@ use Rattle.mesa_schema.specs.declared.changes.ChangeError.{ChangeError}
 use Rattle.mesa_schema.specs.declared.changes.ChangeError.TheVariants as change
 use Rattle.mesa_schema.specs.declared.schema.SchemaError.{SchemaError}
 use Rattle.mesa_schema.specs.declared.schema.SchemaError.TheVariants as schema
+use Rattle.mesa_schema.specs.declared.recasts.RecastError.{RecastError}
+use Rattle.mesa_schema.specs.declared.recasts.RecastError.TheVariants as recast
 use Rattle.mesa_schema.specs.declared.views.ViewError.{ViewError}
 use Rattle.mesa_schema.specs.declared.views.ViewError.TheVariants as view
 use Rattle.mesa_model.specs.declared.replies.Refusal.{Refusal}
 use Rattle.mesa_filter.specs.declared.words.QueryError.{QueryError}
 use Rattle.mesa_filter.specs.declared.words.QueryError.TheVariants as query
-use Rattle.mesa_model.specs.Refusals.{batch_refusal, change_refusal, query_refusal, schema_refusal, view_refusal}
+use Rattle.mesa_model.specs.Refusals.{batch_refusal, change_refusal, query_refusal, recast_refusal, schema_refusal, view_refusal}
 use Rattle.mesa_asked.specs.declared.failure.Failure.{Failure}
 use Rattle.mesa_asked.specs.declared.failure.Failure.TheVariants.{Memory, Refused}
 
@@ -62,3 +64,14 @@ change_failure name change.LastValue = Refused (change_refusal name change.LastV
 change_failure name (change.InView view) = Refused (change_refusal name (change.InView view))
 change_failure name change.TooManyColumns = Refused (change_refusal name change.TooManyColumns)
 change_failure name change.EpochsFull = Refused (change_refusal name change.EpochsFull)
+
+-- why a table isn't recast whose recast is refused
+abbrev pub recast_failure : RecastError → Failure
+recast_failure recast.Memory = Memory
+recast_failure recast.NoColumn = Refused (recast_refusal recast.NoColumn)
+recast_failure recast.NoKey = Refused (recast_refusal recast.NoKey)
+recast_failure recast.NoValue = Refused (recast_refusal recast.NoValue)
+recast_failure recast.NameTwice = Refused (recast_refusal recast.NameTwice)
+recast_failure (recast.ReplaceGroup column) = Refused (recast_refusal (recast.ReplaceGroup column))
+recast_failure (recast.InView view) = Refused (recast_refusal (recast.InView view))
+recast_failure recast.EpochsFull = Refused (recast_refusal recast.EpochsFull)

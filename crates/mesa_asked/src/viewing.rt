@@ -55,7 +55,11 @@ fn view_chosen(
 }
 
 // The names of the key columns that a view chooses.
-fn chosen_keys(alloc: Global, evolving: &Evolving, words: &[Words]) -> Result<Items<Name>, Failure>
+pub(crate) fn chosen_keys(
+    alloc: Global,
+    evolving: &Evolving,
+    words: &[Words],
+) -> Result<Items<Name>, Failure>
     ensures read { IfOk result (λ names. names ≡ words.now) }
     ensures checked { OnOk result (choice_checked (key_names (columns_of evolving.now)) ViewError.NoKey words.now ≡ Ok tt) }
     ensures refused { IfErr result (IsDue (refused_as view_refusal (choice_checked (key_names (columns_of evolving.now)) ViewError.NoKey words.now))) }
@@ -85,7 +89,11 @@ fn chosen_values(
 }
 
 // The names of the columns that are asked, each of which is there.
-fn names_of<C: Named>(alloc: Global, words: &[Words], columns: &[C]) -> Result<Items<Name>, Failure>
+pub(crate) fn names_of<C: Named>(
+    alloc: Global,
+    words: &[Words],
+    columns: &[C],
+) -> Result<Items<Name>, Failure>
     ensures read { IfOk result (λ names. names ≡ words.now) }
     ensures refused { IfErr result (IsDue (refuse_unless (list_all (λ word. has_name word (map C.name_of columns.now)) words.now) Refusal.NoColumn)) }
 {

@@ -1,5 +1,5 @@
 -- The blocks of entries whose replies are short: nothing, or one line.
-use Rattle.std.proofs.Common.{◌≡◌, ℕ, ◌+◌, ◌/◌, ◌%◌, ◌==◌, List, [], ◌∷◌, ◌++◌, Bool, true, false, refl, sym, ap, subst, ◌∙◌, append-nil, arith, ne_eqb, nat_lt, Option, Some, None}
+use Rattle.std.proofs.Common.{◌≡◌, ℕ, ◌+◌, ◌/◌, ◌%◌, ◌==◌, List, [], ◌∷◌, ◌++◌, true, false, refl, sym, ap, subst, ◌∙◌, append-nil, arith, ne_eqb, nat_lt, Option, Some, None}
 use Rattle.std.specs.Prelude.{codes, decimal, if◌then◌else◌, option_map}
 use Rattle.std.specs.Int.{w64, to_be_bytes}
 use Rattle.mesa_history.specs.Replay.{go, told_by}

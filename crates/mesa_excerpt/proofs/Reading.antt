@@ -18,7 +18,7 @@ use Rattle.mesa_script.specs.declared.script.ScriptError.{ScriptError}
 use Rattle.mesa_script.specs.declared.script.ScriptError.TheVariants as bad
 use Rattle.mesa_script.specs.Generated.{draw, generated}
 use Rattle.mesa_script.specs.Items.{EndOfLoad, Item, LeaseOf, NextSession, RowOf, Single, expire_words, item_of, parts_of}
-use Rattle.mesa_script.specs.Records.{Alter, Commit, Expire, Explain, Lease, Name, Pin, Query, Release, Row, Session, Table, View, Work, field, fits_fields, name_of}
+use Rattle.mesa_script.specs.Records.{Alter, Commit, Expire, Explain, Lease, Name, Pin, Query, Release, Row, Session, Table, View, Work, Recast, field, fits_fields, name_of}
 use Rattle.mesa_script.specs.Script.{Read, fits_order, item_at, max_commands, nothing_read, read_from, records_of, script_from, script_of, with_item, with_record}
 use Rattle.mesa_excerpt.specs.Excerpt.{before_last_three, is_unasked}
 use Rattle.mesa_excerpt.proofs.Records.{HasField, all_records, expiry_records, generated_records, query_records, row_fields, row_records, day_record, sites_record, table_record, totals_record, version_records, view_record}
@@ -108,6 +108,7 @@ plain_item Query f is = absurd cc
 plain_item Explain f is = absurd cc
 plain_item Pin f is = absurd cc
 plain_item Release f is = absurd cc
+plain_item Recast f is = absurd cc
 
 query_item : (f : List (List ℕ)) → Says IsSingle (item_of Query f)
 query_item f = says_then IsSingle (version_of true (field 2 f)) _ (λ version. says_then IsSingle (limit_of (field 6 f)) _ (λ limit. says_it IsSingle (Single _) tt))

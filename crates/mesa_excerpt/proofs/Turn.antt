@@ -19,8 +19,8 @@ use Rattle.mesa_model.specs.Refusals.{refuse_closed}
 use Rattle.mesa_model.specs.Warehouse.{newest_of, table_at}
 use Rattle.mesa_model.specs.Relations.{table_number}
 use Rattle.mesa_history.specs.mesa_span.Work.{next_work}
-use Rattle.mesa_history.specs.Machine.{Claim, claim_checked, claim_of, ranges_at, refuse_busy, swapped_reply}
-use Rattle.mesa_history.specs.Replay.{Turned, closed_if, closed_off, closes, completes, decide, grants, refused_turn, refuses, renews, some_damage, standing, turn_of, work_name}
+use Rattle.mesa_history.specs.Machine.{Claim, Errand, Merges, Recasts, claim_checked, claim_of, ranges_at, refuse_busy, swapped_reply}
+use Rattle.mesa_history.specs.Replay.{Turned, claim_asked, closed_if, closed_off, closes, completes, decide, does, grants, refused_turn, refuses, renews, some_damage, standing, turn_of}
 use Rattle.mesa_history.specs.Run.{Answered, CutOff, Finished, First, Granted, Looked, Renewed, Run, Stage, State, Told}
 use Rattle.mesa_lease.specs.Book.{holder, other_holder}
 use Rattle.mesa_excerpt.specs.Excerpt.{HasPlainNames, is_unasked}
@@ -29,13 +29,18 @@ use Rattle.mesa_excerpt.proofs.Breaks.{decimal_unbroken, unbroken_both}
 use Rattle.mesa_excerpt.proofs.Checks.{on_check, on_other_check, on_some}
 use Rattle.mesa_excerpt.proofs.Short.{IsShort, IsShortRefusal, closed_short, expire_does, load_does, nothing_does, refused_short, table_does, two_numbers, view_does}
 
--- a command that isn't finished, and is no query that was answered
+-- a claim for a work
+abbrev IsMerge : Errand → Type 0
+IsMerge (Merges w) = ⊤
+IsMerge (Recasts epoch r) = ⊥
+
+-- a command that isn't finished, and is no query that was answered nor a recast that was granted
 abbrev pub GoesOn : Stage → Type 0
 GoesOn First = ⊤
 GoesOn Looked = ⊤
 GoesOn (Answered at answer) = ⊥
-GoesOn (Granted claim) = ⊤
-GoesOn (Renewed claim) = ⊤
+GoesOn (Granted claim) = IsMerge claim.errand
+GoesOn (Renewed claim) = IsMerge claim.errand
 GoesOn Finished = ⊥
 GoesOn CutOff = ⊤
 
@@ -64,6 +69,7 @@ module _ (position : ℕ) (s : State) (plain : HasPlainNames s.warehouse.store) 
   decides session (command.Explain words) is = absurd cc
   decides session (command.Pin version) is = absurd cc
   decides session (command.Release token) is = absurd cc
+  decides session (command.Recast words) is = absurd cc
 
   -- ---- works
 
@@ -83,9 +89,22 @@ module _ (position : ℕ) (s : State) (plain : HasPlainNames s.warehouse.store) 
       on_other_check Grants reply.Refused (refuse_closed s.warehouse.closed) _ (λ e is. ungranted (reply.Refused e) (refused_short e (closed_short s.warehouse.closed e is))) (
       on_some Grants (table_number s.warehouse.store name) _ _ (ungranted _ (refused_short (no.NoTable None) refl)) (λ table found.
       on_check Grants (refuse_busy (holder s.machine.leases table position)) _ (λ e is. ungranted e (busy (holder s.machine.leases table position) e is)) (
-      on_some Grants (next_work (ranges_at s.machine table) (table_at s.warehouse.store table).oldest (newest_of s.warehouse)) reply.Idle (λ w. Ok (record { table = table; lease = s.machine.leases.granted + 1; work = w }))
+      on_some Grants (next_work (ranges_at s.machine table) (table_at s.warehouse.store table).oldest (newest_of s.warehouse)) reply.Idle (λ w. Ok (record { table = table; lease = s.machine.leases.granted + 1; errand = Merges w }))
       (ungranted reply.Idle (record { text = refl; body = λ heading. refl; unpaged = refl })) (λ w due. record { good = record { names = plain; turn = tt } })))) in
       all.good
+
+  asked : (c : Command) → is_unasked c ≡ true → Good (grants position s (claim_asked s.warehouse s.machine position c))
+  asked (command.Table words) is = granted []
+  asked (command.View words) is = granted []
+  asked (command.Load rows) is = granted []
+  asked (command.Expire table version) is = granted []
+  asked (command.Work words) is = granted words.table
+  asked (command.Alter words) is = absurd cc
+  asked (command.Query words) is = absurd cc
+  asked (command.Explain words) is = absurd cc
+  asked (command.Pin version) is = absurd cc
+  asked (command.Release token) is = absurd cc
+  asked (command.Recast words) is = absurd cc
 
   lost_short : (lease : ℕ) (o : Option ℕ) → IsShortRefusal (no.Lost lease o)
   lost_short lease None = unbroken_both (decimal lease ++ codes " holder=") (codes "none") (unbroken_both (decimal lease) (codes " holder=") (decimal_unbroken lease) refl) refl
@@ -105,36 +124,40 @@ module _ (position : ℕ) (s : State) (plain : HasPlainNames s.warehouse.store) 
       held true = record { short = λ e is. absurd cc }
       held false = one _ (lost_short claim.lease (other_holder s.machine.leases claim.table claim.lease position))
 
-  renewed : (claim : Claim) (r : Result (Unit {0}) Refusal) → Claims r → Good (renews position s claim r)
-  renewed claim (Ok ok) is = record { names = plain; turn = tt }
-  renewed claim (Err e) is = refusing position s refl e (is.short e refl)
+  renewed : (claim : Claim) (r : Result (Unit {0}) Refusal) → IsMerge claim.errand → Claims r → Good (renews position s claim r)
+  renewed claim (Ok ok) merge is = record { names = plain; turn = merge }
+  renewed claim (Err e) merge is = refusing position s refl e (is.short e refl)
 
   swapped : (w : Work) → IsShort (swapped_reply w)
   swapped (work.Base to) = record { text = unbroken_both (decimal 0) (32 ∷ decimal to) (decimal_unbroken 0) (decimal_unbroken to); body = λ heading. refl; unpaged = refl }
   swapped (work.Cumulative from to) = record { text = unbroken_both (decimal from) (32 ∷ decimal to) (decimal_unbroken from) (decimal_unbroken to); body = λ heading. refl; unpaged = refl }
 
-  completed : (claim : Claim) (r : Result (Unit {0}) Refusal) → Claims r → Good (completes position s claim r)
-  completed claim (Ok ok) is = record { names = plain; turn = (refl, swapped claim.work) }
-  completed claim (Err e) is = refusing position s refl e (is.short e refl)
+  done : (claim : Claim) (errand : Errand) → IsMerge errand → Good (does position s claim errand)
+  done claim (Merges w) merge = record { names = plain; turn = (refl, swapped w) }
+  done claim (Recasts epoch r) merge = absurd merge
+
+  completed : (claim : Claim) (r : Result (Unit {0}) Refusal) → IsMerge claim.errand → Claims r → Good (completes position s claim r)
+  completed claim (Ok ok) merge is = done claim claim.errand merge
+  completed claim (Err e) merge is = refusing position s refl e (is.short e refl)
 
   -- ---- turns that stand, and turns that are refused
 
   stands : (session : ℕ) (c : Command) → is_unasked c ≡ true → (k : Kind) (stage : Stage) → GoesOn stage → Good (standing position s session c k stage)
   stands session c is kind.Look stage on = record { names = plain; turn = tt }
   stands session c is kind.Decide stage on = decides session c is
-  stands session c is kind.Grant stage on = granted (work_name c)
+  stands session c is kind.Grant stage on = asked c is
   stands session c is kind.Renew First on = record { names = plain; turn = tt }
   stands session c is kind.Renew Looked on = record { names = plain; turn = tt }
   stands session c is kind.Renew (Answered at answer) on = absurd on
-  stands session c is kind.Renew (Granted claim) on = renewed claim (claim_checked s.warehouse s.machine position claim) (claims claim)
-  stands session c is kind.Renew (Renewed claim) on = record { names = plain; turn = tt }
+  stands session c is kind.Renew (Granted claim) on = renewed claim (claim_checked s.warehouse s.machine position claim) on (claims claim)
+  stands session c is kind.Renew (Renewed claim) on = record { names = plain; turn = on }
   stands session c is kind.Renew Finished on = absurd on
   stands session c is kind.Renew CutOff on = record { names = plain; turn = tt }
   stands session c is kind.Close First on = record { names = plain; turn = tt }
   stands session c is kind.Close Looked on = record { names = plain; turn = tt }
   stands session c is kind.Close (Answered at answer) on = absurd on
-  stands session c is kind.Close (Granted claim) on = completed claim (claim_checked s.warehouse s.machine position claim) (claims claim)
-  stands session c is kind.Close (Renewed claim) on = completed claim (claim_checked s.warehouse s.machine position claim) (claims claim)
+  stands session c is kind.Close (Granted claim) on = completed claim (claim_checked s.warehouse s.machine position claim) on (claims claim)
+  stands session c is kind.Close (Renewed claim) on = completed claim (claim_checked s.warehouse s.machine position claim) on (claims claim)
   stands session c is kind.Close Finished on = absurd on
   stands session c is kind.Close CutOff on = record { names = plain; turn = tt }
 

@@ -11,6 +11,15 @@ pub ok_then : {A B E : Type 0} (P : B → Type 0) (x : Result A E) (next : Resul
 ok_then P (Ok a) next all = all
 ok_then P (Err e) next all = tt
 
+-- a check that passed is known behind it
+pub ok_check : {B E : Type 0} (P : B → Type 0) (x : Result (Unit {0}) E) (next : Result B E) → (x ≡ Ok tt → IfOk next P) → IfOk (x >> next) P
+ok_check P (Ok a) next all = all refl
+ok_check P (Err e) next all = tt
+
+pub passed_as : {D E : Type 0} (f : D → E) (x : Result (Unit {0}) D) → refused_as f x ≡ Ok tt → x ≡ Ok tt
+passed_as f (Ok a) h = refl
+passed_as f (Err d) h = cc
+
 pub ok_if : {B E : Type 0} (P : B → Type 0) (t : Bool) (e : E) (next : Result B E) → (t ≡ false → IfOk next P) → IfOk (refuse_if t e >> next) P
 ok_if P true e next all = tt
 ok_if P false e next all = all refl

@@ -3,14 +3,15 @@ use Rattle.std.proofs.Common.{◌≡◌, ◌⊎◌, inl, inr, ⊎_elim, ℕ, zer
 use Rattle.std.proofs.lemmas.Bool.Decides.{nat_tests}
 use Rattle.std.proofs.lemmas.List.{length-append, length-set}
 use Rattle.mesa_span.specs.declared.ranges.Ranges.{Ranges}
+use Rattle.mesa_span.specs.declared.works.Work.{Work}
 use Rattle.mesa_span.specs.Work.{swapped}
 use Rattle.mesa_lease.specs.declared.lease.Lease.{Lease}
 use Rattle.mesa_lease.specs.Book.{Book, last_of, with_last, is_held, holds_at, ended}
-use Rattle.mesa_history.specs.Machine.{Machine, Claim, ranges_at, new_ranges, claimed, claim_renewed, claim_ended, claim_done, with_new_table}
+use Rattle.mesa_history.specs.Machine.{Machine, Claim, ranges_at, new_ranges, claimed, claim_renewed, claim_ended, claim_merged, claim_recast, without_cumulatives, with_new_table}
 use Rattle.mesa_history.specs.Claims.{is_live, is_live_as, IsClaim}
 
 -- what stands at a place once one is set
-set_get : {A : Type 0} (xs : List A) (n : ℕ) (y : A) (k : ℕ) (d : A) → (slice_index_or (slice_set xs n y) k d ≡ slice_index_or xs k d) ⊎ ((k ≡ n) × (slice_index_or (slice_set xs n y) k d ≡ y))
+pub set_get : {A : Type 0} (xs : List A) (n : ℕ) (y : A) (k : ℕ) (d : A) → (slice_index_or (slice_set xs n y) k d ≡ slice_index_or xs k d) ⊎ ((k ≡ n) × (slice_index_or (slice_set xs n y) k d ≡ y))
 set_get [] n y k d = inl refl
 set_get (x ∷ xs) zero y zero d = inr (refl, refl)
 set_get (x ∷ xs) zero y (suc k) d = inl refl
@@ -58,28 +59,28 @@ held_is_live book table number position is =
     ap (is_live_as number) l.1 ∙ (λ i. (is_same l.0.number number l.2 i) && not (l.3 i))
 
 module _ (m : Machine) (claim : Claim) (was : Ranges) (c : IsClaim m claim was) where
-  -- another work is granted
+  -- another lease is granted: a lease that is live was so
+  pub claimed_live : (position : ℕ) (other : Claim) → is_live (claimed m position other).leases claim.table claim.lease ≡ true → is_live m.leases claim.table claim.lease ≡ true
+  claimed_live position other live =
+      ⊎_elim (λ same. ap (is_live_as claim.lease) (sym same) ∙ live)
+      (λ one. (let at : is_live_as claim.lease (Some (record { number = m.leases.granted + 1; until = position + m.leases.turns; ended = false })) ≡ true = ap (is_live_as claim.lease) (sym one.1) ∙ live in
+      let same : m.leases.granted + 1 ≡ claim.lease = same_is (m.leases.granted + 1) claim.lease (both_true (m.leases.granted + 1 == claim.lease) true at).0 in let n = c.number in absurd (omega (arith, n, same))))
+      (set_get m.leases.last other.table (Some (record { number = m.leases.granted + 1; until = position + m.leases.turns; ended = false })) claim.table None)
+
   pub claimed_keeps : (position : ℕ) (other : Claim) → IsClaim (claimed m position other) claim was
-  claimed_keeps position other = record {
-    number = (let n = c.number in omega (arith, n));
-    there = c.there;
-    stays = λ live. ⊎_elim (λ same. c.stays (ap (is_live_as claim.lease) (sym same) ∙ live))
-        (λ one. (let at : is_live_as claim.lease (Some (record { number = m.leases.granted + 1; until = position + m.leases.turns; ended = false })) ≡ true = ap (is_live_as claim.lease) (sym one.1) ∙ live in
-        let same : m.leases.granted + 1 ≡ claim.lease = same_is (m.leases.granted + 1) claim.lease (both_true (m.leases.granted + 1 == claim.lease) true at).0 in let n = c.number in absurd (omega (arith, n, same))))
-        (set_get m.leases.last other.table (Some (record { number = m.leases.granted + 1; until = position + m.leases.turns; ended = false })) claim.table None);
-  }
+  claimed_keeps position other = record { number = (let n = c.number in omega (arith, n)); there = c.there; stays = λ live. c.stays (claimed_live position other live) }
 
   -- a lease that holds is renewed, this one or another
+  pub renewed_live : (position : ℕ) (other : Claim) → is_held m.leases other.table other.lease position ≡ true → is_live (claim_renewed m position other).leases claim.table claim.lease ≡ true → is_live m.leases claim.table claim.lease ≡ true
+  renewed_live position other held live =
+      ⊎_elim (λ same. ap (is_live_as claim.lease) (sym same) ∙ live)
+      (λ one. (let at : is_live_as claim.lease (Some (record { number = other.lease; until = position + m.leases.turns; ended = false })) ≡ true = ap (is_live_as claim.lease) (sym one.1) ∙ live in
+      let same : other.lease ≡ claim.lease = same_is other.lease claim.lease (both_true (other.lease == claim.lease) true at).0 in
+      subst (λ t. is_live m.leases t claim.lease ≡ true) (sym one.0) (subst (λ n. is_live m.leases other.table n ≡ true) same (held_is_live m.leases other.table other.lease position held))))
+      (set_get m.leases.last other.table (Some (record { number = other.lease; until = position + m.leases.turns; ended = false })) claim.table None)
+
   pub renewed_keeps : (position : ℕ) (other : Claim) → is_held m.leases other.table other.lease position ≡ true → IsClaim (claim_renewed m position other) claim was
-  renewed_keeps position other held = record {
-    number = c.number;
-    there = c.there;
-    stays = λ live. ⊎_elim (λ same. c.stays (ap (is_live_as claim.lease) (sym same) ∙ live))
-        (λ one. (let at : is_live_as claim.lease (Some (record { number = other.lease; until = position + m.leases.turns; ended = false })) ≡ true = ap (is_live_as claim.lease) (sym one.1) ∙ live in
-        let same : other.lease ≡ claim.lease = same_is other.lease claim.lease (both_true (other.lease == claim.lease) true at).0 in
-        c.stays (subst (λ t. is_live m.leases t claim.lease ≡ true) (sym one.0) (subst (λ n. is_live m.leases other.table n ≡ true) same (held_is_live m.leases other.table other.lease position held)))))
-        (set_get m.leases.last other.table (Some (record { number = other.lease; until = position + m.leases.turns; ended = false })) claim.table None);
-  }
+  renewed_keeps position other held = record { number = c.number; there = c.there; stays = λ live. c.stays (renewed_live position other held live) }
 
   -- a lease ends
   abbrev ends : Claim → Option Lease → Book
@@ -92,8 +93,8 @@ module _ (m : Machine) (claim : Claim) (was : Ranges) (c : IsClaim m claim was) 
   never : (n : ℕ) (l : Lease) → is_live_as n (Some (record l { ended = true })) ≡ true → ⊥
   never n l e = let f : false ≡ true = (both_true (l.number == n) false e).1 in absurd cc
 
-  live_before : (other : Claim) → is_live (ended other.table other.lease m.leases) claim.table claim.lease ≡ true → is_live m.leases claim.table claim.lease ≡ true
-  live_before other live = by (last_of m.leases other.table) refl
+  pub ended_live : (other : Claim) → is_live (ended other.table other.lease m.leases) claim.table claim.lease ≡ true → is_live m.leases claim.table claim.lease ≡ true
+  ended_live other live = by (last_of m.leases other.table) refl
     where
       if_ended : (b : Bool) (lease : Lease) → is_live (if b then with_last other.table (record lease { ended = true }) m.leases else m.leases) claim.table claim.lease ≡ true → is_live m.leases claim.table claim.lease ≡ true
       if_ended true lease e = ⊎_elim (λ same. ap (is_live_as claim.lease) (sym same) ∙ e) (λ one. absurd (never claim.lease lease (ap (is_live_as claim.lease) (sym one.1) ∙ e)))
@@ -116,25 +117,31 @@ module _ (m : Machine) (claim : Claim) (was : Ranges) (c : IsClaim m claim was) 
       by (Some lease) e = ap (λ (b : Book). b.granted) (ended_is other (Some lease) e) ∙ if_granted (lease.number == other.lease) lease
 
   pub ended_keeps : (other : Claim) → IsClaim (claim_ended m other) claim was
-  ended_keeps other = record { number = subst (λ n. claim.lease ≤ n) (sym (same_granted other)) c.number; there = c.there; stays = λ live. c.stays (live_before other live) }
+  ended_keeps other = record { number = subst (λ n. claim.lease ≤ n) (sym (same_granted other)) c.number; there = c.there; stays = λ live. c.stays (ended_live other live) }
 
-  -- a range is swapped in under a lease that holds: it is another table's, or this claim's lease has ended
-  pub done_keeps : (position : ℕ) (other : Claim) → is_held m.leases other.table other.lease position ≡ true → IsClaim (claim_done m other) claim was
-  done_keeps position other held = record {
+  -- once a lease that held has ended, none of its table is live
+  pub dead : (position : ℕ) (other : Claim) → is_held m.leases other.table other.lease position ≡ true → is_live (ended other.table other.lease m.leases) claim.table claim.lease ≡ true → claim.table ≡ other.table → ⊥
+  dead position other held lives same =
+      let live : is_live (ended other.table other.lease m.leases) other.table claim.lease ≡ true = subst (λ t. is_live (ended other.table other.lease m.leases) t claim.lease ≡ true) same lives in
+      let l = held_lease m.leases other.table other.lease position held in
+      let lease : Lease = l.0 in
+      let done : ended other.table other.lease m.leases ≡ with_last other.table (record lease { ended = true }) m.leases =
+      ended_is other (Some lease) l.1 ∙ ap (λ b. if b then with_last other.table (record lease { ended = true }) m.leases else m.leases) (is_same lease.number other.lease l.2) in
+      never claim.lease lease (ap (is_live_as claim.lease) (sym (set_there m.leases.last other.table (Some (record lease { ended = true })) lease l.1)) ∙ ap (λ b. is_live b other.table claim.lease) (sym done) ∙ live)
+
+  -- a table gets other ranges under a lease that holds and ends: it is another table, or this claim's lease has ended
+  done_keeps : (position : ℕ) (other : Claim) (ranges : Ranges) → is_held m.leases other.table other.lease position ≡ true → IsClaim (record (claim_ended m other) { ranges = slice_set m.ranges other.table ranges }) claim was
+  done_keeps position other ranges held = record {
     number = subst (λ n. claim.lease ≤ n) (sym (same_granted other)) c.number;
-    there = subst (λ n. claim.table < n) (sym (length-set m.ranges other.table (swapped other.work (ranges_at m other.table)))) c.there;
-    stays = λ live. ⊎_elim (λ same. same ∙ c.stays (live_before other live))
-        (λ one. absurd (dead (subst (λ t. is_live (ended other.table other.lease m.leases) t claim.lease ≡ true) one.0 live)))
-        (set_get m.ranges other.table (swapped other.work (ranges_at m other.table)) claim.table (new_ranges 0));
+    there = subst (λ n. claim.table < n) (sym (length-set m.ranges other.table ranges)) c.there;
+    stays = λ live. ⊎_elim (λ same. same ∙ c.stays (ended_live other live)) (λ one. absurd (dead position other held live one.0)) (set_get m.ranges other.table ranges claim.table (new_ranges 0));
   }
-    where
-      dead : is_live (ended other.table other.lease m.leases) other.table claim.lease ≡ true → ⊥
-      dead live =
-          let l = held_lease m.leases other.table other.lease position held in
-          let lease : Lease = l.0 in
-          let done : ended other.table other.lease m.leases ≡ with_last other.table (record lease { ended = true }) m.leases =
-          ended_is other (Some lease) l.1 ∙ ap (λ b. if b then with_last other.table (record lease { ended = true }) m.leases else m.leases) (is_same lease.number other.lease l.2) in
-          never claim.lease lease (ap (is_live_as claim.lease) (sym (set_there m.leases.last other.table (Some (record lease { ended = true })) lease l.1)) ∙ ap (λ b. is_live b other.table claim.lease) (sym done) ∙ live)
+
+  pub merged_keeps : (position : ℕ) (other : Claim) (work : Work) → is_held m.leases other.table other.lease position ≡ true → IsClaim (claim_merged m other work) claim was
+  merged_keeps position other work held = done_keeps position other (swapped work (ranges_at m other.table)) held
+
+  pub recast_keeps : (position : ℕ) (other : Claim) → is_held m.leases other.table other.lease position ≡ true → IsClaim (claim_recast m other) claim was
+  recast_keeps position other held = done_keeps position other (without_cumulatives (ranges_at m other.table)) held
 
   -- a table more
   pub table_keeps : (oldest : ℕ) → IsClaim (with_new_table m oldest) claim was

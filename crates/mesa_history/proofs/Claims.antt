@@ -1,5 +1,5 @@
--- The claims of a run's works stay while their leases do.
-use Rattle.std.proofs.Common.{◌≡◌, ℕ, ◌+◌, ◌<◌, List, [], ◌∷◌, length, Bool, true, false, refl, sym, ◌∙◌, ap, subst, arith, Option, None, Some, ok_or, map, ne_eqb}
+-- The claims of a run's works and recasts stay while their leases do.
+use Rattle.std.proofs.Common.{◌≡◌, ℕ, ◌+◌, ◌<◌, List, [], ◌∷◌, length, Bool, true, false, refl, sym, ◌∙◌, ap, subst, arith, Option, None, Some, ok_or, map, ne_eqb, nat_lt, ◌≤◌, ⊎_elim}
 use Rattle.std.specs.Prelude.{Result, Ok, Err, IfOk}
 use Rattle.std.proofs.lemmas.List.{length-append, length-set, length-map}
 use Rattle.std.proofs.lemmas.List.Quantifiers.{position-Some}
@@ -7,7 +7,8 @@ use mathlib.Core.Logic.{dite}
 use native.Mathlib.Decide.{ℕ_discrete}
 use Rattle.mesa_span.specs.mesa_list.Bytes.{same_bytes}
 use Rattle.mesa_span.specs.declared.ranges.Ranges.{Ranges}
-use Rattle.mesa_span.specs.mesa_list.Checks.{refuse_unless, refused_as}
+use Rattle.mesa_span.specs.declared.works.Work.{Work}
+use Rattle.mesa_span.specs.mesa_list.Checks.{refuse_if, refuse_unless, refused_as}
 use Rattle.mesa_span.specs.Work.{next_work, swapped}
 use Rattle.mesa_lease.specs.Book.{holder, is_held, other_holder}
 use Rattle.mesa_model.specs.declared.commands.Command.{Command}
@@ -22,37 +23,74 @@ use Rattle.mesa_model.specs.declared.replies.Reply.{Reply}
 use Rattle.mesa_model.specs.declared.replies.Reply.TheVariants as reply
 use Rattle.mesa_model.specs.declared.replies.Refusal.{Refusal}
 use Rattle.mesa_model.specs.declared.replies.Refusal.TheVariants as no
-use Rattle.mesa_model.specs.Warehouse.{Table, Store, Warehouse, newest_of, table_at}
+use Rattle.mesa_model.specs.mesa_schema.Changes.{columns_of, epoch_of}
+use Rattle.mesa_model.specs.mesa_schema.Recasts.{Recast, recast_checked}
+use Rattle.mesa_model.specs.declared.commands.RecastWords.{RecastWords}
+use Rattle.mesa_model.specs.Warehouse.{Table, Store, Warehouse, newest_of, no_table, table_at}
 use Rattle.mesa_model.specs.Relations.{table_number}
-use Rattle.mesa_model.specs.Refusals.{no_such_table, refuse_closed}
+use Rattle.mesa_model.specs.Refusals.{no_such_table, recast_refusal, refuse_closed}
+use Rattle.mesa_model.specs.Tables.{alter_table, make_table, make_view, recast_asked, table_recast}
+use Rattle.mesa_model.specs.Load.{load_batch}
+use Rattle.mesa_model.specs.Versions.{expire_to}
+use Rattle.mesa_model.specs.Pins.{make_pin, release_pin}
+use Rattle.mesa_model.specs.Step.{nothing_done}
 use Rattle.mesa_model.specs.Query.{Answer, query_answer}
-use Rattle.mesa_history.specs.Machine.{Machine, Claim, new_ranges, ranges_at, claim_of, claimed, claim_checked, claim_renewed, claim_ended, claim_done, refuse_busy, explained}
+use Rattle.mesa_history.specs.Machine.{Machine, Claim, Errand, Merges, Recasts, new_ranges, ranges_at, claim_of, recast_claim_of, claimed, claim_checked, claim_renewed, claim_ended, claim_merged, claim_recast, max_deltas, refuse_busy, singletons_of, still_checked, without_cumulatives, explained}
 use Rattle.mesa_history.specs.Run.{State, Stage, First, Looked, Answered, Granted, Renewed, Finished, CutOff, Place, Run, place_of, command_of, begins}
-use Rattle.mesa_history.specs.Replay.{Turned, turned, turn_as, turn_of, standing, decide, decided, decided_query, decided_explain, grants, renews, renew, completes, close, leaves, prints, refused_turn, closed_if, closes, some_damage, machine_after, work_name, place_after, with_machine, go, runs}
-use Rattle.mesa_history.specs.Claims.{IsClaim, HasClaim, HasClaimAt, HasRanges}
-use Rattle.mesa_history.proofs.Checks.{ok_bind, ok_then}
-use Rattle.mesa_history.proofs.Claiming.{claimed_keeps, renewed_keeps, ended_keeps, done_keeps, table_keeps, granted_claim}
-use Rattle.mesa_history.proofs.Growing.{made_by, Grows, step_grows}
+use Rattle.mesa_history.specs.Replay.{Turned, turned, turn_as, turn_of, standing, decide, decided, decided_query, decided_explain, grants, renews, renew, completes, claim_asked, does, recasts, recasted, close, leaves, prints, refused_turn, closed_if, closes, some_damage, machine_after, work_name, place_after, with_machine, go, runs}
+use Rattle.mesa_history.specs.Claims.{IsClaim, HasClaim, HasClaimAt, HasErrand, HasRanges, HasRecastClaim, is_live}
+use Rattle.mesa_history.proofs.Checks.{ok_bind, ok_check, ok_then, passed_as}
+use Rattle.mesa_history.proofs.Claiming.{claimed_keeps, claimed_live, dead, ended_keeps, ended_live, granted_claim, merged_keeps, recast_keeps, renewed_keeps, renewed_live, set_get, table_keeps}
+use Rattle.mesa_history.proofs.Growing.{made_by, Grows, alter_grows, done_grows, expire_grows, load_grows, nothing_grows, pin_grows, release_grows, table_grows, view_grows}
 use Rattle.mesa_history.proofs.More.{state_after}
 use Rattle.mesa_history.proofs.Places.{place_of-go, place_of-other}
 
--- what a turn keeps: each table's ranges, every claim, and the claim of its own session's work
+-- what a turn keeps: each table's ranges, every claim, and the claim of its own session's work or recast
 pub record Keeps (s : State) (stage : Stage) (t : Turned) : Type 0 where
   pub ranges : HasRanges s → HasRanges t.state
-  pub claims : (claim : Claim) → HasClaim s claim → HasClaim t.state claim
+  pub claims : HasRanges s → (claim : Claim) (errand : Errand) → HasErrand s claim errand → HasErrand t.state claim errand
   pub own : HasRanges s → HasClaimAt s stage → HasClaimAt t.state t.stage
 
--- a claim in a state with another machine, in which it is one still
-moved : (s : State) (m : Machine) (claim : Claim) (c : HasClaim s claim) → IsClaim m claim c.was → HasClaim (with_machine s m) claim
-moved s m claim c is = record { was = c.was; oldest = c.oldest; versions = c.versions; is = is; next = c.next; later_oldest = c.later_oldest; later_versions = c.later_versions }
+-- what the range machine keeps: it has the ranges of each table, every claim of a work is one still, and a lease that is live was so
+record Goes (m n : Machine) : Type 0 where
+  pub more : length m.ranges ≤ length n.ranges
+  pub claims : (claim : Claim) (was : Ranges) → IsClaim m claim was → IsClaim n claim was
+  pub live : (claim : Claim) (was : Ranges) → IsClaim m claim was → is_live n.leases claim.table claim.lease ≡ true → is_live m.leases claim.table claim.lease ≡ true
+
+-- a claim in a state with another machine
+moved : (s : State) (n : Machine) → Goes s.machine n → (claim : Claim) (errand : Errand) → HasErrand s claim errand → HasErrand (with_machine s n) claim errand
+moved s n goes claim (Merges work) c = record {
+  was = c.was;
+  oldest = c.oldest;
+  versions = c.versions;
+  begins = c.begins;
+  is = goes.claims claim c.was c.is;
+  next = c.next;
+  later_oldest = c.later_oldest;
+  later_versions = c.later_versions;
+  unrecast = λ live. c.unrecast (goes.live claim c.was c.is live);
+}
+moved s n goes claim (Recasts epoch r) c = record {
+  was = c.was;
+  there = (let more = goes.more in let there = c.there in omega (arith, more, there));
+  epoch_was = c.epoch_was;
+  allowed = c.allowed;
+  later_epoch = c.later_epoch;
+  columns = c.columns;
+}
 
 -- ---- what a claim says where it is granted and where it is checked
 
--- a claim that is granted has the next lease, a table that is there and the next work
+-- a claim that is granted is for the next work, or for a recast that is allowed in the table's present epoch
+abbrev IsNewErrand : Warehouse → Machine → ℕ → Errand → Type 0
+IsNewErrand w m table (Merges work) = next_work (ranges_at m table) (table_at w.store table).oldest (newest_of w) ≡ Some work
+IsNewErrand w m table (Recasts epoch r) = (epoch ≡ epoch_of (table_at w.store table).lineage) × (recast_checked (table_at w.store table).lineage r ≡ Ok tt)
+
+-- it has the next lease, and a table that is there
 record IsNew (w : Warehouse) (m : Machine) (claim : Claim) : Type 0 where
   pub lease : claim.lease ≡ m.leases.granted + 1
   pub table : claim.table < length w.store.tables
-  pub work : next_work (ranges_at m claim.table) (table_at w.store claim.table).oldest (newest_of w) ≡ Some claim.work
+  pub errand : IsNewErrand w m claim.table claim.errand
 
 number_there : (s : Store) (name : List ℕ) (number : ℕ) → table_number s name ≡ Some number → number < length s.tables
 number_there s name number is =
@@ -71,7 +109,29 @@ claim_new w m position name =
     ok_bind (IsNew w m) (ok_or (table_number w.store name) (reply.Refused no_such_table)) _ (λ table found.
     ok_then (IsNew w m) (refuse_busy (holder m.leases table position)) _ (
     ok_bind (IsNew w m) (ok_or (next_work (ranges_at m table) (table_at w.store table).oldest (newest_of w)) reply.Idle) _ (λ work next.
-    record { lease = refl; table = number_there w.store name table (found_of _ _ table found); work = found_of _ _ work next }))))
+    record { lease = refl; table = number_there w.store name table (found_of _ _ table found); errand = found_of _ _ work next }))))
+
+recast_claim_new : (w : Warehouse) (m : Machine) (position : ℕ) (words : RecastWords) → IfOk (recast_claim_of w m position words) (IsNew w m)
+recast_claim_new w m position words =
+    ok_then (IsNew w m) (refused_as reply.Refused (refuse_closed w.closed)) _ (
+    ok_bind (IsNew w m) (ok_or (table_number w.store words.table) (reply.Refused no_such_table)) _ (λ table found.
+    ok_check (IsNew w m) (refused_as reply.Refused (refused_as recast_refusal (recast_checked (table_at w.store table).lineage (recast_asked words)))) _ (λ rules.
+    ok_then (IsNew w m) (refuse_busy (holder m.leases table position)) _ (
+    ok_then (IsNew w m) (refuse_if (nat_lt max_deltas (singletons_of w m table)) (reply.Refused (no.TooManyDeltas max_deltas))) _ (
+    record { lease = refl; table = number_there w.store words.table table (found_of _ _ table found); errand = (refl, passed_as recast_refusal _ (passed_as reply.Refused _ rules)) })))))
+
+asked_new : (w : Warehouse) (m : Machine) (position : ℕ) (c : Command) → IfOk (claim_asked w m position c) (IsNew w m)
+asked_new w m position (command.Recast words) = recast_claim_new w m position words
+asked_new w m position (command.Table words) = claim_new w m position []
+asked_new w m position (command.View words) = claim_new w m position []
+asked_new w m position (command.Alter words) = claim_new w m position []
+asked_new w m position (command.Load rows) = claim_new w m position []
+asked_new w m position (command.Query words) = claim_new w m position []
+asked_new w m position (command.Explain words) = claim_new w m position []
+asked_new w m position (command.Pin asked) = claim_new w m position []
+asked_new w m position (command.Release token) = claim_new w m position []
+asked_new w m position (command.Expire table version) = claim_new w m position []
+asked_new w m position (command.Work words) = claim_new w m position words.table
 
 unless_held : (b : Bool) (e : Refusal) → IfOk (refuse_unless b e) (λ ok. b ≡ true)
 unless_held true e = refl
@@ -85,9 +145,16 @@ checked_held s position claim =
 
 -- ---- decisions
 
-after_reply : (w : Warehouse) (r : Reply) (m : Machine) (claim : Claim) (was : Ranges) → IsClaim m claim was → IsClaim (machine_after w r m) claim was
-after_reply w (reply.Table name) m claim was c = table_keeps m claim was c w.store.floor
-after_reply w r m claim was c = c
+same_machine : (m : Machine) → Goes m m
+same_machine m = record { more = omega arith; claims = λ claim was c. c; live = λ claim was c live. live }
+
+after_reply : (w : Warehouse) (r : Reply) (m : Machine) → Goes m (machine_after w r m)
+after_reply w (reply.Table name) m = record {
+  more = omega (arith, length-append m.ranges (new_ranges w.store.floor ∷ []));
+  claims = λ claim was c. table_keeps m claim was c w.store.floor;
+  live = λ claim was c live. live;
+}
+after_reply w r m = same_machine m
 
 ranges_after : (w : Warehouse) (r : Reply) (m : Machine) → length (machine_after w r m).ranges ≡ length m.ranges + made_by r
 ranges_after w (reply.Table name) m = length-append m.ranges (new_ranges w.store.floor ∷ [])
@@ -96,24 +163,44 @@ ranges_after w r m = omega arith
 module _ (position : ℕ) (s : State) (stage : Stage) where
   -- a turn that changes nothing
   stays : (to : Stage) → (HasClaimAt s stage → HasClaimAt s to) → Keeps s stage (leaves s to)
-  stays to own = record { ranges = λ has. has; claims = λ claim c. c; own = λ has at. own at }
+  stays to own = record { ranges = λ has. has; claims = λ has claim errand c. c; own = λ has at. own at }
 
   -- nor does one that prints
   printing : (at : ℕ) (r : Reply) → Keeps s stage (prints at s r)
-  printing at r = record { ranges = λ has. has; claims = λ claim c. c; own = λ has at. tt }
+  printing at r = record { ranges = λ has. has; claims = λ has claim errand c. c; own = λ has at. tt }
+
+  grown : (done : Warehouse × Reply) → Grows s.warehouse done → HasRanges s → (claim : Claim) (errand : Errand) → HasErrand s claim errand → HasErrand (decided position s done).state claim errand
+  grown done grows has claim (Merges work) c =
+      let goes = after_reply done.0 done.1 s.machine in
+      let on = grows.on claim.table (let there = c.is.there in omega (arith, there, has)) in
+      record {
+        was = c.was;
+        oldest = c.oldest;
+        versions = c.versions;
+        begins = c.begins;
+        is = goes.claims claim c.was c.is;
+        next = c.next;
+        later_oldest = (let before = c.later_oldest in let more = on.oldest in omega (arith, before, more));
+        later_versions = (let before = c.later_versions in let more = grows.versions in omega (arith, before, more));
+        unrecast = λ live. on.begins ∙ c.unrecast (goes.live claim c.was c.is live);
+      }
+  grown done grows has claim (Recasts epoch r) c =
+      let goes = after_reply done.0 done.1 s.machine in
+      let on = grows.on claim.table (let there = c.there in omega (arith, there, has)) in
+      record {
+        was = c.was;
+        there = (let more = goes.more in let there = c.there in omega (arith, more, there));
+        epoch_was = c.epoch_was;
+        allowed = c.allowed;
+        later_epoch = (let before = c.later_epoch in let more = on.epoch in omega (arith, before, more));
+        columns = λ same. (let before = c.later_epoch in let more = on.epoch in
+            let at : epoch_of (table_at s.warehouse.store claim.table).lineage ≡ epoch = omega (arith, before, more, same) in on.columns (same ∙ sym at) ∙ c.columns at);
+      }
 
   deciding : (done : Warehouse × Reply) → Grows s.warehouse done → Keeps s stage (decided position s done)
   deciding done grows = record {
     ranges = λ has. (let more = ranges_after done.0 done.1 s.machine in let tables = grows.tables in omega (arith, more, tables, has));
-    claims = λ claim c. record {
-      was = c.was;
-      oldest = c.oldest;
-      versions = c.versions;
-      is = after_reply done.0 done.1 s.machine claim c.was c.is;
-      next = c.next;
-      later_oldest = (let before = c.later_oldest in let more = grows.oldest claim.table in omega (arith, before, more));
-      later_versions = (let before = c.later_versions in let more = grows.versions in omega (arith, before, more));
-    };
+    claims = grown done grows;
     own = λ has at. tt;
   }
 
@@ -128,56 +215,145 @@ module _ (position : ℕ) (s : State) (stage : Stage) where
   decides : (session : ℕ) (c : Command) → Keeps s stage (decide position s session c)
   decides session (command.Query words) = querying (query_answer s.warehouse session words)
   decides session (command.Explain words) = explaining (explained s.warehouse s.machine words)
-  decides session (command.Table words) = deciding _ (step_grows s.warehouse session (command.Table words))
-  decides session (command.View words) = deciding _ (step_grows s.warehouse session (command.View words))
-  decides session (command.Alter words) = deciding _ (step_grows s.warehouse session (command.Alter words))
-  decides session (command.Load rows) = deciding _ (step_grows s.warehouse session (command.Load rows))
-  decides session (command.Pin asked) = deciding _ (step_grows s.warehouse session (command.Pin asked))
-  decides session (command.Release token) = deciding _ (step_grows s.warehouse session (command.Release token))
-  decides session (command.Expire table version) = deciding _ (step_grows s.warehouse session (command.Expire table version))
-  decides session (command.Work words) = deciding _ (step_grows s.warehouse session (command.Work words))
+  decides session (command.Table words) = deciding _ (done_grows s.warehouse (make_table s.warehouse words) (table_grows s.warehouse words))
+  decides session (command.View words) = deciding _ (done_grows s.warehouse (make_view s.warehouse words) (view_grows s.warehouse words))
+  decides session (command.Alter words) = deciding _ (done_grows s.warehouse (alter_table s.warehouse words) (alter_grows s.warehouse words))
+  decides session (command.Load rows) = deciding _ (done_grows s.warehouse (load_batch s.warehouse rows) (load_grows s.warehouse rows))
+  decides session (command.Pin asked) = deciding _ (done_grows s.warehouse (make_pin s.warehouse session asked) (pin_grows s.warehouse session asked))
+  decides session (command.Release token) = deciding _ (done_grows s.warehouse (release_pin s.warehouse session token) (release_grows s.warehouse session token))
+  decides session (command.Expire table version) = deciding _ (done_grows s.warehouse (expire_to s.warehouse table version) (expire_grows s.warehouse table version))
+  decides session (command.Work words) = deciding _ (done_grows s.warehouse (nothing_done s.warehouse) (nothing_grows s.warehouse))
+  decides session (command.Recast words) = deciding _ (done_grows s.warehouse (nothing_done s.warehouse) (nothing_grows s.warehouse))
 
-  -- ---- works
+  -- ---- works and recasts
+
+  new_errand : (claim : Claim) (errand : Errand) → claim.lease ≡ s.machine.leases.granted + 1 → claim.table < length s.machine.ranges → IsNewErrand s.warehouse s.machine claim.table errand
+      → HasErrand (with_machine s (claimed s.machine position claim)) claim errand
+  new_errand claim (Merges work) lease there new = record {
+    was = ranges_at s.machine claim.table;
+    oldest = (table_at s.warehouse.store claim.table).oldest;
+    versions = s.warehouse.next;
+    begins = (table_at s.warehouse.store claim.table).lineage.begins;
+    is = granted_claim s.machine position claim lease there;
+    next = new;
+    later_oldest = omega arith;
+    later_versions = omega arith;
+    unrecast = λ live. refl;
+  }
+  new_errand claim (Recasts epoch r) lease there new = record {
+    was = (table_at s.warehouse.store claim.table).lineage;
+    there = there;
+    epoch_was = sym new.0;
+    allowed = new.1;
+    later_epoch = (let at = new.0 in omega (arith, at));
+    columns = λ same. refl;
+  }
 
   granting : (r : Result Claim Reply) → IfOk r (IsNew s.warehouse s.machine) → Keeps s stage (grants position s r)
   granting (Err r) new = printing position r
   granting (Ok claim) new = record {
     ranges = λ has. has;
-    claims = λ other c. moved s (claimed s.machine position claim) other c (claimed_keeps s.machine other c.was c.is position claim);
-    own = λ has at. record {
-      was = ranges_at s.machine claim.table;
-      oldest = (table_at s.warehouse.store claim.table).oldest;
-      versions = s.warehouse.next;
-      is = granted_claim s.machine position claim new.lease (let there = new.table in omega (arith, there, has));
-      next = new.work;
-      later_oldest = omega arith;
-      later_versions = omega arith;
-    };
+    claims = λ has. moved s (claimed s.machine position claim) (record {
+      more = omega arith;
+      claims = λ other was c. claimed_keeps s.machine other was c position claim;
+      live = λ other was c live. claimed_live s.machine other was c position claim live;
+    });
+    own = λ has at. new_errand claim claim.errand new.lease (let there = new.table in omega (arith, there, has)) new.errand;
+  }
+
+  renewed_goes : (claim : Claim) → is_held s.machine.leases claim.table claim.lease position ≡ true → Goes s.machine (claim_renewed s.machine position claim)
+  renewed_goes claim held = record {
+    more = omega arith;
+    claims = λ other was c. renewed_keeps s.machine other was c position claim held;
+    live = λ other was c live. renewed_live s.machine other was c position claim held live;
   }
 
   renewing : (claim : Claim) (r : Result (Unit {0}) Refusal) → IfOk r (λ ok. is_held s.machine.leases claim.table claim.lease position ≡ true) → stage ≡ Granted claim → Keeps s stage (renews position s claim r)
   renewing claim (Err refusal) held is = printing position (reply.Refused refusal)
   renewing claim (Ok ok) held is = record {
     ranges = λ has. has;
-    claims = λ other c. moved s (claim_renewed s.machine position claim) other c (renewed_keeps s.machine other c.was c.is position claim held);
-    own = λ has at. (let c : HasClaim s claim = subst (HasClaimAt s) is at in moved s (claim_renewed s.machine position claim) claim c (renewed_keeps s.machine claim c.was c.is position claim held));
-  }
-
-  completing : (claim : Claim) (r : Result (Unit {0}) Refusal) → IfOk r (λ ok. is_held s.machine.leases claim.table claim.lease position ≡ true) → Keeps s stage (completes position s claim r)
-  completing claim (Err refusal) held = printing position (reply.Refused refusal)
-  completing claim (Ok ok) held = record {
-    ranges = λ has. (let same = length-set s.machine.ranges claim.table (swapped claim.work (ranges_at s.machine claim.table)) in omega (arith, same, has));
-    claims = λ other c. moved s (claim_done s.machine claim) other c (done_keeps s.machine other c.was c.is position claim held);
-    own = λ has at. tt;
+    claims = λ has. moved s (claim_renewed s.machine position claim) (renewed_goes claim held);
+    own = λ has at. (let c : HasErrand s claim claim.errand = subst (HasClaimAt s) is at in moved s (claim_renewed s.machine position claim) (renewed_goes claim held) claim claim.errand c);
   }
 
   -- a lease ends
   giving_up : (at : ℕ) (claim : Claim) (r : Reply) → Keeps s stage (prints at (with_machine s (claim_ended s.machine claim)) r)
   giving_up at claim r = record {
     ranges = λ has. has;
-    claims = λ other c. moved s (claim_ended s.machine claim) other c (ended_keeps s.machine other c.was c.is claim);
+    claims = λ has. moved s (claim_ended s.machine claim) (record {
+      more = omega arith;
+      claims = λ other was c. ended_keeps s.machine other was c claim;
+      live = λ other was c live. ended_live s.machine other was c claim live;
+    });
     own = λ has at. tt;
   }
+
+  -- a range is swapped in
+  merging : (claim : Claim) (work : Work) → is_held s.machine.leases claim.table claim.lease position ≡ true → Keeps s stage (does position s claim (Merges work))
+  merging claim work held =
+      let same = length-set s.machine.ranges claim.table (swapped work (ranges_at s.machine claim.table)) in
+      record {
+        ranges = λ has. omega (arith, same, has);
+        claims = λ has. moved s (claim_merged s.machine claim work) (record {
+          more = omega (arith, same);
+          claims = λ other was c. merged_keeps s.machine other was c position claim work held;
+          live = λ other was c live. ended_live s.machine other was c claim live;
+        });
+        own = λ has at. tt;
+      }
+
+  -- a table is recast: a work's claim on it has no live lease any more, and its epoch rises
+  recast_grown : (claim : Claim) (r : Recast) → is_held s.machine.leases claim.table claim.lease position ≡ true → (other : Claim) (errand : Errand) → HasErrand s other errand → HasErrand (recasted s claim r) other errand
+  recast_grown claim r held other (Merges work) c =
+      let before : Table = table_at s.warehouse.store claim.table in
+      let got = set_get s.warehouse.store.tables claim.table (table_recast before r) other.table no_table in
+      record {
+        was = c.was;
+        oldest = c.oldest;
+        versions = c.versions;
+        begins = c.begins;
+        is = recast_keeps s.machine other c.was c.is position claim held;
+        next = c.next;
+        later_oldest = (let old = c.later_oldest in ⊎_elim
+            (λ same. (let is = ap (λ (t : Table). t.oldest) same in omega (arith, old, is)))
+            (λ one. (let is = ap (λ (t : Table). t.oldest) one.1 in let at = ap (λ n. (table_at s.warehouse.store n).oldest) one.0 in omega (arith, old, is, at))) got);
+        later_versions = c.later_versions;
+        unrecast = λ live. ⊎_elim
+            (λ same. ap (λ (t : Table). t.lineage.begins) same ∙ c.unrecast (ended_live s.machine other c.was c.is claim live))
+            (λ one. absurd (dead s.machine other c.was c.is position claim held live one.0)) got;
+      }
+  recast_grown claim r held other (Recasts epoch next) c =
+      let before : Table = table_at s.warehouse.store claim.table in
+      let got = set_get s.warehouse.store.tables claim.table (table_recast before r) other.table no_table in
+      record {
+        was = c.was;
+        there = (let there = c.there in omega (arith, there, length-set s.machine.ranges claim.table (without_cumulatives (ranges_at s.machine claim.table))));
+        epoch_was = c.epoch_was;
+        allowed = c.allowed;
+        later_epoch = (let old = c.later_epoch in ⊎_elim
+            (λ same. (let is = ap (λ (t : Table). epoch_of t.lineage) same in omega (arith, old, is)))
+            (λ one. (let is = ap (λ (t : Table). epoch_of t.lineage) one.1 in let at = ap (λ n. epoch_of (table_at s.warehouse.store n).lineage) one.0 in omega (arith, old, is, at))) got);
+        columns = λ now. ⊎_elim
+            (λ same. ap (λ (t : Table). columns_of t.lineage) same ∙ c.columns (ap (λ (t : Table). epoch_of t.lineage) (sym same) ∙ now))
+            (λ one. absurd (let old = c.later_epoch in let is = ap (λ (t : Table). epoch_of t.lineage) one.1 in let at = ap (λ n. epoch_of (table_at s.warehouse.store n).lineage) one.0 in omega (arith, old, is, at, now))) got;
+      }
+
+  recasting : (claim : Claim) (r : Recast) (o : Result (Unit {0}) Refusal) → is_held s.machine.leases claim.table claim.lease position ≡ true → Keeps s stage (recasts position s claim r o)
+  recasting claim r (Err refusal) held = giving_up position claim (reply.Refused refusal)
+  recasting claim r (Ok ok) held = record {
+    ranges = λ has. (let ranges = length-set s.machine.ranges claim.table (without_cumulatives (ranges_at s.machine claim.table)) in
+        let tables = length-set s.warehouse.store.tables claim.table (table_recast (table_at s.warehouse.store claim.table) r) in omega (arith, ranges, tables, has));
+    claims = λ has. recast_grown claim r held;
+    own = λ has at. tt;
+  }
+
+  doing : (claim : Claim) (errand : Errand) → is_held s.machine.leases claim.table claim.lease position ≡ true → Keeps s stage (does position s claim errand)
+  doing claim (Merges work) held = merging claim work held
+  doing claim (Recasts epoch r) held = recasting claim r (still_checked (table_at s.warehouse.store claim.table).lineage epoch r) held
+
+  completing : (claim : Claim) (r : Result (Unit {0}) Refusal) → IfOk r (λ ok. is_held s.machine.leases claim.table claim.lease position ≡ true) → Keeps s stage (completes position s claim r)
+  completing claim (Err refusal) held = printing position (reply.Refused refusal)
+  completing claim (Ok ok) held = doing claim claim.errand held
 
 -- ---- turns
 
@@ -194,7 +370,7 @@ module _ (position : ℕ) (s : State) where
   closed_keeps_all : (stage : Stage) → Keeps s stage (close position s stage)
   closed_keeps_all First = stays position s First First (λ at. at)
   closed_keeps_all Looked = stays position s Looked Looked (λ at. at)
-  closed_keeps_all (Answered at answer) = record { ranges = λ has. has; claims = λ claim c. c; own = λ has at. tt }
+  closed_keeps_all (Answered at answer) = record { ranges = λ has. has; claims = λ has claim errand c. c; own = λ has at. tt }
   closed_keeps_all (Granted claim) = completing position s (Granted claim) claim (claim_checked s.warehouse s.machine position claim) (checked_held s position claim)
   closed_keeps_all (Renewed claim) = completing position s (Renewed claim) claim (claim_checked s.warehouse s.machine position claim) (checked_held s position claim)
   closed_keeps_all Finished = stays position s Finished Finished (λ at. at)
@@ -204,7 +380,7 @@ module _ (position : ℕ) (s : State) where
   standing_keeps session c kind.Look stage = stays position s stage Looked (λ at. tt)
   standing_keeps session c kind.Decide stage = decides position s stage session c
   standing_keeps session c kind.Close stage = closed_keeps_all stage
-  standing_keeps session c kind.Grant stage = granting position s stage (claim_of s.warehouse s.machine position (work_name c)) (claim_new s.warehouse s.machine position (work_name c))
+  standing_keeps session c kind.Grant stage = granting position s stage (claim_asked s.warehouse s.machine position c) (asked_new s.warehouse s.machine position c)
   standing_keeps session c kind.Renew stage = renewed_keeps_all stage
 
   off_keeps : (stage : Stage) (refusal : Refusal) → Keeps s stage (refused_turn position s kind.Close stage refusal)
@@ -224,12 +400,23 @@ module _ (position : ℕ) (s : State) where
   refused_keeps kind.Renew stage refusal = printing position s stage position (reply.Refused refusal)
 
 -- a claim in a state that is closed
-shut : (s : State) (position : ℕ) (claim : Claim) → HasClaim s claim → HasClaim (closed_if true position s) claim
-shut s position claim c = record { was = c.was; oldest = c.oldest; versions = c.versions; is = c.is; next = c.next; later_oldest = c.later_oldest; later_versions = c.later_versions }
+shut : (s : State) (position : ℕ) (claim : Claim) (errand : Errand) → HasErrand s claim errand → HasErrand (closed_if true position s) claim errand
+shut s position claim (Merges work) c = record {
+  was = c.was;
+  oldest = c.oldest;
+  versions = c.versions;
+  begins = c.begins;
+  is = c.is;
+  next = c.next;
+  later_oldest = c.later_oldest;
+  later_versions = c.later_versions;
+  unrecast = c.unrecast;
+}
+shut s position claim (Recasts epoch r) c = record { was = c.was; there = c.there; epoch_was = c.epoch_was; allowed = c.allowed; later_epoch = c.later_epoch; columns = c.columns }
 
 shut_at : (s : State) (position : ℕ) (stage : Stage) → HasClaimAt s stage → HasClaimAt (closed_if true position s) stage
-shut_at s position (Granted claim) at = shut s position claim at
-shut_at s position (Renewed claim) at = shut s position claim at
+shut_at s position (Granted claim) at = shut s position claim claim.errand at
+shut_at s position (Renewed claim) at = shut s position claim claim.errand at
 shut_at s position stage at = tt
 
 -- a write fault, whether it closes the warehouse or not
@@ -237,7 +424,7 @@ fault_keeps : (position : ℕ) (s : State) (b : Bool) (k : Kind) (stage : Stage)
 fault_keeps position s false k stage = refused_keeps position s k stage no.WriteFault
 fault_keeps position s true k stage =
     let keeps = refused_keeps position (closed_if true position s) k stage no.WriteFault in
-    record { ranges = keeps.ranges; claims = λ claim c. keeps.claims claim (shut s position claim c); own = λ has at. keeps.own has (shut_at s position stage at) }
+    record { ranges = keeps.ranges; claims = λ has claim errand c. keeps.claims has claim errand (shut s position claim errand c); own = λ has at. keeps.own has (shut_at s position stage at) }
 
 turn_keeps : (r : Run) (c : Command) (e : Entry) (stage : Stage) (o : Outcome) → Keeps r.state stage (turn_of r c e stage o)
 turn_keeps r c e stage outcome.Stands = standing_keeps r.position r.state e.session c e.kind stage
@@ -258,7 +445,7 @@ turned_keeps script r e = by (command_of script e)
 
 -- ---- runs
 
--- each table has its ranges, and each session's work its claim
+-- each table has its ranges, and each session's work or recast its claim
 pub record HoldAll (r : Run) : Type 0 where
   pub ranges : HasRanges r.state
   pub claims : (session : ℕ) → HasClaimAt r.state (place_of r session).stage
@@ -272,10 +459,10 @@ placed s number Looked at = tt
 placed s number (Answered position answer) at = tt
 placed s number CutOff at = tt
 
-others_hold : (s : State) (stage : Stage) (t : Turned) (mine : Stage) → Keeps s mine t → HasClaimAt s stage → HasClaimAt t.state stage
-others_hold s (Granted claim) t mine keeps at = keeps.claims claim at
-others_hold s (Renewed claim) t mine keeps at = keeps.claims claim at
-others_hold s stage t mine keeps at = tt
+others_hold : (s : State) (stage : Stage) (t : Turned) (mine : Stage) → Keeps s mine t → HasRanges s → HasClaimAt s stage → HasClaimAt t.state stage
+others_hold s (Granted claim) t mine keeps has at = keeps.claims has claim claim.errand at
+others_hold s (Renewed claim) t mine keeps has at = keeps.claims has claim claim.errand at
+others_hold s stage t mine keeps has at = tt
 
 go_holds : (script : Script) (r : Run) (e : Entry) → HoldAll r → HoldAll (go script r e)
 go_holds script r e all =
@@ -289,7 +476,7 @@ go_holds script r e all =
           (placed (turned script r e).state (place_of r e.session).number (turned script r e).stage (keeps.own all.ranges (all.claims e.session))))
           (λ other.
           subst (λ (p : Place). HasClaimAt (turned script r e).state p.stage) (sym (place_of-other script r e session (ne_eqb session e.session other)))
-          (others_hold r.state (place_of r session).stage (turned script r e) (place_of r e.session).stage keeps (all.claims session))));
+          (others_hold r.state (place_of r session).stage (turned script r e) (place_of r e.session).stage keeps all.ranges (all.claims session))));
     }
 
 -- They hold after every history.

@@ -10,7 +10,7 @@ use Rattle.mesa_model.specs.declared.entries.Outcome.TheVariants as outcome
 use Rattle.mesa_model.specs.declared.replies.Refusal.TheVariants as no
 use Rattle.mesa_model.proofs.Closed.{step-closed}
 use Rattle.mesa_history.specs.Run.{State, Stage, First, Looked, Answered, Granted, Renewed, Finished, CutOff, Run, place_of}
-use Rattle.mesa_history.specs.Replay.{turned, turn_of, standing, decide, decided, refuses}
+use Rattle.mesa_history.specs.Replay.{turned, turn_of, standing, decide, decided, grant, refuses}
 use Rattle.mesa_history.specs.Legal.{Fits, is_due_at, is_answered, same_kind}
 use Rattle.mesa_history.proofs.More.{turned_is}
 use Rattle.mesa_history.proofs.Due.{due_turn}
@@ -26,6 +26,21 @@ decide-closed position s session (command.Pin version) p is = ap (decided positi
 decide-closed position s session (command.Release token) p is = ap (decided position s) (step-closed s.warehouse session (command.Release token) p is)
 decide-closed position s session (command.Expire table version) p is = ap (decided position s) (step-closed s.warehouse session (command.Expire table version) p is)
 decide-closed position s session (command.Work words) p is = ap (decided position s) (step-closed s.warehouse session (command.Work words) p is)
+decide-closed position s session (command.Recast words) p is = rw is refl
+
+-- a grant
+grant-closed : (position : ℕ) (s : State) (c : Command) (p : ℕ) → s.warehouse.closed ≡ Some p → grant position s c ≡ refuses position s (no.Closed p)
+grant-closed position s (command.Table words) p is = rw is refl
+grant-closed position s (command.View words) p is = rw is refl
+grant-closed position s (command.Alter words) p is = rw is refl
+grant-closed position s (command.Load rows) p is = rw is refl
+grant-closed position s (command.Query words) p is = rw is refl
+grant-closed position s (command.Explain words) p is = rw is refl
+grant-closed position s (command.Pin version) p is = rw is refl
+grant-closed position s (command.Release token) p is = rw is refl
+grant-closed position s (command.Expire table version) p is = rw is refl
+grant-closed position s (command.Work words) p is = rw is refl
+grant-closed position s (command.Recast words) p is = rw is refl
 
 -- no command closes in its first turn
 no_first_close : (c : Command) → IsTrue (is_due_at c First kind.Close) → ⊥
@@ -39,6 +54,7 @@ no_first_close (command.Pin version) due = cc
 no_first_close (command.Release token) due = cc
 no_first_close (command.Expire table version) due = cc
 no_first_close (command.Work words) due = cc
+no_first_close (command.Recast words) due = cc
 
 -- no command is renewed in its first turn
 no_first_renewal : (c : Command) → IsTrue (is_due_at c First kind.Renew) → ⊥
@@ -52,6 +68,7 @@ no_first_renewal (command.Pin version) due = cc
 no_first_renewal (command.Release token) due = cc
 no_first_renewal (command.Expire table version) due = cc
 no_first_renewal (command.Work words) due = cc
+no_first_renewal (command.Recast words) due = cc
 
 module _ (position : ℕ) (s : State) (session : ℕ) (c : Command) (p : ℕ) (is : s.warehouse.closed ≡ Some p) where
   close-closed : (stage : Stage) → IsTrue (is_due_at c stage kind.Close) → is_answered stage ≡ false → standing position s session c kind.Close stage ≡ refuses position s (no.Closed p)
@@ -77,7 +94,7 @@ module _ (position : ℕ) (s : State) (session : ℕ) (c : Command) (p : ℕ) (i
   standing-closed kind.Look stage due look begun = absurd cc
   standing-closed kind.Decide stage due look begun = decide-closed position s session c p is
   standing-closed kind.Close stage due look begun = close-closed stage due begun
-  standing-closed kind.Grant stage due look begun = rw is refl
+  standing-closed kind.Grant stage due look begun = grant-closed position s c p is
   standing-closed kind.Renew stage due look begun = renew-closed stage due
 
 -- An entry that stands in a closed warehouse, and is no look and no close of an answered query, tells where it closed and changes nothing.

@@ -15,10 +15,12 @@ use Rattle.mesa_model.specs.declared.entries.Outcome.TheVariants as outcome
 use Rattle.mesa_model.specs.declared.replies.Reply.{Reply}
 use Rattle.mesa_model.specs.declared.replies.Refusal.{Refusal}
 use Rattle.mesa_model.specs.declared.replies.Refusal.TheVariants as no
+use Rattle.mesa_model.specs.mesa_schema.Recasts.{Recast}
+use Rattle.mesa_model.specs.Warehouse.{table_at}
 use Rattle.mesa_model.specs.Query.{Answer, query_answer}
-use Rattle.mesa_history.specs.Machine.{Claim, claim_of, claim_checked, explained}
+use Rattle.mesa_history.specs.Machine.{Claim, Errand, Merges, Recasts, claim_checked, still_checked, explained}
 use Rattle.mesa_history.specs.Run.{State, Stage, First, Looked, Answered, Granted, Renewed, CutOff, Finished, Place, Last, Silent, Printed, Skipped, Run, place_of, begins}
-use Rattle.mesa_history.specs.Replay.{Turned, turned, turn_of, standing, decide, decided_query, decided_explain, close, completes, grants, work_name, renews, renew, refused_turn, place_after, last_of, is_skip, is_skipped, closed_if, closes, some_damage, go, runs}
+use Rattle.mesa_history.specs.Replay.{Turned, turned, turn_of, standing, decide, decided_query, decided_explain, close, completes, does, recasts, grants, claim_asked, renews, renew, refused_turn, place_after, last_of, is_skip, is_skipped, closed_if, closes, some_damage, go, runs}
 use Rattle.mesa_history.specs.Legal.{Fits, AllFit, IsLegal, is_due_at, fits_sink, is_complete, is_cut_off_at, is_cut_off, is_silent, last_skipped, has_ended, ends_well, sessions_of}
 use Rattle.mesa_history.proofs.More.{turned_is, last_after}
 use Rattle.mesa_history.proofs.Places.{place_of-go, place_of-other}
@@ -52,9 +54,18 @@ decide_goes position s session (command.Pin version) = never
 decide_goes position s session (command.Release token) = never
 decide_goes position s session (command.Expire table version) = never
 decide_goes position s session (command.Work words) = never
+decide_goes position s session (command.Recast words) = never
+
+recasts_goes : (position : ℕ) (s : State) (claim : Claim) (r : Recast) (o : Result (Unit {0}) Refusal) → Goes (recasts position s claim r o).stage
+recasts_goes position s claim r (Ok ok) = never
+recasts_goes position s claim r (Err refusal) = never
+
+does_goes : (position : ℕ) (s : State) (claim : Claim) (errand : Errand) → Goes (does position s claim errand).stage
+does_goes position s claim (Merges work) = never
+does_goes position s claim (Recasts epoch r) = recasts_goes position s claim r (still_checked (table_at s.warehouse.store claim.table).lineage epoch r)
 
 completes_goes : (position : ℕ) (s : State) (claim : Claim) (o : Result (Unit {0}) Refusal) → Goes (completes position s claim o).stage
-completes_goes position s claim (Ok ok) = never
+completes_goes position s claim (Ok ok) = does_goes position s claim claim.errand
 completes_goes position s claim (Err refusal) = never
 
 close_goes : (position : ℕ) (s : State) (stage : Stage) → Goes stage → Goes (close position s stage).stage
@@ -87,7 +98,7 @@ standing_goes : (position : ℕ) (s : State) (session : ℕ) (c : Command) (k : 
 standing_goes position s session c kind.Look stage goes = never
 standing_goes position s session c kind.Decide stage goes = decide_goes position s session c
 standing_goes position s session c kind.Close stage goes = close_goes position s stage goes
-standing_goes position s session c kind.Grant stage goes = grants_goes position s (claim_of s.warehouse s.machine position (work_name c))
+standing_goes position s session c kind.Grant stage goes = grants_goes position s (claim_asked s.warehouse s.machine position c)
 standing_goes position s session c kind.Renew stage goes = renew_goes position s stage goes
 
 refused_goes : (position : ℕ) (s : State) (k : Kind) (stage : Stage) (refusal : Refusal) → Goes (refused_turn position s k stage refusal).stage

@@ -12,7 +12,7 @@ pub mod Turns
 pub mod Ending
 pub mod Counting
 pub mod Checks
-pub mod Oldest
+pub mod Going
 pub mod Growing
 pub mod Claiming
 pub mod Claims

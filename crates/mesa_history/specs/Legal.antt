@@ -44,9 +44,10 @@ fits_prologue r e = not (r.prologue_over && (e.session == 0))
 abbrev pub first_kind : Command → Kind
 first_kind (command.Load rows) = kind.Look
 first_kind (command.Work words) = kind.Grant
+first_kind (command.Recast words) = kind.Grant
 first_kind c = kind.Decide
 
--- whether a turn of this kind is due: a load looks and is decided; a query is decided and, where it isn't refused, closes; a work is granted a lease, is renewed and closes, or closes without renewal; any other command is decided
+-- whether a turn of this kind is due: a load looks and is decided; a query is decided and, where it isn't refused, closes; a work or a recast is granted a lease, is renewed and closes, or closes without renewal; any other command is decided
 abbrev pub is_due_at : Command → Stage → Kind → Bool
 is_due_at c First k = same_kind (first_kind c) k
 is_due_at c Looked k = same_kind kind.Decide k
@@ -65,12 +66,12 @@ is_due_of (Some c) place e = (e.command == place.number) && is_due_at c place.st
 abbrev pub is_due : Script → Run → Entry → Bool
 is_due script r e = is_due_of (command_of script e) (place_of r e.session) e
 
--- a work was granted a lease and not renewed yet
+-- a work or a recast was granted a lease and not renewed yet
 abbrev pub is_unrenewed : Stage → Bool
 is_unrenewed (Granted claim) = true
 is_unrenewed stage = false
 
--- a work that closes without renewal stands only where the warehouse is closed, so it is refused, and not as lost
+-- a work or a recast that closes without renewal stands only where the warehouse is closed, so it is refused, and not as lost
 abbrev pub fits_renewal : Run → Entry → Bool
 fits_renewal r e =
     not (is_unrenewed (place_of r e.session).stage && same_kind kind.Close e.kind && is_stands e.outcome) || is_some r.state.warehouse.closed
@@ -108,6 +109,7 @@ is_written (reply.Altered table epoch) = true
 is_written (reply.Loaded version rows) = true
 is_written (reply.Expired table oldest) = true
 is_written (reply.Swapped from to) = true
+is_written (reply.Recast table epoch) = true
 is_written r = false
 
 -- whether a turn wrote
@@ -127,9 +129,10 @@ abbrev pub is_query : Command → Bool
 is_query (command.Query words) = true
 is_query c = false
 
--- whether a command is a work
+-- whether a command is done under a lease, as a work and a recast are
 abbrev pub is_work : Command → Bool
 is_work (command.Work words) = true
+is_work (command.Recast words) = true
 is_work c = false
 
 -- whether a command releases a pin
@@ -146,7 +149,7 @@ is_writing (command.Alter words) = true
 is_writing (command.Expire table version) = true
 is_writing c = false
 
--- want of memory stands on every turn but a release and the renewal of a lease; a read fault or damage only on a query and on the close of a work, a read fault also on a grant; a write fault only on the close of a work and on a deciding turn that writes
+-- want of memory stands on every turn but a release and the renewal of a lease; a read fault or damage only on a query and on the close of a work or a recast, a read fault also on a grant; a write fault only on the close of a work or a recast and on a deciding turn that writes
 abbrev pub outcome_fits : Command → Kind → Outcome → Bool
 outcome_fits c k outcome.Stands = true
 outcome_fits c k outcome.Memory = not (is_release c || same_kind kind.Renew k)
@@ -177,7 +180,7 @@ abbrev pub is_unwritten : Outcome → Bool
 is_unwritten outcome.WriteFault = true
 is_unwritten o = false
 
--- a query's deciding turn, or a grant, finds a file that it can't read only where it would have printed nothing, had it stood: where the query would have been answered, or the work granted
+-- a query's deciding turn, or a grant, finds a file that it can't read only where it would have printed nothing, had it stood: where the query would have been answered, or the work or the recast granted
 abbrev pub fits_reading : Script → Run → Entry → Bool
 fits_reading script r e = not (is_unread e.outcome) || same_kind kind.Close e.kind || is_none (told_by script r (stood e))
 
@@ -185,7 +188,7 @@ fits_reading script r e = not (is_unread e.outcome) || same_kind kind.Close e.ki
 abbrev pub would_write : Script → Run → Entry → Bool
 would_write script r e = fits_renewal r (stood e) && wrote (told_by script r (stood e))
 
--- a command for which files are built outside its turns: a load whose rows make a batch, or a work
+-- a command for which files are built outside its turns: a load whose rows make a batch, a work, or a recast
 abbrev pub builds_files : Store → Command → Bool
 builds_files s (command.Load rows) = is_ok (batch_of (tables_named s) rows)
 builds_files s c = is_work c

@@ -13,7 +13,7 @@ pub mod Legal
 pub mod Turns
 pub mod Found
 pub mod Alone
-pub mod Law
 pub mod Sources
+pub mod Law
 pub mod Counting
 pub mod Claims

@@ -14,10 +14,12 @@ use Rattle.mesa_model.specs.declared.replies.Reply.{Reply}
 use Rattle.mesa_model.specs.declared.replies.Reply.TheVariants as reply
 use Rattle.mesa_model.specs.declared.replies.Refusal.{Refusal}
 use Rattle.mesa_model.specs.declared.replies.Refusal.TheVariants as no
-use Rattle.mesa_model.specs.Warehouse.{Warehouse}
+use Rattle.mesa_model.specs.mesa_schema.Recasts.{Recast}
+use Rattle.mesa_model.specs.Warehouse.{Warehouse, table_at}
 use Rattle.mesa_model.specs.Query.{Answer, Heading, query_answer}
-use Rattle.mesa_model.specs.Step.{step}
-use Rattle.mesa_history.specs.Machine.{Machine, Claim, with_new_table, claim_of, claimed, claim_checked, claim_renewed, claim_ended, claim_done, swapped_reply, explained}
+use Rattle.mesa_model.specs.Step.{done_or_refused, nothing_done, step}
+use Rattle.mesa_model.specs.Tables.{recast_reply, with_recast}
+use Rattle.mesa_history.specs.Machine.{Machine, Claim, Errand, Merges, Recasts, with_new_table, claim_of, recast_claim_of, claimed, claim_checked, claim_renewed, claim_ended, claim_merged, claim_recast, swapped_reply, still_checked, explained}
 use Rattle.mesa_history.specs.Run.{State, Stage, First, Looked, Answered, Granted, Renewed, Finished, CutOff, Place, Told, Last, Silent, Printed, Skipped, Run, place_of, command_of}
 
 -- What a turn makes: the state after it, what it prints, if anything, and how far its command has come.
@@ -67,13 +69,14 @@ abbrev pub decided_explain : ℕ → State → Result Reply Refusal → Turned
 decided_explain position s (Ok r) = prints position s r
 decided_explain position s (Err refusal) = refuses position s refusal
 
--- a command's deciding turn: Step, and for explain the range machine
+-- a command's deciding turn: Step, and for explain the range machine; a recast's Step is that of its last turn
 abbrev pub decide : ℕ → State → ℕ → Command → Turned
 decide position s session (command.Query words) = decided_query position s (query_answer s.warehouse session words)
 decide position s session (command.Explain words) = decided_explain position s (explained s.warehouse s.machine words)
+decide position s session (command.Recast words) = decided position s (done_or_refused s.warehouse (nothing_done s.warehouse))
 decide position s session c = decided position s (step s.warehouse session c)
 
--- ---- work
+-- ---- works and recasts
 
 -- the table that a work names
 abbrev pub work_name : Command → List ℕ
@@ -89,30 +92,49 @@ abbrev pub grants : ℕ → State → Result Claim Reply → Turned
 grants position s (Err r) = prints position s r
 grants position s (Ok claim) = leaves (with_machine s (claimed s.machine position claim)) (Granted claim)
 
--- a work's first turn: it is granted a lease, or told why not
+-- what a work or a recast is granted at a position, or the reply by which it isn't
+abbrev pub claim_asked : Warehouse → Machine → ℕ → Command → Result Claim Reply
+claim_asked w m position (command.Recast words) = recast_claim_of w m position words
+claim_asked w m position c = claim_of w m position (work_name c)
+
+-- the first turn of a work or a recast: it is granted a lease, or told why not
 abbrev pub grant : ℕ → State → Command → Turned
-grant position s c = grants position s (claim_of s.warehouse s.machine position (work_name c))
+grant position s c = grants position s (claim_asked s.warehouse s.machine position c)
 
 -- a claim's lease is renewed, or the refusal is printed
 abbrev pub renews : ℕ → State → Claim → Result (Unit {0}) Refusal → Turned
 renews position s claim (Err refusal) = refuses position s refusal
 renews position s claim (Ok ok) = leaves (with_machine s (claim_renewed s.machine position claim)) (Renewed claim)
 
--- the turn of a work whose rows are merged: its lease is renewed, or lost
+-- the turn of a work or a recast whose files are made: its lease is renewed, or lost
 abbrev pub renew : ℕ → State → Stage → Turned
 renew position s (Granted claim) = renews position s claim (claim_checked s.warehouse s.machine position claim)
 renew position s stage = leaves s stage
 
--- a claim's range is swapped in, or the refusal is printed
+-- the state once a claim's table is recast: RecastStep, and the range machine
+abbrev pub recasted : State → Claim → Recast → State
+recasted s claim r = record { warehouse = with_recast s.warehouse claim.table r; machine = claim_recast s.machine claim }
+
+-- a claim's table is recast, or its lease ends and the refusal is printed
+abbrev pub recasts : ℕ → State → Claim → Recast → Result (Unit {0}) Refusal → Turned
+recasts position s claim r (Err refusal) = refuses position (with_machine s (claim_ended s.machine claim)) refusal
+recasts position s claim r (Ok ok) = prints position (recasted s claim r) (recast_reply (table_at s.warehouse.store claim.table))
+
+-- what a claim is for is done: its range is swapped in, or its table is recast
+abbrev pub does : ℕ → State → Claim → Errand → Turned
+does position s claim (Merges work) = prints position (with_machine s (claim_merged s.machine claim work)) (swapped_reply work)
+does position s claim (Recasts epoch r) = recasts position s claim r (still_checked (table_at s.warehouse.store claim.table).lineage epoch r)
+
+-- it is done, or the refusal is printed
 abbrev pub completes : ℕ → State → Claim → Result (Unit {0}) Refusal → Turned
 completes position s claim (Err refusal) = refuses position s refusal
-completes position s claim (Ok ok) = prints position (with_machine s (claim_done s.machine claim)) (swapped_reply claim.work)
+completes position s claim (Ok ok) = does position s claim claim.errand
 
 -- a query's answer, printed at the position at which it was decided
 abbrev pub answers : State → ℕ → Answer → Turned
 answers s at answer = record { state = s; told = Some (record { at = at; reply = reply.Page answer.page; heading = answer.heading }); stage = Finished }
 
--- the last turn of a query or a work: the answer is printed; the work's range is swapped in, or its lease is lost
+-- the last turn of a query, a work or a recast: the answer is printed; the work's range is swapped in, or the recast's table is recast; or its lease is lost
 abbrev pub close : ℕ → State → Stage → Turned
 close position s (Answered at answer) = answers s at answer
 close position s (Granted claim) = completes position s claim (claim_checked s.warehouse s.machine position claim)
@@ -126,7 +148,7 @@ abbrev pub refused_at : ℕ → Stage → ℕ
 refused_at position (Answered at answer) = at
 refused_at position stage = position
 
--- the state after a refused close: it ends the lease of a work
+-- the state after a refused close: it ends the lease of a work or a recast
 abbrev pub closed_off : State → Stage → State
 closed_off s (Granted claim) = with_machine s (claim_ended s.machine claim)
 closed_off s (Renewed claim) = with_machine s (claim_ended s.machine claim)

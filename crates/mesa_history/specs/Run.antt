@@ -13,7 +13,7 @@ pub record State : Type 0 where
   pub warehouse : Warehouse
   pub machine : Machine
 
--- How far a session's command has come: its first turn is due; a load has looked; a query was answered at a position; a work was granted its claim; the claim was renewed; the command is finished; or the session was cut off, since the sink had failed.
+-- How far a session's command has come: its first turn is due; a load has looked; a query was answered at a position; a work or a recast was granted its claim; the claim was renewed; the command is finished; or the session was cut off, since the sink had failed.
 pub data Stage : Type 0 where
   First : Stage
   Looked : Stage

@@ -31,16 +31,18 @@ pub fn moments_never_fall()
         → writes (told_by script r e) ≡ false → closes r.moment e ≡ false → e.moment ≡ before }
 {}
 
-/// A work that closes without a renewal of its lease is neither swapped in nor told that its lease
-/// is lost.
+/// A work or a recast that closes without a renewal of its lease is neither swapped in nor told that
+/// its lease is lost.
 pub fn unrenewed_works_are_refused()
     ensures { (script : Script) (r : Run) (e : Entry) (claim : Claim) → Fits script r e → (place_of r e.session).stage ≡ Granted claim → e.kind ≡ kind.Close
         → IsTrue (tells_other_refusal (told_by script r e)) }
 {}
 
 /// While a session's work has a claim, from its grant to its close, the claim's table has the ranges
-/// that the work was made for, as long as the claim's lease is the table's last one and hasn't
-/// ended. So a range that is swapped in under a lease that holds still follows on those before it.
+/// that the work was made for, and isn't recast, as long as the claim's lease is the table's last one
+/// and hasn't ended. So a range that is swapped in under a lease that holds still follows on those
+/// before it. A recast's claim has an epoch that its table had, and was allowed of the columns that the
+/// table has as long as it has that epoch.
 pub fn claims_stay()
     ensures { (script : Script) (start : State) (h : List Entry) (session : ℕ) → HasRanges start → HasClaimAt (runs script (begins start) h).state (place_of (runs script (begins start) h) session).stage }
 {}

@@ -1,7 +1,9 @@
 -- The fold law, over whole histories.
-use Rattle.std.proofs.Common.{◌≡◌, ℕ, ◌-◌, ◌≤◌, List, [], ◌∷◌, ◌++◌, length, refl, sym, ◌∙◌, ap, subst, arith, append_assoc, slice_get, Option, Some, None}
-use Rattle.std.proofs.lemmas.List.{append-nil, get_or_past}
-use Rattle.mesa_schema.specs.Changes.{columns_of, epoch_of, rule_checked}
+use Rattle.std.proofs.Common.{◌≡◌, ℕ, ◌-◌, ◌≤◌, ◌==◌, List, [], ◌∷◌, map, length, cond, Bool, true, false, refl, sym, ◌∙◌, ap, subst, arith, slice_get, Option, Some, None}
+use Rattle.std.proofs.lemmas.List.{get_or_past}
+use Rattle.std.proofs.lemmas.Option.{slice_get_past}
+use Rattle.mesa_schema.specs.Changes.{Lineage, columns_of, epoch_of, rule_checked}
+use Rattle.mesa_schema.specs.Recasts.{Recast}
 use Rattle.mesa_schema.specs.Rows.{AreRowsOf}
 use Rattle.mesa_schema.proofs.Passing.{passed_first}
 use Rattle.mesa_model.specs.declared.commands.Script.{Script}
@@ -9,94 +11,135 @@ use Rattle.mesa_model.specs.declared.entries.Entry.{Entry}
 use Rattle.mesa_model.specs.Warehouse.{Store, Table, Warehouse, content_at, table_at}
 use Rattle.mesa_model.specs.Tables.{columns_asked}
 use Rattle.mesa_model.specs.WellFormed.{IsContent, IsTable, IsWellFormed}
-use Rattle.mesa_history.specs.Law.{Accepted, FoldLaw, accepted_by, accepted_in, at_present, start_rows}
+use Rattle.mesa_history.specs.Law.{Accepts, FoldLaw, Leaves, Regroups, Writing, carried_content, carried_in, carried_through, source_then, start_source, start_written, writing_by, written_in, written_through}
 use Rattle.mesa_history.specs.Run.{Run, begins}
 use Rattle.mesa_history.specs.Replay.{go, runs}
-use Rattle.mesa_laws.proofs.Kept.{Law, LawAt, law_early, rows_then}
-use Rattle.mesa_laws.proofs.LawAlters.{law_alters}
+use Rattle.mesa_history.specs.Sources.{Source, Written, rows_now, source_recast, written_recast}
+use Rattle.mesa_laws.proofs.Kept.{IsAt, Law, LawAt, all_written, first_written, law_early, no_source}
 use Rattle.mesa_laws.proofs.LawLoads.{law_loads}
-use Rattle.mesa_laws.proofs.LawTables.{law_expires, law_expires_one, law_makes, law_views}
+use Rattle.mesa_laws.proofs.LawTables.{law_alters, law_expires, law_expires_one, law_makes, law_recasts, law_views}
 use Rattle.mesa_laws.proofs.Lifting.{present_now}
 use Rattle.mesa_laws.proofs.Lineages.{change_default}
 use Rattle.mesa_schema.proofs.Lists.{all_at, all_got}
 use Rattle.mesa_laws.proofs.Moves.{Moves}
+use Rattle.mesa_laws.proofs.Recasts.{recast_rules, recast_there}
 use Rattle.mesa_laws.proofs.Turns.{go_moves}
 use Rattle.mesa_laws.proofs.WellFormed.{go_well, table_kept, table_there}
 
 -- ---- the start
 
 module _ (start : Warehouse) (is : IsWellFormed start) where
-  -- a start without versions has no rows
-  nothing : (number : ℕ) (t : Table) → start.next ≡ 0 → start_rows start.store number t 0 ≡ []
-  nothing number t none = then_none (slice_get start.store.tables number) refl
-    where
-      then_none : (o : Option Table) → slice_get start.store.tables number ≡ o → rows_then t 0 o ≡ []
-      then_none None e = refl
-      then_none (Some old) e =
-          let table = all_got (IsTable start) start.store.tables number old e is.tables in
-          let past : length old.contents ≤ 0 - old.oldest = omega (arith, table.versions, none) in
-          ap (at_present t (epoch_of old.lineage)) (get_or_past old.contents (0 - old.oldest) [] past)
+  abbrev pub start_early : ℕ → ℕ → Source
+  start_early number version = start_source start number version
 
-  -- what the law says of a table of the start is its content
-  start_is : (number : ℕ) (t : Table) (version : ℕ) → slice_get start.store.tables number ≡ Some t → start_rows start.store number t version ≡ content_at t version
-  start_is number t version at = ap (rows_then t version) at ∙ present_now t (content_at t version)
+  start_at : (number : ℕ) (t : Table) (version : ℕ) → slice_get start.store.tables number ≡ Some t → start_source start number version ≡ record { epoch = epoch_of t.lineage; rows = content_at t version }
+  start_at number t version at = ap (source_then version) at
 
   start_forms : (t : Table) (version : ℕ) → IsTable start t → AreRowsOf (columns_of t.lineage) (content_at t version)
   start_forms t version table =
       let content : IsContent (columns_of t.lineage) (content_at t version) = all_at (IsContent (columns_of t.lineage)) t.contents (version - t.oldest) [] (record { forms = tt; order = refl }) table.contents in
       content.forms
 
-  start_law : (number : ℕ) (t : Table) → slice_get start.store.tables number ≡ Some t → LawAt start [] start.next number t
-  start_law number t at =
+  -- what the law says of a table of the start is its content
+  start_table : (number : ℕ) (t : Table) → slice_get start.store.tables number ≡ Some t → LawAt start (start_early number) [] start.next t
+  start_table number t at =
       let table = all_got (IsTable start) start.store.tables number t at is.tables in
       record {
         versions = table.versions;
-        started = λ old there. let same : t ≡ old = cc (at, there) in omega (arith, ap (λ (x : Table). epoch_of x.lineage) same);
-        first = subst (AreRowsOf (columns_of t.lineage)) (sym (start_is number t (start.next - 1) at)) (start_forms t (start.next - 1) table);
-        batches = tt;
-        contents = λ version le lt. sym (law_early start number t [] version lt ∙ start_is number t version at);
+        early_at = λ version. subst (IsAt t.lineage) (sym (start_at number t version at))
+            (record { epoch = omega arith; form = subst (AreRowsOf (columns_of t.lineage)) (sym (present_now t.lineage (content_at t version))) (start_forms t version table) });
+        later_at = tt;
+        contents = λ version le lt. sym (law_early start t (start_early number) (all_written start (start_early number) []) version lt ∙ ap (rows_now t.lineage) (start_at number t version at) ∙ present_now t.lineage (content_at t version));
       }
 
+  -- a start without versions has no rows
+  none_at : (version : ℕ) (number : ℕ) (o : Option Table) → slice_get start.store.tables number ≡ o → start.next ≡ 0 → (source_then version o).rows ≡ []
+  none_at version number None e none = refl
+  none_at version number (Some t) e none =
+      let table = all_got (IsTable start) start.store.tables number t e is.tables in
+      get_or_past t.contents (version - t.oldest) [] (let count = table.versions in omega (arith, count, none))
+
   -- The law holds at the start.
-  law_starts : Law start [] start.store start.next
-  law_starts = record { tables = start_law; more = omega arith; grows = omega arith; batches = tt }
+  pub law_starts : Law start start_early (λ number. []) start.store start.next
+  law_starts = record {
+    tables = start_table;
+    more = omega arith;
+    grows = omega arith;
+    since = λ number. tt;
+    nothing = λ none number version. none_at version number (slice_get start.store.tables number) refl none;
+    others = λ number le. ((λ version. ap (source_then version) (slice_get_past start.store.tables number le)), tt);
+  }
 
 -- ---- a turn
 
-module _ (start : Warehouse) (first : IsWellFormed start) (w : Warehouse) (is : IsWellFormed w) (batches : List Accepted) (law : Law start batches w.store w.next) where
-  -- with no batch more
-  no_more : (s : Store) (next : ℕ) → Law start batches s next → Law start (batches ++ []) s next
-  no_more s next kept = subst (λ (past : List Accepted). Law start past s next) (sym (append-nil batches)) kept
+abbrev early_by : Store → Writing → (ℕ → ℕ → Source) → ℕ → ℕ → Source
+early_by s x early number version = carried_through s x number (early number version)
 
-  -- Every turn keeps the law.
-  law_moves : Moves w (λ s next more. Law start (batches ++ more) s next)
+abbrev later_by : Store → Writing → (ℕ → List Written) → ℕ → List Written
+later_by s x later number = written_through s x number (later number)
+
+module _ (start : Warehouse) (first : IsWellFormed start) (w : Warehouse) (is : IsWellFormed w) (early : ℕ → ℕ → Source) (later : ℕ → List Written) (law : Law start early later w.store w.next) where
+  -- Every turn keeps the law, of what is carried through it.
+  law_moves : Moves w (λ s next x. Law start (early_by w.store x early) (later_by w.store x later) s next)
   law_moves = record {
-    same = no_more w.store w.next law;
-    loads = λ words batch read. law_loads start w batches law (table_kept w is) (nothing start first) words batch read;
-    makes = λ words free schema. no_more _ w.next (law_makes start batches w law words.table (columns_asked words));
-    views = λ words number free at rules. no_more _ w.next (law_views start batches w.store w.next number (table_at w.store number) words law (table_there w.store words.table number at));
+    same = law;
+    loads = λ words batch read. law_loads start early later w law (table_kept w is) words batch read;
+    makes = λ words free schema. law_makes start early later w law words.table (columns_asked words);
+    views = λ words number free at rules. law_views start early later w.store w.next law number (table_at w.store number) words (table_there w.store words.table number at);
     alters = λ words number c at asked rules.
         let t : Table = table_at w.store number in
-        no_more _ w.next (law_alters start batches w.store w.next number t c law (table_there w.store words.table number at) (change_default t.lineage words.change c asked (passed_first (rule_checked t.lineage c) _ rules).0));
-    expires = λ version ok. no_more _ w.next (law_expires start batches w.store w.next version law);
-    expires_one = λ name number version at ok. no_more _ w.next (law_expires_one start batches w.store w.next number version (table_at w.store number) law (table_there w.store name number at));
+        law_alters start early later w.store w.next law number t c (table_there w.store words.table number at) (change_default t.lineage words.change c asked (passed_first (rule_checked t.lineage c) _ rules).0);
+    expires = λ version ok. law_expires start early later w.store w.next law version;
+    expires_one = λ name number version at ok. law_expires_one start early later w.store w.next law number version (table_at w.store number) (table_there w.store name number at);
+    recasts = λ number r rules. law_recasts start early later w law number r (recast_there w.store number r rules) (recast_rules (table_at w.store number).lineage r rules);
   }
 
 -- ---- a history
 
-law_runs : (start : Warehouse) → IsWellFormed start → (script : Script) (r : Run) (h : List Entry) (batches : List Accepted) → IsWellFormed r.state.warehouse → Law start batches r.state.warehouse.store r.state.warehouse.next
-    → Law start (batches ++ accepted_in script r h) (runs script r h).state.warehouse.store (runs script r h).state.warehouse.next
-unfolding runs accepted_in
-law_runs start first script r [] batches is law = subst (λ (past : List Accepted). Law start past r.state.warehouse.store r.state.warehouse.next) (sym (append-nil batches)) law
-law_runs start first script r (e ∷ h) batches is law =
-    let next : Run = go script r e in
-    let more : List Accepted = accepted_by script r e in
-    let kept : Law start (batches ++ more) next.state.warehouse.store next.state.warehouse.next =
-    go_moves script r e (λ s n past. Law start (batches ++ past) s n) (law_moves start first r.state.warehouse is batches law) in
-    subst (λ (past : List Accepted). Law start past (runs script next h).state.warehouse.store (runs script next h).state.warehouse.next) (append_assoc batches more (accepted_in script next h))
-    (law_runs start first script next h (batches ++ more) (go_well script r e is) kept)
+pub early_in : Script → Run → List Entry → (ℕ → ℕ → Source) → ℕ → ℕ → Source
+early_in script r [] early = early
+early_in script r (e ∷ h) early = early_in script (go script r e) h (early_by r.state.warehouse.store (writing_by script r e) early)
+
+pub later_in : Script → Run → List Entry → (ℕ → List Written) → ℕ → List Written
+later_in script r [] later = later
+later_in script r (e ∷ h) later = later_in script (go script r e) h (later_by r.state.warehouse.store (writing_by script r e) later)
+
+pub law_runs : (start : Warehouse) → IsWellFormed start → (script : Script) (r : Run) (h : List Entry) (early : ℕ → ℕ → Source) (later : ℕ → List Written) → IsWellFormed r.state.warehouse → Law start early later r.state.warehouse.store r.state.warehouse.next
+    → Law start (early_in script r h early) (later_in script r h later) (runs script r h).state.warehouse.store (runs script r h).state.warehouse.next
+unfolding runs early_in later_in
+law_runs start first script r [] early later is law = law
+law_runs start first script r (e ∷ h) early later is law =
+    law_runs start first script (go script r e) h (early_by r.state.warehouse.store (writing_by script r e) early) (later_by r.state.warehouse.store (writing_by script r e) later) (go_well script r e is)
+    (go_moves script r e (λ s next x. Law start (early_by r.state.warehouse.store x early) (later_by r.state.warehouse.store x later) s next) (law_moves start first r.state.warehouse is early later law))
+
+early_same : (script : Script) (r : Run) (h : List Entry) (early : ℕ → ℕ → Source) (number version : ℕ) → early_in script r h early number version ≡ carried_in script r h number (early number version)
+unfolding early_in carried_in
+early_same script r [] early number version = refl
+early_same script r (e ∷ h) early number version = early_same script (go script r e) h (early_by r.state.warehouse.store (writing_by script r e) early) number version
+
+-- the start's newest content is carried as all else
+first_if : (start : Warehouse) (l : Lineage) (r : Recast) (early : ℕ → Source) (later : List Written) (b : Bool) → cond b (map (written_recast l r) (first_written start early ∷ later)) (first_written start early ∷ later)
+    ≡ first_written start (λ version. cond b (source_recast l r (early version)) (early version)) ∷ cond b (map (written_recast l r) later) later
+first_if start l r early later true = refl
+first_if start l r early later false = refl
+
+first_by : (start : Warehouse) (s : Store) (x : Writing) (number : ℕ) (early : ℕ → Source) (later : List Written) → written_through s x number (first_written start early ∷ later)
+    ≡ first_written start (λ version. carried_through s x number (early version)) ∷ written_through s x number later
+first_by start s (Accepts version batch) number early later = refl
+first_by start s (Regroups table r) number early later = first_if start (table_at s number).lineage r early later (table == number)
+first_by start s Leaves number early later = refl
+
+written_same : (start : Warehouse) (script : Script) (r : Run) (h : List Entry) (early : ℕ → ℕ → Source) (later : ℕ → List Written) (number : ℕ)
+    → written_in script r h number (all_written start (early number) (later number)) ≡ all_written start (early_in script r h early number) (later_in script r h later number)
+unfolding early_in later_in written_in
+written_same start script r [] early later number = refl
+written_same start script r (e ∷ h) early later number =
+    ap (written_in script (go script r e) h number) (first_by start r.state.warehouse.store (writing_by script r e) number (early number) (later number))
+    ∙ written_same start script (go script r e) h (early_by r.state.warehouse.store (writing_by script r e) early) (later_by r.state.warehouse.store (writing_by script r e) later) number
 
 -- The fold law.
 pub law_holds : FoldLaw
 law_holds script start h is number t version at le lt =
-    ((law_runs start.warehouse is script (begins start) h [] is (law_starts start.warehouse is)).tables number t at).contents version le lt
+    let law = law_runs start.warehouse is script (begins start) h (start_early start.warehouse is) (λ n. []) is (law_starts start.warehouse is) in
+    (law.tables number t at).contents version le lt
+    ∙ (λ i. carried_content start.warehouse t (λ v. early_same script (begins start) h (start_early start.warehouse is) number v i) (sym (written_same start.warehouse script (begins start) h (start_early start.warehouse is) (λ n. []) number) i) version)

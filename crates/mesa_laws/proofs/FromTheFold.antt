@@ -2,6 +2,7 @@
 use Rattle.std.proofs.Common.{◌≡◌, ℕ, ◌-◌, ◌==◌, ◌⊎◌, inl, inr, ◌<◌, ◌≤◌, List, refl, sym, ◌∙◌, ap, subst, arith, Option, Some, None, Result, Ok}
 use Rattle.std.proofs.lemmas.Bool.{eq-eqb}
 use Rattle.mesa_list.specs.Checks.{◌>>=◌, refuse_if, refused_as}
+use Rattle.mesa_schema.specs.declared.rows.Row.{Row}
 use Rattle.mesa_schema.specs.Changes.{columns_of, epoch_of}
 use Rattle.mesa_filter.specs.declared.words.QueryWords.{QueryWords}
 use Rattle.mesa_filter.specs.declared.words.VersionWord.{VersionWord}
@@ -19,9 +20,9 @@ use Rattle.mesa_model.specs.Relations.{Relation, relation_columns, relation_of}
 use Rattle.mesa_model.specs.Refusals.{no_such_table, query_refusal}
 use Rattle.mesa_model.specs.Versions.{version_asked, version_checked}
 use Rattle.mesa_model.specs.Query.{Answer, answer_over, answer_rows}
-use Rattle.mesa_history.specs.Law.{Accepted, HoldsIn, accepted_in}
+use Rattle.mesa_history.specs.Law.{HoldsIn, law_content}
 use Rattle.mesa_history.specs.Run.{State, begins}
-use Rattle.mesa_laws.specs.Answers.{IsFromTheFold, IsFromThePresent}
+use Rattle.mesa_laws.specs.Answers.{IsByLaw, IsFromThePresent}
 use Rattle.mesa_laws.specs.Given.{warehouse_after}
 use Rattle.mesa_laws.proofs.AnswersOver.{answer_from, answer_in, answer_of, present_version, rows_seen}
 use Rattle.mesa_laws.proofs.Checks.{bound, bound_other, bound_some, checked_ok, passed, passed_unless}
@@ -35,10 +36,10 @@ use Rattle.mesa_laws.proofs.WellFormed.{runs_well, table_kept, version_there}
 abbrev resumed : QueryWords → Relation → ℕ → Asked → Result Answer Refusal
 resumed words r n asked = refused_as query_refusal (resume_of (relation_columns r) words.relation n (epoch_of r.table.lineage) asked.columns words.resume) >>= (λ (resume : Option (List ℕ)). Ok (answer_over r words n asked resume))
 
-module _ (start : Warehouse) (accepted : List Accepted) (now : Warehouse) (holds : HoldsIn start accepted now) (words : QueryWords) (version : ℕ) where
-  -- An answer over the present tables, at a version at which its relation's table can be queried, is from the fold.
+module _ (law : ℕ → Table → ℕ → List Row) (now : Warehouse) (holds : HoldsIn law now) (words : QueryWords) (version : ℕ) where
+  -- An answer over the present tables, at a version at which its relation's table can be queried, is by the law.
   pub answer_folds : (answer : Answer) (seen : Table → Result ℕ Refusal) (r : Relation) → relation_of now.store words.relation ≡ Some r → seen r.table ≡ Ok version → (r.table.oldest ≤ version) × (version < now.next)
-      → answer_in now.store words seen ≡ Ok answer → (fold : IsFromTheFold start accepted now.store words version answer) × (fold.relation ≡ r)
+      → answer_in now.store words seen ≡ Ok answer → (fold : IsByLaw law now.store words version answer) × (fold.relation ≡ r)
   answer_folds answer seen r found told there is =
       let own : answer_from words r.view r.table.lineage (seen r.table) (content_at r.table) ≡ Ok answer = sym (ap (answer_of words seen) found) ∙ is in
       let asked = bound_other query_refusal (asked_of (relation_columns r) words) _ answer own in
@@ -98,7 +99,7 @@ present_folds script start h words answer is e =
     let seen = seen_in now.store words (present_version now words.version) answer e in
     let r : Relation = seen.0 in
     let kept = table_kept now (runs_well script (begins start) h is) r.number r.table (relation_there now.store words.relation r seen.1) in
-    let folds = answer_folds start.warehouse (accepted_in script (begins start) h) now (law_holds script start h is) words seen.2 answer (present_version now words.version) r seen.1 seen.3
+    let folds = answer_folds (law_content script start h) now (law_holds script start h is) words seen.2 answer (present_version now words.version) r seen.1 seen.3
     (asked_there now r.table.oldest kept words.version seen.2 seen.3) e in
     record {
       version = seen.2;

@@ -1,55 +1,57 @@
 -- What every turn keeps of the fold law: the law itself, and what its next step needs.
-use Rattle.std.proofs.Common.{◌≡◌, ℕ, ◌-◌, ◌<◌, ◌≤◌, List, [], length, slice_get, slice_index_or, Option, Some, None, nat_lt}
+use Rattle.std.proofs.Common.{◌≡◌, ℕ, ◌-◌, ◌<◌, ◌≤◌, List, [], ◌∷◌, length, map, slice_get, Some, nat_lt}
 use Rattle.std.specs.List.{AllByRecursion}
 use Rattle.std.proofs.lemmas.Bool.{cond-false, cond-true, le-ltb, lt-ltb}
-use Rattle.mesa_schema.specs.declared.rows.Row.{Row}
 use Rattle.mesa_schema.specs.Columns.{aggs_of}
-use Rattle.mesa_schema.specs.Changes.{columns_of, epoch_of}
+use Rattle.mesa_schema.specs.Changes.{Lineage, columns_of, epoch_of}
 use Rattle.mesa_schema.specs.Folded.{folded}
 use Rattle.mesa_schema.specs.Rows.{AreRowsOf}
-use Rattle.mesa_batch.specs.Batch.{rows_for}
 use Rattle.mesa_model.specs.Warehouse.{Store, Table, Warehouse, content_at}
-use Rattle.mesa_history.specs.Law.{Accepted, accepted_rows, at_present, law_content, parts_to, start_rows}
+use Rattle.mesa_history.specs.Law.{carried_content}
+use Rattle.mesa_history.specs.Sources.{Source, Written, rows_now, sources_to}
 
--- A batch's rows of a table: its epoch is one of the table's, and its rows, lifted, have the form of the present columns.
-pub record BatchAt (number : ℕ) (t : Table) (a : Accepted) : Type 0 where
-  pub epoch : slice_index_or a.epochs number 0 ≤ epoch_of t.lineage
-  pub form : AreRowsOf (columns_of t.lineage) (accepted_rows number t a)
+-- Rows of a table are of an epoch that it had, and have at present the form of its columns.
+pub record IsAt (l : Lineage) (s : Source) : Type 0 where
+  pub epoch : s.epoch ≤ epoch_of l
+  pub form : AreRowsOf (columns_of l) (rows_now l s)
 
--- A table of a number: it has its contents, it has gone on from the one of the start, what its law folds has the form of its columns, and its contents are what the law says.
-pub record LawAt (start : Warehouse) (accepted : List Accepted) (next number : ℕ) (t : Table) : Type 0 where
+-- the start's newest content, as it is carried so far, stands before what was written since
+abbrev pub first_written : Warehouse → (ℕ → Source) → Written
+first_written start early = record { version = start.next - 1; source = early (start.next - 1) }
+
+abbrev pub all_written : Warehouse → (ℕ → Source) → List Written → List Written
+all_written start early later = first_written start early ∷ later
+
+-- A table has its contents, what the law folds has the form of its columns, and its contents are what the law says.
+pub record LawAt (start : Warehouse) (early : ℕ → Source) (later : List Written) (next : ℕ) (t : Table) : Type 0 where
   pub versions : length t.contents ≡ next - t.oldest
-  pub started : (old : Table) → slice_get start.store.tables number ≡ Some old → epoch_of old.lineage ≤ epoch_of t.lineage
-  pub first : AreRowsOf (columns_of t.lineage) (start_rows start.store number t (start.next - 1))
-  pub batches : AllByRecursion (BatchAt number t) accepted
-  pub contents : (version : ℕ) → t.oldest ≤ version → version < next → content_at t version ≡ law_content start number t accepted version
+  pub early_at : (version : ℕ) → IsAt t.lineage (early version)
+  pub later_at : AllByRecursion (λ (x : Written). IsAt t.lineage x.source) later
+  pub contents : (version : ℕ) → t.oldest ≤ version → version < next → content_at t version ≡ carried_content start t early (all_written start early later) version
 
--- A batch was accepted since the start, and has rows of no table that wasn't there.
-pub record IsAccepted (start : Warehouse) (next tables : ℕ) (a : Accepted) : Type 0 where
-  pub since : start.next ≤ a.version
-  pub until : a.version < next
-  pub epochs : length a.epochs ≤ tables
-  pub within : (number : ℕ) → tables ≤ number → rows_for number a.batch ≡ []
+-- written since the start, before the version that comes next
+abbrev pub IsSince : ℕ → ℕ → Written → Type 0
+IsSince from next x = (from ≤ x.version) × (x.version < next)
 
--- The law holds of each table, and of the batches that were accepted.
-pub record Law (start : Warehouse) (accepted : List Accepted) (s : Store) (next : ℕ) : Type 0 where
-  pub tables : (number : ℕ) (t : Table) → slice_get s.tables number ≡ Some t → LawAt start accepted next number t
+abbrev pub no_source : Source
+no_source = record { epoch = 0; rows = [] }
+
+-- The law holds of each table, and nothing is written of those to come.
+pub record Law (start : Warehouse) (early : ℕ → ℕ → Source) (later : ℕ → List Written) (s : Store) (next : ℕ) : Type 0 where
+  pub tables : (number : ℕ) (t : Table) → slice_get s.tables number ≡ Some t → LawAt start (early number) (later number) next t
   pub more : length start.store.tables ≤ length s.tables
   pub grows : start.next ≤ next
-  pub batches : AllByRecursion (IsAccepted start next (length s.tables)) accepted
-
--- a table's content at a version of the start, lifted, as the law has it
-abbrev pub rows_then : Table → ℕ → Option Table → List Row
-rows_then t version None = []
-rows_then t version (Some old) = at_present t (epoch_of old.lineage) (content_at old version)
+  pub since : (number : ℕ) → AllByRecursion (IsSince start.next next) (later number)
+  pub nothing : start.next ≡ 0 → (number version : ℕ) → (early number version).rows ≡ []
+  pub others : (number : ℕ) → length s.tables ≤ number → ((version : ℕ) → early number version ≡ no_source) × AllByRecursion (λ (x : Written). x.source ≡ no_source) (later number)
 
 -- ---- the law at a version
 
 -- at a version of the start
-pub law_early : (start : Warehouse) (number : ℕ) (t : Table) (accepted : List Accepted) (version : ℕ) → version < start.next → law_content start number t accepted version ≡ start_rows start.store number t version
-law_early start number t accepted version lt = cond-true (nat_lt version start.next) _ _ (lt-ltb version start.next lt)
+pub law_early : (start : Warehouse) (t : Table) (early : ℕ → Source) (written : List Written) (version : ℕ) → version < start.next → carried_content start t early written version ≡ rows_now t.lineage (early version)
+law_early start t early written version lt = cond-true (nat_lt version start.next) _ _ (lt-ltb version start.next lt)
 
 -- at a later one
-pub law_late : (start : Warehouse) (number : ℕ) (t : Table) (accepted : List Accepted) (version : ℕ) → start.next ≤ version
-    → law_content start number t accepted version ≡ folded (aggs_of (columns_of t.lineage)) (parts_to start number t accepted version)
-law_late start number t accepted version le = cond-false (nat_lt version start.next) _ _ (le-ltb version start.next le)
+pub law_late : (start : Warehouse) (t : Table) (early : ℕ → Source) (written : List Written) (version : ℕ) → start.next ≤ version
+    → carried_content start t early written version ≡ folded (aggs_of (columns_of t.lineage)) (map (rows_now t.lineage) (sources_to version written))
+law_late start t early written version le = cond-false (nat_lt version start.next) _ _ (le-ltb version start.next le)

@@ -1,103 +1,129 @@
--- A change of a schema keeps the fold law: each content is lifted, and so is all that the law folds.
-use Rattle.std.proofs.Common.{◌≡◌, ℕ, ◌-◌, ◌≤◌, List, [], ◌∷◌, map, filter, set, refl, sym, ◌∙◌, ap, subst, arith, slice_get, slice_index_or, Option, Some, None, nat_le, inl, inr}
+-- A change of a schema and a recast keep the fold law: each content is lifted or grouped, and so is all that the law folds.
+use Rattle.std.proofs.Common.{◌≡◌, ℕ, ◌-◌, ◌<◌, ◌≤◌, List, [], ◌∷◌, map, filter, cond, true, false, Bool, refl, sym, ◌∙◌, ap, subst, arith, inl, inr, nat_le}
 use Rattle.std.specs.List.{AllByRecursion}
 use Rattle.std.proofs.lemmas.Bool.{cases_lt}
-use Rattle.std.proofs.lemmas.List.{length-map, length-set}
+use Rattle.std.proofs.lemmas.List.{length-map}
 use Rattle.std.proofs.lemmas.Simd.{map-map}
 use Rattle.mesa_schema.specs.declared.rows.Row.{Row}
 use Rattle.mesa_schema.specs.declared.changes.Change.{Change}
 use Rattle.mesa_schema.specs.Columns.{Columns, aggs_of}
-use Rattle.mesa_schema.specs.Changes.{changed, columns_of, epoch_of, lifted_once}
+use Rattle.mesa_schema.specs.Changes.{Lineage, changed, columns_of, epoch_of, lifted_once, with_change}
 use Rattle.mesa_schema.specs.Folded.{folded, rows_of}
 use Rattle.mesa_schema.specs.Lineages.{HasDefault}
+use Rattle.mesa_schema.specs.Recasts.{IsRecastOf, Recast, recast_columns, recast_lineage, recast_rows}
 use Rattle.mesa_schema.specs.Rows.{AreRowsOf, IsRowOf}
 use Rattle.mesa_schema.proofs.Forms.{lifts_folded}
-use Rattle.mesa_batch.specs.Batch.{rows_for}
-use Rattle.mesa_model.specs.Warehouse.{Store, Table, Warehouse, content_at}
-use Rattle.mesa_model.specs.Tables.{table_changed}
-use Rattle.mesa_history.specs.Law.{Accepted, accepted_rows, law_content, parts_to, start_rows}
-use Rattle.mesa_laws.proofs.Kept.{BatchAt, IsAccepted, Law, LawAt, law_early, law_late, rows_then}
-use Rattle.mesa_laws.proofs.Lifting.{present_more}
+use Rattle.mesa_schema.proofs.Lists.{all_append, all_filter, all_map, all_so, map_at, same_maps}
 use Rattle.mesa_schema.proofs.PresentRows.{columns_more, epoch_more, forms_more}
-use Rattle.mesa_schema.proofs.Lists.{all_append, all_filter, all_map, all_so, got_set, map_at, same_maps}
+use Rattle.mesa_schema.proofs.Recasting.{recast_folds, recast_form}
+use Rattle.mesa_model.specs.Warehouse.{Table, Warehouse}
+use Rattle.mesa_model.specs.Tables.{table_changed, table_recast}
+use Rattle.mesa_history.specs.Law.{carried_content}
+use Rattle.mesa_history.specs.Sources.{Source, Written, rows_now, source_recast, source_written, sources_to, written_recast}
+use Rattle.mesa_laws.proofs.Kept.{IsAt, LawAt, all_written, law_early, law_late}
+use Rattle.mesa_laws.proofs.Lifting.{present_more, present_now}
 
 -- rows of parts that each have a form
 parts_form : (s : Columns) (parts : List (List Row)) → AllByRecursion (AreRowsOf s) parts → AreRowsOf s (rows_of parts)
 parts_form s [] all = tt
 parts_form s (part ∷ parts) all = all_append (IsRowOf s) part (rows_of parts) all.0 (parts_form s parts all.1)
 
-module _ (start : Warehouse) (t : Table) (c : Change) (default : HasDefault c) where
-  abbrev once : Row → Row
-  once = lifted_once (columns_of t.lineage) c
+-- what the law folds has the present form
+folds_form : (l : Lineage) (version : ℕ) (written : List Written) → AllByRecursion (λ (x : Written). IsAt l x.source) written → AreRowsOf (columns_of l) (rows_of (map (rows_now l) (sources_to version written)))
+folds_form l version written all =
+    let some = all_filter (λ (x : Written). IsAt l x.source) (λ (x : Written). nat_le x.version version) written all in
+    parts_form (columns_of l) (map (rows_now l) (sources_to version written))
+    (all_map (AreRowsOf (columns_of l)) (rows_now l) (sources_to version written)
+    (all_map (λ (s : Source). AreRowsOf (columns_of l) (rows_now l s)) source_written (filter (λ (x : Written). nat_le x.version version) written)
+    (all_so (λ (x : Written). IsAt l x.source) (λ (x : Written). AreRowsOf (columns_of l) (rows_now l x.source)) (filter (λ (x : Written). nat_le x.version version) written) (λ x is. is.form) some)))
 
-  then_more : (version : ℕ) (o : Option Table) → ((old : Table) → o ≡ Some old → epoch_of old.lineage ≤ epoch_of t.lineage)
-      → rows_then (table_changed t c) version o ≡ map once (rows_then t version o)
-  then_more version None le = refl
-  then_more version (Some old) le = present_more t c (epoch_of old.lineage) (content_at old version) (le old refl)
+-- ---- a change
 
-  forms_changed : (rows : List Row) → AreRowsOf (columns_of t.lineage) rows → AreRowsOf (columns_of (table_changed t c).lineage) (map once rows)
-  forms_changed rows all = subst (λ s. AreRowsOf s (map once rows)) (sym (columns_more t.lineage c)) (forms_more (columns_of t.lineage) c rows default all)
-
-  module _ (batches : List Accepted) (next number : ℕ) (its : LawAt start batches next number t) where
-    start_more : (version : ℕ) → start_rows start.store number (table_changed t c) version ≡ map once (start_rows start.store number t version)
-    start_more version = then_more version (slice_get start.store.tables number) its.started
-
-    accepted_more : (a : Accepted) → BatchAt number t a → accepted_rows number (table_changed t c) a ≡ map once (accepted_rows number t a)
-    accepted_more a is = present_more t c (slice_index_or a.epochs number 0) (rows_for number a.batch) is.epoch
-
-    -- what the law folds is lifted
-    parts_more : (version : ℕ) → parts_to start number (table_changed t c) batches version ≡ map (map once) (parts_to start number t batches version)
-    parts_more version =
-        let past : List Accepted = filter (λ (a : Accepted). nat_le a.version version) batches in
-        let all = all_filter (BatchAt number t) (λ (a : Accepted). nat_le a.version version) batches its.batches in
-        (λ i. start_more (start.next - 1) i ∷ same_maps (BatchAt number t) (accepted_rows number (table_changed t c)) (λ a. map once (accepted_rows number t a)) past accepted_more all i)
-        ∙ ap (λ (parts : List (List Row)). map once (start_rows start.store number t (start.next - 1)) ∷ parts) (sym (map-map (map once) (accepted_rows number t) past))
-
-    parts_are : (version : ℕ) → AreRowsOf (columns_of t.lineage) (rows_of (parts_to start number t batches version))
-    parts_are version =
-        let past : List Accepted = filter (λ (a : Accepted). nat_le a.version version) batches in
-        let all = all_filter (BatchAt number t) (λ (a : Accepted). nat_le a.version version) batches its.batches in
-        parts_form (columns_of t.lineage) (parts_to start number t batches version)
-        (its.first, all_map (AreRowsOf (columns_of t.lineage)) (accepted_rows number t) past (all_so (BatchAt number t) (λ a. AreRowsOf (columns_of t.lineage) (accepted_rows number t a)) past (λ a is. is.form) all))
-
-    -- What the law says is lifted.
-    law_more : (version : ℕ) → law_content start number (table_changed t c) batches version ≡ map once (law_content start number t batches version)
-    law_more version = elim (cases_lt version start.next) [
-      | inl early ↦ law_early start number (table_changed t c) batches version early ∙ start_more version ∙ ap (map once) (sym (law_early start number t batches version early))
-      | inr late ↦
-          law_late start number (table_changed t c) batches version late
-          ∙ ap (λ (s : Columns). folded (aggs_of s) (parts_to start number (table_changed t c) batches version)) (columns_more t.lineage c)
-          ∙ ap (folded (aggs_of (changed (columns_of t.lineage) c))) (parts_more version)
-          ∙ sym (lifts_folded (columns_of t.lineage) (c ∷ []) (parts_to start number t batches version) (default, tt) (parts_are version))
-          ∙ ap (map once) (sym (law_late start number t batches version late))
-    ]
-
-    changed_law : LawAt start batches next number (table_changed t c)
-    changed_law = record {
-      versions = length-map t.contents (map once) ∙ its.versions;
-      started = λ old is. omega (arith, its.started old is, epoch_more t.lineage c);
-      first = subst (AreRowsOf (columns_of (table_changed t c).lineage)) (sym (start_more (start.next - 1))) (forms_changed (start_rows start.store number t (start.next - 1)) its.first);
-      batches = all_so (BatchAt number t) (BatchAt number (table_changed t c)) batches (λ a is. record {
-        epoch = omega (arith, is.epoch, epoch_more t.lineage c);
-        form = subst (AreRowsOf (columns_of (table_changed t c).lineage)) (sym (accepted_more a is)) (forms_changed (accepted_rows number t a) is.form);
-      }) its.batches;
-      contents = λ version le lt. map_at (map once) t.contents (version - t.oldest) [] ∙ ap (map once) (its.contents version le lt) ∙ sym (law_more version);
-    }
-
--- One table in the place of another of which the law holds too.
-pub law_set : (start : Warehouse) (batches : List Accepted) (s : Store) (next number : ℕ) (t' : Table) → Law start batches s next → LawAt start batches next number t'
-    → Law start batches (record s { tables = set s.tables number t' }) next
-law_set start batches s next number t' law its = record {
-  tables = λ place t got. elim (got_set s.tables number t' place t got) [
-    | inl at ↦ law.tables place t at
-    | inr here ↦ subst (λ n. LawAt start batches next n t) (sym here.0) (subst (LawAt start batches next number) here.1 its)
-  ];
-  more = (let before = law.more in omega (arith, before, length-set s.tables number t'));
-  grows = law.grows;
-  batches = subst (λ n. AllByRecursion (IsAccepted start next n) batches) (sym (length-set s.tables number t')) law.batches;
+at_more : (l : Lineage) (c : Change) (s : Source) → HasDefault c → IsAt l s → IsAt (with_change l c) s
+at_more l c s default is = record {
+  epoch = (let le = is.epoch in omega (arith, le, epoch_more l c));
+  form = subst (AreRowsOf (columns_of (with_change l c))) (sym (present_more l c s is.epoch)) (subst (λ columns. AreRowsOf columns (map (lifted_once (columns_of l) c) (rows_now l s))) (sym (columns_more l c)) (forms_more (columns_of l) c (rows_now l s) default is.form));
 }
 
--- A change of a table's schema keeps the law.
-pub law_alters : (start : Warehouse) (batches : List Accepted) (s : Store) (next number : ℕ) (t : Table) (c : Change) → Law start batches s next → slice_get s.tables number ≡ Some t → HasDefault c
-    → Law start batches (record s { tables = set s.tables number (table_changed t c) }) next
-law_alters start batches s next number t c law at default = law_set start batches s next number (table_changed t c) law (changed_law start t c default batches next number (law.tables number t at))
+parts_more : (l : Lineage) (c : Change) (version : ℕ) (written : List Written) → AllByRecursion (λ (x : Written). IsAt l x.source) written
+    → map (rows_now (with_change l c)) (sources_to version written) ≡ map (map (lifted_once (columns_of l) c)) (map (rows_now l) (sources_to version written))
+parts_more l c version written all =
+    let some = all_filter (λ (x : Written). IsAt l x.source) (λ (x : Written). nat_le x.version version) written all in
+    same_maps (IsAt l) (rows_now (with_change l c)) (λ s. map (lifted_once (columns_of l) c) (rows_now l s)) (sources_to version written) (λ s is. present_more l c s is.epoch)
+    (all_map (IsAt l) source_written (filter (λ (x : Written). nat_le x.version version) written) some)
+    ∙ sym (map-map (map (lifted_once (columns_of l) c)) (rows_now l) (sources_to version written))
+
+module _ (start : Warehouse) (t : Table) (c : Change) (default : HasDefault c) (early : ℕ → Source) (later : List Written) (next : ℕ) (its : LawAt start early later next t) where
+  law_more : (version : ℕ) → carried_content start (table_changed t c) early (all_written start early later) version ≡ map (lifted_once (columns_of t.lineage) c) (carried_content start t early (all_written start early later) version)
+  law_more version = elim (cases_lt version start.next) [
+    | inl soon ↦ law_early start (table_changed t c) early (all_written start early later) version soon ∙ present_more t.lineage c (early version) (its.early_at version).epoch
+        ∙ ap (map (lifted_once (columns_of t.lineage) c)) (sym (law_early start t early (all_written start early later) version soon))
+    | inr late ↦
+        let all : AllByRecursion (λ (x : Written). IsAt t.lineage x.source) (all_written start early later) = (its.early_at (start.next - 1), its.later_at) in
+        law_late start (table_changed t c) early (all_written start early later) version late
+        ∙ ap (λ (s : Columns). folded (aggs_of s) (map (rows_now (with_change t.lineage c)) (sources_to version (all_written start early later)))) (columns_more t.lineage c)
+        ∙ ap (folded (aggs_of (changed (columns_of t.lineage) c))) (parts_more t.lineage c version (all_written start early later) all)
+        ∙ sym (lifts_folded (columns_of t.lineage) (c ∷ []) (map (rows_now t.lineage) (sources_to version (all_written start early later))) (default, tt) (folds_form t.lineage version (all_written start early later) all))
+        ∙ ap (map (lifted_once (columns_of t.lineage) c)) (sym (law_late start t early (all_written start early later) version late))
+  ]
+
+  -- A change keeps the law of its table.
+  pub changed_law : LawAt start early later next (table_changed t c)
+  changed_law = record {
+    versions = length-map t.contents (map (lifted_once (columns_of t.lineage) c)) ∙ its.versions;
+    early_at = λ version. at_more t.lineage c (early version) default (its.early_at version);
+    later_at = all_so (λ (x : Written). IsAt t.lineage x.source) (λ (x : Written). IsAt (with_change t.lineage c) x.source) later (λ x is. at_more t.lineage c x.source default is) its.later_at;
+    contents = λ version le lt. map_at (map (lifted_once (columns_of t.lineage) c)) t.contents (version - t.oldest) [] ∙ ap (map (lifted_once (columns_of t.lineage) c)) (its.contents version le lt) ∙ sym (law_more version);
+  }
+
+-- ---- a recast
+
+at_recast : (l : Lineage) (r : Recast) (s : Source) → IsAt l s → IsAt (recast_lineage l r) (source_recast l r s)
+at_recast l r s is = record {
+  epoch = omega arith;
+  form = subst (AreRowsOf (recast_columns (columns_of l) r)) (sym (present_now (recast_lineage l r) (recast_rows (columns_of l) r (rows_now l s)))) (recast_form (columns_of l) r (rows_now l s) is.form);
+}
+
+-- what was written up to a version is carried
+recast_chosen : (l : Lineage) (r : Recast) (version : ℕ) (x : Written) (written : List Written) (b : Bool) → sources_to version (map (written_recast l r) written) ≡ map (source_recast l r) (sources_to version written)
+    → map source_written (cond b (written_recast l r x ∷ filter (λ (w : Written). nat_le w.version version) (map (written_recast l r) written)) (filter (λ (w : Written). nat_le w.version version) (map (written_recast l r) written)))
+    ≡ map (source_recast l r) (map source_written (cond b (x ∷ filter (λ (w : Written). nat_le w.version version) written) (filter (λ (w : Written). nat_le w.version version) written)))
+recast_chosen l r version x written true rest = ap (λ ss. source_recast l r x.source ∷ ss) rest
+recast_chosen l r version x written false rest = rest
+
+to_recast : (l : Lineage) (r : Recast) (version : ℕ) (written : List Written) → sources_to version (map (written_recast l r) written) ≡ map (source_recast l r) (sources_to version written)
+to_recast l r version [] = refl
+to_recast l r version (x ∷ written) = recast_chosen l r version x written (nat_le x.version version) (to_recast l r version written)
+
+now_recast : (l : Lineage) (r : Recast) (sources : List Source) → map (rows_now (recast_lineage l r)) (map (source_recast l r) sources) ≡ map (recast_rows (columns_of l) r) (map (rows_now l) sources)
+now_recast l r [] = refl
+now_recast l r (s ∷ sources) = λ i. present_now (recast_lineage l r) (recast_rows (columns_of l) r (rows_now l s)) i ∷ now_recast l r sources i
+
+module _ (start : Warehouse) (t : Table) (r : Recast) (is : IsRecastOf (columns_of t.lineage) r) (early : ℕ → Source) (later : List Written) (next : ℕ) (its : LawAt start early later next t) where
+  abbrev early' : ℕ → Source
+  early' version = source_recast t.lineage r (early version)
+
+  abbrev later' : List Written
+  later' = map (written_recast t.lineage r) later
+
+  law_grouped : (version : ℕ) → carried_content start (table_recast t r) early' (all_written start early' later') version ≡ recast_rows (columns_of t.lineage) r (carried_content start t early (all_written start early later) version)
+  law_grouped version = elim (cases_lt version start.next) [
+    | inl soon ↦ law_early start (table_recast t r) early' (all_written start early' later') version soon ∙ present_now (recast_lineage t.lineage r) (recast_rows (columns_of t.lineage) r (rows_now t.lineage (early version)))
+        ∙ ap (recast_rows (columns_of t.lineage) r) (sym (law_early start t early (all_written start early later) version soon))
+    | inr late ↦
+        let all : AllByRecursion (λ (x : Written). IsAt t.lineage x.source) (all_written start early later) = (its.early_at (start.next - 1), its.later_at) in
+        law_late start (table_recast t r) early' (all_written start early' later') version late
+        ∙ ap (λ ss. folded (aggs_of (recast_columns (columns_of t.lineage) r)) (map (rows_now (recast_lineage t.lineage r)) ss)) (to_recast t.lineage r version (all_written start early later))
+        ∙ ap (folded (aggs_of (recast_columns (columns_of t.lineage) r))) (now_recast t.lineage r (sources_to version (all_written start early later)))
+        ∙ sym (recast_folds (columns_of t.lineage) r (map (rows_now t.lineage) (sources_to version (all_written start early later))) is (folds_form t.lineage version (all_written start early later) all))
+        ∙ ap (recast_rows (columns_of t.lineage) r) (sym (law_late start t early (all_written start early later) version late))
+  ]
+
+  -- A recast keeps the law of its table: at each version the content is the grouped content, and so is what the law says of what is carried.
+  pub recast_law : LawAt start early' later' next (table_recast t r)
+  recast_law = record {
+    versions = length-map t.contents (recast_rows (columns_of t.lineage) r) ∙ its.versions;
+    early_at = λ version. at_recast t.lineage r (early version) (its.early_at version);
+    later_at = all_map (λ (x : Written). IsAt (recast_lineage t.lineage r) x.source) (written_recast t.lineage r) later (all_so (λ (x : Written). IsAt t.lineage x.source) (λ x. IsAt (recast_lineage t.lineage r) (written_recast t.lineage r x).source) later (λ x at. at_recast t.lineage r x.source at) its.later_at);
+    contents = λ version le lt. map_at (recast_rows (columns_of t.lineage) r) t.contents (version - t.oldest) [] ∙ ap (recast_rows (columns_of t.lineage) r) (its.contents version le lt) ∙ sym (law_grouped version);
+  }

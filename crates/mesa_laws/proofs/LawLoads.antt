@@ -1,25 +1,25 @@
 -- A load keeps the fold law: one version more is the fold of the newest content and of the batch's rows.
-use Rattle.std.proofs.Common.{◌≡◌, ℕ, zero, suc, ◌+◌, ◌-◌, ◌<◌, ◌≤◌, List, [], ◌∷◌, ◌++◌, map, length, filter, get_or, refl, sym, ◌∙◌, ap, subst, arith, slice_get, slice_index_or, Some, Ok, nat_lt, nat_le, cond, ◌⊎◌, inl, inr}
+use Rattle.std.proofs.Common.{◌≡◌, ℕ, zero, suc, ◌+◌, ◌-◌, ◌<◌, ◌≤◌, List, [], ◌∷◌, ◌++◌, map, length, filter, get_or, refl, sym, ◌∙◌, ap, subst, arith, slice_get, Some, Ok, nat_lt, nat_le, cond, true, ◌⊎◌, inl, inr}
 use Rattle.std.specs.List.{AllByRecursion}
-use Rattle.std.specs.Prelude.{option_map}
 use Rattle.std.proofs.lemmas.Bool.{cases_lt, le-leb, lt-leb}
-use Rattle.std.proofs.lemmas.List.{append-nil, get_or_append_left, get_or_push, length-append, length-map, map-append, nil_from_length}
+use Rattle.std.proofs.lemmas.List.{append-nil, get_or_append_left, get_or_past, get_or_push, length-append, map-append, nil_from_length}
 use Rattle.std.proofs.lemmas.List.Elements.{filter-append}
-use Rattle.std.proofs.lemmas.Option.{get_or_from_slice_get, slice_get-map}
+use Rattle.std.proofs.lemmas.Option.{get_or_from_slice_get}
 use Rattle.mesa_value.specs.declared.Agg.{Agg}
 use Rattle.mesa_schema.specs.declared.rows.Row.{Row}
 use Rattle.mesa_schema.specs.Columns.{aggs_of}
-use Rattle.mesa_schema.specs.Changes.{columns_of, epoch_of}
+use Rattle.mesa_schema.specs.Changes.{columns_of, epoch_of, lifted}
 use Rattle.mesa_schema.specs.Folded.{folded}
 use Rattle.mesa_schema.specs.Rows.{AreRowsOf}
 use Rattle.mesa_schema.proofs.Refolds.{refolded}
 use Rattle.mesa_batch.specs.declared.words.RowWords.{RowWords}
 use Rattle.mesa_batch.specs.Batch.{Placed, batch_of, rows_for}
-use Rattle.mesa_model.specs.Warehouse.{Table, Warehouse, content_at}
+use Rattle.mesa_model.specs.Warehouse.{Store, Table, Warehouse, content_at, no_table, table_at}
 use Rattle.mesa_model.specs.Load.{newest_content, table_loaded, tables_loaded, tables_named, with_batch}
-use Rattle.mesa_history.specs.Law.{Accepted, accepted, accepted_rows, at_present, law_content, start_rows}
+use Rattle.mesa_history.specs.Law.{batch_written, carried_content}
+use Rattle.mesa_history.specs.Sources.{Source, Written, rows_now, source_written, sources_to}
 use Rattle.mesa_laws.proofs.Batches.{batch_forms, no_rows_for}
-use Rattle.mesa_laws.proofs.Kept.{BatchAt, IsAccepted, Law, LawAt, law_early, law_late}
+use Rattle.mesa_laws.proofs.Kept.{IsAt, IsSince, Law, LawAt, all_written, first_written, law_early, law_late, no_source}
 use Rattle.mesa_laws.proofs.Lifting.{present_now}
 use Rattle.mesa_schema.proofs.Lists.{all_append, all_pass, all_so}
 
@@ -51,135 +51,143 @@ newest_last (content ∷ next ∷ contents) =
     let place : length (content ∷ next ∷ contents) - 1 ≡ suc (length (next ∷ contents) - 1) = omega arith in
     rest ∙ ap (λ i. get_or (content ∷ next ∷ contents) i []) (sym place)
 
--- no batch was accepted since the start's newest version
-none_since : (start : Warehouse) (next tables : ℕ) (batches : List Accepted) → next ≤ start.next → AllByRecursion (IsAccepted start next tables) batches → batches ≡ []
-none_since start next tables [] le all = refl
-none_since start next tables (a ∷ batches) le all = absurd (omega (arith, all.0.since, all.0.until))
+-- what was written since, up to the version before the next one, is all of it
+all_until : (from next version : ℕ) (later : List Written) → next ≤ version + 1 → AllByRecursion (IsSince from next) later → filter (λ (x : Written). nat_le x.version version) later ≡ later
+all_until from next version later le all = all_pass (IsSince from next) (λ (x : Written). nat_le x.version version) later (λ x is. le-leb x.version version (omega (arith, is.1, le))) all
 
--- the batches up to the version before the next one are all of them
-all_until : (start : Warehouse) (next tables version : ℕ) (batches : List Accepted) → next ≤ version + 1 → AllByRecursion (IsAccepted start next tables) batches → filter (λ (a : Accepted). nat_le a.version version) batches ≡ batches
-all_until start next tables version batches le all = all_pass (IsAccepted start next tables) (λ (a : Accepted). nat_le a.version version) batches (λ a is. le-leb a.version version (omega (arith, is.until))) all
+none_since : (from next : ℕ) (later : List Written) → next ≤ from → AllByRecursion (IsSince from next) later → later ≡ []
+none_since from next [] le all = refl
+none_since from next (x ∷ later) le all = absurd (omega (arith, all.0.0, all.0.1, le))
 
-module _ (start : Warehouse) (w : Warehouse) (batches : List Accepted) (law : Law start batches w.store w.next)
-    (there : (number : ℕ) (t : Table) → slice_get w.store.tables number ≡ Some t → (t.oldest < w.next) ⊎ ((t.oldest ≡ 0) × (w.next ≡ 0)))
-    (nothing : (number : ℕ) (t : Table) → start.next ≡ 0 → start_rows start.store number t 0 ≡ [])
-    (words : List RowWords) (batch : List Placed) (is : batch_of (tables_named w.store) words ≡ Ok batch) where
-  abbrev more : Accepted
-  more = accepted w.store w.next batch
+-- ---- one table
 
-  module _ (number : ℕ) (t : Table) (at : slice_get w.store.tables number ≡ Some t) where
-    abbrev aggs : List Agg
-    aggs = aggs_of (columns_of t.lineage)
+module _ (start : Warehouse) (t : Table) (early : ℕ → Source) (later : List Written) (next : ℕ) (its : LawAt start early later next t)
+    (grows : start.next ≤ next) (there : (t.oldest < next) ⊎ ((t.oldest ≡ 0) × (next ≡ 0))) (since : AllByRecursion (IsSince start.next next) later) (nothing : start.next ≡ 0 → (version : ℕ) → (early version).rows ≡ [])
+    (rows : List Row) (form : AreRowsOf (columns_of t.lineage) rows) where
+  abbrev aggs : List Agg
+  aggs = aggs_of (columns_of t.lineage)
 
-    abbrev oldest_rows : List Row
-    oldest_rows = start_rows start.store number t (start.next - 1)
+  abbrev new : Written
+  new = record { version = next; source = record { epoch = epoch_of t.lineage; rows = rows } }
 
-    -- the batch has the table's epoch
-    epoch_is : slice_index_or more.epochs number 0 ≡ epoch_of t.lineage
-    epoch_is = get_or_from_slice_get more.epochs number (epoch_of t.lineage) 0 (slice_get-map (λ (x : Table). epoch_of x.lineage) w.store.tables number ∙ ap (option_map (λ (x : Table). epoch_of x.lineage)) at)
+  abbrev first : List Row
+  first = rows_now t.lineage (early (start.next - 1))
 
-    rows_are : accepted_rows number t more ≡ rows_for number batch
-    rows_are = ap (λ epoch. at_present t epoch (rows_for number batch)) epoch_is ∙ present_now t (rows_for number batch)
+  -- all that was written stands up to the version before
+  all_there : (version : ℕ) → next ≤ version + 1 → start.next ≤ version + 1 → sources_to version (all_written start early later) ≡ map source_written (all_written start early later)
+  all_there version le least =
+      let one : nat_le (start.next - 1) version ≡ true = le-leb (start.next - 1) version (omega (arith, least)) in
+      ap (map source_written) (
+      ap (λ b. cond b (first_written start early ∷ filter (λ (x : Written). nat_le x.version version) later) (filter (λ (x : Written). nat_le x.version version) later)) one
+      ∙ ap (λ xs. first_written start early ∷ xs) (all_until start.next next version later le since))
 
-    -- the newest content is what the law folds up to it
-    newest_at : t.oldest < w.next → newest_content t.contents ≡ law_content start number t batches (w.next - 1)
-    newest_at lt =
-        let its = law.tables number t at in
-        let place : length t.contents - 1 ≡ w.next - 1 - t.oldest = omega (arith, its.versions) in
-        newest_last t.contents ∙ ap (λ i. get_or t.contents i []) place ∙ its.contents (w.next - 1) (omega arith) (omega arith)
-
-    -- folding the newest content with more rows is folding all that the law folds with them
-    newest_folds : (rows : List Row) → folded aggs (newest_content t.contents ∷ rows ∷ []) ≡ folded aggs (oldest_rows ∷ map (accepted_rows number t) batches ++ rows ∷ [])
-    newest_folds rows = elim (there number t at) [
-      | inl lt ↦ elim (cases_lt (w.next - 1) start.next) [
-        | inl early ↦
-            let grows = law.grows in
-            let same : w.next - 1 ≡ start.next - 1 = omega (arith, grows, lt, early) in
-            let none : batches ≡ [] = none_since start w.next (length w.store.tables) batches (omega (arith, grows, lt, early)) law.batches in
-            ap (λ (first : List Row). folded aggs (first ∷ rows ∷ [])) (newest_at lt ∙ law_early start number t batches (w.next - 1) early ∙ ap (start_rows start.store number t) same)
-            ∙ ap (λ (past : List Accepted). folded aggs (oldest_rows ∷ map (accepted_rows number t) past ++ rows ∷ [])) (sym none)
-        | inr late ↦
-            ap (λ (first : List Row). folded aggs (first ∷ rows ∷ []))
-            (newest_at lt ∙ law_late start number t batches (w.next - 1) late
-            ∙ ap (λ (past : List Accepted). folded aggs (oldest_rows ∷ map (accepted_rows number t) past)) (all_until start w.next (length w.store.tables) (w.next - 1) batches (omega arith) law.batches))
-            ∙ refolded aggs [] (oldest_rows ∷ map (accepted_rows number t) batches) (rows ∷ [])
-      ]
-      | inr empty ↦
-          let its = law.tables number t at in
-          let grows = law.grows in
-          let none : t.contents ≡ [] = nil_from_length t.contents (omega (arith, its.versions, empty.1)) in
-          let before : start.next ≡ 0 = omega (arith, grows, empty.1) in
-          let past : batches ≡ [] = none_since start w.next (length w.store.tables) batches (omega (arith, empty.1)) law.batches in
-          let place : start.next - 1 ≡ 0 = omega (arith, before) in
-          ap (λ contents. folded aggs (newest_content contents ∷ rows ∷ [])) none
-          ∙ ap (λ (first : List Row). folded aggs (first ∷ rows ∷ [])) (sym (ap (start_rows start.store number t) place ∙ nothing number t before))
-          ∙ ap (λ (past : List Accepted). folded aggs (oldest_rows ∷ map (accepted_rows number t) past ++ rows ∷ [])) (sym past)
-    ]
-
-    -- at a version that was there the law says what it said
-    law_before : (version : ℕ) → version < w.next → law_content start number t (batches ++ more ∷ []) version ≡ law_content start number t batches version
-    law_before version lt = ap (λ (past : List Accepted). cond (nat_lt version start.next) (start_rows start.store number t version) (folded aggs (oldest_rows ∷ map (accepted_rows number t) past))) (
-        filter-append (λ (a : Accepted). nat_le a.version version) batches (more ∷ [])
-        ∙ ap (λ b. filter (λ (a : Accepted). nat_le a.version version) batches ++ cond b (more ∷ []) []) (lt-leb w.next version lt)
-        ∙ append-nil (filter (λ (a : Accepted). nat_le a.version version) batches))
-
-    -- at the new one it says the fold of the newest content and the batch's rows
-    law_new : law_content start number t (batches ++ more ∷ []) w.next ≡ folded aggs (newest_content t.contents ∷ rows_for number batch ∷ [])
-    law_new =
-        law_late start number t (batches ++ more ∷ []) w.next law.grows
-        ∙ ap (λ (past : List Accepted). folded aggs (oldest_rows ∷ map (accepted_rows number t) past)) (
-        filter-append (λ (a : Accepted). nat_le a.version w.next) batches (more ∷ [])
-        ∙ (λ i. all_until start w.next (length w.store.tables) w.next batches (omega arith) law.batches i ++ cond (le-leb w.next w.next (omega arith) i) (more ∷ []) []))
-        ∙ ap (λ (parts : List (List Row)). folded aggs (oldest_rows ∷ parts)) (map-append (accepted_rows number t) batches (more ∷ []) ∙ ap (λ (rows : List Row). map (accepted_rows number t) batches ++ rows ∷ []) rows_are)
-        ∙ sym (newest_folds (rows_for number batch))
-
-    -- the contents of a loaded table
-    loaded_contents : (version : ℕ) → t.oldest ≤ version → version < w.next + 1
-        → content_at (table_loaded t (rows_for number batch)) version ≡ law_content start number t (batches ++ more ∷ []) version
-    loaded_contents version le lt =
-        let its = law.tables number t at in
-        let new : List Row = folded aggs (newest_content t.contents ∷ rows_for number batch ∷ []) in
-        elim (cases_lt version w.next) [
-          | inl before ↦ get_or_append_left t.contents (new ∷ []) [] (version - t.oldest) (omega (arith, its.versions)) ∙ its.contents version le before ∙ sym (law_before version before)
-          | inr after ↦
-              let same : version ≡ w.next = omega arith in
-              get_or_push t.contents new [] (version - t.oldest) (omega (arith, its.versions)) ∙ sym law_new ∙ ap (law_content start number t (batches ++ more ∷ [])) (sym same)
+  -- folding the newest content with more rows is folding all that the law folds with them
+  newest_folds : folded aggs (newest_content t.contents ∷ rows ∷ []) ≡ folded aggs (map (rows_now t.lineage) (map source_written (all_written start early later)) ++ rows ∷ [])
+  newest_folds = elim there [
+    | inl lt ↦
+        let place : length t.contents - 1 ≡ next - 1 - t.oldest = (let count = its.versions in omega (arith, count, lt)) in
+        let newest : newest_content t.contents ≡ carried_content start t early (all_written start early later) (next - 1) =
+        newest_last t.contents ∙ ap (λ i. get_or t.contents i []) place ∙ its.contents (next - 1) (omega (arith, lt)) (omega (arith, lt)) in
+        elim (cases_lt (next - 1) start.next) [
+          | inl soon ↦
+              let same : next ≡ start.next = omega (arith, soon, grows, lt) in
+              let none : later ≡ [] = none_since start.next next later (omega (arith, same)) since in
+              ap (λ content. folded aggs (content ∷ rows ∷ [])) (newest ∙ law_early start t early (all_written start early later) (next - 1) soon ∙ ap (λ n. rows_now t.lineage (early (n - 1))) same)
+              ∙ ap (λ xs. folded aggs (first ∷ map (rows_now t.lineage) (map source_written xs) ++ rows ∷ [])) (sym none)
+          | inr late ↦
+              ap (λ content. folded aggs (content ∷ rows ∷ [])) (newest ∙ law_late start t early (all_written start early later) (next - 1) late
+              ∙ ap (λ ss. folded aggs (map (rows_now t.lineage) ss)) (all_there (next - 1) (omega (arith, lt)) (omega (arith, grows, lt))))
+              ∙ refolded aggs [] (map (rows_now t.lineage) (map source_written (all_written start early later))) (rows ∷ [])
         ]
+    | inr empty ↦
+        let none : t.contents ≡ [] = nil_from_length t.contents (let count = its.versions in omega (arith, count, empty.1)) in
+        let before : start.next ≡ 0 = omega (arith, grows, empty.1) in
+        let past : later ≡ [] = none_since start.next next later (omega (arith, empty.1)) since in
+        ap (λ contents. folded aggs (newest_content contents ∷ rows ∷ [])) none
+        ∙ ap (λ none_there. folded aggs (map (lifted t.lineage (early (start.next - 1)).epoch (epoch_of t.lineage)) none_there ∷ rows ∷ [])) (sym (nothing before (start.next - 1)))
+        ∙ ap (λ xs. folded aggs (first ∷ map (rows_now t.lineage) (map source_written xs) ++ rows ∷ [])) (sym past)
+  ]
 
-    loaded_law : LawAt start (batches ++ more ∷ []) (w.next + 1) number (table_loaded t (rows_for number batch))
-    loaded_law =
-        let its = law.tables number t at in
-        let new : List Row = folded aggs (newest_content t.contents ∷ rows_for number batch ∷ []) in
-        record {
-          versions = length-append t.contents (new ∷ []) ∙ (let count = its.versions in elim (there number t at) [ inl lt ↦ omega (arith, count) | inr empty ↦ omega (arith, count, empty.0, empty.1) ]);
-          started = its.started;
-          first = its.first;
-          batches = all_append (BatchAt number (table_loaded t (rows_for number batch))) batches (more ∷ [])
-              (all_so (BatchAt number t) (BatchAt number (table_loaded t (rows_for number batch))) batches (λ a is. record { epoch = is.epoch; form = is.form }) its.batches)
-              (record { epoch = (let same = epoch_is in omega (arith, same)); form = subst (AreRowsOf (columns_of t.lineage)) (sym rows_are) (batch_forms w.store words batch number t is at) }, tt);
-          contents = loaded_contents;
-        }
+  -- at a version that was there the law says what it said
+  law_before : (version : ℕ) → version < next → carried_content start t early (all_written start early (later ++ new ∷ [])) version ≡ carried_content start t early (all_written start early later) version
+  law_before version lt =
+      let same : filter (λ (x : Written). nat_le x.version version) (all_written start early later ++ new ∷ []) ≡ filter (λ (x : Written). nat_le x.version version) (all_written start early later) =
+      filter-append (λ (x : Written). nat_le x.version version) (all_written start early later) (new ∷ [])
+      ∙ ap (λ b. filter (λ (x : Written). nat_le x.version version) (all_written start early later) ++ cond b (new ∷ []) []) (lt-leb next version lt)
+      ∙ append-nil (filter (λ (x : Written). nat_le x.version version) (all_written start early later)) in
+      ap (λ xs. cond (nat_lt version start.next) (rows_now t.lineage (early version)) (folded aggs (map (rows_now t.lineage) (map source_written xs)))) same
+
+  -- at the new one it says the fold of the newest content and the rows
+  law_new : carried_content start t early (all_written start early (later ++ new ∷ [])) next ≡ folded aggs (newest_content t.contents ∷ rows ∷ [])
+  law_new =
+      let same : sources_to next (all_written start early later ++ new ∷ []) ≡ map source_written (all_written start early later) ++ new.source ∷ [] =
+      ap (map source_written) (filter-append (λ (x : Written). nat_le x.version next) (all_written start early later) (new ∷ []))
+      ∙ map-append source_written (filter (λ (x : Written). nat_le x.version next) (all_written start early later)) (filter (λ (x : Written). nat_le x.version next) (new ∷ []))
+      ∙ (λ i. all_there next (omega arith) (omega (arith, grows)) i ++ map source_written (cond (le-leb next next (omega arith) i) (new ∷ []) [])) in
+      law_late start t early (all_written start early (later ++ new ∷ [])) next grows
+      ∙ ap (λ ss. folded aggs (map (rows_now t.lineage) ss)) same
+      ∙ ap (folded aggs) (map-append (rows_now t.lineage) (map source_written (all_written start early later)) (new.source ∷ []) ∙ ap (λ part. map (rows_now t.lineage) (map source_written (all_written start early later)) ++ part ∷ []) (present_now t.lineage rows))
+      ∙ sym newest_folds
+
+  -- the contents of a loaded table
+  loaded_contents : (version : ℕ) → t.oldest ≤ version → version < next + 1 → content_at (table_loaded t rows) version ≡ carried_content start t early (all_written start early (later ++ new ∷ [])) version
+  loaded_contents version le lt =
+      let fresh : List Row = folded aggs (newest_content t.contents ∷ rows ∷ []) in
+      elim (cases_lt version next) [
+        | inl before ↦ get_or_append_left t.contents (fresh ∷ []) [] (version - t.oldest) (let count = its.versions in omega (arith, count, before, le)) ∙ its.contents version le before ∙ sym (law_before version before)
+        | inr after ↦
+            let same : version ≡ next = omega (arith, after, lt) in
+            get_or_push t.contents fresh [] (version - t.oldest) (let count = its.versions in omega (arith, count, same)) ∙ sym law_new ∙ ap (carried_content start t early (all_written start early (later ++ new ∷ []))) (sym same)
+      ]
+
+  loaded_law : LawAt start early (later ++ new ∷ []) (next + 1) (table_loaded t rows)
+  loaded_law =
+      let fresh : List Row = folded aggs (newest_content t.contents ∷ rows ∷ []) in
+      record {
+        versions = length-append t.contents (fresh ∷ []) ∙ (let count = its.versions in elim there [ inl lt ↦ omega (arith, count, lt) | inr empty ↦ omega (arith, count, empty.0, empty.1) ]);
+        early_at = its.early_at;
+        later_at = all_append (λ (x : Written). IsAt t.lineage x.source) later (new ∷ []) its.later_at (record { epoch = omega arith; form = subst (AreRowsOf (columns_of t.lineage)) (sym (present_now t.lineage rows)) form }, tt);
+        contents = loaded_contents;
+      }
+
+-- ---- all tables
+
+table_is : (s : Store) (number : ℕ) (t : Table) → slice_get s.tables number ≡ Some t → table_at s number ≡ t
+table_is s number t at = get_or_from_slice_get s.tables number t no_table at
+
+module _ (start : Warehouse) (early : ℕ → ℕ → Source) (later : ℕ → List Written) (w : Warehouse) (law : Law start early later w.store w.next)
+    (there : (number : ℕ) (t : Table) → slice_get w.store.tables number ≡ Some t → (t.oldest < w.next) ⊎ ((t.oldest ≡ 0) × (w.next ≡ 0)))
+    (words : List RowWords) (batch : List Placed) (is : batch_of (tables_named w.store) words ≡ Ok batch) where
+  abbrev more : ℕ → Written
+  more number = batch_written w.store w.next batch number
+
+  abbrev later_more : ℕ → List Written
+  later_more number = later number ++ batch_written w.store w.next batch number ∷ []
+
+  -- the batch has the table's epoch
+  loaded_at : (number : ℕ) (t : Table) → slice_get w.store.tables number ≡ Some t → LawAt start (early number) (later_more number) (w.next + 1) (table_loaded t (rows_for number batch))
+  loaded_at number t at =
+      let epoch : epoch_of t.lineage ≡ epoch_of (table_at w.store number).lineage = ap (λ (x : Table). epoch_of x.lineage) (sym (table_is w.store number t at)) in
+      subst (λ e. LawAt start (early number) (later number ++ record { version = w.next; source = record { epoch = e; rows = rows_for number batch } } ∷ []) (w.next + 1) (table_loaded t (rows_for number batch))) epoch
+      (loaded_law start t (early number) (later number) w.next (law.tables number t at) law.grows (there number t at) (law.since number) (λ none version. law.nothing none number version) (rows_for number batch) (batch_forms w.store words batch number t is at))
 
   -- A load keeps the law.
-  pub law_loads : Law start (batches ++ more ∷ []) (with_batch w batch).store (w.next + 1)
+  pub law_loads : Law start early later_more (with_batch w batch).store (w.next + 1)
   law_loads =
       let count : length (tables_loaded batch 0 w.store.tables) ≡ length w.store.tables = length_loaded batch 0 w.store.tables in
       record {
         tables = λ number t' got.
             let from = got_loaded batch 0 w.store.tables number t' got in
             let at : 0 + number ≡ number = omega arith in
-            subst (LawAt start (batches ++ more ∷ []) (w.next + 1) number) (ap (λ k. table_loaded from.0 (rows_for k batch)) (sym at) ∙ from.2) (loaded_law number from.0 from.1);
+            subst (LawAt start (early number) (later_more number) (w.next + 1)) (ap (λ k. table_loaded from.0 (rows_for k batch)) (sym at) ∙ from.2) (loaded_at number from.0 from.1);
         more = (let before = law.more in omega (arith, before, count));
         grows = (let before = law.grows in omega (arith, before));
-        batches = all_append (IsAccepted start (w.next + 1) (length (tables_loaded batch 0 w.store.tables))) batches (more ∷ [])
-            (all_so (IsAccepted start w.next (length w.store.tables)) (IsAccepted start (w.next + 1) (length (tables_loaded batch 0 w.store.tables))) batches
-            (λ a old. record { since = old.since; until = omega (arith, old.until); epochs = omega (arith, old.epochs, count); within = λ number le. old.within number (omega (arith, le, count)) }) law.batches) (
-              record {
-                since = law.grows;
-                until = omega arith;
-                epochs = omega (arith, length-map w.store.tables (λ (x : Table). epoch_of x.lineage), count);
-                within = λ number le. no_rows_for w.store words batch number is (omega (arith, le, count));
-              },
-              tt,
-            );
+        since = λ number. all_append (IsSince start.next (w.next + 1)) (later number) (more number ∷ [])
+            (all_so (IsSince start.next w.next) (IsSince start.next (w.next + 1)) (later number) (λ x old. (old.0, omega (arith, old.1))) (law.since number)) ((law.grows, omega arith), tt);
+        nothing = law.nothing;
+        others = λ number le.
+            let before : length w.store.tables ≤ number = omega (arith, le, count) in
+            let was = law.others number before in
+            let none : table_at w.store number ≡ no_table = get_or_past w.store.tables number no_table before in
+            (was.0, all_append (λ (x : Written). x.source ≡ no_source) (later number) (more number ∷ []) was.1 ((λ i. record { epoch = epoch_of (none i).lineage; rows = no_rows_for w.store words batch number is before i }), tt));
       }

@@ -1,5 +1,6 @@
 pub mod AnswersOver
 pub mod Batches
+pub mod Begun
 pub mod Checks
 pub mod Counting
 pub mod Expiry
@@ -20,8 +21,10 @@ pub mod Pages
 pub mod Pinning
 pub mod Printing
 pub mod QueryPages
+pub mod Ranges
 pub mod ReachedAnswers
 pub mod ReachedPages
+pub mod Recasts
 pub mod Refusing
 pub mod RelationNames
 pub mod Resuming
@@ -33,3 +36,4 @@ pub mod TurnKinds
 pub mod Turns
 pub mod WellFormed
 pub mod Wholes
+pub mod Closing

@@ -5,6 +5,7 @@ use Rattle.std.proofs.lemmas.List.{append-nil}
 use Rattle.mesa_list.specs.Checks.{◌>>◌}
 use Rattle.mesa_schema.specs.Changes.{change_checked, columns_of}
 use Rattle.mesa_schema.specs.Names.{is_name}
+use Rattle.mesa_schema.specs.Recasts.{recast_checked}
 use Rattle.mesa_schema.specs.Schema.{schema_checked}
 use Rattle.mesa_batch.specs.Batch.{batch_of}
 use Rattle.mesa_filter.specs.declared.words.VersionWord.{VersionWord}
@@ -20,7 +21,7 @@ use Rattle.mesa_model.specs.WellFormed.{IsWellFormed}
 use Rattle.mesa_model.specs.Load.{bounds_checked, load_batch, tables_named}
 use Rattle.mesa_model.specs.Relations.{is_taken, table_number}
 use Rattle.mesa_model.specs.Step.{done_or_refused, step}
-use Rattle.mesa_model.specs.Tables.{alter_table, change_asked, columns_asked, make_table, make_view, names_are_good, view_of_table_checked}
+use Rattle.mesa_model.specs.Tables.{alter_table, change_asked, columns_asked, make_table, make_view, names_are_good, recast_asked, recast_table, view_of_table_checked}
 use Rattle.mesa_model.specs.Versions.{common_oldest, expire_to, version_asked, version_checked}
 use Rattle.mesa_model.specs.Pins.{is_pin, make_pin, pin_of, release_pin, store_at}
 use Rattle.mesa_model.specs.Refusals.{refuse_closed}
@@ -110,6 +111,11 @@ module _ (w : Warehouse) (is : IsWellFormed w) (session : ℕ) (Q : Pin → Type
       after_check Pins no (refuse_closed w.closed) _ (λ open'. after_some Pins no (table_number w.store name) _ _ (λ number at. after_check Pins no (version_checked w (table_at w.store number).oldest version) _ (λ there. record { each = old _ }))) in
       all.each
   pins_kept (command.Work words) = nothing_keeps.each
+  pins_kept (command.Recast words) =
+      let all : Pins (recast_table w words) =
+      after_check Pins no (refuse_closed w.closed) _ (λ open'. after_some Pins no (table_number w.store words.table) _ _ (λ number at. after_other_check Pins no _ (recast_checked (table_at w.store number).lineage (recast_asked words)) _ (λ rules.
+      record { each = old _ }))) in
+      all.each
 
 -- ---- a turn
 

@@ -15,7 +15,7 @@ use Rattle.mesa_model.specs.WellFormed.{IsWellFormed}
 use Rattle.mesa_model.specs.Pins.{is_pin, pin_of, store_at, table_pinned}
 use Rattle.mesa_model.specs.Refusals.{refuse_closed}
 use Rattle.mesa_model.specs.Query.{Answer, query_answer, store_asked}
-use Rattle.mesa_history.specs.Law.{accepted_in}
+use Rattle.mesa_history.specs.Law.{law_content}
 use Rattle.mesa_history.specs.Run.{State, Told, begins}
 use Rattle.mesa_history.specs.Replay.{runs, told_by}
 use Rattle.mesa_laws.specs.Answers.{IsFromItsPin, IsFromItsVersion}
@@ -77,7 +77,7 @@ module _ (script : Script) (start : State) (is : IsWellFormed start.warehouse) (
         pin = pin;
         held = named.1;
         given = given;
-        fold = (answer_folds start.warehouse (accepted_in script (begins start) given.before) then (law_holds script start given.before is) words pin.version answer (at_version pin.version) seen.0 seen.1 refl (omega (arith, above, pinned), given.below) plain).0;
+        fold = (answer_folds (law_content script start given.before) then (law_holds script start given.before is) words pin.version answer (at_version pin.version) seen.0 seen.1 refl (omega (arith, above, pinned), given.below) plain).0;
       }
 
   version_folds : (h : List Entry) (session : ℕ) (words : QueryWords) (answer : Answer) (version : VersionWord) → words.version ≡ version → answer_at (warehouse_after script start h) session words version ≡ Ok answer

@@ -3,6 +3,7 @@ use Rattle.std.proofs.Common.{◌≡◌, ℕ, length, refl, Some, None, Result, 
 use Rattle.mesa_list.specs.Checks.{◌>>◌}
 use Rattle.mesa_schema.specs.Changes.{change_checked, columns_of}
 use Rattle.mesa_schema.specs.Names.{is_name}
+use Rattle.mesa_schema.specs.Recasts.{recast_checked}
 use Rattle.mesa_schema.specs.Schema.{schema_checked}
 use Rattle.mesa_batch.specs.Batch.{batch_of}
 use Rattle.mesa_model.specs.declared.commands.Command.{Command}
@@ -14,7 +15,7 @@ use Rattle.mesa_model.specs.Warehouse.{Warehouse, max_pins, max_tables, max_vers
 use Rattle.mesa_model.specs.Load.{bounds_checked, load_batch, tables_named}
 use Rattle.mesa_model.specs.Relations.{is_taken, table_number}
 use Rattle.mesa_model.specs.Step.{done_or_refused, step}
-use Rattle.mesa_model.specs.Tables.{alter_table, change_asked, columns_asked, make_table, make_view, names_are_good, view_of_table_checked}
+use Rattle.mesa_model.specs.Tables.{alter_table, change_asked, columns_asked, make_table, make_view, names_are_good, recast_asked, recast_table, view_of_table_checked}
 use Rattle.mesa_model.specs.Versions.{common_oldest, expire_to, version_asked, version_checked}
 use Rattle.mesa_model.specs.Pins.{make_pin, pin_of, release_pin}
 use Rattle.mesa_model.specs.Refusals.{refuse_closed}
@@ -78,3 +79,8 @@ module _ (w : Warehouse) where
       after_check S no (refuse_closed w.closed) _ (λ open'. after_some S no (table_number w.store name) _ _ (λ number at. after_check S no (version_checked w (table_at w.store number).oldest version) _ (λ there. record { same = λ refusal is. cc }))) in
       all.same
   refused_stays session (command.Work words) = nothing_stays.same
+  refused_stays session (command.Recast words) =
+      let all : S (recast_table w words) =
+      after_check S no (refuse_closed w.closed) _ (λ open'. after_some S no (table_number w.store words.table) _ _ (λ number is. after_other_check S no _ (recast_checked (table_at w.store number).lineage (recast_asked words)) _ (λ rules.
+      record { same = λ refusal is. cc }))) in
+      all.same

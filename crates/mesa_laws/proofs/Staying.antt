@@ -9,6 +9,7 @@ use Rattle.mesa_schema.specs.declared.views.View.{View}
 use Rattle.mesa_schema.specs.Columns.{aggs_of}
 use Rattle.mesa_schema.specs.Changes.{columns_of}
 use Rattle.mesa_schema.specs.Folded.{folded}
+use Rattle.mesa_schema.specs.Recasts.{Recast}
 use Rattle.mesa_batch.specs.Batch.{Placed, rows_for}
 use Rattle.mesa_model.specs.declared.commands.Script.{Script}
 use Rattle.mesa_model.specs.declared.commands.ViewWords.{ViewWords}
@@ -16,7 +17,7 @@ use Rattle.mesa_model.specs.declared.entries.Entry.{Entry}
 use Rattle.mesa_model.specs.Warehouse.{Store, Table, Warehouse, no_table, table_at}
 use Rattle.mesa_model.specs.WellFormed.{IsTable, IsWellFormed}
 use Rattle.mesa_model.specs.Load.{newest_content, table_loaded, tables_loaded, with_batch}
-use Rattle.mesa_model.specs.Tables.{table_changed}
+use Rattle.mesa_model.specs.Tables.{table_changed, table_recast}
 use Rattle.mesa_model.specs.Versions.{store_from, table_from}
 use Rattle.mesa_history.specs.Run.{Run}
 use Rattle.mesa_history.specs.Replay.{go, runs}
@@ -141,6 +142,21 @@ module _ (before : Warehouse) (number : ℕ) (t : Table) (w : Warehouse) (is : I
         contents = λ equal version le lt. absurd (omega (arith, old, more, equal));
       }))
 
+  regroups : (n : ℕ) (r : Recast) → Stays before number t (record w.store { tables = set w.store.tables n (table_recast (table_at w.store n) r) }) w.next
+  regroups n r = sets n (table_recast (table_at w.store n) r) (λ same.
+      let later = stays.later in
+      let old = later.epoch in
+      subst (λ (x : Table). IsLater before t (table_recast x r)) (sym (its_own n same)) (
+      record {
+        name = later.name;
+        more = later.more;
+        views = later.views;
+        epoch = omega (arith, old);
+        oldest = later.oldest;
+        columns = λ equal. absurd (omega (arith, old, equal));
+        contents = λ equal version le lt. absurd (omega (arith, old, equal));
+      }))
+
   -- a table without its versions below one
   from_later : (version : ℕ) → IsLater before t (table_from version table)
   from_later version =
@@ -165,7 +181,7 @@ module _ (before : Warehouse) (number : ℕ) (t : Table) (w : Warehouse) (is : I
   expires_one n version = sets n (table_from version (table_at w.store n)) (λ same. subst (λ (x : Table). IsLater before t (table_from version x)) (sym (its_own n same)) (from_later version))
 
   -- Every turn keeps it.
-  stays_moves : Moves w (λ s next accepted. Stays before number t s next)
+  stays_moves : Moves w (λ s next x. Stays before number t s next)
   stays_moves = record {
     same = stays;
     loads = λ rows batch read. loads batch;
@@ -174,6 +190,7 @@ module _ (before : Warehouse) (number : ℕ) (t : Table) (w : Warehouse) (is : I
     alters = λ words n c at asked rules. alters n c;
     expires = λ version ok. expires version;
     expires_one = λ name n version at ok. expires_one n version;
+    recasts = λ n r rules. regroups n r;
   }
 
 -- A table stays through a history.
@@ -183,7 +200,7 @@ unfolding runs
 stays_on before number t script r [] is stays = stays
 stays_on before number t script r (e ∷ h) is stays =
     stays_on before number t script (go script r e) h (go_well script r e is)
-    (go_moves script r e (λ s next accepted. Stays before number t s next) (stays_moves before number t r.state.warehouse is stays))
+    (go_moves script r e (λ s next x. Stays before number t s next) (stays_moves before number t r.state.warehouse is stays))
 
 pub table_stays : (script : Script) (r : Run) (h : List Entry) (number : ℕ) (t : Table) → IsWellFormed r.state.warehouse → slice_get r.state.warehouse.store.tables number ≡ Some t
     → Stays r.state.warehouse number t (runs script r h).state.warehouse.store (runs script r h).state.warehouse.next

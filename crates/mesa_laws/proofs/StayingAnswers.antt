@@ -114,7 +114,7 @@ module _ (script : Script) (r : Run) (h : List Entry) (is : IsWellFormed r.state
       let r' : Relation = seen.0 in
       let ok = checked_ok (version_checked was r'.table.oldest version) (Ok version) seen.2 seen.3 in
       let there = version_there was r'.table.oldest version ok in
-      let grown = versions_counted script r h in
+      let grown = versions_counted script r h 0 in
       let lt = there.1 in
       subst (λ v. answer_at now other words v ≡ Ok answer) (sym at)
       (ap (λ closed. refuse_closed closed >> answer_in now.store words (present_version now (asks.At version))) still.opens

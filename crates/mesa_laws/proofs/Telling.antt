@@ -14,12 +14,14 @@ use Rattle.mesa_model.specs.declared.replies.Refusal.{Refusal}
 use Rattle.mesa_model.specs.declared.replies.Refusal.TheVariants as no
 use Rattle.mesa_model.specs.declared.replies.Reply.{Reply}
 use Rattle.mesa_model.specs.declared.replies.Reply.TheVariants as reply
-use Rattle.mesa_model.specs.Warehouse.{Warehouse}
+use Rattle.mesa_schema.specs.Recasts.{Recast}
+use Rattle.mesa_model.specs.Warehouse.{Warehouse, table_at}
+use Rattle.mesa_model.specs.Tables.{recast_reply}
 use Rattle.mesa_model.specs.Query.{Answer, query_answer}
-use Rattle.mesa_history.specs.Machine.{Claim, claim_checked, claim_of, explained, swapped_reply}
+use Rattle.mesa_history.specs.Machine.{Claim, Errand, Merges, Recasts, claim_checked, explained, still_checked, swapped_reply}
 use Rattle.mesa_history.specs.Run.{Answered, CutOff, Finished, First, Granted, Looked, Renewed, Run, Stage, State, Told, command_of, place_of}
-use Rattle.mesa_history.specs.Replay.{Turned, close, closed_if, closes, completes, decide, decided_explain, decided_query, grants, no_rows, refused_turn, renew, renews, some_damage, standing, turn_as, turn_of, turned, work_name}
-use Rattle.mesa_laws.proofs.NoPages.{NoPage, alter_tells, claim_tells, expire_tells, explain_tells, load_tells, nothing_tells, pin_tells, refused_is_none, release_tells, swap_tells, table_tells, view_tells}
+use Rattle.mesa_history.specs.Replay.{Turned, claim_asked, close, closed_if, closes, completes, decide, decided_explain, decided_query, does, grants, no_rows, recasts, refused_turn, renew, renews, some_damage, standing, turn_as, turn_of, turned}
+use Rattle.mesa_laws.proofs.NoPages.{NoPage, alter_tells, asked_tells, expire_tells, explain_tells, load_tells, nothing_tells, pin_tells, recast_tells, refused_is_none, release_tells, swap_tells, table_tells, view_tells}
 
 -- a page is told of an answer that the session has
 pub record IsTold (stage : Stage) (told : Told) : Type 0 where
@@ -70,9 +72,17 @@ module _ (w : Warehouse) (session position : ℕ) (o : Option Command) (stage : 
   renewing s claim (Err refusal) = refusing s refusal position
   renewing s claim (Ok ok) = leaving _ (Renewed claim) (λ at answer is. cc)
 
+  recasting : (s : State) (claim : Claim) (r : Recast) (q : Result (Unit {0}) Refusal) → T (recasts position s claim r q)
+  recasting s claim r (Err refusal) = refusing _ refusal position
+  recasting s claim r (Ok ok) = finishes _ (record { at = position; reply = recast_reply (table_at s.warehouse.store claim.table); heading = no_rows }) (recast_tells (table_at s.warehouse.store claim.table))
+
+  doing : (s : State) (claim : Claim) (errand : Errand) → T (does position s claim errand)
+  doing s claim (Merges work) = finishes _ (record { at = position; reply = swapped_reply work; heading = no_rows }) (swap_tells work)
+  doing s claim (Recasts epoch r) = recasting s claim r (still_checked (table_at s.warehouse.store claim.table).lineage epoch r)
+
   completing : (s : State) (claim : Claim) (r : Result (Unit {0}) Refusal) → T (completes position s claim r)
   completing s claim (Err refusal) = refusing s refusal position
-  completing s claim (Ok ok) = finishes _ (record { at = position; reply = swapped_reply claim.work; heading = no_rows }) (swap_tells claim.work)
+  completing s claim (Ok ok) = doing s claim claim.errand
 
 module _ (session position : ℕ) (o : Option Command) (s : State) where
   closing : (stage : Stage) → Tells s.warehouse session position o stage (close position s stage)
@@ -125,12 +135,13 @@ module _ (session position : ℕ) (s : State) where
   decides (command.Release token) stage = finishes s.warehouse session position (Some (command.Release token)) stage _ _ (release_tells s.warehouse session token)
   decides (command.Expire table version) stage = finishes s.warehouse session position (Some (command.Expire table version)) stage _ _ (expire_tells s.warehouse table version)
   decides (command.Work words) stage = finishes s.warehouse session position (Some (command.Work words)) stage _ _ (nothing_tells s.warehouse)
+  decides (command.Recast words) stage = finishes s.warehouse session position (Some (command.Recast words)) stage _ _ (nothing_tells s.warehouse)
 
   stands : (c : Command) (k : Kind) (stage : Stage) → Tells s.warehouse session position (Some c) stage (standing position s session c k stage)
   stands c kind.Look stage = leaving s.warehouse session position (Some c) stage s Looked (λ at answer is. cc)
   stands c kind.Decide stage = decides c stage
   stands c kind.Close stage = closing session position (Some c) s stage
-  stands c kind.Grant stage = granting s.warehouse session position (Some c) stage s (claim_of s.warehouse s.machine position (work_name c)) (claim_tells s.warehouse s.machine position (work_name c))
+  stands c kind.Grant stage = granting s.warehouse session position (Some c) stage s (claim_asked s.warehouse s.machine position c) (asked_tells s.warehouse s.machine position c)
   stands c kind.Renew stage = renewed session position (Some c) s stage
 
 module _ (r : Run) (e : Entry) where

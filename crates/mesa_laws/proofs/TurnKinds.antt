@@ -1,5 +1,5 @@
 -- What a turn is to the pins: they stay, or the turn is a command's step and tells its reply.
-use Rattle.std.proofs.Common.{◌≡◌, ℕ, refl, Bool, true, false, Option, Some, None, Result, Ok, Err}
+use Rattle.std.proofs.Common.{◌≡◌, ℕ, [], refl, Bool, true, false, Option, Some, None, Result, Ok, Err}
 use Rattle.mesa_model.specs.declared.commands.Command.{Command}
 use Rattle.mesa_model.specs.declared.commands.Command.TheVariants as command
 use Rattle.mesa_model.specs.declared.commands.Script.{Script}
@@ -11,12 +11,13 @@ use Rattle.mesa_model.specs.declared.entries.Outcome.TheVariants as outcome
 use Rattle.mesa_model.specs.declared.replies.Refusal.{Refusal}
 use Rattle.mesa_model.specs.declared.replies.Refusal.TheVariants as no
 use Rattle.mesa_model.specs.declared.replies.Reply.{Reply}
-use Rattle.mesa_model.specs.Warehouse.{Warehouse}
+use Rattle.mesa_schema.specs.Recasts.{Recast}
+use Rattle.mesa_model.specs.Warehouse.{Warehouse, table_at}
 use Rattle.mesa_model.specs.Query.{Answer, query_answer}
 use Rattle.mesa_model.specs.Step.{step}
-use Rattle.mesa_history.specs.Machine.{Claim, claim_checked, claim_of, explained}
+use Rattle.mesa_history.specs.Machine.{Claim, Errand, Merges, Recasts, claim_checked, explained, still_checked}
 use Rattle.mesa_history.specs.Run.{Answered, CutOff, Finished, First, Granted, Looked, Renewed, Run, Stage, State, command_of, place_of}
-use Rattle.mesa_history.specs.Replay.{Turned, close, closed_if, closes, completes, decide, decided_explain, decided_query, grants, no_rows, refused_turn, renew, renews, some_damage, standing, turn_as, turn_of, turned, work_name}
+use Rattle.mesa_history.specs.Replay.{Turned, claim_asked, close, closed_if, closes, completes, decide, decided_explain, decided_query, does, grants, no_rows, recasts, refused_turn, renew, renews, some_damage, standing, turn_as, turn_of, turned}
 
 -- A turn leaves the pins, or it is a command's step.
 pub data Does (w : Warehouse) (session position : ℕ) (t : Turned) : Type 0 where
@@ -43,6 +44,7 @@ module _ (position : ℕ) (s : State) where
   decides session (command.Release token) = Steps (command.Release token) refl refl
   decides session (command.Expire table version) = Steps (command.Expire table version) refl refl
   decides session (command.Work words) = Steps (command.Work words) refl refl
+  decides session (command.Recast words) = Steps (command.Work (record { table = []; parts = 0 })) refl refl
 
   granting : (r : Result Claim Reply) → (grants position s r).state.warehouse.pins ≡ s.warehouse.pins
   granting (Ok claim) = refl
@@ -52,8 +54,16 @@ module _ (position : ℕ) (s : State) where
   renewing claim (Ok ok) = refl
   renewing claim (Err refusal) = refl
 
+  recasting : (claim : Claim) (r : Recast) (q : Result (Unit {0}) Refusal) → (recasts position s claim r q).state.warehouse.pins ≡ s.warehouse.pins
+  recasting claim r (Ok ok) = refl
+  recasting claim r (Err refusal) = refl
+
+  doing : (claim : Claim) (errand : Errand) → (does position s claim errand).state.warehouse.pins ≡ s.warehouse.pins
+  doing claim (Merges work) = refl
+  doing claim (Recasts epoch r) = recasting claim r (still_checked (table_at s.warehouse.store claim.table).lineage epoch r)
+
   completing : (claim : Claim) (r : Result (Unit {0}) Refusal) → (completes position s claim r).state.warehouse.pins ≡ s.warehouse.pins
-  completing claim (Ok ok) = refl
+  completing claim (Ok ok) = doing claim claim.errand
   completing claim (Err refusal) = refl
 
   closing : (stage : Stage) → (close position s stage).state.warehouse.pins ≡ s.warehouse.pins
@@ -94,7 +104,7 @@ module _ (position : ℕ) (s : State) where
   stands session c kind.Look stage = Stays refl
   stands session c kind.Decide stage = decides session c
   stands session c kind.Close stage = Stays (closing stage)
-  stands session c kind.Grant stage = Stays (granting (claim_of s.warehouse s.machine position (work_name c)))
+  stands session c kind.Grant stage = Stays (granting (claim_asked s.warehouse s.machine position c))
   stands session c kind.Renew stage = Stays (renewed stage)
 
 -- a write fault, whether it closes the warehouse or not
@@ -111,11 +121,11 @@ module _ (r : Run) (e : Entry) where
   turn_does c outcome.Damaged = Stays (refused r.position r.state e.kind (place_of r e.session).stage (no.Damaged some_damage))
   turn_does c outcome.Skipped = Stays refl
 
-  does : (o : Option Command) → Does r.state.warehouse e.session r.position (turn_as r e o)
-  does None = Stays refl
-  does (Some c) = turn_does c e.outcome
+  as_does : (o : Option Command) → Does r.state.warehouse e.session r.position (turn_as r e o)
+  as_does None = Stays refl
+  as_does (Some c) = turn_does c e.outcome
 
 -- What an entry's turn does.
 pub turned_does : (script : Script) (r : Run) (e : Entry) → Does r.state.warehouse e.session r.position (turned script r e)
 unfolding turned
-turned_does script r e = does r e (command_of script e)
+turned_does script r e = as_does r e (command_of script e)

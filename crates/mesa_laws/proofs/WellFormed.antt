@@ -10,6 +10,7 @@ use Rattle.mesa_schema.specs.declared.changes.Change.{Change}
 use Rattle.mesa_schema.specs.Columns.{Columns, aggs_of}
 use Rattle.mesa_schema.specs.Changes.{change_checked, changed, columns_of, lifted_once, rule_checked}
 use Rattle.mesa_schema.specs.Folded.{folded, rows_of}
+use Rattle.mesa_schema.specs.Recasts.{Recast, recast_checked, recast_columns, recast_rows}
 use Rattle.mesa_schema.specs.Names.{repeated}
 use Rattle.mesa_schema.specs.Schema.{schema_checked}
 use Rattle.mesa_schema.specs.Lineages.{HasDefault}
@@ -28,7 +29,7 @@ use Rattle.mesa_model.specs.Warehouse.{Store, Table, Warehouse, empty_warehouse,
 use Rattle.mesa_model.specs.Load.{newest_content, table_loaded, tables_loaded, tables_named}
 use Rattle.mesa_model.specs.Relations.{is_taken, table_number}
 use Rattle.mesa_model.specs.Step.{step}
-use Rattle.mesa_model.specs.Tables.{columns_asked, new_table, table_changed, view_of_table_checked}
+use Rattle.mesa_model.specs.Tables.{columns_asked, new_table, table_changed, table_recast, view_of_table_checked}
 use Rattle.mesa_model.specs.Versions.{common_oldest, oldest_among, store_from, table_from, version_checked}
 use Rattle.mesa_model.specs.WellFormed.{IsContent, IsTable, IsWellFormed, is_kept, relation_names}
 use Rattle.mesa_history.specs.Run.{Run}
@@ -38,9 +39,12 @@ use Rattle.mesa_laws.proofs.LawLoads.{got_loaded}
 use Rattle.mesa_schema.proofs.PresentRows.{columns_more, forms_more}
 use Rattle.mesa_laws.proofs.Lineages.{change_default, lineage_viewed}
 use Rattle.mesa_schema.proofs.LineageChanges.{lineage_changed, lineage_new}
+use Rattle.mesa_schema.proofs.LineageRecasts.{lineage_recast}
+use Rattle.mesa_schema.proofs.Recasting.{recast_form, recast_rise}
 use Rattle.mesa_schema.proofs.Lists.{all_append, all_drop, all_from_got, all_got, all_map, all_replicate, all_set, all_so}
 use Rattle.mesa_laws.proofs.Moves.{Moves, step_moves, viewed}
 use Rattle.mesa_schema.proofs.RisingRows.{folded_rise, lifted_rise}
+use Rattle.mesa_laws.proofs.Recasts.{ok_is, recast_there}
 use Rattle.mesa_laws.proofs.RelationNames.{names_changed, names_loaded, names_mapped, names_pushed, names_set, names_viewed}
 use Rattle.mesa_laws.proofs.Turns.{go_moves}
 
@@ -219,6 +223,23 @@ module _ (w : Warehouse) (is : IsWellFormed w) where
       (changed_table w (bare (record w.store { tables = set w.store.tables number (table_changed t c) }) w.next) t c refl refl default rules table)
       (ap (λ names. is_none (repeated names)) (names_changed w.store.tables number t c at) ∙ is.names)
 
+  well_recasts : (number : ℕ) (r : Recast) → is_ok (recast_checked (table_at w.store number).lineage r) ≡ true → IsWellFormed (bare (record w.store { tables = set w.store.tables number (table_recast (table_at w.store number) r) }) w.next)
+  well_recasts number r rules =
+      let t : Table = table_at w.store number in
+      let at = recast_there w.store number r rules in
+      let table = all_got (IsTable w) w.store.tables number t at is.tables in
+      let s : Columns = columns_of t.lineage in
+      well_set number (table_recast t r)
+      (record {
+        lineage = lineage_recast t.lineage r table.lineage (ok_is (recast_checked t.lineage r) rules);
+        above = table.above;
+        oldest = table.oldest;
+        versions = length-map t.contents (recast_rows s r) ∙ table.versions;
+        contents = all_map (IsContent (recast_columns s r)) (recast_rows s r) t.contents
+            (all_so (IsContent s) (λ rows. IsContent (recast_columns s r) (recast_rows s r rows)) t.contents (λ rows content. record { forms = recast_form s r rows content.forms; order = recast_rise s r rows }) table.contents);
+      })
+      (ap (λ names. is_none (repeated names)) (names_set w.store.tables number t (table_recast t r) at refl) ∙ is.names)
+
   -- a table without its contents below a version that is there
   from_table : (other : Warehouse) (t : Table) (version : ℕ) → other.next ≡ w.next → other.store.floor ≤ max t.oldest version → version < w.next → IsTable w t → IsTable other (table_from version t)
   from_table other t version next above lt table = record {
@@ -249,7 +270,7 @@ module _ (w : Warehouse) (is : IsWellFormed w) where
       (ap (λ names. is_none (repeated names)) (names_set w.store.tables number t (table_from version t) at refl) ∙ is.names)
 
   -- Every turn keeps a warehouse well formed.
-  pub well_moves : Moves w (λ s next batches. IsWellFormed (bare s next))
+  pub well_moves : Moves w (λ s next x. IsWellFormed (bare s next))
   well_moves = record {
     same = well_same (bare w.store w.next) refl refl;
     loads = well_loads;
@@ -260,6 +281,7 @@ module _ (w : Warehouse) (is : IsWellFormed w) where
         well_alters number t c (table_there w.store words.table number at) (change_default t.lineage words.change c asked (passed_first (rule_checked t.lineage c) _ rules).0) rules;
     expires = well_expires;
     expires_one = λ name number version at ok. well_expires_one number version (table_at w.store number) (table_there w.store name number at) ok;
+    recasts = well_recasts;
   }
 
 -- what holds of a bare warehouse holds of one of which more is said
@@ -272,11 +294,11 @@ empty_well = record { tables = tt; names = refl; floor = refl }
 
 -- A command keeps a warehouse well formed.
 pub step_well : (w : Warehouse) (session : ℕ) (c : Command) → IsWellFormed w → IsWellFormed (step w session c).0
-step_well w session c is = clothed (step w session c).0 (step_moves w (λ s next batches. IsWellFormed (bare s next)) (well_moves w is) session c)
+step_well w session c is = clothed (step w session c).0 (step_moves w (λ s next x. IsWellFormed (bare s next)) (well_moves w is) session c).1
 
 -- So does an entry of a history.
 pub go_well : (script : Script) (r : Run) (e : Entry) → IsWellFormed r.state.warehouse → IsWellFormed (go script r e).state.warehouse
-go_well script r e is = clothed (go script r e).state.warehouse (go_moves script r e (λ s next batches. IsWellFormed (bare s next)) (well_moves r.state.warehouse is))
+go_well script r e is = clothed (go script r e).state.warehouse (go_moves script r e (λ s next x. IsWellFormed (bare s next)) (well_moves r.state.warehouse is))
 
 -- And a history.
 pub runs_well : (script : Script) (r : Run) (h : List Entry) → IsWellFormed r.state.warehouse → IsWellFormed (runs script r h).state.warehouse

@@ -5,3 +5,4 @@ pub mod Pages
 pub mod Printed
 pub mod Versions
 pub mod Whole
+pub mod Closing

@@ -19,3 +19,4 @@ step-closed w session (command.Release token) position is = rw is refl
 step-closed w session (command.Expire None version) position is = rw is refl
 step-closed w session (command.Expire (Some name) version) position is = rw is refl
 step-closed w session (command.Work words) position is = rw is refl
+step-closed w session (command.Recast words) position is = rw is refl

@@ -6,6 +6,7 @@ pub mod Entry
 pub mod Warehouse
 pub mod Relations
 pub mod Refusals
+pub mod Orders
 pub mod Tables
 pub mod Load
 pub mod Versions

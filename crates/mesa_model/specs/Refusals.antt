@@ -6,6 +6,8 @@ use Rattle.mesa_schema.specs.declared.views.ViewError.{ViewError}
 use Rattle.mesa_schema.specs.declared.views.ViewError.TheVariants as view
 use Rattle.mesa_schema.specs.declared.changes.ChangeError.{ChangeError}
 use Rattle.mesa_schema.specs.declared.changes.ChangeError.TheVariants as change
+use Rattle.mesa_schema.specs.declared.recasts.RecastError.{RecastError}
+use Rattle.mesa_schema.specs.declared.recasts.RecastError.TheVariants as recast
 use Rattle.mesa_schema.specs.Changes.{max_changes}
 use Rattle.mesa_batch.specs.declared.words.BatchError.{BatchError}
 use Rattle.mesa_batch.specs.declared.words.BatchError.TheVariants as batch
@@ -56,6 +58,17 @@ change_refusal name (change.InView view) = no.InView view
 change_refusal name change.TooManyColumns = bad_schema fault.TooManyColumns
 change_refusal name change.EpochsFull = no.EpochsFull max_changes
 change_refusal name change.Memory = no.Memory
+
+-- why a recast is refused
+abbrev pub recast_refusal : RecastError → Refusal
+recast_refusal recast.NoColumn = no.NoColumn
+recast_refusal recast.NoKey = bad_schema fault.NoKey
+recast_refusal recast.NoValue = bad_schema fault.NoValue
+recast_refusal recast.NameTwice = bad_schema fault.NameTwice
+recast_refusal (recast.ReplaceGroup column) = no.ReplaceGroup column
+recast_refusal (recast.InView view) = no.InView view
+recast_refusal recast.EpochsFull = no.EpochsFull max_changes
+recast_refusal recast.Memory = no.Memory
 
 -- why a load's rows are refused
 abbrev pub batch_refusal : BatchError → Refusal

@@ -1,4 +1,4 @@
--- Making tables and views, and changing schemas.
+-- Making tables and views, changing schemas, and recasting tables.
 use Rattle.std.specs.Prelude.{ℕ, ◌+◌, ◌-◌, List, [], ◌∷◌, ◌++◌, map, length, replicate, Bool, ◌&&◌, nat_le, Result, Ok}
 use Rattle.std.specs.List.{list_all}
 use Rattle.std.specs.Option.{ok_or}
@@ -11,13 +11,15 @@ use Rattle.mesa_schema.specs.Columns.{Columns, key_names, value_names, aggs_of}
 use Rattle.mesa_schema.specs.Schema.{schema_checked}
 use Rattle.mesa_schema.specs.Changes.{columns_of, epoch_of, with_change, new_name_checked, change_checked, lifted_once}
 use Rattle.mesa_schema.specs.Views.{max_views, view_checked, with_view}
-use Rattle.mesa_batch.specs.Totals.{sums_in, totals_after}
+use Rattle.mesa_schema.specs.Recasts.{Recast, recast_checked, recast_lineage, recast_rows}
+use Rattle.mesa_batch.specs.Totals.{sums_in, totals_after, totals_recast}
 use Rattle.mesa_model.specs.declared.commands.KeyWords.{KeyWords}
 use Rattle.mesa_model.specs.declared.commands.ValueWords.{ValueWords}
 use Rattle.mesa_model.specs.declared.commands.TableWords.{TableWords}
 use Rattle.mesa_model.specs.declared.commands.ViewWords.{ViewWords}
 use Rattle.mesa_model.specs.declared.commands.AlterWords.{AlterWords}
 use Rattle.mesa_model.specs.declared.commands.ChangeWords.{ChangeWords}
+use Rattle.mesa_model.specs.declared.commands.RecastWords.{RecastWords}
 use Rattle.mesa_model.specs.declared.commands.ChangeWords.TheVariants as words
 use Rattle.mesa_model.specs.declared.replies.SchemaFault.TheVariants as fault
 use Rattle.mesa_model.specs.declared.replies.Refusal.{Refusal}
@@ -26,7 +28,7 @@ use Rattle.mesa_model.specs.declared.replies.Reply.{Reply}
 use Rattle.mesa_model.specs.declared.replies.Reply.TheVariants as reply
 use Rattle.mesa_model.specs.Warehouse.{Table, Warehouse, max_tables, table_at, with_tables, with_table}
 use Rattle.mesa_model.specs.Relations.{table_number, is_taken}
-use Rattle.mesa_model.specs.Refusals.{bad_schema, no_such_table, refuse_closed, schema_refusal, view_refusal, change_refusal}
+use Rattle.mesa_model.specs.Refusals.{bad_schema, no_such_table, refuse_closed, schema_refusal, view_refusal, change_refusal, recast_refusal}
 
 -- ---- tables
 
@@ -126,3 +128,33 @@ alter_table w words = do
   c ← change_asked (columns_of (table_at w.store number).lineage) words.change
   refused_as (change_refusal (changed_name c)) (change_checked (table_at w.store number).lineage c)
   Ok (with_table w number (table_changed (table_at w.store number) c), reply.Altered words.table (epoch_of (table_at w.store number).lineage + 1))
+
+-- ---- recasts
+
+-- the columns that a recast's words ask for
+abbrev pub recast_asked : RecastWords → Recast
+recast_asked words = record { keys = words.keys; values = words.values }
+
+-- RecastStep of a table: the schema is these columns, the epoch rises by 1 and the changes start anew; each content is grouped by them; totals of kept sum columns stay, and so do the views.
+abbrev pub table_recast : Table → Recast → Table
+table_recast t r = record t {
+  lineage = recast_lineage t.lineage r;
+  totals = totals_recast (columns_of t.lineage) r t.totals;
+  contents = map (recast_rows (columns_of t.lineage) r) t.contents;
+}
+
+-- the warehouse with the table of a number recast
+abbrev pub with_recast : Warehouse → ℕ → Recast → Warehouse
+with_recast w number r = with_table w number (table_recast (table_at w.store number) r)
+
+-- the reply to a recast of a table: its name, and the epoch that begins
+abbrev pub recast_reply : Table → Reply
+recast_reply t = reply.Recast t.name (epoch_of t.lineage + 1)
+
+-- The warehouse with a table recast, or the first refusal.
+abbrev pub recast_table : Warehouse → RecastWords → Result (Warehouse × Reply) Refusal
+recast_table w words = do
+  refuse_closed w.closed
+  number ← ok_or (table_number w.store words.table) no_such_table
+  refused_as recast_refusal (recast_checked (table_at w.store number).lineage (recast_asked words))
+  Ok (with_recast w number (recast_asked words), recast_reply (table_at w.store number))

@@ -53,11 +53,13 @@ pub struct AlterWords {
     pub change: ChangeWords,
 }
 
-/// A table or view of which the deltas that a query would read are asked.
+/// A table or view of which the deltas that a query would read are asked, and the filter of that
+/// query, where the relation is asked too by whose order it would be answered.
 #[derive(Drop)]
 pub struct ExplainWords {
     pub relation: Words,
     pub version: VersionWord,
+    pub filter: Option<Words>,
 }
 
 /// A table of which deltas are to be merged, and into how many parts of its keys, 1 to 8, the merge
@@ -66,6 +68,14 @@ pub struct ExplainWords {
 pub struct WorkWords {
     pub table: Words,
     pub parts: u8,
+}
+
+/// A table that is to have these of its columns, by name and in this order.
+#[derive(Drop)]
+pub struct RecastWords {
+    pub table: Words,
+    pub keys: Fields,
+    pub values: Fields,
 }
 
 /// A command of a script.
@@ -84,6 +94,7 @@ pub enum Command {
     /// The version below which none is to be asked for any more, of one table or of all.
     Expire { table: Option<Words>, version: u32 },
     Work(WorkWords),
+    Recast(RecastWords),
 }
 
 // Each exit calls this, in place of letting go of each part itself.
@@ -103,6 +114,7 @@ impl Drop for Command {
                 version: _,
             } => {}
             Command::Work(_) => {}
+            Command::Recast(_) => {}
         }
     }
 }

@@ -1,7 +1,7 @@
 // Copies of commands, scripts and replies.
 use crate::{
-    AlterWords, ChangeWords, Command, ExplainWords, KeyWords, Page, Refusal, Reply, Script,
-    TableWords, ValueWords, ViewWords, WorkWords,
+    AlterWords, ChangeWords, Command, ExplainWords, KeyWords, Page, RecastWords, Refusal, Reply,
+    Script, TableWords, ValueWords, ViewWords, WorkWords,
 };
 use mesa_list::TryCopy;
 use std::alloc::AllocError;
@@ -75,6 +75,10 @@ impl TryCopy for ExplainWords {
         Ok(ExplainWords {
             relation: self.relation.copy()?,
             version: self.version,
+            filter: match &self.filter {
+                None => None,
+                Some(words) => Some(words.copy()?),
+            },
         })
     }
 }
@@ -84,6 +88,16 @@ impl TryCopy for WorkWords {
         Ok(WorkWords {
             table: self.table.copy()?,
             parts: self.parts,
+        })
+    }
+}
+
+impl TryCopy for RecastWords {
+    fn copy(&self) -> Result<Self, AllocError> {
+        Ok(RecastWords {
+            table: self.table.copy()?,
+            keys: self.keys.copy()?,
+            values: self.values.copy()?,
         })
     }
 }
@@ -110,6 +124,7 @@ impl TryCopy for Command {
                 }
             }
             Command::Work(words) => Command::Work(words.copy()?),
+            Command::Recast(words) => Command::Recast(words.copy()?),
         })
     }
 }
@@ -189,6 +204,8 @@ impl TryCopy for Refusal {
             },
             Refusal::Memory => Refusal::Memory,
             Refusal::EpochsFull { limit } => Refusal::EpochsFull { limit: *limit },
+            Refusal::Changed { epoch } => Refusal::Changed { epoch: *epoch },
+            Refusal::TooManyDeltas { limit } => Refusal::TooManyDeltas { limit: *limit },
         })
     }
 }
@@ -216,7 +233,16 @@ impl TryCopy for Reply {
                 version: *version,
                 more: *more,
             },
-            Reply::Spans(spans) => Reply::Spans(spans.copy()?),
+            Reply::Spans { ranges, by } => {
+                let by = match by {
+                    None => None,
+                    Some(name) => Some(name.copy()?),
+                };
+                Reply::Spans {
+                    ranges: ranges.copy()?,
+                    by,
+                }
+            }
             Reply::Pinned { token, version } => Reply::Pinned {
                 token: *token,
                 version: *version,
@@ -235,6 +261,10 @@ impl TryCopy for Reply {
             Reply::Swapped { from, to } => Reply::Swapped {
                 from: *from,
                 to: *to,
+            },
+            Reply::Recast { table, epoch } => Reply::Recast {
+                table: table.copy()?,
+                epoch: *epoch,
             },
             Reply::Idle => Reply::Idle,
             Reply::Busy { lease } => Reply::Busy { lease: *lease },

@@ -9,8 +9,8 @@ mod laws;
 mod replies;
 
 pub use commands::{
-    AlterWords, ChangeWords, Command, ExplainWords, KeyWords, Script, Session, TableWords,
-    ValueWords, ViewWords, WorkWords,
+    AlterWords, ChangeWords, Command, ExplainWords, KeyWords, RecastWords, Script, Session,
+    TableWords, ValueWords, ViewWords, WorkWords,
 };
 pub use entries::{Entry, Kind, Outcome};
 pub use laws::{closes_to_every_command, numbers_tell_entries};

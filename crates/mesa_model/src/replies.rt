@@ -109,6 +109,14 @@ pub enum Refusal {
     EpochsFull {
         limit: u32,
     },
+    /// The table's epoch isn't the one that it had when its recast was granted a lease.
+    Changed {
+        epoch: u32,
+    },
+    /// The table has more deltas of one version each than one recast rewrites.
+    TooManyDeltas {
+        limit: u32,
+    },
 }
 
 // Each exit calls this, in place of letting go of each part itself.
@@ -155,33 +163,71 @@ impl Drop for Refusal {
             } => {}
             Refusal::Memory => {}
             Refusal::EpochsFull { limit: _ } => {}
+            Refusal::Changed { epoch: _ } => {}
+            Refusal::TooManyDeltas { limit: _ } => {}
         }
     }
 }
 
 /// The reply to a command.
 pub enum Reply {
-    Table { name: Name },
-    View { name: Name },
-    Altered { table: Name, epoch: u32 },
+    Table {
+        name: Name,
+    },
+    View {
+        name: Name,
+    },
+    Altered {
+        table: Name,
+        epoch: u32,
+    },
     /// The rows are counted over all tables.
-    Loaded { version: u32, rows: u64 },
+    Loaded {
+        version: u32,
+        rows: u64,
+    },
     /// A query's answer.
     Page(Page),
     /// A query's answer by its number of rows alone.
-    Rows { rows: u32, version: u32, more: bool },
-    /// The ranges of versions that a query would read, each from its first to its last version.
-    Spans(Items<(u32, u32)>),
-    Pinned { token: u32, version: u32 },
-    Released { token: u32 },
+    Rows {
+        rows: u32,
+        version: u32,
+        more: bool,
+    },
+    /// The ranges of versions that a query would read, each from its first to its last version, and
+    /// where a filter was named the relation in whose order it would be answered.
+    Spans {
+        ranges: Items<(u32, u32)>,
+        by: Option<Name>,
+    },
+    Pinned {
+        token: u32,
+        version: u32,
+    },
+    Released {
+        token: u32,
+    },
     /// The oldest version of one table, or of all where none is named.
-    Expired { table: Option<Name>, oldest: u32 },
+    Expired {
+        table: Option<Name>,
+        oldest: u32,
+    },
     /// The deltas of these versions were merged into one.
-    Swapped { from: u32, to: u32 },
+    Swapped {
+        from: u32,
+        to: u32,
+    },
+    /// The table has the columns that its recast asked for, from this epoch on.
+    Recast {
+        table: Name,
+        epoch: u32,
+    },
     /// There is nothing to merge.
     Idle,
     /// The table has a lease that holds.
-    Busy { lease: u64 },
+    Busy {
+        lease: u64,
+    },
     Refused(Refusal),
 }
 
@@ -202,7 +248,7 @@ impl Drop for Reply {
                 version: _,
                 more: _,
             } => {}
-            Reply::Spans(_) => {}
+            Reply::Spans { ranges: _, by: _ } => {}
             Reply::Pinned {
                 token: _,
                 version: _,
@@ -213,6 +259,7 @@ impl Drop for Reply {
                 oldest: _,
             } => {}
             Reply::Swapped { from: _, to: _ } => {}
+            Reply::Recast { table: _, epoch: _ } => {}
             Reply::Idle => {}
             Reply::Busy { lease: _ } => {}
             Reply::Refused(_) => {}

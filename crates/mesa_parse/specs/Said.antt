@@ -2,7 +2,7 @@
 use Rattle.std.specs.Prelude.{drop}
 use Rattle.csv.specs.Records.{fields_of}
 use Rattle.mesa_batch.specs.Load.{row_from}
-use Rattle.mesa_script.specs.Records.{Name, Lease, Session, Table, View, Alter, Row, Commit, Query, Explain, Pin, Release, Expire, Work, Change, AddValue, DropValue, AddKey}
+use Rattle.mesa_script.specs.Records.{Name, Lease, Session, Table, View, Alter, Row, Commit, Query, Explain, Pin, Release, Expire, Work, Recast, Change, AddValue, DropValue, AddKey}
 use Rattle.mesa_script.specs.Items.{Item, LeaseOf, NextSession, RowOf, EndOfLoad, Single}
 use Rattle.mesa_parse.specs.declared.changes.Change.{Change as ChangeKind}
 use Rattle.mesa_parse.specs.declared.changes.Change.TheVariants as change
@@ -26,6 +26,7 @@ name_as kind.Pin = Pin
 name_as kind.Release = Release
 name_as kind.Expire = Expire
 name_as kind.Work = Work
+name_as kind.Recast = Recast
 
 -- the change of a kind
 abbrev pub change_as : ChangeKind → Change

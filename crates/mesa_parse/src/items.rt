@@ -2,8 +2,8 @@
 ghost use Rattle.std.specs.Prelude.{◌≡◌, ◌==◌, drop, length, IfErr, IfOk, Ok};
 ghost use Rattle.csv.specs.Records.{fields_of};
 ghost use Rattle.mesa_batch.specs.Load.{row_from};
-ghost use Rattle.mesa_script.specs.Records.{Lease, Table, View, Alter, Row, Query, Explain, Pin, Release, Expire, Work};
-ghost use Rattle.mesa_script.specs.Items.{LeaseOf, RowOf, Single, item_of, parts_of};
+ghost use Rattle.mesa_script.specs.Records.{Lease, Table, View, Alter, Row, Query, Explain, Pin, Release, Expire, Work, Recast};
+ghost use Rattle.mesa_script.specs.Items.{LeaseOf, RowOf, Single, filter_in, item_of, parts_of};
 ghost use Rattle.mesa_parse.specs.Failures.{Tells};
 ghost use Rattle.mesa_parse.specs.Said.{item_as, name_as};
 
@@ -16,7 +16,10 @@ use crate::records::{RowFields, field, words};
 use crate::versions::version;
 use csv::ByteRecord;
 use mesa_filter::QueryWords;
-use mesa_model::{AlterWords, Command, ExplainWords, TableWords, ViewWords, WorkWords};
+use mesa_model::{
+    AlterWords, Command, ExplainWords, RecastWords, TableWords, ViewWords, WorkWords,
+};
+use mesa_schema::Words;
 use mesa_script::Reason;
 use std::alloc::{AllocError, Global};
 
@@ -104,14 +107,29 @@ fn query(alloc: Global, fields: &ByteRecord) -> Result<Command, Failed>
     }))
 }
 
-// A table or view, and the version at which a query of it is explained, which is no pin's.
+// The filter of the query that is explained, where there is a field for it.
+fn filter(alloc: Global, fields: &ByteRecord) -> Result<Option<Words>, AllocError>
+    ensures { IfOk result (λ filter. filter ≡ filter_in (length (fields_of fields.now) == 4) (fields_of fields.now)) }
+{
+    if fields.len() != 4 {
+        return Ok(None);
+    }
+    Ok(Some(words(alloc, fields, 3)?))
+}
+
+// A table or view, the version at which a query of it is explained, which is no pin's, and the query's filter.
 fn explain(alloc: Global, fields: &ByteRecord) -> Result<Command, Failed>
     ensures read { IfOk result (λ command. item_of Explain (fields_of fields.now) ≡ Ok (Single command)) }
     ensures refused { IfErr result (λ e. Tells e (item_of Explain (fields_of fields.now))) }
 {
     let version = version(false, field(fields, 2))?;
     let relation = words(alloc, fields, 1)?;
-    Ok(Command::Explain(ExplainWords { relation, version }))
+    let filter = filter(alloc, fields)?;
+    Ok(Command::Explain(ExplainWords {
+        relation,
+        version,
+        filter,
+    }))
 }
 
 // The version to keep, which is no pin's.
@@ -170,6 +188,17 @@ fn work(alloc: Global, fields: &ByteRecord) -> Result<Command, Failed>
     Ok(Command::Work(WorkWords { table, parts }))
 }
 
+// A table, and the names of the columns that it is to have.
+fn recast(alloc: Global, fields: &ByteRecord) -> Result<Command, AllocError>
+    ensures { IfOk result (λ command. item_of Recast (fields_of fields.now) ≡ Ok (Single command)) }
+{
+    Ok(Command::Recast(RecastWords {
+        table: words(alloc, fields, 1)?,
+        keys: names(alloc, field(fields, 2))?,
+        values: names(alloc, field(fields, 3))?,
+    }))
+}
+
 /// What a record of a kind says, or what is wrong with its words and numbers.
 pub(crate) fn read_item<'a>(
     alloc: Global,
@@ -193,6 +222,7 @@ pub(crate) fn read_item<'a>(
         Kind::Release => release(fields)?,
         Kind::Expire => expire(alloc, fields)?,
         Kind::Work => work(alloc, fields)?,
+        Kind::Recast => recast(alloc, fields)?,
     };
     Ok(Said::Single(command))
 }

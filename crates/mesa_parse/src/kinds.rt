@@ -24,6 +24,7 @@ pub(crate) enum Kind {
     Release,
     Expire,
     Work,
+    Recast,
 }
 
 // The kind of the records of a name.
@@ -56,6 +57,8 @@ fn kind_named(word: &[u8]) -> Option<Kind>
         Some(Kind::Expire)
     } else if b"work".as_slice() == word {
         Some(Kind::Work)
+    } else if b"recast".as_slice() == word {
+        Some(Kind::Recast)
     } else {
         None
     }
@@ -80,9 +83,9 @@ impl Kind {
             Kind::Lease | Kind::Release => count == 2,
             Kind::Expire | Kind::Work => count >= 2 && count <= 3,
             Kind::Row => count >= 2,
-            Kind::Explain => count >= 2 && count <= 3,
+            Kind::Explain => count >= 2 && count <= 4,
             Kind::Query => count >= 2 && count <= 8,
-            Kind::Table => count == 4,
+            Kind::Table | Kind::Recast => count == 4,
             Kind::View => count == 5,
             Kind::Alter => fits_change(fields),
         }

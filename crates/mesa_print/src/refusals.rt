@@ -179,6 +179,10 @@ impl Line<'_> {
             Refusal::EpochsFull { limit } => {
                 self.put_labelled(b"epochs_full limit=", *limit as u64);
             }
+            Refusal::Changed { epoch } => self.put_labelled(b"changed epoch=", *epoch as u64),
+            Refusal::TooManyDeltas { limit } => {
+                self.put_labelled(b"too_many_deltas limit=", *limit as u64);
+            }
         }
     }
 }

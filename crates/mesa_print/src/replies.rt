@@ -56,7 +56,7 @@ impl Line<'_> {
                 version,
                 more,
             } => self.put_rows(*rows as u64, *version, *more),
-            Reply::Spans(spans) => self.put_labelled(b"spans ", spans.len() as u64),
+            Reply::Spans { ranges, by: _ } => self.put_labelled(b"spans ", ranges.len() as u64),
             Reply::Pinned { token, version } => {
                 let version = *version as u64;
                 self.put_pair(b"pinned token=", *token as u64, b" version=", version);
@@ -70,6 +70,10 @@ impl Line<'_> {
             }
             Reply::Swapped { from, to } => {
                 self.put_pair(b"swapped ", *from as u64, b" ", *to as u64);
+            }
+            Reply::Recast { table, epoch } => {
+                self.put_named(b"recast ", table);
+                self.put_labelled(b" epoch=", *epoch as u64);
             }
             Reply::Idle => self.put(b"idle"),
             Reply::Busy { lease } => self.put_labelled(b"busy lease=", *lease),

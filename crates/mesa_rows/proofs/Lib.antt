@@ -3,6 +3,7 @@ mod Loads
 mod Queries
 mod Schemas
 mod Works
+mod Recasts
 mod Limits
 mod Generator
 mod Scripts

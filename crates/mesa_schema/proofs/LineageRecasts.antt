@@ -1,5 +1,5 @@
 -- A table's columns keep the rules through a recast.
-use Rattle.std.proofs.Common.{◌≡◌, ◌+◌, ◌-◌, ◌<◌, List, [], ◌∷◌, true, false, cond, refl, ◌∙◌, ap, arith, Bool, Option, Some, None, Result, Ok, Err, is_ok, find, nat_le}
+use Rattle.std.proofs.Common.{◌≡◌, ℕ, ◌+◌, ◌-◌, ◌<◌, List, [], ◌∷◌, true, false, cond, refl, ◌∙◌, ap, arith, Bool, Option, Some, None, Result, Ok, Err, is_ok, find, nat_le}
 use Rattle.std.specs.Prelude.{not}
 use Rattle.std.specs.List.{AllByRecursion, list_all}
 use Rattle.std.proofs.lemmas.Bool.{and_from, and_parts, leb-false}
@@ -7,13 +7,12 @@ use Rattle.std.proofs.lemmas.List.{take_all}
 use Rattle.mesa_list.specs.Checks.{◌>>◌, refuse_if, refused_as}
 use Rattle.mesa_schema.specs.declared.columns.KeyColumn.{KeyColumn}
 use Rattle.mesa_schema.specs.declared.columns.ValueColumn.{ValueColumn}
-use Rattle.mesa_schema.specs.declared.changes.Change.{Change}
 use Rattle.mesa_schema.specs.declared.views.View.{View}
 use Rattle.mesa_schema.specs.declared.recasts.RecastError.TheVariants.{EpochsFull}
 use Rattle.mesa_schema.specs.declared.views.ViewError.{ViewError}
 use Rattle.mesa_schema.specs.declared.views.ViewError.TheVariants.{NoKey, NoValue}
 use Rattle.mesa_schema.specs.Columns.{Columns, key_names, value_names}
-use Rattle.mesa_schema.specs.Changes.{Lineage, columns_after, columns_of, epoch_of, max_changes}
+use Rattle.mesa_schema.specs.Changes.{Lineage, columns_after, columns_at, columns_of, epoch_of, max_changes}
 use Rattle.mesa_schema.specs.Lineages.{IsLineage, is_view_of}
 use Rattle.mesa_schema.specs.Recasts.{IsRecastOf, Recast, choice_refusal, columns_checked, keeps_view, recast_checked, recast_columns, recast_lineage, refuse_left, refuse_losing, replace_left, views_kept}
 use Rattle.mesa_schema.specs.Schema.{is_schema}
@@ -23,6 +22,10 @@ use Rattle.mesa_schema.proofs.Outlasting.{still_allowed}
 use Rattle.mesa_schema.proofs.Passing.{passed_first, passed_last}
 use Rattle.mesa_schema.proofs.SchemaRules.{rules_left}
 use Rattle.mesa_schema.proofs.ViewSchemas.{choice, few_columns, sort_of}
+
+-- The columns of a table that was recast, at each epoch.
+pub columns_first : (l : Lineage) (r : Recast) (epoch : ℕ) → columns_at (recast_lineage l r) epoch ≡ recast_columns (columns_of l) r
+columns_first l r epoch = ap (columns_after (recast_columns (columns_of l) r)) (take_all (epoch - (epoch_of l + 1)) [] (omega arith))
 
 -- The columns of a recast make a schema where the table's do.
 pub recast_schema : (s : Columns) (r : Recast) → is_schema s ≡ true → IsRecastOf s r → is_schema (recast_columns s r) ≡ true
@@ -84,7 +87,7 @@ lineage_recast l r is h =
     let allowed = recast_allowed l r h in
     let room = allowed.room in
     record {
-      schemas = λ epoch. ap (λ (changes : List Change). is_schema (columns_after (recast_columns (columns_of l) r) changes)) (take_all (epoch - (epoch_of l + 1)) [] (omega arith)) ∙ recast_schema (columns_of l) r (present_schema l is) allowed.rules;
+      schemas = λ epoch. ap is_schema (columns_first l r epoch) ∙ recast_schema (columns_of l) r (present_schema l is) allowed.rules;
       defaults = tt;
       views = views_allowed (columns_of l) r l.views allowed.rules allowed.kept is.views;
       few_changes = omega (arith, room);

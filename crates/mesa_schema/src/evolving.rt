@@ -65,9 +65,17 @@ impl Evolving {
     pub fn new(alloc: Global, first: Schema) -> Self
         ensures { result ≡ record { begins = 0; first = first; changes = []; views = [] } }
     {
+        Evolving::begun(alloc, 0, first)
+    }
+
+    /// A table whose columns begin with this epoch, as they do behind a recast; it has no views and no changes yet.
+    pub fn begun(alloc: Global, begins: u32, first: Schema) -> Self
+        requires { begins ≤ max_changes }
+        ensures { result ≡ record { begins = begins; first = first; changes = []; views = [] } }
+    {
         let _ = first.keys();
         Evolving {
-            begins: 0,
+            begins,
             first,
             changes: Items::new(alloc),
             present: None,

@@ -9,7 +9,7 @@ use Rattle.mesa_model.specs.declared.commands.Command.{Command}
 use Rattle.mesa_model.specs.declared.commands.Command.TheVariants as command
 use Rattle.mesa_script.specs.declared.script.Reason.{Reason}
 use Rattle.mesa_script.specs.declared.script.Reason.TheVariants as reason
-use Rattle.mesa_script.specs.Records.{Name, Lease, Session, Table, View, Alter, Row, Commit, Query, Explain, Pin, Release, Expire, Work, Change, AddValue, DropValue, AddKey, change_of, field}
+use Rattle.mesa_script.specs.Records.{Name, Lease, Session, Table, View, Alter, Row, Commit, Query, Explain, Pin, Release, Expire, Work, Recast, Change, AddValue, DropValue, AddKey, change_of, field}
 use Rattle.mesa_script.specs.Words.{max_number, number_in, limit_of, key_words, value_words, version_of}
 
 -- a lease's length, the next session's beginning, a row of a load, a load's end, or a command by itself
@@ -49,6 +49,11 @@ abbrev pub parts_of : Bool → List (List ℕ) → Result ℕ Reason
 parts_of false f = Ok 1
 parts_of true f = number_in 1 max_parts (field 2 f)
 
+-- the filter of the query that an explain asks of: its fourth field, if there is one
+abbrev pub filter_in : Bool → List (List ℕ) → Option (List ℕ)
+filter_in false f = None
+filter_in true f = Some (field 3 f)
+
 -- What a record of this name says, or what is wrong with its words and numbers; its words are looked at before its numbers.
 abbrev pub item_of : Name → List (List ℕ) → Result Item Reason
 item_of Lease f = do
@@ -71,7 +76,7 @@ item_of Query f = do
   Ok (Single (command.Query (record { relation = field 1 f; version = version; filter = field 3 f; group = field 4 f; values = field 5 f; limit = limit; resume = field 7 f })))
 item_of Explain f = do
   version ← version_of false (field 2 f)
-  Ok (Single (command.Explain (record { relation = field 1 f; version = version })))
+  Ok (Single (command.Explain (record { relation = field 1 f; version = version; filter = filter_in (length f == 4) f })))
 item_of Pin f = do
   version ← version_of false (field 1 f)
   Ok (Single (command.Pin version))
@@ -84,3 +89,4 @@ item_of Expire f = do
 item_of Work f = do
   parts ← parts_of (length f == 3) f
   Ok (Single (command.Work (record { table = field 1 f; parts = parts })))
+item_of Recast f = Ok (Single (command.Recast (record { table = field 1 f; keys = entries_of (field 2 f); values = entries_of (field 3 f) })))

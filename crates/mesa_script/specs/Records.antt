@@ -17,6 +17,7 @@ pub data Name : Type 0 where
   Release : Name
   Expire : Name
   Work : Name
+  Recast : Name
 
 -- the value that stands beside a word in a list of words
 abbrev pub named : {A : Type 0} → List (List ℕ × A) → List ℕ → Option A
@@ -28,7 +29,7 @@ abbrev pub names : List (List ℕ × Name)
 names =
     (codes "lease", Lease) ∷ (codes "session", Session) ∷ (codes "table", Table) ∷ (codes "view", View) ∷ (codes "alter", Alter)
     ∷ (codes "row", Row) ∷ (codes "commit", Commit) ∷ (codes "query", Query) ∷ (codes "explain", Explain) ∷ (codes "pin", Pin)
-    ∷ (codes "release", Release) ∷ (codes "expire", Expire) ∷ (codes "work", Work) ∷ []
+    ∷ (codes "release", Release) ∷ (codes "expire", Expire) ∷ (codes "work", Work) ∷ (codes "recast", Recast) ∷ []
 
 -- the record of a name
 abbrev pub name_of : List ℕ → Option Name
@@ -75,11 +76,12 @@ fits_fields Alter fields = alter_has (change_of (field 2 fields)) (length fields
 fits_fields Row fields = nat_le 2 (length fields)
 fits_fields Commit fields = length fields == 1
 fits_fields Query fields = is_between 2 8 (length fields)
-fits_fields Explain fields = is_between 2 3 (length fields)
+fits_fields Explain fields = is_between 2 4 (length fields)
 fits_fields Pin fields = is_between 1 2 (length fields)
 fits_fields Release fields = length fields == 2
 fits_fields Expire fields = is_between 2 3 (length fields)
 fits_fields Work fields = is_between 2 3 (length fields)
+fits_fields Recast fields = length fields == 4
 
 -- whether a word begins like the version of a pin
 abbrev pub asks_pin : List ℕ → Bool

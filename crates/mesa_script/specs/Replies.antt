@@ -80,6 +80,8 @@ refusal_text (no.Damaged damage) = damage_text damage
 refusal_text (no.Lost lease holder) = codes "lost lease=" ++ decimal lease ++ codes " holder=" ++ or_none holder
 refusal_text no.Memory = codes "memory"
 refusal_text (no.EpochsFull limit) = codes "epochs_full limit=" ++ decimal limit
+refusal_text (no.Changed epoch) = codes "changed epoch=" ++ decimal epoch
+refusal_text (no.TooManyDeltas limit) = codes "too_many_deltas limit=" ++ decimal limit
 
 -- ---- replies
 
@@ -100,11 +102,12 @@ reply_text (reply.Altered table epoch) = codes "altered " ++ table ++ codes " ep
 reply_text (reply.Loaded version rows) = codes "loaded version=" ++ decimal version ++ codes " rows=" ++ decimal rows
 reply_text (reply.Page page) = rows_text (length page.rows) page.version (is_some page.resume)
 reply_text (reply.Rows rows version more) = rows_text rows version more
-reply_text (reply.Spans spans) = codes "spans " ++ decimal (length spans)
+reply_text (reply.Spans ranges by) = codes "spans " ++ decimal (length ranges)
 reply_text (reply.Pinned token version) = codes "pinned token=" ++ decimal token ++ codes " version=" ++ decimal version
 reply_text (reply.Released token) = codes "released token=" ++ decimal token
 reply_text (reply.Expired table oldest) = expired_word table ++ codes " oldest=" ++ decimal oldest
 reply_text (reply.Swapped from to) = codes "swapped " ++ decimal from ++ 32 ∷ decimal to
+reply_text (reply.Recast table epoch) = codes "recast " ++ table ++ codes " epoch=" ++ decimal epoch
 reply_text reply.Idle = codes "idle"
 reply_text (reply.Busy lease) = codes "busy lease=" ++ decimal lease
 reply_text (reply.Refused refusal) = codes "refused " ++ refusal_text refusal

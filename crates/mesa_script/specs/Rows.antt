@@ -44,8 +44,17 @@ rendered heading page = record { rows = length page.rows; more = is_some page.re
 abbrev span_line : ℕ × ℕ → List ℕ
 span_line span = 91 ∷ decimal span.0 ++ 44 ∷ decimal span.1 ++ 93 ∷ 10 ∷ []
 
+-- a range a line
+abbrev pub span_lines : List (ℕ × ℕ) → List ℕ
+span_lines ranges = flat_map span_line ranges
+
+-- the line that says in which relation's order a query would be answered, where that was asked
+abbrev pub order_line : Option (List ℕ) → List ℕ
+order_line None = []
+order_line (Some name) = codes "by " ++ name ++ 10 ∷ []
+
 -- the lines behind the head line of a reply
 abbrev pub body_of : Heading → Reply → List ℕ
 body_of heading (reply.Page page) = page_body heading page
-body_of heading (reply.Spans spans) = flat_map span_line spans
+body_of heading (reply.Spans ranges by) = span_lines ranges ++ order_line by
 body_of heading r = []

@@ -85,12 +85,13 @@ fn prints_replies(rt: HostRuntime) {
 #[test]
 fn prints_spans(rt: HostRuntime) {
     let spans = vec![in rt.alloc(); (0, 3), (4, 4)].expect(&rt, "memory");
-    let reply = Reply::Spans(Items::from_vec(spans));
-    expect(&rt, &reply, "0.5@8 spans 2\n");
+    let ranges = Items::from_vec(spans);
+    let by = Some(name(&rt, rt.alloc(), "w"));
+    expect(&rt, &Reply::Spans { ranges, by }, "0.5@8 spans 2\n");
 }
 
 // Replies that name a table or a view, by their names.
-fn named(table: Name, view: Name, altered: Name, expired: Name) -> [Line; 4] {
+fn named(table: Name, view: Name, altered: Name, expired: Name, recast: Name) -> [Line; 5] {
     let altered = Reply::Altered {
         table: altered,
         epoch: 1,
@@ -99,20 +100,26 @@ fn named(table: Name, view: Name, altered: Name, expired: Name) -> [Line; 4] {
         table: Some(expired),
         oldest: 4_294_967_294,
     };
+    let recast = Reply::Recast {
+        table: recast,
+        epoch: 2,
+    };
     [
         (Reply::Table { name: table }, "0.5@8 table a\n"),
         (Reply::View { name: view }, "0.5@8 view c\n"),
         (altered, "0.5@8 altered a epoch=1\n"),
         (expired, "0.5@8 expired d oldest=4294967294\n"),
+        (recast, "0.5@8 recast e epoch=2\n"),
     ]
 }
 
-fn named_replies(rt: &impl Abort, alloc: Global) -> [Line; 4] {
+fn named_replies(rt: &impl Abort, alloc: Global) -> [Line; 5] {
     let table = name(rt, alloc, "a");
     let view = name(rt, alloc, "c");
     let altered = name(rt, alloc, "a");
     let expired = name(rt, alloc, "d");
-    named(table, view, altered, expired)
+    let recast = name(rt, alloc, "e");
+    named(table, view, altered, expired, recast)
 }
 
 #[test]
@@ -121,7 +128,7 @@ fn prints_named_replies(rt: HostRuntime) {
 }
 
 // Refusals, and their head lines.
-fn refusals() -> [Line; 10] {
+fn refusals() -> [Line; 12] {
     let damage = Damage {
         file: FileId::of(0x100_0000_0000),
         place: 0,
@@ -178,6 +185,14 @@ fn refusals() -> [Line; 10] {
             "0.5@8 refused lost lease=1 holder=none\n",
         ),
         (Reply::Refused(Refusal::Memory), "0.5@8 refused memory\n"),
+        (
+            Reply::Refused(Refusal::Changed { epoch: 3 }),
+            "0.5@8 refused changed epoch=3\n",
+        ),
+        (
+            Reply::Refused(Refusal::TooManyDeltas { limit: 1_000_000 }),
+            "0.5@8 refused too_many_deltas limit=1000000\n",
+        ),
     ]
 }
 

@@ -3,7 +3,9 @@ use crate::expected::expect_same;
 use itoa::Buffer;
 use mesa_batch::{LoadRows, RowView};
 use mesa_filter::{QueryWords, VersionWord};
-use mesa_model::{AlterWords, ChangeWords, Command, TableWords, ViewWords};
+use mesa_model::{
+    AlterWords, ChangeWords, Command, ExplainWords, RecastWords, TableWords, ViewWords,
+};
 use mesa_parse::parse;
 use mesa_schema::Words;
 use mesa_script::{Reason, ScriptError};
@@ -121,6 +123,26 @@ fn push_expiry(out: &mut Vec<u8>, table: &Option<Words>, version: u32) -> Result
     push_number(out, version)
 }
 
+// What an explain asks of, with its filter in brackets, where it has one.
+fn push_explain(out: &mut Vec<u8>, words: &ExplainWords) -> Result<(), AllocError> {
+    push_named(out, b"explain", &words.relation)?;
+    push_version(out, words.version)?;
+    let Some(filter) = &words.filter else {
+        return Ok(());
+    };
+    out.extend_from_slice(b" (")?;
+    out.extend_from_slice(filter.as_slice())?;
+    out.push(b')')?;
+    Ok(())
+}
+
+fn push_recast(out: &mut Vec<u8>, words: &RecastWords) -> Result<(), AllocError> {
+    push_named(out, b"recast", &words.table)?;
+    push_all(out, words.keys.as_slice())?;
+    out.push(b':')?;
+    push_all(out, words.values.as_slice())
+}
+
 fn push_command(out: &mut Vec<u8>, command: &Command) -> Result<(), AllocError> {
     match command {
         Command::Table(words) => push_table(out, words),
@@ -128,10 +150,7 @@ fn push_command(out: &mut Vec<u8>, command: &Command) -> Result<(), AllocError> 
         Command::Alter(words) => push_alter(out, words),
         Command::Load(rows) => push_load(out, rows),
         Command::Query(words) => push_query(out, words),
-        Command::Explain(words) => {
-            push_named(out, b"explain", &words.relation)?;
-            push_version(out, words.version)
-        }
+        Command::Explain(words) => push_explain(out, words),
         Command::Pin(version) => {
             out.extend_from_slice(b"pin")?;
             push_version(out, *version)
@@ -145,13 +164,14 @@ fn push_command(out: &mut Vec<u8>, command: &Command) -> Result<(), AllocError> 
             push_named(out, b"work", &words.table)?;
             push_number(out, words.parts as u32)
         }
+        Command::Recast(words) => push_recast(out, words),
     }
 }
 
 static TEXT: &str =
-    "lease,007\ntable,a,day int;country text,clicks sum;low min\nrow,a,1,US,10,2\nrow,b,2,\"U,K\",-3\ncommit\ncommit\nview,c,a,country,clicks\nquery,c,007,country=US,-,clicks\nquery,c\nexpire,1\nsession\nalter,a,add_value,high max,-5\nalter,a,drop_value,low\nalter,a,add_key,hour int,x\nquery,c,pin:07,,,,10000,c/0/1/country/555300\nquery,c,latest,,,,01\nexplain,c\nexplain,a,3\npin\npin,4294967295\nrelease,0\nexpire,a,007\nexpire,,0\nwork,a\nwork,a,08\n";
+    "lease,007\ntable,a,day int;country text,clicks sum;low min\nrow,a,1,US,10,2\nrow,b,2,\"U,K\",-3\ncommit\ncommit\nview,c,a,country,clicks\nquery,c,007,country=US,-,clicks\nquery,c\nexpire,1\nsession\nalter,a,add_value,high max,-5\nalter,a,drop_value,low\nalter,a,add_key,hour int,x\nquery,c,pin:07,,,,10000,c/0/1/country/555300\nquery,c,latest,,,,01\nexplain,c\nexplain,a,3\npin\npin,4294967295\nrelease,0\nexpire,a,007\nexpire,,0\nwork,a\nwork,a,08\nexplain,a,,\nexplain,a,latest,day=1\nrecast,a,day;hour,high\nrecast,a,,\n";
 
-static OUTLINES: [&str; 21] = [
+static OUTLINES: [&str; 25] = [
     "table a day country:clicks:low",
     "load a,1,US,10,2 b,2,U,K,-3",
     "load",
@@ -173,6 +193,10 @@ static OUTLINES: [&str; 21] = [
     "expire  0",
     "work a 1",
     "work a 8",
+    "explain a latest ()",
+    "explain a latest (day=1)",
+    "recast a,day,hour:,high",
+    "recast a:",
 ];
 
 // Stops the test of a command with other words, its columns' types apart.
@@ -206,7 +230,7 @@ fn reads_a_script(rt: HostRuntime) {
 }
 
 // A script, its first bad record, and what is wrong with it.
-static BAD: [(&str, u64, Reason); 45] = [
+static BAD: [(&str, u64, Reason); 48] = [
     ("tabel,t\npin,pin:1\n", 1, Reason::Unknown),
     ("\u{feff}tabel,t\n", 1, Reason::Unknown),
     ("table,t,k int\n", 1, Reason::Fields),
@@ -252,6 +276,9 @@ static BAD: [(&str, u64, Reason); 45] = [
     ("work,t,two\n", 1, Reason::Number),
     ("work,t,+1\n", 1, Reason::Number),
     ("work,t,1,1\n", 1, Reason::Fields),
+    ("explain,t,latest,k=1,0\n", 1, Reason::Fields),
+    ("recast,t,k\n", 1, Reason::Fields),
+    ("recast,t,k,v,0\n", 1, Reason::Fields),
 ];
 
 // Stops the test of a script that is taken, or refused otherwise.

@@ -128,6 +128,7 @@ named_bare s = sym (maps_same bare_table (λ (t : Table). record { name = t.name
 builds_of : (s : Store) (c : Command) → builds_files s c ≡ builds_files (bare_store s) c
 builds_of s (command.Load rows) = ap (λ (named : List Named). is_ok (batch_of named rows)) (named_bare s)
 builds_of s (command.Work words) = refl
+builds_of s (command.Recast words) = refl
 builds_of s c = refl
 
 builds_bare : (s : Store) (c : Option Command) → builds_files_in s c ≡ builds_files_in (bare_store s) c

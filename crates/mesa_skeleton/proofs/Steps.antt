@@ -1,5 +1,5 @@
 -- Each command does the same to a warehouse without rows.
-use Rattle.std.proofs.Common.{◌≡◌, ℕ, ◌+◌, List, [], ◌∷◌, ◌++◌, map, length, Bool, true, false, refl, sym, ◌∙◌, ap, Option, Some, None, option_map, Result, Ok, Err, ok_or, set, filter, find, is_some, is_none, nat_le, not}
+use Rattle.std.proofs.Common.{◌≡◌, ℕ, ◌+◌, List, [], ◌∷◌, ◌++◌, map, length, Bool, true, false, refl, sym, ◌∙◌, ap, Option, Some, None, option_map, Result, Ok, Err, ok_or, set, filter, find, is_some, is_none, nat_le, nat_lt, not}
 use Rattle.std.specs.Prelude.{if◌then◌else◌, max}
 use Rattle.mesa_list.specs.Bytes.{same_bytes}
 use Rattle.mesa_list.specs.Checks.{◌>>=◌, ◌>>◌, refuse_if, refuse_unless, refused_as}
@@ -8,6 +8,7 @@ use Rattle.mesa_history.specs.mesa_schema.Names.{is_name}
 use Rattle.mesa_history.specs.mesa_schema.Columns.{place_of}
 use Rattle.mesa_history.specs.mesa_schema.Schema.{schema_checked}
 use Rattle.mesa_history.specs.mesa_schema.Changes.{Lineage, columns_of, epoch_of, change_checked}
+use Rattle.mesa_history.specs.mesa_schema.Recasts.{Recast, recast_checked}
 use Rattle.mesa_history.specs.mesa_batch.declared.words.RowWords.{RowWords}
 use Rattle.mesa_history.specs.mesa_batch.Batch.{Named, Placed, batch_of, rows_for}
 use Rattle.mesa_history.specs.mesa_filter.declared.words.QueryWords.{QueryWords}
@@ -19,6 +20,7 @@ use Rattle.mesa_history.specs.mesa_model.declared.commands.TableWords.{TableWord
 use Rattle.mesa_history.specs.mesa_model.declared.commands.ViewWords.{ViewWords}
 use Rattle.mesa_history.specs.mesa_model.declared.commands.AlterWords.{AlterWords}
 use Rattle.mesa_history.specs.mesa_model.declared.commands.ExplainWords.{ExplainWords}
+use Rattle.mesa_history.specs.mesa_model.declared.commands.RecastWords.{RecastWords}
 use Rattle.mesa_history.specs.mesa_model.declared.commands.Command.{Command}
 use Rattle.mesa_history.specs.mesa_model.declared.commands.Command.TheVariants as command
 use Rattle.mesa_history.specs.mesa_model.declared.replies.Refusal.{Refusal}
@@ -26,15 +28,17 @@ use Rattle.mesa_history.specs.mesa_model.declared.replies.Refusal.TheVariants as
 use Rattle.mesa_history.specs.mesa_model.declared.replies.Reply.{Reply}
 use Rattle.mesa_history.specs.mesa_model.declared.replies.Reply.TheVariants as reply
 use Rattle.mesa_history.specs.mesa_model.Warehouse.{Table, Store, Pin, Warehouse, max_pins, max_tables, max_versions, newest_of, no_table, table_at}
-use Rattle.mesa_history.specs.mesa_model.Refusals.{refuse_closed, no_such_table, query_refusal, batch_refusal, schema_refusal, change_refusal}
+use Rattle.mesa_history.specs.mesa_model.Refusals.{refuse_closed, no_such_table, query_refusal, batch_refusal, schema_refusal, change_refusal, recast_refusal}
 use Rattle.mesa_history.specs.mesa_model.Relations.{Relation, relation_from, relation_of, relation_columns, is_taken, table_number}
+use Rattle.mesa_history.specs.mesa_model.Orders.{order_asked}
 use Rattle.mesa_history.specs.mesa_model.Versions.{common_oldest, oldest_among, version_asked, version_checked, table_from, expire_all, expire_table, expire_to}
 use Rattle.mesa_history.specs.mesa_model.Pins.{is_pin, pin_of, next_token, table_pinned, store_at, make_pin, release_pin}
 use Rattle.mesa_history.specs.mesa_model.Load.{tables_named, bound_checked, bounds_checked, table_loaded, tables_loaded, load_batch}
-use Rattle.mesa_history.specs.mesa_model.Tables.{columns_asked, names_are_good, new_table, make_table, view_of_table_checked, make_view, change_asked, changed_name, table_changed, alter_table}
+use Rattle.mesa_history.specs.mesa_model.Tables.{columns_asked, names_are_good, new_table, make_table, view_of_table_checked, make_view, change_asked, changed_name, table_changed, alter_table, recast_asked, recast_reply, recast_table, table_recast, with_recast}
 use Rattle.mesa_history.specs.mesa_model.Query.{Answer, store_asked, version_seen, query_answer}
-use Rattle.mesa_history.specs.mesa_model.Step.{done_or_refused, reply_to_query, step}
-use Rattle.mesa_history.specs.Machine.{Machine, Claim, claim_of, explained, ranges_at, refuse_busy}
+use Rattle.mesa_history.specs.mesa_model.Step.{done_or_refused, nothing_done, reply_to_query, step}
+use Rattle.mesa_history.specs.Machine.{Machine, Claim, Merges, Recasts, claim_of, explained, max_deltas, ranges_at, recast_claim_of, refuse_busy, singletons_of}
+use Rattle.mesa_history.specs.Replay.{claim_asked}
 use Rattle.mesa_history.specs.mesa_span.Work.{next_work}
 use Rattle.mesa_history.specs.mesa_lease.Book.{holder}
 use Rattle.mesa_skeleton.specs.Bare.{bare, bare_table, bare_store, bare_pin, bare_done, bare_reply, bare_answer, bare_result}
@@ -142,6 +146,18 @@ alter-bare w words =
     (ap (λ (l : Lineage). refused_as (change_refusal (changed_name c)) (change_checked l c)) lineage)
     (with_store w _ _ w.next (reply.Altered words.table (epoch_of (table_at w.store number).lineage + 1)) (set_bare w.store number (λ (t : Table). table_changed t c) (λ t. refl))
     ∙ ap (λ (l : Lineage). done_of (Ok (record (bare w) { store = record (bare_store w.store) { tables = set (map bare_table w.store.tables) number (table_changed (table_at (bare_store w.store) number) c) } }, reply.Altered words.table (epoch_of l + 1)))) lineage))))
+
+-- a recast leaves the same skeleton
+pub recast_same : (w : Warehouse) (number : ℕ) (r : Recast) → bare (with_recast w number r) ≡ bare (with_recast (bare w) number r)
+recast_same w number r = λ i. record w { store = set_bare w.store number (λ (t : Table). table_recast t r) (λ t. refl) i; pins = sym (pins_twice w.pins) i }
+
+pub recast-bare : (w : Warehouse) (words : RecastWords) → done_of (recast_table w words) ≡ done_of (recast_table (bare w) words)
+recast-bare w words =
+    same_check done_of (refuse_closed w.closed) _ _ _ refl
+    (same_value done_of (ok_or (table_number w.store words.table) no_such_table) (ok_or (table_number (bare_store w.store) words.table) no_such_table) _ _ (ap (λ o. ok_or o no_such_table) (number_bare w.store words.table)) (λ number.
+    same_check done_of (refused_as recast_refusal (recast_checked (table_at w.store number).lineage (recast_asked words))) (refused_as recast_refusal (recast_checked (table_at (bare_store w.store) number).lineage (recast_asked words))) _ _
+    (ap (λ (t : Table). refused_as recast_refusal (recast_checked t.lineage (recast_asked words))) (sym (table_bare w.store number)))
+    (λ i. Ok (recast_same w number (recast_asked words) i, recast_reply (sym (table_bare w.store number) i)))))
 
 -- ---- loads
 
@@ -268,20 +284,48 @@ explain-bare w m words =
     same_check (λ r. r) (refuse_closed w.closed) _ _ _ refl
     (same_bare (λ r. r) bare_relation (ok_or (relation_of w.store words.relation) no_such_table) (ok_or (relation_of (bare_store w.store) words.relation) no_such_table) _ _
     (ap (λ o. ok_or o no_such_table) (relation_bare w.store words.relation) ∙ some_bare bare_relation (relation_of w.store words.relation) no_such_table) (λ relation.
-    same_value (λ r. r) (version_asked w relation.table.oldest words.version) (version_asked (bare w) relation.table.oldest words.version) _ _ (asked_bare w relation.table.oldest words.version) (λ version. refl)))
+    same_value (λ r. r) (order_asked relation words.filter) (order_asked (bare_relation relation) words.filter) _ _ refl (λ by.
+    same_value (λ r. r) (version_asked w relation.table.oldest words.version) (version_asked (bare w) relation.table.oldest words.version) _ _ (asked_bare w relation.table.oldest words.version) (λ version. refl))))
 
 -- what a work on the table of a number is granted, where this is its oldest version
 abbrev granted_at : Warehouse → Machine → ℕ → ℕ → ℕ → Result Claim Reply
 granted_at w m position table oldest = do
   refuse_busy (holder m.leases table position)
   work ← ok_or (next_work (ranges_at m table) oldest (newest_of w)) reply.Idle
-  Ok (record { table = table; lease = m.leases.granted + 1; work = work })
+  Ok (record { table = table; lease = m.leases.granted + 1; errand = Merges work })
 
 pub claim-bare : (w : Warehouse) (m : Machine) (position : ℕ) (name : List ℕ) → claim_of w m position name ≡ claim_of (bare w) m position name
 claim-bare w m position name =
     same_check (λ r. r) (refused_as reply.Refused (refuse_closed w.closed)) _ _ _ refl
     (same_value (λ r. r) (ok_or (table_number w.store name) (reply.Refused no_such_table)) (ok_or (table_number (bare_store w.store) name) (reply.Refused no_such_table)) _ _ (ap (λ o. ok_or o (reply.Refused no_such_table)) (number_bare w.store name)) (λ table.
     ap (λ (t : Table). granted_at w m position table t.oldest) (sym (table_bare w.store table))))
+
+-- what a recast of the table of a number is granted, where this is its lineage
+abbrev recast_granted_at : Warehouse → Machine → ℕ → RecastWords → ℕ → Lineage → Result Claim Reply
+recast_granted_at w m position words table l = do
+  refused_as reply.Refused (refused_as recast_refusal (recast_checked l (recast_asked words)))
+  refuse_busy (holder m.leases table position)
+  refuse_if (nat_lt max_deltas (singletons_of w m table)) (reply.Refused (no.TooManyDeltas max_deltas))
+  Ok (record { table = table; lease = m.leases.granted + 1; errand = Recasts (epoch_of l) (recast_asked words) })
+
+pub recast_claim-bare : (w : Warehouse) (m : Machine) (position : ℕ) (words : RecastWords) → recast_claim_of w m position words ≡ recast_claim_of (bare w) m position words
+recast_claim-bare w m position words =
+    same_check (λ r. r) (refused_as reply.Refused (refuse_closed w.closed)) _ _ _ refl
+    (same_value (λ r. r) (ok_or (table_number w.store words.table) (reply.Refused no_such_table)) (ok_or (table_number (bare_store w.store) words.table) (reply.Refused no_such_table)) _ _ (ap (λ o. ok_or o (reply.Refused no_such_table)) (number_bare w.store words.table)) (λ table.
+    ap (λ (t : Table). recast_granted_at w m position words table t.lineage) (sym (table_bare w.store table))))
+
+pub asked-bare : (w : Warehouse) (m : Machine) (position : ℕ) (c : Command) → claim_asked w m position c ≡ claim_asked (bare w) m position c
+asked-bare w m position (command.Recast words) = recast_claim-bare w m position words
+asked-bare w m position (command.Table words) = claim-bare w m position []
+asked-bare w m position (command.View words) = claim-bare w m position []
+asked-bare w m position (command.Alter words) = claim-bare w m position []
+asked-bare w m position (command.Load rows) = claim-bare w m position []
+asked-bare w m position (command.Query words) = claim-bare w m position []
+asked-bare w m position (command.Explain words) = claim-bare w m position []
+asked-bare w m position (command.Pin asked) = claim-bare w m position []
+asked-bare w m position (command.Release token) = claim-bare w m position []
+asked-bare w m position (command.Expire table version) = claim-bare w m position []
+asked-bare w m position (command.Work words) = claim-bare w m position words.table
 
 -- ---- Step
 
@@ -302,6 +346,9 @@ told_of w v q r same is = λ i. (same i, (told q ∙ ap reply_to_query is ∙ sy
 nothing-bare : (w : Warehouse) → done_of (refuse_closed w.closed >> Ok (w, reply.Idle)) ≡ done_of (refuse_closed w.closed >> Ok (bare w, reply.Idle))
 nothing-bare w = same_check done_of (refuse_closed w.closed) _ _ _ refl (λ i. Ok (sym (bare_twice w) i, reply.Idle))
 
+pub nothing_step-bare : (w : Warehouse) → bare_done (done_or_refused w (nothing_done w)) ≡ bare_done (done_or_refused (bare w) (nothing_done (bare w)))
+nothing_step-bare w = steps w _ _ (nothing-bare w)
+
 -- Step does the same to a warehouse without rows: the same refusal, the same reply but for a page's rows, the same warehouse but for its rows.
 pub step-bare : (w : Warehouse) (session : ℕ) (c : Command) → bare_done (step w session c) ≡ bare_done (step (bare w) session c)
 step-bare w session (command.Table words) = steps w _ _ (table-bare w words)
@@ -314,3 +361,4 @@ step-bare w session (command.Pin asked) = steps w _ _ (pin-bare w session asked)
 step-bare w session (command.Release token) = steps w _ _ (release-bare w session token)
 step-bare w session (command.Expire table version) = steps w _ _ (expire-bare w table version)
 step-bare w session (command.Work words) = steps w _ _ (nothing-bare w)
+step-bare w session (command.Recast words) = steps w _ _ (recast-bare w words)

@@ -12,13 +12,15 @@ use Rattle.mesa_history.specs.mesa_model.declared.replies.Refusal.{Refusal}
 use Rattle.mesa_history.specs.mesa_model.declared.replies.Refusal.TheVariants as no
 use Rattle.mesa_history.specs.mesa_model.declared.replies.Reply.{Reply}
 use Rattle.mesa_history.specs.mesa_model.declared.replies.Reply.TheVariants as reply
-use Rattle.mesa_history.specs.mesa_model.Warehouse.{Warehouse}
+use Rattle.mesa_history.specs.mesa_schema.Recasts.{Recast}
+use Rattle.mesa_history.specs.mesa_model.Warehouse.{Table, Warehouse, table_at}
 use Rattle.mesa_history.specs.mesa_model.Query.{Answer, query_answer}
-use Rattle.mesa_history.specs.Machine.{Machine, Claim, claim_of, claim_checked, explained}
+use Rattle.mesa_history.specs.mesa_model.Tables.{recast_reply}
+use Rattle.mesa_history.specs.Machine.{Machine, Claim, Errand, Merges, Recasts, claim_checked, claim_ended, claim_recast, still_checked, explained}
 use Rattle.mesa_history.specs.Run.{State, Stage, First, Looked, Answered, Granted, Renewed, Finished, CutOff, Run, place_of, command_of}
-use Rattle.mesa_history.specs.Replay.{turned, turn_as, turn_of, standing, decide, decided, decided_query, decided_explain, grants, renews, renew, completes, close, prints, leaves, refused_turn, closed_if, closes, machine_after, no_rows, some_damage, work_name}
+use Rattle.mesa_history.specs.Replay.{turned, turn_as, turn_of, standing, decide, decided, decided_query, decided_explain, grants, claim_asked, renews, renew, completes, does, recasts, close, prints, leaves, refused_turn, closed_if, closes, machine_after, no_rows, some_damage, with_machine}
 use Rattle.mesa_skeleton.specs.Bare.{bare, bare_done, bare_reply, bare_answer, bare_state, bare_stage, bare_turned, bare_run}
-use Rattle.mesa_skeleton.proofs.Steps.{answer_of, bare_twice, step-bare, query-bare, explain-bare, claim-bare}
+use Rattle.mesa_skeleton.proofs.Steps.{answer_of, asked-bare, bare_twice, explain-bare, nothing_step-bare, query-bare, recast_same, step-bare, table_bare}
 
 state_twice : (s : State) → bare_state s ≡ bare_state (bare_state s)
 state_twice s = λ i. record s { warehouse = sym (bare_twice s.warehouse) i }
@@ -38,11 +40,12 @@ machine_bare w (reply.Altered table epoch) m = refl
 machine_bare w (reply.Loaded v rows) m = refl
 machine_bare w (reply.Page page) m = refl
 machine_bare w (reply.Rows rows v more) m = refl
-machine_bare w (reply.Spans spans) m = refl
+machine_bare w (reply.Spans spans by) m = refl
 machine_bare w (reply.Pinned token v) m = refl
 machine_bare w (reply.Released token) m = refl
 machine_bare w (reply.Expired table oldest) m = refl
 machine_bare w (reply.Swapped from to) m = refl
+machine_bare w (reply.Recast table epoch) m = refl
 machine_bare w reply.Idle m = refl
 machine_bare w (reply.Busy lease) m = refl
 machine_bare w (reply.Refused refusal) m = refl
@@ -76,8 +79,9 @@ decide_bare p s session (command.Pin asked) = done_bare p s _ _ (step-bare s.war
 decide_bare p s session (command.Release token) = done_bare p s _ _ (step-bare s.warehouse session (command.Release token))
 decide_bare p s session (command.Expire table version) = done_bare p s _ _ (step-bare s.warehouse session (command.Expire table version))
 decide_bare p s session (command.Work words) = done_bare p s _ _ (step-bare s.warehouse session (command.Work words))
+decide_bare p s session (command.Recast words) = done_bare p s _ _ (nothing_step-bare s.warehouse)
 
--- ---- works
+-- ---- works and recasts
 
 grants_bare : (p : ℕ) (s : State) (q : Result Claim Reply) → bare_turned (grants p s q) ≡ bare_turned (grants p (bare_state s) q)
 grants_bare p s (Ok claim) = λ i. record (bare_turned (grants p s (Ok claim))) { state = record (grants p s (Ok claim)).state { warehouse = sym (bare_twice s.warehouse) i } }
@@ -87,8 +91,23 @@ renews_bare : (p : ℕ) (s : State) (claim : Claim) (q : Result (Unit {0}) Refus
 renews_bare p s claim (Ok ok) = λ i. record (bare_turned (renews p s claim (Ok ok))) { state = record (renews p s claim (Ok ok)).state { warehouse = sym (bare_twice s.warehouse) i } }
 renews_bare p s claim (Err e) = printed p s (bare_state s) (reply.Refused e) (state_twice s)
 
+recasts_bare : (p : ℕ) (s : State) (claim : Claim) (r : Recast) (q : Result (Unit {0}) Refusal) → bare_turned (recasts p s claim r q) ≡ bare_turned (recasts p (bare_state s) claim r q)
+recasts_bare p s claim r (Ok ok) = λ i. record {
+  state = record { warehouse = recast_same s.warehouse claim.table r i; machine = claim_recast s.machine claim };
+  told = Some (record { at = p; reply = recast_reply (sym (table_bare s.warehouse.store claim.table) i); heading = no_rows });
+  stage = Finished;
+}
+recasts_bare p s claim r (Err e) =
+    printed p (with_machine s (claim_ended s.machine claim)) (with_machine (bare_state s) (claim_ended s.machine claim)) (reply.Refused e) (λ i. record { warehouse = sym (bare_twice s.warehouse) i; machine = claim_ended s.machine claim })
+
+does_bare : (p : ℕ) (s : State) (claim : Claim) (errand : Errand) → bare_turned (does p s claim errand) ≡ bare_turned (does p (bare_state s) claim errand)
+does_bare p s claim (Merges work) = λ i. record (bare_turned (does p s claim (Merges work))) { state = record (does p s claim (Merges work)).state { warehouse = sym (bare_twice s.warehouse) i } }
+does_bare p s claim (Recasts epoch r) =
+    recasts_bare p s claim r (still_checked (table_at s.warehouse.store claim.table).lineage epoch r)
+    ∙ ap (λ (t : Table). bare_turned (recasts p (bare_state s) claim r (still_checked t.lineage epoch r))) (sym (table_bare s.warehouse.store claim.table))
+
 completes_bare : (p : ℕ) (s : State) (claim : Claim) (q : Result (Unit {0}) Refusal) → bare_turned (completes p s claim q) ≡ bare_turned (completes p (bare_state s) claim q)
-completes_bare p s claim (Ok ok) = λ i. record (bare_turned (completes p s claim (Ok ok))) { state = record (completes p s claim (Ok ok)).state { warehouse = sym (bare_twice s.warehouse) i } }
+completes_bare p s claim (Ok ok) = does_bare p s claim claim.errand
 completes_bare p s claim (Err e) = printed p s (bare_state s) (reply.Refused e) (state_twice s)
 
 renew_bare : (p : ℕ) (s : State) (stage : Stage) → bare_turned (renew p s stage) ≡ bare_turned (renew p (bare_state s) (bare_stage stage))
@@ -113,7 +132,7 @@ standing_bare : (p : ℕ) (s : State) (session : ℕ) (c : Command) (k : Kind) (
 standing_bare p s session c kind.Look stage = left s (bare_state s) Looked Looked (state_twice s) refl
 standing_bare p s session c kind.Decide stage = decide_bare p s session c
 standing_bare p s session c kind.Close stage = close_bare p s stage
-standing_bare p s session c kind.Grant stage = grants_bare p s (claim_of s.warehouse s.machine p (work_name c)) ∙ ap (λ q. bare_turned (grants p (bare_state s) q)) (claim-bare s.warehouse s.machine p (work_name c))
+standing_bare p s session c kind.Grant stage = grants_bare p s (claim_asked s.warehouse s.machine p c) ∙ ap (λ q. bare_turned (grants p (bare_state s) q)) (asked-bare s.warehouse s.machine p c)
 standing_bare p s session c kind.Renew stage = renew_bare p s stage
 
 -- ---- other outcomes

@@ -2,12 +2,15 @@
 use Rattle.std.proofs.Common.{◌≡◌, ℕ, List, Bool, false, not, ◌&&◌, ◌==◌, IsTrue, refl, sym, ◌∙◌, ap, subst}
 use Rattle.mesa_skeleton.specs.mesa_model.declared.commands.Command.{Command}
 use Rattle.mesa_skeleton.specs.mesa_model.declared.commands.Script.{Script}
+use Rattle.mesa_skeleton.specs.mesa_model.Warehouse.{Table, table_at}
 use Rattle.mesa_skeleton.specs.mesa_model.declared.entries.Entry.{Entry}
 use Rattle.mesa_skeleton.specs.mesa_history.Run.{State, Stage, First, Looked, Answered, Granted, Renewed, Finished, CutOff, Place, Run, place_of, begins}
+use Rattle.mesa_skeleton.specs.mesa_history.Law.{begun_at}
 use Rattle.mesa_skeleton.specs.mesa_history.Legal.{is_answered}
 use Rattle.mesa_skeleton.specs.mesa_history.Turns.{IsDue}
 use Rattle.mesa_skeleton.specs.Bare.{bare_state, bare_stage, bare_place, bare_run}
 use Rattle.mesa_skeleton.proofs.Alike.{runs_alike}
+use Rattle.mesa_skeleton.proofs.Steps.{table_bare}
 use Rattle.mesa_walk.specs.Turns.{Asks}
 use Rattle.mesa_walk.specs.Walk.{run_at}
 
@@ -48,3 +51,11 @@ due_alike script a b h s n c stage same unanswered due =
 
 pub asks_alike : (script : Script) (a b : State) (h : List Entry) (s n : ℕ) (stage : Stage) (sort : Command → Bool) → bare_state a ≡ bare_state b → is_answered stage ≡ false → Asks script (run_at script a h) s n stage sort → Asks script (run_at script b h) s n stage sort
 asks_alike script a b h s n stage sort same unanswered asks = record { asked = asks.asked; is = asks.is; due = due_alike script a b h s n asks.asked stage same unanswered asks.due }
+
+-- a table's columns begin at the same epoch
+pub begun_alike : (script : Script) (a b : State) (h : List Entry) (table : ℕ) → bare_state a ≡ bare_state b → begun_at (run_at script b h).state.warehouse table ≡ begun_at (run_at script a h).state.warehouse table
+begun_alike script a b h table same =
+    let runs_same : bare_run (run_at script a h) ≡ bare_run (run_at script b h) = runs_alike script (begins a) (begins b) h (ap begins same) in
+    ap (λ (t : Table). t.lineage.begins) (sym (table_bare (run_at script b h).state.warehouse.store table))
+    ∙ ap (λ (x : Run). (table_at x.state.warehouse.store table).lineage.begins) (sym runs_same)
+    ∙ ap (λ (t : Table). t.lineage.begins) (table_bare (run_at script a h).state.warehouse.store table)

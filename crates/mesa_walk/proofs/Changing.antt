@@ -80,6 +80,7 @@ drafted_later (command.Pin version) s writes builds due = absurd cc
 drafted_later (command.Release token) s writes builds due = absurd cc
 drafted_later (command.Expire table version) s writes builds due = absurd cc
 drafted_later (command.Work words) s writes builds due = absurd cc
+drafted_later (command.Recast words) s writes builds due = absurd cc
 
 memory_fits : (c : Command) → is_release c ≡ false → IsTrue (outcome_fits c kind.Decide outcome.Memory)
 memory_fits c is = subst (λ b. IsTrue (not (b || false))) (sym is) refl

@@ -1,5 +1,5 @@
 -- Where a turn takes its session.
-use Rattle.std.proofs.Common.{◌≡◌, ℕ, [], ◌∷◌, ◌++◌, true, false, not, IsTrue, refl, ◌∙◌, ap, Result, Ok, Err}
+use Rattle.std.proofs.Common.{◌≡◌, ℕ, [], ◌∷◌, ◌++◌, Bool, true, false, not, IsTrue, refl, ◌∙◌, ap, Result, Ok, Err}
 use Rattle.mesa_skeleton.specs.mesa_model.declared.commands.Command.{Command}
 use Rattle.mesa_skeleton.specs.mesa_model.declared.commands.Command.TheVariants as command
 use Rattle.mesa_skeleton.specs.mesa_model.declared.commands.Script.{Script}
@@ -10,17 +10,28 @@ use Rattle.mesa_skeleton.specs.mesa_model.declared.entries.Outcome.TheVariants a
 use Rattle.mesa_skeleton.specs.mesa_model.declared.replies.Refusal.{Refusal}
 use Rattle.mesa_skeleton.specs.mesa_model.declared.replies.Reply.{Reply}
 use Rattle.mesa_skeleton.specs.mesa_model.Query.{Answer}
-use Rattle.mesa_skeleton.specs.mesa_history.Machine.{Claim, claim_checked, explained}
+use Rattle.mesa_skeleton.specs.mesa_schema.Recasts.{Recast}
+use Rattle.mesa_skeleton.specs.mesa_model.Warehouse.{table_at}
+use Rattle.mesa_skeleton.specs.mesa_history.Machine.{Claim, Errand, Merges, Recasts, claim_checked, explained, still_checked}
 use Rattle.mesa_skeleton.specs.mesa_history.Run.{State, Stage, First, Looked, Answered, Granted, Renewed, Finished, Run, begins}
-use Rattle.mesa_skeleton.specs.mesa_history.Replay.{turn_of, decided_explain, completes, is_skip}
+use Rattle.mesa_skeleton.specs.mesa_history.Replay.{turn_of, decided_explain, completes, does, recasts, is_skip}
 use Rattle.mesa_skeleton.specs.mesa_history.Run.{place_of}
 use Rattle.mesa_skeleton.specs.mesa_history.Turns.{IsDue, place_then}
 use Rattle.mesa_skeleton.proofs.mesa_history.Turns.{turn_goes}
 use Rattle.mesa_walk.specs.Turns.{Shown, entry, IsTurn, IsSeen, Takes, is_load, is_simple, Asks}
 use Rattle.mesa_walk.specs.Walk.{run_at}
+use Rattle.mesa_walk.specs.Works.{closing_stage}
+
+recast_ends : (p : ℕ) (s : State) (claim : Claim) (r : Recast) (q : Result (Unit {0}) Refusal) → (recasts p s claim r q).stage ≡ Finished
+recast_ends p s claim r (Ok ok) = refl
+recast_ends p s claim r (Err e) = refl
+
+done : (p : ℕ) (s : State) (claim : Claim) (errand : Errand) → (does p s claim errand).stage ≡ Finished
+done p s claim (Merges work) = refl
+done p s claim (Recasts epoch r) = recast_ends p s claim r (still_checked (table_at s.warehouse.store claim.table).lineage epoch r)
 
 completed : (p : ℕ) (s : State) (claim : Claim) (q : Result (Unit {0}) Refusal) → (completes p s claim q).stage ≡ Finished
-completed p s claim (Ok ok) = refl
+completed p s claim (Ok ok) = done p s claim claim.errand
 completed p s claim (Err e) = refl
 
 told_plan : (p : ℕ) (s : State) (q : Result Reply Refusal) → (decided_explain p s q).stage ≡ Finished
@@ -83,6 +94,7 @@ loaded_ends r (command.Pin version) stage s n m is = absurd cc
 loaded_ends r (command.Release token) stage s n m is = absurd cc
 loaded_ends r (command.Expire table version) stage s n m is = absurd cc
 loaded_ends r (command.Work words) stage s n m is = absurd cc
+loaded_ends r (command.Recast words) stage s n m is = absurd cc
 
 simple_ends : (r : Run) (c : Command) (stage : Stage) (s n m : ℕ) → IsTrue (is_simple c) → (turn_of r c (entry s n kind.Decide outcome.Stands m) stage outcome.Stands).stage ≡ Finished
 simple_ends r (command.Load rows) stage s n m is = absurd cc
@@ -95,6 +107,7 @@ simple_ends r (command.Pin version) stage s n m is = refl
 simple_ends r (command.Release token) stage s n m is = refl
 simple_ends r (command.Expire table version) stage s n m is = refl
 simple_ends r (command.Work words) stage s n m is = absurd cc
+simple_ends r (command.Recast words) stage s n m is = absurd cc
 
 -- ---- one turn
 
@@ -129,8 +142,9 @@ module _ (script : Script) (start : State) (old new : Shown) (s n : ℕ) where
   pub complete_takes : (c : Command) (claim : Claim) → IsDue script (run_at script start old.history) s n c (Renewed claim) → IsTurn old new s n kind.Close → IsSeen script start new → Takes script start old new s n kind.Close Finished
   complete_takes c claim due turn seen = takes c (Renewed claim) kind.Close Finished due (renewed_ends (run_at script start old.history) c s n new.clock claim) turn seen
 
-  pub unmerged_takes : (c : Command) (claim : Claim) → IsDue script (run_at script start old.history) s n c (Granted claim) → IsTurn old new s n kind.Close → IsSeen script start new → Takes script start old new s n kind.Close Finished
-  unmerged_takes c claim due turn seen = takes c (Granted claim) kind.Close Finished due (granted_ends (run_at script start old.history) c s n new.clock claim) turn seen
+  pub unmerged_takes : (c : Command) (early : Bool) (claim : Claim) → IsDue script (run_at script start old.history) s n c (closing_stage early claim) → IsTurn old new s n kind.Close → IsSeen script start new → Takes script start old new s n kind.Close Finished
+  unmerged_takes c true claim due turn seen = takes c (Granted claim) kind.Close Finished due (granted_ends (run_at script start old.history) c s n new.clock claim) turn seen
+  unmerged_takes c false claim due turn seen = complete_takes c claim due turn seen
 
   -- Where the turn's outcome is known, what it leaves says where its session is.
   pub takes_as : (c : Command) (stage : Stage) (k : Kind) (to : Stage) → IsDue script (run_at script start old.history) s n c stage → (out : Outcome) → (turn_of (run_at script start old.history) c (entry s n k out new.clock) stage out).stage ≡ to

@@ -11,6 +11,7 @@ pub mod Pinning
 pub mod Reading
 pub mod Asking
 pub mod Working
+pub mod Recasting
 pub mod Beginning
 pub mod Going
 pub mod Alike

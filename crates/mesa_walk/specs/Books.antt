@@ -1,8 +1,11 @@
 -- What a vault's books stand for.
 use Rattle.std.specs.Prelude.{◌≡◌, ℕ, List, [], ◌∷◌, ◌++◌, filter, Bool, true, false, not, Some, IsTrue}
+use Rattle.mesa_skeleton.specs.mesa_schema.Recasts.{Recast}
 use Rattle.mesa_skeleton.specs.mesa_model.Warehouse.{Pin, Warehouse}
 use Rattle.mesa_skeleton.specs.mesa_model.Pins.{with_pin, next_token, store_at, is_pin}
-use Rattle.mesa_skeleton.specs.mesa_history.Machine.{Machine, Claim, claimed, claim_renewed, claim_ended, claim_done}
+use Rattle.mesa_skeleton.specs.mesa_model.Tables.{with_recast}
+use Rattle.mesa_span.specs.declared.works.Work.{Work}
+use Rattle.mesa_skeleton.specs.mesa_history.Machine.{Machine, Claim, claimed, claim_renewed, claim_ended, claim_merged, claim_recast}
 use Rattle.mesa_skeleton.specs.mesa_history.Run.{State}
 use Rattle.mesa_skeleton.specs.mesa_history.Found.{Kept, kept_of}
 use Rattle.mesa_skeleton.specs.Bare.{bare}
@@ -65,5 +68,9 @@ abbrev pub ended_books : Claim → Books → Books
 ended_books claim books = record books { machine = claim_ended books.machine claim }
 
 -- the books once a claim's range is swapped in, with which the store keeps this
-abbrev pub swapped_books : Claim → Kept → Books → Books
-swapped_books claim kept books = record books { machine = claim_done books.machine claim; kept = kept }
+abbrev pub swapped_books : Claim → Work → Kept → Books → Books
+swapped_books claim work kept books = record books { machine = claim_merged books.machine claim work; kept = kept }
+
+-- the books once a claim's table is recast, with which the store keeps this
+abbrev pub recast_books : Claim → Recast → Kept → Books → Books
+recast_books claim r kept books = record books { bare = with_recast books.bare claim.table r; machine = claim_recast books.machine claim; kept = kept }

@@ -15,6 +15,7 @@ abbrev pub is_of_schemas : Reply → Bool
 is_of_schemas (reply.Table name) = true
 is_of_schemas (reply.View name) = true
 is_of_schemas (reply.Altered table epoch) = true
+is_of_schemas (reply.Recast table epoch) = true
 is_of_schemas r = false
 
 -- whether what a turn prints, if anything, is such a reply

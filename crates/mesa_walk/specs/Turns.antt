@@ -79,6 +79,16 @@ abbrev pub is_load : Command → Bool
 is_load (command.Load rows) = true
 is_load c = false
 
+-- whether a command merges a range of a table
+abbrev pub is_merge : Command → Bool
+is_merge (command.Work words) = true
+is_merge c = false
+
+-- whether a command recasts a table
+abbrev pub is_recast : Command → Bool
+is_recast (command.Recast words) = true
+is_recast c = false
+
 -- a command that one turn decides
 abbrev pub is_simple : Command → Bool
 is_simple c = not (is_load c || (is_query c || is_work c))
