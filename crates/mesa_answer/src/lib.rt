@@ -20,4 +20,4 @@ pub use groups::Groups;
 pub use hand::Hand;
 pub use laws::answer_over_parts;
 pub use regrouping::Regrouping;
-pub use views::view_rows;
+pub use views::{recast_rows, view_rows};

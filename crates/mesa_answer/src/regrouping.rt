@@ -12,7 +12,7 @@ ghost use Rattle.mesa_answer.specs.Regrouping.{places_seen, row_under};
 
 use crate::groups::kinds_in;
 use crate::hand::Hand;
-use crate::views::places;
+use mesa_filter::chosen_places;
 use mesa_key::KeyType;
 use mesa_schema::{Evolving, LentRow};
 use std::alloc::{AllocError, Global};
@@ -55,8 +55,8 @@ impl Regrouping {
         let schema = evolving.present();
         let view = evolving.view(view);
         let kinds = kinds_in(alloc, schema.keys())?;
-        let columns = places(alloc, view.keys.as_slice(), schema.keys())?;
-        let values = places(alloc, view.values.as_slice(), schema.values())?;
+        let columns = chosen_places(alloc, view.keys.as_slice(), schema.keys())?;
+        let values = chosen_places(alloc, view.values.as_slice(), schema.values())?;
         Ok(Regrouping {
             kinds,
             columns,

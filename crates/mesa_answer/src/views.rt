@@ -1,14 +1,14 @@
-// The content of views.
-ghost use Rattle.std.specs.Prelude.{◌≡◌, ◌<◌, ◌≤◌, ◌^◌, IsTrue, IfOk, IfSome, length, map, slice_get};
+// The content of views, and of tables that are recast.
+ghost use Rattle.std.specs.Prelude.{◌≡◌, ◌<◌, IfOk, IfSome, length, slice_get};
 ghost use Rattle.mesa_schema.specs.Changes.{columns_of};
-ghost use Rattle.mesa_schema.specs.Columns.{places_in};
+ghost use Rattle.mesa_schema.specs.Recasts.{recast_columns, recast_rows as regrouped};
 ghost use Rattle.mesa_schema.specs.Rows.{AreRowsOf};
 ghost use Rattle.mesa_schema.specs.Views.{view_columns, view_rows as content_of};
-ghost use Rattle.mesa_filter.specs.Query.{are_places};
 ghost use Rattle.mesa_answer.specs.Answering.{KeepsSums};
 
 use crate::group;
-use mesa_schema::{Evolving, Name, Named, Row, RowList, place_of};
+use mesa_filter::chosen_places;
+use mesa_schema::{Evolving, Name, Row, RowList, Schema};
 use std::alloc::{AllocError, Global};
 
 /// The content of the view of a number: the rows of its table, grouped by the view's columns.
@@ -27,26 +27,27 @@ pub fn view_rows(
 {
     let schema = evolving.present();
     let view = evolving.view(view);
-    let columns = places(alloc, view.keys.as_slice(), schema.keys())?;
-    let values = places(alloc, view.values.as_slice(), schema.values())?;
+    let columns = chosen_places(alloc, view.keys.as_slice(), schema.keys())?;
+    let values = chosen_places(alloc, view.values.as_slice(), schema.values())?;
     group(alloc, schema, &columns, &values, rows)
 }
 
-// The places of these names among columns, for those that are there.
-pub(crate) fn places<C: Named>(
+/// A table's rows once it is recast to the key columns and value columns of these names: grouped by
+/// them, in their order.
+pub fn recast_rows(
     alloc: Global,
-    names: &[Name],
-    columns: &[C],
-) -> Result<Vec<u16>, AllocError>
-    requires { length columns.now ≤ 2 ^ 16 }
-    ensures places { IfOk result (λ found. found.items ≡ places_in (map C.name_of columns.now) names.now) }
-    ensures within { IfOk result (λ found. IsTrue (are_places columns.now found.items)) }
+    schema: &Schema,
+    keys: &[Name],
+    values: &[Name],
+    rows: &[Row],
+) -> Result<RowList, AllocError>
+    requires of_table { AreRowsOf schema.now rows.now }
+    requires bounded { KeepsSums schema.now rows.now }
+    ensures content { IfOk result (λ found. found ≡ regrouped schema.now (record { keys = keys.now; values = values.now }) rows.now) }
+    ensures form { IfOk result (λ found. AreRowsOf (recast_columns schema.now (record { keys = keys.now; values = values.now })) found) }
+    ensures bounded { IfOk result (λ found. KeepsSums (recast_columns schema.now (record { keys = keys.now; values = values.now })) found) }
 {
-    let mut found = Vec::new(alloc);
-    for name in names {
-        if let Some(place) = place_of(name.bytes(), columns) {
-            found.push(place as u16)?;
-        }
-    }
-    Ok(found)
+    let columns = chosen_places(alloc, keys, schema.keys())?;
+    let values = chosen_places(alloc, values, schema.values())?;
+    group(alloc, schema, &columns, &values, rows)
 }

@@ -23,7 +23,7 @@ use Rattle.mesa_batch.specs.Totals.{AreAtMost, abs_total, abs_totals, is_sum, su
 use Rattle.mesa_batch.proofs.LastTotals.{totals_last}
 use Rattle.mesa_model.specs.Tables.{table_changed}
 use Rattle.mesa_plain.specs.Found.{known_at, no_known}
-use Rattle.mesa_plain.specs.Kept.{Contents, From, all_shared, content_in, contents_in, contents_lifted, gone_in, oldest_in, shared, table_in, tables_in, totals_in}
+use Rattle.mesa_plain.specs.Kept.{Contents, From, all_shared, content_in, contents_in, contents_lifted, contents_with, gone_in, oldest_in, shared, table_in, tables_in, totals_in}
 use Rattle.mesa_plain.specs.Sound.{AreKept, HasTotals, IsHeld}
 use Rattle.mesa_plain.proofs.Items.{map_there}
 use Rattle.mesa_plain.proofs.Stores.{drop-map, nothing_held}
@@ -57,7 +57,7 @@ contents_once l c lift epoch is lifts totals (rows ∷ contents) all = λ j. row
 
 -- ---- totals through one change
 
-as_many : (xs ys : List ℕ) → AreAtMost xs ys → length xs ≡ length ys
+pub as_many : (xs ys : List ℕ) → AreAtMost xs ys → length xs ≡ length ys
 as_many [] [] most = refl
 as_many [] (y ∷ ys) most = absurd most
 as_many (x ∷ xs) [] most = absurd most
@@ -93,7 +93,7 @@ has_after s c totals default has = record {
 
 -- ---- contents through one change
 
-alone : (s : Columns) (rows : List Row) → AreRowsOf s rows → AreRowsOf s (rows_of (rows ∷ []))
+pub alone : (s : Columns) (rows : List Row) → AreRowsOf s rows → AreRowsOf s (rows_of (rows ∷ []))
 alone s rows forms = subst (AreRowsOf s) (sym (append-nil rows)) forms
 
 lifted_held : (s : Columns) (c : Change) (totals : List ℕ) (rows : List Row) → HasDefault c → IsHeld s totals rows → IsHeld (changed s c) (totals_after s c totals) (map (lifted_once s c) rows)
@@ -117,31 +117,34 @@ at_shared : (n : ℕ) (versions : List Contents) → contents_in n versions ≡ 
 at_shared n [] = refl
 at_shared n (contents ∷ versions) = ap (λ rest. content_in n contents ∷ rest) (at_shared n versions)
 
-own_lifted : (lift : Lift) (i : ℕ) (rows : List (List Row)) → get_or (contents_lifted i lift rows) i [] ≡ map (lifted_with lift) (get_or rows i [])
-own_lifted lift i [] = refl
-own_lifted lift zero (row ∷ rows) = refl
-own_lifted lift (suc i) (row ∷ rows) = own_lifted lift i rows
+own_with : (f : List Row → List Row) → f [] ≡ [] → (i : ℕ) (rows : List (List Row)) → get_or (contents_with i f rows) i [] ≡ f (get_or rows i [])
+own_with f none i [] = sym none
+own_with f none zero (row ∷ rows) = refl
+own_with f none (suc i) (row ∷ rows) = own_with f none i rows
 
 -- a version that has no content of the table stays as it is
+pub with_past : (f : List Row → List Row) (i : ℕ) (rows : List (List Row)) → length rows ≤ i → rows ≡ contents_with i f rows
+with_past f i [] past = refl
+with_past f zero (row ∷ rows) past = absurd (omega (arith, past))
+with_past f (suc i) (row ∷ rows) past = ap (λ rest. row ∷ rest) (with_past f i rows (omega (arith, past)))
+
 pub lifted_past : (lift : Lift) (i : ℕ) (rows : List (List Row)) → length rows ≤ i → rows ≡ contents_lifted i lift rows
-lifted_past lift i [] past = refl
-lifted_past lift zero (row ∷ rows) past = absurd (omega (arith, past))
-lifted_past lift (suc i) (row ∷ rows) past = ap (λ rest. row ∷ rest) (lifted_past lift i rows (omega (arith, past)))
+lifted_past lift i rows past = with_past (map (lifted_with lift)) i rows past
 
-all_own : (lift : Lift) (i : ℕ) (all : List (List (List Row))) → at_all i (map (contents_lifted i lift) all) ≡ map (map (lifted_with lift)) (at_all i all)
-all_own lift i [] = refl
-all_own lift i (rows ∷ all) = λ j. own_lifted lift i rows j ∷ all_own lift i all j
+all_own : (f : List Row → List Row) → f [] ≡ [] → (i : ℕ) (all : List (List (List Row))) → at_all i (map (contents_with i f) all) ≡ map f (at_all i all)
+all_own f none i [] = refl
+all_own f none i (rows ∷ all) = λ j. own_with f none i rows j ∷ all_own f none i all j
 
-all_others : (lift : Lift) (i n : ℕ) (all : List (List (List Row))) → n ≢ i → at_all n (map (contents_lifted i lift) all) ≡ at_all n all
-all_others lift i n [] other = refl
-all_others lift i n (rows ∷ all) other = λ j. get_or-set_other rows i n (map (lifted_with lift) (get_or rows i [])) [] other j ∷ all_others lift i n all other j
+all_others : (f : List Row → List Row) (i n : ℕ) (all : List (List (List Row))) → n ≢ i → at_all n (map (contents_with i f) all) ≡ at_all n all
+all_others f i n [] other = refl
+all_others f i n (rows ∷ all) other = λ j. get_or-set_other rows i n (f (get_or rows i [])) [] other j ∷ all_others f i n all other j
 
 -- the contents of the table, and those of the others
-own_contents : (lift : Lift) (i : ℕ) (versions later : List Contents) → all_shared later ≡ map (contents_lifted i lift) (all_shared versions) → contents_in i later ≡ map (map (lifted_with lift)) (contents_in i versions)
-own_contents lift i versions later is = at_shared i later ∙ ap (at_all i) is ∙ all_own lift i (all_shared versions) ∙ sym (ap (map (map (lifted_with lift))) (at_shared i versions))
+pub own_contents : (f : List Row → List Row) → f [] ≡ [] → (i : ℕ) (versions later : List Contents) → all_shared later ≡ map (contents_with i f) (all_shared versions) → contents_in i later ≡ map f (contents_in i versions)
+own_contents f none i versions later is = at_shared i later ∙ ap (at_all i) is ∙ all_own f none i (all_shared versions) ∙ sym (ap (map f) (at_shared i versions))
 
-other_contents : (lift : Lift) (i n : ℕ) (versions later : List Contents) → n ≢ i → all_shared later ≡ map (contents_lifted i lift) (all_shared versions) → contents_in n later ≡ contents_in n versions
-other_contents lift i n versions later other is = at_shared n later ∙ ap (at_all n) is ∙ all_others lift i n (all_shared versions) other ∙ sym (at_shared n versions)
+pub other_contents : (f : List Row → List Row) (i n : ℕ) (versions later : List Contents) → n ≢ i → all_shared later ≡ map (contents_with i f) (all_shared versions) → contents_in n later ≡ contents_in n versions
+other_contents f i n versions later other is = at_shared n later ∙ ap (at_all n) is ∙ all_others f i n (all_shared versions) other ∙ sym (at_shared n versions)
 
 -- the rows of a content that is there
 pub content_there : (contents : Contents) (i : ℕ) (content : Arc (List Row) Global) → i < length contents → content ≡ get_or contents i content → get_or (shared contents) i [] ≡ content.value
@@ -163,7 +166,7 @@ tables_same from n i totals after versions later (k ∷ tables) below same stay 
     let other : n ≢ i = λ e. omega (arith, below, e) in
     λ j. record { name = k.name; lineage = k.lineage; totals = same n other j; oldest = oldest_in n from; contents = drop (gone_in n from) (stay n other j) } ∷ tables_same from (n + 1) i totals after versions later tables (omega (arith, below)) same stay j
 
-tables_set : (from : From) (n i at : ℕ) (totals after : List (List ℕ)) (versions later : List Contents) (tables : List Known) (q : Known) → at ≡ n + i → i < length tables → ((m : ℕ) → m ≢ at → totals_in m after ≡ totals_in m totals) → ((m : ℕ) → m ≢ at → contents_in m later ≡ contents_in m versions)
+pub tables_set : (from : From) (n i at : ℕ) (totals after : List (List ℕ)) (versions later : List Contents) (tables : List Known) (q : Known) → at ≡ n + i → i < length tables → ((m : ℕ) → m ≢ at → totals_in m after ≡ totals_in m totals) → ((m : ℕ) → m ≢ at → contents_in m later ≡ contents_in m versions)
     → tables_in from n after later (set tables i q) ≡ set (tables_in from n totals versions tables) i (table_in from at after later q)
 tables_set from n i at totals after versions later [] q is lt same stay = absurd (omega (arith, lt))
 tables_set from n zero at totals after versions later (k ∷ tables) q is lt same stay =
@@ -200,21 +203,49 @@ one_set (y ∷ xs) (suc i) (suc n) q x e = elim (one_set xs i n q x e) [
   | inr is ↦ inr (λ f. is.0 (omega (arith, f)), is.1)
 ]
 
-length_lifted : (lift : Lift) (i : ℕ) (contents before : Contents) → shared contents ≡ contents_lifted i lift (shared before) → length contents ≡ length before
-length_lifted lift i contents before is =
-    sym (length-map contents (λ a. a.value)) ∙ ap length is ∙ length-set (shared before) i (map (lifted_with lift) (get_or (shared before) i [])) ∙ length-map before (λ a. a.value)
+length_with : (f : List Row → List Row) (i : ℕ) (contents before : Contents) → shared contents ≡ contents_with i f (shared before) → length contents ≡ length before
+length_with f i contents before is =
+    sym (length-map contents (λ a. a.value)) ∙ ap length is ∙ length-set (shared before) i (f (get_or (shared before) i [])) ∙ length-map before (λ a. a.value)
 
-widths_lifted : (lift : Lift) (i count : ℕ) (versions later : List Contents) → all_shared later ≡ map (contents_lifted i lift) (all_shared versions) → AllByRecursion (λ (c : Contents). length c ≤ count) versions → AllByRecursion (λ (c : Contents). length c ≤ count) later
-widths_lifted lift i count [] [] is all = tt
-widths_lifted lift i count [] (d ∷ later) is all = absurd (cc)
-widths_lifted lift i count (c ∷ versions) [] is all = absurd (cc)
-widths_lifted lift i count (c ∷ versions) (d ∷ later) is all =
-    let own : shared d ≡ contents_lifted i lift (shared c) = cc in
-    let rest : all_shared later ≡ map (contents_lifted i lift) (all_shared versions) = cc in
-    (omega (arith, all.0, length_lifted lift i d c own), widths_lifted lift i count versions later rest all.1)
+widths_with : (f : List Row → List Row) (i count : ℕ) (versions later : List Contents) → all_shared later ≡ map (contents_with i f) (all_shared versions) → AllByRecursion (λ (c : Contents). length c ≤ count) versions → AllByRecursion (λ (c : Contents). length c ≤ count) later
+widths_with f i count [] [] is all = tt
+widths_with f i count [] (d ∷ later) is all = absurd (cc)
+widths_with f i count (c ∷ versions) [] is all = absurd (cc)
+widths_with f i count (c ∷ versions) (d ∷ later) is all =
+    let own : shared d ≡ contents_with i f (shared c) = cc in
+    let rest : all_shared later ≡ map (contents_with i f) (all_shared versions) = cc in
+    (omega (arith, all.0, length_with f i d c own), widths_with f i count versions later rest all.1)
 
-many_lifted : (lift : Lift) (i : ℕ) (versions later : List Contents) → all_shared later ≡ map (contents_lifted i lift) (all_shared versions) → length later ≡ length versions
-many_lifted lift i versions later is = sym (length-map later shared) ∙ ap length is ∙ length-map (all_shared versions) (contents_lifted i lift) ∙ length-map versions shared
+many_with : (f : List Row → List Row) (i : ℕ) (versions later : List Contents) → all_shared later ≡ map (contents_with i f) (all_shared versions) → length later ≡ length versions
+many_with f i versions later is = sym (length-map later shared) ∙ ap length is ∙ length-map (all_shared versions) (contents_with i f) ∙ length-map versions shared
+
+-- what is kept still fits together where one table has other columns, totals and rows that do
+pub kept_with : (tables : List Known) (totals after : List (List ℕ)) (versions later : List Contents) (from : From) (next i : ℕ) (l : Lineage) (f : List Row → List Row) → AreKept tables totals versions from next → i < length tables
+    → HasTotals (columns_of l) (totals_in i after) → AllByRecursion (IsHeld (columns_of l) (totals_in i after)) (contents_in i later)
+    → ((n : ℕ) → n ≢ i → totals_in n after ≡ totals_in n totals) → ((n : ℕ) → n ≢ i → contents_in n later ≡ contents_in n versions)
+    → length after ≡ length totals → all_shared later ≡ map (contents_with i f) (all_shared versions)
+    → AreKept (set tables i (record (known_at i tables) { lineage = l })) after later from next
+kept_with tables totals after versions later from next i l f kept lt has held same stay as_before made =
+    let q : Known = record (known_at i tables) { lineage = l } in
+    let long : length (set tables i q) ≡ length tables = length-set tables i q in
+    record {
+      few = omega (arith, long, kept.few);
+      count = as_before ∙ kept.count ∙ sym long;
+      oldests = kept.oldests ∙ sym long;
+      apart = kept.apart;
+      widths = subst (λ n. AllByRecursion (λ (contents : Contents). length contents ≤ n) later) (sym long) (widths_with f i (length tables) versions later made kept.widths);
+      numbers = omega (arith, many_with f i versions later made, kept.numbers);
+      floor = kept.floor;
+      most = kept.most;
+      have = λ n p e. elim (one_set tables i n q p e) [
+        | inl w ↦ subst (λ (x : Known). HasTotals (columns_of x.lineage) (totals_in n after)) w.1 (subst (λ m. HasTotals (columns_of q.lineage) (totals_in m after)) (sym w.0) has)
+        | inr w ↦ subst (HasTotals (columns_of p.lineage)) (sym (same n w.0)) (kept.have n p w.1)
+      ];
+      held = λ n p e. elim (one_set tables i n q p e) [
+        | inl w ↦ subst (λ (x : Known). AllByRecursion (IsHeld (columns_of x.lineage) (totals_in n after)) (contents_in n later)) w.1 (subst (λ m. AllByRecursion (IsHeld (columns_of q.lineage) (totals_in m after)) (contents_in m later)) (sym w.0) held)
+        | inr w ↦ subst (λ ts. AllByRecursion (IsHeld (columns_of p.lineage) ts) (contents_in n later)) (sym (same n w.0)) (subst (AllByRecursion (IsHeld (columns_of p.lineage) (totals_in n totals))) (sym (stay n w.0)) (kept.held n p w.1))
+      ];
+    }
 
 pub kept_changed : (tables : List Known) (totals after : List (List ℕ)) (versions later : List Contents) (from : From) (next i : ℕ) (c : Change) (lift : Lift) → AreKept tables totals versions from next → i < length tables → HasDefault c
     → IsChanged (columns_of (known_at i tables).lineage) c i totals after versions later → length after ≡ length totals → all_shared later ≡ map (contents_lifted i lift) (all_shared versions)
@@ -223,34 +254,15 @@ kept_changed tables totals after versions later from next i c lift kept lt defau
     let k = known_at i tables in
     let l = k.lineage in
     let s : Columns = columns_of l in
-    let q : Known = record k { lineage = with_change l c } in
     let there : slice_get tables i ≡ Some k = slice_get-get_or tables i no_known lt in
-    let long : length (set tables i q) ≡ length tables = length-set tables i q in
-    let columns : changed s c ≡ columns_of q.lineage = sym (columns_more l c) in
+    let columns : changed s c ≡ columns_of (with_change l c) = sym (columns_more l c) in
     let own_totals : totals_after s c (totals_in i totals) ≡ totals_in i after = sym is.own_totals in
-    let has : HasTotals (columns_of q.lineage) (totals_in i after) = subst (λ (p : Columns). HasTotals p (totals_in i after)) columns (subst (HasTotals (changed s c)) own_totals (has_after s c (totals_in i totals) default (kept.have i k there))) in
-    let held : AllByRecursion (IsHeld (columns_of q.lineage) (totals_in i after)) (contents_in i later) =
+    let has : HasTotals (columns_of (with_change l c)) (totals_in i after) = subst (λ (p : Columns). HasTotals p (totals_in i after)) columns (subst (HasTotals (changed s c)) own_totals (has_after s c (totals_in i totals) default (kept.have i k there))) in
+    let held : AllByRecursion (IsHeld (columns_of (with_change l c)) (totals_in i after)) (contents_in i later) =
     subst (λ (p : Columns). AllByRecursion (IsHeld p (totals_in i after)) (contents_in i later)) columns
     (subst (λ ts. AllByRecursion (IsHeld (changed s c) ts) (contents_in i later)) own_totals
     (subst (AllByRecursion (IsHeld (changed s c) (totals_after s c (totals_in i totals)))) (sym is.own_contents) (all_lifted s c (totals_in i totals) (contents_in i versions) default (kept.held i k there)))) in
-    record {
-      few = omega (arith, long, kept.few);
-      count = as_before ∙ kept.count ∙ sym long;
-      oldests = kept.oldests ∙ sym long;
-      apart = kept.apart;
-      widths = subst (λ n. AllByRecursion (λ (contents : Contents). length contents ≤ n) later) (sym long) (widths_lifted lift i (length tables) versions later lifted kept.widths);
-      numbers = omega (arith, many_lifted lift i versions later lifted, kept.numbers);
-      floor = kept.floor;
-      most = kept.most;
-      have = λ n p e. elim (one_set tables i n q p e) [
-        | inl w ↦ subst (λ (x : Known). HasTotals (columns_of x.lineage) (totals_in n after)) w.1 (subst (λ m. HasTotals (columns_of q.lineage) (totals_in m after)) (sym w.0) has)
-        | inr w ↦ subst (HasTotals (columns_of p.lineage)) (sym (is.other_totals n w.0)) (kept.have n p w.1)
-      ];
-      held = λ n p e. elim (one_set tables i n q p e) [
-        | inl w ↦ subst (λ (x : Known). AllByRecursion (IsHeld (columns_of x.lineage) (totals_in n after)) (contents_in n later)) w.1 (subst (λ m. AllByRecursion (IsHeld (columns_of q.lineage) (totals_in m after)) (contents_in m later)) (sym w.0) held)
-        | inr w ↦ subst (λ ts. AllByRecursion (IsHeld (columns_of p.lineage) ts) (contents_in n later)) (sym (is.other_totals n w.0)) (subst (AllByRecursion (IsHeld (columns_of p.lineage) (totals_in n totals))) (sym (is.other_contents n w.0)) (kept.held n p w.1))
-      ];
-    }
+    kept_with tables totals after versions later from next i (with_change l c) (map (lifted_with lift)) kept lt has held is.other_totals is.other_contents as_before lifted
 
 -- the totals in which those of one table were set, and the versions in which its rows were lifted, are those after a change
 pub is_changed : (tables : List Known) (totals : List (List ℕ)) (own : List ℕ) (versions later : List Contents) (from : From) (next i epoch : ℕ) (c : Change) (lift : Lift) → AreKept tables totals versions from next → i < length tables
@@ -262,8 +274,8 @@ is_changed tables totals own versions later from next i epoch c lift kept lt is 
     record {
       own_totals = get_or-set_same totals i own [] (omega (arith, lt, kept.count)) ∙ is;
       other_totals = λ n other. get_or-set_other totals i n own [] other;
-      own_contents = own_contents lift i versions later lifted ∙ contents_once k.lineage c lift epoch at lifts (totals_in i totals) (contents_in i versions) (kept.held i k there);
-      other_contents = λ n other. other_contents lift i n versions later other lifted;
+      own_contents = own_contents (map (lifted_with lift)) refl i versions later lifted ∙ contents_once k.lineage c lift epoch at lifts (totals_in i totals) (contents_in i versions) (kept.held i k there);
+      other_contents = λ n other. other_contents (map (lifted_with lift)) i n versions later other lifted;
     }
 
 -- the totals of a table that is there

@@ -16,4 +16,5 @@ pub mod Seen
 pub mod Viewed
 pub mod Raising
 pub mod Queries
+pub mod Recasts
 pub mod Lineages

@@ -5,12 +5,14 @@ use Rattle.std.specs.Option.{ok_or}
 use Rattle.mesa_list.specs.Checks.{◌>>=◌, ◌>>◌, refuse_if, refuse_unless, refused_as}
 use Rattle.mesa_schema.specs.Changes.{change_checked, columns_of}
 use Rattle.mesa_schema.specs.Names.{is_name}
+use Rattle.mesa_schema.specs.Recasts.{recast_checked}
 use Rattle.mesa_schema.specs.Schema.{schema_checked}
 use Rattle.mesa_batch.specs.Batch.{batch_of}
 use Rattle.mesa_filter.specs.declared.words.VersionWord.{VersionWord}
 use Rattle.mesa_model.specs.declared.commands.AlterWords.{AlterWords}
 use Rattle.mesa_model.specs.declared.commands.Command.{Command}
 use Rattle.mesa_model.specs.declared.commands.Command.TheVariants as command
+use Rattle.mesa_model.specs.declared.commands.RecastWords.{RecastWords}
 use Rattle.mesa_model.specs.declared.commands.TableWords.{TableWords}
 use Rattle.mesa_model.specs.declared.commands.ViewWords.{ViewWords}
 use Rattle.mesa_batch.specs.declared.words.RowWords.{RowWords}
@@ -22,10 +24,10 @@ use Rattle.mesa_model.specs.declared.replies.SchemaFault.TheVariants as fault
 use Rattle.mesa_model.specs.Load.{bounds_checked, load_batch, tables_named}
 use Rattle.mesa_model.specs.Pins.{count_at, counted_at, make_pin, pin_of, release_pin}
 use Rattle.mesa_model.specs.Query.{query_answer}
-use Rattle.mesa_model.specs.Refusals.{bad_schema, batch_refusal, change_refusal, no_such_table, refuse_closed, schema_refusal}
+use Rattle.mesa_model.specs.Refusals.{bad_schema, batch_refusal, change_refusal, no_such_table, recast_refusal, refuse_closed, schema_refusal}
 use Rattle.mesa_model.specs.Relations.{is_taken, table_number}
 use Rattle.mesa_model.specs.Step.{done_or_refused, reply_to_query, step}
-use Rattle.mesa_model.specs.Tables.{alter_table, change_asked, changed_name, columns_asked, make_table, make_view, names_are_good, view_of_table_checked}
+use Rattle.mesa_model.specs.Tables.{alter_table, change_asked, changed_name, columns_asked, make_table, make_view, names_are_good, recast_asked, recast_table, view_of_table_checked}
 use Rattle.mesa_model.specs.Versions.{common_oldest, expire_to, version_asked, version_checked}
 use Rattle.mesa_model.specs.Warehouse.{Warehouse, max_pins, max_tables, max_versions, table_at}
 use Rattle.mesa_plain.specs.Plain.{GaveAtMost}
@@ -84,6 +86,12 @@ alter_gives w words =
     bind (Gives w) (change_asked (columns_of (table_at w.store number).lineage) words.change) _ (λ c.
     then (Gives w) (refused_as (change_refusal (changed_name c)) (change_checked (table_at w.store number).lineage c)) _ (λ session. omega arith))))
 
+recast_gives : (w : Warehouse) (words : RecastWords) → IfOk (recast_table w words) (Gives w)
+recast_gives w words =
+    then (Gives w) (refuse_closed w.closed) _ (
+    bind (Gives w) (ok_or (table_number w.store words.table) no_such_table) _ (λ number.
+    then (Gives w) (refused_as recast_refusal (recast_checked (table_at w.store number).lineage (recast_asked words))) _ (λ session. omega arith)))
+
 load_gives : (w : Warehouse) (rows : List RowWords) → IfOk (load_batch w rows) (Gives w)
 load_gives w rows =
     then (Gives w) (refuse_closed w.closed) _ (
@@ -118,6 +126,7 @@ gives : (w : Warehouse) (session : ℕ) (c : Command) → Gives w (step w sessio
 gives w session (command.Table words) = done_gives w (make_table w words) (table_gives w words)
 gives w session (command.View words) = done_gives w (make_view w words) (view_gives w words)
 gives w session (command.Alter words) = done_gives w (alter_table w words) (alter_gives w words)
+gives w session (command.Recast words) = done_gives w (recast_table w words) (recast_gives w words)
 gives w session (command.Load rows) = done_gives w (load_batch w rows) (load_gives w rows)
 gives w session (command.Query words) = none w (reply_to_query (query_answer w session words))
 gives w session (command.Explain words) = done_gives w (refuse_closed w.closed >> Ok (w, reply.Idle)) (nothing_gives w reply.Idle)

@@ -8,9 +8,10 @@ use Rattle.mesa_schema.specs.declared.rows.Row.{Row}
 use Rattle.mesa_schema.specs.Columns.{Columns}
 use Rattle.mesa_schema.specs.Changes.{Lineage}
 use Rattle.mesa_schema.specs.Lifting.{lifted_with}
+use Rattle.mesa_schema.specs.Recasts.{Recast, recast_rows}
 use Rattle.mesa_batch.specs.Batch.{Placed}
 use Rattle.mesa_batch.specs.Glance.{Known}
-use Rattle.mesa_model.specs.Tables.{new_table, table_changed}
+use Rattle.mesa_model.specs.Tables.{new_table, table_changed, table_recast}
 use Rattle.mesa_model.specs.Load.{tables_loaded}
 use Rattle.mesa_model.specs.Versions.{table_from}
 use Rattle.mesa_model.specs.Warehouse.{Table, Store, Warehouse, table_at}
@@ -58,9 +59,17 @@ shared contents = map (λ (content : Arc (List Row) Global). content.value) cont
 abbrev pub all_shared : List Contents → List (List (List Row))
 all_shared versions = map shared versions
 
--- the contents at one version, where the rows of the table of a number are lifted
+-- the contents at one version, where the rows of the table of a number are made others
+abbrev pub contents_with : ℕ → (List Row → List Row) → List (List Row) → List (List Row)
+contents_with number make contents = slice_set contents number (make (slice_index_or contents number []))
+
+-- where they are lifted
 abbrev pub contents_lifted : ℕ → Lift → List (List Row) → List (List Row)
-contents_lifted number lift contents = slice_set contents number (map (lifted_with lift) (slice_index_or contents number []))
+contents_lifted number lift contents = contents_with number (map (lifted_with lift)) contents
+
+-- where they are grouped by the columns of a recast
+abbrev pub contents_recast : ℕ → Columns → Recast → List (List Row) → List (List Row)
+contents_recast number s r contents = contents_with number (recast_rows s r) contents
 
 -- the content of the table of a number; a table that was made later has no rows
 abbrev pub content_in : ℕ → Contents → List Row
@@ -112,6 +121,10 @@ with_lineage s number l = record s { store = record s.store { tables = slice_set
 -- the tables where the schema of the one of a number is changed
 abbrev pub with_schema_changed : Versioned → ℕ → Change → Versioned
 with_schema_changed s number c = record s { store = record s.store { tables = slice_set s.store.tables number (table_changed (table_at s.store number) c) } }
+
+-- the tables where the one of a number is recast
+abbrev pub with_table_recast : Versioned → ℕ → Recast → Versioned
+with_table_recast s number r = record s { store = record s.store { tables = slice_set s.store.tables number (table_recast (table_at s.store number) r) } }
 
 -- the tables where the one of a number has no version below this one
 abbrev pub with_table_from : Versioned → ℕ → ℕ → Versioned

@@ -8,6 +8,7 @@ use Rattle.mesa_schema.specs.Changes.{columns_of}
 use Rattle.mesa_batch.specs.Glance.{Known}
 use Rattle.mesa_batch.specs.Totals.{AreAtMost, abs_totals, sum_bound, sums_in}
 use Rattle.mesa_fold.specs.Put.{IsFold}
+use Rattle.mesa_answer.specs.Answering.{KeepsSums}
 use Rattle.mesa_model.specs.Warehouse.{max_tables, max_versions}
 use Rattle.mesa_plain.specs.Kept.{Contents, From, contents_in, totals_in}
 
@@ -16,6 +17,11 @@ pub record IsHeld (s : Columns) (totals : List ℕ) (rows : List Row) : Type 0 w
   pub forms : AreRowsOf s rows
   pub fold : IsFold (aggs_of s) rows
   pub sums : AreAtMost (abs_totals s rows) totals
+
+-- Rows of these columns may be grouped: they have their form, and no sum of them leaves its type.
+pub record CanGroup (s : Columns) (rows : List Row) : Type 0 where
+  pub forms : AreRowsOf s rows
+  pub sums : KeepsSums s rows
 
 -- A table has a total for each sum column, at most 2^127 - 1.
 pub record HasTotals (s : Columns) (totals : List ℕ) : Type 0 where

@@ -6,6 +6,7 @@ mod gathering;
 mod growing;
 mod names;
 mod pins;
+mod regrouping;
 mod store;
 mod warehouse;
 

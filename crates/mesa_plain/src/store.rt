@@ -2,6 +2,7 @@
 ghost use Rattle.std.specs.Prelude.{◌≡◌, [], length};
 
 mod finding;
+mod recasting;
 mod tables;
 mod versions;
 

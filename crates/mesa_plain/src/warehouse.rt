@@ -12,6 +12,7 @@ mod altering;
 mod applying;
 mod making;
 mod querying;
+mod recasting;
 mod viewing;
 
 use crate::gathering::gather;

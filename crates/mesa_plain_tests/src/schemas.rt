@@ -1,7 +1,7 @@
 // Worked rows of schemas that change.
 use crate::trial::{Case, expect_all};
 
-static CASES: [Case; 5] = [
+static CASES: [Case; 8] = [
     (
         "added values",
         "table,t,k int,v sum\n\
@@ -139,6 +139,87 @@ static CASES: [Case; 5] = [
          1,0\n\
          2,0\n\
          3,170141183460469231731687303715884105727\n",
+    ),
+    // The row recast_regroups, and a pin that keeps what stood before.
+    (
+        "a recast",
+        "table,t,a int;b int,v sum\n\
+         row,t,1,2,5\n\
+         row,t,2,1,7\n\
+         row,t,3,1,1\n\
+         commit\n\
+         pin\n\
+         recast,t,b,v\n\
+         query,t\n\
+         row,t,1,4\n\
+         commit\n\
+         query,t\n\
+         query,t,pin:1\n",
+        "0.1@0 table t\n\
+         0.2@0 loaded version=0 rows=3\n\
+         0.3@0 pinned token=1 version=0\n\
+         0.4@0 recast t epoch=1\n\
+         0.5@0 rows 2 version=0\n\
+         1,8\n\
+         2,5\n\
+         0.6@0 loaded version=1 rows=1\n\
+         0.7@0 rows 2 version=1\n\
+         1,12\n\
+         2,5\n\
+         0.8@0 rows 3 version=0\n\
+         1,2,5\n\
+         2,1,7\n\
+         3,1,1\n",
+    ),
+    // Each refusal of a recast, in the order in which they are looked at.
+    (
+        "recasts that are refused",
+        "table,t,a int;b int,v sum;r replace\n\
+         view,w,t,a,v\n\
+         recast,u,a,v\n\
+         recast,w,a,v\n\
+         recast,t,x,v\n\
+         recast,t,,v\n\
+         recast,t,a;a,x\n\
+         recast,t,a,x\n\
+         recast,t,a,\n\
+         recast,t,a,v;v\n\
+         recast,t,a,v;r\n\
+         recast,t,b;a,r;v\n\
+         recast,t,b,v\n",
+        "0.1@0 table t\n\
+         0.2@0 view w\n\
+         0.3@0 refused no_table\n\
+         0.4@0 refused no_table\n\
+         0.5@0 refused no_column\n\
+         0.6@0 refused bad_schema reason=no_key\n\
+         0.7@0 refused bad_schema reason=name_twice\n\
+         0.8@0 refused no_column\n\
+         0.9@0 refused bad_schema reason=no_value\n\
+         0.10@0 refused bad_schema reason=name_twice\n\
+         0.11@0 refused replace_group column=r\n\
+         0.12@0 recast t epoch=1\n\
+         0.13@0 refused in_view view=w\n",
+    ),
+    // A sum column that is kept keeps its total, wherever it stands.
+    (
+        "totals through a recast",
+        "table,t,a int;b int,v sum;w sum\n\
+         row,t,1,1,170141183460469231731687303715884105727,0\n\
+         commit\n\
+         recast,t,b,w;v\n\
+         row,t,1,0,1\n\
+         commit\n\
+         row,t,1,1,0\n\
+         commit\n\
+         query,t\n",
+        "0.1@0 table t\n\
+         0.2@0 loaded version=0 rows=1\n\
+         0.3@0 recast t epoch=1\n\
+         0.4@0 refused sum_bound table=t column=v\n\
+         0.5@0 loaded version=1 rows=1\n\
+         0.6@0 rows 1 version=1\n\
+         1,1,170141183460469231731687303715884105727\n",
     ),
 ];
 

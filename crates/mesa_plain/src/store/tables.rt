@@ -72,7 +72,7 @@ impl PlainStore {
     }
 }
 
-fn totals_of(totals: &[Totals], table: usize) -> &Totals
+pub(crate) fn totals_of(totals: &[Totals], table: usize) -> &Totals
     requires { table < length totals.now }
     ensures { result.now ≡ slice_index_or totals.now table [] }
 {
@@ -80,7 +80,7 @@ fn totals_of(totals: &[Totals], table: usize) -> &Totals
 }
 
 // Puts a table's columns and views in the place of those before. Others that share those keep them.
-fn put_evolving(tables: &mut Vec<Glanced>, table: usize, evolving: Arc<Evolving>)
+pub(crate) fn put_evolving(tables: &mut Vec<Glanced>, table: usize, evolving: Arc<Evolving>)
     requires { table < length tables.old.items }
     ensures { IfSome (slice_get tables.old.items table) (λ t. tables.new.items ≡ slice_set tables.old.items table (record t { evolving = evolving })) }
 {

@@ -10,7 +10,7 @@ use mesa_model::{Command, Reply};
 use std::alloc::AllocError;
 
 impl PlainWarehouse {
-    /// Does a command of a session, each but `explain` and `work`, which the range machine answers. A query is answered by its page.
+    /// Does a command of a session, each but `explain` and `work`, which the range machine answers. A query is answered by its page, and a recast is done at once.
     pub fn apply(&mut self, session: u16, command: &Command) -> Result<Reply, AllocError>
         requires plain { IsTrue (is_plain command.now) }
         requires tokens { HasToken self.old session command.now }
@@ -39,6 +39,7 @@ impl PlainWarehouse {
             Command::Pin(version) => self.pin(session, *version),
             Command::Release(token) => Ok(self.release(session, *token)),
             Command::Expire { table, version } => self.expire(table, *version),
+            Command::Recast(words) => self.recast(words),
             Command::Explain(_) | Command::Work(_) => unreachable!(),
         }
     }
