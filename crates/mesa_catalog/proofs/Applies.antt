@@ -9,15 +9,17 @@ use Rattle.std.proofs.lemmas.List.{length-map, map-set}
 use Rattle.std.proofs.lemmas.Option.{get_or_from_slice_get, slice_get_within}
 use Rattle.mesa_schema.specs.Columns.{Columns}
 use Rattle.mesa_schema.specs.Schema.{is_schema}
-use Rattle.mesa_schema.specs.Changes.{Lineage, columns_of, epoch_of, with_change}
+use Rattle.mesa_schema.specs.Changes.{Lineage, columns_of, with_change}
 use Rattle.mesa_schema.specs.Views.{with_view}
 use Rattle.mesa_batch.specs.Totals.{totals_after, totals_with}
+use Rattle.mesa_record.specs.declared.recasting.Recasting.{Recasting}
 use Rattle.mesa_record.specs.declared.record.Record.{Record}
+use Rattle.mesa_record.specs.declared.record.Record.TheVariants as record_of
 use Rattle.mesa_record.specs.declared.record.Files.{Files}
 use Rattle.mesa_record.specs.declared.record.Part.{Part}
 use Rattle.mesa_span.specs.Ranges.{end_of}
 use Rattle.mesa_image_laws.specs.mesa_image.Catalog.{Catalog, Stock, stock_at, stock_changed, stock_viewed, with_stock}
-use Rattle.mesa_image_laws.specs.mesa_image.Fitting.{brings_new_files, files_fit_if_any, fits, is_new_name, is_there, kind_fits, may_be_work, part_fits, publish_fits, swap_fits, table_fits}
+use Rattle.mesa_image_laws.specs.mesa_image.Fitting.{brings_new_files, files_fit_if_any, fits, has_epoch, is_new_name, is_there, kind_fits, may_be_work, part_fits, publish_fits, recast_fits, swap_fits, table_fits}
 use Rattle.mesa_catalog.specs.declared.shelves.Shelves.{Shelves}
 use Rattle.mesa_shelf.specs.declared.table.Table.{Table}
 use Rattle.mesa_shelf.specs.declared.ready.ReadyPart.{ReadyPart}
@@ -127,8 +129,13 @@ pub swap_there : (c : Catalog) (table : ℕ) (base : Bool) (from to epoch : ℕ)
 swap_there c table base from to epoch files e =
     let parts = both (is_there c table) (swap_fits c (stock_at c table) base from to epoch files) e in
     let work = may_be_work c (stock_at c table) base from to in
-    let old = nat_le epoch (epoch_of (stock_at c table).lineage) in
+    let old = has_epoch (stock_at c table).lineage epoch in
     (parts.0, (both work old (both (work && old) (files_fit_if_any (stock_at c table).lineage epoch files) parts.1).0).0)
+
+-- ---- recasts
+
+pub recast_there : (c : Catalog) (k : Recasting) → fits c (record_of.Recast k) ≡ true → (is_there c k.table ≡ true) × (recast_fits (stock_at c k.table) k ≡ true)
+recast_there c k e = both (is_there c k.table) (recast_fits (stock_at c k.table) k) (kind_of_fits c (record_of.Recast k) e)
 
 -- ---- tables
 

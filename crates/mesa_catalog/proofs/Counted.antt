@@ -15,7 +15,7 @@ use Rattle.mesa_record.specs.declared.record.Record.TheVariants as record_of
 use Rattle.mesa_image_laws.specs.mesa_image.Catalog.{Catalog, Delta, Ending, Stock, applied, empty_delta, merged_delta, new_stock, no_stock, part_delta, part_of, start_in, stock_at, stock_changed, stock_from, stock_loaded, stock_swapped, stock_viewed, stocks_loaded}
 use Rattle.mesa_image_laws.specs.mesa_image.Fitting.{base_deltas, delta_in, delta_shelved, deltas_of, files_shelved, fits, is_there, kind_fits, part_shelved, shelved_id, stock_shelved, swap_fits, view_shelved}
 use Rattle.mesa_image_laws.specs.Ids.{brought_ids, delta_ids, dropped_deltas, file_ids, named, times}
-use Rattle.mesa_image_laws.proofs.Ids.{brought_own}
+use Rattle.mesa_image_laws.proofs.Ids.{brought_own, recast_names}
 use Rattle.mesa_image_laws.proofs.Lists.{both_true, is_equal, is_less}
 use Rattle.mesa_image_laws.proofs.Moving.{kind_of}
 use Rattle.mesa_image_laws.proofs.Tables.{IsEmpty, new_deltas}
@@ -222,6 +222,7 @@ module _ (id : ℕ) where
   counted_most c (record_of.ExpireTable table version) e =
       omega (arith, named_of (applied c (record_of.ExpireTable table version)), named_of c, Of-same c.tables table (stock_from version (stock_at c table)) refl)
   counted_most c (record_of.Checkpoint k) e = omega arith
+  counted_most c (record_of.Recast k) e = omega (arith, recast_names id c k e)
 
   -- An id that stood once at most does so after a record that fits.
   pub still_once : (c : Catalog) (r : Record) → fits c r ≡ true → times id (named c) ≤ 1 → times id (named (applied c r)) ≤ 1

@@ -9,8 +9,8 @@ use Rattle.mesa_record.specs.declared.record.Record.{Record}
 use Rattle.mesa_record.specs.declared.record.Record.TheVariants as record_of
 use Rattle.mesa_record.specs.declared.record.Files.{Files}
 use Rattle.mesa_record.specs.declared.record.Part.{Part}
-use Rattle.mesa_image_laws.specs.mesa_image.Catalog.{Catalog, Stock, applied, merged_delta, new_stock, no_stock, part_of, stock_at, stock_changed, stock_from, stock_loaded, stock_swapped, stock_viewed, stocks_loaded, with_stock}
-use Rattle.mesa_image_laws.specs.mesa_image.Fitting.{expire_fits, is_there, kind_fits, swap_fits}
+use Rattle.mesa_image_laws.specs.mesa_image.Catalog.{Catalog, Stock, applied, merged_delta, new_stock, no_stock, part_of, stock_at, stock_changed, stock_from, stock_loaded, stock_recast, stock_swapped, stock_viewed, stocks_loaded, with_stock}
+use Rattle.mesa_image_laws.specs.mesa_image.Fitting.{expire_fits, is_there, kind_fits, recast_fits, swap_fits}
 use Rattle.mesa_catalog.specs.Lookups.{changes_in, changes_of, generation_of, known_as, known_in, turns_generation}
 use Rattle.mesa_shelf.specs.declared.table.Table.{Table}
 use Rattle.mesa_shelf.specs.Meaning.{stock_of}
@@ -67,6 +67,11 @@ generation_turned c (record_of.ExpireTable table version) e =
     let there = (both (is_there c table) (expire_fits c t.oldest version) e).0 in
     put c table (stock_from version t) 0 (within c table there) (omega arith)
 generation_turned c (record_of.Checkpoint k) e = omega arith
+generation_turned c (record_of.Recast k) e =
+    let t = stock_at c k.table in
+    let there = (both (is_there c k.table) (recast_fits t k) e).0 in
+    let more : changes_in (stock_recast c.next t k) ≡ changes_in t + 1 = omega arith in
+    put c k.table (stock_recast c.next t k) 1 (within c k.table there) more
 
 -- as the tables that are held count it
 pub generation_held : (next : ℕ) (tables : List Table) → sum_by changes_of tables ≡ sum_by changes_in (map (stock_of next) tables)

@@ -1,22 +1,30 @@
 -- Ids of files: what is named is what is held, and which ids are new.
 use Rattle.std.proofs.Common.{◌≡◌, ℕ, ◌+◌, ◌≤◌, ◌<◌, List, [], ◌∷◌, ◌++◌, length, map, take, get_or, refl, sym, ◌∙◌, ap, subst, arith, Bool, true, false, cond}
-use Rattle.std.specs.Prelude.{◌==◌, ◌&&◌, ◌||◌, ◌-◌, ◌^◌, min, not, flat_map, Option, Some, None, IfSome, is_some}
+use Rattle.std.specs.Prelude.{◌==◌, ◌&&◌, ◌||◌, ◌-◌, ◌^◌, count_by, min, not, flat_map, replicate, Option, Some, None, option_map, IfSome, is_some}
 use Rattle.std.specs.List.{AllByRecursion, list_all, list_any}
 use Rattle.std.proofs.lemmas.Bool.Decides.{nat_tests}
 use Rattle.std.proofs.lemmas.List.Sums.{sum_by-append, sum_by-cons}
+use Rattle.std.proofs.lemmas.List.{append-nil}
+use Rattle.mesa_schema.specs.Changes.{Lineage}
+use Rattle.mesa_schema.specs.Recasts.{recast_lineage}
+use Rattle.mesa_record.specs.declared.checkpoint.StatedSingle.{StatedSingle}
+use Rattle.mesa_record.specs.declared.recasting.RecastBase.{RecastBase}
+use Rattle.mesa_record.specs.declared.recasting.Recasting.{Recasting}
+use Rattle.mesa_record.specs.declared.record.Files.{Files}
 use Rattle.mesa_record.specs.declared.record.Part.{Part}
 use Rattle.mesa_record.specs.declared.record.Record.{Record}
 use Rattle.mesa_record.specs.declared.record.Record.TheVariants as record_of
-use Rattle.mesa_image_laws.specs.mesa_image.Catalog.{Catalog, stock_at}
-use Rattle.mesa_image_laws.specs.mesa_image.Fitting.{are_new_ids, brings_new_files, brought, has_number, part_shelved, run_of_id, shelved_id, stock_shelved}
+use Rattle.mesa_image_laws.specs.mesa_image.Catalog.{Catalog, base_recast, base_told, empty_delta, recast_in, single_stated, singles_stated, singles_told, start_in, stock_at}
+use Rattle.mesa_image_laws.specs.mesa_image.Fitting.{are_new_ids, base_deltas, brings_new_files, brought, delta_own, has_number, own_shelved, part_shelved, recast_shelved, run_of_id, shelved_id, stock_shelved}
 use Rattle.mesa_image_laws.specs.Ids.{named, times}
-use Rattle.mesa_shelf.specs.Named.{table_ids}
+use Rattle.mesa_shelf.specs.Named.{own_ids, own_if_any, table_ids}
 use Rattle.mesa_shelf.specs.Meaning.{stock_of}
 use Rattle.mesa_shelf.proofs.Named.{files_ids, flat_map-map, flat_map-same, map-flat_map, table_held}
 use Rattle.mesa_shelf.proofs.Pushes.{pushed_more, pushed_one}
+use Rattle.mesa_shelf.proofs.Singles.{empties_give, flat_map-append}
 use Rattle.mesa_catalog.specs.declared.shelves.Shelves.{Shelves}
 use Rattle.mesa_catalog.specs.Meaning.{catalogue_of}
-use Rattle.mesa_catalog.specs.Named.{RiseTo, held_ids, ids_brought, is_once_new, part_ids}
+use Rattle.mesa_catalog.specs.Named.{RiseTo, held_ids, ids_brought, is_once_new, part_ids, recast_base_ids, recast_ids, told_id}
 
 -- ---- what is named and brought
 
@@ -30,6 +38,32 @@ named_held s =
 parts_bring : (c : Catalog) (parts : List Part) → map shelved_id (flat_map (part_shelved c) parts) ≡ flat_map part_ids parts
 parts_bring c parts = map-flat_map shelved_id (part_shelved c) parts ∙ flat_map-same _ part_ids parts (λ p. files_ids (stock_at c p.table).lineage p.epoch (Some p.files))
 
+-- ---- what a recast brings
+
+ids_of_own : (l : Lineage) (epoch : ℕ) (files : Option Files) → map shelved_id (own_shelved l epoch files) ≡ own_if_any files
+ids_of_own l epoch None = refl
+ids_of_own l epoch (Some f) = refl
+
+base_brings : (epoch : ℕ) (b : Option RecastBase) → flat_map own_ids (base_deltas (option_map (base_recast epoch) b)) ≡ recast_base_ids b
+base_brings epoch None = refl
+base_brings epoch (Some b) = append-nil (own_if_any b.files)
+
+-- versions that are told bring a file each, and those of which nothing is told none
+singles_bring : (from next : ℕ) (ss : List StatedSingle) → flat_map own_ids (singles_stated from next ss) ≡ map told_id ss
+singles_bring from next [] = empties_give own_ids (next - from) refl
+singles_bring from next (s ∷ ss) =
+    flat_map-append own_ids (replicate (s.version - from) empty_delta) (single_stated s ∷ singles_stated (s.version + 1) next ss)
+    ∙ (λ i. empties_give own_ids (s.version - from) refl i ++ (told_id s ∷ singles_bring (s.version + 1) next ss i))
+
+recasts_bring : (c : Catalog) (k : Recasting) → map shelved_id (recast_shelved c k) ≡ recast_ids k
+recasts_bring c k =
+    let l = recast_lineage (stock_at c k.table).lineage (recast_in k) in
+    let singles = singles_told c.next (stock_at c k.table) k in
+    map-flat_map shelved_id (delta_own l) (base_deltas (base_told k) ++ singles)
+    ∙ flat_map-same _ own_ids (base_deltas (base_told k) ++ singles) (λ d. ids_of_own l d.epoch d.files)
+    ∙ flat_map-append own_ids (base_deltas (base_told k)) singles
+    ∙ (λ i. base_brings k.epoch k.base i ++ singles_bring (start_in (stock_at c k.table)) c.next k.singles i)
+
 -- what a record brings has the same ids, whatever the catalogue
 pub ids_bring : (c : Catalog) (r : Record) → map shelved_id (brought c r) ≡ ids_brought r
 ids_bring c (record_of.Run number) = refl
@@ -41,6 +75,7 @@ ids_bring c (record_of.Swap table base from to epoch files) = files_ids (stock_a
 ids_bring c (record_of.Expire version) = refl
 ids_bring c (record_of.ExpireTable table version) = refl
 ids_bring c (record_of.Checkpoint k) = refl
+ids_bring c (record_of.Recast k) = recasts_bring c k
 
 -- the test of new files, by what is held
 pub brings_held : (s : Shelves) (r : Record) → are_new_ids s.run (held_ids s) (ids_brought r) ≡ brings_new_files (catalogue_of s) r
@@ -53,6 +88,10 @@ times_cons id n ns = sum_by-cons (λ m. cond (id == m) 1 0) n ns
 
 pub times_append : (id : ℕ) (xs ys : List ℕ) → times id (xs ++ ys) ≡ times id xs + times id ys
 times_append id xs ys = sum_by-append (λ n. cond (id == n) 1 0) xs ys
+
+pub times_mapped : {X : Type 0} (id : ℕ) (f : X → ℕ) (xs : List X) → times id (map f xs) ≡ count_by (λ x. id == f x) xs
+times_mapped id f [] = refl
+times_mapped id f (x ∷ xs) = times_cons id (f x) (map f xs) ∙ ap (λ n. cond (id == f x) 1 0 + n) (times_mapped id f xs) ∙ sym (sum_by-cons (λ y. cond (id == f y) 1 0) x xs)
 
 -- where a number isn't among the ids, it doesn't matter that it is taken
 same_tests : (run x : ℕ) (taken all ids : List ℕ) → times x ids ≡ 0 → list_all (is_once_new run (x ∷ taken) all) ids ≡ list_all (is_once_new run taken (x ∷ all)) ids
@@ -218,6 +257,11 @@ take_flat f xs i x h is = sym (pushed_more f [] (flat_map f (take i xs)) (flat_m
 
 pub take_each : {X Y : Type 0} (f : X → Y) (xs : List X) (i : ℕ) (x : X) → i < length xs → x ≡ get_or xs i x → map f (take (i + 1) xs) ≡ map f (take i xs) ++ f x ∷ []
 take_each f xs i x h is = sym (pushed_one f [] (map f (take i xs)) (map f (take i xs) ++ f x ∷ []) xs i x h is refl refl)
+
+-- what follows from what is found
+pub some_so : {X : Type 0} (o : Option X) (P Q : X → Type 0) → ((x : X) → P x → Q x) → IfSome o P → IfSome o Q
+some_so (Some x) P Q f h = f x h
+some_so None P Q f h = tt
 
 pub some_holds : {X : Type 0} (o : Option X) (P : X → Type 0) → IfSome o P → is_some o ≡ true → (x : X) × P x
 some_holds (Some x) P h e = (x, h)

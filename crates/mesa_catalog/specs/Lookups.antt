@@ -23,7 +23,7 @@ relation_of c name = relation_from 0 name c.tables
 
 -- ---- the generation
 
--- a table counts once, each of its views once, and each of its changes once
+-- a table counts once, each of its views once, and each of its changes and recasts once
 abbrev pub changes_in : Stock → ℕ
 changes_in t = 1 + length t.lineage.views + epoch_of t.lineage
 
@@ -35,7 +35,7 @@ changes_of t = 1 + length t.evolving.value.views + epoch_of t.evolving.value
 abbrev pub generation_of : Catalog → ℕ
 generation_of c = sum_by changes_in c.tables
 
--- how much the generation rises by a record: by 1 where it makes a table or a view, or changes columns
+-- how much the generation rises by a record: by 1 where it makes a table or a view, changes columns, or recasts a table
 abbrev pub turns_generation : Record → ℕ
 turns_generation (record_of.Run number) = 0
 turns_generation (record_of.Table name keys values) = 1
@@ -46,6 +46,7 @@ turns_generation (record_of.Swap table base from to epoch files) = 0
 turns_generation (record_of.Expire version) = 0
 turns_generation (record_of.ExpireTable table version) = 0
 turns_generation (record_of.Checkpoint k) = 0
+turns_generation (record_of.Recast k) = 1
 
 -- ---- glances
 

@@ -1,11 +1,14 @@
 -- The files that a catalogue names, and those that a record brings, by their ids.
-use Rattle.std.specs.Prelude.{◌≡◌, ℕ, ◌<◌, List, [], ◌∷◌, flat_map, Bool, ◌==◌, ◌&&◌, not}
+use Rattle.std.specs.Prelude.{◌≡◌, ℕ, ◌<◌, List, [], ◌∷◌, ◌++◌, map, flat_map, Bool, ◌==◌, ◌&&◌, not, Option, Some, None}
 use Rattle.mesa_record.specs.declared.record.Part.{Part}
 use Rattle.mesa_record.specs.declared.record.Record.{Record}
 use Rattle.mesa_record.specs.declared.record.Record.TheVariants as record_of
+use Rattle.mesa_record.specs.declared.checkpoint.StatedSingle.{StatedSingle}
+use Rattle.mesa_record.specs.declared.recasting.RecastBase.{RecastBase}
+use Rattle.mesa_record.specs.declared.recasting.Recasting.{Recasting}
 use Rattle.mesa_image_laws.specs.mesa_image.Fitting.{has_number, run_of_id}
 use Rattle.mesa_image_laws.specs.Ids.{times}
-use Rattle.mesa_shelf.specs.Named.{file_ids, ids_if_any, table_ids}
+use Rattle.mesa_shelf.specs.Named.{file_ids, ids_if_any, own_if_any, table_ids}
 use Rattle.mesa_catalog.specs.declared.shelves.Shelves.{Shelves}
 
 -- The ids of all files that are held.
@@ -14,6 +17,17 @@ held_ids s = flat_map table_ids s.tables.items
 
 abbrev pub part_ids : Part → List ℕ
 part_ids p = file_ids p.files
+
+-- the ids of the files that a recast brings: the table's own, since its views' files stay
+abbrev pub recast_base_ids : Option RecastBase → List ℕ
+recast_base_ids None = []
+recast_base_ids (Some b) = own_if_any b.files
+
+abbrev pub told_id : StatedSingle → ℕ
+told_id s = s.files.file.id
+
+abbrev pub recast_ids : Recasting → List ℕ
+recast_ids k = recast_base_ids k.base ++ map told_id k.singles
 
 -- The ids of the files that a record brings, in the order in which it names them.
 abbrev pub ids_brought : Record → List ℕ
@@ -26,6 +40,7 @@ ids_brought (record_of.Swap table base from to epoch files) = ids_if_any files
 ids_brought (record_of.Expire version) = []
 ids_brought (record_of.ExpireTable table version) = []
 ids_brought (record_of.Checkpoint k) = []
+ids_brought (record_of.Recast k) = recast_ids k
 
 -- ---- new ids
 

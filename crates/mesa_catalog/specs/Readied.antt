@@ -16,7 +16,7 @@ use Rattle.mesa_catalog.specs.declared.shelves.Shelves.{Shelves}
 use Rattle.mesa_catalog.specs.declared.ready.Ready.{Ready}
 use Rattle.mesa_catalog.specs.declared.ready.Ready.TheVariants as ready_of
 use Rattle.mesa_shelf.specs.declared.ready.ReadyPart.{ReadyPart}
-use Rattle.mesa_shelf.specs.Readied.{HasSpare, IsRoomier, part_in}
+use Rattle.mesa_shelf.specs.Readied.{HasSpare, IsRecast, IsRoomier, part_in, recasting_in}
 use Rattle.mesa_shelf.specs.Meaning.{IsTable, stock_of, widths_of}
 use Rattle.mesa_catalog.specs.Meaning.{catalogue_of}
 
@@ -41,6 +41,7 @@ record_in (ready_of.Publish version parts) = record_of.Publish version (map part
 record_in (ready_of.Swap table base from to d) = record_of.Swap table base from to d.value.epoch d.value.files
 record_in (ready_of.Expire version) = record_of.Expire version
 record_in (ready_of.ExpireTable table version) = record_of.ExpireTable table version
+record_in (ready_of.Recast table y) = record_of.Recast (recasting_in table y)
 
 -- a part's delta has its totals, and beside it stand the table's totals with them
 pub record IsMadePart (c : Catalog) (p : ReadyPart) : Type 0 where
@@ -60,6 +61,7 @@ IsMade c (ready_of.Publish version parts) = AllByRecursion (IsMadePart c) parts.
 IsMade c (ready_of.Swap table base from to d) = d.value.totals ≡ None
 IsMade c (ready_of.Expire version) = ⊤
 IsMade c (ready_of.ExpireTable table version) = ⊤
+IsMade c (ready_of.Recast table y) = IsRecast (stock_at c table).lineage (stock_at c table).totals y (recasting_in table y)
 
 -- there is room for a table more, and in each table for a delta more
 pub record HasRoom (s : Shelves) : Type 0 where

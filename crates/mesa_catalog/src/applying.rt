@@ -14,7 +14,7 @@ use crate::shelves::Shelves;
 use loading::load;
 use mesa_list::Items;
 use mesa_schema::{Evolving, Totals};
-use mesa_shelf::{Delta, ReadyPart, Table, swap};
+use mesa_shelf::{Delta, ReadyPart, ReadyRecast, Table, recast, swap};
 use std::sync::Arc;
 
 impl Shelves {
@@ -45,6 +45,7 @@ impl Shelves {
             } => self.take_merged(table, base, from, to, delta),
             Ready::Expire { version } => self.take_floor(version),
             Ready::ExpireTable { table, version } => self.take_oldest(table, version),
+            Ready::Recast { table, made } => self.take_recast(table, made),
         }
     }
 
@@ -123,6 +124,16 @@ impl Shelves {
     {
         let table = &mut self.tables[table as usize];
         table.expire(version);
+    }
+
+    fn take_recast(&mut self, table: u16, made: ReadyRecast)
+        requires shelved { IsShelved self.old }
+        requires ready { IsReady self.old (ready_of.Recast table made) }
+        ensures applied { catalogue_of self.new ≡ applied (catalogue_of self.old) (record_in (ready_of.Recast table made)) }
+        ensures shelved { IsShelved self.new }
+    {
+        let table = &mut self.tables[table as usize];
+        recast(table, made);
     }
 }
 

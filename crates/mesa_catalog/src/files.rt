@@ -1,8 +1,9 @@
 // The files that a catalogue names.
-ghost use Rattle.std.specs.Prelude.{◌≡◌, ◌++◌, ◌≤◌, ◌^◌, ℕ, flat_map, map, IfOk, IsTrue, OnOk};
+ghost use Rattle.std.specs.Prelude.{◌≡◌, ◌++◌, ◌≤◌, ◌^◌, ℕ, flat_map, map, true, IfOk, IsTrue, OnOk};
 ghost use Rattle.std.specs.List.{AllByRecursion};
-ghost use Rattle.mesa_image_laws.specs.mesa_image.Fitting.{fits as fits_catalog, kind_fits, stock_shelved};
-ghost use Rattle.mesa_image_laws.specs.Ids.{dropped_ids, named};
+ghost use Rattle.mesa_image_laws.specs.mesa_image.Catalog.{stock_at};
+ghost use Rattle.mesa_image_laws.specs.mesa_image.Fitting.{fits as fits_catalog, is_there, kind_fits, stock_shelved};
+ghost use Rattle.mesa_image_laws.specs.Ids.{dropped_ids, named, recast_dropped};
 ghost use Rattle.mesa_shelf.specs.declared.table.Table.{Table as Held};
 ghost use Rattle.mesa_shelf.specs.Files.{AreRecorded, recorded_of};
 ghost use Rattle.mesa_shelf.specs.Meaning.{IsTable, stock_of};
@@ -36,7 +37,7 @@ impl Catalog {
         Ok(files)
     }
 
-    /// The ids of the files that a record lets go: they are named now, and no more after it. A base lets go those of the deltas whose place it takes, with their views' files, and no other record any.
+    /// The ids of the files that a record lets go: they are named now, and no more after it. A base lets go those of the deltas whose place it takes, with their views' files; a recast the table's own of the base and the singletons, and those of the cumulatives; and no other record any.
     pub fn dropped(&self, r: &Record, alloc: Global) -> Result<Vec<FileId>, AllocError>
         requires { IsTrue (fits_catalog self.now.catalogue r.now) }
         ensures { IfOk result (λ ids. ids.items ≡ dropped_ids self.now.catalogue r.now) }
@@ -66,6 +67,7 @@ impl Shelves {
                     Ok(())
                 }
             }
+            Record::Recast(told) => self.push_recast_ids(told.table, ids),
             Record::Run { .. }
             | Record::Table { .. }
             | Record::View { .. }
@@ -75,6 +77,14 @@ impl Shelves {
             | Record::ExpireTable { .. }
             | Record::Checkpoint(_) => Ok(()),
         }
+    }
+
+    fn push_recast_ids(&self, table: u16, ids: &mut Vec<FileId>) -> Result<(), AllocError>
+        requires shelved { IsShelved self.now }
+        requires there { is_there (catalogue_of self.now) table ≡ true }
+        ensures { OnOk result (ids.new.items ≡ ids.old.items ++ recast_dropped (stock_at (catalogue_of self.now) table)) }
+    {
+        self.table(table).push_recast_ids(ids)
     }
 }
 

@@ -2,16 +2,16 @@
 ghost use Rattle.std.specs.Prelude.{◌≡◌, ◌&&◌};
 ghost use Rattle.std.specs.List.{list_all};
 ghost use Rattle.mesa_image_laws.specs.mesa_image.Catalog.{stock_at};
-ghost use Rattle.mesa_image_laws.specs.mesa_image.Fitting.{alter_fits, expire_fits, is_new_name, is_there, kind_fits, may_be_work, part_fits, publish_fits, run_fits, swap_fits, table_fits, view_fits};
+ghost use Rattle.mesa_image_laws.specs.mesa_image.Fitting.{alter_fits, expire_fits, is_new_name, is_there, kind_fits, may_be_work, part_fits, publish_fits, recast_fits, run_fits, swap_fits, table_fits, view_fits};
 ghost use Rattle.mesa_catalog.specs.Meaning.{IsShelved, catalogue_of};
 ghost use Rattle.mesa_shelf.specs.Meaning.{IsTable, stock_of};
 
 use crate::shelves::{MAX_TABLES, Shelves};
-use mesa_record::{Files, Part, Record};
+use mesa_record::{Files, Part, Recasting, Record};
 use mesa_schema::{Change, KeyColumn, MAX_VIEWS, Name, Schema, ValueColumn};
 use mesa_shelf::{
-    Table, counts_files, counts_files_if_any, counts_totals, keeps_bound, may_be_base,
-    may_be_cumulative,
+    Table, allows_recast, counts_files, counts_files_if_any, counts_totals, keeps_bound,
+    may_be_base, may_be_cumulative,
 };
 
 // The number of the last run that there may be.
@@ -48,6 +48,7 @@ impl Shelves {
             Record::ExpireTable { table, version } => self.allows_table_expiry(*table, *version),
             // It is an area's first record, and none other.
             Record::Checkpoint(_) => false,
+            Record::Recast(told) => self.allows_renewal(told),
         }
     }
 
@@ -133,6 +134,7 @@ impl Shelves {
             None => false,
             Some(t) => {
                 self.may_be_work(t, base, from, to)
+                    && t.evolving.begins() <= epoch
                     && epoch <= t.evolving.epoch()
                     && counts_files_if_any(t, epoch, files)
             }
@@ -153,6 +155,23 @@ impl Shelves {
             None => false,
             Some(t) => self.allows_expiry(t.oldest, version),
         }
+    }
+
+    fn allows_renewal(&self, told: &Recasting) -> bool
+        requires { IsShelved self.now }
+        ensures { result ≡ (is_there (catalogue_of self.now) told.now.table && recast_fits (stock_at (catalogue_of self.now) told.now.table) told.now) }
+    {
+        match self.get(told.table) {
+            None => false,
+            Some(t) => self.may_recast(t, told),
+        }
+    }
+
+    fn may_recast(&self, t: &Table, told: &Recasting) -> bool
+        requires { IsTable self.now.next t.now }
+        ensures { result ≡ recast_fits (stock_of self.now.next t.now) told.now }
+    {
+        allows_recast(t, told)
     }
 
     // Whether work may give this range.

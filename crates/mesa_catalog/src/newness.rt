@@ -1,16 +1,17 @@
 // Whether the files that a record brings are new. Takes no memory.
 ghost use Rattle.std.specs.Prelude.{◌≡◌, ◌==◌, ◌^◌, ◌-◌, ◌≤◌, ◌<◌, [], ◌∷◌, ℕ, flat_map, count_by, map, min, IfSome, IsTrue};
 ghost use Rattle.std.specs.List.{list_all, list_any, AllByRecursion};
+ghost use Rattle.mesa_record.specs.declared.checkpoint.StatedSingle.{StatedSingle as Told};
 ghost use Rattle.mesa_record.specs.declared.record.ViewRef.{ViewRef as Seen};
 ghost use Rattle.mesa_image_laws.specs.mesa_image.Fitting.{are_new_ids, has_number};
 ghost use Rattle.mesa_image_laws.specs.Ids.{times as times_of};
 ghost use Rattle.mesa_shelf.specs.declared.table.Table.{Table as Held};
-ghost use Rattle.mesa_shelf.specs.Named.{file_ids, table_ids, view_id};
-ghost use Rattle.mesa_catalog.specs.Named.{RiseTo, held_ids, ids_brought, is_once_new, part_ids};
+ghost use Rattle.mesa_shelf.specs.Named.{file_ids, own_if_any, table_ids, view_id};
+ghost use Rattle.mesa_catalog.specs.Named.{RiseTo, held_ids, ids_brought, is_once_new, part_ids, recast_base_ids, recast_ids, told_id};
 
 use crate::shelves::Shelves;
 use mesa_file::FileId;
-use mesa_record::{Files, Part, Record, ViewRef};
+use mesa_record::{Files, Part, RecastBase, Recasting, Record, StatedSingle, ViewRef};
 use mesa_shelf::Table;
 
 // How many ids of files a run has.
@@ -28,6 +29,7 @@ pub(crate) fn brings_rising(run: u32, above: u64, r: &Record) -> bool
             Some(files) => files_rise(run, above, files).is_some(),
             None => false,
         },
+        Record::Recast(told) => recast_rises(run, above, told).is_some(),
         Record::Run { .. }
         | Record::Table { .. }
         | Record::View { .. }
@@ -66,6 +68,41 @@ fn views_rise(run: u32, above: u64, views: &[ViewRef]) -> Option<u64>
     Some(last)
 }
 
+fn recast_rises(run: u32, above: u64, told: &Recasting) -> Option<u64>
+    ensures { IfSome result (RiseTo run above (recast_ids told.now)) }
+{
+    let last = base_rises(run, above, &told.base)?;
+    singles_rise(run, last, told.singles.as_slice())
+}
+
+fn base_rises(run: u32, above: u64, base: &Option<RecastBase>) -> Option<u64>
+    ensures { IfSome result (RiseTo run above (recast_base_ids base.now)) }
+{
+    match base {
+        None => Some(above),
+        Some(base) => own_rises(run, above, &base.files),
+    }
+}
+
+fn own_rises(run: u32, above: u64, files: &Option<Files>) -> Option<u64>
+    ensures { IfSome result (RiseTo run above (own_if_any files.now)) }
+{
+    match files {
+        None => Some(above),
+        Some(files) => id_rises(run, above, files.file.id),
+    }
+}
+
+fn singles_rise(run: u32, above: u64, singles: &[StatedSingle]) -> Option<u64>
+    ensures { IfSome result (RiseTo run above (map told_id singles.now)) }
+{
+    let mut last = above;
+    for single in singles {
+        last = id_rises(run, last, single.files.file.id)?;
+    }
+    Some(last)
+}
+
 fn id_rises(run: u32, above: u64, id: FileId) -> Option<u64>
     ensures { IfSome result (RiseTo run above (id ∷ [])) }
 {
@@ -85,6 +122,7 @@ pub(crate) fn brings_new(shelves: &Shelves, r: &Record) -> bool
             Some(files) => files_are_new(shelves, r, files),
             None => true,
         },
+        Record::Recast(told) => recast_is_new(shelves, r, told),
         Record::Run { .. }
         | Record::Table { .. }
         | Record::View { .. }
@@ -118,6 +156,38 @@ fn views_are_new(shelves: &Shelves, r: &Record, views: &[ViewRef]) -> bool
         .all(|view| is_new(shelves, r, view.file.id.number()))
 }
 
+fn recast_is_new(shelves: &Shelves, r: &Record, told: &Recasting) -> bool
+    ensures { result ≡ list_all (is_once_new shelves.now.run (held_ids shelves.now) (ids_brought r.now)) (recast_ids told.now) }
+{
+    base_is_new(shelves, r, &told.base) && singles_are_new(shelves, r, told.singles.as_slice())
+}
+
+fn base_is_new(shelves: &Shelves, r: &Record, base: &Option<RecastBase>) -> bool
+    ensures { result ≡ list_all (is_once_new shelves.now.run (held_ids shelves.now) (ids_brought r.now)) (recast_base_ids base.now) }
+{
+    match base {
+        None => true,
+        Some(base) => own_is_new(shelves, r, &base.files),
+    }
+}
+
+fn own_is_new(shelves: &Shelves, r: &Record, files: &Option<Files>) -> bool
+    ensures { result ≡ list_all (is_once_new shelves.now.run (held_ids shelves.now) (ids_brought r.now)) (own_if_any files.now) }
+{
+    match files {
+        None => true,
+        Some(files) => is_new(shelves, r, files.file.id.number()),
+    }
+}
+
+fn singles_are_new(shelves: &Shelves, r: &Record, singles: &[StatedSingle]) -> bool
+    ensures { result ≡ list_all (λ (s : Told). is_once_new shelves.now.run (held_ids shelves.now) (ids_brought r.now) s.files.file.id) singles.now }
+{
+    singles
+        .iter()
+        .all(|single| is_new(shelves, r, single.files.file.id.number()))
+}
+
 // Whether an id is of the last run, not named, and stands once among those of the record.
 fn is_new(shelves: &Shelves, r: &Record, id: u64) -> bool
     ensures { result ≡ is_once_new shelves.now.run (held_ids shelves.now) (ids_brought r.now) id }
@@ -147,6 +217,7 @@ fn times_in_record(r: &Record, id: u64) -> u64
             Some(files) => times_in_files(files, id),
             None => 0,
         },
+        Record::Recast(told) => times_in_recast(told, id),
         Record::Run { .. }
         | Record::Table { .. }
         | Record::View { .. }
@@ -189,6 +260,42 @@ fn times_in_views(views: &[ViewRef], id: u64) -> u64
         .count() as u64
 }
 
+fn times_in_recast(told: &Recasting, id: u64) -> u64
+    ensures { result ≡ min (2 ^ 64 - 1) (times_of id (recast_ids told.now)) }
+{
+    times_in_singles(told.singles.as_slice(), id) + times_in_base(&told.base, id)
+}
+
+fn times_in_base(base: &Option<RecastBase>, id: u64) -> u64
+    ensures count { result ≡ times_of id (recast_base_ids base.now) }
+    ensures most { result ≤ 1 }
+{
+    match base {
+        None => 0,
+        Some(base) => times_in_own(&base.files, id),
+    }
+}
+
+fn times_in_own(files: &Option<Files>, id: u64) -> u64
+    ensures count { result ≡ times_of id (own_if_any files.now) }
+    ensures most { result ≤ 1 }
+{
+    match files {
+        None => 0,
+        Some(files) => { if id == files.file.id.number() { 1 } else { 0 } }
+    }
+}
+
+fn times_in_singles(singles: &[StatedSingle], id: u64) -> u64
+    ensures count { result ≡ count_by (λ (s : Told). id == s.files.file.id) singles.now }
+    ensures most { result < 2 ^ 63 }
+{
+    singles
+        .iter()
+        .filter(|single| id == single.files.file.id.number())
+        .count() as u64
+}
+
 // ---- the greatest id
 
 // The greatest of a number and the ids of the files that a record brings.
@@ -202,6 +309,7 @@ pub(crate) fn greatest_with(least: u64, r: &Record) -> u64
             Some(files) => greatest_in_files(least, files),
             None => least,
         },
+        Record::Recast(told) => greatest_in_recast(least, told),
         Record::Run { .. }
         | Record::Table { .. }
         | Record::View { .. }
@@ -238,6 +346,45 @@ fn greatest_in_views(least: u64, views: &[ViewRef]) -> u64
     let mut greatest = least;
     for view in views {
         greatest = greatest.max(view.file.id.number());
+    }
+    greatest
+}
+
+fn greatest_in_recast(least: u64, told: &Recasting) -> u64
+    ensures least { least ≤ result }
+    ensures all { AllByRecursion (λ id. id ≤ result) (recast_ids told.now) }
+{
+    let own = greatest_in_base(least, &told.base);
+    greatest_in_singles(own, told.singles.as_slice())
+}
+
+fn greatest_in_base(least: u64, base: &Option<RecastBase>) -> u64
+    ensures least { least ≤ result }
+    ensures all { AllByRecursion (λ id. id ≤ result) (recast_base_ids base.now) }
+{
+    match base {
+        None => least,
+        Some(base) => greatest_in_own(least, &base.files),
+    }
+}
+
+fn greatest_in_own(least: u64, files: &Option<Files>) -> u64
+    ensures least { least ≤ result }
+    ensures all { AllByRecursion (λ id. id ≤ result) (own_if_any files.now) }
+{
+    match files {
+        None => least,
+        Some(files) => least.max(files.file.id.number()),
+    }
+}
+
+fn greatest_in_singles(least: u64, singles: &[StatedSingle]) -> u64
+    ensures least { least ≤ result }
+    ensures all { AllByRecursion (λ id. id ≤ result) (map told_id singles.now) }
+{
+    let mut greatest = least;
+    for single in singles {
+        greatest = greatest.max(single.files.file.id.number());
     }
     greatest
 }

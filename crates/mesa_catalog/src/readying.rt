@@ -5,7 +5,7 @@ ghost use Rattle.mesa_record.specs.declared.record.Part.{Part as PartOf};
 ghost use Rattle.mesa_span.specs.Ranges.{base_before};
 ghost use Rattle.mesa_record.specs.declared.record.Record.TheVariants as record_of;
 ghost use Rattle.mesa_image_laws.specs.mesa_image.Catalog.{empty_base, merged_delta, stock_at};
-ghost use Rattle.mesa_image_laws.specs.mesa_image.Fitting.{alter_fits, is_there, kind_fits, part_fits, table_fits, view_fits};
+ghost use Rattle.mesa_image_laws.specs.mesa_image.Fitting.{alter_fits, is_there, kind_fits, part_fits, recast_fits, table_fits, view_fits};
 ghost use Rattle.mesa_catalog.specs.Meaning.{IsShelved, catalogue_of};
 ghost use Rattle.mesa_shelf.specs.Meaning.{ending_of};
 ghost use Rattle.mesa_catalog.specs.Readied.{AreRoomier, HasRoom, IsMade, IsMadePart, record_in};
@@ -15,10 +15,11 @@ use crate::lineages::{lineage_with_change, lineage_with_view, new_lineage, width
 use crate::ready::Ready;
 use crate::shelves::Shelves;
 use mesa_list::{Items, TryCopy};
-use mesa_record::{Files, Part, Record};
+use mesa_record::{Files, Part, Recasting, Record};
 use mesa_schema::{Change, KeyColumn, Name, ValueColumn};
 use mesa_shelf::{
-    Base, Delta, ReadyPart, Table, make_spare, no_totals, totals_changed, totals_with, width_of,
+    Base, Delta, ReadyPart, Table, make_recast, make_spare, no_totals, totals_changed, totals_with,
+    width_of,
 };
 use std::alloc::{AllocError, Global};
 use std::sync::Arc;
@@ -93,6 +94,7 @@ impl Shelves {
                 version: *version,
             }),
             Record::Checkpoint(_) => unreachable!(),
+            Record::Recast(told) => self.make_renewed(told),
         }
     }
 
@@ -201,6 +203,19 @@ impl Shelves {
             table: part.table,
             delta: Arc::new(self.alloc(), delta)?,
             totals,
+        })
+    }
+
+    fn make_renewed(&self, told: &Recasting) -> Result<Ready, AllocError>
+        requires shelved { IsShelved self.now }
+        requires fits { IsTrue (is_there (catalogue_of self.now) told.now.table && recast_fits (stock_at (catalogue_of self.now) told.now.table) told.now) }
+        ensures record { IfOk result (λ y. record_in y ≡ record_of.Recast told.now) }
+        ensures made { IfOk result (IsMade (catalogue_of self.now)) }
+    {
+        let made = make_recast(self.alloc(), self.table(told.table), told)?;
+        Ok(Ready::Recast {
+            table: told.table,
+            made,
         })
     }
 

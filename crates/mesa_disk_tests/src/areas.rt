@@ -30,7 +30,7 @@ fn put_runs(rt: &impl Abort, out: &mut Vec<u8>, first: u32, last: u32) {
 // The checkpoint of an empty warehouse.
 fn checkpoint(rt: &impl Abort, alloc: Global, number: u32, run: u32) -> Framed {
     let mut body = Vec::new(alloc);
-    put(rt, &mut body, &[13]);
+    put(rt, &mut body, &[15]);
     put(rt, &mut body, &number.to_be_bytes());
     put(rt, &mut body, &run.to_be_bytes());
     put(rt, &mut body, &[0; 10]);
@@ -63,7 +63,7 @@ fn last_run(journal: &LiveJournal) -> Option<u32> {
     let body = journal.read.bodies.as_slice().last()?;
     match body.bytes.as_slice() {
         [1, a, b, c, d] => Some(u32::from_be_bytes([*a, *b, *c, *d])),
-        [13, _, _, _, _, a, b, c, d, ..] => Some(u32::from_be_bytes([*a, *b, *c, *d])),
+        [15, _, _, _, _, a, b, c, d, ..] => Some(u32::from_be_bytes([*a, *b, *c, *d])),
         _ => None,
     }
 }
@@ -114,7 +114,7 @@ fn area_bytes(rt: &impl Abort, alloc: Global, disk: &mut MemDisk, area: Area) ->
 }
 
 const ROW: [u8; 35] = [
-    1, 0, 0, 0, 0x13, 13, 0, 0, 0, 1, 0, 0, 0x19, 0x9a, 0, 0, 0, 0, 0, 0, 0, 0, 0, 0, 1, 0, 0, 0,
+    1, 0, 0, 0, 0x13, 15, 0, 0, 0, 1, 0, 0, 0x19, 0x9a, 0, 0, 0, 0, 0, 0, 0, 0, 0, 0, 1, 0, 0, 0,
     5, 1, 0, 0, 0x19, 0x9b, 0,
 ];
 

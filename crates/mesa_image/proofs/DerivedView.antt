@@ -17,11 +17,11 @@ use Rattle.mesa_image.specs.Contents.{Rows, kept_of}
 use Rattle.mesa_image.proofs.Bodies.{half, word, long, key, id_bytes, first_run, run_1}
 
 -- table,t,a int;b int,v sum
-abbrev table_t : List ℕ
+abbrev pub table_t : List ℕ
 table_t = 2 ∷ 1 ∷ 116 ∷ 2 ∷ 1 ∷ 97 ∷ 0 ∷ 1 ∷ 98 ∷ 0 ∷ 1 ∷ 1 ∷ 118 ∷ 0 ∷ []
 
 -- view,w,t,a,v
-abbrev view_w : List ℕ
+abbrev pub view_w : List ℕ
 view_w = 3 ∷ half 0 ++ 1 ∷ 119 ∷ 1 ∷ 1 ∷ 97 ∷ 1 ∷ 1 ∷ 118 ∷ []
 
 abbrev digest_0 : List ℕ
@@ -30,11 +30,11 @@ digest_0 = 12 ∷ 95 ∷ 81 ∷ 253 ∷ 44 ∷ 62 ∷ 203 ∷ 249 ∷ 23 ∷ 122
 abbrev digest_1 : List ℕ
 digest_1 = 165 ∷ 193 ∷ 160 ∷ 178 ∷ 40 ∷ 154 ∷ 5 ∷ 199 ∷ 219 ∷ 191 ∷ 127 ∷ 76 ∷ 30 ∷ 140 ∷ 101 ∷ 177 ∷ 108 ∷ 19 ∷ 9 ∷ 180 ∷ 235 ∷ 128 ∷ 175 ∷ 220 ∷ 196 ∷ 62 ∷ 122 ∷ 255 ∷ 156 ∷ 42 ∷ 170 ∷ 230 ∷ []
 
-abbrev digest_w : List ℕ
+abbrev pub digest_w : List ℕ
 digest_w = 50 ∷ 2 ∷ 7 ∷ 208 ∷ 237 ∷ 45 ∷ 102 ∷ 48 ∷ 169 ∷ 158 ∷ 154 ∷ 182 ∷ 65 ∷ 158 ∷ 25 ∷ 63 ∷ 89 ∷ 21 ∷ 53 ∷ 93 ∷ 123 ∷ 16 ∷ 156 ∷ 202 ∷ 21 ∷ 128 ∷ 79 ∷ 151 ∷ 196 ∷ 99 ∷ 117 ∷ 240 ∷ []
 
 -- row,t,1,1,5 and row,t,1,2,7
-abbrev batch_0 : List ℕ
+abbrev pub batch_0 : List ℕ
 batch_0 =
     5 ∷ word 0 ++ half 1 ++ half 0 ++ word 0
     ++ (id_bytes 1 0 ++ long 136 ++ long 2 ++ word 1 ++ (0 ∷ 16 ∷ key 1 ++ key 1) ++ (0 ∷ 16 ∷ key 1 ++ key 2) ++ (1 ∷ long 12) ++ digest_0)
@@ -54,7 +54,7 @@ file_0 = record { format = format.One; id = first_run 0; len = 136; rows = 2; bl
 abbrev file_1 : FileRef
 file_1 = record { format = format.One; id = first_run 1; len = 112; rows = 1; blocks = 1; first = key 1 ++ key 3; last = key 1 ++ key 3; aggregates = pos 1 ∷ []; digest = digest_1 }
 
-abbrev file_w : FileRef
+abbrev pub file_w : FileRef
 file_w = record { format = format.One; id = first_run 2; len = 103; rows = 1; blocks = 1; first = key 1; last = key 1; aggregates = pos 1 ∷ []; digest = digest_w }
 
 abbrev lineage : Lineage

@@ -6,9 +6,11 @@ mod OneRow
 mod SecondEdition
 mod AcrossBase
 mod DerivedView
+mod Regrouped
 mod Apart
 mod Misfits
 mod Damaged
 mod Empty
 mod Restated
+pub mod SameFiles
 pub mod OneMore

@@ -8,7 +8,7 @@ use Rattle.mesa_image.specs.Catalog.{Catalog, empty_catalog, applied}
 use Rattle.mesa_commit.specs.mesa_disk.declared.area.Area.{Area}
 use Rattle.mesa_commit.specs.mesa_disk.declared.area.Area.TheVariants.{Zero, One}
 use Rattle.mesa_image.specs.Fitting.{fits, with_body, read_record, applied_if, then_bodies, catalog_from}
-use Rattle.mesa_image.specs.Journaled.{checkpoint_in, first_by, first_read, first_record, first_body, catalog}
+use Rattle.mesa_image.specs.Journaled.{checkpoint_in, first_by, first_read, first_body, catalog}
 
 then_twice : (o : Option Catalog) (f g h : Catalog → Option Catalog) → ((d : Catalog) → f d ≡ then_bodies (g d) h) → then_bodies o f ≡ then_bodies (then_bodies o g) h
 then_twice None f g h same = refl

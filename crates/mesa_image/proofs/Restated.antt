@@ -1,25 +1,25 @@
 -- An empty warehouse whose area 1 states it behind 6,554 runs, and a run more.
-use Rattle.std.proofs.Common.{◌≡◌, refl, ℕ, ◌+◌, ◌^◌, ◌<◌, ◌≤◌, ◌≢◌, List, [], ◌∷◌, ◌++◌, Option, Some, None, inl, inr, arith}
+use Rattle.std.proofs.Common.{◌≡◌, refl, ℕ, ◌+◌, ◌^◌, ◌<◌, List, [], ◌∷◌, ◌++◌, Some, None, inr, arith}
 use Rattle.std.specs.FinMap.{empty}
 use Rattle.mesa_commit.specs.mesa_disk.Image.{Image}
 use Rattle.mesa_commit.specs.mesa_disk.declared.area.Area.TheVariants.{Zero, One}
-use Rattle.mesa_commit.specs.mesa_journal.Journal.{Closed, IsJournal, frames, word, of_word}
-use Rattle.mesa_commit.specs.mesa_journal.Areas.{HasJournal, IsBehind, number_in}
+use Rattle.mesa_commit.specs.mesa_journal.Journal.{Closed, word, of_word}
+use Rattle.mesa_commit.specs.mesa_journal.Areas.{HasJournal, number_in}
 use Rattle.mesa_record.specs.Reading.{fields_of, stated_at}
 use Rattle.mesa_record.specs.Reading as reading
-use Rattle.mesa_image.specs.Catalog.{Catalog, empty_catalog}
+use Rattle.mesa_image.specs.Catalog.{empty_catalog}
 use Rattle.mesa_image.specs.Fitting.{fits, catalog_from}
 use Rattle.mesa_image.specs.Journaled.{catalog}
 use Rattle.mesa_image.specs.Contents.{Rows}
 use Rattle.mesa_image.specs.Sound.{IsSoundAs}
 use Rattle.mesa_image.proofs.Bodies.{run_1}
 
--- the checkpoint, by its kind: 13, or 8 or 11 in an earlier edition
+-- the checkpoint, by its kind: 15, or 8, 11 or 13 in an earlier edition
 abbrev checkpoint_as : ℕ → List ℕ
 checkpoint_as kind = kind ∷ 0 ∷ 0 ∷ 0 ∷ 1 ∷ 0 ∷ 0 ∷ 0x19 ∷ 0x9a ∷ 0 ∷ 0 ∷ 0 ∷ 0 ∷ 0 ∷ 0 ∷ 0 ∷ 0 ∷ 0 ∷ 0 ∷ []
 
 abbrev checkpoint : List ℕ
-checkpoint = checkpoint_as 13
+checkpoint = checkpoint_as 15
 
 abbrev run_6555 : List ℕ
 run_6555 = 1 ∷ 0 ∷ 0 ∷ 0x19 ∷ 0x9b ∷ []
@@ -35,6 +35,10 @@ is_stated_first = refl
 is_stated_second : catalog One (checkpoint_as 11 ∷ []) ≡ Some (record empty_catalog { run = 6554 })
 unfolding fields_of stated_at reading.rising fits catalog_from
 is_stated_second = refl
+
+is_stated_third : catalog One (checkpoint_as 13 ∷ []) ≡ Some (record empty_catalog { run = 6554 })
+unfolding fields_of stated_at reading.rising fits catalog_from
+is_stated_third = refl
 
 is_run : catalog One (checkpoint ∷ run_6555 ∷ []) ≡ Some (record empty_catalog { run = 6555 })
 unfolding fields_of stated_at reading.rising fits catalog_from

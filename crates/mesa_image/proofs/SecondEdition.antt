@@ -9,7 +9,7 @@ use Rattle.mesa_history.specs.mesa_file.declared.file_ref.FileRef.{FileRef}
 use Rattle.mesa_record.specs.Reading.{fields_of, file_ref_at, files_at}
 use Rattle.mesa_record.specs.Reading as reading
 use Rattle.mesa_commit.specs.mesa_disk.declared.area.Area.TheVariants.{Zero}
-use Rattle.mesa_image.specs.Catalog.{Catalog, Stock, empty_delta}
+use Rattle.mesa_image.specs.Catalog.{Stock, empty_delta}
 use Rattle.mesa_image.specs.Fitting.{fits, catalog_from}
 use Rattle.mesa_image.specs.Journaled.{catalog}
 use Rattle.mesa_image.proofs.Bodies.{half, word, long, wide, key, id_bytes, first_run, run_1, expire}

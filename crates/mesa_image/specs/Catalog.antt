@@ -3,14 +3,18 @@ use Rattle.std.specs.Prelude.{ℕ, ◌+◌, ◌-◌, List, [], ◌∷◌, ◌++�
 use Rattle.mesa_history.specs.mesa_schema.declared.changes.Change.{Change}
 use Rattle.mesa_history.specs.mesa_schema.Columns.{Columns, aggs_of}
 use Rattle.mesa_history.specs.mesa_schema.Changes.{Lineage, columns_of, with_change}
+use Rattle.mesa_history.specs.mesa_schema.Recasts.{Recast, recast_lineage}
 use Rattle.mesa_history.specs.mesa_schema.Views.{with_view}
-use Rattle.mesa_history.specs.mesa_batch.Totals.{sums_in, totals_after, totals_with}
+use Rattle.mesa_history.specs.mesa_batch.Totals.{sums_in, totals_after, totals_recast, totals_with}
 use Rattle.mesa_history.specs.mesa_span.declared.ranges.Ranges.{Ranges}
 use Rattle.mesa_history.specs.mesa_span.Ranges.{base_before, start_of}
 use Rattle.mesa_record.specs.declared.record.Record.{Record}
 use Rattle.mesa_record.specs.declared.record.Record.TheVariants as record_of
 use Rattle.mesa_record.specs.declared.record.Files.{Files}
 use Rattle.mesa_record.specs.declared.record.Part.{Part}
+use Rattle.mesa_record.specs.declared.checkpoint.StatedSingle.{StatedSingle}
+use Rattle.mesa_record.specs.declared.recasting.RecastBase.{RecastBase}
+use Rattle.mesa_record.specs.declared.recasting.Recasting.{Recasting}
 
 -- A delta: the epoch whose columns its rows have, its files, none where it has no rows, and for a singleton the absolute totals that were recorded for it.
 pub record Delta : Type 0 where
@@ -124,6 +128,44 @@ abbrev pub stock_swapped : Stock → Bool → ℕ → Delta → Stock
 stock_swapped t true to d = record t { base = Some (record { to = to; delta = d }); cumulatives = []; singles = drop (to + 1 - start_in t) t.singles }
 stock_swapped t false to d = record t { cumulatives = t.cumulatives ++ record { to = to; delta = d } ∷ [] }
 
+-- what is told of a version with rows
+abbrev pub single_stated : StatedSingle → Delta
+single_stated s = record { epoch = s.epoch; files = Some s.files; totals = Some s.totals }
+
+-- a singleton for each version from one on and below another: what is told of it, and a delta without rows where nothing is
+abbrev pub singles_stated : ℕ → ℕ → List StatedSingle → List Delta
+singles_stated from next [] = replicate (next - from) empty_delta
+singles_stated from next (s ∷ singles) = replicate (s.version - from) empty_delta ++ single_stated s ∷ singles_stated (s.version + 1) next singles
+
+-- the columns that a recast's record tells, by name and in this order
+abbrev pub recast_in : Recasting → Recast
+recast_in k = record { keys = k.keys; values = k.values }
+
+-- the base that it tells, which is of the new epoch
+abbrev pub base_recast : ℕ → RecastBase → Ending
+base_recast epoch b = record { to = b.to; delta = merged_delta epoch b.files }
+
+-- a table of other columns, with a base and singletons whose rows are grouped by them: the totals of kept sum columns stay, and the cumulatives go
+abbrev pub stock_renewed : Stock → Recast → Option Ending → List Delta → Stock
+stock_renewed t r base singles = record t {
+  lineage = recast_lineage t.lineage r;
+  totals = totals_recast (columns_of t.lineage) r t.totals;
+  base = base;
+  cumulatives = [];
+  singles = singles;
+}
+
+-- the base and the singletons of a table, where there were so many versions, as a recast's record tells them
+abbrev pub base_told : Recasting → Option Ending
+base_told k = option_map (base_recast k.epoch) k.base
+
+abbrev pub singles_told : ℕ → Stock → Recasting → List Delta
+singles_told next t k = singles_stated (start_in t) next k.singles
+
+-- a table that is recast
+abbrev pub stock_recast : ℕ → Stock → Recasting → Stock
+stock_recast next t k = stock_renewed t (recast_in k) (base_told k) (singles_told next t k)
+
 -- a table without versions below one
 abbrev pub stock_from : ℕ → Stock → Stock
 stock_from version t = record t { oldest = max t.oldest version }
@@ -139,3 +181,4 @@ applied c (record_of.Swap table base from to epoch files) = with_stock c table (
 applied c (record_of.Expire version) = record c { tables = map (stock_from version) c.tables; floor = version }
 applied c (record_of.ExpireTable table version) = with_stock c table (stock_from version (stock_at c table))
 applied c (record_of.Checkpoint k) = c
+applied c (record_of.Recast k) = with_stock c k.table (stock_recast c.next (stock_at c k.table) k)

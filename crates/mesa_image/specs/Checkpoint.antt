@@ -1,5 +1,5 @@
 -- A checkpoint: a catalogue as one record states it.
-use Rattle.std.specs.Prelude.{◌≡◌, ℕ, ◌+◌, ◌-◌, List, [], ◌∷◌, ◌++◌, map, replicate, Option, Some, None, option_map}
+use Rattle.std.specs.Prelude.{ℕ, ◌+◌, List, [], ◌∷◌, ◌++◌, map, Option, Some, None, option_map}
 use Rattle.mesa_history.specs.mesa_schema.Changes.{Lineage}
 use Rattle.mesa_history.specs.mesa_span.Ranges.{start_behind}
 use Rattle.mesa_record.specs.declared.record.Files.{Files}
@@ -9,20 +9,13 @@ use Rattle.mesa_record.specs.declared.checkpoint.StatedTable.{StatedTable}
 use Rattle.mesa_record.specs.declared.checkpoint.Checkpoint.{Checkpoint}
 use Rattle.mesa_record.specs.declared.record.Record.TheVariants as record_of
 use Rattle.mesa_record.specs.Spelling.{spelled}
-use Rattle.mesa_image.specs.Catalog.{Delta, Ending, Stock, Catalog, empty_delta, merged_delta, start_in}
+use Rattle.mesa_image.specs.Catalog.{Delta, Ending, Stock, Catalog, merged_delta, start_in}
+pub use Rattle.mesa_image.specs.Catalog.{single_stated, singles_stated}
 
 -- ---- what a checkpoint states
 
 abbrev pub range_stated : StatedRange → Ending
 range_stated r = record { to = r.to; delta = merged_delta r.epoch r.files }
-
-abbrev pub single_stated : StatedSingle → Delta
-single_stated s = record { epoch = s.epoch; files = Some s.files; totals = Some s.totals }
-
--- a singleton for each version from one on and below another: what is stated of it, and a delta without rows where nothing is
-abbrev pub singles_stated : ℕ → ℕ → List StatedSingle → List Delta
-singles_stated from next [] = replicate (next - from) empty_delta
-singles_stated from next (s ∷ singles) = replicate (s.version - from) empty_delta ++ single_stated s ∷ singles_stated (s.version + 1) next singles
 
 abbrev pub to_stated : StatedRange → ℕ
 to_stated r = r.to
@@ -33,7 +26,7 @@ start_stated t = start_behind (option_map to_stated t.base)
 
 -- a table's columns, which are stated from its first epoch on
 abbrev pub lineage_stated : StatedTable → Lineage
-lineage_stated t = record { begins = 0; first = record { keys = t.keys; values = t.values }; changes = t.changes; views = t.views }
+lineage_stated t = record { begins = t.begins; first = record { keys = t.keys; values = t.values }; changes = t.changes; views = t.views }
 
 abbrev pub stock_stated : ℕ → StatedTable → Stock
 stock_stated next t = record {
@@ -73,6 +66,7 @@ abbrev pub stating_table : Stock → StatedTable
 stating_table t = record {
   name = t.name;
   oldest = t.oldest;
+  begins = t.lineage.begins;
   keys = t.lineage.first.keys;
   values = t.lineage.first.values;
   changes = t.lineage.changes;

@@ -1,20 +1,20 @@
 -- Which checkpoints fit.
-use Rattle.std.specs.Prelude.{ℕ, ◌+◌, ◌%◌, List, [], ◌∷◌, map, length, flat_map, Bool, true, false, ◌&&◌, ◌||◌, ◌==◌, nat_le, nat_lt, is_ok, is_none, Option, Some, None}
+use Rattle.std.specs.Prelude.{ℕ, ◌+◌, ◌%◌, List, [], ◌∷◌, map, length, flat_map, Bool, true, ◌&&◌, ◌||◌, ◌==◌, nat_le, nat_lt, is_ok, is_none, Option, Some, None}
 use Rattle.std.specs.List.{list_all, count_by}
 use Rattle.mesa_history.specs.mesa_schema.declared.changes.Change.{Change}
 use Rattle.mesa_history.specs.mesa_schema.Names.{repeated}
-use Rattle.mesa_history.specs.mesa_schema.Columns.{Columns, aggs_of}
+use Rattle.mesa_history.specs.mesa_schema.Columns.{Columns}
 use Rattle.mesa_history.specs.mesa_schema.Schema.{is_schema}
 use Rattle.mesa_history.specs.mesa_schema.Changes.{Lineage, changed, columns_at, columns_of, epoch_of, max_changes, rule_checked}
 use Rattle.mesa_history.specs.mesa_schema.Views.{max_views}
 use Rattle.mesa_history.specs.mesa_schema.Lineages.{is_view_of}
-use Rattle.mesa_history.specs.mesa_batch.Totals.{sum_bound, sums_in}
 use Rattle.mesa_commit.specs.mesa_disk.declared.area.Area.{Area}
 use Rattle.mesa_commit.specs.mesa_disk.declared.area.Area.TheVariants.{Zero, One}
 use Rattle.mesa_history.specs.mesa_model.Warehouse.{max_tables, max_versions}
 use Rattle.mesa_record.specs.declared.record.Files.{Files}
 use Rattle.mesa_image.specs.Catalog.{Catalog}
-use Rattle.mesa_image.specs.Fitting.{files_fit_if_any, max_runs, names_in, run_of_id, shelved, shelved_id}
+use Rattle.mesa_image.specs.Fitting.{files_fit_if_any, has_epoch, max_runs, names_in, run_of_id, shelved, shelved_id}
+pub use Rattle.mesa_image.specs.Fitting.{totals_fit}
 use Rattle.mesa_record.specs.declared.checkpoint.StatedRange.{StatedRange}
 use Rattle.mesa_record.specs.declared.checkpoint.StatedSingle.{StatedSingle}
 use Rattle.mesa_record.specs.declared.checkpoint.StatedTable.{StatedTable}
@@ -37,9 +37,9 @@ lineage_fits l = is_schema l.first && changes_pass l.first l.changes && nat_le (
 
 -- ---- its deltas
 
--- the epoch is one that the table has had, and files count its columns
+-- the epoch is one that the table has had since it was made or recast, and files count its columns
 abbrev pub delta_fits : Lineage → ℕ → Option Files → Bool
-delta_fits l epoch files = nat_le epoch (epoch_of l) && files_fit_if_any l epoch files
+delta_fits l epoch files = has_epoch l epoch && files_fit_if_any l epoch files
 
 abbrev pub range_fits : Lineage → ℕ → StatedRange → Bool
 range_fits l next r = nat_lt r.to next && delta_fits l r.epoch r.files
@@ -58,10 +58,6 @@ are_tens start (r ∷ rs) = (r.to == start + 9) && are_tens (start + 10) rs
 abbrev pub are_singles : ℕ → ℕ → List StatedSingle → Bool
 are_singles from next [] = true
 are_singles from next (s ∷ singles) = nat_le from s.version && nat_lt s.version next && are_singles (s.version + 1) next singles
-
--- totals for the sum columns of some columns, none past 2^127 - 1
-abbrev pub totals_fit : Columns → List ℕ → Bool
-totals_fit s totals = (length totals == sums_in (aggs_of s)) && list_all (λ total. nat_lt total sum_bound) totals
 
 -- a singleton has the totals of the columns of its epoch
 abbrev pub single_fits : Lineage → StatedSingle → Bool

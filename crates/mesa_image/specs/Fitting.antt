@@ -7,8 +7,9 @@ use Rattle.mesa_history.specs.mesa_schema.Names.{has_name}
 use Rattle.mesa_history.specs.mesa_schema.Columns.{Columns, aggs_of}
 use Rattle.mesa_history.specs.mesa_schema.Schema.{is_schema}
 use Rattle.mesa_history.specs.mesa_schema.Changes.{Lineage, columns_at, columns_of, epoch_of, change_checked}
+use Rattle.mesa_history.specs.mesa_schema.Recasts.{recast_checked, recast_lineage}
 use Rattle.mesa_history.specs.mesa_schema.Views.{max_views, view_checked, view_columns}
-use Rattle.mesa_history.specs.mesa_batch.Totals.{over_bound, sums_in}
+use Rattle.mesa_history.specs.mesa_batch.Totals.{over_bound, sum_bound, sums_in}
 use Rattle.mesa_history.specs.mesa_file.declared.file_ref.FileRef.{FileRef}
 use Rattle.mesa_history.specs.mesa_span.declared.ranges.Ranges.{Ranges}
 use Rattle.mesa_history.specs.mesa_span.Ranges.{base_before, start_of}
@@ -19,9 +20,14 @@ use Rattle.mesa_record.specs.declared.record.Record.TheVariants as record_of
 use Rattle.mesa_record.specs.declared.record.ViewRef.{ViewRef}
 use Rattle.mesa_record.specs.declared.record.Files.{Files}
 use Rattle.mesa_record.specs.declared.record.Part.{Part}
+use Rattle.mesa_record.specs.declared.checkpoint.StatedSingle.{StatedSingle}
+use Rattle.mesa_record.specs.declared.recasting.RecastBase.{RecastBase}
+use Rattle.mesa_record.specs.declared.recasting.Recasting.{Recasting}
 use Rattle.mesa_record.specs.declared.error.RecordError.{RecordError}
 use Rattle.mesa_record.specs.Reading.{record_at}
-use Rattle.mesa_image.specs.Catalog.{Delta, Ending, Stock, Catalog, empty_catalog, ranges_of, stock_at, applied}
+use Rattle.mesa_image.specs.Catalog.{Delta, Ending, Stock, Catalog, base_told, ranges_of, recast_in, singles_told, start_in, stock_at, applied}
+use Rattle.mesa_image.specs.Checkpoint.{stating_singles}
+use Rattle.mesa_image.specs.SameFiles.{same_views}
 
 -- ---- names of relations, and numbers of tables
 
@@ -84,6 +90,18 @@ shelved c = flat_map stock_shelved c.tables
 abbrev pub shelved_id : Shelved → ℕ
 shelved_id x = x.file.id
 
+-- a delta's own file under the columns of its epoch, without its views'
+abbrev pub own_shelved : Lineage → ℕ → Option Files → List Shelved
+own_shelved l epoch None = []
+own_shelved l epoch (Some f) = record { columns = columns_at l epoch; file = f.file } ∷ []
+
+abbrev pub delta_own : Lineage → Delta → List Shelved
+delta_own l d = own_shelved l d.epoch d.files
+
+-- the files that a recast brings: the table's own, since view files are named again as they are
+abbrev pub recast_shelved : Catalog → Recasting → List Shelved
+recast_shelved c k = flat_map (delta_own (recast_lineage (stock_at c k.table).lineage (recast_in k))) (base_deltas (base_told k) ++ singles_told c.next (stock_at c k.table) k)
+
 -- the files that a batch brings to a table
 abbrev pub part_shelved : Catalog → Part → List Shelved
 part_shelved c p = files_shelved (stock_at c p.table).lineage p.epoch (Some p.files)
@@ -92,6 +110,7 @@ part_shelved c p = files_shelved (stock_at c p.table).lineage p.epoch (Some p.fi
 abbrev pub brought : Catalog → Record → List Shelved
 brought c (record_of.Publish version parts) = flat_map (part_shelved c) parts
 brought c (record_of.Swap table base from to epoch files) = files_shelved (stock_at c table).lineage epoch files
+brought c (record_of.Recast k) = recast_shelved c k
 brought c r = []
 
 -- ---- new ids
@@ -135,6 +154,14 @@ files_fit l epoch f = counts_columns (columns_at l epoch) f.file && list_all (is
 abbrev pub files_fit_if_any : Lineage → ℕ → Option Files → Bool
 files_fit_if_any l epoch None = true
 files_fit_if_any l epoch (Some f) = files_fit l epoch f
+
+-- totals for the sum columns of some columns, none past 2^127 - 1
+abbrev pub totals_fit : Columns → List ℕ → Bool
+totals_fit s totals = (length totals == sums_in (aggs_of s)) && list_all (λ total. nat_lt total sum_bound) totals
+
+-- an epoch that a table has had since it was made or recast
+abbrev pub has_epoch : Lineage → ℕ → Bool
+has_epoch l epoch = nat_le l.begins epoch && nat_le epoch (epoch_of l)
 
 -- ---- the rules of each kind
 
@@ -188,9 +215,42 @@ abbrev pub may_be_work : Catalog → Stock → Bool → ℕ → ℕ → Bool
 may_be_work c t true from to = may_be_base (ranges_of t) t.oldest from to
 may_be_work c t false from to = may_be_cumulative (ranges_of t) c.next from to
 
--- a merged range is one that work may give, of an epoch that its table has had, with files that count its columns
+-- a merged range is one that work may give, of an epoch that its table has had since it was made or recast, with files that count its columns
 abbrev pub swap_fits : Catalog → Stock → Bool → ℕ → ℕ → ℕ → Option Files → Bool
-swap_fits c t base from to epoch files = may_be_work c t base from to && nat_le epoch (epoch_of t.lineage) && files_fit_if_any t.lineage epoch files
+swap_fits c t base from to epoch files = may_be_work c t base from to && has_epoch t.lineage epoch && files_fit_if_any t.lineage epoch files
+
+-- Files take the place of others, of columns that begin with this epoch: there are some where there were some, they count the columns, and the view files are those that were there.
+abbrev pub files_renewed : Lineage → ℕ → Option Files → Option Files → Bool
+files_renewed l epoch None None = true
+files_renewed l epoch None (Some new) = false
+files_renewed l epoch (Some old) None = false
+files_renewed l epoch (Some old) (Some new) = same_views old.views new.views && files_fit l epoch new
+
+-- a base takes the place of a base with the same end
+abbrev pub base_renewed : Lineage → ℕ → Option Ending → Option RecastBase → Bool
+base_renewed l epoch None None = true
+base_renewed l epoch None (Some b) = false
+base_renewed l epoch (Some e) None = false
+base_renewed l epoch (Some e) (Some b) = (e.to == b.to) && files_renewed l epoch e.delta.files b.files
+
+-- a singleton takes the place of one of the same version, and has a total for each sum column of the new columns
+abbrev pub single_renewed : Lineage → ℕ → StatedSingle → StatedSingle → Bool
+single_renewed l epoch old new = (old.version == new.version) && (new.epoch == epoch) && files_renewed l epoch (Some old.files) (Some new.files) && totals_fit (columns_at l epoch) new.totals
+
+-- singletons with rows take the places of singletons with rows, one of each
+abbrev pub singles_renewed : Lineage → ℕ → List StatedSingle → List StatedSingle → Bool
+singles_renewed l epoch [] [] = true
+singles_renewed l epoch [] (new ∷ news) = false
+singles_renewed l epoch (old ∷ olds) [] = false
+singles_renewed l epoch (old ∷ olds) (new ∷ news) = single_renewed l epoch old new && singles_renewed l epoch olds news
+
+-- the ranges of a recast are a table's base and its singletons with rows
+abbrev pub ranges_renewed : Lineage → Stock → Recasting → Bool
+ranges_renewed l t k = base_renewed l k.epoch t.base k.base && singles_renewed l k.epoch (stating_singles (start_in t) t.singles) k.singles
+
+-- a recast passes the rules of recasts, begins the next epoch, and tells all ranges of its table
+abbrev pub recast_fits : Stock → Recasting → Bool
+recast_fits t k = is_ok (recast_checked t.lineage (recast_in k)) && (k.epoch == epoch_of t.lineage + 1) && ranges_renewed (recast_lineage t.lineage (recast_in k)) t k
 
 -- a version from this one to the newest
 abbrev pub expire_fits : Catalog → ℕ → ℕ → Bool
@@ -207,6 +267,7 @@ kind_fits c (record_of.Swap table base from to epoch files) = is_there c table &
 kind_fits c (record_of.Expire version) = expire_fits c c.floor version
 kind_fits c (record_of.ExpireTable table version) = is_there c table && expire_fits c (stock_at c table).oldest version
 kind_fits c (record_of.Checkpoint k) = false
+kind_fits c (record_of.Recast k) = is_there c k.table && recast_fits (stock_at c k.table) k
 
 -- A record fits what stands before it: it keeps the rules of its kind, and its files are new.
 unfoldable pub fits : Catalog → Record → Bool

@@ -7,8 +7,9 @@ pub use Rattle.mesa_history.specs.mesa_model as mesa_model
 pub use Rattle.mesa_record.specs as mesa_record
 pub use Rattle.mesa_history.specs.mesa_span as mesa_span
 pub mod Catalog
-pub mod Fitting
 pub mod Checkpoint
+pub mod SameFiles
+pub mod Fitting
 pub mod CheckpointFits
 pub mod Journaled
 pub mod Contents

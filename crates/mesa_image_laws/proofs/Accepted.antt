@@ -1,4 +1,4 @@
--- A batch that is read by a catalogue's tables may be accepted as its next version.
+-- A batch that is read by a catalogue's tables may be accepted.
 use Rattle.std.proofs.Common.{◌≡◌, ℕ, suc, ◌+◌, ◌<◌, ◌≤◌, List, [], ◌∷◌, ◌++◌, map, filter, length, Option, Some, None, Result, Ok, Err, true, false, cond, ◌==◌, refl, sym, ◌∙◌, ap, subst, arith, slice_index_or}
 use Rattle.std.specs.Prelude.{position}
 use Rattle.std.specs.Option.{ok_or}
@@ -16,7 +16,7 @@ use Rattle.mesa_fold.specs.mesa_batch.declared.words.RowWords.{RowWords}
 use Rattle.mesa_fold.specs.mesa_batch.Batch.{Named, Placed, batch_from, batch_of, columns_at, is_at, placed_of, refuse_twice, row_of, rows_for}
 use Rattle.mesa_fold.proofs.mesa_batch.RowForms.{batch_forms}
 use Rattle.mesa_image.specs.Catalog.{Catalog, Stock, no_stock}
-use Rattle.mesa_image_laws.specs.Sourced.{AreFormed, IsAccepted, epoch_in, tables_read}
+use Rattle.mesa_image_laws.specs.Sourced.{AreFormed, IsAccepted, tables_read}
 use Rattle.mesa_image_laws.proofs.Views.{map_within}
 
 bound : {A B E : Type 0} (r : Result A E) (f : A → Result B E) (y : B) → (r >>= f) ≡ Ok y → (x : A) × (r ≡ Ok x) × (f x ≡ Ok y)
@@ -82,11 +82,9 @@ all_formed c words batch h number (t ∷ tables) at =
           (subst (λ n. n < length c.tables) f there.0, ap (λ n. slice_index_or c.tables n no_stock) (sym f) ∙ there.1))),
     )
 
--- A batch that was read by a catalogue's tables may be its next version.
-pub read_accepted : (c : Catalog) (words : List RowWords) (batch : List Placed) → batch_of (tables_read c) words ≡ Ok batch → IsAccepted c (record { version = c.next; batch = batch; epochs = map epoch_in c.tables })
+-- A batch that was read by a catalogue's tables may be accepted.
+pub read_accepted : (c : Catalog) (words : List RowWords) (batch : List Placed) → batch_of (tables_read c) words ≡ Ok batch → IsAccepted c batch
 read_accepted c words batch h = record {
-  version = refl;
-  epochs = refl;
   formed = all_formed c words batch h 0 c.tables (λ i lt. (let e : i ≡ 0 + i = omega arith in (subst (λ n. n < length c.tables) e lt, ap (λ n. slice_index_or c.tables n no_stock) (sym e))));
   within = λ number le. none_for (length (tables_read c)) number batch (let same = length-map c.tables (λ (t : Stock). let n : Named = record { name = t.name; columns = columns_of t.lineage } in n) in omega (arith, le, same)) (all_there (tables_read c) [] words batch tt h);
 }

@@ -1,6 +1,7 @@
 -- What each table of a catalogue was made of, after each record.
-use Rattle.std.proofs.Common.{◌≡◌, inl, inr, ℕ, zero, suc, ◌+◌, ◌<◌, ◌≤◌, List, [], ◌∷◌, ◌++◌, map, length, Option, Some, None, Bool, true, false, ◌&&◌, ◌==◌, nat_le, refl, sym, ◌∙◌, ap, subst, arith, slice_index_or, slice_set, length-append, append_assoc}
-use Rattle.std.proofs.lemmas.List.{length-map, map-append}
+use Rattle.std.proofs.Common.{◌≡◌, inl, inr, ℕ, zero, suc, ◌+◌, ◌<◌, ◌≤◌, List, [], ◌∷◌, ◌++◌, map, length, Option, Some, None, Bool, true, false, ◌&&◌, ◌==◌, cond, nat_le, refl, sym, ◌∙◌, ap, subst, arith, slice_index_or, slice_set, length-append}
+use Rattle.std.proofs.lemmas.Bool.{eq-eqb, ne_eqb}
+use Rattle.std.proofs.lemmas.List.{length-map}
 use Rattle.std.specs.Prelude.{IfSome}
 use Rattle.std.specs.List.{AllByRecursion}
 use Rattle.mesa_fold.specs.mesa_schema.declared.changes.Change.{Change}
@@ -14,19 +15,23 @@ use Rattle.mesa_fold.specs.mesa_schema.Changes.{Lineage, columns_at, columns_of,
 use Rattle.mesa_fold.specs.mesa_schema.Folded.{folded}
 use Rattle.mesa_fold.specs.mesa_schema.Rows.{AreRowsOf}
 use Rattle.mesa_fold.specs.mesa_batch.Batch.{rows_for}
-use Rattle.mesa_image.specs.mesa_history.Law.{Accepted}
-use Rattle.mesa_image.specs.mesa_history.Sources.{Source, range_rows}
+use Rattle.mesa_fold.specs.mesa_batch.Batch.{Placed}
+use Rattle.mesa_fold.proofs.mesa_schema.LineageRecasts.{recast_allowed}
+use Rattle.mesa_image.specs.mesa_history.Law.{Accepts, Regroups, batch_written}
+use Rattle.mesa_image.specs.mesa_history.Sources.{Source, Written, range_rows, sources_from, written_recast}
+use Rattle.mesa_image.specs.mesa_model.Warehouse.{Table, table_at}
+use Rattle.mesa_image.specs.mesa_record.declared.recasting.Recasting.{Recasting}
 use Rattle.mesa_image.specs.mesa_record.declared.record.Files.{Files}
 use Rattle.mesa_image.specs.mesa_record.declared.record.Part.{Part}
 use Rattle.mesa_image.specs.mesa_record.declared.record.Record.TheVariants as record_of
 use Rattle.mesa_image.specs.mesa_record.Rules.{IsTypedChange}
-use Rattle.mesa_image.specs.Catalog.{Catalog, Delta, Ending, Stock, applied, merged_delta, new_stock, no_stock, part_of, ranges_of, start_in, stock_at, stock_changed, stock_from, stock_loaded, stock_swapped, stock_viewed, stocks_loaded}
-use Rattle.mesa_image.specs.Fitting.{base_deltas, delta_in, expire_fits, files_fit_if_any, fits, is_number, is_there, may_be_work, shelved, stock_shelved, swap_fits}
-use Rattle.mesa_image.specs.Contents.{Rows, content, present}
+use Rattle.mesa_image.specs.Catalog.{Catalog, Delta, Ending, Stock, applied, base_told, merged_delta, new_stock, no_stock, part_of, ranges_of, recast_in, singles_told, start_in, stock_at, stock_changed, stock_from, stock_loaded, stock_recast, stock_swapped, stock_viewed, stocks_loaded}
+use Rattle.mesa_image.specs.Fitting.{base_deltas, delta_in, expire_fits, files_fit_if_any, fits, has_epoch, is_number, is_there, kind_fits, may_be_work, shelved, stock_shelved, swap_fits}
+use Rattle.mesa_image.specs.Contents.{Rows, content, kept_of, present}
 use Rattle.mesa_image.specs.Sound.{AreStocked, IsStocked}
 use Rattle.mesa_image.specs.Shape.{IsCatalog, IsShaped}
-use Rattle.mesa_image_laws.specs.Brought.{BringsAll, BringsIfAny, Replaces, merged_of}
-use Rattle.mesa_image_laws.specs.Sourced.{all_written, AreFormed, AreMadeOf, AreSourced, AreToCome, HasForm, HasSources, IsAccepted, IsMadeOf, IsMergedOf, IsSourced, IsUnwritten, Written, batch_written, epoch_in, found_written, sources_from, written_with}
+use Rattle.mesa_image_laws.specs.Brought.{AreTold, BringsAll, BringsIfAny, BringsRecast, Replaces, merged_of}
+use Rattle.mesa_image_laws.specs.Sourced.{AreFormed, AreMadeOf, AreSourced, AreToCome, HasForm, HasSources, IsAccepted, IsMadeOf, IsMergedOf, IsSourced, IsUnwritten, found_written, written_behind}
 use Rattle.mesa_image_laws.proofs.Lists.{all_unflat, both_true, is_at_most, is_equal, is_less, stock_found}
 use Rattle.mesa_image_laws.proofs.ShapedBatches.{length_loaded, missing_behind, missing_there, number_is}
 use Rattle.mesa_image_laws.proofs.ShapedTables.{length_set}
@@ -38,7 +43,10 @@ use Rattle.mesa_image_laws.proofs.Moving.{kind_of, view_there}
 use Rattle.mesa_image_laws.proofs.Lifted.{columns_now}
 use Rattle.mesa_image_laws.proofs.Sourcing.{altered_sourced, content_made, first, forms_from, loaded_sourced, made_replaces, merge_made, merged_made, swapped_sourced, viewed_sourced}
 use Rattle.mesa_image_laws.proofs.Agreeing.{Agrees, Same, SameStock, bases, merged_deltas, same_present, singles}
-use Rattle.mesa_image_laws.proofs.Views.{map_within}
+use Rattle.mesa_image_laws.proofs.RecastKept.{recast_brought}
+use Rattle.mesa_image_laws.proofs.RecastSourced.{recast_sourced}
+use Rattle.mesa_image_laws.proofs.ShapedRecasts.{recast_its, recast_shape, recast_there}
+use Rattle.mesa_image_laws.proofs.Views.{kept_at, kept_past}
 
 module _ (rows : Rows) (written : ℕ → List Written) where
   -- one of the tables
@@ -107,7 +115,7 @@ module _ (rows : Rows) (written : ℕ → List Written) (c : Catalog) (has : Has
       }
 
 module _ (rows : Rows) (written : ℕ → List Written) (c : Catalog) (is : IsCatalog c) (has : HasSources rows written c) where
-  own : (table : ℕ) → table < length c.tables → IsSourced rows (written table) (stock_at c table)
+  pub own : (table : ℕ) → table < length c.tables → IsSourced rows (written table) (stock_at c table)
   own table lt = (let e : 0 + table ≡ table = omega arith in subst (λ k. IsSourced rows (written k) (stock_at c table)) e (sourced_at rows written 0 c.tables table lt has.tables))
 
   -- one table in the place of another
@@ -156,7 +164,7 @@ module _ (rows : Rows) (written : ℕ → List Written) (c : Catalog) (is : IsCa
     swap_work =
         let t = stock_at c table in
         let all = (both_true (is_there c table) (swap_fits c t base from to epoch files) swap_kind).1 in
-        (both_true (may_be_work c t base from to) (nat_le epoch (epoch_of t.lineage)) (both_true (may_be_work c t base from to && nat_le epoch (epoch_of t.lineage)) (files_fit_if_any t.lineage epoch files) all).0).0
+        (both_true (may_be_work c t base from to) (has_epoch t.lineage epoch) (both_true (may_be_work c t base from to && has_epoch t.lineage epoch) (files_fit_if_any t.lineage epoch files) all).0).0
 
     swap_range : (from ≡ first rows (written table) (stock_at c table) (own table swap_table) base) × (start_in (stock_at c table) ≤ to + 1) × (to + 1 ≤ start_in (stock_at c table) + length (stock_at c table).singles)
     swap_range = work_range rows c (stock_at c table) base from to is swap_shaped swap_work (written table) (own table swap_table)
@@ -176,56 +184,97 @@ module _ (rows : Rows) (written : ℕ → List Written) (c : Catalog) (is : IsCa
 
   -- ---- a batch
 
-  module _ (parts : List Part) (a : Accepted) (accepted : IsAccepted c a) where
-    epoch_at : (number : ℕ) → number < length c.tables → slice_index_or a.epochs number 0 ≡ epoch_of (stock_at c number).lineage
-    epoch_at number lt = ap (λ (es : List ℕ). slice_index_or es number 0) accepted.epochs ∙ map_within epoch_in c.tables number 0 no_stock lt
+  module _ (parts : List Part) (batch : List Placed) (accepted : IsAccepted c batch) where
+    -- what it writes of the table of a number
+    abbrev its_written : ℕ → Written
+    its_written number = batch_written (kept_of rows c).store c.next batch number
 
-    epoch_past : (number : ℕ) → length c.tables ≤ number → slice_index_or a.epochs number 0 ≡ 0
-    epoch_past number le = ap (λ (es : List ℕ). slice_index_or es number 0) accepted.epochs ∙ past (map epoch_in c.tables) number (let same = length-map c.tables epoch_in in omega (arith, le, same))
-      where
-        past : (ns : List ℕ) (i : ℕ) → length ns ≤ i → slice_index_or ns i 0 ≡ 0
-        past [] i le = refl
-        past (n ∷ ns) zero le = absurd (omega (arith, le))
-        past (n ∷ ns) (suc i) le = past ns i (omega (arith, le))
-
-    loaded_one : (number : ℕ) (t : Stock) → IsShaped c.floor c.next t → IsSourced rows (written number) t → BringsIfAny rows t (part_of number parts) (rows_for number a.batch) → AreRowsOf (columns_of t.lineage) (rows_for number a.batch)
-        → slice_index_or a.epochs number 0 ≡ epoch_of t.lineage → IsSourced rows (written_with written a number) (stock_loaded t (part_of number parts))
+    loaded_one : (number : ℕ) (t : Stock) → IsShaped c.floor c.next t → IsSourced rows (written number) t → BringsIfAny rows t (part_of number parts) (rows_for number batch) → AreRowsOf (columns_of t.lineage) (rows_for number batch)
+        → epoch_of (table_at (kept_of rows c).store number).lineage ≡ epoch_of t.lineage → IsSourced rows (written_behind rows c (Accepts c.next batch) written number) (stock_loaded t (part_of number parts))
     loaded_one number t shaped sourced brings form epoch =
-        let w = batch_written number a in
+        let w = its_written number in
         let whole = shaped.singles in
         let columns : columns_of t.lineage ≡ columns_at t.lineage w.source.epoch = sym (ap (columns_at t.lineage) epoch ∙ columns_now t.lineage) in
         loaded_sourced rows (written number) t (part_of number parts) w sourced brings
-        (record { epoch = omega (arith, epoch); form = subst (λ s. AreRowsOf s w.source.rows) columns form }) epoch (accepted.version ∙ sym whole)
+        (record { epoch = omega (arith, epoch); form = subst (λ s. AreRowsOf s w.source.rows) columns form }) epoch (sym whole)
         (all_so (λ (e : Ending). e.to < c.next) (λ (e : Ending). e.to < start_in t + length t.singles) t.cumulatives (λ e lt. (let le : e.to < start_in t + length t.singles = omega (arith, lt, whole) in le)) shaped.ends)
 
-    loaded_all : (number : ℕ) (tables : List Stock) → ((i : ℕ) → i < length tables → slice_index_or a.epochs (number + i) 0 ≡ epoch_of (slice_index_or tables i no_stock).lineage)
-        → AllByRecursion (IsShaped c.floor c.next) tables → AreSourced rows written number tables → BringsAll rows parts a.batch number tables → AreFormed a.batch number tables
-        → AreSourced rows (written_with written a) number (stocks_loaded parts number tables)
+    loaded_all : (number : ℕ) (tables : List Stock) → ((i : ℕ) → i < length tables → epoch_of (table_at (kept_of rows c).store (number + i)).lineage ≡ epoch_of (slice_index_or tables i no_stock).lineage)
+        → AllByRecursion (IsShaped c.floor c.next) tables → AreSourced rows written number tables → BringsAll rows parts batch number tables → AreFormed batch number tables
+        → AreSourced rows (written_behind rows c (Accepts c.next batch) written) number (stocks_loaded parts number tables)
     loaded_all number [] at shaped all brings forms = tt
     loaded_all number (t ∷ tables) at shaped all brings forms = (
-      loaded_one number t shaped.0 all.0 brings.0 forms.0 (let e : number ≡ number + 0 = omega arith in ap (λ n. slice_index_or a.epochs n 0) e ∙ at 0 (omega arith)),
-      loaded_all (number + 1) tables (λ i lt. (let e : number + 1 + i ≡ number + suc i = omega arith in ap (λ n. slice_index_or a.epochs n 0) e ∙ at (suc i) (omega (arith, lt)))) shaped.1 all.1 brings.1 forms.1,
+      loaded_one number t shaped.0 all.0 brings.0 forms.0 (let e : number ≡ number + 0 = omega arith in ap (λ n. epoch_of (table_at (kept_of rows c).store n).lineage) e ∙ at 0 (omega arith)),
+      loaded_all (number + 1) tables (λ i lt. (let e : number + 1 + i ≡ number + suc i = omega arith in ap (λ n. epoch_of (table_at (kept_of rows c).store n).lineage) e ∙ at (suc i) (omega (arith, lt)))) shaped.1 all.1 brings.1 forms.1,
     )
 
-    still_to_come : (number : ℕ) → length c.tables ≤ number → AreToCome (c.next + 1) (written_with written a number)
+    still_to_come : (number : ℕ) → length c.tables ≤ number → AreToCome (c.next + 1) (written_behind rows c (Accepts c.next batch) written number)
     still_to_come number le =
         let come = has.others number le in
-        let w = batch_written number a in
-        let version = accepted.version in
-        let below = subst (λ n. AllByRecursion (λ (x : Written). x.version < n) (written number)) (sym accepted.version) come.there in
+        let w = its_written number in
+        let first : w.source.epoch ≡ 0 = ap (λ (t : Table). epoch_of t.lineage) (kept_past rows c number le) in
         record {
-          nothing = all_append IsUnwritten (written number) (w ∷ []) come.nothing ((epoch_past number le, accepted.within number le), tt);
-          rise = rise_push 0 (written number) w come.rise below (omega arith);
+          nothing = all_append IsUnwritten (written number) (w ∷ []) come.nothing ((first, accepted.within number le), tt);
+          rise = rise_push 0 (written number) w come.rise come.there (omega arith);
           there = all_append (λ (x : Written). x.version < c.next + 1) (written number) (w ∷ [])
               (all_so (λ (x : Written). x.version < c.next) (λ (x : Written). x.version < c.next + 1) (written number) (λ x lt. (let e : x.version < c.next + 1 = omega (arith, lt) in e)) come.there)
-              ((let e : w.version < c.next + 1 = omega (arith, version) in e), tt);
+              ((let e : w.version < c.next + 1 = omega arith in e), tt);
         }
 
-    pub publish_sourced : (version : ℕ) → BringsAll rows parts a.batch 0 c.tables → HasSources rows (written_with written a) (applied c (record_of.Publish version parts))
+    pub publish_sourced : (version : ℕ) → BringsAll rows parts batch 0 c.tables → HasSources rows (written_behind rows c (Accepts c.next batch) written) (applied c (record_of.Publish version parts))
     publish_sourced version brings = record {
-      tables = loaded_all 0 c.tables (λ i lt. (let e : 0 + i ≡ i = omega arith in ap (λ n. slice_index_or a.epochs n 0) e ∙ epoch_at i lt)) is.tables has.tables brings accepted.formed;
+      tables = loaded_all 0 c.tables (λ i lt. (let e : 0 + i ≡ i = omega arith in ap (λ n. epoch_of (table_at (kept_of rows c).store n).lineage) e ∙ ap (λ (t : Table). epoch_of t.lineage) (kept_at rows c i lt))) is.tables has.tables brings accepted.formed;
       others = λ number le. still_to_come number (let same = length_loaded parts 0 c.tables in omega (arith, le, same));
     }
+
+  -- ---- a recast
+
+  -- the table is made of what was written of it, regrouped; of others nothing changes
+  module _ (k : Recasting) (fit : kind_fits c (record_of.Recast k) ≡ true) (told : AreTold rows c (record_of.Recast k)) (brings : BringsRecast rows c.next (stock_at c k.table) k) where
+    its_there : k.table < length c.tables
+    its_there = recast_there c k is fit
+
+    later_here : written_behind rows c (Regroups k.table (recast_in k)) written k.table ≡ map (written_recast (stock_at c k.table).lineage (recast_in k)) (written k.table)
+    later_here =
+        ap (λ b. cond b (map (written_recast (table_at (kept_of rows c).store k.table).lineage (recast_in k)) (written k.table)) (written k.table)) (eq-eqb k.table k.table refl)
+        ∙ ap (λ (t : Table). map (written_recast t.lineage (recast_in k)) (written k.table)) (kept_at rows c k.table its_there)
+
+    later_else : (number : ℕ) → (k.table ≡ number → ⊥) → written_behind rows c (Regroups k.table (recast_in k)) written number ≡ written number
+    later_else number other = ap (λ b. cond b (map (written_recast (table_at (kept_of rows c).store number).lineage (recast_in k)) (written number)) (written number)) (ne_eqb k.table number other)
+
+    -- the tables behind it
+    tables_behind : (number : ℕ) (tables : List Stock) → k.table < number → AreSourced rows written number tables → AreSourced rows (written_behind rows c (Regroups k.table (recast_in k)) written) number tables
+    tables_behind number [] lt all = tt
+    tables_behind number (x ∷ tables) lt all = (
+      subst (λ ws. IsSourced rows ws x) (sym (later_else number (λ same. omega (arith, same, lt)))) all.0,
+      tables_behind (number + 1) tables (omega (arith, lt)) all.1,
+    )
+
+    tables_round : (number : ℕ) (tables : List Stock) (n : ℕ) (u : Stock) → number + n ≡ k.table → IsSourced rows (written_behind rows c (Regroups k.table (recast_in k)) written k.table) u → AreSourced rows written number tables
+        → AreSourced rows (written_behind rows c (Regroups k.table (recast_in k)) written) number (slice_set tables n u)
+    tables_round number [] n u at its all = tt
+    tables_round number (x ∷ tables) zero u at its all = (
+      (let e : k.table ≡ number = omega (arith, at) in subst (λ m. IsSourced rows (written_behind rows c (Regroups k.table (recast_in k)) written m) u) e its),
+      tables_behind (number + 1) tables (omega (arith, at)) all.1,
+    )
+    tables_round number (x ∷ tables) (suc n) u at its all = (
+      subst (λ ws. IsSourced rows ws x) (sym (later_else number (λ same. omega (arith, same, at)))) all.0,
+      tables_round (number + 1) tables n u (omega (arith, at)) its all.1,
+    )
+
+    pub recast_sources : HasSources rows (written_behind rows c (Regroups k.table (recast_in k)) written) (applied c (record_of.Recast k))
+    recast_sources =
+        let t = stock_at c k.table in
+        let u = stock_recast c.next t k in
+        let shaped = recast_shape c k is fit in
+        let rules = (recast_allowed t.lineage (recast_in k) (recast_its c k is fit).checked).rules in
+        let made = recast_sourced rows c.floor c.next (written k.table) t (recast_in k) (base_told k) (singles_told c.next t k) shaped (own k.table its_there) rules (recast_brought c k is fit rows told brings) in
+        record {
+          tables = tables_round 0 c.tables k.table u (omega arith) (subst (λ ws. IsSourced rows ws u) (sym later_here) made) has.tables;
+          others = λ number le.
+              let most : length c.tables ≤ number = (let same = length_set c.tables k.table u in omega (arith, le, same)) in
+              subst (AreToCome c.next) (sym (later_else number (λ same. (let lt = its_there in omega (arith, same, most, lt))))) (has.others number most);
+        }
 
 -- ---- the start
 
@@ -317,8 +366,3 @@ module _ (rows : Rows) (written : ℕ → List Written) (c : Catalog) (is : IsCa
   -- What was merged in its own epoch is made of its range at present.
   pub merge_written : (from to : ℕ) (d : Delta) → IsMergedOf rows (stock_at c table).lineage (written table) from to d → IsMadeOf rows (stock_at c table).lineage (written table) from to d
   merge_written from to d m = merge_made rows (written table) (stock_at c table) its from to d shaped.lineage m
-
--- What is written once a batch more is accepted.
-pub written_more : (found : ℕ → List Written) (accepted : List Accepted) (a : Accepted) → written_with (all_written found accepted) a ≡ all_written found (accepted ++ a ∷ [])
-written_more found accepted a = λ i number.
-    (append_assoc (found number) (map (batch_written number) accepted) (batch_written number a ∷ []) ∙ ap (λ ws. found number ++ ws) (sym (map-append (batch_written number) accepted (a ∷ [])))) i

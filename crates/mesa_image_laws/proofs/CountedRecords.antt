@@ -26,8 +26,8 @@ use Rattle.mesa_image.specs.mesa_record.declared.record.Part.{Part}
 use Rattle.mesa_image.specs.mesa_record.declared.record.ViewRef.{ViewRef}
 use Rattle.mesa_image.specs.mesa_record.declared.record.Record.{Record}
 use Rattle.mesa_image.specs.mesa_record.declared.record.Record.TheVariants as record_of
-use Rattle.mesa_image.specs.Catalog.{Delta, Stock, Catalog, empty_base, empty_delta, merged_delta, new_stock, no_stock, part_delta, part_of, start_in, stock_at, stock_changed, stock_from, stock_loaded, stock_swapped, stock_viewed, stocks_loaded, applied}
-use Rattle.mesa_image.specs.Fitting.{base_deltas, counts_columns, counts_view, delta_in, deltas_of, files_fit, files_fit_if_any, fits, is_there, is_view_ref, kind_fits, brings_new_files, max_runs, may_be_work, part_fits, swap_fits}
+use Rattle.mesa_image.specs.Catalog.{Delta, Stock, Catalog, empty_base, empty_delta, merged_delta, new_stock, no_stock, part_delta, part_of, start_in, stock_at, stock_changed, stock_from, stock_loaded, stock_recast, stock_swapped, stock_viewed, stocks_loaded, applied}
+use Rattle.mesa_image.specs.Fitting.{base_deltas, counts_columns, counts_view, delta_in, deltas_of, files_fit, files_fit_if_any, fits, has_epoch, is_there, is_view_ref, kind_fits, brings_new_files, max_runs, may_be_work, part_fits, swap_fits}
 use Rattle.mesa_image.specs.Shape.{IsCatalog, IsShaped}
 use Rattle.mesa_image_laws.proofs.Lists.{all_back, all_front, both_true, is_at_most, is_equal, is_less, stock_found}
 use Rattle.mesa_fold.specs.mesa_schema.Schema.{is_schema}
@@ -42,6 +42,7 @@ use Rattle.mesa_image.specs.mesa_record.declared.checkpoint.Checkpoint.{Checkpoi
 use Rattle.mesa_image.specs.Checkpoint.{lineage_stated, range_stated, single_stated, singles_stated, start_stated, stock_stated, stated}
 use Rattle.mesa_image.specs.CheckpointFits.{plain, changes_pass, lineage_fits, delta_fits, range_fits, base_fits, are_tens, are_singles, single_fits, totals_fit, ranges_fit, singles_fit, starts_fit, table_fits, names_differ, ids_fit, oldest_fits, counts_fit, tables_fit}
 use Rattle.mesa_image_laws.specs.Countable.{CountsFiles, CountsTotals, IsCounted, AreCounted}
+use Rattle.mesa_image_laws.proofs.ShapedRecasts.{recast_counted, recast_its, recast_shape}
 
 two_true : (a b : Bool) → a ≡ true → b ≡ true → (a && b) ≡ true
 two_true true b e f = f
@@ -252,11 +253,13 @@ kind_counted c (record_of.Publish version parts) shaped is e =
 kind_counted c (record_of.Swap table base from to epoch files) shaped is e =
     let t = stock_at c table in
     let both = both_true (is_there c table) (swap_fits c t base from to epoch files) e in
-    let last = both_true (may_be_work c t base from to && nat_le epoch (epoch_of t.lineage)) (files_fit_if_any t.lineage epoch files) both.1 in
+    let last = both_true (may_be_work c t base from to && has_epoch t.lineage epoch) (files_fit_if_any t.lineage epoch files) both.1 in
     record { tables = set_counted c table (stock_swapped t base to (merged_delta epoch files)) is (swapped_counted t base to epoch files last.1); run = is.run }
 kind_counted c (record_of.Expire version) shaped is e = record { tables = all_map IsCounted (stock_from version) c.tables (all_so IsCounted (λ t. IsCounted (stock_from version t)) c.tables (from_counted version) is.tables); run = is.run }
 kind_counted c (record_of.ExpireTable table version) shaped is e = record { tables = set_counted c table (stock_from version (stock_at c table)) is (from_counted version (stock_at c table)); run = is.run }
 kind_counted c (record_of.Checkpoint k) shaped is e = absurd (let g : false ≡ true = e in cc)
+kind_counted c (record_of.Recast k) shaped is e =
+    record { tables = set_counted c k.table (stock_recast c.next (stock_at c k.table) k) is (λ was. recast_counted c.floor c.next (stock_at c k.table) k (recast_shape c k shaped e) (recast_its c k shaped e)); run = is.run }
 
 -- A record that fits keeps it.
 pub fits_counted : (c : Catalog) (r : Record) → IsCatalog c → AreCounted c → fits c r ≡ true → AreCounted (applied c r)
@@ -271,7 +274,7 @@ all_true p (x ∷ xs) e = let both = both_true (p x) (list_all p xs) e in (both.
 
 module _ (l : Lineage) where
   delta_files : (epoch : ℕ) (files : Option Files) → delta_fits l epoch files ≡ true → files_fit_if_any l epoch files ≡ true
-  delta_files epoch files e = (both_true (nat_le epoch (epoch_of l)) (files_fit_if_any l epoch files) e).1
+  delta_files epoch files e = (both_true (has_epoch l epoch) (files_fit_if_any l epoch files) e).1
 
   ranges_counted : (next : ℕ) (rs : List StatedRange) → list_all (range_fits l next) rs ≡ true → AllByRecursion (CountsFiles l) (map delta_in (map range_stated rs))
   ranges_counted next [] e = tt

@@ -15,14 +15,14 @@ use Rattle.mesa_image.specs.mesa_block.Layout.{Layout}
 use Rattle.mesa_image.specs.mesa_block.Rows.{IsRow}
 use Rattle.mesa_image.specs.mesa_delta.Summary.{file_layout}
 use Rattle.mesa_image.specs.mesa_span.Ranges.{Rise, base_before, end_of}
-use Rattle.mesa_image.specs.mesa_history.Sources.{Source, range_rows}
+use Rattle.mesa_image.specs.mesa_history.Sources.{Source, Written, range_rows, source_written, sources_from, version_written}
 use Rattle.mesa_image.specs.mesa_record.declared.record.Files.{Files}
 use Rattle.mesa_image.specs.Catalog.{Catalog, Delta, Ending, Stock, empty_base, empty_delta, end_in, new_stock, start_in}
 use Rattle.mesa_image.specs.Fitting.{base_deltas, delta_in, delta_shelved, deltas_of}
 use Rattle.mesa_image.specs.Contents.{Rows, present, rows_in}
 use Rattle.mesa_image.specs.Sound.{IsMerged, IsStocked, IsTold}
 use Rattle.mesa_image.specs.Shape.{IsCatalog, IsShaped}
-use Rattle.mesa_image_laws.specs.Sourced.{AreMadeOf, AreToCome, HasForm, IsMadeOf, IsSourced, IsUnwritten, Written, base_written, found_written, singles_written, source_of, source_written, sources_from, version_written}
+use Rattle.mesa_image_laws.specs.Sourced.{AreMadeOf, AreToCome, HasForm, IsMadeOf, IsSourced, IsUnwritten, base_written, found_written, singles_written, source_of}
 use Rattle.mesa_image_laws.proofs.Lists.{all_back, all_front, all_unflat, all_unmap}
 use Rattle.mesa_image_laws.proofs.Rising.{folds_itself, rising}
 use Rattle.mesa_image_laws.proofs.ShapedTables.{start_new}

@@ -1,5 +1,5 @@
 -- How often an id is named, after a record.
-use Rattle.std.proofs.Common.{◌≡◌, ⊎_elim, ℕ, zero, suc, ◌+◌, ◌-◌, ◌<◌, ◌≤◌, List, [], ◌∷◌, ◌++◌, map, length, take, drop, flat_map, Option, Some, None, true, false, Bool, cond, not, ◌&&◌, ◌||◌, ◌==◌, ◌^◌, nat_le, nat_lt, refl, sym, ◌∙◌, ap, subst, arith, slice_index_or, slice_set}
+use Rattle.std.proofs.Common.{◌≡◌, ⊎_elim, ℕ, zero, suc, ◌+◌, ◌-◌, ◌<◌, ◌≤◌, List, [], ◌∷◌, ◌++◌, map, length, take, drop, replicate, flat_map, Option, Some, None, true, false, Bool, cond, not, ◌&&◌, ◌||◌, ◌==◌, ◌^◌, nat_le, nat_lt, refl, sym, ◌∙◌, ap, subst, arith, slice_index_or, slice_set}
 use Rattle.std.proofs.lemmas.Bool.Decides.{nat_tests}
 use Rattle.std.proofs.lemmas.Bool.{cases_lt}
 use Rattle.std.proofs.lemmas.Grind.{flat_map-append}
@@ -8,18 +8,22 @@ use Rattle.std.proofs.lemmas.List.Sums.{sum_by-append}
 use Rattle.std.proofs.lemmas.Simd.{map-map}
 use Rattle.std.specs.List.{AllByRecursion, list_all}
 use Rattle.mesa_fold.specs.mesa_schema.Changes.{Lineage}
+use Rattle.mesa_fold.specs.mesa_schema.Recasts.{recast_lineage}
 use Rattle.mesa_image.specs.mesa_model.Warehouse.{max_versions}
 use Rattle.mesa_image.specs.mesa_record.declared.record.Files.{Files}
 use Rattle.mesa_image.specs.mesa_record.declared.record.Part.{Part}
 use Rattle.mesa_image.specs.mesa_record.declared.record.Record.{Record}
+use Rattle.mesa_image.specs.mesa_record.declared.checkpoint.StatedSingle.{StatedSingle}
+use Rattle.mesa_image.specs.mesa_record.declared.recasting.Recasting.{Recasting}
 use Rattle.mesa_image.specs.mesa_record.declared.record.Record.TheVariants as record_of
 use Rattle.mesa_image.specs.mesa_record.Rules.{are_parts, is_part, keeps_rules, rise_from}
-use Rattle.mesa_image.specs.Catalog.{Catalog, Delta, Ending, Stock, applied, empty_delta, merged_delta, new_stock, no_stock, part_delta, part_of, start_in, stock_at, stock_changed, stock_loaded, stock_swapped, stock_viewed, stocks_loaded}
-use Rattle.mesa_image.specs.Fitting.{Shelved, are_new_ids, base_deltas, brings_new_files, delta_in, delta_shelved, deltas_of, files_shelved, fits, has_number, is_there, kind_fits, max_runs, part_fits, part_shelved, publish_fits, run_of_id, shelved_id, stock_shelved, swap_fits, view_shelved}
-use Rattle.mesa_image_laws.specs.Ids.{HasOwnIds, IsNewId, brought_ids, delta_ids, dropped_deltas, dropped_ids, file_ids, named, times}
+use Rattle.mesa_image.specs.Catalog.{Catalog, Delta, Ending, Stock, applied, base_told, empty_delta, merged_delta, new_stock, no_stock, part_delta, part_of, recast_in, single_stated, singles_stated, singles_told, start_in, stock_at, stock_changed, stock_loaded, stock_recast, stock_swapped, stock_viewed, stocks_loaded}
+use Rattle.mesa_image.specs.Fitting.{Shelved, are_new_ids, base_deltas, brings_new_files, delta_in, delta_own, delta_shelved, deltas_of, files_shelved, fits, has_number, is_there, kind_fits, max_runs, own_shelved, part_fits, part_shelved, publish_fits, recast_fits, run_of_id, shelved_id, stock_shelved, swap_fits, view_shelved}
+use Rattle.mesa_image_laws.specs.Ids.{HasOwnIds, IsNewId, brought_ids, delta_ids, dropped_deltas, dropped_ids, file_ids, named, own_delta_id, own_id, recast_dropped, times, view_id}
 use Rattle.mesa_image_laws.proofs.Lists.{both_true, is_equal, is_less, not_true}
 use Rattle.mesa_image_laws.proofs.Expiring.{expire_shelves, expire_table_shelves}
 use Rattle.mesa_image_laws.proofs.Moving.{kind_of}
+use Rattle.mesa_image_laws.proofs.RecastFits.{ArePlaced, IsPlaced, base_among, fits_of, placed_append, places_of, view_refs}
 use Rattle.mesa_image_laws.proofs.Tables.{IsEmpty, new_deltas}
 
 -- ---- by ids alone, whatever the columns
@@ -46,6 +50,31 @@ ids_of_parts : (c : Catalog) (parts : List Part) → map shelved_id (flat_map (p
 unfolding part_ids
 ids_of_parts c [] = refl
 ids_of_parts c (p ∷ parts) = map-append shelved_id (part_shelved c p) (flat_map (part_shelved c) parts) ∙ (λ i. ids_of_files (stock_at c p.table).lineage p.epoch (Some p.files) i ++ ids_of_parts c parts i)
+
+own_of_files : (l : Lineage) (epoch : ℕ) (files : Option Files) → map shelved_id (own_shelved l epoch files) ≡ own_id files
+own_of_files l epoch None = refl
+own_of_files l epoch (Some f) = refl
+
+ids_of_own : (l : Lineage) (ds : List Delta) → map shelved_id (flat_map (delta_own l) ds) ≡ flat_map own_delta_id ds
+ids_of_own l [] = refl
+ids_of_own l (d ∷ ds) = map-append shelved_id (delta_own l d) (flat_map (delta_own l) ds) ∙ (λ i. own_of_files l d.epoch d.files i ++ ids_of_own l ds i)
+
+-- a table's own id, and those of its views
+ids_parted : (files : Option Files) → file_ids files ≡ own_id files ++ map view_id (view_refs files)
+ids_parted None = refl
+ids_parted (Some f) = refl
+
+-- versions without rows have no ids
+no_ids : (f : Delta → List ℕ) → f empty_delta ≡ [] → (n : ℕ) → flat_map f (replicate n empty_delta) ≡ []
+no_ids f none zero = refl
+no_ids f none (suc n) = λ i. none i ++ no_ids f none n i
+
+-- so ids of singletons that are told are those of the versions with rows
+ids_told : (f : Delta → List ℕ) → f empty_delta ≡ [] → (from next : ℕ) (ss : List StatedSingle) → flat_map f (singles_stated from next ss) ≡ flat_map (λ (s : StatedSingle). f (single_stated s)) ss
+ids_told f none from next [] = no_ids f none (next - from)
+ids_told f none from next (s ∷ ss) =
+    flat_map-append f (replicate (s.version - from) empty_delta) (single_stated s ∷ singles_stated (s.version + 1) next ss)
+    ∙ (λ i. no_ids f none (s.version - from) i ++ (f (single_stated s) ++ ids_told f none (s.version + 1) next ss i))
 
 -- ---- counting
 
@@ -120,6 +149,52 @@ module _ (id : ℕ) where
       let old = In-append (base_deltas t.base) (cumulatives ++ t.singles) in
       let old_rest = In-append cumulatives t.singles in
       omega (arith, new, new_rest, more, one, old, old_rest)
+
+  -- ---- a recast
+
+  -- a table's own files alone
+  abbrev Own : List Delta → ℕ
+  Own ds = times id (flat_map own_delta_id ds)
+
+  counted_place : (l : Lineage) (epoch : ℕ) (old new : Delta) → IsPlaced l epoch old new → times id (delta_ids new) + times id (own_delta_id old) ≡ times id (delta_ids old) + times id (own_delta_id new)
+  counted_place l epoch old new is =
+      let now = ap (times id) (ids_parted new.files) ∙ times-append (own_id new.files) (map view_id (view_refs new.files)) in
+      let was = ap (times id) (ids_parted old.files) ∙ times-append (own_id old.files) (map view_id (view_refs old.files)) in
+      let same : times id (map view_id (view_refs new.files)) ≡ times id (map view_id (view_refs old.files)) = ap (λ vs. times id (map view_id vs)) is.views in
+      omega (arith, now, was, same)
+
+  counted_places : (l : Lineage) (epoch : ℕ) (olds news : List Delta) → ArePlaced l epoch olds news → In news + Own olds ≡ In olds + Own news
+  counted_places l epoch [] [] is = refl
+  counted_places l epoch [] (new ∷ news) is = absurd is
+  counted_places l epoch (old ∷ olds) [] is = absurd is
+  counted_places l epoch (old ∷ olds) (new ∷ news) is =
+      let now = times-append (delta_ids new) (flat_map delta_ids news) in
+      let was = times-append (delta_ids old) (flat_map delta_ids olds) in
+      let own_now = times-append (own_delta_id new) (flat_map own_delta_id news) in
+      let own_was = times-append (own_delta_id old) (flat_map own_delta_id olds) in
+      let one = counted_place l epoch old new is.0 in
+      let more = counted_places l epoch olds news is.1 in
+      omega (arith, now, was, own_now, own_was, one, more)
+
+  -- ids of a base and of singletons that a recast tells, whatever versions without rows are among them
+  same_told : (f : Delta → List ℕ) → f empty_delta ≡ [] → (next other : ℕ) (t : Stock) (k : Recasting)
+      → times id (flat_map f (base_deltas (base_told k) ++ singles_told next t k)) ≡ times id (flat_map f (base_deltas (base_told k) ++ singles_told other t k))
+  same_told f none next other t k =
+      let base = base_deltas (base_told k) in
+      ap (times id) (flat_map-append f base (singles_told next t k)
+      ∙ ap (λ ids. flat_map f base ++ ids) (ids_told f none (start_in t) next k.singles ∙ sym (ids_told f none (start_in t) other k.singles))
+      ∙ sym (flat_map-append f base (singles_told other t k)))
+
+  counted_recast : (l : Lineage) (epoch next : ℕ) (t : Stock) (k : Recasting) → ArePlaced l epoch (base_deltas t.base ++ t.singles) (base_deltas (base_told k) ++ singles_told next t k)
+      → times id (stock_ids (stock_recast next t k)) + times id (recast_dropped t) ≡ times id (stock_ids t) + Own (base_deltas (base_told k) ++ singles_told next t k)
+  counted_recast l epoch next t k is =
+      let cumulatives = map delta_in t.cumulatives in
+      let all = counted_places l epoch (base_deltas t.base ++ t.singles) (base_deltas (base_told k) ++ singles_told next t k) is in
+      let gone = times-append (flat_map own_delta_id (base_deltas t.base ++ t.singles)) (flat_map delta_ids cumulatives) in
+      let some = In-append (base_deltas t.base) t.singles in
+      let was = In-append (base_deltas t.base) (cumulatives ++ t.singles) in
+      let rest = In-append cumulatives t.singles in
+      omega (arith, all, gone, some, was, rest)
 
   -- ---- a batch
 
@@ -251,6 +326,24 @@ module _ (id : ℕ) where
       let brought = ap (times id) (ids_of_files t.lineage epoch files) in
       omega (arith, after, named_of c, brought, Of-set c.tables table (stock_swapped t false to (merged_delta epoch files)) there, counted_cumulative t to epoch files)
 
+  -- what a recast names, and what it lets go
+  pub recast_names : (c : Catalog) (k : Recasting) → kind_fits c (record_of.Recast k) ≡ true
+      → times id (named (applied c (record_of.Recast k))) + times id (dropped_ids c (record_of.Recast k)) ≡ times id (named c) + times id (brought_ids c (record_of.Recast k))
+  recast_names c k e =
+      let both = both_true (is_there c k.table) (recast_fits (stock_at c k.table) k) e in
+      let there = is_less k.table (length c.tables) both.0 in
+      let t = stock_at c k.table in
+      let l = recast_lineage t.lineage (recast_in k) in
+      let versions = start_in t + length t.singles in
+      let places = places_of versions t k refl (fits_of t k both.1) in
+      let placed = placed_append l k.epoch (base_deltas t.base) (base_deltas (base_told k)) t.singles (singles_told versions t k) (base_among l k.epoch t.base (base_told k) places.base) places.singles in
+      let one = counted_recast l k.epoch versions t k placed in
+      let named_same = same_told delta_ids refl c.next versions t k in
+      let own_same = same_told own_delta_id refl c.next versions t k in
+      let brought = ap (times id) (ids_of_own l (base_deltas (base_told k) ++ singles_told c.next t k)) in
+      let after = named_of (applied c (record_of.Recast k)) in
+      omega (arith, after, named_of c, Of-set c.tables k.table (stock_recast c.next t k) there, one, named_same, own_same, brought)
+
   -- What is named after a record, and what it lets go, is what was named before and what it brings.
   pub counted : (c : Catalog) (r : Record) → keeps_rules r ≡ true → kind_fits c r ≡ true → times id (named (applied c r)) + times id (dropped_ids c r) ≡ times id (named c) + times id (brought_ids c r)
   counted c (record_of.Run number) rules e = refl
@@ -267,6 +360,7 @@ module _ (id : ℕ) where
   counted c (record_of.Expire version) rules e = ap (λ (xs : List Shelved). times id (map shelved_id xs) + times id []) (expire_shelves c version)
   counted c (record_of.ExpireTable table version) rules e = ap (λ (xs : List Shelved). times id (map shelved_id xs) + times id []) (expire_table_shelves c table version)
   counted c (record_of.Checkpoint k) rules e = refl
+  counted c (record_of.Recast k) rules e = recast_names c k e
 
   -- ---- new ids
 
@@ -333,6 +427,7 @@ module _ (id : ℕ) where
   run_rises c (record_of.Expire version) e = omega arith
   run_rises c (record_of.ExpireTable table version) e = omega arith
   run_rises c (record_of.Checkpoint k) e = omega arith
+  run_rises c (record_of.Recast k) e = omega arith
 
   still_once : (c : Catalog) (r : Record) → keeps_rules r ≡ true → fits c r ≡ true → times id (named c) ≤ 1 → times id (named (applied c r)) ≤ 1
   still_once c r rules fit once =

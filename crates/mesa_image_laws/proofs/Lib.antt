@@ -19,6 +19,8 @@ pub mod Agreeing
 pub mod Shaping
 pub mod ShapedTables
 pub mod ShapedBatches
+pub mod RecastFits
+pub mod ShapedRecasts
 pub mod Wholes
 pub mod Ids
 pub mod Plans
@@ -27,6 +29,11 @@ pub mod Written
 pub mod Lifted
 pub mod Sourcing
 pub mod Found
+pub mod Recasting
+pub mod RecastContents
+pub mod RecastStocked
+pub mod RecastSourced
+pub mod RecastKept
 pub mod AllSourced
 pub mod Accepted
 pub mod Stating
@@ -36,3 +43,6 @@ pub mod CountedRecords
 pub mod StatedFits
 pub mod Numbering
 pub mod Recordable
+pub mod RewrittenRanges
+pub mod CatalogRewriting
+pub mod RecastRules

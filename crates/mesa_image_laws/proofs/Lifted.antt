@@ -36,12 +36,12 @@ folded_now l sources = folded (aggs_of (columns_of l)) (map (now l) sources)
 pub range_now : (l : Lineage) (sources : List Source) → range_rows l (epoch_of l) sources ≡ folded_now l sources
 range_now l sources = ap (λ s. folded (aggs_of s) (map (now l) sources)) (columns_now l)
 
-form_now : (l : Lineage) (s : Source) → IsLineage l → HasForm l s → AreRowsOf (columns_of l) (now l s)
+pub form_now : (l : Lineage) (s : Source) → IsLineage l → HasForm l s → AreRowsOf (columns_of l) (now l s)
 form_now l s is has =
     all_map (IsRowOf (columns_of l)) (lifted l s.epoch (epoch_of l)) s.rows
     (all_so (IsRowOf (columns_at l s.epoch)) (λ row. IsRowOf (columns_of l) (lifted l s.epoch (epoch_of l) row)) s.rows (λ row form. present_form l s.epoch row is form) has.form)
 
-forms_now : (l : Lineage) (sources : List Source) → IsLineage l → AllByRecursion (HasForm l) sources → AreRowsOf (columns_of l) (rows_of (map (now l) sources))
+pub forms_now : (l : Lineage) (sources : List Source) → IsLineage l → AllByRecursion (HasForm l) sources → AreRowsOf (columns_of l) (rows_of (map (now l) sources))
 forms_now l [] is all = tt
 forms_now l (s ∷ sources) is all = all_append (IsRowOf (columns_of l)) (now l s) (rows_of (map (now l) sources)) (form_now l s is all.0) (forms_now l sources is all.1)
 

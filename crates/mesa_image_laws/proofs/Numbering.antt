@@ -14,7 +14,7 @@ use Rattle.mesa_image.specs.mesa_record.declared.record.Record.TheVariants as re
 use Rattle.mesa_image.specs.mesa_record.declared.error.RecordError.{RecordError}
 use Rattle.mesa_image.specs.mesa_record.declared.checkpoint.Checkpoint.{Checkpoint}
 use Rattle.mesa_image.specs.mesa_record.declared.edition.Edition.{Edition}
-use Rattle.mesa_image.specs.mesa_record.declared.edition.Edition.TheVariants.{First, Second, Third}
+use Rattle.mesa_image.specs.mesa_record.declared.edition.Edition.TheVariants.{First, Second, Third, Fourth}
 use Rattle.mesa_image.specs.mesa_record.Editions.{IsSpelled}
 use Rattle.mesa_image.specs.mesa_record.Reading.{record_at}
 use Rattle.mesa_image.specs.mesa_record.Rules.{IsRecord}
@@ -28,7 +28,7 @@ use Rattle.mesa_image.specs.Journaled.{catalog, checkpoint_in, first_body, first
 use Rattle.mesa_image_laws.proofs.Lists.{both_true, is_equal}
 use Rattle.mesa_image_laws.proofs.Stating.{catalog_again}
 use Rattle.mesa_image_laws.proofs.StatedFits.{counts_ok, tables_fitted, two_true}
-use Rattle.mesa_image_laws.proofs.Recordable.{checkpoint_recordable, third_fits}
+use Rattle.mesa_image_laws.proofs.Recordable.{checkpoint_recordable, fourth_fits}
 use Rattle.mesa_image.proofs.OneMore.{checkpoint_is}
 use Rattle.mesa_image_laws.proofs.Wholes.{catalog_whole}
 
@@ -39,7 +39,7 @@ pub body_states : (area : Area) (k : Checkpoint) → IsRecord (record_of.Checkpo
 unfolding catalog_from
 body_states area k is fit =
     ap (λ o. then_bodies o (λ c. catalog_from c []))
-    (ap (first_read area) (record_again Third (record_of.Checkpoint k) is (third_fits k)) ∙ ap (stated_if k) fit)
+    (ap (first_read area) (record_again Fourth (record_of.Checkpoint k) is (fourth_fits k)) ∙ ap (stated_if k) fit)
 
 -- ---- numbers
 
@@ -48,6 +48,7 @@ unfolding number_in of_word word spelled_in
 stated_number First k small = from_be_bytes-to_be_bytes_4 k.number small
 stated_number Second k small = from_be_bytes-to_be_bytes_4 k.number small
 stated_number Third k small = from_be_bytes-to_be_bytes_4 k.number small
+stated_number Fourth k small = from_be_bytes-to_be_bytes_4 k.number small
 
 other_number : (kind : ℕ) (rest : List ℕ) → is_checkpoint kind ≡ false → number_in (kind ∷ rest) ≡ 0
 unfolding number_in
@@ -67,12 +68,15 @@ record_number e (record_of.Alter table c) is = other_number 4 _ refl
 record_number First (record_of.Publish version parts) is = other_number 5 _ refl
 record_number Second (record_of.Publish version parts) is = other_number 9 _ refl
 record_number Third (record_of.Publish version parts) is = other_number 9 _ refl
+record_number Fourth (record_of.Publish version parts) is = other_number 9 _ refl
 record_number First (record_of.Swap table base from to epoch f) is = other_number 6 _ refl
 record_number Second (record_of.Swap table base from to epoch f) is = other_number 10 _ refl
 record_number Third (record_of.Swap table base from to epoch f) is = other_number 10 _ refl
+record_number Fourth (record_of.Swap table base from to epoch f) is = other_number 10 _ refl
 record_number e (record_of.Expire version) is = other_number 7 _ refl
 record_number e (record_of.ExpireTable table version) is = other_number 12 _ refl
 record_number e (record_of.Checkpoint k) is = absurd (cc)
+record_number e (record_of.Recast k) is = other_number 14 _ refl
 
 -- the number behind one that an area takes, the other takes
 next_fits : (area : Area) (n : ℕ) → number_fits area n ≡ true → number_fits (other_of area) (n + 1) ≡ true
@@ -133,7 +137,7 @@ leads_by Zero body (b ∷ bodies) e = omega (arith, e)
 leads_by One body (b ∷ bodies) e = omega (arith, e)
 
 pub next_leads : (area : Area) (k : Checkpoint) (bodies : List (List ℕ)) → k.number < 2 ^ 32 → k.number ≡ number_of bodies + 1 → Leads area (checkpoint_body k ∷ []) bodies
-next_leads area k bodies small is = leads_by area (checkpoint_body k) bodies (stated_number Third k small ∙ is)
+next_leads area k bodies small is = leads_by area (checkpoint_body k) bodies (stated_number Fourth k small ∙ is)
 
 -- What an opening writes: the checkpoint of a journal's catalogue, with the next number, states that catalogue as the first body of the other area, and is live there.
 pub carries_on : (area : Area) (bodies : List (List ℕ)) (c : Catalog) → AllByRecursion AreBytes bodies → catalog area bodies ≡ Some c → number_of bodies + 1 < 2 ^ 32

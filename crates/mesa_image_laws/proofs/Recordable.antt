@@ -1,17 +1,19 @@
 -- The checkpoint of every catalogue is a record: its fields are within their types, and its counts have room.
-use Rattle.std.proofs.Common.{◌≡◌, inl, inr, ℕ, zero, suc, ◌+◌, ◌-◌, ◌*◌, ◌^◌, ◌<◌, ◌≤◌, List, [], ◌∷◌, ◌++◌, map, length, take, replicate, Bool, true, false, ◌&&◌, ◌==◌, nat_le, nat_lt, Option, Some, None, cond, refl, sym, ap, subst, arith, slice_index_or, slice_set}
+use Rattle.std.proofs.Common.{◌≡◌, inl, inr, ℕ, zero, suc, ◌+◌, ◌-◌, ◌*◌, ◌^◌, ◌<◌, ◌≤◌, List, [], ◌∷◌, ◌++◌, map, length, take, drop, replicate, Bool, true, false, ◌&&◌, ◌==◌, nat_le, nat_lt, Option, Some, None, cond, refl, sym, ap, subst, arith, slice_get, slice_index_or, slice_set}
 use Rattle.std.proofs.lemmas.Bool.Decides.{nat_tests}
 use Rattle.std.proofs.lemmas.List.{map-append}
-use Rattle.std.specs.Prelude.{option_map, IfSome}
-use Rattle.std.specs.List.{AllByRecursion, list_all, range_with_len}
+use Rattle.std.specs.Prelude.{option_map, unwrap_or, IfSome}
+use Rattle.std.specs.List.{AllByRecursion, cons_option, list_all, range_with_len}
 use Rattle.mesa_fold.specs.mesa_value.declared.Agg.{Agg}
 use Rattle.mesa_fold.specs.mesa_value.declared.Agg.TheVariants as agg
 use Rattle.mesa_fold.specs.mesa_schema.declared.columns.KeyColumn.{KeyColumn}
 use Rattle.mesa_fold.specs.mesa_schema.declared.columns.ValueColumn.{ValueColumn}
 use Rattle.mesa_fold.specs.mesa_schema.declared.changes.Change.{Change}
-use Rattle.mesa_fold.specs.mesa_schema.Columns.{Columns, aggs_of}
+use Rattle.mesa_fold.specs.mesa_schema.declared.changes.Change.TheVariants.{AddKey, AddValue, DropValue}
+use Rattle.mesa_fold.specs.mesa_schema.Columns.{Columns, aggs_of, chosen, place_of, value_names}
 use Rattle.mesa_fold.specs.mesa_schema.Schema.{is_schema}
-use Rattle.mesa_fold.specs.mesa_schema.Changes.{columns_after, columns_of, epoch_of}
+use Rattle.mesa_fold.specs.mesa_schema.Changes.{changed, columns_after, columns_of, epoch_of}
+use Rattle.mesa_fold.specs.mesa_schema.Recasts.{recast_keys, recast_values}
 use Rattle.mesa_fold.proofs.mesa_schema.LineageRules.{present_schema}
 use Rattle.mesa_fold.proofs.mesa_schema.SchemaChanges.{schema_rules}
 use Rattle.mesa_fold.proofs.mesa_schema.Lists.{all_append, all_drop, all_map, all_replicate, all_so}
@@ -21,29 +23,29 @@ use Rattle.mesa_image.specs.mesa_record.declared.record.Files.{Files}
 use Rattle.mesa_image.specs.mesa_record.declared.record.Part.{Part}
 use Rattle.mesa_image.specs.mesa_record.declared.record.Record.{Record}
 use Rattle.mesa_image.specs.mesa_record.declared.record.ViewRef.{ViewRef}
-use Rattle.mesa_image.specs.mesa_record.declared.edition.Edition.TheVariants.{Third}
+use Rattle.mesa_image.specs.mesa_record.declared.edition.Edition.TheVariants.{Fourth}
 use Rattle.mesa_image.specs.mesa_record.declared.record.Record.TheVariants as record_of
 use Rattle.mesa_image.specs.mesa_record.declared.checkpoint.StatedRange.{StatedRange}
 use Rattle.mesa_image.specs.mesa_record.declared.checkpoint.StatedSingle.{StatedSingle}
 use Rattle.mesa_image.specs.mesa_record.declared.checkpoint.StatedTable.{StatedTable}
 use Rattle.mesa_image.specs.mesa_record.declared.checkpoint.Checkpoint.{Checkpoint}
-use Rattle.mesa_image.specs.mesa_record.Rules.{AreTypedFiles, FitsBase, FitsFiles, FitsFilesIfAny, FitsIn, FitsRange, FitsSingle, FitsTable, FitsView, IsNamed, IsRecord, IsTotal, IsTypedBase, IsTypedChange, IsTypedPart, IsTypedRange, IsTypedSingle, IsTypedStatedView, IsTypedTable, IsWord, are_files, are_files_if_any, are_stated_columns, are_stated_deltas, is_base_if_any, is_change, is_count_of_columns, is_long, is_part, is_short, is_stated_range, is_stated_single, is_stated_table, is_stated_view, rise_from}
+use Rattle.mesa_image.specs.mesa_record.declared.recasting.RecastBase.{RecastBase}
+use Rattle.mesa_image.specs.mesa_record.declared.recasting.Recasting.{Recasting}
+use Rattle.mesa_image.specs.mesa_record.Rules.{FitsBase, FitsFiles, FitsFilesIfAny, FitsIn, FitsRange, FitsSingle, FitsTable, FitsView, IsNamed, IsRecord, IsTotal, IsTypedBase, IsTypedChange, IsTypedPart, IsTypedRange, IsTypedRecastBase, IsTypedRecasting, IsTypedSingle, IsTypedStatedView, IsTypedTable, IsWord, are_files, are_recast_columns, are_recast_deltas, are_stated_columns, are_stated_deltas, is_base_if_any, is_change, is_count_of_columns, is_long, is_part, is_recast_base, is_recasting, is_short, is_stated_range, is_stated_single, is_stated_table, is_stated_view, rise_from}
 use Rattle.mesa_image.specs.Checkpoint.{range_stated, single_stated, singles_stated, start_stated, stock_stated, stated, stating_range, stating_single, stating_singles, stating_table, checkpoint_of}
-use Rattle.mesa_image.specs.Catalog.{Delta, Ending, Stock, Catalog, empty_base, empty_delta, end_in, merged_delta, new_stock, no_stock, part_delta, part_of, start_in, stock_at, stock_changed, stock_from, stock_loaded, stock_swapped, stock_viewed, stocks_loaded, applied}
+use Rattle.mesa_image.specs.Catalog.{Delta, Ending, Stock, Catalog, base_recast, base_told, empty_base, empty_delta, end_in, merged_delta, new_stock, no_stock, part_delta, part_of, recast_in, singles_told, start_in, stock_at, stock_changed, stock_from, stock_loaded, stock_recast, stock_swapped, stock_viewed, stocks_loaded, applied}
 use Rattle.mesa_image.specs.Fitting.{base_deltas, delta_in, deltas_of}
 use Rattle.mesa_image.specs.Shape.{IsCatalog, IsShaped}
 use Rattle.mesa_image_laws.specs.Statable.{IsSingle, IsStatable}
 use Rattle.mesa_image_laws.specs.Countable.{AreCounted}
-use Rattle.mesa_image_laws.proofs.Lists.{all_back, all_front, both_true}
+use Rattle.mesa_image_laws.specs.Recordable.{AreKept, AreRecordable, HasCounts, HasFiles, HasTotals, IsRecordable, Keeps}
+use Rattle.mesa_image_laws.proofs.Lists.{all_back, all_front, all_take, both_true}
 
-two_true : (a b : Bool) → a ≡ true → b ≡ true → (a && b) ≡ true
+pub two_true : (a b : Bool) → a ≡ true → b ≡ true → (a && b) ≡ true
 two_true true b e f = f
 two_true false b e f = absurd (let g : false ≡ true = e in cc)
 
 -- ---- what is within its types, and keeps a rule
-
-abbrev Keeps : {A : Type 0} → (A → Type 0) → (A → Bool) → A → Type 0
-Keeps P p x = P x × (p x ≡ true)
 
 all_keep : {A : Type 0} (P : A → Type 0) (p : A → Bool) (xs : List A) → AllByRecursion P xs → list_all p xs ≡ true → AllByRecursion (Keeps P p) xs
 all_keep P p [] all e = tt
@@ -57,31 +59,6 @@ all_ruled P p [] all = refl
 all_ruled P p (x ∷ xs) all = two_true (p x) (list_all p xs) all.0.1 (all_ruled P p xs all.1)
 
 -- ---- what catalogues keep
-
--- totals of as many bits as their fields have, and no more than there may be columns
-abbrev HasTotals : List ℕ → Type 0
-HasTotals totals = AllByRecursion IsTotal totals × (nat_le (length totals) 16 ≡ true)
-
-abbrev AreKept : Option Files → Type 0
-AreKept files = AreTypedFiles files × (are_files_if_any files ≡ true)
-
-abbrev HasFiles : Delta → Type 0
-HasFiles d = AreKept d.files
-
-abbrev HasCounts : Delta → Type 0
-HasCounts d = IfSome d.totals HasTotals
-
-pub record IsRecordable (t : Stock) : Type 0 where
-  pub name : IsNamed t.name
-  pub keys : AllByRecursion (λ (c : KeyColumn). IsNamed c.name) t.lineage.first.keys
-  pub values : AllByRecursion (λ (c : ValueColumn). IsNamed c.name) t.lineage.first.values
-  pub changes : AllByRecursion (Keeps IsTypedChange is_change) t.lineage.changes
-  pub views : AllByRecursion (Keeps IsTypedStatedView is_stated_view) t.lineage.views
-  pub files : AllByRecursion HasFiles (deltas_of t)
-  pub counts : AllByRecursion HasCounts t.singles
-
-abbrev pub AreRecordable : Catalog → Type 0
-AreRecordable c = AllByRecursion IsRecordable c.tables
 
 no_files : (n : ℕ) → AllByRecursion HasFiles (replicate n empty_delta)
 no_files n = all_replicate HasFiles empty_delta n (tt, refl)
@@ -222,23 +199,6 @@ set_recordable [] n t all f = tt
 set_recordable (x ∷ tables) zero t all f = (f all.0, all.1)
 set_recordable (x ∷ tables) (suc n) t all f = (all.0, set_recordable tables n t all.1 f)
 
-pub applied_recordable : (c : Catalog) (r : Record) → IsRecord r → AreRecordable c → AreRecordable (applied c r)
-applied_recordable c (record_of.Run number) it is = is
-applied_recordable c (record_of.Table name keys values) it is =
-    all_append IsRecordable c.tables (new_stock c name (record { keys = keys; values = values }) ∷ []) is (new_recordable c name (record { keys = keys; values = values }) it.typed.0 it.typed.1 it.typed.2, tt)
-applied_recordable c (record_of.View table name keys values) it is =
-    set_recordable c.tables table (stock_viewed (stock_at c table) name keys values) is
-    (viewed_recordable (stock_at c table) name keys values (record { name = it.typed.1; keys = it.typed.2; values = it.typed.3 }, it.rules))
-applied_recordable c (record_of.Alter table change) it is = set_recordable c.tables table (stock_changed (stock_at c table) change) is (changed_recordable (stock_at c table) change (it.typed.1, it.rules))
-applied_recordable c (record_of.Publish version parts) it is =
-    let good = both_true (nat_lt (length parts) (2 ^ 16) && rise_from 0 (map (λ (p : Part). p.table) parts)) (list_all is_part parts) it.rules in
-    all_loaded parts 0 c.tables it.typed.1 good.1 is
-applied_recordable c (record_of.Swap table base from to epoch files) it is =
-    set_recordable c.tables table (stock_swapped (stock_at c table) base to (merged_delta epoch files)) is (swapped_recordable (stock_at c table) base to epoch files (it.typed.4, it.rules))
-applied_recordable c (record_of.Expire version) it is = all_map IsRecordable (stock_from version) c.tables (all_so IsRecordable (λ t. IsRecordable (stock_from version t)) c.tables (from_recordable version) is)
-applied_recordable c (record_of.ExpireTable table version) it is = set_recordable c.tables table (stock_from version (stock_at c table)) is (from_recordable version (stock_at c table))
-applied_recordable c (record_of.Checkpoint k) it is = is
-
 -- ---- what a checkpoint states
 
 abbrev IsKeptRange : StatedRange → Type 0
@@ -304,15 +264,92 @@ stated_recordable k it =
     let both = both_true (is_short k.tables) (list_all is_stated_table k.tables) it.rules in
     tables_recordable k.versions k.tables (all_keep IsTypedTable is_stated_table k.tables it.typed.tables both.1)
 
+-- ---- names of the columns that a table comes to
+
+abbrev KeyNamed : KeyColumn → Type 0
+KeyNamed c = IsNamed c.name
+
+abbrev ValueNamed : ValueColumn → Type 0
+ValueNamed c = IsNamed c.name
+
+abbrev AreNamed : Columns → Type 0
+AreNamed s = AllByRecursion KeyNamed s.keys × AllByRecursion ValueNamed s.values
+
+changed_named : (s : Columns) (c : Change) → IsTypedChange c → AreNamed s → AreNamed (changed s c)
+changed_named s (AddValue column default) typed named = (named.0, all_append ValueNamed s.values (column ∷ []) named.1 (typed.0, tt))
+changed_named s (DropValue name) typed named =
+    let i : ℕ = unwrap_or (place_of name (value_names s)) (length s.values) in
+    (named.0, all_append ValueNamed (take i s.values) (drop (i + 1) s.values) (all_take ValueNamed i s.values named.1) (all_drop ValueNamed (i + 1) s.values named.1))
+changed_named s (AddKey column default) typed named = (all_append KeyNamed s.keys (column ∷ []) named.0 (typed.0, tt), named.1)
+
+named_after : (s : Columns) (cs : List Change) → AllByRecursion IsTypedChange cs → AreNamed s → AreNamed (columns_after s cs)
+named_after s [] typed named = named
+named_after s (c ∷ cs) typed named = named_after (changed s c) cs typed.1 (changed_named s c typed.0 named)
+
+-- so they are among those that are chosen
+all_given : {A : Type 0} (P : A → Type 0) (o : Option A) (xs : List A) → IfSome o P → AllByRecursion P xs → AllByRecursion P (cons_option o xs)
+all_given P None xs is all = all
+all_given P (Some x) xs is all = (is, all)
+
+one_given : {A : Type 0} (P : A → Type 0) (place : ℕ) (xs : List A) → AllByRecursion P xs → IfSome (slice_get xs place) P
+one_given P place [] all = tt
+one_given P zero (x ∷ xs) all = all.0
+one_given P (suc place) (x ∷ xs) all = one_given P place xs all.1
+
+all_chosen : {A : Type 0} (P : A → Type 0) (places : List ℕ) (xs : List A) → AllByRecursion P xs → AllByRecursion P (chosen places xs)
+all_chosen P [] xs all = tt
+all_chosen P (place ∷ places) xs all = all_given P (slice_get xs place) (chosen places xs) (one_given P place xs all) (all_chosen P places xs all)
+
+-- ---- each record
+
+recast_recordable : (next : ℕ) (t : Stock) (k : Recasting) → IsTypedRecasting k → is_recasting k ≡ true → IsRecordable t → IsRecordable (stock_recast next t k)
+recast_recordable next t k typed e is =
+    let both = both_true (are_recast_columns k) (are_recast_deltas k) e in
+    let deltas = both_true (is_recast_base k.base) (is_long k.singles && list_all is_stated_single k.singles) both.1 in
+    let each = both_true (is_long k.singles) (list_all is_stated_single k.singles) deltas.1 in
+    let singles = singles_recordable (start_in t) next k.singles (all_keep IsTypedSingle is_stated_single k.singles typed.deltas.singles each.1) in
+    let named : AreNamed (columns_of t.lineage) = named_after t.lineage.first t.lineage.changes (all_typed IsTypedChange is_change t.lineage.changes is.changes) (is.keys, is.values) in
+    record {
+      name = is.name;
+      keys = all_chosen KeyNamed (recast_keys (columns_of t.lineage) (recast_in k)) (columns_of t.lineage).keys named.0;
+      values = all_chosen ValueNamed (recast_values (columns_of t.lineage) (recast_in k)) (columns_of t.lineage).values named.1;
+      changes = tt;
+      views = is.views;
+      files = all_append HasFiles (base_deltas (base_told k)) (singles_told next t k) (base_files k.base typed.deltas.base deltas.0) singles.0;
+      counts = singles.1;
+    }
+  where
+    base_files : (o : Option RecastBase) → IsTypedRecastBase o → is_recast_base o ≡ true → AllByRecursion HasFiles (base_deltas (option_map (base_recast k.epoch) o))
+    base_files None typed e = tt
+    base_files (Some b) typed e = ((typed.1, e), tt)
+
+pub applied_recordable : (c : Catalog) (r : Record) → IsRecord r → AreRecordable c → AreRecordable (applied c r)
+applied_recordable c (record_of.Run number) it is = is
+applied_recordable c (record_of.Table name keys values) it is =
+    all_append IsRecordable c.tables (new_stock c name (record { keys = keys; values = values }) ∷ []) is (new_recordable c name (record { keys = keys; values = values }) it.typed.0 it.typed.1 it.typed.2, tt)
+applied_recordable c (record_of.View table name keys values) it is =
+    set_recordable c.tables table (stock_viewed (stock_at c table) name keys values) is
+    (viewed_recordable (stock_at c table) name keys values (record { name = it.typed.1; keys = it.typed.2; values = it.typed.3 }, it.rules))
+applied_recordable c (record_of.Alter table change) it is = set_recordable c.tables table (stock_changed (stock_at c table) change) is (changed_recordable (stock_at c table) change (it.typed.1, it.rules))
+applied_recordable c (record_of.Publish version parts) it is =
+    let good = both_true (nat_lt (length parts) (2 ^ 16) && rise_from 0 (map (λ (p : Part). p.table) parts)) (list_all is_part parts) it.rules in
+    all_loaded parts 0 c.tables it.typed.1 good.1 is
+applied_recordable c (record_of.Swap table base from to epoch files) it is =
+    set_recordable c.tables table (stock_swapped (stock_at c table) base to (merged_delta epoch files)) is (swapped_recordable (stock_at c table) base to epoch files (it.typed.4, it.rules))
+applied_recordable c (record_of.Expire version) it is = all_map IsRecordable (stock_from version) c.tables (all_so IsRecordable (λ t. IsRecordable (stock_from version t)) c.tables (from_recordable version) is)
+applied_recordable c (record_of.ExpireTable table version) it is = set_recordable c.tables table (stock_from version (stock_at c table)) is (from_recordable version (stock_at c table))
+applied_recordable c (record_of.Checkpoint k) it is = is
+applied_recordable c (record_of.Recast k) it is = set_recordable c.tables k.table (stock_recast c.next (stock_at c k.table) k) is (λ t. recast_recordable c.next (stock_at c k.table) k it.typed it.rules t)
+
 -- ---- the checkpoint of a catalogue
 
-low : (a b : ℕ) → a ≤ b → nat_le a b ≡ true
+pub low : (a b : ℕ) → a ≤ b → nat_le a b ≡ true
 low a b le = grind (arith, nat_tests)
 
-less : (a b : ℕ) → a < b → nat_lt a b ≡ true
+pub less : (a b : ℕ) → a < b → nat_lt a b ≡ true
 less a b lt = grind (arith, nat_tests)
 
-some_columns : (n : ℕ) → (n == 0) ≡ false → n ≤ 16 → is_count_of_columns n ≡ true
+pub some_columns : (n : ℕ) → (n == 0) ≡ false → n ≤ 16 → is_count_of_columns n ≡ true
 some_columns n e le =
     let one : 1 ≤ n = grind (arith, nat_tests) in
     two_true (nat_le 1 n) (nat_le n 16) (low 1 n one) (low n 16 le)
@@ -421,6 +458,7 @@ table_kept floor next t small shaped so is =
       record {
         name = is.name;
         oldest = oldest;
+        begins = (let begun : l.begins < 2 ^ 32 = omega (arith, few) in begun);
         columns = record {
           keys = is.keys;
           values = is.values;
@@ -458,37 +496,37 @@ checkpoint_recordable c number word shaped so counted is =
       rules = two_true (is_short (map stating_table c.tables)) (list_all is_stated_table (map stating_table c.tables)) (less (length (map stating_table c.tables)) (2 ^ 16) few) (all_ruled IsTypedTable is_stated_table (map stating_table c.tables) tables);
     }
 
--- ---- the third edition has room for each checkpoint
+-- ---- the fourth edition has room for each checkpoint
 
-files_third : (f : Files) → FitsFiles Third f
-files_third f = record { file = tt; views = views f.views }
+files_fourth : (f : Files) → FitsFiles Fourth f
+files_fourth f = record { file = tt; views = views f.views }
   where
-    views : (vs : List ViewRef) → AllByRecursion (FitsView Third) vs
+    views : (vs : List ViewRef) → AllByRecursion (FitsView Fourth) vs
     views [] = tt
     views (v ∷ vs) = (tt, views vs)
 
-range_third : (r : StatedRange) → FitsRange Third r
-range_third r = by r.files
+range_fourth : (r : StatedRange) → FitsRange Fourth r
+range_fourth r = by r.files
   where
-    by : (o : Option Files) → FitsFilesIfAny Third o
+    by : (o : Option Files) → FitsFilesIfAny Fourth o
     by None = tt
-    by (Some f) = files_third f
+    by (Some f) = files_fourth f
 
-base_third : (o : Option StatedRange) → FitsBase Third o
-base_third None = tt
-base_third (Some r) = range_third r
+base_fourth : (o : Option StatedRange) → FitsBase Fourth o
+base_fourth None = tt
+base_fourth (Some r) = range_fourth r
 
-ranges_third : (rs : List StatedRange) → AllByRecursion (FitsRange Third) rs
-ranges_third [] = tt
-ranges_third (r ∷ rs) = (range_third r, ranges_third rs)
+ranges_fourth : (rs : List StatedRange) → AllByRecursion (FitsRange Fourth) rs
+ranges_fourth [] = tt
+ranges_fourth (r ∷ rs) = (range_fourth r, ranges_fourth rs)
 
-singles_third : (ss : List StatedSingle) → AllByRecursion (FitsSingle Third) ss
-singles_third [] = tt
-singles_third (s ∷ ss) = (record { files = files_third s.files; totals = tt }, singles_third ss)
+singles_fourth : (ss : List StatedSingle) → AllByRecursion (FitsSingle Fourth) ss
+singles_fourth [] = tt
+singles_fourth (s ∷ ss) = (record { files = files_fourth s.files; totals = tt }, singles_fourth ss)
 
-tables_third : (floor : ℕ) (ts : List StatedTable) → AllByRecursion (FitsTable Third floor) ts
-tables_third floor [] = tt
-tables_third floor (t ∷ ts) = (record { oldest = tt; totals = tt; base = base_third t.base; cumulatives = ranges_third t.cumulatives; singles = singles_third t.singles }, tables_third floor ts)
+tables_fourth : (floor : ℕ) (ts : List StatedTable) → AllByRecursion (FitsTable Fourth floor) ts
+tables_fourth floor [] = tt
+tables_fourth floor (t ∷ ts) = (record { oldest = tt; begins = tt; totals = tt; base = base_fourth t.base; cumulatives = ranges_fourth t.cumulatives; singles = singles_fourth t.singles }, tables_fourth floor ts)
 
-pub third_fits : (k : Checkpoint) → FitsIn Third (record_of.Checkpoint k)
-third_fits k = tables_third k.floor k.tables
+pub fourth_fits : (k : Checkpoint) → FitsIn Fourth (record_of.Checkpoint k)
+fourth_fits k = tables_fourth k.floor k.tables

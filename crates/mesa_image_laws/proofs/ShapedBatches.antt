@@ -21,7 +21,7 @@ use Rattle.mesa_image.specs.mesa_record.declared.record.Files.{Files}
 use Rattle.mesa_image.specs.mesa_record.declared.record.Part.{Part}
 use Rattle.mesa_image.specs.mesa_record.declared.record.Record.TheVariants as record_of
 use Rattle.mesa_image.specs.Catalog.{Delta, Stock, Catalog, start_in, ranges_of, no_stock, stock_at, stock_loaded, stocks_loaded, stock_swapped, merged_delta, part_of, with_stock, applied}
-use Rattle.mesa_image.specs.Fitting.{names_in, is_there, files_fit, files_fit_if_any, part_fits, publish_fits, may_be_work, is_number, swap_fits}
+use Rattle.mesa_image.specs.Fitting.{names_in, is_there, files_fit, files_fit_if_any, has_epoch, part_fits, publish_fits, may_be_work, is_number, swap_fits}
 use Rattle.mesa_image.specs.Shape.{IsShaped, IsCatalog}
 use Rattle.mesa_image_laws.proofs.Lists.{both_true, is_at_most, is_equal, is_less, stock_found}
 use Rattle.mesa_image_laws.proofs.Shaping.{PartFits, FitsIfAny, loaded_shaped, based_shaped, covered_shaped}
@@ -137,21 +137,21 @@ pub number_is : (o : Option ℕ) (n : ℕ) → is_number o n ≡ true → o ≡ 
 number_is None n e = absurd (let f : false ≡ true = e in cc)
 number_is (Some m) n e = ap Some (is_equal m n e)
 
-swapped_shaped : (c : Catalog) (t : Stock) (base : Bool) (from to epoch : ℕ) (files : Option Files) → IsCatalog c → IsShaped c.floor c.next t → may_be_work c t base from to ≡ true → epoch ≤ epoch_of t.lineage
+swapped_shaped : (c : Catalog) (t : Stock) (base : Bool) (from to epoch : ℕ) (files : Option Files) → IsCatalog c → IsShaped c.floor c.next t → may_be_work c t base from to ≡ true → t.lineage.begins ≤ epoch → epoch ≤ epoch_of t.lineage
     → IsShaped c.floor c.next (stock_swapped t base to (merged_delta epoch files))
-swapped_shaped c t true from to epoch files is shaped may le =
+swapped_shaped c t true from to epoch files is shaped may begun le =
     let last = both_true ((from == 0) && nat_le 1 to && nat_le (start_in t) to) (nat_le to t.oldest) may in
     let third = both_true ((from == 0) && nat_le 1 to) (nat_le (start_in t) to) last.0 in
     let first = both_true (from == 0) (nat_le 1 to) third.0 in
     let some = is_at_most 1 to first.1 in
     let within = is_at_most to t.oldest last.1 in
     let lt : to < c.next = elim shaped.oldest [ inl lt ↦ omega (arith, within, lt) | inr none ↦ absurd (omega (arith, some, within, none.0)) ] in
-    based_shaped c.floor c.next t to (merged_delta epoch files) (is_at_most (start_in t) to third.1) within lt le tt refl shaped
-swapped_shaped c t false from to epoch files is shaped may le =
+    based_shaped c.floor c.next t to (merged_delta epoch files) (is_at_most (start_in t) to third.1) within lt begun le tt refl shaped
+swapped_shaped c t false from to epoch files is shaped may begun le =
     let both = both_true (from == start_in t) (is_number (missing_end (start_in t) (ranges_of t).cumulatives (base_before c.next)) to) may in
     let missing = number_is (missing_end (start_in t) (ranges_of t).cumulatives (base_before c.next)) to both.1 in
     let lt : to < c.next = missing_there (start_in t) c.next to (ranges_of t).cumulatives (omega (arith, shaped.singles)) missing in
-    covered_shaped c.floor c.next t to (merged_delta epoch files) lt le tt (works_keep (ranges_of t) 0 (base_before c.next) (work.Cumulative (start_in t) to) shaped.reachable (ap (option_map (work.Cumulative (start_in t))) missing)) shaped
+    covered_shaped c.floor c.next t to (merged_delta epoch files) lt begun le tt (works_keep (ranges_of t) 0 (base_before c.next) (work.Cumulative (start_in t) to) shaped.reachable (ap (option_map (work.Cumulative (start_in t))) missing)) shaped
 
 pub swap_shaped : (c : Catalog) (table : ℕ) (base : Bool) (from to epoch : ℕ) (files : Option Files) → IsCatalog c → is_there c table && swap_fits c (stock_at c table) base from to epoch files ≡ true
     → IsCatalog (with_stock c table (stock_swapped (stock_at c table) base to (merged_delta epoch files)))
@@ -159,10 +159,11 @@ swap_shaped c table base from to epoch files is e =
     let t = stock_at c table in
     let both = both_true (is_there c table) (swap_fits c t base from to epoch files) e in
     let there = is_less table (length c.tables) both.0 in
-    let last = both_true (may_be_work c t base from to && nat_le epoch (epoch_of t.lineage)) (files_fit_if_any t.lineage epoch files) both.1 in
-    let first = both_true (may_be_work c t base from to) (nat_le epoch (epoch_of t.lineage)) last.0 in
+    let last = both_true (may_be_work c t base from to && has_epoch t.lineage epoch) (files_fit_if_any t.lineage epoch files) both.1 in
+    let first = both_true (may_be_work c t base from to) (has_epoch t.lineage epoch) last.0 in
+    let epochs = both_true (nat_le t.lineage.begins epoch) (nat_le epoch (epoch_of t.lineage)) first.1 in
     let shaped = stock_found (IsShaped c.floor c.next) c.tables table there is.tables in
-    same_set c table (stock_swapped t base to (merged_delta epoch files)) is (swapped_shaped c t base from to epoch files is shaped first.0 (is_at_most epoch (epoch_of t.lineage) first.1)) (names_swapped t base to (merged_delta epoch files))
+    same_set c table (stock_swapped t base to (merged_delta epoch files)) is (swapped_shaped c t base from to epoch files is shaped first.0 (is_at_most t.lineage.begins epoch epochs.0) (is_at_most epoch (epoch_of t.lineage) epochs.1)) (names_swapped t base to (merged_delta epoch files))
   where
     names_swapped : (t : Stock) (base : Bool) (to : ℕ) (d : Delta) → names_in (stock_swapped t base to d) ≡ names_in t
     names_swapped t true to d = refl

@@ -29,7 +29,7 @@ use Rattle.mesa_image.specs.mesa_model.Warehouse.{max_tables}
 use Rattle.mesa_image.specs.mesa_record.Rules.{IsTypedChange}
 use Rattle.mesa_image.specs.Catalog.{Delta, Stock, Catalog, start_in, no_stock, new_stock, stock_at, stock_from, stock_viewed, stock_changed, with_stock, empty_base, empty_delta}
 use Rattle.mesa_image.specs.Fitting.{base_deltas, deltas_of, names_in, is_new_name, is_there, table_fits, view_fits, alter_fits, expire_fits}
-use Rattle.mesa_image.specs.Shape.{IsShaped, IsCatalog, IsWithinBound}
+use Rattle.mesa_image.specs.Shape.{HasBegunIfAny, IsShaped, IsCatalog, IsWithinBound}
 use Rattle.mesa_image_laws.proofs.Shaping.{from_shaped}
 use Rattle.mesa_image_laws.proofs.Lists.{all_take, both_true, is_less, not_true, stock_found}
 use Rattle.mesa_image_laws.proofs.Defaults.{default_read}
@@ -78,6 +78,10 @@ base_epochs : (o : Option ℕ) → AllByRecursion (λ (d : Delta). d.epoch ≤ 0
 base_epochs None = tt
 base_epochs (Some to) = (omega arith, tt)
 
+base_since : (o : Option ℕ) → AllByRecursion (λ (d : Delta). 0 ≤ d.epoch) (base_deltas (option_map empty_base o) ++ [])
+base_since None = tt
+base_since (Some to) = (omega arith, tt)
+
 base_within : (o : Option ℕ) → AllByRecursion IsWithinBound (base_deltas (option_map empty_base o))
 base_within None = tt
 base_within (Some to) = (tt, tt)
@@ -96,6 +100,8 @@ new_shaped c name s is schema =
       reachable = refl;
       ends = tt;
       epochs = all_append (λ (d : Delta). d.epoch ≤ 0) (base_deltas (new_stock c name s).base) _ (base_epochs (base_before c.floor)) (all_replicate (λ (d : Delta). d.epoch ≤ 0) empty_delta (c.next - c.floor) (omega arith));
+      merged_begun = base_since (base_before c.floor);
+      singles_begun = all_replicate (HasBegunIfAny (new_stock c name s).lineage) empty_delta (c.next - c.floor) tt;
       recorded = all_append IsWithinBound (base_deltas (new_stock c name s).base) _ (base_within (base_before c.floor)) (all_replicate IsWithinBound empty_delta (c.next - c.floor) tt);
     }
 
@@ -163,6 +169,8 @@ viewed_shaped floor next t name keys values is ok room =
       reachable = is.reachable;
       ends = is.ends;
       epochs = is.epochs;
+      merged_begun = is.merged_begun;
+      singles_begun = is.singles_begun;
       recorded = is.recorded;
     }
 
@@ -270,6 +278,8 @@ changed_shaped floor next t c is default ok = record {
   reachable = is.reachable;
   ends = is.ends;
   epochs = all_so (λ (d : Delta). d.epoch ≤ epoch_of t.lineage) (λ (d : Delta). d.epoch ≤ epoch_of (with_change t.lineage c)) (deltas_of t) (λ d le. (let n : d.epoch ≤ epoch_of (with_change t.lineage c) = omega (arith, le, length-append t.lineage.changes (c ∷ [])) in n)) is.epochs;
+  merged_begun = is.merged_begun;
+  singles_begun = is.singles_begun;
   recorded = is.recorded;
 }
 

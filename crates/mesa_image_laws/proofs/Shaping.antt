@@ -16,7 +16,7 @@ use Rattle.mesa_image.specs.Catalog.{Delta, Ending, Stock, Catalog, start_in, ra
 use Rattle.mesa_image.specs.Fitting.{base_deltas, delta_in, deltas_of, names_in}
 use Rattle.mesa_image.specs.mesa_model.Warehouse.{max_tables}
 use Rattle.mesa_fold.specs.mesa_schema.Names.{repeated}
-use Rattle.mesa_image.specs.Shape.{IsShaped, IsCatalog, IsWithinBound}
+use Rattle.mesa_image.specs.Shape.{HasBegun, HasBegunIfAny, IsShaped, IsCatalog, IsWithinBound, merged_deltas}
 use Rattle.mesa_fold.proofs.mesa_schema.Lists.{all_append, all_drop, all_map, all_so}
 use Rattle.mesa_image_laws.proofs.Lists.{all_front, all_back}
 use Rattle.mesa_image_laws.proofs.Kept.{ranges_swapped}
@@ -39,6 +39,8 @@ from_shaped floor later version next t above lt is = record {
   reachable = is.reachable;
   ends = is.ends;
   epochs = is.epochs;
+  merged_begun = is.merged_begun;
+  singles_begun = is.singles_begun;
   recorded = is.recorded;
 }
 
@@ -97,6 +99,12 @@ deltas_covered P t ending its all =
     (subst (AllByRecursion P) (sym (map-append delta_in t.cumulatives (ending ∷ []))) (all_append P (map delta_in t.cumulatives) (ending.delta ∷ []) (all_front P (map delta_in t.cumulatives) t.singles rest) (its, tt)))
     (all_back P (map delta_in t.cumulatives) t.singles rest))
 
+-- what holds of the base and the cumulatives, with a cumulative more
+merged_more : (P : Delta → Type 0) (t : Stock) (ending : Ending) → P ending.delta → AllByRecursion P (merged_deltas t) → AllByRecursion P (base_deltas t.base ++ map delta_in (t.cumulatives ++ ending ∷ []))
+merged_more P t ending its all =
+    all_append P (base_deltas t.base) (map delta_in (t.cumulatives ++ ending ∷ [])) (all_front P (base_deltas t.base) (map delta_in t.cumulatives) all)
+    (subst (AllByRecursion P) (sym (map-append delta_in t.cumulatives (ending ∷ []))) (all_append P (map delta_in t.cumulatives) (ending.delta ∷ []) (all_back P (base_deltas t.base) (map delta_in t.cumulatives) all) (its, tt)))
+
 ends_later : (next : ℕ) (es : List Ending) → AllByRecursion (λ (e : Ending). e.to < next) es → AllByRecursion (λ (e : Ending). e.to < next + 1) es
 ends_later next es all = all_so (λ (e : Ending). e.to < next) (λ (e : Ending). e.to < next + 1) es (λ e lt. (let n : e.to < next + 1 = omega (arith, lt) in n)) all
 
@@ -116,6 +124,8 @@ loaded_shaped floor next t None is fit = record {
   reachable = is.reachable;
   ends = ends_later next t.cumulatives is.ends;
   epochs = deltas_loaded (λ (d : Delta). d.epoch ≤ epoch_of t.lineage) t empty_delta (omega arith) is.epochs;
+  merged_begun = is.merged_begun;
+  singles_begun = all_append (HasBegunIfAny t.lineage) t.singles (empty_delta ∷ []) is.singles_begun (tt, tt);
   recorded = deltas_loaded IsWithinBound t empty_delta tt is.recorded;
 }
 loaded_shaped floor next t (Some p) is fit = record {
@@ -129,13 +139,15 @@ loaded_shaped floor next t (Some p) is fit = record {
   reachable = is.reachable;
   ends = ends_later next t.cumulatives is.ends;
   epochs = deltas_loaded (λ (d : Delta). d.epoch ≤ epoch_of t.lineage) t (part_delta p) (omega (arith, fit.epoch)) is.epochs;
+  merged_begun = is.merged_begun;
+  singles_begun = all_append (HasBegunIfAny t.lineage) t.singles (part_delta p ∷ []) is.singles_begun ((let since : t.lineage.begins ≤ p.epoch = omega (arith, fit.epoch) in since), tt);
   recorded = deltas_loaded IsWithinBound t (part_delta p) (more_below t.totals p.totals (fit.count ∙ sym is.totals) fit.bound) is.recorded;
 }
 
 -- ---- a merged range
 
-pub based_shaped : (floor next : ℕ) (t : Stock) (to : ℕ) (d : Delta) → start_in t ≤ to → to ≤ t.oldest → to < next → d.epoch ≤ epoch_of t.lineage → IsWithinBound d → IsReachable (swapped (work.Base to) (ranges_of t)) → IsShaped floor next t → IsShaped floor next (stock_swapped t true to d)
-based_shaped floor next t to d behind within lt epoch bounded reachable is =
+pub based_shaped : (floor next : ℕ) (t : Stock) (to : ℕ) (d : Delta) → start_in t ≤ to → to ≤ t.oldest → to < next → HasBegun t.lineage d → d.epoch ≤ epoch_of t.lineage → IsWithinBound d → IsReachable (swapped (work.Base to) (ranges_of t)) → IsShaped floor next t → IsShaped floor next (stock_swapped t true to d)
+based_shaped floor next t to d behind within lt begun epoch bounded reachable is =
     let n = to + 1 - start_in t in
     record {
       lineage = is.lineage;
@@ -148,11 +160,13 @@ based_shaped floor next t to d behind within lt epoch bounded reachable is =
       reachable = reachable;
       ends = tt;
       epochs = deltas_based (λ (x : Delta). x.epoch ≤ epoch_of t.lineage) t n d epoch is.epochs;
+      merged_begun = (begun, tt);
+      singles_begun = all_drop (HasBegunIfAny t.lineage) n t.singles is.singles_begun;
       recorded = deltas_based IsWithinBound t n d bounded is.recorded;
     }
 
-pub covered_shaped : (floor next : ℕ) (t : Stock) (to : ℕ) (d : Delta) → to < next → d.epoch ≤ epoch_of t.lineage → IsWithinBound d → IsReachable (swapped (work.Cumulative (start_in t) to) (ranges_of t)) → IsShaped floor next t → IsShaped floor next (stock_swapped t false to d)
-covered_shaped floor next t to d lt epoch bounded reachable is =
+pub covered_shaped : (floor next : ℕ) (t : Stock) (to : ℕ) (d : Delta) → to < next → HasBegun t.lineage d → d.epoch ≤ epoch_of t.lineage → IsWithinBound d → IsReachable (swapped (work.Cumulative (start_in t) to) (ranges_of t)) → IsShaped floor next t → IsShaped floor next (stock_swapped t false to d)
+covered_shaped floor next t to d lt begun epoch bounded reachable is =
     let ending : Ending = record { to = to; delta = d } in
     record {
       lineage = is.lineage;
@@ -165,5 +179,7 @@ covered_shaped floor next t to d lt epoch bounded reachable is =
       reachable = subst IsReachable (sym (ranges_swapped t false (start_in t) to d)) reachable;
       ends = all_append (λ (e : Ending). e.to < next) t.cumulatives (ending ∷ []) is.ends (lt, tt);
       epochs = deltas_covered (λ (x : Delta). x.epoch ≤ epoch_of t.lineage) t ending epoch is.epochs;
+      merged_begun = merged_more (HasBegun t.lineage) t ending begun is.merged_begun;
+      singles_begun = is.singles_begun;
       recorded = deltas_covered IsWithinBound t ending bounded is.recorded;
     }

@@ -12,14 +12,14 @@ use Rattle.mesa_fold.specs.mesa_schema.Lineages.{HasDefault, IsLineage}
 use Rattle.mesa_fold.proofs.mesa_schema.Lists.{all_append, all_both, all_filter, all_map, all_so}
 use Rattle.mesa_fold.proofs.mesa_schema.Refolds.{refolded}
 use Rattle.mesa_image.specs.mesa_span.Ranges.{Rise}
-use Rattle.mesa_image.specs.mesa_history.Sources.{range_rows}
+use Rattle.mesa_image.specs.mesa_history.Sources.{Written, range_rows, source_written, sources_from, version_written}
 use Rattle.mesa_image.specs.mesa_record.declared.record.Part.{Part}
 use Rattle.mesa_image.specs.Catalog.{Delta, Ending, Stock, empty_delta, part_delta, start_in, stock_changed, stock_loaded, stock_swapped, stock_viewed}
 use Rattle.mesa_image.specs.Fitting.{base_deltas, delta_in}
 use Rattle.mesa_image.specs.Contents.{Rows, content, deltas_to, present}
 use Rattle.mesa_image.specs.Shape.{IsShaped}
 use Rattle.mesa_image_laws.specs.Brought.{BringsIfAny, Replaces, loaded_delta, merged_of}
-use Rattle.mesa_image_laws.specs.Sourced.{AreMadeOf, AreWritten, HasForm, IsMadeOf, IsMergedOf, IsSourced, Written, source_written, sources_from, version_written}
+use Rattle.mesa_image_laws.specs.Sourced.{AreMadeOf, AreWritten, HasForm, IsMadeOf, IsMergedOf, IsSourced}
 use Rattle.mesa_image_laws.proofs.Lists.{all_back, all_front}
 use Rattle.mesa_image_laws.proofs.Contents.{new_rows, present_now}
 use Rattle.mesa_image_laws.proofs.Lifted.{changes_sources, folded_now, form_more, lifts_sources, now, range_now}

@@ -14,15 +14,15 @@ use Rattle.mesa_image.specs.mesa_span.Ranges.{start_behind, end_of}
 use Rattle.mesa_image.specs.mesa_model.Warehouse.{max_tables, max_versions}
 use Rattle.mesa_image.specs.mesa_record.declared.record.Files.{Files}
 use Rattle.mesa_image.specs.Catalog.{Delta, Ending, Stock, Catalog, end_in, start_in}
-use Rattle.mesa_image.specs.Fitting.{base_deltas, delta_in, files_fit_if_any, max_runs, run_of_id}
-use Rattle.mesa_image.specs.Shape.{IsShaped, IsCatalog, IsWithinBound}
+use Rattle.mesa_image.specs.Fitting.{base_deltas, delta_in, files_fit_if_any, has_epoch, max_runs, run_of_id}
+use Rattle.mesa_image.specs.Shape.{HasBegun, HasBegunIfAny, IsShaped, IsCatalog, IsWithinBound}
 use Rattle.mesa_image_laws.specs.Ids.{HasOwnIds, named, times}
 use Rattle.mesa_fold.proofs.mesa_schema.Lists.{all_so}
 use Rattle.mesa_image_laws.proofs.Lists.{all_back, all_front}
 use Rattle.mesa_image.specs.mesa_record.declared.checkpoint.StatedSingle.{StatedSingle}
 use Rattle.mesa_image.specs.Checkpoint.{stated, stating_range, stating_single, stating_singles, stating_table, checkpoint_of, to_stated}
 use Rattle.mesa_image_laws.specs.Statable.{IsSingle, IsStatable, AreStatable}
-use Rattle.mesa_image.specs.CheckpointFits.{changes_pass, lineage_fits, delta_fits, range_fits, base_fits, are_tens, are_singles, single_fits, totals_fit, ranges_fit, singles_fit, starts_fit, table_fits, table_fits_by, names_differ, ids_fit, oldest_fits, counts_fit, tables_fit}
+use Rattle.mesa_image.specs.CheckpointFits.{changes_pass, lineage_fits, delta_fits, range_fits, base_fits, are_tens, are_singles, single_fits, totals_fit, ranges_fit, singles_fit, starts_fit, table_fits, names_differ, ids_fit, oldest_fits, counts_fit, tables_fit}
 use Rattle.mesa_image_laws.specs.Countable.{CountsFiles, CountsTotals, IsCounted, AreCounted}
 use Rattle.mesa_image_laws.proofs.Stating.{start_again, catalog_again}
 
@@ -82,36 +82,38 @@ singles_rise from next [] len = refl
 singles_rise from next (d ∷ ds) len = singles_by from next d.epoch d.totals d.files (stating_singles (from + 1) ds) (omega (arith, len)) (singles_rise (from + 1) next ds (omega (arith, len)))
 
 module _ (l : Lineage) where
-  delta_ok : (d : Delta) → d.epoch ≤ epoch_of l → CountsFiles l d → delta_fits l d.epoch d.files ≡ true
-  delta_ok d le files = two_true (nat_le d.epoch (epoch_of l)) (files_fit_if_any l d.epoch d.files) (low d.epoch (epoch_of l) le) files
+  delta_ok : (d : Delta) → l.begins ≤ d.epoch → d.epoch ≤ epoch_of l → CountsFiles l d → delta_fits l d.epoch d.files ≡ true
+  delta_ok d begun le files = two_true (has_epoch l d.epoch) (files_fit_if_any l d.epoch d.files) (two_true (nat_le l.begins d.epoch) (nat_le d.epoch (epoch_of l)) (low l.begins d.epoch begun) (low d.epoch (epoch_of l) le)) files
 
-  single_ok : (from : ℕ) (d : Delta) (rest : List StatedSingle) → d.epoch ≤ epoch_of l → CountsFiles l d → CountsTotals l d → IsWithinBound d → IsSingle d → list_all (single_fits l) rest ≡ true → list_all (single_fits l) (stating_single from d.epoch d.totals d.files ++ rest) ≡ true
-  single_ok from d rest le files totals below (inl none) e = ap (λ (x : Delta). list_all (single_fits l) (stating_single from x.epoch x.totals x.files ++ rest)) none ∙ e
-  single_ok from d rest le files totals below (inr has) e =
+  single_ok : (from : ℕ) (d : Delta) (rest : List StatedSingle) → HasBegunIfAny l d → d.epoch ≤ epoch_of l → CountsFiles l d → CountsTotals l d → IsWithinBound d → IsSingle d → list_all (single_fits l) rest ≡ true → list_all (single_fits l) (stating_single from d.epoch d.totals d.files ++ rest) ≡ true
+  single_ok from d rest begun le files totals below (inl none) e = ap (λ (x : Delta). list_all (single_fits l) (stating_single from x.epoch x.totals x.files ++ rest)) none ∙ e
+  single_ok from d rest begun le files totals below (inr has) e =
       let s : StatedSingle = record { version = from; epoch = d.epoch; files = has.own; totals = has.counts } in
+      let since : l.begins ≤ d.epoch = subst (λ o. IfSome o (λ f. l.begins ≤ d.epoch)) has.files begun in
       let count : length has.counts ≡ sums_in (aggs_of (columns_at l d.epoch)) = subst (λ o. IfSome o (λ totals. length totals ≡ sums_in (aggs_of (columns_at l d.epoch)))) has.totals totals in
       let within : AllByRecursion (λ total. total < sum_bound) has.counts = subst (λ o. IfSome o (λ totals. AllByRecursion (λ total. total < sum_bound) totals)) has.totals below in
       let tests = two_true (length has.counts == sums_in (aggs_of (columns_at l d.epoch))) (list_all (λ total. nat_lt total sum_bound) has.counts) (same (length has.counts) (sums_in (aggs_of (columns_at l d.epoch))) count) (bounded has.counts within) in
       (λ i. list_all (single_fits l) (stating_single from d.epoch (has.totals i) (has.files i) ++ rest))
       ∙ two_true (single_fits l s) (list_all (single_fits l) rest)
-      (two_true (delta_fits l d.epoch (Some has.own)) (totals_fit (columns_at l d.epoch) has.counts) (ap (delta_fits l d.epoch) (sym has.files) ∙ delta_ok d le files) tests) e
+      (two_true (delta_fits l d.epoch (Some has.own)) (totals_fit (columns_at l d.epoch) has.counts) (ap (delta_fits l d.epoch) (sym has.files) ∙ delta_ok d since le files) tests) e
 
-  singles_ok : (from : ℕ) (ds : List Delta) → AllByRecursion (λ (d : Delta). d.epoch ≤ epoch_of l) ds → AllByRecursion (CountsFiles l) ds → AllByRecursion (CountsTotals l) ds → AllByRecursion IsWithinBound ds → AllByRecursion IsSingle ds → list_all (single_fits l) (stating_singles from ds) ≡ true
-  singles_ok from [] epochs files totals below are = refl
-  singles_ok from (d ∷ ds) epochs files totals below are = single_ok from d (stating_singles (from + 1) ds) epochs.0 files.0 totals.0 below.0 are.0 (singles_ok (from + 1) ds epochs.1 files.1 totals.1 below.1 are.1)
+  singles_ok : (from : ℕ) (ds : List Delta) → AllByRecursion (HasBegunIfAny l) ds → AllByRecursion (λ (d : Delta). d.epoch ≤ epoch_of l) ds → AllByRecursion (CountsFiles l) ds → AllByRecursion (CountsTotals l) ds → AllByRecursion IsWithinBound ds → AllByRecursion IsSingle ds → list_all (single_fits l) (stating_singles from ds) ≡ true
+  singles_ok from [] begun epochs files totals below are = refl
+  singles_ok from (d ∷ ds) begun epochs files totals below are = single_ok from d (stating_singles (from + 1) ds) begun.0 epochs.0 files.0 totals.0 below.0 are.0 (singles_ok (from + 1) ds begun.1 epochs.1 files.1 totals.1 below.1 are.1)
 
-  ranges_ok : (next : ℕ) (es : List Ending) → AllByRecursion (λ (e : Ending). e.to < next) es → AllByRecursion (λ (d : Delta). d.epoch ≤ epoch_of l) (map delta_in es) → AllByRecursion (CountsFiles l) (map delta_in es) → list_all (range_fits l next) (map stating_range es) ≡ true
-  ranges_ok next [] ends epochs files = refl
-  ranges_ok next (e ∷ es) ends epochs files =
+  ranges_ok : (next : ℕ) (es : List Ending) → AllByRecursion (λ (e : Ending). e.to < next) es → AllByRecursion (HasBegun l) (map delta_in es) → AllByRecursion (λ (d : Delta). d.epoch ≤ epoch_of l) (map delta_in es) → AllByRecursion (CountsFiles l) (map delta_in es)
+      → list_all (range_fits l next) (map stating_range es) ≡ true
+  ranges_ok next [] ends begun epochs files = refl
+  ranges_ok next (e ∷ es) ends begun epochs files =
       two_true (range_fits l next (stating_range e)) (list_all (range_fits l next) (map stating_range es))
-      (two_true (nat_lt e.to next) (delta_fits l e.delta.epoch e.delta.files) (less e.to next ends.0) (delta_ok e.delta epochs.0 files.0)) (ranges_ok next es ends.1 epochs.1 files.1)
+      (two_true (nat_lt e.to next) (delta_fits l e.delta.epoch e.delta.files) (less e.to next ends.0) (delta_ok e.delta begun.0 epochs.0 files.0)) (ranges_ok next es ends.1 begun.1 epochs.1 files.1)
 
-  base_ok : (oldest next : ℕ) (o : Option Ending) → start_behind (option_map end_in o) ≤ oldest + 1 → start_behind (option_map end_in o) ≤ next → AllByRecursion (λ (d : Delta). d.epoch ≤ epoch_of l) (base_deltas o) → AllByRecursion (CountsFiles l) (base_deltas o)
+  base_ok : (oldest next : ℕ) (o : Option Ending) → start_behind (option_map end_in o) ≤ oldest + 1 → start_behind (option_map end_in o) ≤ next → AllByRecursion (HasBegun l) (base_deltas o) → AllByRecursion (λ (d : Delta). d.epoch ≤ epoch_of l) (base_deltas o) → AllByRecursion (CountsFiles l) (base_deltas o)
       → base_fits l oldest next (option_map stating_range o) ≡ true
-  base_ok oldest next None below within epochs files = refl
-  base_ok oldest next (Some e) below within epochs files =
+  base_ok oldest next None below within begun epochs files = refl
+  base_ok oldest next (Some e) below within begun epochs files =
       two_true (nat_le e.to oldest) (range_fits l next (stating_range e)) (low e.to oldest (omega (arith, below)))
-      (two_true (nat_lt e.to next) (delta_fits l e.delta.epoch e.delta.files) (less e.to next (omega (arith, within))) (delta_ok e.delta epochs.0 files.0))
+      (two_true (nat_lt e.to next) (delta_fits l e.delta.epoch e.delta.files) (less e.to next (omega (arith, within))) (delta_ok e.delta begun.0 epochs.0 files.0))
 
 oldest_ok : (oldest next : ℕ) → (oldest < next) ⊎ ((oldest ≡ 0) × (next ≡ 0)) → oldest_fits oldest next ≡ true
 oldest_ok oldest next (inl lt) = ap (λ b. b || ((oldest == 0) && (next == 0))) (less oldest next lt)
@@ -122,10 +124,6 @@ oldest_ok oldest next (inr none) = or_true (nat_lt oldest next) ((oldest == 0) &
     or_true false b e = e
 
 -- ---- a table
-
--- columns that are stated from their first epoch on
-lineage_again : (l : Lineage) → l.begins ≡ 0 → record { begins = 0; first = l.first; changes = l.changes; views = l.views } ≡ l
-lineage_again l none = λ i. record { begins = sym none i; first = l.first; changes = l.changes; views = l.views }
 
 table_ok : (floor next : ℕ) (t : Stock) → IsShaped floor next t → IsStatable t → IsCounted t → table_fits floor next (stating_table t) ≡ true
 table_ok floor next t shaped so is =
@@ -144,17 +142,16 @@ table_ok floor next t shaped so is =
     (low (length l.views) max_views shaped.lineage.few_views) in
     let totals = two_true (length t.totals == sums_in (aggs_of (columns_of l))) (list_all (λ total. nat_lt total sum_bound) t.totals) (same (length t.totals) (sums_in (aggs_of (columns_of l))) shaped.totals) (bounded t.totals shaped.bounded) in
     let start = start_again t.base in
-    let base = base_ok l t.oldest next t.base (omega (arith, shaped.base)) (omega (arith, shaped.singles)) (all_front E (base_deltas t.base) (map delta_in t.cumulatives ++ t.singles) shaped.epochs) (all_front F (base_deltas t.base) (map delta_in t.cumulatives ++ t.singles) is.files) in
+    let base = base_ok l t.oldest next t.base (omega (arith, shaped.base)) (omega (arith, shaped.singles)) (all_front (HasBegun l) (base_deltas t.base) (map delta_in t.cumulatives) shaped.merged_begun) (all_front E (base_deltas t.base) (map delta_in t.cumulatives ++ t.singles) shaped.epochs) (all_front F (base_deltas t.base) (map delta_in t.cumulatives ++ t.singles) is.files) in
     let at : start_in t + 10 * 0 ≡ start_in t = omega arith in
     let tens : are_tens (start_behind (option_map to_stated (option_map stating_range t.base))) (map stating_range t.cumulatives) ≡ true = ap (λ k. are_tens k (map stating_range t.cumulatives)) (start ∙ sym at) ∙ tens_back (start_in t) 0 t.cumulatives shaped.reachable in
-    let covered = ranges_ok l next t.cumulatives shaped.ends (all_front E (map delta_in t.cumulatives) t.singles epochs) (all_front F (map delta_in t.cumulatives) t.singles files) in
+    let covered = ranges_ok l next t.cumulatives shaped.ends (all_back (HasBegun l) (base_deltas t.base) (map delta_in t.cumulatives) shaped.merged_begun) (all_front E (map delta_in t.cumulatives) t.singles epochs) (all_front F (map delta_in t.cumulatives) t.singles files) in
     let ranges = two_true (base_fits l t.oldest next (option_map stating_range t.base) && are_tens (start_behind (option_map to_stated (option_map stating_range t.base))) (map stating_range t.cumulatives)) (list_all (range_fits l next) (map stating_range t.cumulatives)) (two_true (base_fits l t.oldest next (option_map stating_range t.base)) _ base tens) covered in
     let rise : are_singles (start_behind (option_map to_stated (option_map stating_range t.base))) next (stating_singles (start_in t) t.singles) ≡ true = ap (λ k. are_singles k next (stating_singles (start_in t) t.singles)) start ∙ singles_rise (start_in t) next t.singles shaped.singles in
     let singles = two_true (are_singles (start_behind (option_map to_stated (option_map stating_range t.base))) next (stating_singles (start_in t) t.singles)) (list_all (single_fits l) (stating_singles (start_in t) t.singles)) rise
-    (singles_ok l (start_in t) t.singles (all_back E (map delta_in t.cumulatives) t.singles epochs) (all_back F (map delta_in t.cumulatives) t.singles files) is.totals recorded so.singles) in
+    (singles_ok l (start_in t) t.singles shaped.singles_begun (all_back E (map delta_in t.cumulatives) t.singles epochs) (all_back F (map delta_in t.cumulatives) t.singles files) is.totals recorded so.singles) in
     let stands = two_true (nat_le floor t.oldest) (oldest_fits t.oldest next) (low floor t.oldest shaped.above) (oldest_ok t.oldest next shaped.oldest) in
-    ap (λ m. table_fits_by m floor next (stating_table t)) (lineage_again l so.begins)
-    ∙ two_true (lineage_fits l && totals_fit (columns_of l) t.totals && ranges_fit l next (stating_table t) && singles_fit l next (stating_table t)) (starts_fit floor next (stating_table t))
+    two_true (lineage_fits l && totals_fit (columns_of l) t.totals && ranges_fit l next (stating_table t) && singles_fit l next (stating_table t)) (starts_fit floor next (stating_table t))
     (two_true (lineage_fits l && totals_fit (columns_of l) t.totals && ranges_fit l next (stating_table t)) (singles_fit l next (stating_table t))
     (two_true (lineage_fits l && totals_fit (columns_of l) t.totals) (ranges_fit l next (stating_table t)) (two_true (lineage_fits l) (totals_fit (columns_of l) t.totals) lineage totals) ranges) singles) stands
 

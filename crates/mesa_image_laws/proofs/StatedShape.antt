@@ -25,8 +25,9 @@ use Rattle.mesa_image.specs.mesa_span.Ranges.{start_behind, end_of, ends_of_tens
 use Rattle.mesa_image.specs.mesa_model.Warehouse.{max_tables, max_versions}
 use Rattle.mesa_image.specs.mesa_record.Rules.{IsTypedChange}
 use Rattle.mesa_image.specs.Catalog.{Delta, Ending, empty_delta, end_in, ranges_of, start_in}
-use Rattle.mesa_image.specs.Fitting.{base_deltas, delta_in, files_fit_if_any, run_of_id}
-use Rattle.mesa_image.specs.Shape.{IsShaped, IsCatalog, IsWithinBound}
+use Rattle.mesa_image.specs.mesa_record.declared.record.Files.{Files}
+use Rattle.mesa_image.specs.Fitting.{base_deltas, delta_in, files_fit_if_any, has_epoch, run_of_id}
+use Rattle.mesa_image.specs.Shape.{HasBegun, HasBegunIfAny, IsShaped, IsCatalog, IsWithinBound}
 use Rattle.mesa_image_laws.specs.Ids.{HasOwnIds, named, times}
 use Rattle.mesa_image_laws.proofs.Defaults.{default_read}
 use Rattle.mesa_image_laws.proofs.Lists.{both_true, is_at_most, is_equal, is_less}
@@ -43,7 +44,7 @@ all_true : {A : Type 0} (p : A → Bool) (xs : List A) → list_all p xs ≡ tru
 all_true p [] e = tt
 all_true p (x ∷ xs) e = let both = both_true (p x) (list_all p xs) e in (both.0, all_true p xs both.1)
 
-all_below : (totals : List ℕ) → list_all (λ total. nat_lt total sum_bound) totals ≡ true → AllByRecursion (λ total. total < sum_bound) totals
+pub all_below : (totals : List ℕ) → list_all (λ total. nat_lt total sum_bound) totals ≡ true → AllByRecursion (λ total. total < sum_bound) totals
 all_below totals e = all_so (λ total. nat_lt total sum_bound ≡ true) (λ total. total < sum_bound) totals (λ total low. is_less total sum_bound low) (all_true (λ total. nat_lt total sum_bound) totals e)
 
 -- ---- a table's columns
@@ -145,8 +146,13 @@ tens start n (r ∷ rs) e =
     λ i. same i ∷ rest i
 
 -- the epoch of a delta that fits
+epoch_since : (l : Lineage) (epoch : ℕ) (files : Option Files) → delta_fits l epoch files ≡ true → (l.begins ≤ epoch) × (epoch ≤ epoch_of l)
+epoch_since l epoch files e =
+    let both = both_true (nat_le l.begins epoch) (nat_le epoch (epoch_of l)) (both_true (has_epoch l epoch) (files_fit_if_any l epoch files) e).0 in
+    (is_at_most l.begins epoch both.0, is_at_most epoch (epoch_of l) both.1)
+
 epoch_fit : (l : Lineage) (d : Delta) → delta_fits l d.epoch d.files ≡ true → d.epoch ≤ epoch_of l
-epoch_fit l d e = is_at_most d.epoch (epoch_of l) (both_true (nat_le d.epoch (epoch_of l)) (files_fit_if_any l d.epoch d.files) e).0
+epoch_fit l d e = (epoch_since l d.epoch d.files e).1
 
 oldest_fit : (oldest next : ℕ) → oldest_fits oldest next ≡ true → (oldest < next) ⊎ ((oldest ≡ 0) × (next ≡ 0))
 oldest_fit oldest next e = by (nat_lt oldest next) refl
@@ -190,6 +196,28 @@ module _ (next : ℕ) (t : StatedTable) where
       all_append E (replicate (s.version - from) empty_delta) (single_stated s ∷ singles_stated (s.version + 1) next ss) (all_replicate E empty_delta (s.version - from) (omega arith))
       (epoch_fit l (single_stated s) fit.0, singles_low (s.version + 1) ss both.1)
 
+  base_since : (o : Option StatedRange) → base_fits l t.oldest next o ≡ true → AllByRecursion (HasBegun l) (base_deltas (option_map range_stated o))
+  base_since None e = tt
+  base_since (Some r) e =
+      let both = both_true (nat_le r.to t.oldest) (range_fits l next r) e in
+      let fit = both_true (nat_lt r.to next) (delta_fits l r.epoch r.files) both.1 in
+      ((epoch_since l r.epoch r.files fit.1).0, tt)
+
+  ranges_since : (rs : List StatedRange) → list_all (range_fits l next) rs ≡ true → AllByRecursion (HasBegun l) (map delta_in (map range_stated rs))
+  ranges_since [] e = tt
+  ranges_since (r ∷ rs) e =
+      let both = both_true (range_fits l next r) (list_all (range_fits l next) rs) e in
+      let fit = both_true (nat_lt r.to next) (delta_fits l r.epoch r.files) both.0 in
+      ((epoch_since l r.epoch r.files fit.1).0, ranges_since rs both.1)
+
+  singles_since : (from : ℕ) (ss : List StatedSingle) → list_all (single_fits l) ss ≡ true → AllByRecursion (HasBegunIfAny l) (singles_stated from next ss)
+  singles_since from [] e = all_replicate (HasBegunIfAny l) empty_delta (next - from) tt
+  singles_since from (s ∷ ss) e =
+      let both = both_true (single_fits l s) (list_all (single_fits l) ss) e in
+      let fit = both_true (delta_fits l s.epoch (Some s.files)) (totals_fit (columns_at l s.epoch) s.totals) both.0 in
+      all_append (HasBegunIfAny l) (replicate (s.version - from) empty_delta) (single_stated s ∷ singles_stated (s.version + 1) next ss) (all_replicate (HasBegunIfAny l) empty_delta (s.version - from) tt)
+      ((epoch_since l s.epoch (Some s.files) fit.0).0, singles_since (s.version + 1) ss both.1)
+
   base_within : (o : Option StatedRange) → AllByRecursion IsWithinBound (base_deltas (option_map range_stated o))
   base_within None = tt
   base_within (Some r) = (tt, tt)
@@ -232,6 +260,8 @@ module _ (next : ℕ) (t : StatedTable) where
         reachable = tens_reach start bases.1;
         ends = covered.0;
         epochs = all_append E (base_deltas (option_map range_stated t.base)) _ base.2 (all_append E (map delta_in (map range_stated t.cumulatives)) _ covered.1 (singles_low (start_stated t) t.singles singles.1));
+        merged_begun = all_append (HasBegun l) (base_deltas (option_map range_stated t.base)) (map delta_in (map range_stated t.cumulatives)) (base_since t.base bases.0) (ranges_since t.cumulatives ranges.1);
+        singles_begun = singles_since (start_stated t) t.singles singles.1;
         recorded = all_append IsWithinBound (base_deltas (option_map range_stated t.base)) _ (base_within t.base) (all_append IsWithinBound (map delta_in (map range_stated t.cumulatives)) _ (ranges_within t.cumulatives) (singles_within (start_stated t) t.singles singles.1));
       }
     where

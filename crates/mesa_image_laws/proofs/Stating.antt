@@ -34,11 +34,11 @@ start_again (Some e) = refl
 -- ---- singletons
 
 -- the first of these is of this version or a later one
-abbrev StartsFrom : ℕ → List StatedSingle → Type 0
+abbrev pub StartsFrom : ℕ → List StatedSingle → Type 0
 StartsFrom from [] = ⊤
 StartsFrom from (s ∷ singles) = from ≤ s.version
 
-starts_lower : (from : ℕ) (singles : List StatedSingle) → StartsFrom (from + 1) singles → StartsFrom from singles
+pub starts_lower : (from : ℕ) (singles : List StatedSingle) → StartsFrom (from + 1) singles → StartsFrom from singles
 starts_lower from [] is = tt
 starts_lower from (s ∷ singles) is = (let le : from ≤ s.version = omega (arith, is) in le)
 
@@ -46,12 +46,12 @@ starts_by : (from epoch : ℕ) (totals : Option (List ℕ)) (files : Option File
 starts_by from epoch totals None rest is = starts_lower from rest is
 starts_by from epoch totals (Some f) rest is = (let le : from ≤ from = omega arith in le)
 
-starts : (from : ℕ) (ds : List Delta) → StartsFrom from (stating_singles from ds)
+pub starts : (from : ℕ) (ds : List Delta) → StartsFrom from (stating_singles from ds)
 starts from [] = tt
 starts from (d ∷ ds) = starts_by from d.epoch d.totals d.files (stating_singles (from + 1) ds) (starts (from + 1) ds)
 
 -- one without rows more
-empty_more : (from next : ℕ) (singles : List StatedSingle) → from < next → StartsFrom (from + 1) singles → singles_stated from next singles ≡ empty_delta ∷ singles_stated (from + 1) next singles
+pub empty_more : (from next : ℕ) (singles : List StatedSingle) → from < next → StartsFrom (from + 1) singles → singles_stated from next singles ≡ empty_delta ∷ singles_stated (from + 1) next singles
 empty_more from next [] lt is =
     let n : next - from ≡ suc (next - (from + 1)) = omega (arith, lt) in
     ap (λ k. replicate k empty_delta) n
@@ -93,7 +93,7 @@ table_again floor next t shaped is =
     let bases = base_again t.base is.base in
     let ranges = ranges_again t.cumulatives is.cumulatives in
     let singles = ap (λ from. singles_stated from next (stating_singles (start_in t) t.singles)) (start_again t.base) ∙ singles_again (start_in t) next t.singles shaped.singles is.singles in
-    λ i. record { name = t.name; lineage = record { begins = sym is.begins i; first = t.lineage.first; changes = t.lineage.changes; views = t.lineage.views }; totals = t.totals; oldest = t.oldest; base = bases i; cumulatives = ranges i; singles = singles i }
+    λ i. record { name = t.name; lineage = t.lineage; totals = t.totals; oldest = t.oldest; base = bases i; cumulatives = ranges i; singles = singles i }
 
 tables_again : (floor next : ℕ) (ts : List Stock) → AllByRecursion (IsShaped floor next) ts → AllByRecursion IsStatable ts → map (stock_stated next) (map stating_table ts) ≡ ts
 tables_again floor next [] shaped is = refl

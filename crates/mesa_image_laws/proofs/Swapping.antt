@@ -1,14 +1,13 @@
 -- A merged range on a whole catalogue.
 use Rattle.std.proofs.Common.{◌≡◌, ℕ, ◌<◌, List, length, Option, Some, Bool, true, false, ◌&&◌, ◌==◌, nat_le}
 use Rattle.std.specs.List.{AllByRecursion}
-use Rattle.mesa_fold.specs.mesa_schema.Changes.{epoch_of}
 use Rattle.mesa_fold.proofs.mesa_schema.Lists.{all_map, all_set}
 use Rattle.mesa_image.specs.mesa_disk.Image.{Image, file_of}
 use Rattle.mesa_image.specs.mesa_commit.Images.{Has}
 use Rattle.mesa_image.specs.mesa_record.declared.record.Files.{Files}
 use Rattle.mesa_image.specs.mesa_record.declared.record.Record.TheVariants as record_of
 use Rattle.mesa_image.specs.Catalog.{Delta, Catalog, start_in, ranges_of, stock_at, stock_swapped, merged_delta, applied}
-use Rattle.mesa_image.specs.Fitting.{shelved, brought, kind_fits, swap_fits, may_be_base, is_there, files_fit_if_any}
+use Rattle.mesa_image.specs.Fitting.{shelved, brought, kind_fits, swap_fits, may_be_base, is_there, files_fit_if_any, has_epoch}
 use Rattle.mesa_image.specs.Contents.{Rows}
 use Rattle.mesa_image.specs.Sound.{wants, wanted, IsStocked, AreStocked}
 use Rattle.mesa_image.specs.Shape.{IsShaped}
@@ -26,7 +25,7 @@ swap_within c table false from to epoch files e = tt
 swap_within c table true from to epoch files e =
     let t = stock_at c table in
     let all = (both_true (is_there c table) (swap_fits c t true from to epoch files) e).1 in
-    let may = (both_true (may_be_base (ranges_of t) t.oldest from to) _ (both_true (may_be_base (ranges_of t) t.oldest from to && nat_le epoch (epoch_of t.lineage)) (files_fit_if_any t.lineage epoch files) all).0).0 in
+    let may = (both_true (may_be_base (ranges_of t) t.oldest from to) _ (both_true (may_be_base (ranges_of t) t.oldest from to && has_epoch t.lineage epoch) (files_fit_if_any t.lineage epoch files) all).0).0 in
     let last = both_true ((from == 0) && nat_le 1 to && nat_le (start_in t) to) (nat_le to t.oldest) may in
     let behind = both_true ((from == 0) && nat_le 1 to) (nat_le (start_in t) to) last.0 in
     (is_at_most (start_in t) to behind.1, is_at_most to t.oldest last.1)

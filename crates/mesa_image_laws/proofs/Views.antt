@@ -1,12 +1,12 @@
 -- A view that is made of a table: what is kept has it too, and files stay under their columns.
-use Rattle.std.proofs.Common.{◌≡◌, ℕ, zero, suc, ◌<◌, List, [], ◌∷◌, ◌++◌, map, length, flat_map, Option, Some, None, refl, sym, ◌∙◌, ap, subst, slice_get, slice_index_or, slice_set, arith}
+use Rattle.std.proofs.Common.{◌≡◌, ℕ, zero, suc, ◌<◌, ◌≤◌, List, [], ◌∷◌, ◌++◌, map, length, flat_map, Option, Some, None, refl, sym, ◌∙◌, ap, subst, slice_get, slice_index_or, slice_set, arith}
 use Rattle.std.proofs.lemmas.List.{map-set}
 use Rattle.std.specs.List.{AllByRecursion}
 use Rattle.mesa_fold.specs.mesa_schema.declared.views.View.{View}
 use Rattle.mesa_fold.specs.mesa_schema.Changes.{Lineage, columns_at, columns_of}
 use Rattle.mesa_fold.specs.mesa_schema.Views.{with_view}
 use Rattle.mesa_fold.proofs.mesa_schema.Lists.{all_set, all_so, map_at}
-use Rattle.mesa_image.specs.mesa_model.Warehouse.{no_table}
+use Rattle.mesa_image.specs.mesa_model.Warehouse.{no_table, table_at}
 use Rattle.mesa_image.specs.mesa_record.declared.record.Files.{Files}
 use Rattle.mesa_image.specs.mesa_record.declared.record.ViewRef.{ViewRef}
 use Rattle.mesa_image.specs.mesa_record.declared.record.Record.TheVariants as record_of
@@ -87,6 +87,20 @@ map_within f (x ∷ xs) (suc n) none d lt = map_within f xs n none d (omega (ari
 -- the table of a number, as it is kept
 pub stock_table : (rows : Rows) (c : Catalog) (table : ℕ) → table < length c.tables → slice_index_or (map (table_of rows c.next) c.tables) table no_table ≡ table_of rows c.next (stock_at c table)
 stock_table rows c table lt = map_within (table_of rows c.next) c.tables table no_table no_stock lt
+
+-- the same of the store that is kept; past the tables there is none
+pub kept_at : (rows : Rows) (c : Catalog) (table : ℕ) → table < length c.tables → table_at (kept_of rows c).store table ≡ table_of rows c.next (stock_at c table)
+unfolding kept_of
+kept_at rows c table lt = stock_table rows c table lt
+
+pub kept_past : (rows : Rows) (c : Catalog) (table : ℕ) → length c.tables ≤ table → table_at (kept_of rows c).store table ≡ no_table
+unfolding kept_of
+kept_past rows c table le = past c.tables table le
+  where
+    past : (tables : List Stock) (i : ℕ) → length tables ≤ i → slice_index_or (map (table_of rows c.next) tables) i no_table ≡ no_table
+    past [] i le = refl
+    past (t ∷ tables) zero le = absurd (omega (arith, le))
+    past (t ∷ tables) (suc i) le = past tables i (omega (arith, le))
 
 -- Files under the same columns, where one table's are.
 pub set_shelved : (tables : List Stock) (n : ℕ) (t : Stock) → stock_shelved t ≡ stock_shelved (slice_index_or tables n no_stock) → flat_map stock_shelved (slice_set tables n t) ≡ flat_map stock_shelved tables

@@ -20,10 +20,11 @@ use Rattle.mesa_image.specs.Fitting.{fits, kind_fits, brings_new_files, with_bod
 use Rattle.mesa_image.specs.Journaled.{catalog, checkpoint_in, first_body, first_by, first_read, stated_if}
 use Rattle.mesa_image_laws.specs.Countable.{AreCounted}
 use Rattle.mesa_image_laws.specs.Statable.{AreStatable}
+use Rattle.mesa_image_laws.specs.Recordable.{AreRecordable}
 use Rattle.mesa_image_laws.proofs.StatableRecords.{applied_so, stated_so}
 use Rattle.mesa_image_laws.proofs.StatedShape.{stated_owns, stated_shaped}
 use Rattle.mesa_image_laws.proofs.CountedRecords.{fits_counted, stated_counted}
-use Rattle.mesa_image_laws.proofs.Recordable.{AreRecordable, applied_recordable, stated_recordable}
+use Rattle.mesa_image_laws.proofs.Recordable.{applied_recordable, stated_recordable}
 use Rattle.mesa_fold.proofs.mesa_schema.Lists.{all_so}
 use Rattle.mesa_image.specs.Shape.{IsCatalog}
 use Rattle.mesa_image_laws.specs.Ids.{HasOwnIds}
@@ -33,6 +34,7 @@ use Rattle.mesa_image_laws.proofs.Lists.{both_true, is_less}
 use Rattle.mesa_image_laws.proofs.Shaping.{run_shaped, expire_shaped}
 use Rattle.mesa_image_laws.proofs.ShapedTables.{table_shaped, view_shaped, alter_shaped, expire_table_shaped}
 use Rattle.mesa_image_laws.proofs.ShapedBatches.{publish_shaped, swap_shaped}
+use Rattle.mesa_image_laws.proofs.ShapedRecasts.{recast_catalog}
 
 -- A record that keeps the rules of its kind keeps the shape.
 pub kind_shaped : (c : Catalog) (r : Record) → IsCatalog c → IsTyped r → kind_fits c r ≡ true → IsCatalog (applied c r)
@@ -47,6 +49,7 @@ kind_shaped c (record_of.Expire version) is typed e =
     expire_shaped c version (is_less version c.next both.1) is
 kind_shaped c (record_of.ExpireTable table version) is typed e = expire_table_shaped c table version is e
 kind_shaped c (record_of.Checkpoint k) is typed e = is
+kind_shaped c (record_of.Recast k) is typed e = recast_catalog c k is e
 
 -- A record that fits keeps the shape.
 pub fits_shaped : (c : Catalog) (r : Record) → IsCatalog c → IsTyped r → fits c r ≡ true → IsCatalog (applied c r)

@@ -4,8 +4,8 @@ use Rattle.std.proofs.lemmas.Bool.{cases_lt}
 use Rattle.std.proofs.lemmas.Bool.Decides.{nat_tests}
 use Rattle.std.proofs.lemmas.List.{append-nil, map-append}
 use Rattle.std.specs.List.{AllByRecursion}
+use Rattle.mesa_image.specs.mesa_history.Sources.{Written, source_written, sources_from, version_written}
 use Rattle.mesa_image.specs.mesa_span.Ranges.{Rise}
-use Rattle.mesa_image_laws.specs.Sourced.{Written, source_written, sources_from, version_written}
 
 abbrev pub is_within : ℕ → ℕ → Written → Bool
 is_within from to w = nat_le from w.version && nat_le w.version to

@@ -1,17 +1,19 @@
 -- What is asked of the rows that a record brings, so that the catalogue after it stands for the next state.
-use Rattle.std.specs.Prelude.{◌≡◌, ℕ, ◌+◌, ◌-◌, List, [], ◌∷◌, map, take, Option, Some, None, Bool, true, false, ⊤}
+use Rattle.std.specs.Prelude.{◌≡◌, ℕ, ◌+◌, ◌-◌, List, [], ◌∷◌, map, take, Option, Some, None, IfSome, Bool, true, false, ⊤}
 use Rattle.std.specs.List.{AllByRecursion}
 use Rattle.mesa_fold.specs.mesa_schema.declared.rows.Row.{Row}
 use Rattle.mesa_fold.specs.mesa_schema.Columns.{aggs_of}
 use Rattle.mesa_fold.specs.mesa_schema.Changes.{Lineage, columns_of, epoch_of}
 use Rattle.mesa_fold.specs.mesa_schema.Folded.{folded}
+use Rattle.mesa_fold.specs.mesa_schema.Recasts.{Recast, recast_columns, recast_rows}
 use Rattle.mesa_fold.specs.mesa_batch.Batch.{Placed, rows_for}
 use Rattle.mesa_fold.specs.mesa_batch.Totals.{abs_totals}
 use Rattle.mesa_image.specs.mesa_record.declared.record.Part.{Part}
 use Rattle.mesa_image.specs.mesa_record.declared.record.Record.{Record}
-use Rattle.mesa_image.specs.Catalog.{Catalog, Delta, Stock, empty_delta, part_delta, part_of, start_in}
+use Rattle.mesa_image.specs.mesa_record.declared.recasting.Recasting.{Recasting}
+use Rattle.mesa_image.specs.Catalog.{Catalog, Delta, Ending, Stock, base_told, empty_delta, part_delta, part_of, recast_in, singles_told, start_in}
 use Rattle.mesa_image.specs.Fitting.{Shelved, brought}
-use Rattle.mesa_image.specs.Contents.{Rows, deltas_to, present}
+use Rattle.mesa_image.specs.Contents.{Rows, deltas_to, present, rows_in}
 use Rattle.mesa_image.specs.Sound.{AreGrouped, IsTold}
 
 -- ---- a batch
@@ -54,6 +56,32 @@ merged_of t false to = take (to + 1 - start_in t) t.singles
 pub record Merges (rows : Rows) (t : Stock) (base : Bool) (to : ℕ) (d : Delta) : Type 0 where
   pub replaces : Replaces rows t.lineage d (merged_of t base to)
   pub grouped : AreGrouped rows t.lineage d
+
+-- ---- a recast
+
+-- A delta has the rows of another, at present, regrouped, and if totals are recorded for it, they are those of its rows.
+pub record IsRegrouped (rows : Rows) (l : Lineage) (r : Recast) (old new : Delta) : Type 0 where
+  pub rows_are : rows_in rows new ≡ recast_rows (columns_of l) r (present rows l old)
+  pub totals : IfSome new.totals (λ totals. totals ≡ abs_totals (recast_columns (columns_of l) r) (rows_in rows new))
+
+-- one of each
+abbrev pub AreRegrouped : Rows → Lineage → Recast → List Delta → List Delta → Type 0
+AreRegrouped rows l r [] [] = ⊤
+AreRegrouped rows l r [] (new ∷ news) = ⊥
+AreRegrouped rows l r (old ∷ olds) [] = ⊥
+AreRegrouped rows l r (old ∷ olds) (new ∷ news) = IsRegrouped rows l r old new × AreRegrouped rows l r olds news
+
+-- a base of a base
+abbrev pub IsBaseRegrouped : Rows → Lineage → Recast → Option Ending → Option Ending → Type 0
+IsBaseRegrouped rows l r None None = ⊤
+IsBaseRegrouped rows l r None (Some new) = ⊥
+IsBaseRegrouped rows l r (Some old) None = ⊥
+IsBaseRegrouped rows l r (Some old) (Some new) = IsRegrouped rows l r old.delta new.delta
+
+-- A recast brings to a table, of so many versions, its rows as they are at present, regrouped range by range.
+pub record BringsRecast (rows : Rows) (next : ℕ) (t : Stock) (k : Recasting) : Type 0 where
+  pub base : IsBaseRegrouped rows t.lineage (recast_in k) t.base (base_told k)
+  pub singles : AreRegrouped rows t.lineage (recast_in k) t.singles (singles_told next t k)
 
 -- ---- files
 

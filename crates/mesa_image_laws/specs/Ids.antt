@@ -35,9 +35,22 @@ delta_ids d = file_ids d.files
 abbrev pub dropped_deltas : Stock → ℕ → List Delta
 dropped_deltas t to = base_deltas t.base ++ (map delta_in t.cumulatives ++ take (to + 1 - start_in t) t.singles)
 
--- The ids of the files that a record lets go: those of the deltas whose place a new base takes.
+-- the id of a table's own file, without its views'
+abbrev pub own_id : Option Files → List ℕ
+own_id None = []
+own_id (Some f) = f.file.id ∷ []
+
+abbrev pub own_delta_id : Delta → List ℕ
+own_delta_id d = own_id d.files
+
+-- the ids of the files that go with a recast of a table: the table's own of the base and the singletons, and all of the cumulatives
+abbrev pub recast_dropped : Stock → List ℕ
+recast_dropped t = flat_map own_delta_id (base_deltas t.base ++ t.singles) ++ flat_map delta_ids (map delta_in t.cumulatives)
+
+-- The ids of the files that a record lets go: those of the deltas whose place a new base takes, and those that a recast takes the place of.
 abbrev pub dropped_ids : Catalog → Record → List ℕ
 dropped_ids c (record_of.Swap table true from to epoch files) = flat_map delta_ids (dropped_deltas (stock_at c table) to)
+dropped_ids c (record_of.Recast k) = recast_dropped (stock_at c k.table)
 dropped_ids c r = []
 
 -- Each id is that of one file, and of a run up to the last one.

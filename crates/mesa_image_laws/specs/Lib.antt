@@ -9,6 +9,8 @@ pub mod Brought
 pub mod Moves
 pub mod Ids
 pub mod Sourced
+pub mod Rewritten
 pub mod Planned
 pub mod Statable
 pub mod Countable
+pub mod Recordable

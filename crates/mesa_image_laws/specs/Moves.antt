@@ -3,6 +3,7 @@ use Rattle.std.specs.Prelude.{◌≡◌, ℕ, List, [], ◌∷◌, ◌++◌, Non
 use Rattle.mesa_fold.specs.mesa_schema.declared.changes.Change.{Change}
 use Rattle.mesa_fold.specs.mesa_schema.declared.views.View.{View}
 use Rattle.mesa_fold.specs.mesa_schema.Columns.{Columns}
+use Rattle.mesa_fold.specs.mesa_schema.Recasts.{Recast}
 use Rattle.mesa_fold.specs.mesa_schema.Views.{with_view}
 use Rattle.mesa_fold.specs.mesa_batch.Batch.{Placed}
 use Rattle.mesa_image.specs.mesa_span.declared.works.Work.{Work}
@@ -13,9 +14,10 @@ use Rattle.mesa_image.specs.mesa_disk.Image.{Image}
 use Rattle.mesa_image.specs.mesa_commit.Images.{Has}
 use Rattle.mesa_image.specs.mesa_model.Warehouse.{Table, Warehouse, table_at, with_table, with_tables}
 use Rattle.mesa_image.specs.mesa_model.Load.{with_batch}
-use Rattle.mesa_image.specs.mesa_model.Tables.{new_table, table_changed}
+use Rattle.mesa_image.specs.mesa_model.Tables.{new_table, table_changed, with_recast}
 use Rattle.mesa_image.specs.mesa_model.Versions.{store_from, table_from}
 use Rattle.mesa_image.specs.mesa_history.Found.{Kept}
+use Rattle.mesa_image.specs.mesa_history.Machine.{without_cumulatives}
 use Rattle.mesa_image.specs.mesa_record.declared.record.Record.{Record}
 use Rattle.mesa_image.specs.Catalog.{Catalog, applied}
 use Rattle.mesa_image.specs.Fitting.{brought, shelved}
@@ -79,6 +81,10 @@ last_of (work.Cumulative from to) = to
 -- once a work's range is swapped in: the ranges change, and no content
 abbrev pub kept_swapped : Kept → ℕ → Work → Kept
 kept_swapped k table w = record k { ranges = slice_set k.ranges table (swapped w (slice_index_or k.ranges table (new_ranges 0))) }
+
+-- once the table of a number is recast: its contents are grouped, and its cumulatives go
+abbrev pub kept_recast : Kept → ℕ → Recast → Kept
+kept_recast k table r = record (kept_with (with_recast (warehouse_of k) table r) k) { ranges = slice_set k.ranges table (without_cumulatives (slice_index_or k.ranges table (new_ranges 0))) }
 
 -- A record moves a catalogue to one that stands for this: what is to hold of rows holds again, and each file that is then named was named before or is brought.
 pub record Moves (rows : Rows) (c : Catalog) (r : Record) (after : Kept) : Type 0 where

@@ -1,21 +1,16 @@
--- What the rows of a delta were made of: what a run found of a table when it began, and what the batches brought to it since.
-use Rattle.std.specs.Prelude.{◌≡◌, ℕ, ◌+◌, ◌<◌, ◌≤◌, List, [], ◌∷◌, ◌++◌, map, filter, length, ◌&&◌, nat_le, Option, None, Some, IfSome, ⊤}
+-- What the rows of a delta were made of: what a run found of a table when it began, and what the batches brought to it since, carried through its recasts.
+use Rattle.std.specs.Prelude.{◌≡◌, ℕ, ◌+◌, ◌<◌, ◌≤◌, List, [], ◌∷◌, ◌++◌, map, length, Option, None, Some, IfSome, ⊤}
 use Rattle.std.specs.List.{AllByRecursion}
 use Rattle.mesa_fold.specs.mesa_schema.Changes.{Lineage, columns_at, columns_of, epoch_of}
 use Rattle.mesa_fold.specs.mesa_schema.Rows.{AreRowsOf}
 use Rattle.mesa_fold.specs.mesa_batch.Batch.{Named, Placed, rows_for}
 use Rattle.mesa_image.specs.mesa_span.Ranges.{Rise}
-use Rattle.mesa_image.specs.mesa_history.Law.{Accepted}
-use Rattle.mesa_image.specs.mesa_history.Sources.{Source, source_in, range_rows}
+use Rattle.mesa_image.specs.mesa_history.Law.{Writing, written_through}
+use Rattle.mesa_image.specs.mesa_history.Sources.{Source, Written, range_rows, sources_from, version_written}
 use Rattle.mesa_image.specs.Catalog.{Catalog, Delta, Ending, Stock, start_in}
-use Rattle.mesa_image.specs.Contents.{Rows, rows_in, present}
+use Rattle.mesa_image.specs.Contents.{Rows, kept_of, rows_in, present}
 
 -- ---- what was written
-
--- Rows of a table as they were first written, and the version that they made.
-pub record Written : Type 0 where
-  pub version : ℕ
-  pub source : Source
 
 -- a delta's rows as it has them
 abbrev pub source_of : Rows → Delta → Source
@@ -35,23 +30,9 @@ base_written rows (Some e) = record { version = e.to; source = source_of rows e.
 abbrev pub found_written : Rows → Stock → List Written
 found_written rows t = base_written rows t.base ++ singles_written rows (start_in t) t.singles
 
--- what an accepted batch writes of the table of a number
-abbrev pub batch_written : ℕ → Accepted → Written
-batch_written number a = record { version = a.version; source = source_in number a }
-
--- All that was written of the table of a number: what the run found, and the batches that it accepted.
-abbrev pub all_written : (ℕ → List Written) → List Accepted → ℕ → List Written
-all_written found accepted number = found number ++ map (batch_written number) accepted
-
-abbrev pub source_written : Written → Source
-source_written w = w.source
-
-abbrev pub version_written : Written → ℕ
-version_written w = w.version
-
--- what was written from one version to another
-abbrev pub sources_from : ℕ → ℕ → List Written → List Source
-sources_from from to written = map source_written (filter (λ (w : Written). nat_le from w.version && nat_le w.version to) written)
+-- What stands written of each table behind a turn of the warehouse for which a catalogue stands.
+abbrev pub written_behind : Rows → Catalog → Writing → (ℕ → List Written) → ℕ → List Written
+written_behind rows c w written number = written_through (kept_of rows c).store w number (written number)
 
 -- Rows are of an epoch that the table had, and have the form of its columns then.
 pub record HasForm (l : Lineage) (s : Source) : Type 0 where
@@ -111,24 +92,15 @@ pub record HasSources (rows : Rows) (written : ℕ → List Written) (c : Catalo
   pub tables : AreSourced rows written 0 c.tables
   pub others : (number : ℕ) → length c.tables ≤ number → AreToCome c.next (written number)
 
--- what is written once a batch is accepted
-abbrev pub written_with : (ℕ → List Written) → Accepted → ℕ → List Written
-written_with written a number = written number ++ batch_written number a ∷ []
-
-abbrev pub epoch_in : Stock → ℕ
-epoch_in t = epoch_of t.lineage
-
 -- A batch's rows for each table from a number on have the form of its present columns.
 abbrev pub AreFormed : List Placed → ℕ → List Stock → Type 0
 AreFormed batch number [] = ⊤
 AreFormed batch number (t ∷ tables) = AreRowsOf (columns_of t.lineage) (rows_for number batch) × AreFormed batch (number + 1) tables
 
--- A batch is accepted as a catalogue's next version: it has the present epochs, and rows of the present form for the tables that are there.
-pub record IsAccepted (c : Catalog) (a : Accepted) : Type 0 where
-  pub version : a.version ≡ c.next
-  pub epochs : a.epochs ≡ map epoch_in c.tables
-  pub formed : AreFormed a.batch 0 c.tables
-  pub within : (number : ℕ) → length c.tables ≤ number → rows_for number a.batch ≡ []
+-- A batch may be accepted: it has rows of the present form for the tables that are there, and none for others.
+pub record IsAccepted (c : Catalog) (batch : List Placed) : Type 0 where
+  pub formed : AreFormed batch 0 c.tables
+  pub within : (number : ℕ) → length c.tables ≤ number → rows_for number batch ≡ []
 
 -- the tables by which a load's rows are read
 abbrev pub tables_read : Catalog → List Named

@@ -19,9 +19,8 @@ IsSingle d = (d ≡ empty_delta) ⊎ HasRows d
 abbrev pub IsUncounted : Ending → Type 0
 IsUncounted e = e.delta.totals ≡ None
 
--- A checkpoint can state a table: its columns are those from its first epoch on, no totals are recorded of its merged ranges, and of each singleton all is known or nothing.
+-- A checkpoint can state a table: no totals are recorded of its merged ranges, and of each singleton all is known or nothing.
 pub record IsStatable (t : Stock) : Type 0 where
-  pub begins : t.lineage.begins ≡ 0
   pub base : IfSome t.base IsUncounted
   pub cumulatives : AllByRecursion IsUncounted t.cumulatives
   pub singles : AllByRecursion IsSingle t.singles

@@ -6,6 +6,7 @@
 mod checkpoints;
 mod files;
 mod moves;
+mod rewriting;
 mod shapes;
 mod sources;
 mod works;
@@ -15,7 +16,8 @@ pub use files::{
     brought_ids_are_new, catalogs_own_ids, changes_keep_files, expiries_keep_files,
     ids_are_counted, rows_count_where_named, views_keep_files,
 };
-pub use moves::{batches_move, commands_move, runs_move_nothing, works_move};
+pub use moves::{batches_move, commands_move, recasts_move, runs_move_nothing, works_move};
+pub use rewriting::rewritten_ranges_bring;
 pub use shapes::{catalogs_are_shaped, catalogs_go_on, records_keep_shape};
 pub use sources::{
     batches_are_accepted, sources_begin, sources_go_on, sources_tell, works_merge_sources,

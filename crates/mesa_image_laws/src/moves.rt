@@ -1,15 +1,20 @@
 // What each record moves.
 ghost use Rattle.mesa_fold.specs.mesa_batch.Batch.{Placed};
-ghost use Rattle.mesa_image.specs.Catalog.{Catalog, merged_delta, stock_at};
+ghost use Rattle.mesa_image.specs.Catalog.{Catalog, applied, merged_delta, recast_in, stock_at};
 ghost use Rattle.mesa_image.specs.Contents.{Rows, kept_of};
 ghost use Rattle.mesa_image.specs.Fitting.{fits};
 ghost use Rattle.mesa_image.specs.Shape.{IsCatalog};
 ghost use Rattle.mesa_image.specs.Sound.{AreStocked};
-ghost use Rattle.mesa_image_laws.specs.Brought.{AreTold, BringsAll, Merges};
-ghost use Rattle.mesa_image_laws.specs.Moves.{Moves, kept_altered, kept_expired, kept_expired_of, kept_loaded, kept_made, kept_swapped, kept_viewed, work_of};
+ghost use Rattle.mesa_image_laws.specs.Brought.{AreTold, BringsAll, BringsRecast, Merges};
+ghost use Rattle.mesa_image_laws.specs.Moves.{Moves, kept_altered, kept_expired, kept_expired_of, kept_loaded, kept_made, kept_recast, kept_swapped, kept_viewed, work_of};
+ghost use Rattle.mesa_image.specs.mesa_history.Found.{kept_of as kept_in_state};
+ghost use Rattle.mesa_image.specs.mesa_history.Machine.{Claim};
+ghost use Rattle.mesa_image.specs.mesa_history.Replay.{recasted};
+ghost use Rattle.mesa_image.specs.mesa_history.Run.{State};
 ghost use Rattle.mesa_image.specs.mesa_record.declared.record.Files.{Files as FilesOf};
 ghost use Rattle.mesa_image.specs.mesa_record.declared.record.Part.{Part as PartOf};
 ghost use Rattle.mesa_image.specs.mesa_record.declared.record.Record.TheVariants as record_of;
+ghost use Rattle.mesa_image.specs.mesa_record.declared.recasting.Recasting.{Recasting as RecastingOf};
 ghost use Rattle.mesa_image.specs.mesa_record.Rules.{IsTypedChange};
 ghost use Rattle.mesa_fold.specs.mesa_schema.declared.changes.Change.{Change as ChangeOf};
 ghost use Rattle.mesa_fold.specs.mesa_schema.declared.columns.KeyColumn.{KeyColumn as KeyOf};
@@ -49,4 +54,15 @@ pub fn works_move()
     ensures { (rows : Rows) (c : Catalog) (table : ℕ) (base : Bool) (from to epoch : ℕ) (files : Option FilesOf) → IsCatalog c → AreStocked rows c
         → fits c (record_of.Swap table base from to epoch files) ≡ true → AreTold rows c (record_of.Swap table base from to epoch files) → Merges rows (stock_at c table) base to (merged_delta epoch files)
         → Moves rows c (record_of.Swap table base from to epoch files) (kept_swapped (kept_of rows c) table (work_of base from to)) }
+{}
+
+/// A recast moves what is kept as its command moves the reference warehouse and the ranges, where it
+/// brings the table's rows, regrouped, and its files are true. So a catalogue that stands for a state
+/// stands, behind the record, for the state in which the claim's table is recast.
+pub fn recasts_move()
+    ensures moves { (rows : Rows) (c : Catalog) (k : RecastingOf) → IsCatalog c → AreStocked rows c → fits c (record_of.Recast k) ≡ true
+        → AreTold rows c (record_of.Recast k) → BringsRecast rows c.next (stock_at c k.table) k → Moves rows c (record_of.Recast k) (kept_recast (kept_of rows c) k.table (recast_in k)) }
+    ensures closes { (rows : Rows) (c : Catalog) (k : RecastingOf) (s : State) (claim : Claim) → IsCatalog c → AreStocked rows c → fits c (record_of.Recast k) ≡ true
+        → AreTold rows c (record_of.Recast k) → BringsRecast rows c.next (stock_at c k.table) k → k.table ≡ claim.table → kept_of rows c ≡ kept_in_state s
+        → kept_of rows (applied c (record_of.Recast k)) ≡ kept_in_state (recasted s claim (recast_in k)) }
 {}

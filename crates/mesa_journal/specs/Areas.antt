@@ -12,7 +12,7 @@ other_of One = Zero
 
 -- the kinds of a checkpoint's record, one for each edition
 abbrev pub is_checkpoint : ℕ → Bool
-is_checkpoint kind = (kind == 8) || (kind == 11) || (kind == 13)
+is_checkpoint kind = (kind == 8) || (kind == 11) || (kind == 13) || (kind == 15)
 
 -- The number of a checkpoint, in the four bytes behind its kind; 0 for another body. It is read whether or not the rest of the body spells a checkpoint: so one that doesn't still leads, and is told, where an older area would be opened in its place.
 unfoldable pub number_in : List ℕ → ℕ

@@ -31,5 +31,5 @@ pub fn number_in(body: &[u8]) -> u32
 fn is_checkpoint(kind: u8) -> bool
     ensures { result ≡ is_checkpoint kind }
 {
-    kind == 8 || kind == 11 || kind == 13
+    kind == 8 || kind == 11 || kind == 13 || kind == 15
 }

@@ -11,7 +11,7 @@ use Rattle.mesa_value.specs.Agg.{IsAmount}
 use Rattle.mesa_key.specs.declared.Format.{Format}
 use Rattle.mesa_key.specs.declared.Format.TheVariants as format
 use Rattle.mesa_record.specs.declared.edition.Edition.{Edition}
-use Rattle.mesa_record.specs.declared.edition.Edition.TheVariants.{First, Second, Third}
+use Rattle.mesa_record.specs.declared.edition.Edition.TheVariants.{First, Second, Third, Fourth}
 use Rattle.mesa_file.specs.declared.file_ref.FileRef.{FileRef}
 use Rattle.mesa_record.specs.declared.record.ViewRef.{ViewRef}
 use Rattle.mesa_record.specs.declared.record.Files.{Files}
@@ -35,6 +35,7 @@ wider : (e : Edition) (z : ℤ) → IsAggregate e z → IsAmount z
 wider First z h = omega (arith, h)
 wider Second z h = h
 wider Third z h = h
+wider Fourth z h = h
 
 pub all_wider : (e : Edition) (zs : List ℤ) → AllByRecursion (IsAggregate e) zs → AllByRecursion IsAmount zs
 all_wider e [] all = tt
@@ -44,6 +45,7 @@ wider_total : (e : Edition) (n : ℕ) → IsTotalIn e n → IsTotal n
 wider_total First n h = omega (arith, h)
 wider_total Second n h = h
 wider_total Third n h = h
+wider_total Fourth n h = h
 
 pub totals_wider : (e : Edition) (ns : List ℕ) → AllByRecursion (IsTotalIn e) ns → AllByRecursion IsTotal ns
 totals_wider e [] all = tt
@@ -53,32 +55,38 @@ pub totals_fit : (e : Edition) (ns : List ℕ) → AllByRecursion (IsTotalIn e) 
 totals_fit First ns all = all
 totals_fit Second ns all = tt
 totals_fit Third ns all = tt
+totals_fit Fourth ns all = tt
 
 pub totals_in : (e : Edition) (ns : List ℕ) → AllByRecursion IsTotal ns → FitsTotals e ns → AllByRecursion (IsTotalIn e) ns
 totals_in First ns all fits = fits
 totals_in Second ns all fits = all
 totals_in Third ns all fits = all
+totals_in Fourth ns all fits = all
 
 aggregates_in : (e : Edition) (f : FileRef) → IsTypedRef f → FitsRef e f → AllByRecursion (IsAggregate e) f.aggregates
 aggregates_in First f typed fits = fits.1
 aggregates_in Second f typed fits = typed.aggregates
 aggregates_in Third f typed fits = typed.aggregates
+aggregates_in Fourth f typed fits = typed.aggregates
 
 -- the format that an edition tells
 abbrev TellsFormat : Edition → Format → Type 0
 TellsFormat First f = f ≡ format.One
 TellsFormat Second f = Unit {0}
 TellsFormat Third f = Unit {0}
+TellsFormat Fourth f = Unit {0}
 
 format_in : (e : Edition) (f : FileRef) → FitsRef e f → TellsFormat e f.format
 format_in First f fits = fits.0
 format_in Second f fits = tt
 format_in Third f fits = tt
+format_in Fourth f fits = tt
 
 ref_fits : (e : Edition) (f : FileRef) → TellsFormat e f.format → AllByRecursion (IsAggregate e) f.aggregates → FitsRef e f
 ref_fits First f is all = (is, all)
 ref_fits Second f is all = tt
 ref_fits Third f is all = tt
+ref_fits Fourth f is all = tt
 
 format_meant : (f : Format) → format_of (format_byte f) ≡ Some f
 format_meant format.One = refl
@@ -97,12 +105,14 @@ format_again : (e : Edition) (f : Format) → TellsFormat e f → Again (format_
 format_again First f is at more = (at, ap (λ (x : Format). Ok (x, here at more)) (sym is))
 format_again Second f is at more = meaning_again format_of (format_byte f) f (format_meant f) at more
 format_again Third f is at more = meaning_again format_of (format_byte f) f (format_meant f) at more
+format_again Fourth f is at more = meaning_again format_of (format_byte f) f (format_meant f) at more
 
 format_found : (e : Edition) → Found (format_at e) (format_field e) (TellsFormat e)
 format_found First l after f bytes h =
     subst (λ (z : Format × Left). (z.0 ≡ format.One) × Begins l [] z.1) (ok_is (format.One, l) (f, after) h) (refl, record { split = refl; rest = bytes })
 format_found Second l after f bytes h = let g = meaning_found format_of format_byte format_of_byte l after f bytes h in (tt, g.1)
 format_found Third l after f bytes h = let g = meaning_found format_of format_byte format_of_byte l after f bytes h in (tt, g.1)
+format_found Fourth l after f bytes h = let g = meaning_found format_of format_byte format_of_byte l after f bytes h in (tt, g.1)
 
 -- a reference within its types that keeps the rules, and that an edition has room for
 pub record IsRef (e : Edition) (f : FileRef) : Type 0 where

@@ -6,5 +6,6 @@ pub mod Texts
 pub mod ColumnsBoth
 pub mod FilesBoth
 pub mod StatedBoth
+pub mod RecastBoth
 pub mod RecordsBoth
 pub mod Room

@@ -11,7 +11,7 @@ use Rattle.std.proofs.lemmas.Nat.{be_bytes_2, be_bytes_4, be_bytes_8, from_be_by
 use Rattle.mesa_list.proofs.WideBytes.{be_bytes_16, from_be_bytes-to_be_bytes_16}
 use Rattle.mesa_value.specs.Agg.{IsAmount, IsNarrow}
 use Rattle.mesa_record.specs.declared.edition.Edition.{Edition}
-use Rattle.mesa_record.specs.declared.edition.Edition.TheVariants.{First, Second, Third}
+use Rattle.mesa_record.specs.declared.edition.Edition.TheVariants.{First, Second, Third, Fourth}
 use Rattle.mesa_record.specs.declared.error.RecordError.TheVariants as fault
 use Rattle.mesa_record.specs.Reading.{Left, Read, aggregate_at, amount_at, total_at, wide_amount_at, wide_at, behind, byte_at, half_at, long_at, piece_at, word_at}
 use Rattle.mesa_record.specs.Rules.{IsHalf, IsLong, IsTotal, IsWord}
@@ -171,28 +171,34 @@ abbrev pub IsAggregate : Edition → ℤ → Type 0
 IsAggregate First z = IsNarrow z
 IsAggregate Second z = IsAmount z
 IsAggregate Third z = IsAmount z
+IsAggregate Fourth z = IsAmount z
 
 pub aggregate_again : (e : Edition) (z : ℤ) → IsAggregate e z → Again (aggregate_at e) (aggregate e z) z
 aggregate_again First = amount_again
 aggregate_again Second = wide_amount_again
 aggregate_again Third = wide_amount_again
+aggregate_again Fourth = wide_amount_again
 
 pub aggregate_found : (e : Edition) → Found (aggregate_at e) (aggregate e) (IsAggregate e)
 aggregate_found First = amount_found
 aggregate_found Second = wide_amount_found
 aggregate_found Third = wide_amount_found
+aggregate_found Fourth = wide_amount_found
 
 abbrev pub IsTotalIn : Edition → ℕ → Type 0
 IsTotalIn First n = IsLong n
 IsTotalIn Second n = IsTotal n
 IsTotalIn Third n = IsTotal n
+IsTotalIn Fourth n = IsTotal n
 
 pub total_again : (e : Edition) (n : ℕ) → IsTotalIn e n → Again (total_at e) (total e n) n
 total_again First = long_again
 total_again Second = wide_again
 total_again Third = wide_again
+total_again Fourth = wide_again
 
 pub total_found : (e : Edition) → Found (total_at e) (total e) (IsTotalIn e)
 total_found First = long_found
 total_found Second = wide_found
 total_found Third = wide_found
+total_found Fourth = wide_found

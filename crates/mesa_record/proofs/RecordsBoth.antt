@@ -8,7 +8,7 @@ use Rattle.mesa_key.specs.Spelling.{AreBytes}
 use Rattle.mesa_schema.specs.declared.columns.KeyColumn.{KeyColumn}
 use Rattle.mesa_schema.specs.declared.columns.ValueColumn.{ValueColumn}
 use Rattle.mesa_record.specs.declared.edition.Edition.{Edition}
-use Rattle.mesa_record.specs.declared.edition.Edition.TheVariants.{First, Second, Third}
+use Rattle.mesa_record.specs.declared.edition.Edition.TheVariants.{First, Second, Third, Fourth}
 use Rattle.mesa_record.specs.declared.error.RecordError.{RecordError}
 use Rattle.mesa_record.specs.declared.record.Record.{Record}
 use Rattle.mesa_record.specs.declared.record.Record.TheVariants as record_of
@@ -16,14 +16,15 @@ use Rattle.mesa_record.specs.declared.record.Files.{Files}
 use Rattle.mesa_record.specs.declared.record.Part.{Part}
 use Rattle.mesa_record.specs.declared.checkpoint.Checkpoint.{Checkpoint}
 use Rattle.mesa_record.specs.Editions.{IsSpelled}
-use Rattle.mesa_record.specs.Reading.{Left, Read, alter_at, byte_at, change_at, checkpoint_at, ended, expire_at, expire_table_at, fields_of, file_ref_at, files_at, files_if_any_at, flag_of, half_at, key_columns_at, meaning, name_at, names_at, part_at, part_number, publish_at, record_at, rising, run_at, stated_at, swap_at, table_at, value_columns_at, view_at, word_at}
+use Rattle.mesa_record.specs.Reading.{Left, Read, alter_at, byte_at, change_at, checkpoint_at, ended, expire_at, expire_table_at, fields_of, file_ref_at, files_at, files_if_any_at, flag_of, half_at, key_columns_at, meaning, name_at, names_at, part_at, part_number, publish_at, recast_at, recasting_at, record_at, rising, run_at, stated_at, swap_at, table_at, value_columns_at, view_at, word_at}
 use Rattle.mesa_record.specs.Rules.{FitsIn, FitsPart, IsHalf, IsNamed, IsRecord, IsTypedPart, IsWord, are_files, is_count_of_columns, is_part, rise_from}
-use Rattle.mesa_record.specs.Spelling.{change, checkpoint_fields, checkpoint_kind, counted, files_if_any, flag, half, key_column, part, publish_kind, spelled_in, swap_kind, text, value_column, word}
+use Rattle.mesa_record.specs.Spelling.{change, checkpoint_fields, checkpoint_kind, counted, files_if_any, flag, half, key_column, part, publish_kind, recasting_fields, spelled_in, swap_kind, text, value_column, word}
 use Rattle.mesa_record.proofs.Both.{Again, Begins, Bytes, Found, InOrder, all_bytes, begins_two, here, list_again, list_found, ok_is, step_of}
 use Rattle.mesa_record.proofs.Numbers.{byte_again, byte_found, half_again, half_found, one, word_again, word_found}
 use Rattle.mesa_record.proofs.Texts.{meaning_again, meaning_found}
 use Rattle.mesa_record.proofs.ColumnsBoth.{HasKeys, HasNames, HasValues, IsChange, change_again, change_found, either_way, flag_again, flag_of_byte, keys_again, keys_found, made_again, made_found, name_again, name_found, names_again, names_found, two_again, two_found, values_again, values_found}
 use Rattle.mesa_record.proofs.FilesBoth.{AreFilesIfAny, IsPart, all_true, files_if_any_again, files_if_any_found, files_if_any_keep, files_if_any_of, files_keep, files_of, part_again, part_found, totals_fit, totals_in, totals_wider}
+use Rattle.mesa_record.proofs.RecastBoth.{IsRecasting, recasting_again, recasting_found}
 use Rattle.mesa_record.proofs.StatedBoth.{IsStated, stated_again, stated_found}
 
 -- ---- what the rules say of a batch's parts
@@ -66,6 +67,7 @@ kind_number e (record_of.Swap table base from to epoch f) = swap_kind e
 kind_number e (record_of.Expire version) = 7
 kind_number e (record_of.ExpireTable table version) = 12
 kind_number e (record_of.Checkpoint k) = checkpoint_kind e
+kind_number e (record_of.Recast r) = 14
 
 -- a record's bytes behind its kind
 abbrev fields : Edition → Record → List ℕ
@@ -78,6 +80,7 @@ fields e (record_of.Swap table base from to epoch f) = half table ++ (flag base 
 fields e (record_of.Expire version) = word version
 fields e (record_of.ExpireTable table version) = half table ++ word version
 fields e (record_of.Checkpoint k) = checkpoint_fields e k
+fields e (record_of.Recast r) = recasting_fields r
 
 spelled_so : (e : Edition) (r : Record) → spelled_in e r ≡ one (kind_number e r) ++ fields e r
 unfolding spelled_in
@@ -90,6 +93,7 @@ spelled_so e (record_of.Swap table base from to epoch f) = refl
 spelled_so e (record_of.Expire version) = refl
 spelled_so e (record_of.ExpireTable table version) = refl
 spelled_so e (record_of.Checkpoint k) = refl
+spelled_so e (record_of.Recast r) = refl
 
 table_again : (name : List ℕ) (keys : List KeyColumn) (values : List ValueColumn) → IsNamed name → HasKeys keys → HasValues values → Again table_at (fields Second (record_of.Table name keys values)) (record_of.Table name keys values)
 table_again name keys values named k v at more =
@@ -146,14 +150,22 @@ publish_fields e version parts is fits =
     let few = both (nat_lt (length parts) (2 ^ 16)) (rise_from 0 (map (λ (p : Part). p.table) parts)) two.0 in
     publish_again e version parts is.typed.0 (ltb-true _ _ few.0) (parts_in_order e 0 parts few.1 two.1 is.typed.1 fits)
 
--- a batch and a merged range are read alike in the third edition and in the second
+-- a batch and a merged range are read alike in the third edition, in the fourth and in the second
 reads_publish : publish_at Third ≡ publish_at Second
 unfolding file_ref_at files_at
 reads_publish = refl
 
+reads_publish_fourth : publish_at Fourth ≡ publish_at Second
+unfolding file_ref_at files_at
+reads_publish_fourth = refl
+
 reads_swap : swap_at Third ≡ swap_at Second
 unfolding file_ref_at files_at
 reads_swap = refl
+
+reads_swap_fourth : swap_at Fourth ≡ swap_at Second
+unfolding file_ref_at files_at
+reads_swap_fourth = refl
 
 stated_fields : (e : Edition) (k : Checkpoint) → IsRecord (record_of.Checkpoint k) → FitsIn e (record_of.Checkpoint k) → Again (checkpoint_at e) (fields e (record_of.Checkpoint k)) (record_of.Checkpoint k)
 stated_fields e k is fits = made_again (stated_at e) record_of.Checkpoint (checkpoint_fields e k) k (stated_again e k (record { typed = is.typed; rules = is.rules; fits = fits }))
@@ -174,6 +186,8 @@ fields_again First (record_of.Publish version parts) is fits place = publish_fie
 fields_again Second (record_of.Publish version parts) is fits place = publish_fields Second version parts is fits
 fields_again Third (record_of.Publish version parts) is fits place =
     subst (λ (read : Left → Read Record). Again read (fields Third (record_of.Publish version parts)) (record_of.Publish version parts)) reads_publish (publish_fields Third version parts is fits)
+fields_again Fourth (record_of.Publish version parts) is fits place =
+    subst (λ (read : Left → Read Record). Again read (fields Fourth (record_of.Publish version parts)) (record_of.Publish version parts)) reads_publish_fourth (publish_fields Fourth version parts is fits)
 fields_again First (record_of.Swap table base from to epoch f) is fits place =
     swap_again First table base from to epoch f is.typed.0 is.typed.1 is.typed.2 is.typed.3 (files_if_any_of First f is.typed.4 fits is.rules)
 fields_again Second (record_of.Swap table base from to epoch f) is fits place =
@@ -181,12 +195,17 @@ fields_again Second (record_of.Swap table base from to epoch f) is fits place =
 fields_again Third (record_of.Swap table base from to epoch f) is fits place =
     subst (λ (read : Left → Read Record). Again read (fields Third (record_of.Swap table base from to epoch f)) (record_of.Swap table base from to epoch f)) reads_swap
     (swap_again Third table base from to epoch f is.typed.0 is.typed.1 is.typed.2 is.typed.3 (files_if_any_of Third f is.typed.4 fits is.rules))
+fields_again Fourth (record_of.Swap table base from to epoch f) is fits place =
+    subst (λ (read : Left → Read Record). Again read (fields Fourth (record_of.Swap table base from to epoch f)) (record_of.Swap table base from to epoch f)) reads_swap_fourth
+    (swap_again Fourth table base from to epoch f is.typed.0 is.typed.1 is.typed.2 is.typed.3 (files_if_any_of Fourth f is.typed.4 fits is.rules))
 fields_again e (record_of.Expire version) is fits place = made_again word_at record_of.Expire (word version) version (word_again version is.typed)
 fields_again e (record_of.ExpireTable table version) is fits place =
     two_again half_at (λ table. word_at) record_of.ExpireTable (half table) (word version) table version (half_again table is.typed.0) (word_again version is.typed.1)
 fields_again First (record_of.Checkpoint k) is fits place = stated_fields First k is fits
 fields_again Second (record_of.Checkpoint k) is fits place = stated_fields Second k is fits
 fields_again Third (record_of.Checkpoint k) is fits place = stated_fields Third k is fits
+fields_again Fourth (record_of.Checkpoint k) is fits place = stated_fields Fourth k is fits
+fields_again e (record_of.Recast r) is fits place = made_again recasting_at record_of.Recast (recasting_fields r) r (recasting_again r (record { typed = is.typed; rules = is.rules }))
 
 -- a record is read again from its spelling
 pub record_again : (e : Edition) (r : Record) → IsRecord r → FitsIn e r → record_at (spelled_in e r) ≡ Ok r
@@ -297,6 +316,10 @@ checkpoint_found : (e : Edition) → FoundFields e (checkpoint_kind e) (checkpoi
 checkpoint_found e = made_found (stated_at e) record_of.Checkpoint (IsStated e) (IsOfKind e (checkpoint_kind e)) (checkpoint_fields e) (fields e) (stated_found e)
     (λ k is. (record { «record» = record { typed = is.typed; rules = is.rules }; fits = is.fits; kind = refl }, refl))
 
+recast_found : FoundFields Fourth 14 recast_at
+recast_found = made_found recasting_at record_of.Recast IsRecasting (IsOfKind Fourth 14) recasting_fields (fields Fourth) recasting_found
+    (λ r is. (record { «record» = record { typed = is.typed; rules = is.rules }; fits = tt; kind = refl }, refl))
+
 -- what was read behind a kind is a record of it, in an edition
 abbrev BehindIn : Edition → ℕ → Left → Left → Record → Type 0
 BehindIn e b l after r = IsOfKind e b r × Begins l (fields e r) after
@@ -335,7 +358,13 @@ fields_found place b l after r bytes h = elim (either_way (b == 1) (run_at l) _ 
                         | inl is ↦ of_number Second 12 b l after r is.0 (expire_table_found l after r bytes is.1)
                         | inr h12 ↦ elim (either_way (b == 13) (checkpoint_at Third l) _ (r, after) h12) [
                           | inl is ↦ of_number Third 13 b l after r is.0 (checkpoint_found Third l after r bytes is.1)
-                          | inr h13 ↦ absurd cc
+                          | inr h13 ↦ elim (either_way (b == 14) (recast_at l) _ (r, after) h13) [
+                            | inl is ↦ of_number Fourth 14 b l after r is.0 (recast_found l after r bytes is.1)
+                            | inr h14 ↦ elim (either_way (b == 15) (checkpoint_at Fourth l) _ (r, after) h14) [
+                              | inl is ↦ of_number Fourth 15 b l after r is.0 (checkpoint_found Fourth l after r bytes is.1)
+                              | inr h15 ↦ absurd cc
+                            ]
+                          ]
                         ]
                       ]
                     ]

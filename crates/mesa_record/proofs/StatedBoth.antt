@@ -1,5 +1,5 @@
 -- What a checkpoint states, both ways.
-use Rattle.std.proofs.Common.{◌≡◌, ℕ, ◌+◌, ◌<◌, ◌^◌, List, [], ◌∷◌, ◌++◌, length, refl, sym, ap, subst, ◌∙◌, append_assoc, Bool, true, false, Ok, Option, Some, None}
+use Rattle.std.proofs.Common.{◌≡◌, ℕ, ◌+◌, ◌<◌, ◌^◌, List, [], ◌∷◌, ◌++◌, length, refl, sym, ap, subst, ◌∙◌, append_assoc, arith, Bool, true, false, Ok, Option, Some, None}
 use Rattle.std.specs.Prelude.{IsTrue, ◌&&◌, flat_map, nat_le, nat_lt}
 use Rattle.std.specs.List.{AllByRecursion, list_all}
 use Rattle.std.proofs.lemmas.Bool.{ltb-true, lt-ltb}
@@ -7,16 +7,16 @@ use Rattle.mesa_list.proofs.Whole.{both}
 use Rattle.mesa_schema.specs.declared.changes.Change.{Change}
 use Rattle.mesa_schema.specs.declared.views.View.{View}
 use Rattle.mesa_record.specs.declared.edition.Edition.{Edition}
-use Rattle.mesa_record.specs.declared.edition.Edition.TheVariants.{First, Second, Third}
+use Rattle.mesa_record.specs.declared.edition.Edition.TheVariants.{First, Second, Third, Fourth}
 use Rattle.mesa_record.specs.declared.checkpoint.StatedRange.{StatedRange}
 use Rattle.mesa_record.specs.declared.checkpoint.StatedSingle.{StatedSingle}
 use Rattle.mesa_record.specs.declared.checkpoint.StatedTable.{StatedTable}
 use Rattle.mesa_record.specs.declared.checkpoint.StatedColumns.{StatedColumns}
 use Rattle.mesa_record.specs.declared.checkpoint.StatedDeltas.{StatedDeltas}
 use Rattle.mesa_record.specs.declared.checkpoint.Checkpoint.{Checkpoint}
-use Rattle.mesa_record.specs.Reading.{Left, Read, base_if, base_if_any_at, byte_at, change_at, columns_in, count_at, deltas_in, files_at, files_if_any_at, flag_of, half_at, key_columns_at, meaning, name_at, names_at, oldest_at, sized_at, stated_at, stated_columns_at, stated_deltas_at, stated_of, stated_range_at, stated_single_at, stated_table_at, stated_view_at, stated_views_at, totals_at, value_columns_at, word_at}
-use Rattle.mesa_record.specs.Rules.{AreTypedColumns, AreTypedDeltas, FitsBase, FitsOldest, FitsRange, FitsSingle, FitsTable, IsTypedBase, IsTypedChange, IsTypedCheckpoint, IsTypedRange, IsTypedSingle, IsTypedStatedView, IsTypedTable, IsWord, are_files, are_stated_columns, are_stated_deltas, is_base_if_any, is_change, is_checkpoint, is_count_of_columns, is_long, is_short, is_stated_range, is_stated_single, is_stated_table, is_stated_view}
-use Rattle.mesa_record.specs.Spelling.{base_if_any, change, checkpoint_fields, counted, files, files_if_any, flag, half, key_column, oldest_field, sized, stated_columns, stated_deltas, stated_range, stated_single, stated_table, stated_view, text, total, value_column, word}
+use Rattle.mesa_record.specs.Reading.{Left, Read, base_if, begins_at, base_if_any_at, byte_at, change_at, columns_in, count_at, deltas_in, files_at, files_if_any_at, flag_of, half_at, key_columns_at, meaning, name_at, names_at, oldest_at, sized_at, stated_at, stated_columns_at, stated_deltas_at, stated_of, stated_range_at, stated_single_at, stated_table_at, stated_view_at, stated_views_at, totals_at, value_columns_at, word_at}
+use Rattle.mesa_record.specs.Rules.{AreTypedColumns, AreTypedDeltas, FitsBase, FitsBegins, FitsOldest, FitsRange, FitsSingle, FitsTable, IsTypedBase, IsTypedChange, IsTypedCheckpoint, IsTypedRange, IsTypedSingle, IsTypedStatedView, IsTypedTable, IsWord, are_files, are_stated_columns, are_stated_deltas, is_base_if_any, is_change, is_checkpoint, is_count_of_columns, is_long, is_short, is_stated_range, is_stated_single, is_stated_table, is_stated_view}
+use Rattle.mesa_record.specs.Spelling.{base_if_any, begins_field, change, checkpoint_fields, counted, files, files_if_any, flag, half, key_column, oldest_field, sized, stated_columns, stated_deltas, stated_range, stated_single, stated_table, stated_view, text, total, value_column, word}
 use Rattle.mesa_record.proofs.Both.{Again, Begins, Found, begins_two, here, list_found, of_ok, ok_is, step_of}
 use Rattle.mesa_record.proofs.Numbers.{byte_again, byte_found, half_again, half_found, one, word_again, word_found}
 use Rattle.mesa_record.proofs.Texts.{meaning_again, meaning_found, ruled_again, ruled_found}
@@ -59,7 +59,7 @@ KeepAll few Typed rule Fits = Keeps (AllByRecursion Typed) (λ xs. few (length x
 -- ---- lists behind their counts
 
 module _ (count_at : Left → Read ℕ) (count : ℕ → List ℕ) (few : ℕ → Bool) where
-  sized_again : {A : Type 0} (read : Left → Read A) (spell : A → List ℕ) (Typed : A → Type 0) (rule : A → Bool) (Fits : A → Type 0)
+  pub sized_again : {A : Type 0} (read : Left → Read A) (spell : A → List ℕ) (Typed : A → Type 0) (rule : A → Bool) (Fits : A → Type 0)
       → ((n : ℕ) → IsTrue (few n) → Again count_at (count n) n) → ((x : A) → Keeps Typed rule Fits x → Again read (spell x) x)
       → (xs : List A) → KeepAll few Typed rule Fits xs → Again (sized_at count_at read) (sized count spell xs) xs
   sized_again read spell Typed rule Fits size each xs is at more =
@@ -68,7 +68,7 @@ module _ (count_at : Left → Read ℕ) (count : ℕ → List ℕ) (few : ℕ �
       let fields = many_again read spell (Keeps Typed rule Fits) each xs (all_keep Typed rule Fits xs is.typed r.1 is.fits) n.0 more in
       (fields.0, ap (λ bytes. sized_at count_at read (here at bytes)) (append_assoc (count (length xs)) (flat_map spell xs) more) ∙ rw (n.1, fields.1) refl)
 
-  sized_found : {A : Type 0} (read : Left → Read A) (spell : A → List ℕ) (Typed : A → Type 0) (rule : A → Bool) (Fits : A → Type 0)
+  pub sized_found : {A : Type 0} (read : Left → Read A) (spell : A → List ℕ) (Typed : A → Type 0) (rule : A → Bool) (Fits : A → Type 0)
       → Found count_at count (λ n. IsTrue (few n)) → Found read spell (Keeps Typed rule Fits) → Found (sized_at count_at read) (sized count spell) (KeepAll few Typed rule Fits)
   sized_found read spell Typed rule Fits size each l after xs bytes h =
       let s = step_of (count_at l) _ _ h in
@@ -88,13 +88,13 @@ in_two_again n h = half_again n (ltb-true _ _ h)
 in_two_found : Found half_at half (λ n. IsTrue (in_two n))
 in_two_found l after n bytes h = let f = half_found l after n bytes h in (lt-ltb _ _ f.0, f.1)
 
-abbrev in_four : ℕ → Bool
+abbrev pub in_four : ℕ → Bool
 in_four n = nat_lt n (2 ^ 32)
 
-in_four_again : (n : ℕ) → IsTrue (in_four n) → Again word_at (word n) n
+pub in_four_again : (n : ℕ) → IsTrue (in_four n) → Again word_at (word n) n
 in_four_again n h = word_again n (ltb-true _ _ h)
 
-in_four_found : Found word_at word (λ n. IsTrue (in_four n))
+pub in_four_found : Found word_at word (λ n. IsTrue (in_four n))
 in_four_found l after n bytes h = let f = word_found l after n bytes h in (lt-ltb _ _ f.0, f.1)
 
 -- ---- changes and views
@@ -175,7 +175,7 @@ range_found e l after r bytes h =
 abbrev IsSingle : Edition → StatedSingle → Type 0
 IsSingle e = Keeps IsTypedSingle is_stated_single (FitsSingle e)
 
-single_again : (e : Edition) (s : StatedSingle) → IsSingle e s → Again (stated_single_at e) (stated_single e s) s
+pub single_again : (e : Edition) (s : StatedSingle) → IsSingle e s → Again (stated_single_at e) (stated_single e s) s
 unfolding stated_single_at stated_single
 single_again e s is at more =
     let r = both (are_files s.files) (nat_le (length s.totals) 16) is.rules in
@@ -189,7 +189,7 @@ single_again e s is at more =
     let flat : stated_single e s ++ more ≡ word s.version ++ b1 = simp append_assoc refl in
     (r4.0, ap (λ bytes. stated_single_at e (here at bytes)) flat ∙ rw (r1.1, r2.1, r3.1, r4.1) refl)
 
-single_found : (e : Edition) → Found (stated_single_at e) (stated_single e) (IsSingle e)
+pub single_found : (e : Edition) → Found (stated_single_at e) (stated_single e) (IsSingle e)
 unfolding stated_single_at stated_single
 single_found e l after s bytes h =
     let s1 = step_of (word_at l) _ _ h in
@@ -243,6 +243,7 @@ oldest_again : (e : Edition) (floor n : ℕ) → IsWord n → FitsOldest e floor
 oldest_again First floor n small is at more = (at, ap (λ (x : ℕ). Ok (x, here at more)) (sym is))
 oldest_again Second floor n small is at more = (at, ap (λ (x : ℕ). Ok (x, here at more)) (sym is))
 oldest_again Third floor n small is at more = word_again n small at more
+oldest_again Fourth floor n small is at more = word_again n small at more
 
 record IsOldest (e : Edition) (floor n : ℕ) : Type 0 where
   pub small : IsWord n
@@ -256,6 +257,28 @@ oldest_found : (e : Edition) (floor : ℕ) → IsWord floor → Found (oldest_at
 oldest_found First floor small l after n bytes h = oldest_is_floor First floor n l after (λ n is. is) refl small (record { split = refl; rest = bytes }) (ok_is (floor, l) (n, after) h)
 oldest_found Second floor small l after n bytes h = oldest_is_floor Second floor n l after (λ n is. is) refl small (record { split = refl; rest = bytes }) (ok_is (floor, l) (n, after) h)
 oldest_found Third floor small l after n bytes h = let f = word_found l after n bytes h in (record { small = f.0; fits = tt }, f.1)
+oldest_found Fourth floor small l after n bytes h = let f = word_found l after n bytes h in (record { small = f.0; fits = tt }, f.1)
+
+begins_again : (e : Edition) (n : ℕ) → IsWord n → FitsBegins e n → Again (begins_at e) (begins_field e n) n
+begins_again First n small is at more = (at, ap (λ (x : ℕ). Ok (x, here at more)) (sym is))
+begins_again Second n small is at more = (at, ap (λ (x : ℕ). Ok (x, here at more)) (sym is))
+begins_again Third n small is at more = (at, ap (λ (x : ℕ). Ok (x, here at more)) (sym is))
+begins_again Fourth n small is at more = word_again n small at more
+
+record IsBegin (e : Edition) (n : ℕ) : Type 0 where
+  pub small : IsWord n
+  pub fits : FitsBegins e n
+
+-- no field stands for it
+begins_is_zero : (e : Edition) (n : ℕ) (l after : Left) → ((n : ℕ) → n ≡ 0 → FitsBegins e n) → begins_field e 0 ≡ [] → Begins l [] l → ◌≡◌ {A = ℕ × Left} (0, l) (n, after) → IsBegin e n × Begins l (begins_field e n) after
+begins_is_zero e n l after fits none same is =
+    subst (λ (z : ℕ × Left). IsBegin e z.0 × Begins l (begins_field e z.0) z.1) is (record { small = omega arith; fits = fits 0 refl }, subst (λ bs. Begins l bs l) (sym none) same)
+
+begins_found : (e : Edition) → Found (begins_at e) (begins_field e) (IsBegin e)
+begins_found First l after n bytes h = begins_is_zero First n l after (λ n is. is) refl (record { split = refl; rest = bytes }) (ok_is (0, l) (n, after) h)
+begins_found Second l after n bytes h = begins_is_zero Second n l after (λ n is. is) refl (record { split = refl; rest = bytes }) (ok_is (0, l) (n, after) h)
+begins_found Third l after n bytes h = begins_is_zero Third n l after (λ n is. is) refl (record { split = refl; rest = bytes }) (ok_is (0, l) (n, after) h)
+begins_found Fourth l after n bytes h = let f = word_found l after n bytes h in (record { small = f.0; fits = tt }, f.1)
 
 -- what is read of a table's columns, each by itself
 record HasColumns (e : Edition) (c : StatedColumns) : Type 0 where
@@ -425,16 +448,17 @@ unfolding stated_table_at stated_table stated_columns stated_deltas
 table_again e floor t is at more =
     let columns = columns_bytes e (columns_in t) in
     let deltas = deltas_bytes e (deltas_in t) in
-    let b3 = deltas ++ more in
-    let b2 = columns ++ b3 in
+    let b4 = deltas ++ more in
+    let b3 = columns ++ b4 in
+    let b2 = begins_field e t.begins ++ b3 in
     let b1 = oldest_field e t.oldest ++ b2 in
     let r1 = name_again t.name is.typed.name at b1 in
     let r2 = oldest_again e floor t.oldest is.typed.oldest is.fits.oldest r1.0 b2 in
-    let r3 = columns_again e (columns_in t) (columns_of e floor t is) r2.0 b3 in
-    let r4 = deltas_again e (deltas_in t) (deltas_of e floor t is) r3.0 more in
-    let flat : stated_table e t ++ more ≡ text t.name ++ b1 =
-    append_assoc (text t.name) (oldest_field e t.oldest ++ (columns ++ deltas)) more ∙ ap (λ l. text t.name ++ l) (flat_three (oldest_field e t.oldest) columns deltas more) in
-    (r4.0, ap (λ bytes. stated_table_at e floor (here at bytes)) flat ∙ rw (r1.1, r2.1, r3.1, r4.1) refl)
+    let r3 = begins_again e t.begins is.typed.begins is.fits.begins r2.0 b3 in
+    let r4 = columns_again e (columns_in t) (columns_of e floor t is) r3.0 b4 in
+    let r5 = deltas_again e (deltas_in t) (deltas_of e floor t is) r4.0 more in
+    let flat : stated_table e t ++ more ≡ text t.name ++ b1 = flat_five (text t.name) (oldest_field e t.oldest) (begins_field e t.begins) columns deltas more in
+    (r5.0, ap (λ bytes. stated_table_at e floor (here at bytes)) flat ∙ rw (r1.1, r2.1, r3.1, r4.1, r5.1) refl)
 
 table_found : (e : Edition) (floor : ℕ) → IsWord floor → Found (stated_table_at e floor) (stated_table e) (IsTable e floor)
 unfolding stated_table_at stated_table stated_columns stated_deltas
@@ -443,20 +467,22 @@ table_found e floor small l after t bytes h =
     let f1 = name_found l s1.0.1 s1.0.0 bytes s1.1 in
     let s2 = step_of (oldest_at e floor s1.0.1) _ _ s1.2 in
     let f2 = oldest_found e floor small s1.0.1 s2.0.1 s2.0.0 f1.1.rest s2.1 in
-    let s3 = step_of (stated_columns_at e s2.0.1) _ _ s2.2 in
-    let f3 = columns_found e s2.0.1 s3.0.1 s3.0.0 f2.1.rest s3.1 in
-    let s4 = step_of (stated_deltas_at e s3.0.1) _ _ s3.2 in
-    let f4 = deltas_found e s3.0.1 s4.0.1 s4.0.0 f3.1.rest s4.1 in
-    let made : StatedTable = stated_of s1.0.0 s2.0.0 s3.0.0 s4.0.0 in
-    let columns = columns_keep e made f3.0 in
-    let deltas = deltas_keep e made f4.0 in
-    subst (λ (z : StatedTable × Left). IsTable e floor z.0 × Begins l (stated_table e z.0) z.1) (ok_is (made, s4.0.1) (t, after) s4.2) (
+    let s3 = step_of (begins_at e s2.0.1) _ _ s2.2 in
+    let f3 = begins_found e s2.0.1 s3.0.1 s3.0.0 f2.1.rest s3.1 in
+    let s4 = step_of (stated_columns_at e s3.0.1) _ _ s3.2 in
+    let f4 = columns_found e s3.0.1 s4.0.1 s4.0.0 f3.1.rest s4.1 in
+    let s5 = step_of (stated_deltas_at e s4.0.1) _ _ s4.2 in
+    let f5 = deltas_found e s4.0.1 s5.0.1 s5.0.0 f4.1.rest s5.1 in
+    let made : StatedTable = stated_of s1.0.0 s2.0.0 s3.0.0 s4.0.0 s5.0.0 in
+    let columns = columns_keep e made f4.0 in
+    let deltas = deltas_keep e made f5.0 in
+    subst (λ (z : StatedTable × Left). IsTable e floor z.0 × Begins l (stated_table e z.0) z.1) (ok_is (made, s5.0.1) (t, after) s5.2) (
       record {
-        typed = record { name = f1.0; oldest = f2.0.small; columns = columns.0; deltas = deltas.0 };
+        typed = record { name = f1.0; oldest = f2.0.small; begins = f3.0.small; columns = columns.0; deltas = deltas.0 };
         rules = all_true (are_stated_columns made) (are_stated_deltas made) columns.1 deltas.1;
-        fits = record { oldest = f2.0.fits; totals = f3.0.totals.fits; base = f4.0.base.fits; cumulatives = f4.0.cumulatives.fits; singles = f4.0.singles.fits };
+        fits = record { oldest = f2.0.fits; begins = f3.0.fits; totals = f4.0.totals.fits; base = f5.0.base.fits; cumulatives = f5.0.cumulatives.fits; singles = f5.0.singles.fits };
       },
-      begins_two l s1.0.1 s4.0.1 _ _ f1.1 (begins_two s1.0.1 s2.0.1 s4.0.1 _ _ f2.1 (begins_two s2.0.1 s3.0.1 s4.0.1 _ _ f3.1 f4.1)),
+      begins_two l s1.0.1 s5.0.1 _ _ f1.1 (begins_two s1.0.1 s2.0.1 s5.0.1 _ _ f2.1 (begins_two s2.0.1 s3.0.1 s5.0.1 _ _ f3.1 (begins_two s3.0.1 s4.0.1 s5.0.1 _ _ f4.1 f5.1))),
     )
 
 -- ---- the checkpoint

@@ -18,7 +18,7 @@ use Rattle.mesa_schema.specs.declared.views.View.{View}
 use Rattle.mesa_schema.specs.Names.{is_name}
 use Rattle.mesa_file.specs.declared.file_ref.FileRef.{FileRef}
 use Rattle.mesa_record.specs.declared.edition.Edition.{Edition}
-use Rattle.mesa_record.specs.declared.edition.Edition.TheVariants.{First, Second, Third}
+use Rattle.mesa_record.specs.declared.edition.Edition.TheVariants.{First, Second, Third, Fourth}
 use Rattle.mesa_record.specs.declared.error.RecordError.{RecordError}
 use Rattle.mesa_record.specs.declared.error.RecordError.TheVariants as fault
 use Rattle.mesa_record.specs.declared.record.Record.{Record}
@@ -32,6 +32,8 @@ use Rattle.mesa_record.specs.declared.checkpoint.StatedTable.{StatedTable}
 use Rattle.mesa_record.specs.declared.checkpoint.StatedColumns.{StatedColumns}
 use Rattle.mesa_record.specs.declared.checkpoint.StatedDeltas.{StatedDeltas}
 use Rattle.mesa_record.specs.declared.checkpoint.Checkpoint.{Checkpoint}
+use Rattle.mesa_record.specs.declared.recasting.RecastBase.{RecastBase}
+use Rattle.mesa_record.specs.declared.recasting.Recasting.{Recasting}
 use Rattle.mesa_record.specs.Rules.{is_count_of_columns}
 
 -- What is left of a record's bytes, and the place where it begins.
@@ -174,11 +176,13 @@ abbrev pub aggregate_at : Edition → Left → Read ℤ
 aggregate_at First = amount_at
 aggregate_at Second = wide_amount_at
 aggregate_at Third = wide_amount_at
+aggregate_at Fourth = wide_amount_at
 
 abbrev pub total_at : Edition → Left → Read ℕ
 total_at First = long_at
 total_at Second = wide_at
 total_at Third = wide_at
+total_at Fourth = wide_at
 
 -- the format of a number
 abbrev pub format_of : ℕ → Option Format
@@ -189,6 +193,7 @@ abbrev pub format_at : Edition → Left → Read Format
 format_at First l = Ok (format.One, l)
 format_at Second l = meaning format_of l
 format_at Third l = meaning format_of l
+format_at Fourth l = meaning format_of l
 
 abbrev pub aggregates_at : Edition → Left → Read (List ℤ)
 aggregates_at e l = columns_at l >>= λ n. many (aggregate_at e) n.0 n.1
@@ -341,6 +346,14 @@ abbrev pub oldest_at : Edition → ℕ → Left → Read ℕ
 oldest_at First floor l = Ok (floor, l)
 oldest_at Second floor l = Ok (floor, l)
 oldest_at Third floor l = word_at l
+oldest_at Fourth floor l = word_at l
+
+-- a table's first epoch: where the edition has no field for it, it is 0
+abbrev pub begins_at : Edition → Left → Read ℕ
+begins_at First l = Ok (0, l)
+begins_at Second l = Ok (0, l)
+begins_at Third l = Ok (0, l)
+begins_at Fourth l = word_at l
 
 -- a table's columns: the first ones and the changes since, its views, and the totals of its sum columns
 unfoldable pub stated_columns_at : Edition → Left → Read StatedColumns
@@ -367,17 +380,18 @@ columns_in t = record { keys = t.keys; values = t.values; changes = t.changes; v
 abbrev pub deltas_in : StatedTable → StatedDeltas
 deltas_in t = record { base = t.base; cumulatives = t.cumulatives; singles = t.singles }
 
-abbrev pub stated_of : List ℕ → ℕ → StatedColumns → StatedDeltas → StatedTable
-stated_of name oldest c d = record { name = name; oldest = oldest; keys = c.keys; values = c.values; changes = c.changes; views = c.views; totals = c.totals; base = d.base; cumulatives = d.cumulatives; singles = d.singles }
+abbrev pub stated_of : List ℕ → ℕ → ℕ → StatedColumns → StatedDeltas → StatedTable
+stated_of name oldest begins c d = record { name = name; oldest = oldest; begins = begins; keys = c.keys; values = c.values; changes = c.changes; views = c.views; totals = c.totals; base = d.base; cumulatives = d.cumulatives; singles = d.singles }
 
 -- a table, where this is the floor
 unfoldable pub stated_table_at : Edition → ℕ → Left → Read StatedTable
 stated_table_at e floor l = do
   name ← name_at l
   oldest ← oldest_at e floor name.1
-  columns ← stated_columns_at e oldest.1
+  begins ← begins_at e oldest.1
+  columns ← stated_columns_at e begins.1
   deltas ← stated_deltas_at e columns.1
-  Ok (stated_of name.0 oldest.0 columns.0 deltas.0, deltas.1)
+  Ok (stated_of name.0 oldest.0 begins.0 columns.0 deltas.0, deltas.1)
 
 -- the fields of a checkpoint
 unfoldable pub stated_at : Edition → Left → Read Checkpoint
@@ -391,6 +405,33 @@ stated_at e l = do
 
 abbrev pub checkpoint_at : Edition → Left → Read Record
 checkpoint_at e l = stated_at e l >>= λ k. Ok (record_of.Checkpoint k.0, k.1)
+
+-- ---- recasts
+
+-- the base that a recast leaves, if there is one
+abbrev pub recast_base_at : Left → Read RecastBase
+recast_base_at l = word_at l >>= λ to. files_if_any_at Fourth to.1 >>= λ f. Ok (record { to = to.0; files = f.0 }, f.1)
+
+abbrev pub recast_base_if : Bool → Left → Read (Option RecastBase)
+recast_base_if false l = Ok (None, l)
+recast_base_if true l = recast_base_at l >>= λ b. Ok (Some b.0, b.1)
+
+abbrev pub recast_base_if_any_at : Left → Read (Option RecastBase)
+recast_base_if_any_at l = meaning flag_of l >>= λ some. recast_base_if some.0 some.1
+
+-- what a recast makes of a table
+unfoldable pub recasting_at : Left → Read Recasting
+recasting_at l = do
+  table ← half_at l
+  epoch ← word_at table.1
+  keys ← names_at epoch.1
+  values ← names_at keys.1
+  base ← recast_base_if_any_at values.1
+  singles ← sized_at word_at (stated_single_at Fourth) base.1
+  Ok (record { table = table.0; epoch = epoch.0; keys = keys.0; values = values.0; base = base.0; singles = singles.0 }, singles.1)
+
+abbrev pub recast_at : Left → Read Record
+recast_at l = recasting_at l >>= λ r. Ok (record_of.Recast r.0, r.1)
 
 -- ---- kinds
 
@@ -410,6 +451,8 @@ fields_of at b l =
     else if b == 11 then checkpoint_at Second l
     else if b == 12 then expire_table_at l
     else if b == 13 then checkpoint_at Third l
+    else if b == 14 then recast_at l
+    else if b == 15 then checkpoint_at Fourth l
     else Err (fault.BadKind at)
 
 -- a record that nothing may follow

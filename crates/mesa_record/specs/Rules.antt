@@ -15,7 +15,7 @@ use Rattle.mesa_schema.specs.declared.views.View.{View}
 use Rattle.mesa_file.specs.declared.file_ref.FileRef.{FileRef}
 use Rattle.mesa_key.specs.declared.Format.TheVariants as format
 use Rattle.mesa_record.specs.declared.edition.Edition.{Edition}
-use Rattle.mesa_record.specs.declared.edition.Edition.TheVariants.{First, Second, Third}
+use Rattle.mesa_record.specs.declared.edition.Edition.TheVariants.{First, Second, Third, Fourth}
 use Rattle.mesa_record.specs.declared.record.Record.{Record}
 use Rattle.mesa_record.specs.declared.record.Record.TheVariants as record_of
 use Rattle.mesa_record.specs.declared.record.ViewRef.{ViewRef}
@@ -25,6 +25,8 @@ use Rattle.mesa_record.specs.declared.checkpoint.StatedRange.{StatedRange}
 use Rattle.mesa_record.specs.declared.checkpoint.StatedSingle.{StatedSingle}
 use Rattle.mesa_record.specs.declared.checkpoint.StatedTable.{StatedTable}
 use Rattle.mesa_record.specs.declared.checkpoint.Checkpoint.{Checkpoint}
+use Rattle.mesa_record.specs.declared.recasting.RecastBase.{RecastBase}
+use Rattle.mesa_record.specs.declared.recasting.Recasting.{Recasting}
 
 -- ---- the rules that a record's fields keep
 
@@ -100,6 +102,19 @@ is_stated_table t = are_stated_columns t && are_stated_deltas t
 abbrev pub is_checkpoint : Checkpoint → Bool
 is_checkpoint k = is_short k.tables && list_all is_stated_table k.tables
 
+abbrev pub is_recast_base : Option RecastBase → Bool
+is_recast_base None = true
+is_recast_base (Some b) = are_files_if_any b.files
+
+abbrev pub are_recast_columns : Recasting → Bool
+are_recast_columns r = is_count_of_columns (length r.keys) && is_count_of_columns (length r.values)
+
+abbrev pub are_recast_deltas : Recasting → Bool
+are_recast_deltas r = is_recast_base r.base && (is_long r.singles && list_all is_stated_single r.singles)
+
+abbrev pub is_recasting : Recasting → Bool
+is_recasting r = are_recast_columns r && are_recast_deltas r
+
 -- The rules of a record.
 abbrev pub keeps_rules : Record → Bool
 keeps_rules (record_of.Run number) = true
@@ -111,6 +126,7 @@ keeps_rules (record_of.Swap table base from to epoch f) = are_files_if_any f
 keeps_rules (record_of.Expire version) = true
 keeps_rules (record_of.ExpireTable table version) = true
 keeps_rules (record_of.Checkpoint k) = is_checkpoint k
+keeps_rules (record_of.Recast r) = is_recasting r
 
 -- ---- what the types of the fields say of them
 
@@ -200,6 +216,7 @@ pub record AreTypedDeltas (t : StatedTable) : Type 0 where
 pub record IsTypedTable (t : StatedTable) : Type 0 where
   pub name : IsNamed t.name
   pub oldest : IsWord t.oldest
+  pub begins : IsWord t.begins
   pub columns : AreTypedColumns t
   pub deltas : AreTypedDeltas t
 
@@ -209,6 +226,24 @@ pub record IsTypedCheckpoint (k : Checkpoint) : Type 0 where
   pub floor : IsWord k.floor
   pub versions : IsWord k.versions
   pub tables : AllByRecursion IsTypedTable k.tables
+
+abbrev pub IsTypedRecastBase : Option RecastBase → Type 0
+IsTypedRecastBase None = Unit {0}
+IsTypedRecastBase (Some b) = IsWord b.to × AreTypedFiles b.files
+
+pub record AreTypedNames (r : Recasting) : Type 0 where
+  pub table : IsHalf r.table
+  pub epoch : IsWord r.epoch
+  pub keys : AllByRecursion IsNamed r.keys
+  pub values : AllByRecursion IsNamed r.values
+
+pub record AreTypedRecast (r : Recasting) : Type 0 where
+  pub base : IsTypedRecastBase r.base
+  pub singles : AllByRecursion IsTypedSingle r.singles
+
+pub record IsTypedRecasting (r : Recasting) : Type 0 where
+  pub columns : AreTypedNames r
+  pub deltas : AreTypedRecast r
 
 -- Each field is within its type.
 abbrev pub IsTyped : Record → Type 0
@@ -221,6 +256,7 @@ IsTyped (record_of.Swap table base from to epoch f) = IsHalf table × IsWord fro
 IsTyped (record_of.Expire version) = IsWord version
 IsTyped (record_of.ExpireTable table version) = IsHalf table × IsWord version
 IsTyped (record_of.Checkpoint k) = IsTypedCheckpoint k
+IsTyped (record_of.Recast r) = IsTypedRecasting r
 
 -- ---- what has room in an edition
 
@@ -229,6 +265,7 @@ abbrev pub FitsRef : Edition → FileRef → Type 0
 FitsRef First f = (f.format ≡ format.One) × AllByRecursion IsNarrow f.aggregates
 FitsRef Second f = Unit {0}
 FitsRef Third f = Unit {0}
+FitsRef Fourth f = Unit {0}
 
 -- so is a view's file
 abbrev pub FitsView : Edition → ViewRef → Type 0
@@ -243,6 +280,7 @@ abbrev pub FitsTotals : Edition → List ℕ → Type 0
 FitsTotals First totals = AllByRecursion IsLong totals
 FitsTotals Second totals = Unit {0}
 FitsTotals Third totals = Unit {0}
+FitsTotals Fourth totals = Unit {0}
 
 pub record FitsPart (e : Edition) (p : Part) : Type 0 where
   pub files : FitsFiles e p.files
@@ -268,15 +306,24 @@ abbrev pub FitsOldest : Edition → ℕ → ℕ → Type 0
 FitsOldest First floor oldest = oldest ≡ floor
 FitsOldest Second floor oldest = oldest ≡ floor
 FitsOldest Third floor oldest = Unit {0}
+FitsOldest Fourth floor oldest = Unit {0}
+
+-- a table's first epoch is 0, unless the edition tells it
+abbrev pub FitsBegins : Edition → ℕ → Type 0
+FitsBegins First begins = begins ≡ 0
+FitsBegins Second begins = begins ≡ 0
+FitsBegins Third begins = begins ≡ 0
+FitsBegins Fourth begins = Unit {0}
 
 pub record FitsTable (e : Edition) (floor : ℕ) (t : StatedTable) : Type 0 where
   pub oldest : FitsOldest e floor t.oldest
+  pub begins : FitsBegins e t.begins
   pub totals : FitsTotals e t.totals
   pub base : FitsBase e t.base
   pub cumulatives : AllByRecursion (FitsRange e) t.cumulatives
   pub singles : AllByRecursion (FitsSingle e) t.singles
 
--- In the first edition files are of format 1, and aggregates and totals are numbers of 64 bits; in the first and the second one each table that a checkpoint states has the floor as its oldest version.
+-- In the first edition files are of format 1, and aggregates and totals are numbers of 64 bits; in the first and the second one each table that a checkpoint states has the floor as its oldest version, and in all but the fourth one its first epoch is 0.
 abbrev pub FitsIn : Edition → Record → Type 0
 FitsIn e (record_of.Run number) = Unit {0}
 FitsIn e (record_of.Table name keys values) = Unit {0}
@@ -287,6 +334,7 @@ FitsIn e (record_of.Swap table base from to epoch f) = FitsFilesIfAny e f
 FitsIn e (record_of.Expire version) = Unit {0}
 FitsIn e (record_of.ExpireTable table version) = Unit {0}
 FitsIn e (record_of.Checkpoint k) = AllByRecursion (FitsTable e k.floor) k.tables
+FitsIn e (record_of.Recast r) = Unit {0}
 
 -- A record: its fields are within their types and keep the rules.
 pub record IsRecord (r : Record) : Type 0 where

@@ -13,7 +13,7 @@ use Rattle.mesa_schema.specs.declared.changes.Change.TheVariants.{AddValue, Drop
 use Rattle.mesa_schema.specs.declared.views.View.{View}
 use Rattle.mesa_file.specs.declared.file_ref.FileRef.{FileRef}
 use Rattle.mesa_record.specs.declared.edition.Edition.{Edition}
-use Rattle.mesa_record.specs.declared.edition.Edition.TheVariants.{First, Second, Third}
+use Rattle.mesa_record.specs.declared.edition.Edition.TheVariants.{First, Second, Third, Fourth}
 use Rattle.mesa_record.specs.declared.record.Record.{Record}
 use Rattle.mesa_record.specs.declared.record.Record.TheVariants as record_of
 use Rattle.mesa_record.specs.declared.record.ViewRef.{ViewRef}
@@ -23,6 +23,8 @@ use Rattle.mesa_record.specs.declared.checkpoint.StatedRange.{StatedRange}
 use Rattle.mesa_record.specs.declared.checkpoint.StatedSingle.{StatedSingle}
 use Rattle.mesa_record.specs.declared.checkpoint.StatedTable.{StatedTable}
 use Rattle.mesa_record.specs.declared.checkpoint.Checkpoint.{Checkpoint}
+use Rattle.mesa_record.specs.declared.recasting.RecastBase.{RecastBase}
+use Rattle.mesa_record.specs.declared.recasting.Recasting.{Recasting}
 
 -- ---- numbers, the highest byte first
 
@@ -86,11 +88,13 @@ abbrev pub aggregate : Edition → ℤ → List ℕ
 aggregate First z = amount z
 aggregate Second z = wide (cast_unsigned w128 z)
 aggregate Third z = wide (cast_unsigned w128 z)
+aggregate Fourth z = wide (cast_unsigned w128 z)
 
 abbrev pub total : Edition → ℕ → List ℕ
 total First n = long n
 total Second n = wide n
 total Third n = wide n
+total Fourth n = wide n
 
 -- a format as a byte: its number
 abbrev pub format_byte : Format → ℕ
@@ -102,6 +106,7 @@ abbrev pub format_field : Edition → Format → List ℕ
 format_field First format = []
 format_field Second format = format_byte format ∷ []
 format_field Third format = format_byte format ∷ []
+format_field Fourth format = format_byte format ∷ []
 
 -- a file's id, length, rows and blocks
 unfoldable pub file_sizes : FileRef → List ℕ
@@ -167,11 +172,19 @@ abbrev pub base_if_any : Edition → Option StatedRange → List ℕ
 base_if_any e None = 0 ∷ []
 base_if_any e (Some r) = 1 ∷ stated_range e r
 
--- a table's oldest version, which only the third edition tells
+-- a table's oldest version, which the third and the fourth edition tell
 abbrev pub oldest_field : Edition → ℕ → List ℕ
 oldest_field First oldest = []
 oldest_field Second oldest = []
 oldest_field Third oldest = word oldest
+oldest_field Fourth oldest = word oldest
+
+-- a table's first epoch, which only the fourth edition tells
+abbrev pub begins_field : Edition → ℕ → List ℕ
+begins_field First begins = []
+begins_field Second begins = []
+begins_field Third begins = []
+begins_field Fourth begins = word begins
 
 -- a table's columns: the first ones and the changes since, its views, and the totals of its sum columns
 unfoldable pub stated_columns : Edition → StatedTable → List ℕ
@@ -182,11 +195,32 @@ unfoldable pub stated_deltas : Edition → StatedTable → List ℕ
 stated_deltas e t = base_if_any e t.base ++ (sized word (stated_range e) t.cumulatives ++ sized word (stated_single e) t.singles)
 
 unfoldable pub stated_table : Edition → StatedTable → List ℕ
-stated_table e t = text t.name ++ (oldest_field e t.oldest ++ (stated_columns e t ++ stated_deltas e t))
+stated_table e t = text t.name ++ (oldest_field e t.oldest ++ (begins_field e t.begins ++ (stated_columns e t ++ stated_deltas e t)))
 
 -- a checkpoint's number, its last run, the floor, how many versions there were, and the tables
 abbrev pub checkpoint_fields : Edition → Checkpoint → List ℕ
 checkpoint_fields e k = word k.number ++ (word k.run ++ (word k.floor ++ (word k.versions ++ sized half (stated_table e) k.tables)))
+
+-- ---- recasts
+
+-- the base that a recast leaves, if there is one: its last version and its files
+abbrev pub recast_base : RecastBase → List ℕ
+recast_base b = word b.to ++ files_if_any Fourth b.files
+
+abbrev pub recast_base_if_any : Option RecastBase → List ℕ
+recast_base_if_any None = 0 ∷ []
+recast_base_if_any (Some b) = 1 ∷ recast_base b
+
+-- the table that is recast, its new epoch, and the names of its columns
+unfoldable pub recast_columns : Recasting → List ℕ
+recast_columns r = half r.table ++ (word r.epoch ++ (counted text r.keys ++ counted text r.values))
+
+-- its base and its singletons with rows
+unfoldable pub recast_deltas : Recasting → List ℕ
+recast_deltas r = recast_base_if_any r.base ++ sized word (stated_single Fourth) r.singles
+
+abbrev pub recasting_fields : Recasting → List ℕ
+recasting_fields r = recast_columns r ++ recast_deltas r
 
 -- ---- kinds
 
@@ -195,16 +229,19 @@ abbrev pub publish_kind : Edition → ℕ
 publish_kind First = 5
 publish_kind Second = 9
 publish_kind Third = 9
+publish_kind Fourth = 9
 
 abbrev pub swap_kind : Edition → ℕ
 swap_kind First = 6
 swap_kind Second = 10
 swap_kind Third = 10
+swap_kind Fourth = 10
 
 abbrev pub checkpoint_kind : Edition → ℕ
 checkpoint_kind First = 8
 checkpoint_kind Second = 11
 checkpoint_kind Third = 13
+checkpoint_kind Fourth = 15
 
 -- A record of an edition is its kind, then its fields.
 unfoldable pub spelled_in : Edition → Record → List ℕ
@@ -217,7 +254,8 @@ spelled_in e (record_of.Swap table base from to epoch f) = swap_kind e ∷ (half
 spelled_in e (record_of.Expire version) = 7 ∷ word version
 spelled_in e (record_of.ExpireTable table version) = 12 ∷ (half table ++ word version)
 spelled_in e (record_of.Checkpoint k) = checkpoint_kind e ∷ checkpoint_fields e k
+spelled_in e (record_of.Recast r) = 14 ∷ recasting_fields r
 
--- A record is written in the third edition.
+-- A record is written in the fourth edition.
 abbrev pub spelled : Record → List ℕ
-spelled r = spelled_in Third r
+spelled r = spelled_in Fourth r

@@ -25,12 +25,14 @@ pub struct StatedSingle {
     pub totals: Totals,
 }
 
-/// A table: the columns that it was made with, and what has been changed, viewed, published and merged since.
+/// A table: the columns that it was made with or last recast to, and what has been changed, viewed, published and merged since.
 #[derive(Drop)]
 pub struct StatedTable {
     pub name: Name,
     /// Versions of the table below this one aren't kept any more.
     pub oldest: u32,
+    /// The epoch of the columns below, before the changes: 0, or that of its last recast.
+    pub begins: u32,
     pub keys: Items<KeyColumn>,
     pub values: Items<ValueColumn>,
     pub changes: Items<Change>,
@@ -79,10 +81,11 @@ pub(crate) struct StatedDeltas {
 pub(crate) fn table_of(
     name: Name,
     oldest: u32,
+    begins: u32,
     columns: StatedColumns,
     deltas: StatedDeltas,
 ) -> StatedTable
-    ensures { result ≡ stated_of name oldest columns deltas }
+    ensures { result ≡ stated_of name oldest begins columns deltas }
 {
     let StatedColumns {
         keys,
@@ -99,6 +102,7 @@ pub(crate) fn table_of(
     StatedTable {
         name,
         oldest,
+        begins,
         keys,
         values,
         changes,

@@ -4,7 +4,10 @@ ghost use Rattle.mesa_record.specs.declared.record.Record.TheVariants as record_
 ghost use Rattle.mesa_record.specs.Reading.{columns_in, deltas_in};
 
 use crate::checkpoint::{StatedColumns, StatedDeltas, table_of};
-use crate::{Checkpoint, Files, Part, Record, StatedRange, StatedSingle, StatedTable, ViewRef};
+use crate::{
+    Checkpoint, Files, Part, RecastBase, Recasting, Record, StatedRange, StatedSingle, StatedTable,
+    ViewRef,
+};
 use mesa_list::{Items, TryCopy};
 use mesa_schema::{KeyColumn, Name, ValueColumn};
 use std::alloc::AllocError;
@@ -80,6 +83,7 @@ impl TryCopy for Record {
                 version: *version,
             }),
             Record::Checkpoint(checkpoint) => Ok(Record::Checkpoint(checkpoint.copy()?)),
+            Record::Recast(recasting) => Ok(Record::Recast(recasting.copy()?)),
         }
     }
 }
@@ -123,6 +127,43 @@ fn copy_files(files: &Option<Files>) -> Result<Option<Files>, AllocError>
     }
 }
 
+// ---- recasts
+
+impl TryCopy for RecastBase {
+    fn copy(&self) -> Result<Self, AllocError> {
+        Ok(RecastBase {
+            to: self.to,
+            files: copy_files(&self.files)?,
+        })
+    }
+}
+
+impl TryCopy for Recasting {
+    fn copy(&self) -> Result<Self, AllocError> {
+        let keys = self.keys.copy()?;
+        let values = self.values.copy()?;
+        let base = copy_recast_base(&self.base)?;
+        let singles = self.singles.copy()?;
+        Ok(Recasting {
+            table: self.table,
+            epoch: self.epoch,
+            keys,
+            values,
+            base,
+            singles,
+        })
+    }
+}
+
+fn copy_recast_base(base: &Option<RecastBase>) -> Result<Option<RecastBase>, AllocError>
+    ensures { IfOk result (λ other. other ≡ base.now) }
+{
+    match base {
+        None => Ok(None),
+        Some(base) => Ok(Some(base.copy()?)),
+    }
+}
+
 // ---- checkpoints
 
 impl TryCopy for StatedRange {
@@ -152,7 +193,7 @@ impl TryCopy for StatedTable {
         let name = self.name.copy()?;
         let columns = copy_columns(self)?;
         let deltas = copy_deltas(self)?;
-        Ok(table_of(name, self.oldest, columns, deltas))
+        Ok(table_of(name, self.oldest, self.begins, columns, deltas))
     }
 }
 

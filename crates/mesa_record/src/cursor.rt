@@ -1,6 +1,6 @@
 // The bytes of a record, read field by field.
 ghost use Rattle.std.specs.Prelude.{◌≡◌, IfOk, length};
-ghost use Rattle.mesa_record.specs.Reading.{Gives, GivesAs, piece_at, byte_at, half_at, word_at, long_at, wide_at, wide_amount_at, amount_at, format_at, format_of, text_at, name_at, key_at, columns_at, count_at, meaning, flag_of, oldest_at};
+ghost use Rattle.mesa_record.specs.Reading.{Gives, GivesAs, piece_at, byte_at, half_at, word_at, long_at, wide_at, wide_amount_at, amount_at, format_at, format_of, text_at, name_at, key_at, columns_at, count_at, meaning, flag_of, oldest_at, begins_at};
 ghost use Rattle.mesa_schema.specs.Codes.{agg_of, kind_of};
 
 use crate::{Edition, RecordError};
@@ -117,7 +117,7 @@ impl<'a> Cursor<'a> {
     {
         match edition {
             Edition::First => Ok(Format::One),
-            Edition::Second | Edition::Third => self.told_format(),
+            Edition::Second | Edition::Third | Edition::Fourth => self.told_format(),
         }
     }
 
@@ -138,7 +138,17 @@ impl<'a> Cursor<'a> {
     {
         match edition {
             Edition::First | Edition::Second => Ok(floor),
-            Edition::Third => self.word(),
+            Edition::Third | Edition::Fourth => self.word(),
+        }
+    }
+
+    // A table's first epoch: 0, where the edition has no field for it.
+    pub(crate) fn begins(&mut self, edition: Edition) -> Result<u32, RecordError>
+        ensures { Gives result self.new (begins_at edition self.old) }
+    {
+        match edition {
+            Edition::First | Edition::Second | Edition::Third => Ok(0),
+            Edition::Fourth => self.word(),
         }
     }
 

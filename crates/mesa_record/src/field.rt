@@ -1,6 +1,6 @@
 // Fields that stand in lists: how each is read and written.
 ghost use Rattle.std.specs.Prelude.{◌≡◌, ◌++◌, ◌≤◌, List, ℕ, flat_map, length, OnOk};
-ghost use Rattle.mesa_record.specs.declared.edition.Edition.TheVariants.{Third as AsThird};
+ghost use Rattle.mesa_record.specs.declared.edition.Edition.TheVariants.{Fourth as AsFourth};
 ghost use Rattle.mesa_record.specs.Reading.{Gives, wide_at, wide_amount_at, amount_at, key_column_at, long_at, many, name_at, value_column_at};
 ghost use Rattle.mesa_record.specs.Spelling.{aggregate, total, amount, counted, key_column, half, long, text, value_column, word};
 ghost use Rattle.std.specs.List.{AllByRecursion};
@@ -148,7 +148,7 @@ impl Field for u64 {
 impl Field for u128 {
     ghost read_at = { wide_at };
 
-    ghost spelling = { total AsThird };
+    ghost spelling = { total AsFourth };
 
     ghost Is = { IsTotal };
 
@@ -165,7 +165,7 @@ impl Field for u128 {
 impl Field for i128 {
     ghost read_at = { wide_amount_at };
 
-    ghost spelling = { aggregate AsThird };
+    ghost spelling = { aggregate AsFourth };
 
     ghost Is = { IsAmount };
 
@@ -224,7 +224,7 @@ pub(crate) fn put_long(number: u64, out: &mut Vec<u8>) -> Result<(), AllocError>
 
 // Appends an aggregate: its two's complement in sixteen bytes.
 pub(crate) fn put_aggregate(amount: Amount, out: &mut Vec<u8>) -> Result<(), AllocError>
-    ensures bytes { OnOk result (out.new.items ≡ out.old.items ++ aggregate AsThird amount) }
+    ensures bytes { OnOk result (out.new.items ≡ out.old.items ++ aggregate AsFourth amount) }
     ensures typed { IsAmount amount }
 {
     out.extend_from_slice(&amount.to_be_bytes())?;

@@ -1,6 +1,6 @@
 // References to files, as fields.
 ghost use Rattle.std.specs.Prelude.{◌≡◌, ◌++◌, ◌<◌, ◌^◌, IfOk, IsTrue, OnOk, length};
-ghost use Rattle.mesa_record.specs.declared.edition.Edition.TheVariants.{Third};
+ghost use Rattle.mesa_record.specs.declared.edition.Edition.TheVariants.{Fourth};
 ghost use Rattle.mesa_record.specs.Reading.{Gives, aggregates_at, file_ref_at, files_at, files_if_any_at, not_zero, part_at, part_number, piece_at, ruled, totals_at, view_number, view_ref_at, view_refs_at, word_at, long_at};
 ghost use Rattle.mesa_record.specs.Rules.{AreTypedFiles, IsLong, IsTypedFiles, IsTypedPart, IsTypedRef, IsTypedView, IsWord, are_files, are_files_if_any, is_file_ref, is_part};
 ghost use Rattle.mesa_record.specs.Spelling.{format_byte as byte_of, file_keys, file_ref, file_sizes, files, files_if_any, key, part, view_ref};
@@ -71,7 +71,7 @@ fn aggregates(
             let narrow: Items<i64> = read_fields(alloc, cursor, count)?;
             Ok(widened_amounts(alloc, narrow.as_slice())?)
         }
-        Edition::Second | Edition::Third => read_fields(alloc, cursor, count),
+        Edition::Second | Edition::Third | Edition::Fourth => read_fields(alloc, cursor, count),
     }
 }
 
@@ -143,7 +143,7 @@ pub(crate) fn read_totals(
             let narrow: Items<u64> = read_fields(alloc, cursor, count)?;
             Ok(widened_totals(alloc, narrow.as_slice())?)
         }
-        Edition::Second | Edition::Third => read_fields(alloc, cursor, count),
+        Edition::Second | Edition::Third | Edition::Fourth => read_fields(alloc, cursor, count),
     }
 }
 
@@ -162,7 +162,7 @@ impl Numbered for ViewRef {
 
     ghost read_at = { view_ref_at };
 
-    ghost spelling = { view_ref Third };
+    ghost spelling = { view_ref Fourth };
 
     ghost Is = { IsTypedView };
 
@@ -198,7 +198,7 @@ impl Numbered for Part {
 
     ghost read_at = { part_at };
 
-    ghost spelling = { part Third };
+    ghost spelling = { part Fourth };
 
     ghost Is = { IsTypedPart };
 
@@ -243,7 +243,7 @@ impl Numbered for Part {
 #[tactic(auto, unfolding(crate::specs::Spelling::file_ref))]
 pub(crate) fn write_file(file: &FileRef, out: &mut Vec<u8>) -> Result<(), AllocError>
     requires { IsTrue (is_file_ref file.now) }
-    ensures bytes { OnOk result (out.new.items ≡ out.old.items ++ file_ref Edition.Third file.now) }
+    ensures bytes { OnOk result (out.new.items ≡ out.old.items ++ file_ref Edition.Fourth file.now) }
     ensures typed { OnOk result (IsTypedRef file.now) }
 {
     out.push(format_byte(file.format))?;
@@ -300,7 +300,7 @@ fn write_key(bytes: &[u8], out: &mut Vec<u8>) -> Result<(), AllocError>
 #[tactic(auto, unfolding(crate::specs::Spelling::files))]
 pub(crate) fn write_files(all: &Files, out: &mut Vec<u8>) -> Result<(), AllocError>
     requires { IsTrue (are_files all.now) }
-    ensures bytes { OnOk result (out.new.items ≡ out.old.items ++ files Edition.Third all.now) }
+    ensures bytes { OnOk result (out.new.items ≡ out.old.items ++ files Edition.Fourth all.now) }
     ensures typed { OnOk result (IsTypedFiles all.now) }
 {
     write_file(&all.file, out)?;
@@ -310,7 +310,7 @@ pub(crate) fn write_files(all: &Files, out: &mut Vec<u8>) -> Result<(), AllocErr
 
 pub(crate) fn write_files_if_any(all: &Option<Files>, out: &mut Vec<u8>) -> Result<(), AllocError>
     requires { IsTrue (are_files_if_any all.now) }
-    ensures bytes { OnOk result (out.new.items ≡ out.old.items ++ files_if_any Edition.Third all.now) }
+    ensures bytes { OnOk result (out.new.items ≡ out.old.items ++ files_if_any Edition.Fourth all.now) }
     ensures typed { OnOk result (AreTypedFiles all.now) }
 {
     match all {

@@ -1,7 +1,7 @@
 // Reading records.
 ghost use Rattle.std.specs.Prelude.{◌≡◌, ◌≢◌, Ok, Err, IfOk, IfErr};
 ghost use Rattle.mesa_record.specs.Editions.{IsSpelled};
-ghost use Rattle.mesa_record.specs.Reading.{Gives, alter_at, change_at, checkpoint_at, expire_table_at, fields_of, add_key_at, add_value_at, key_columns_at, key_default_at, names_at, publish_at, record_at, swap_at, table_at, value_columns_at, view_at};
+ghost use Rattle.mesa_record.specs.Reading.{Gives, alter_at, change_at, checkpoint_at, expire_table_at, fields_of, add_key_at, add_value_at, key_columns_at, key_default_at, names_at, publish_at, recast_at, record_at, swap_at, table_at, value_columns_at, view_at};
 ghost use Rattle.mesa_record.specs.declared.record.Record.{Record as AnyRecord};
 ghost use Rattle.mesa_record.specs.Rules.{FitsIn, IsRecord};
 ghost use Rattle.mesa_record.specs.declared.edition.Edition.{Edition as AnyEdition};
@@ -11,6 +11,7 @@ use crate::cursor::Cursor;
 use crate::field::{Field, read_fields};
 use crate::files::read_files_if_any;
 use crate::numbered::read_rising;
+use crate::recasting::read_recasting;
 use crate::stated::read_checkpoint;
 use crate::{Edition, Record, RecordError, reads_records, spells_records};
 use mesa_key::{KeyText, KeyType, KeyValue};
@@ -72,6 +73,8 @@ fn fields(alloc: Global, kind: u8, at: u64, cursor: &mut Cursor<'_>) -> Result<R
         11 => checkpoint(alloc, cursor, Edition::Second),
         12 => expire_table(cursor),
         13 => checkpoint(alloc, cursor, Edition::Third),
+        14 => recast(alloc, cursor),
+        15 => checkpoint(alloc, cursor, Edition::Fourth),
         _ => Err(RecordError::BadKind { at }),
     }
 }
@@ -232,4 +235,10 @@ fn checkpoint(
     ensures { Gives result cursor.new (checkpoint_at edition cursor.old) }
 {
     Ok(Record::Checkpoint(read_checkpoint(alloc, cursor, edition)?))
+}
+
+fn recast(alloc: Global, cursor: &mut Cursor<'_>) -> Result<Record, RecordError>
+    ensures { Gives result cursor.new (recast_at cursor.old) }
+{
+    Ok(Record::Recast(read_recasting(alloc, cursor)?))
 }

@@ -3,7 +3,7 @@ ghost use Rattle.std.specs.Prelude.{◌≡◌, IfOk, IfErr};
 ghost use Rattle.mesa_record.specs.declared.checkpoint.Checkpoint.{Checkpoint as AnyCheckpoint};
 ghost use Rattle.mesa_record.specs.declared.record.Record.TheVariants as record_of;
 
-use crate::Checkpoint;
+use crate::{Checkpoint, Recasting};
 use mesa_file::FileRef;
 use mesa_list::Items;
 use mesa_schema::{Change, KeyColumn, Name, Totals, ValueColumn};
@@ -88,6 +88,8 @@ pub enum Record {
     },
     /// The catalogue that all records before it made, stated anew.
     Checkpoint(Checkpoint),
+    /// A table takes columns chosen among its own, and its rows are grouped by them.
+    Recast(Recasting),
 }
 
 // Each exit calls this, in place of letting go of each part itself.
@@ -128,6 +130,7 @@ impl Drop for Record {
                 version: _,
             } => {}
             Record::Checkpoint(_) => {}
+            Record::Recast(_) => {}
         }
     }
 }

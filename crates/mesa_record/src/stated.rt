@@ -1,7 +1,7 @@
 // What a checkpoint states, as fields.
 ghost use Rattle.std.specs.Prelude.{◌≡◌, ◌≤◌, ◌++◌, ◌∷◌, flat_map, length, IsTrue, OnOk};
 ghost use Rattle.std.specs.List.{AllByRecursion, list_all};
-ghost use Rattle.mesa_record.specs.declared.edition.Edition.TheVariants.{Third};
+ghost use Rattle.mesa_record.specs.declared.edition.Edition.TheVariants.{Fourth};
 ghost use Rattle.mesa_record.specs.Reading.{Gives, base_if_any_at, change_at, half_at, many, sized_at, stated_at, stated_columns_at, stated_deltas_at, stated_range_at, stated_single_at, stated_table_at, stated_view_at, stated_views_at, word_at};
 ghost use Rattle.mesa_record.specs.Rules.{AreTypedColumns, AreTypedDeltas, IsTypedBase, IsTypedChange, IsTypedCheckpoint, IsTypedRange, IsTypedSingle, IsTypedStatedView, IsTypedTable, are_stated_columns, are_stated_deltas, is_base_if_any, is_change, is_checkpoint, is_long, is_short, is_stated_range, is_stated_single, is_stated_table, is_stated_view};
 ghost use Rattle.mesa_record.specs.Spelling.{base_if_any, change as change_bytes, checkpoint_fields, counted, half, sized, stated_columns, stated_deltas, stated_range, stated_single, stated_table, stated_view, word};
@@ -91,7 +91,7 @@ fn read_short<T: Stated>(
 }
 
 // A list behind its count in four bytes.
-fn read_long<T: Stated>(
+pub(crate) fn read_long<T: Stated>(
     alloc: Global,
     cursor: &mut Cursor<'_>,
     edition: Edition,
@@ -115,7 +115,7 @@ fn write_short<T: Stated>(fields: &[T], out: &mut Vec<u8>) -> Result<(), AllocEr
 }
 
 // Appends how many fields there are, in four bytes, and then each.
-fn write_long<T: Stated>(fields: &[T], out: &mut Vec<u8>) -> Result<(), AllocError>
+pub(crate) fn write_long<T: Stated>(fields: &[T], out: &mut Vec<u8>) -> Result<(), AllocError>
     requires long { IsTrue (is_long fields.now) }
     requires sound { IsTrue (list_all T.is_sound fields.now) }
     ensures bytes { OnOk result (out.new.items ≡ out.old.items ++ sized word T.spelling fields.now) }
@@ -151,10 +151,10 @@ pub(crate) fn read_checkpoint(
 
 pub(crate) fn write_checkpoint(checkpoint: &Checkpoint, out: &mut Vec<u8>) -> Result<(), AllocError>
     requires { IsTrue (is_checkpoint checkpoint.now) }
-    ensures bytes { OnOk result (out.new.items ≡ out.old.items ++ 13 ∷ checkpoint_fields Third checkpoint.now) }
+    ensures bytes { OnOk result (out.new.items ≡ out.old.items ++ 15 ∷ checkpoint_fields Fourth checkpoint.now) }
     ensures typed { OnOk result (IsTypedCheckpoint checkpoint.now) }
 {
-    out.push(13)?;
+    out.push(15)?;
     put_word(checkpoint.number, out)?;
     put_word(checkpoint.run, out)?;
     put_word(checkpoint.floor, out)?;
@@ -167,7 +167,7 @@ pub(crate) fn write_checkpoint(checkpoint: &Checkpoint, out: &mut Vec<u8>) -> Re
 impl Stated for StatedTable {
     ghost read_at = { stated_table_at };
 
-    ghost spelling = { stated_table Third };
+    ghost spelling = { stated_table Fourth };
 
     ghost Is = { IsTypedTable };
 
@@ -182,15 +182,17 @@ impl Stated for StatedTable {
     ) -> Result<Self, RecordError> {
         let name = cursor.name(alloc)?;
         let oldest = cursor.oldest(edition, floor)?;
+        let begins = cursor.begins(edition)?;
         let columns = read_columns(alloc, cursor, edition, floor)?;
         let deltas = read_deltas(alloc, cursor, edition, floor)?;
-        Ok(table_of(name, oldest, columns, deltas))
+        Ok(table_of(name, oldest, begins, columns, deltas))
     }
 
     #[tactic(auto, unfolding(crate::specs::Spelling::stated_table))]
     fn write(&self, out: &mut Vec<u8>) -> Result<(), AllocError> {
         self.name.write(out)?;
         put_word(self.oldest, out)?;
+        put_word(self.begins, out)?;
         write_columns(self, out)?;
         write_deltas(self, out)
     }
@@ -241,7 +243,7 @@ fn read_deltas(
 #[tactic(auto, unfolding(crate::specs::Spelling::stated_columns))]
 fn write_columns(table: &StatedTable, out: &mut Vec<u8>) -> Result<(), AllocError>
     requires { IsTrue (are_stated_columns table.now) }
-    ensures bytes { OnOk result (out.new.items ≡ out.old.items ++ stated_columns Third table.now) }
+    ensures bytes { OnOk result (out.new.items ≡ out.old.items ++ stated_columns Fourth table.now) }
     ensures typed { OnOk result (AreTypedColumns table.now) }
 {
     write_counted(table.keys.as_slice(), out)?;
@@ -254,7 +256,7 @@ fn write_columns(table: &StatedTable, out: &mut Vec<u8>) -> Result<(), AllocErro
 #[tactic(auto, unfolding(crate::specs::Spelling::stated_deltas))]
 fn write_deltas(table: &StatedTable, out: &mut Vec<u8>) -> Result<(), AllocError>
     requires { IsTrue (are_stated_deltas table.now) }
-    ensures bytes { OnOk result (out.new.items ≡ out.old.items ++ stated_deltas Third table.now) }
+    ensures bytes { OnOk result (out.new.items ≡ out.old.items ++ stated_deltas Fourth table.now) }
     ensures typed { OnOk result (AreTypedDeltas table.now) }
 {
     write_base(&table.base, out)?;
@@ -342,7 +344,7 @@ fn write_views(views: &[View], out: &mut Vec<u8>) -> Result<(), AllocError>
 impl Stated for StatedRange {
     ghost read_at = { λ e floor. stated_range_at e };
 
-    ghost spelling = { stated_range Third };
+    ghost spelling = { stated_range Fourth };
 
     ghost Is = { IsTypedRange };
 
@@ -392,7 +394,7 @@ fn read_base(
 
 fn write_base(base: &Option<StatedRange>, out: &mut Vec<u8>) -> Result<(), AllocError>
     requires { IsTrue (is_base_if_any base.now) }
-    ensures bytes { OnOk result (out.new.items ≡ out.old.items ++ base_if_any Third base.now) }
+    ensures bytes { OnOk result (out.new.items ≡ out.old.items ++ base_if_any Fourth base.now) }
     ensures typed { OnOk result (IsTypedBase base.now) }
 {
     match base {
@@ -410,7 +412,7 @@ fn write_base(base: &Option<StatedRange>, out: &mut Vec<u8>) -> Result<(), Alloc
 impl Stated for StatedSingle {
     ghost read_at = { λ e floor. stated_single_at e };
 
-    ghost spelling = { stated_single Third };
+    ghost spelling = { stated_single Fourth };
 
     ghost Is = { IsTypedSingle };
 

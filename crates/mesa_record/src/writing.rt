@@ -9,6 +9,7 @@ ghost use Rattle.mesa_record.specs.Spelling.{change as change_bytes, flag, half,
 use crate::field::{Field, put_half, put_word, write_counted};
 use crate::files::write_files_if_any;
 use crate::numbered::write_rising;
+use crate::recasting::write_recasting;
 use crate::stated::write_checkpoint;
 use crate::{Edition, Part, Record, reads_records};
 use mesa_key::KeyValue;
@@ -64,6 +65,7 @@ fn write(record: &Record, out: &mut Vec<u8>) -> Result<(), AllocError>
         Record::Expire { version } => write_number(7, *version, out),
         Record::ExpireTable { table, version } => write_expire_table(*table, *version, out),
         Record::Checkpoint(checkpoint) => write_checkpoint(checkpoint, out),
+        Record::Recast(recasting) => write_recasting(recasting, out),
     }
 }
 
@@ -96,7 +98,7 @@ fn write_alter(table: u16, change: &Change, out: &mut Vec<u8>) -> Result<(), All
 
 fn write_publish(version: u32, parts: &[Part], out: &mut Vec<u8>) -> Result<(), AllocError>
     requires { IsTrue (are_parts parts.now) }
-    ensures bytes { OnOk result (out.new.items ≡ out.old.items ++ 9 ∷ (word version ++ parts_fields Edition.Third parts.now)) }
+    ensures bytes { OnOk result (out.new.items ≡ out.old.items ++ 9 ∷ (word version ++ parts_fields Edition.Fourth parts.now)) }
     ensures typed { OnOk result (IsWord version × AllByRecursion IsTypedPart parts.now) }
 {
     out.push(9)?;
@@ -151,7 +153,7 @@ fn write_view(
 
 fn write_parts(parts: &[Part], out: &mut Vec<u8>) -> Result<(), AllocError>
     requires { IsTrue (are_parts parts.now) }
-    ensures bytes { OnOk result (out.new.items ≡ out.old.items ++ parts_fields Edition.Third parts.now) }
+    ensures bytes { OnOk result (out.new.items ≡ out.old.items ++ parts_fields Edition.Fourth parts.now) }
     ensures typed { OnOk result (AllByRecursion IsTypedPart parts.now) }
 {
     put_half(parts.len() as u16, out)?;

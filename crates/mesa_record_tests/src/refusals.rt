@@ -12,14 +12,14 @@ fn fault_of(alloc: Global, digits: &[u8]) -> Option<RecordError> {
 
 #[test]
 fn each_refusal_names_its_place(rt: HostRuntime) {
-    let refusals: [(&[u8], RecordError); 55] = [
+    let refusals: [(&[u8], RecordError); 64] = [
         // nothing
         (b"", RecordError::Truncated { at: 0 }),
         // no kind
         (b"00", RecordError::BadKind { at: 0 }),
         // no kind yet
-        (b"0e000000", RecordError::BadKind { at: 0 }),
-        (b"0f000000", RecordError::BadKind { at: 0 }),
+        (b"10000000", RecordError::BadKind { at: 0 }),
+        (b"11000000", RecordError::BadKind { at: 0 }),
         // a kind of the second edition alone, and a version of it
         (b"09", RecordError::Truncated { at: 1 }),
         (b"0900000001", RecordError::Truncated { at: 5 }),
@@ -32,6 +32,23 @@ fn each_refusal_names_its_place(rt: HostRuntime) {
         (b"0c00", RecordError::Truncated { at: 1 }),
         (b"0c0003000000", RecordError::Truncated { at: 3 }),
         (b"0c00030000000200", RecordError::Trailing { at: 7 }),
+        // a recast's table and its epoch cut short, no key column, no value column, no flag, singletons cut short, and a byte behind it
+        (b"0e00", RecordError::Truncated { at: 1 }),
+        (b"0e0001000000", RecordError::Truncated { at: 3 }),
+        (b"0e00010000000300", RecordError::BadField { at: 7 }),
+        (b"0e00010000000301016b00", RecordError::BadField { at: 10 }),
+        (
+            b"0e00010000000301016b01017602",
+            RecordError::BadKind { at: 13 },
+        ),
+        (
+            b"0e00010000000301016b010176000000",
+            RecordError::Truncated { at: 14 },
+        ),
+        (
+            b"0e00010000000301016b010176000000000000",
+            RecordError::Trailing { at: 18 },
+        ),
         // a byte behind an expiry of all
         (b"070000000200", RecordError::Trailing { at: 5 }),
         // a name cut short
@@ -102,6 +119,12 @@ fn each_refusal_names_its_place(rt: HostRuntime) {
         (b"08000000", RecordError::Truncated { at: 1 }),
         (b"0b000000", RecordError::Truncated { at: 1 }),
         (b"0d000000", RecordError::Truncated { at: 1 }),
+        (b"0f000000", RecordError::Truncated { at: 1 }),
+        // a table's first epoch cut short
+        (
+            b"0f000000010000000100000000000000010001017400000000000000",
+            RecordError::Truncated { at: 25 },
+        ),
         (
             b"0d000000010000199a000000000000000000",
             RecordError::Truncated { at: 17 },

@@ -13,3 +13,6 @@ pub mod Ranged
 pub mod Restored
 pub mod Stated
 pub mod Taken
+pub mod Paired
+pub mod Renewed
+pub mod Recasted

@@ -1,5 +1,5 @@
 -- A table that a checkpoint states.
-use Rattle.std.proofs.Common.{◌≡◌, ℕ, zero, suc, ◌+◌, ◌-◌, ◌*◌, ◌≤◌, ◌<◌, List, [], ◌∷◌, ◌++◌, length, map, refl, sym, ◌∙◌, ap, subst, arith, Bool, true, false}
+use Rattle.std.proofs.Common.{◌≡◌, ℕ, zero, suc, ◌+◌, ◌-◌, ◌*◌, ◌≤◌, ◌<◌, List, [], ◌∷◌, ◌++◌, length, map, refl, sym, ◌∙◌, ap, arith, Bool, true, false}
 use Rattle.std.specs.Prelude.{◌==◌, ◌&&◌, ◌||◌, nat_le, nat_lt, replicate, Option, Some, None, option_map}
 use Rattle.std.specs.List.{list_all, range_with_len}
 use Rattle.std.specs.declared.alloc.Global.{Global}
@@ -56,11 +56,15 @@ counts_changed f l c =
     ∙ map-range_with_len_more (λ e. f (columns_at (with_change l c) e)) 0 (epoch_of l + 1) (epoch_of l + 1) (omega arith)
     ∙ (λ i. counts_stay f l c 0 (epoch_of l + 1) (omega arith) i ++ f (now i) ∷ [])
 
+same_counts : (f : Columns → ℕ) (l : Lineage) (from n : ℕ) → l.changes ≡ [] → map (λ e. f (columns_at l e)) (range_with_len from n) ≡ replicate n (f (columns_of l))
+same_counts f l from zero none = refl
+same_counts f l from (suc n) none =
+    let short : length l.changes ≤ from - l.begins = omega (arith, ap length none) in
+    (λ i. f (columns_after l.first (take_all (from - l.begins) l.changes short i)) ∷ same_counts f l (from + 1) n none i)
+
 -- and of a table without changes
-pub counts_first : (f : Columns → ℕ) (l : Lineage) (s : Columns) → l ≡ plain s → map (λ e. f (columns_at l e)) (range_with_len 0 (epoch_of l + 1)) ≡ f (columns_of l) ∷ []
-counts_first f l s e =
-    let one : map (λ e. f (columns_at (plain s) e)) (range_with_len 0 (epoch_of (plain s) + 1)) ≡ f (columns_of (plain s)) ∷ [] = refl in
-    subst (λ (m : Lineage). map (λ e. f (columns_at m e)) (range_with_len 0 (epoch_of m + 1)) ≡ f (columns_of m) ∷ []) (sym e) one
+pub counts_begun : (f : Columns → ℕ) (l : Lineage) → l.changes ≡ [] → map (λ e. f (columns_at l e)) (range_with_len 0 (epoch_of l + 1)) ≡ replicate (epoch_of l + 1) (f (columns_of l))
+counts_begun f l none = same_counts f l 0 (epoch_of l + 1) none
 
 -- ---- cumulatives
 

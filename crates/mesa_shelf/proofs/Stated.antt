@@ -45,6 +45,7 @@ singles_stated from next (l ∷ loaded) are =
 pub record IsStated (t : Table) (s : StatedTable) : Type 0 where
   pub name : s.name ≡ t.name
   pub oldest : s.oldest ≡ t.oldest
+  pub begins : s.begins ≡ t.evolving.value.begins
   pub keys : s.keys ≡ t.evolving.value.first.keys
   pub values : s.values ≡ t.evolving.value.first.values
   pub changes : s.changes ≡ t.evolving.value.changes
@@ -58,4 +59,4 @@ pub table_stated : (next : ℕ) (t : Table) (s : StatedTable) → IsTable next t
 table_stated next t s table is =
     let start = sym (starts next t) in
     let singles = is.singles ∙ sym (singles_stated (start_of_base t.base) next t.loaded.items table.loaded) ∙ ap (λ from. stating_singles from (singles_from (start_of_base t.base) next t.loaded.items)) start in
-    λ i. record { name = is.name i; oldest = is.oldest i; keys = is.keys i; values = is.values i; changes = is.changes i; views = is.views i; totals = is.totals i; base = is.base i; cumulatives = is.cumulatives i; singles = singles i }
+    λ i. record { name = is.name i; oldest = is.oldest i; begins = is.begins i; keys = is.keys i; values = is.values i; changes = is.changes i; views = is.views i; totals = is.totals i; base = is.base i; cumulatives = is.cumulatives i; singles = singles i }

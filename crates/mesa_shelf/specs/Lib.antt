@@ -7,3 +7,4 @@ pub mod Files
 pub mod Copied
 pub mod Ranged
 pub mod Stated
+pub mod Renewed

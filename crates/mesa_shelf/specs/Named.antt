@@ -45,6 +45,33 @@ single_ids l = shared_ids l.delta
 abbrev pub table_ids : Table → List ℕ
 table_ids t = base_ids t.base ++ (flat_map shared_ids t.cumulatives.items ++ flat_map single_ids t.loaded.items)
 
+-- ---- ids of a table's own files
+
+-- the table's own file, without its views'
+abbrev pub own_if_any : Option Files → List ℕ
+own_if_any None = []
+own_if_any (Some f) = f.file.id ∷ []
+
+abbrev pub own_ids : Delta → List ℕ
+own_ids d = own_if_any d.files
+
+abbrev pub shared_own_if_any : Option (Arc Delta Global) → List ℕ
+shared_own_if_any None = []
+shared_own_if_any (Some d) = own_ids d.value
+
+abbrev pub base_own : Option Base → List ℕ
+base_own None = []
+base_own (Some b) = shared_own_if_any b.delta
+
+abbrev pub single_own : Loaded → List ℕ
+single_own l = own_ids l.delta.value
+
+-- The ids of the files that go with a recast: the table's own of the base and of what was loaded, and all of the cumulatives.
+abbrev pub ids_recast : Table → List ℕ
+ids_recast t = base_own t.base ++ (flat_map single_own t.loaded.items ++ flat_map shared_ids t.cumulatives.items)
+
+-- ---- ids up to a version
+
 -- what was loaded up to a version
 abbrev pub through : ℕ → List Loaded → List Loaded
 through to loaded = filter (λ (l : Loaded). nat_le l.version to) loaded

@@ -1,7 +1,7 @@
 -- What a checkpoint states of a table that is held.
-use Rattle.std.specs.Prelude.{ℕ, ◌+◌, List, map}
+use Rattle.std.specs.Prelude.{ℕ, ◌+◌, List, [], map}
 use Rattle.std.specs.List.{range_with_len}
-use Rattle.mesa_schema.specs.Columns.{aggs_of}
+use Rattle.mesa_schema.specs.Columns.{Columns, aggs_of}
 use Rattle.mesa_schema.specs.Changes.{Lineage, columns_at, epoch_of}
 use Rattle.mesa_batch.specs.Totals.{sums_in}
 use Rattle.mesa_record.specs.declared.checkpoint.StatedRange.{StatedRange}
@@ -20,6 +20,10 @@ delta_stated r = (range_stated r).delta
 
 abbrev pub loaded_stated : StatedSingle → ℕ × Delta
 loaded_stated s = (s.version, single_stated s)
+
+-- a table whose columns begin with an epoch, which has no views and no changes yet
+abbrev pub lineage_begun : ℕ → Columns → Lineage
+lineage_begun begins s = record { begins = begins; first = s; changes = []; views = [] }
 
 -- how many sum columns there were in each epoch
 abbrev pub sums_of : Lineage → List ℕ

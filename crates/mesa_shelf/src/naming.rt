@@ -3,7 +3,7 @@ ghost use Rattle.std.specs.Prelude.{◌≡◌, ◌++◌, ◌==◌, flat_map, map
 ghost use Rattle.std.specs.List.{list_any};
 ghost use Rattle.mesa_record.specs.declared.record.ViewRef.{ViewRef as Seen};
 ghost use Rattle.mesa_image.specs.Fitting.{has_number};
-ghost use Rattle.mesa_shelf.specs.Named.{base_ids, delta_ids, file_ids, ids_if_any, ids_through, shared_ids, single_ids, table_ids, through, view_id};
+ghost use Rattle.mesa_shelf.specs.Named.{base_ids, base_own, delta_ids, file_ids, ids_if_any, ids_recast, ids_through, own_ids, shared_ids, single_ids, single_own, table_ids, through, view_id};
 
 use crate::{Base, Delta, Loaded, Table};
 use mesa_file::FileId;
@@ -28,6 +28,15 @@ impl Table {
         push_base(&self.base, ids)?;
         push_cumulatives(&self.cumulatives, ids)?;
         push_loaded(&self.loaded, to, ids)
+    }
+
+    /// Adds the ids of the files that go with a recast: the table's own of the base and of the singletons, and all of the cumulatives. The views' files of the former stay.
+    pub fn push_recast_ids(&self, ids: &mut Vec<FileId>) -> Result<(), AllocError>
+        ensures { OnOk result (ids.new.items ≡ ids.old.items ++ ids_recast self.now) }
+    {
+        push_base_own(&self.base, ids)?;
+        push_loaded_own(&self.loaded, ids)?;
+        push_cumulatives(&self.cumulatives, ids)
     }
 }
 
@@ -112,6 +121,43 @@ fn push_loaded(loaded: &[Loaded], to: u32, ids: &mut Vec<FileId>) -> Result<(), 
     }
     Ok(())
 }
+
+// ---- a table's own files
+
+fn push_base_own(base: &Option<Base>, ids: &mut Vec<FileId>) -> Result<(), AllocError>
+    ensures { OnOk result (ids.new.items ≡ ids.old.items ++ base_own base.now) }
+{
+    match base {
+        Some(base) => match &base.delta {
+            Some(delta) => push_own(delta, ids),
+            None => Ok(()),
+        },
+        None => Ok(()),
+    }
+}
+
+fn push_loaded_own(loaded: &[Loaded], ids: &mut Vec<FileId>) -> Result<(), AllocError>
+    ensures { OnOk result (ids.new.items ≡ ids.old.items ++ flat_map single_own loaded.now) }
+{
+    for single in loaded {
+        push_own(&single.delta, ids)?;
+    }
+    Ok(())
+}
+
+fn push_own(delta: &Delta, ids: &mut Vec<FileId>) -> Result<(), AllocError>
+    ensures { OnOk result (ids.new.items ≡ ids.old.items ++ own_ids delta.now) }
+{
+    match &delta.files {
+        Some(files) => {
+            ids.push(files.file.id)?;
+            Ok(())
+        }
+        None => Ok(()),
+    }
+}
+
+// ---- the files of a delta
 
 fn push_delta(delta: &Delta, ids: &mut Vec<FileId>) -> Result<(), AllocError>
     ensures { OnOk result (ids.new.items ≡ ids.old.items ++ delta_ids delta.now) }

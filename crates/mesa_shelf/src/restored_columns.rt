@@ -1,20 +1,19 @@
 // A table's columns as a checkpoint states them, and what fits them.
-ghost use Rattle.std.specs.Prelude.{◌≡◌, ◌≢◌, ◌+◌, ◌∷◌, ◌++◌, ◌≤◌, ◌<◌, [], false, length, IfErr, IfOk, IsTrue, OnOk, is_ok, nat_lt};
+ghost use Rattle.std.specs.Prelude.{◌≡◌, ◌≢◌, ◌+◌, ◌∷◌, ◌++◌, ◌≤◌, ◌<◌, [], false, length, IfErr, IfOk, IsTrue, OnOk, is_ok};
 ghost use Rattle.std.specs.List.{list_all};
 ghost use Rattle.mesa_schema.specs.Changes.{columns_at, columns_of, epoch_of, max_changes, rule_checked, with_change};
 ghost use Rattle.mesa_schema.specs.Columns.{aggs_of};
 ghost use Rattle.mesa_schema.specs.Lineages.{is_view_of};
 ghost use Rattle.mesa_schema.specs.Schema.{is_schema};
 ghost use Rattle.mesa_schema.specs.Views.{max_views, with_view};
-ghost use Rattle.mesa_batch.specs.Totals.{sum_bound, sums_in};
-ghost use Rattle.mesa_image.specs.CheckpointFits.{changes_pass, delta_fits, lineage_fits, plain, range_fits, single_fits, totals_fit};
+ghost use Rattle.mesa_batch.specs.Totals.{sums_in};
+ghost use Rattle.mesa_image.specs.CheckpointFits.{changes_pass, delta_fits, lineage_fits, range_fits, single_fits, totals_fit};
 ghost use Rattle.mesa_shelf.specs.Meaning.{widths_of};
-ghost use Rattle.mesa_shelf.specs.Stated.{sums_of};
+ghost use Rattle.mesa_shelf.specs.Stated.{lineage_begun, sums_of};
 
-use crate::counting::sums_among;
+use crate::counting::{epochs_of, first_widths, keep_bound, repeated, sums_now};
 use crate::restoring::RestoreError;
 use crate::{counts_files, counts_totals, width_of};
-use mesa_batch::OVER_BOUND;
 use mesa_list::Items;
 use mesa_record::{Files, StatedRange, StatedSingle};
 use mesa_schema::{
@@ -38,37 +37,43 @@ pub(crate) struct Counted {
 // The columns that are stated, if they make a schema, the changes and the views pass their rules, and there aren't too many of either.
 pub(crate) fn restore_columns(
     alloc: Global,
+    begins: u32,
     keys: Items<KeyColumn>,
     values: Items<ValueColumn>,
     changes: Items<Change>,
     views: Items<View>,
 ) -> Result<Counted, RestoreError>
-    ensures fits { OnOk result (IsTrue (lineage_fits (record { begins = 0; first = record { keys = keys; values = values }; changes = changes; views = views }))) }
-    ensures refused { IfErr result (λ e. e ≢ RestoreError.Memory → lineage_fits (record { begins = 0; first = record { keys = keys; values = values }; changes = changes; views = views }) ≡ false) }
-    ensures lineage { IfOk result (λ counted. counted.evolving ≡ record { begins = 0; first = record { keys = keys; values = values }; changes = changes; views = views }) }
+    ensures fits { OnOk result (IsTrue (lineage_fits (record { begins = begins; first = record { keys = keys; values = values }; changes = changes; views = views }))) }
+    ensures refused { IfErr result (λ e. e ≢ RestoreError.Memory → lineage_fits (record { begins = begins; first = record { keys = keys; values = values }; changes = changes; views = views }) ≡ false) }
+    ensures lineage { IfOk result (λ counted. counted.evolving ≡ record { begins = begins; first = record { keys = keys; values = values }; changes = changes; views = views }) }
 {
-    if changes.len() > MAX_CHANGES {
+    if begins as usize > MAX_CHANGES {
+        return Err(RestoreError::Misfit);
+    }
+    if changes.len() > MAX_CHANGES - begins as usize {
         return Err(RestoreError::Misfit);
     }
     if views.len() > MAX_VIEWS {
         return Err(RestoreError::Misfit);
     }
-    let first = restore_first(alloc, keys, values)?;
+    let first = restore_first(alloc, begins, keys, values)?;
     let changed = take_changes(alloc, first, changes)?;
     take_views(changed, views)
 }
 
 fn restore_first(
     alloc: Global,
+    begins: u32,
     keys: Items<KeyColumn>,
     values: Items<ValueColumn>,
 ) -> Result<Evolving, RestoreError>
+    requires { begins ≤ max_changes }
     ensures fits { OnOk result (IsTrue (is_schema (record { keys = keys; values = values }))) }
     ensures refused { IfErr result (λ e. is_schema (record { keys = keys; values = values }) ≡ false) }
-    ensures lineage { IfOk result (λ first. first ≡ plain (record { keys = keys; values = values })) }
+    ensures lineage { IfOk result (λ first. first ≡ lineage_begun begins (record { keys = keys; values = values })) }
 {
     match Schema::build(keys.into_vec(), values.into_vec()) {
-        Ok(first) => Ok(Evolving::new(alloc, first)),
+        Ok(first) => Ok(Evolving::begun(alloc, begins, first)),
         Err(_) => Err(RestoreError::Misfit),
     }
 }
@@ -80,16 +85,16 @@ fn take_changes(
     first: Evolving,
     changes: Items<Change>,
 ) -> Result<Counted, RestoreError>
-    requires first { first ≡ plain (columns_of first) }
-    requires few { length changes ≤ max_changes }
+    requires first { first ≡ lineage_begun first.begins (columns_of first) }
+    requires none { first.changes ≡ [] }
+    requires few { first.begins + length changes ≤ max_changes }
     ensures pass { OnOk result (IsTrue (changes_pass (columns_of first) changes)) }
     ensures refused { IfErr result (λ e. e ≢ RestoreError.Memory → changes_pass (columns_of first) changes ≡ false) }
-    ensures lineage { IfOk result (λ counted. counted.evolving ≡ record { begins = 0; first = columns_of first; changes = changes; views = [] }) }
+    ensures lineage { IfOk result (λ counted. counted.evolving ≡ record { begins = first.begins; first = columns_of first; changes = changes; views = [] }) }
 {
     let mut evolving = first;
-    let mut widths = Items::new(alloc);
-    let mut sums = Items::new(alloc);
-    push_counts(&evolving, &mut widths, &mut sums)?;
+    let mut widths = first_widths(alloc, &evolving)?;
+    let mut sums = first_sums(alloc, &evolving)?;
     let mut left = VecDeque::from_vec(changes.into_vec());
     'changes: while let Some(change) = left.pop_front() {
         take_change(&mut evolving, change)?;
@@ -115,6 +120,14 @@ fn take_change(evolving: &mut Evolving, change: Change) -> Result<(), RestoreErr
     }
 }
 
+// How many sum columns there were in each epoch, where there were no changes; before the first there were as many.
+fn first_sums(alloc: Global, evolving: &Evolving) -> Result<Items<u8>, AllocError>
+    requires { evolving.now.changes ≡ [] }
+    ensures { IfOk result (λ sums. sums ≡ sums_of evolving.now) }
+{
+    repeated(alloc, sums_now(evolving), epochs_of(evolving))
+}
+
 // Adds how many value columns and sum columns there are at present.
 fn push_counts(
     evolving: &Evolving,
@@ -124,9 +137,8 @@ fn push_counts(
     ensures widths { OnOk result (widths.new ≡ widths.old ++ length (columns_of evolving.now).values ∷ []) }
     ensures sums { OnOk result (sums.new ≡ sums.old ++ sums_in (aggs_of (columns_of evolving.now)) ∷ []) }
 {
-    let present = evolving.present();
-    widths.push(width_of(present))?;
-    sums.push(sums_among(present.values()) as u8)
+    widths.push(width_of(evolving.present()))?;
+    sums.push(sums_now(evolving))
 }
 
 // ---- views
@@ -194,6 +206,9 @@ impl Counted {
     fn allows_files(&self, epoch: u32, files: &Option<Files>) -> bool
         ensures { result ≡ delta_fits self.now.evolving epoch files.now }
     {
+        if epoch < self.evolving.begins() {
+            return false;
+        }
         if epoch > self.evolving.epoch() {
             return false;
         }
@@ -214,6 +229,9 @@ impl Counted {
         ensures { result ≡ single_fits self.now.evolving single.now }
     {
         let epoch = single.epoch;
+        if epoch < self.evolving.begins() {
+            return false;
+        }
         if epoch > self.evolving.epoch() {
             return false;
         }
@@ -241,11 +259,4 @@ impl Counted {
         } = self;
         Ok((Arc::new(alloc, evolving)?, widths))
     }
-}
-
-// Whether none of the totals passes 2^127 - 1.
-fn keep_bound(totals: &[u128]) -> bool
-    ensures { result ≡ list_all (λ total. nat_lt total sum_bound) totals.now }
-{
-    totals.iter().all(|total| *total < OVER_BOUND)
 }

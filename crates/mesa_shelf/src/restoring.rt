@@ -61,6 +61,7 @@ pub fn restore(
     let StatedTable {
         name,
         oldest,
+        begins,
         keys,
         values,
         changes,
@@ -70,7 +71,7 @@ pub fn restore(
         cumulatives,
         singles,
     } = stated;
-    let columns = restore_columns(alloc, keys, values, changes, views)?;
+    let columns = restore_columns(alloc, begins, keys, values, changes, views)?;
     if !columns.allows_totals(&totals) {
         return Err(RestoreError::Misfit);
     }

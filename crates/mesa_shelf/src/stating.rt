@@ -30,6 +30,7 @@ impl Table {
         Ok(StatedTable {
             name,
             oldest: self.oldest,
+            begins: self.evolving.begins(),
             keys: Items::from_vec(keys),
             values: Items::from_vec(values),
             changes: Items::from_vec(changes),
@@ -96,7 +97,7 @@ fn state_range(to: u32, delta: &Delta) -> Result<StatedRange, AllocError>
     })
 }
 
-fn copy_files(files: &Option<Files>) -> Result<Option<Files>, AllocError>
+pub(crate) fn copy_files(files: &Option<Files>) -> Result<Option<Files>, AllocError>
     ensures { IfOk result (λ copy. copy ≡ files.now) }
 {
     match files {

@@ -14,6 +14,13 @@ returns-in-Publish c =
     c.parts_are_new.ensures ∙ ap (list_all (λ (p : Part). list_all test (file_ids p.files))) c.as_slice.ensures
     ∙ sym (all-flat_map test part_ids c.in-Publish.parts) ∙ ap (list_all test) (sym (ap ids_brought c.in-Publish.is)) ∙ sym (new_each s.run (held_ids s) ids)
 
+pub returns-in-Recast : goal.returns-in-Recast
+returns-in-Recast c =
+    let s = c.args.shelves.now in
+    let ids = ids_brought c.args.r.now in
+    let test : ℕ → Bool = is_once_new s.run (held_ids s) ids in
+    c.recast_is_new.ensures ∙ ap (list_all test) (sym (ap ids_brought c.in-Recast.is)) ∙ sym (new_each s.run (held_ids s) ids)
+
 pub returns-in-Some : goal.returns-in-Some
 returns-in-Some c =
     let s = c.args.shelves.now in

@@ -4,7 +4,7 @@ use Rattle.mesa_record.specs.declared.record.Files.{Files}
 use Rattle.mesa_record.specs.declared.record.Part.{Part}
 use Rattle.mesa_record.specs.declared.record.Record.{Record}
 use Rattle.mesa_shelf.specs.Named.{file_ids, ids_if_any}
-use Rattle.mesa_catalog.specs.Named.{RiseTo, ids_brought, part_ids}
+use Rattle.mesa_catalog.specs.Named.{RiseTo, ids_brought, part_ids, recast_ids}
 use Rattle.mesa_catalog.proofs.Ids.{some_holds}
 use Rattle.mesa_catalog.proofs.newness.brings_rising.Goals as goal
 
@@ -15,6 +15,11 @@ returns-in-Publish c = λ yes.
     let found = some_holds c.parts_rise.result (RiseTo run above (flat_map part_ids c.as_slice.result.now)) c.parts_rise.ensures (sym c.is_some.ensures ∙ yes) in
     let last = found.0 in
     (last, subst (λ (r : Record). RiseTo run above (ids_brought r) last) (sym c.in-Publish.is) (subst (λ (parts : List Part). RiseTo run above (flat_map part_ids parts) last) c.as_slice.ensures found.1))
+
+pub returns-in-Recast : goal.returns-in-Recast
+returns-in-Recast c = λ yes.
+    let found = some_holds c.recast_rises.result (RiseTo c.args.run c.args.above (recast_ids c.in-Recast.told)) c.recast_rises.ensures (sym c.is_some-in-Recast.ensures ∙ yes) in
+    (found.0, subst (λ (r : Record). RiseTo c.args.run c.args.above (ids_brought r) found.0) (sym c.in-Recast.is) found.1)
 
 pub returns-in-Some : goal.returns-in-Some
 returns-in-Some c = λ yes.

@@ -19,6 +19,6 @@ changes-preserved c =
       changes = changes_on l m c.in-Some.change left rest c.args.changes one.changed first known.changes;
       pass = change_passes l m c.in-Some.change left rest _ (ap (λ (x : Lineage). x.views) (known.lineage) ∙ ap (λ (x : Lineage). x.views) c.requires.first) first one.pass one.changed known.pass;
       few = few_on l m c.in-Some.change left rest one.changed first known.few;
-      widths = counts_on (λ (s : Columns). length s.values) l m c.in-Some.change _ _ one.changed known.widths c.in_ok-push_counts-2.ensures.widths;
-      sums = counts_on (λ (s : Columns). sums_in (aggs_of s)) l m c.in-Some.change _ _ one.changed known.sums c.in_ok-push_counts-2.ensures.sums;
+      widths = counts_on (λ (s : Columns). length s.values) l m c.in-Some.change _ _ one.changed known.widths c.in_ok-push_counts.ensures.widths;
+      sums = counts_on (λ (s : Columns). sums_in (aggs_of s)) l m c.in-Some.change _ _ one.changed known.sums c.in_ok-push_counts.ensures.sums;
     }

@@ -13,6 +13,7 @@ returns c = λ next table.
     table_stated next c.args.self.now _ table (record {
       name = c.in_ok-name.ensures;
       oldest = refl;
+      begins = c.begins.ensures.number ∙ ap (λ (l : Lineage). l.begins) c.deref-6.ensures;
       keys = c.from_vec.ensures ∙ c.in_ok-keys.ensures ∙ c.keys.ensures.same ∙ ap (λ (s : Columns). s.keys) c.first-first.ensures ∙ ap (λ (l : Lineage). l.first.keys) c.deref.ensures;
       values = c.from_vec-2.ensures ∙ c.in_ok-values.ensures ∙ c.values.ensures.same ∙ ap (λ (s : Columns). s.values) c.first-first.ensures ∙ ap (λ (l : Lineage). l.first.values) c.deref.ensures;
       changes = c.from_vec-3.ensures ∙ c.in_ok-changes.ensures ∙ c.changes.ensures ∙ ap (λ (l : Lineage). l.changes) c.deref-2.ensures;

@@ -1,0 +1,52 @@
+use Rattle.std.proofs.Common.{◌∙◌, ap, sym, subst, arith}
+use Rattle.std.proofs.lemmas.List.{length-set}
+use Rattle.mesa_image_laws.specs.mesa_image.Catalog.{Stock, stock_recast}
+use Rattle.mesa_image_laws.specs.mesa_image.Fitting.{recast_fits}
+use Rattle.mesa_shelf.specs.Meaning.{IsTable, stock_of}
+use Rattle.mesa_shelf.specs.Readied.{IsRecast, recasting_in}
+use Rattle.mesa_catalog.specs.Meaning.{catalogue_of}
+use Rattle.mesa_catalog.proofs.Applies.{put_stock, recast_there}
+use Rattle.mesa_catalog.proofs.Stocks.{all_at, all_set, stock_here, there_within}
+use Rattle.mesa_catalog.proofs.shelves.Shelves.take_recast.Goals as goal
+
+pub index_mut-table-requires : goal.index_mut-table-requires
+index_mut-table-requires c =
+    let s = c.args.self.now in
+    let fits = recast_there (catalogue_of s) (recasting_in c.args.table c.args.made) c.requires.ready.fits in
+    let within = there_within s c.args.table fits.0 in
+    omega arith
+
+pub returns-clause-applied : goal.returns-clause-applied
+returns-clause-applied c =
+    let s = c.args.self.now in
+    let t = c.index_mut-table.result.now in
+    let y = c.args.made in
+    let k = recasting_in c.args.table y in
+    let fits = recast_there (catalogue_of s) k c.requires.ready.fits in
+    let within = there_within s c.args.table fits.0 in
+    let same = stock_here s c.args.table t within ∙ ap (stock_of s.next) (sym c.index_mut-table.ensures.value) in
+    let table = subst (IsTable s.next) (sym c.index_mut-table.ensures.value) (all_at (IsTable s.next) s.tables.items c.args.table t c.requires.shelved.tables within) in
+    let allowed = ap (λ (u : Stock). recast_fits u k) (sym same) ∙ fits.1 in
+    let made = subst (λ (u : Stock). IsRecast u.lineage u.totals y k) same c.requires.ready.made in
+    put_stock s c.args.table c.recast.new.table _ (c.recast.ensures.stock s.next k table allowed made ∙ ap (λ (u : Stock). stock_recast s.next u k) (sym same))
+
+pub returns-clause-shelved : goal.returns-clause-shelved
+returns-clause-shelved c =
+    let s = c.args.self.now in
+    let t = c.index_mut-table.result.now in
+    let y = c.args.made in
+    let k = recasting_in c.args.table y in
+    let fits = recast_there (catalogue_of s) k c.requires.ready.fits in
+    let within = there_within s c.args.table fits.0 in
+    let same = stock_here s c.args.table t within ∙ ap (stock_of s.next) (sym c.index_mut-table.ensures.value) in
+    let table = subst (IsTable s.next) (sym c.index_mut-table.ensures.value) (all_at (IsTable s.next) s.tables.items c.args.table t c.requires.shelved.tables within) in
+    let allowed = ap (λ (u : Stock). recast_fits u k) (sym same) ∙ fits.1 in
+    let made = subst (λ (u : Stock). IsRecast u.lineage u.totals y k) same c.requires.ready.made in
+    let few = c.requires.shelved.few in
+    let count = length-set s.tables.items c.args.table c.recast.new.table in
+    record {
+      few = omega arith;
+      most = c.requires.shelved.most;
+      floor = c.requires.shelved.floor;
+      tables = all_set (IsTable s.next) s.tables.items c.args.table c.recast.new.table c.requires.shelved.tables (c.recast.ensures.table s.next k table allowed made);
+    }
