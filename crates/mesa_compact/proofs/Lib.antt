@@ -7,3 +7,5 @@ pub mod Totals
 pub mod Whole
 pub mod Regrouped
 pub mod Tasking
+pub mod Leaving
+pub mod Passing

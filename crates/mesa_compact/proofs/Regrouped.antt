@@ -15,7 +15,7 @@ use Rattle.mesa_block.specs.Rows.{Rise}
 use Rattle.mesa_block.specs.Spelling.{key_of}
 use Rattle.mesa_answer.specs.Gathering.{Wanted, first_groups}
 use Rattle.mesa_answer.proofs.Steps.{all_groups}
-use Rattle.mesa_compact.specs.Sources.{view_groups}
+use Rattle.mesa_view.specs.SumDamage.{view_groups}
 use Rattle.mesa_compact.proofs.Whole.{some_folded}
 
 -- some rows are grouped to some

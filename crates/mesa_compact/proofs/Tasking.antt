@@ -7,19 +7,21 @@ use Rattle.mesa_merge.proofs.Inputs.{SameEnd}
 use Rattle.mesa_tasks.specs.declared.merging.CompactError.{CompactError}
 use Rattle.mesa_merge.specs.Sums.{sum_damage}
 use Rattle.mesa_tasks.specs.declared.merging.TaskView.{TaskView}
-use Rattle.mesa_compact.specs.Damaged.{IsNewestOf}
+use Rattle.mesa_compact.specs.Damaged.{IsGroupsTotalOf, IsNewestOf, LeavesAmong, RowLeaves, ViewLeaves}
 use Rattle.mesa_compact.specs.Tasks.{IsFilesDamage, IsViewDamage}
 use Rattle.mesa_compact.specs.Writing.{HasCauses}
-use Rattle.mesa_compact.proofs.Whole.{newest_kept}
 use Rattle.mesa_compact.proofs.Causing.{caused_left, caused_on, caused_right}
 use Rattle.mesa_compact.proofs.Viewing.{faults_append}
-use Rattle.std.proofs.Common.{◌≡◌, ◌⊎◌, inl, inr, ℕ, ◌<◌, List, [], ◌∷◌, ◌++◌, refl, sym, ◌∙◌, ap, subst, length, get_or, arith}
-use Rattle.std.specs.Prelude.{Option, Some, None}
+use Rattle.std.proofs.Common.{◌≡◌, ◌⊎◌, inl, inr, ℕ, zero, suc, ◌<◌, List, [], ◌∷◌, ◌++◌, refl, sym, ◌∙◌, ap, subst, length, get_or, arith}
+use Rattle.std.specs.Prelude.{Option, Some, None, map, slice_get}
 use Rattle.mesa_schema.specs.declared.rows.Row.{Row}
 use Rattle.mesa_schema.specs.Changes.{Lineage, columns_of}
 use Rattle.mesa_delta.specs.declared.input.Input.{Input}
-use Rattle.mesa_merge.specs.Inputs.{knowns_of}
-use Rattle.mesa_tasks.specs.Inputs.{AreInputsOf, IsMergeOf}
+use Rattle.mesa_schema.specs.Columns.{aggs_of}
+use Rattle.mesa_schema.specs.Folded.{folded}
+use Rattle.mesa_merge.specs.Inputs.{AreTold, Known, known_of, knowns_of, lifted_in, lifted_parts}
+use Rattle.mesa_tasks.specs.Inputs.{AreInputsOf, IsMergeOf, present_parts}
+use Rattle.mesa_tasks.specs.Inputs.{AreTold as AreToldInputs}
 use Rattle.mesa_tasks.specs.Made.{IsMadeFile}
 use Rattle.mesa_tasks.specs.Tasks.{AreMergedViews, IsMerged}
 use Rattle.mesa_tasks.specs.declared.made.MadeFiles.{MadeFiles}
@@ -73,12 +75,50 @@ caused_views faults IsTold Told a b c is js vs ws r q stay stays h same more =
     let reads : faults_of faults (js ++ vs) ≡ faults_of faults (is ++ vs) = faults_append faults js vs ∙ ap (λ ns. ns ++ faults_of faults vs) stays ∙ sym (faults_append faults is vs) in
     caused_on IsTold Told a b c _ _ _ r q stay reads all same more
 
+-- ---- the merge of inputs, by what is known of them
+
+pub told_inputs : {R : Type 0} (bytes : R → Option (List ℕ)) (is : List (Input R)) (contents : List (List Row)) → AreTold (knowns_of bytes is) contents → AreToldInputs bytes is contents
+told_inputs bytes [] [] told = tt
+told_inputs bytes [] (rows ∷ contents) told = told
+told_inputs bytes (i ∷ is) [] told = told
+told_inputs bytes (i ∷ is) (rows ∷ contents) told = (told.0, told_inputs bytes is contents told.1)
+
+pub known_parts : {R : Type 0} (bytes : R → Option (List ℕ)) (is : List (Input R)) (contents : List (List Row)) → present_parts is contents ≡ lifted_parts (knowns_of bytes is) contents
+known_parts bytes [] contents = refl
+known_parts bytes (i ∷ is) [] = refl
+known_parts bytes (i ∷ is) (rows ∷ contents) = ap (λ parts. map (lifted_in (known_of bytes i)) rows ∷ parts) (known_parts bytes is contents)
+
+-- each input's table is theirs
+known_table : {R : Type 0} (bytes : R → Option (List ℕ)) (l : Lineage) (is : List (Input R)) (n : ℕ) (k : Known) → AreInputsOf bytes l is → slice_get (knowns_of bytes is) n ≡ Some k → k.table ≡ l
+known_table bytes l [] n k h e = cc
+known_table bytes l (i ∷ is) zero k h e =
+    let same : known_of bytes i ≡ k = cc in
+    sym (ap (λ (x : Known). x.table) same) ∙ h.0.1
+known_table bytes l (i ∷ is) (suc n) k h e = known_table bytes l is n k h.1 e
+
+-- what leaves its type where the merged rows, or the groups of a view, are written
+pub total_damage : {R : Type 0} (bytes : R → Option (List ℕ)) (l : Lineage) (is js : List (Input R)) (rows : List Row) (newest : ℕ) (d : Damage) → knowns_of bytes js ≡ knowns_of bytes is → IsNewestOf (knowns_of bytes is) newest
+    → AreInputsOf bytes l is → IsMergeOf bytes (columns_of l) is rows → d ≡ sum_damage newest → LeavesAmong (RowLeaves (columns_of l)) rows ⊎ ViewLeaves l rows → IsGroupsTotalOf (knowns_of bytes js) d
+total_damage bytes l is js rows newest d known last inputs merge told leaves =
+    let table : last.file.table ≡ l = known_table bytes l is _ last.file inputs last.last in
+    let merged : (contents : List (List Row)) → AreTold (knowns_of bytes is) contents → rows ≡ folded (aggs_of (columns_of l)) (lifted_parts (knowns_of bytes is) contents) =
+    λ contents all. merge contents (told_inputs bytes is contents all) ∙ ap (folded (aggs_of (columns_of l))) (known_parts bytes is contents) in
+    let here : IsGroupsTotalOf (knowns_of bytes is) d = record {
+      newest = newest;
+      last = last;
+      rows = rows;
+      merged = subst (λ (t : Lineage). (contents : List (List Row)) → AreTold (knowns_of bytes is) contents → rows ≡ folded (aggs_of (columns_of t)) (lifted_parts (knowns_of bytes is) contents)) (sym table) merged;
+      leaves = subst (λ (t : Lineage). LeavesAmong (RowLeaves (columns_of t)) rows ⊎ ViewLeaves t rows) (sym table) leaves;
+      told = told;
+    } in
+    subst (λ (ks : List Known). IsGroupsTotalOf ks d) (sym known) here
+
 -- damage that is told of the views' files, or of the newest of the table's
-pub files_damage : {R : Type 0} (bytes : R → Option (List ℕ)) (size : R → ℕ) (is js : List (Input R)) (ws : List (TaskView R)) (newest : ℕ) (d : Damage) → knowns_of bytes js ≡ knowns_of bytes is → IsNewestOf (knowns_of bytes is) newest
-    → IsViewDamage bytes size ws d ⊎ (d ≡ sum_damage newest) → IsFilesDamage bytes size js ws d
-files_damage bytes size is js ws newest d known last told = elim told [
+pub files_damage : {R : Type 0} (bytes : R → Option (List ℕ)) (size : R → ℕ) (l : Lineage) (is js : List (Input R)) (ws : List (TaskView R)) (rows : List Row) (newest : ℕ) (d : Damage) → knowns_of bytes js ≡ knowns_of bytes is → IsNewestOf (knowns_of bytes is) newest
+    → AreInputsOf bytes l is → IsMergeOf bytes (columns_of l) is rows → IsViewDamage bytes size ws d ⊎ ((d ≡ sum_damage newest) × (LeavesAmong (RowLeaves (columns_of l)) rows ⊎ ViewLeaves l rows)) → IsFilesDamage bytes size js ws d
+files_damage bytes size l is js ws rows newest d known last inputs merge told = elim told [
   | inl view ↦ inr (inl view)
-  | inr total ↦ inr (inr (record { newest = newest; last = newest_kept bytes is js newest known last; told = total }))
+  | inr total ↦ inr (inr (total_damage bytes l is js rows newest d known last inputs merge total.0 total.1))
 ]
 
 -- the same of views that were lent, and came back

@@ -190,18 +190,23 @@ own_merged {R = R} bytes id_of read s schema rows v t made files columns file =
 pub faults_append : {R : Type 0} (faults : R → ℕ) (xs ys : List (Input R)) → faults_of faults (xs ++ ys) ≡ faults_of faults xs ++ faults_of faults ys
 faults_append faults xs ys = map-append (λ i. faults (reader_in i)) xs ys
 
--- the causes at one view are those at all
+-- the causes at the inputs of one of several are those at all
+pub caused_at : {A R T : Type 0} (f : A → List (Input R)) (faults : R → ℕ) (IsTold : Damage → Type 0) (a b : ℕ) (xs : List A) (i : ℕ) (y d : A) (r : Result T CompactError) → i < length xs
+    → HasCauses a b (faults_of faults (f (get_or xs i d))) (faults_of faults (f y)) IsTold r → HasCauses a b (faults_of faults (flat_map f xs)) (faults_of faults (flat_map f (set xs i y))) IsTold r
+caused_at f faults IsTold a b [] i y d r lt h = absurd (omega (arith, lt))
+caused_at f faults IsTold a b (x ∷ xs) zero y d r lt h =
+    subst (λ ns. HasCauses a b (faults_of faults (flat_map f (x ∷ xs))) ns IsTold r) (sym (faults_append faults (f y) (flat_map f xs)))
+    (subst (λ ns. HasCauses a b ns (faults_of faults (f y) ++ faults_of faults (flat_map f xs)) IsTold r) (sym (faults_append faults (f x) (flat_map f xs)))
+    (caused_left IsTold a b _ _ (faults_of faults (flat_map f xs)) r h))
+caused_at f faults IsTold a b (x ∷ xs) (suc i) y d r lt h =
+    subst (λ ns. HasCauses a b (faults_of faults (flat_map f (x ∷ xs))) ns IsTold r) (sym (faults_append faults (f x) (flat_map f (set xs i y))))
+    (subst (λ ns. HasCauses a b ns (faults_of faults (f x) ++ faults_of faults (flat_map f (set xs i y))) IsTold r) (sym (faults_append faults (f x) (flat_map f xs)))
+    (caused_right IsTold a b (faults_of faults (f x)) _ _ r (caused_at f faults IsTold a b xs i y d r (omega (arith, lt)) h)))
+
+-- so are those at one view
 pub caused_view : {R T : Type 0} (faults : R → ℕ) (IsTold : Damage → Type 0) (a b : ℕ) (ts : List (TaskView R)) (i : ℕ) (t d : TaskView R) (r : Result T CompactError) → i < length ts
     → HasCauses a b (faults_of faults (own_inputs (get_or ts i d))) (faults_of faults (own_inputs t)) IsTold r → HasCauses a b (faults_of faults (flat_map own_inputs ts)) (faults_of faults (flat_map own_inputs (set ts i t))) IsTold r
-caused_view faults IsTold a b [] i t d r lt h = absurd (omega (arith, lt))
-caused_view faults IsTold a b (u ∷ ts) zero t d r lt h =
-    subst (λ ns. HasCauses a b (faults_of faults (flat_map own_inputs (u ∷ ts))) ns IsTold r) (sym (faults_append faults (own_inputs t) (flat_map own_inputs ts)))
-    (subst (λ ns. HasCauses a b ns (faults_of faults (own_inputs t) ++ faults_of faults (flat_map own_inputs ts)) IsTold r) (sym (faults_append faults (own_inputs u) (flat_map own_inputs ts)))
-    (caused_left IsTold a b _ _ (faults_of faults (flat_map own_inputs ts)) r h))
-caused_view faults IsTold a b (u ∷ ts) (suc i) t d r lt h =
-    subst (λ ns. HasCauses a b (faults_of faults (flat_map own_inputs (u ∷ ts))) ns IsTold r) (sym (faults_append faults (own_inputs u) (flat_map own_inputs (set ts i t))))
-    (subst (λ ns. HasCauses a b ns (faults_of faults (own_inputs u) ++ faults_of faults (flat_map own_inputs (set ts i t))) IsTold r) (sym (faults_append faults (own_inputs u) (flat_map own_inputs ts)))
-    (caused_right IsTold a b (faults_of faults (own_inputs u)) _ _ r (caused_view faults IsTold a b ts i t d r (omega (arith, lt)) h)))
+caused_view faults IsTold a b ts i t d r lt h = caused_at own_inputs faults IsTold a b ts i t d r lt h
 
 -- ---- ids
 

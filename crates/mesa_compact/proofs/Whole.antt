@@ -19,7 +19,6 @@ use Rattle.mesa_answer.specs.Answering.{KeepsSums}
 use Rattle.mesa_compact.specs.Bounded.{AreBounded}
 use Rattle.mesa_compact.proofs.Following.{folded_bound}
 use Rattle.mesa_schema.specs.Rows.{AreRowsOf}
-use Rattle.mesa_compact.specs.Damaged.{IsNewestOf}
 use Rattle.mesa_tasks.specs.Inputs.{IsMergeOf, present_parts}
 use Rattle.mesa_tasks.specs.Inputs.{AreTold as AreToldInputs}
 
@@ -51,10 +50,6 @@ known_count bytes is = length-map is _
 
 pub some_known : {R : Type 0} (bytes : R → Option (List ℕ)) (before now : List (Input R)) → knowns_of bytes now ≡ knowns_of bytes before → 0 < length before → 0 < length (knowns_of bytes now)
 some_known bytes before now same some = subst (λ n. 0 < n) (sym (ap length same ∙ known_count bytes before)) some
-
--- the newest is still the newest
-pub newest_kept : {R : Type 0} (bytes : R → Option (List ℕ)) (before now : List (Input R)) (id : ℕ) → knowns_of bytes now ≡ knowns_of bytes before → IsNewestOf (knowns_of bytes before) id → IsNewestOf (knowns_of bytes now) id
-newest_kept bytes before now id same newest = subst (λ (ks : List Known). IsNewestOf ks id) (sym same) newest
 
 -- ---- the merge of inputs
 
@@ -88,3 +83,8 @@ if_ok_map (Err e) P Q f p = tt
 pub if_err_map : {T E : Type 0} (r : Result T E) (P Q : E → Type 0) → ((e : E) → P e → Q e) → IfErr r P → IfErr r Q
 if_err_map (Ok x) P Q f p = tt
 if_err_map (Err e) P Q f p = f e p
+
+-- and from two things that it has
+pub both_map : {T E : Type 0} (r : Result T E) (P Q S : T → Type 0) → ((x : T) → P x → Q x → S x) → IfOk r P → IfOk r Q → IfOk r S
+both_map (Ok x) P Q S f p q = f x p q
+both_map (Err e) P Q S f p q = tt

@@ -1,20 +1,16 @@
 -- What the file of a view is made of.
-use Rattle.std.specs.Prelude.{◌≡◌, ℕ, ◌<◌, ◌-◌, ◌^◌, List, Vec, length, slice_get, Option, Some, None, IsTrue, false}
+use Rattle.std.specs.Prelude.{◌≡◌, ℕ, ◌<◌, List, Vec, length, slice_get, Option, Some, None, IsTrue}
 use Rattle.std.specs.declared.alloc.Global.{Global}
 use Rattle.mesa_schema.specs.declared.views.View.{View}
 use Rattle.mesa_schema.specs.Columns.{Columns}
-use Rattle.mesa_schema.specs.Views.{view_key_places, view_value_places}
 use Rattle.mesa_filter.specs.Query.{are_places}
 use Rattle.mesa_delta.specs.declared.input.Input.{Input}
 use Rattle.mesa_answer.specs.Gathering.{Wanted}
 use Rattle.mesa_answer.specs.Regrouping.{PlacesSeen, places_seen}
 use Rattle.mesa_answer.specs.declared.groups.Groups.{Groups}
+use Rattle.mesa_view.specs.SumDamage.{view_groups}
 use Rattle.mesa_tasks.specs.declared.merging.TaskView.{TaskView}
 use Rattle.mesa_compact.specs.Grouping.{wanted_in}
-
--- all groups of a view of a table with these columns
-abbrev pub view_groups : Columns → View → Wanted
-view_groups s v = record { schema = s; columns = view_key_places s v; values = view_value_places s v; resume = None; inclusive = false; most = 2 ^ 64 - 1 }
 
 -- These are the places of a view's columns, for each of a table's views.
 pub record AreSeen (s : Columns) (views : List View) (seen : List PlacesSeen) : Type 0 where

@@ -11,7 +11,8 @@ ghost use Rattle.mesa_answer.specs.Answering.{KeepsSums};
 ghost use Rattle.mesa_answer.specs.Gathered.{HasPut, wanted_of};
 ghost use Rattle.mesa_merge.specs.Sums.{sum_damage};
 ghost use Rattle.mesa_tasks.specs.Made.{IsMadeFile};
-ghost use Rattle.mesa_compact.specs.Sources.{view_groups};
+ghost use Rattle.mesa_view.specs.SumDamage.{view_groups};
+ghost use Rattle.mesa_compact.specs.Damaged.{LeavesAmong, TotalLeaves};
 ghost use Rattle.mesa_compact.specs.Writing.{HasCauses, damaged_by};
 
 use crate::filing::{begin_file, end_file, give_up};
@@ -37,7 +38,8 @@ pub(crate) fn grouped_file<M: Made, B: Bench<M>>(
     ensures made { IfOk result (λ made. (s : Columns) (v : AnyView) (rows : List AnyRow) → HasPut groups.entry rows → wanted_of groups.entry ≡ view_groups s v → schema.now ≡ view_columns s v
         → IsMadeFile M.bytes M.id_of (record { columns = view_columns s v; rows = view_rows s v rows }) made) }
     ensures id { IfOk result (λ made. M.id_of made.made ≡ id) }
-    ensures causes { (reads : List ℕ) → HasCauses (B.faults bench.old) (B.faults bench.new) reads reads (λ d. d ≡ sum_damage newest) result }
+    ensures causes { (reads : List ℕ) → HasCauses (B.faults bench.old) (B.faults bench.new) reads reads
+        (λ d. (d ≡ sum_damage newest) × ((s : Columns) (v : AnyView) (rows : List AnyRow) → HasPut groups.entry rows → wanted_of groups.entry ≡ view_groups s v → schema.now ≡ view_columns s v → LeavesAmong (TotalLeaves (view_columns s v)) (view_rows s v rows))) result }
     ensures accepts { IfErr result (λ e. (d : AnyDamage) → e ≡ damaged_by d → (s : Columns) (v : AnyView) (rows : List AnyRow) → HasPut groups.entry rows → wanted_of groups.entry ≡ view_groups s v → schema.now ≡ view_columns s v → KeepsSums s rows → ⊥) }
 {
     groups_rise();
@@ -49,7 +51,7 @@ pub(crate) fn grouped_file<M: Made, B: Bench<M>>(
 }
 
 // The file of rows.
-fn rows_file<M: Made, B: Bench<M>>(
+pub(crate) fn rows_file<M: Made, B: Bench<M>>(
     alloc: Global,
     bench: &mut B,
     id: FileId,
@@ -62,7 +64,7 @@ fn rows_file<M: Made, B: Bench<M>>(
     requires rise { IsTrue (keys_rise rows.now) }
     ensures made { IfOk result (λ made. IsMadeFile M.bytes M.id_of (record { columns = schema.now; rows = rows.now }) made) }
     ensures id { IfOk result (λ made. M.id_of made.made ≡ id) }
-    ensures causes { (reads : List ℕ) → HasCauses (B.faults bench.old) (B.faults bench.new) reads reads (λ d. d ≡ sum_damage newest) result }
+    ensures causes { (reads : List ℕ) → HasCauses (B.faults bench.old) (B.faults bench.new) reads reads (λ d. (d ≡ sum_damage newest) × LeavesAmong (TotalLeaves schema.now) rows.now) result }
     ensures accepts { IfErr result (λ e. (d : AnyDamage) → e ≡ damaged_by d → KeepsSums schema.now rows.now → ⊥) }
 {
     let mut writer = match begin_file(alloc, bench, id, schema) {
@@ -91,7 +93,7 @@ fn write_rows<M: Made, T: Draft<M>>(
     ensures columns { columns_of writer.new ≡ columns_of writer.old }
     ensures id { id_of writer.new ≡ id_of writer.old }
     ensures draft { T.id_of (draft_of writer.new) ≡ T.id_of (draft_of writer.old) }
-    ensures causes { (reads : List ℕ) → HasCauses (T.faults (draft_of writer.old)) (T.faults (draft_of writer.new)) reads reads (λ d. d ≡ sum_damage newest) result }
+    ensures causes { (reads : List ℕ) → HasCauses (T.faults (draft_of writer.old)) (T.faults (draft_of writer.new)) reads reads (λ d. (d ≡ sum_damage newest) × LeavesAmong (TotalLeaves (columns_of writer.old)) rows.now) result }
     ensures accepts { IfErr result (λ e. (d : AnyDamage) → e ≡ damaged_by d → KeepsSums (columns_of writer.old) rows.now → ⊥) }
 {
     'rows: for row in rows {

@@ -9,6 +9,7 @@ ghost use Rattle.mesa_schema.specs.Rows.{IsRowOf};
 ghost use Rattle.mesa_delta.specs.declared.error.FileError.TheVariants as file_error;
 ghost use Rattle.mesa_answer.specs.Answering.{KeepsSums};
 ghost use Rattle.mesa_merge.specs.Sums.{sum_damage};
+ghost use Rattle.mesa_compact.specs.Damaged.{GroupLeaves};
 ghost use Rattle.mesa_compact.specs.Grouping.{HasPutIn, HavePut, TakesRows, wanted_in};
 
 use mesa_answer::Groups;
@@ -17,7 +18,7 @@ use mesa_file::FileId;
 use mesa_schema::LentRow;
 use mesa_view::put_row;
 
-/// Puts a row more into each gatherer. A sum that would leave its type is told of this file.
+/// Puts a row more into each gatherer. A sum of a group that leaves its type is told of this file.
 pub fn put_all(groups: &mut [Option<Groups>], file: FileId, row: LentRow) -> Result<(), FileError>
     requires gathering { (given : List AnyRow) × HavePut groups.old given }
     requires form { (s : Columns) × IsRowOf s (lent row) × AllByRecursion (TakesRows s) groups.old }
@@ -25,6 +26,7 @@ pub fn put_all(groups: &mut [Option<Groups>], file: FileId, row: LentRow) -> Res
     ensures wanted { map wanted_in groups.new ≡ map wanted_in groups.old }
     ensures unread { IfErr result (λ e. e ≢ file_error.Read) }
     ensures damaged { IfErr result (λ e. (d : AnyDamage) → e ≡ file_error.Damaged d → d ≡ sum_damage file) }
+    ensures leaves { IfErr result (λ e. (d : AnyDamage) → e ≡ file_error.Damaged d → (s : Columns) (given : List AnyRow) → HavePut groups.old given → AllByRecursion (TakesRows s) groups.old → GroupLeaves s given (lent row.entry)) }
     ensures never { IfErr result (λ e. (d : AnyDamage) → e ≡ file_error.Damaged d → (s : Columns) (given : List AnyRow) → HavePut groups.old given → AllByRecursion (TakesRows s) groups.old → KeepsSums s (given ++ lent row.entry ∷ []) → ⊥) }
 {
     'groups: for i in 0..groups.len() {
@@ -44,6 +46,7 @@ fn put_one(groups: &mut Option<Groups>, file: FileId, row: LentRow) -> Result<()
     ensures wanted { wanted_in groups.new ≡ wanted_in groups.old }
     ensures unread { IfErr result (λ e. e ≢ file_error.Read) }
     ensures damaged { IfErr result (λ e. (d : AnyDamage) → e ≡ file_error.Damaged d → d ≡ sum_damage file) }
+    ensures leaves { IfErr result (λ e. (d : AnyDamage) → e ≡ file_error.Damaged d → (s : Columns) (given : List AnyRow) → HasPutIn given groups.old → TakesRows s groups.old → GroupLeaves s given (lent row.entry)) }
     ensures never { IfErr result (λ e. (d : AnyDamage) → e ≡ file_error.Damaged d → (s : Columns) (given : List AnyRow) → HasPutIn given groups.old → TakesRows s groups.old → KeepsSums s (given ++ lent row.entry ∷ []) → ⊥) }
 {
     match groups {

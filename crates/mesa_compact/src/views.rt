@@ -5,7 +5,7 @@ ghost use Rattle.mesa_schema.specs.declared.rows.Row.{Row as AnyRow};
 ghost use Rattle.mesa_schema.specs.declared.views.View.{View as AnyView};
 ghost use Rattle.mesa_schema.specs.Changes.{columns_of};
 ghost use Rattle.mesa_schema.specs.Columns.{Columns};
-ghost use Rattle.mesa_schema.specs.Views.{view_columns};
+ghost use Rattle.mesa_schema.specs.Views.{view_columns, view_rows};
 ghost use Rattle.mesa_merge.specs.Faults.{faults_of};
 ghost use Rattle.mesa_merge.specs.Sums.{sum_damage};
 ghost use Rattle.mesa_tasks.specs.GivingBack.{own_inputs};
@@ -16,7 +16,7 @@ ghost use Rattle.mesa_tasks.specs.Tasks.{AreMergedViews, AreTaskViews, HasOwn, I
 ghost use Rattle.mesa_tasks.specs.declared.made.MadeView.{MadeView as AnyMade};
 ghost use Rattle.mesa_answer.specs.Answering.{KeepsSums};
 ghost use Rattle.mesa_compact.specs.Bounded.{AreOwnBounded, AreViewsBounded};
-ghost use Rattle.mesa_compact.specs.Damaged.{IsMergeDamage};
+ghost use Rattle.mesa_compact.specs.Damaged.{IsMergeDamage, LeavesAmong, TotalLeaves, ViewLeaves};
 ghost use Rattle.mesa_compact.specs.Grouping.{HasPutIn, HavePut, wanted_in};
 ghost use Rattle.mesa_compact.specs.Sources.{AreSources, HasFiles, IsSourceOf};
 ghost use Rattle.mesa_compact.specs.Tasks.{IsViewDamage, known_view, known_views};
@@ -51,7 +51,8 @@ pub fn view_files<M: Made, B: Bench<M>, R: FileReader>(
     ensures numbered { IfOk result (λ made. (i : ℕ) (m : AnyMade M) → slice_get made.items i ≡ Some m → M.id_of m.file.made ≡ drawn (after_drafts i ids.old)) }
     ensures known { known_views R.bytes views.new ≡ known_views R.bytes views.old }
     ensures kept { AreTaskViews R.bytes (columns_of evolving.now) 0 evolving.now.views views.new }
-    ensures causes { HasCauses (B.faults bench.old) (B.faults bench.new) (faults_of R.faults (flat_map own_inputs views.old)) (faults_of R.faults (flat_map own_inputs views.new)) (λ d. IsViewDamage R.bytes R.size views.new d ⊎ (d ≡ sum_damage newest)) result }
+    ensures causes { HasCauses (B.faults bench.old) (B.faults bench.new) (faults_of R.faults (flat_map own_inputs views.old)) (faults_of R.faults (flat_map own_inputs views.new))
+        (λ d. IsViewDamage R.bytes R.size views.new d ⊎ ((d ≡ sum_damage newest) × ((rows : List AnyRow) → HavePut groups.entry.items rows → ViewLeaves evolving.now rows))) result }
     ensures accepts { IfErr result (λ e. (d : AnyDamage) → e ≡ damaged_by d → (rows : List AnyRow) → HavePut groups.entry.items rows → KeepsSums (columns_of evolving.now) rows
         → AreViewsBounded R.bytes (columns_of evolving.now) evolving.now.views views.old → ⊥) }
 {
@@ -89,7 +90,9 @@ fn view_file<M: Made, B: Bench<M>, R: FileReader>(
     ensures numbered { IfOk result (λ made. (M.id_of made.file.made ≡ drawn ids.old) × (ids.new ≡ next_serials ids.old)) }
     ensures known { known_view R.bytes view.new ≡ known_view R.bytes view.old }
     ensures kept { (v : AnyView) → HasOwn R.bytes (view_columns (columns_of evolving.now) v) view.old.inputs → HasOwn R.bytes (view_columns (columns_of evolving.now) v) view.new.inputs }
-    ensures causes { HasCauses (B.faults bench.old) (B.faults bench.new) (faults_of R.faults (own_inputs view.old)) (faults_of R.faults (own_inputs view.new)) (λ d. IsMergeDamage R.bytes R.size (own_inputs view.new) d ⊎ (d ≡ sum_damage newest)) result }
+    ensures causes { HasCauses (B.faults bench.old) (B.faults bench.new) (faults_of R.faults (own_inputs view.old)) (faults_of R.faults (own_inputs view.new))
+        (λ d. IsMergeDamage R.bytes R.size (own_inputs view.new) d ⊎ ((d ≡ sum_damage newest) × ((v : AnyView) (rows : List AnyRow) → slice_get evolving.now.views view.old.view ≡ Some v → IsSourceOf (columns_of evolving.now) v view.old (wanted_in groups.entry) → HasPutIn rows groups.entry
+        → LeavesAmong (TotalLeaves (view_columns (columns_of evolving.now) v)) (view_rows (columns_of evolving.now) v rows)))) result }
     ensures accepts { IfErr result (λ e. (d : AnyDamage) → e ≡ damaged_by d → (v : AnyView) (rows : List AnyRow) → slice_get evolving.now.views view.old.view ≡ Some v → IsSourceOf (columns_of evolving.now) v view.old (wanted_in groups.entry) → HasPutIn rows groups.entry
         → KeepsSums (columns_of evolving.now) rows → AreOwnBounded R.bytes (view_columns (columns_of evolving.now) v) view.old.inputs → ⊥) }
 {
@@ -123,7 +126,9 @@ fn source_file<M: Made, B: Bench<M>, R: FileReader>(
     ensures id { IfOk result (λ made. M.id_of made.made ≡ id) }
     ensures known { known_view R.bytes view.new ≡ known_view R.bytes view.old }
     ensures kept { (s : Columns) → HasOwn R.bytes s view.old.inputs → HasOwn R.bytes s view.new.inputs }
-    ensures causes { HasCauses (B.faults bench.old) (B.faults bench.new) (faults_of R.faults (own_inputs view.old)) (faults_of R.faults (own_inputs view.new)) (λ d. IsMergeDamage R.bytes R.size (own_inputs view.new) d ⊎ (d ≡ sum_damage newest)) result }
+    ensures causes { HasCauses (B.faults bench.old) (B.faults bench.new) (faults_of R.faults (own_inputs view.old)) (faults_of R.faults (own_inputs view.new))
+        (λ d. IsMergeDamage R.bytes R.size (own_inputs view.new) d ⊎ ((d ≡ sum_damage newest) × ((s : Columns) (v : AnyView) (rows : List AnyRow) → schema.now ≡ view_columns s v → IsSourceOf s v view.old (wanted_in groups.entry) → HasPutIn rows groups.entry
+        → LeavesAmong (TotalLeaves (view_columns s v)) (view_rows s v rows)))) result }
     ensures accepts { IfErr result (λ e. (d : AnyDamage) → e ≡ damaged_by d → (s : Columns) (v : AnyView) (rows : List AnyRow) → schema.now ≡ view_columns s v → IsSourceOf s v view.old (wanted_in groups.entry) → HasPutIn rows groups.entry
         → KeepsSums s rows → AreOwnBounded R.bytes (view_columns s v) view.old.inputs → ⊥) }
 {

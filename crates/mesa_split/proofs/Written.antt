@@ -14,6 +14,8 @@ use Rattle.mesa_schema.specs.Rows.{keys_rise}
 use Rattle.mesa_delta.specs.declared.error.FileError.{FileError}
 use Rattle.mesa_fold.specs.mesa_batch.Totals.{abs_total}
 use Rattle.mesa_answer.specs.Answering.{KeepsSums}
+use Rattle.mesa_compact.specs.Damaged.{LeavesAmong}
+use Rattle.mesa_compact.proofs.Leaving.{among_at, among_before}
 use Rattle.mesa_split.specs.Parts.{gained, joined}
 
 -- the rows up to one more
@@ -76,6 +78,10 @@ there_of P rows i row all at = subst P (get_or_from_slice_get rows i row row at)
 pub sums_there : (s : Columns) (given rows : List Row) (i : ℕ) (row : Row) → slice_get rows i ≡ Some row → KeepsSums s (given ++ rows) → KeepsSums s ((given ++ take i rows) ++ row ∷ [])
 sums_there s given rows i row at keeps = sums_behind s given rows i row (slice_get_within rows i row at) (sym (get_or_from_slice_get rows i row row at)) keeps
 
+-- what leaves its type with the row at a place
+pub leaves_there : (Leaves : List Row → Row → Type 0) (given rows : List Row) (i : ℕ) (row : Row) → slice_get rows i ≡ Some row → Leaves (given ++ take i rows) row → LeavesAmong Leaves (given ++ rows)
+leaves_there Leaves given rows i row at h = among_at Leaves given rows i row (slice_get_within rows i row at) (sym (get_or_from_slice_get rows i row row at)) h
+
 -- ---- parts
 
 abbrev Answers : Type 0
@@ -98,6 +104,10 @@ joined_up_to rs i h = front_rise (joined (take i rs)) (joined (drop i rs)) (ap k
 
 pub joined_sums : (s : Columns) (rs : Answers) (i : ℕ) → KeepsSums s (joined rs) → KeepsSums s (joined (take i rs))
 joined_sums s rs i h = sums_front s (joined (take i rs)) (joined (drop i rs)) (subst (KeepsSums s) (joined_split rs i) h)
+
+-- what leaves its type among the first parts does among all
+pub joined_leaves : (Leaves : List Row → Row → Type 0) (rs : Answers) (i : ℕ) → LeavesAmong Leaves (joined (take i rs)) → LeavesAmong Leaves (joined rs)
+joined_leaves Leaves rs i h = subst (LeavesAmong Leaves) (sym (joined_split rs i)) (among_before Leaves (joined (take i rs)) (joined (drop i rs)) h)
 
 all_front : (P : Row → Type 0) (xs ys : List Row) → AllByRecursion P (xs ++ ys) → AllByRecursion P xs × AllByRecursion P ys
 all_front P [] ys all = (tt, all)

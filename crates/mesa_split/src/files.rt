@@ -6,6 +6,7 @@ ghost use Rattle.mesa_schema.specs.Rows.{AreRowsOf, keys_rise};
 ghost use Rattle.mesa_answer.specs.Answering.{KeepsSums};
 ghost use Rattle.mesa_merge.specs.Sums.{sum_damage};
 ghost use Rattle.mesa_tasks.specs.Made.{IsMadeFile};
+ghost use Rattle.mesa_compact.specs.Damaged.{LeavesAmong, RowLeaves};
 ghost use Rattle.mesa_compact.specs.Grouping.{HavePut, TakesRows, wanted_in};
 ghost use Rattle.mesa_compact.specs.Writing.{HasCauses, damaged_by};
 ghost use Rattle.mesa_split.specs.Parts.{joined};
@@ -39,7 +40,7 @@ pub(crate) fn parts_file<M: Made, B: Bench<M>>(
     ensures made { IfOk result (λ made. IsMadeFile M.bytes M.id_of (record { columns = schema.now; rows = joined parts.now }) made × HavePut groups.new (joined parts.now)) }
     ensures id { IfOk result (λ made. M.id_of made.made ≡ id) }
     ensures wanted { map wanted_in groups.new ≡ map wanted_in groups.old }
-    ensures causes { (reads : List ℕ) → HasCauses (B.faults bench.old) (B.faults bench.new) reads reads (λ d. d ≡ sum_damage newest) result }
+    ensures causes { (reads : List ℕ) → HasCauses (B.faults bench.old) (B.faults bench.new) reads reads (λ d. (d ≡ sum_damage newest) × LeavesAmong (RowLeaves schema.now) (joined parts.now)) result }
     ensures accepts { IfErr result (λ e. (d : AnyDamage) → e ≡ damaged_by d → KeepsSums schema.now (joined parts.now) → ⊥) }
 {
     let mut writer = match begin_file(alloc, bench, id, schema) {

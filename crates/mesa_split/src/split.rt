@@ -14,6 +14,7 @@ ghost use Rattle.mesa_tasks.specs.Spares.{IsSpareOf};
 ghost use Rattle.mesa_tasks.specs.Serials.{after_drafts};
 ghost use Rattle.mesa_tasks.specs.Tasks.{AreMergedViews, AreTaskViews, IsMerged, IsTask};
 ghost use Rattle.mesa_compact.specs.Bounded.{AreViewsBounded, IsBounded};
+ghost use Rattle.mesa_compact.specs.Damaged.{LeavesAmong, RowLeaves, ViewLeaves};
 ghost use Rattle.mesa_compact.specs.Tasks.{AreNumbered, IsSameTask, IsViewDamage, known_views};
 ghost use Rattle.mesa_compact.specs.Writing.{HasCauses, damaged_by};
 ghost use Rattle.mesa_split.specs.Parts.{joined};
@@ -145,7 +146,8 @@ fn write_files<M: Made, B: Bench<M>, R: FileReader>(
     ensures ids { (n : ℕ) × (ids.new ≡ after_drafts n ids.old) }
     ensures known { known_views R.bytes views.new ≡ known_views R.bytes views.old }
     ensures kept { AreTaskViews R.bytes (columns_of evolving.now) 0 evolving.now.views views.new }
-    ensures causes { HasCauses (B.faults bench.old) (B.faults bench.new) (faults_of R.faults (flat_map own_inputs views.old)) (faults_of R.faults (flat_map own_inputs views.new)) (λ d. IsViewDamage R.bytes R.size views.new d ⊎ (d ≡ sum_damage newest)) result }
+    ensures causes { HasCauses (B.faults bench.old) (B.faults bench.new) (faults_of R.faults (flat_map own_inputs views.old)) (faults_of R.faults (flat_map own_inputs views.new))
+        (λ d. IsViewDamage R.bytes R.size views.new d ⊎ ((d ≡ sum_damage newest) × (LeavesAmong (RowLeaves (columns_of evolving.now)) (joined parts.now) ⊎ ViewLeaves evolving.now (joined parts.now)))) result }
     ensures accepts { IfErr result (λ e. (d : AnyDamage) → e ≡ damaged_by d → KeepsSums (columns_of evolving.now) (joined parts.now) → AreViewsBounded R.bytes (columns_of evolving.now) evolving.now.views views.old → ⊥) }
 {
     let Ok(seen) = regroupings(alloc, evolving) else {

@@ -7,6 +7,7 @@ ghost use Rattle.mesa_schema.specs.Rows.{AreRowsOf, keys_rise};
 ghost use Rattle.mesa_delta.specs.Writing.{columns_of, draft_of, id_of};
 ghost use Rattle.mesa_answer.specs.Answering.{KeepsSums};
 ghost use Rattle.mesa_merge.specs.Sums.{sum_damage};
+ghost use Rattle.mesa_compact.specs.Damaged.{LeavesAmong, RowLeaves};
 ghost use Rattle.mesa_compact.specs.Grouping.{TakesRows, wanted_in};
 ghost use Rattle.mesa_compact.specs.Writing.{HasCauses, damaged_by};
 ghost use Rattle.mesa_split.specs.Parts.{gained, joined};
@@ -38,7 +39,7 @@ pub(crate) fn write_parts<M: Made, T: Draft<M>>(
     ensures id { id_of writer.new ≡ id_of writer.old }
     ensures draft { T.id_of (draft_of writer.new) ≡ T.id_of (draft_of writer.old) }
     ensures wanted { map wanted_in groups.new ≡ map wanted_in groups.old }
-    ensures causes { (reads : List ℕ) → HasCauses (T.faults (draft_of writer.old)) (T.faults (draft_of writer.new)) reads reads (λ d. d ≡ sum_damage newest) result }
+    ensures causes { (reads : List ℕ) → HasCauses (T.faults (draft_of writer.old)) (T.faults (draft_of writer.new)) reads reads (λ d. (d ≡ sum_damage newest) × LeavesAmong (RowLeaves (columns_of writer.old)) (joined parts.now)) result }
     ensures accepts { IfErr result (λ e. (d : AnyDamage) → e ≡ damaged_by d → KeepsSums (columns_of writer.old) (joined parts.now) → ⊥) }
 {
     let none = FlatRows::new(alloc);
@@ -77,7 +78,8 @@ fn write_rows<M: Made, T: Draft<M>>(
     ensures id { id_of writer.new ≡ id_of writer.old }
     ensures draft { T.id_of (draft_of writer.new) ≡ T.id_of (draft_of writer.old) }
     ensures wanted { map wanted_in groups.new ≡ map wanted_in groups.old }
-    ensures causes { (reads : List ℕ) → HasCauses (T.faults (draft_of writer.old)) (T.faults (draft_of writer.new)) reads reads (λ d. d ≡ sum_damage newest) result }
+    ensures causes { (reads : List ℕ) → HasCauses (T.faults (draft_of writer.old)) (T.faults (draft_of writer.new)) reads reads
+        (λ d. (d ≡ sum_damage newest) × ((given : List AnyRow) → HasPoured T.bytes writer.old groups.old given → IsTrue (keys_rise (given ++ rows.now)) → LeavesAmong (RowLeaves (columns_of writer.old)) (given ++ rows.now))) result }
     ensures accepts { IfErr result (λ e. (d : AnyDamage) → e ≡ damaged_by d → (given : List AnyRow) → HasPoured T.bytes writer.old groups.old given → IsTrue (keys_rise (given ++ rows.now)) → KeepsSums (columns_of writer.old) (given ++ rows.now) → ⊥) }
 {
     'rows: for i in 0..rows.len() {

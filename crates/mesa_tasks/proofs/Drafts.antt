@@ -1,6 +1,6 @@
 -- The ids of drafts, one after the other.
 use Rattle.std.proofs.Common.{◌≡◌, ℕ, zero, suc, ◌+◌, ◌*◌, ◌^◌, ◌%◌, ◌<◌, refl, sym, ap, ◌∙◌, arith}
-use Rattle.mesa_tasks.specs.Serials.{AreSerials, Drafts, after_drafts, drawn, next_serials}
+use Rattle.mesa_tasks.specs.Serials.{AreSerials, Drafts, after_drafts, drawn}
 
 -- a draft changes neither the run nor the session
 run_after : (n : ℕ) (d : Drafts) → (after_drafts n d).run ≡ d.run

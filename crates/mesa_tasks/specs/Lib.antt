@@ -7,6 +7,7 @@ pub mod Made
 pub mod Batches
 pub mod Inputs
 pub mod Tasks
+pub mod Recasts
 pub mod Spares
 pub mod Pins
 pub mod Opening

@@ -7,7 +7,7 @@ use Rattle.mesa_schema.specs.Columns.{Columns}
 use Rattle.mesa_schema.specs.Changes.{Lineage, columns_of, epoch_of}
 use Rattle.mesa_schema.specs.Views.{view_columns, view_rows}
 use Rattle.mesa_delta.specs.declared.input.Input.{Input}
-use Rattle.mesa_history.specs.Machine.{Claim}
+use Rattle.mesa_history.specs.Machine.{Claim, Merges}
 use Rattle.mesa_tasks.specs.Inputs.{AreInputsTo, AreInputsOf, IsMergeOf}
 use Rattle.mesa_tasks.specs.Made.{IsMadeFile}
 use Rattle.mesa_tasks.specs.declared.made.MadeFiles.{MadeFiles}
@@ -18,7 +18,7 @@ use Rattle.mesa_tasks.specs.declared.merging.TaskView.{TaskView}
 
 -- the claim that a task was granted for
 abbrev pub claim_in : {R : Type 0} → Task R → Claim
-claim_in t = record { table = t.table; lease = t.lease; work = t.work }
+claim_in t = record { table = t.table; lease = t.lease; errand = Merges t.work }
 
 -- The own files of a view, where there are any, are lifted to its columns.
 abbrev pub HasOwn : {R : Type 0} → (R → Option (List ℕ)) → Columns → Option (Vec (Input R) Global) → Type 0

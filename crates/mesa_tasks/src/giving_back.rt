@@ -2,8 +2,9 @@
 ghost use Rattle.std.specs.Prelude.{[], ◌∷◌, flat_map};
 ghost use Rattle.mesa_disk.specs.Story.{Unmoved};
 ghost use Rattle.mesa_tasks.specs.GivingBack.{GivesBack, own_inputs, pinned_inputs, spare_inputs, task_inputs};
+ghost use Rattle.mesa_tasks.specs.Recasts.{own, recast_inputs};
 
-use crate::{Pinned, PinnedInput, Spare, Task, TaskView};
+use crate::{Pinned, PinnedInput, Recast, RecastRange, Spare, Task, TaskView};
 use mesa_delta::Input;
 use mesa_disk::{Disk, Made};
 
@@ -95,6 +96,50 @@ pub fn retire_task<M: Made, D: Disk<M>>(disk: &mut D, task: Task<D::Reader>)
     retire_all(disk, inputs);
     retire_views(disk, views);
     retire_spares(disk, spare);
+}
+
+// Gives back the reader of a range, if it has one.
+fn retire_range<M: Made, D: Disk<M>>(disk: &mut D, range: RecastRange<D::Reader>)
+    ensures unmoved { Unmoved (D.story disk.old) (D.story disk.new) }
+    ensures given { GivesBack D.Reader.faults (own range) (D.story disk.old) (D.story disk.new) }
+{
+    let RecastRange {
+        from: _from,
+        to: _to,
+        input,
+    } = range;
+    if let Some(input) = input {
+        retire_input(disk, input);
+    }
+}
+
+/// Gives back the readers of a recast's ranges.
+pub fn retire_ranges<M: Made, D: Disk<M>>(disk: &mut D, mut ranges: Vec<RecastRange<D::Reader>>)
+    ensures unmoved { Unmoved (D.story disk.old) (D.story disk.new) }
+    ensures given { GivesBack D.Reader.faults (flat_map own ranges.items) (D.story disk.old) (D.story disk.new) }
+{
+    'each: while let Some(range) = ranges.pop() {
+        retire_range(disk, range);
+    }
+    ranges.destroy_empty();
+}
+
+/// Gives back the readers of a recast.
+pub fn retire_recast<M: Made, D: Disk<M>>(disk: &mut D, recast: Recast<D::Reader>)
+    ensures unmoved { Unmoved (D.story disk.old) (D.story disk.new) }
+    ensures given { GivesBack D.Reader.faults (recast_inputs recast) (D.story disk.old) (D.story disk.new) }
+{
+    let Recast {
+        table: _table,
+        lease: _lease,
+        epoch: _epoch,
+        evolving: _evolving,
+        keys: _keys,
+        values: _values,
+        ranges,
+        damage: _damage,
+    } = recast;
+    retire_ranges(disk, ranges);
 }
 
 /// Gives back the readers of a query.

@@ -1,4 +1,4 @@
-//! What is handed out of turns and comes back to them: the files of a batch or of a merged range, and the inputs of a merge or a query; and how files are opened and given back.
+//! What is handed out of turns and comes back to them: the files of a batch, of a merged range or of a recast table, and the inputs of a merge, a recast or a query; and how files are opened and given back.
 #![tactic(auto)]
 
 mod giving_back;
@@ -7,14 +7,17 @@ mod merging;
 mod opening;
 mod prepared;
 mod querying;
+mod recasting;
 mod serials;
 
 pub use giving_back::{
-    retire_all, retire_input, retire_pinned, retire_spare, retire_spares, retire_task,
+    retire_all, retire_input, retire_pinned, retire_ranges, retire_recast, retire_spare,
+    retire_spares, retire_task,
 };
 pub use made::{MadeFile, MadeFiles, MadeView};
 pub use merging::{CompactError, NewDelta, Spare, Task, TaskView};
 pub use opening::{Met, Opened, Unopened, Wanted, open_all, open_one};
 pub use prepared::{LoadError, Prepared, PreparedPart};
 pub use querying::{Pinned, PinnedInput};
+pub use recasting::{Recast, RecastRange, Recasted, RecastedRange};
 pub use serials::{Serials, draws_differ};

@@ -5,7 +5,8 @@ use Rattle.mesa_schema.specs.Rows.{AreRowsOf, keys_rise}
 use Rattle.mesa_schema.specs.Views.{view_columns, view_key_places, view_rows, view_value_places}
 use Rattle.mesa_answer.specs.Gathering.{Wanted}
 use Rattle.mesa_tasks.specs.Made.{IsMadeFile}
-use Rattle.mesa_compact.proofs.Causing.{caused_memory}
+use Rattle.mesa_compact.specs.Damaged.{LeavesAmong, TotalLeaves}
+use Rattle.mesa_compact.proofs.Causing.{caused_memory, caused_on, same_end}
 use Rattle.mesa_compact.proofs.Whole.{if_ok_map}
 use Rattle.mesa_compact.proofs.Regrouped.{groups_are, viewed_some}
 use Rattle.mesa_answer.specs.Answering.{KeepsSums}
@@ -37,6 +38,15 @@ rows_file-requires-clause-rise g c = λ _ _.
 
 pub returns-in-Err-clause-causes : goal.returns-in-Err-clause-causes
 returns-in-Err-clause-causes g c = λ reads. caused_memory _ _ _ reads reads refl refl
+
+pub returns-clause-causes : goal.returns-clause-causes
+returns-clause-causes g c = λ reads.
+    caused_on _ _ _ _ _ reads reads reads c.rows_file.result c.rows_file.result refl refl (c.rows_file.ensures.causes reads) (same_end c.rows_file.result) (λ d told. (
+      told.0,
+      λ s v rows put wanted columns.
+          let its = c.as_slice.ensures ∙ groups_are s v _ rows c.in-Ok.rows wanted (c.in-Ok.ensures.rows rows put) c.in-Ok.ensures.few in
+          subst (λ (t : Columns). LeavesAmong (TotalLeaves t) (view_rows s v rows)) columns (subst (LeavesAmong (TotalLeaves c.args.schema.now)) its told.1),
+    ))
 
 pub returns-clause-made : goal.returns-clause-made
 returns-clause-made g c = if_ok_map c.rows_file.result _ _ (λ made file s v rows put wanted columns.

@@ -7,6 +7,7 @@ use Rattle.mesa_compact.proofs.Causing.{caused_bench, caused_on, same_end}
 use Rattle.mesa_compact.proofs.Whole.{if_ok_map}
 use Rattle.mesa_answer.specs.Answering.{KeepsSums}
 use Rattle.mesa_compact.proofs.Whole.{if_err_map}
+use Rattle.mesa_compact.specs.Damaged.{LeavesAmong, TotalLeaves}
 use Rattle.mesa_compact.proofs.grouped.rows_file.Goals as goal
 
 pub write_rows-requires-clause-form : goal.write_rows-requires-clause-form
@@ -41,7 +42,8 @@ returns-in-Ok-write_rows-clause-causes g c = λ reads.
 
 pub returns-in-Err-write_rows-clause-causes : goal.returns-in-Err-write_rows-clause-causes
 returns-in-Err-write_rows-clause-causes g c = λ reads.
-    caused_bench _ _ _ _ _ _ _ reads reads c.in-Err-write_rows.error (c.in-Ok.ensures.causes []).drafts.quiet c.in-Ok.ensures.fresh (c.in-Err-write_rows.ensures.causes reads) c.give_up.ensures.counted c.give_up.ensures.quiet c.give_up.ensures.later (λ d told. told)
+    caused_bench _ _ _ _ _ _ _ reads reads c.in-Err-write_rows.error (c.in-Ok.ensures.causes []).drafts.quiet c.in-Ok.ensures.fresh (c.in-Err-write_rows.ensures.causes reads) c.give_up.ensures.counted c.give_up.ensures.quiet c.give_up.ensures.later
+    (λ d told. (told.0, subst (λ (s : Columns). LeavesAmong (TotalLeaves s) c.args.rows.now) c.in-Ok.ensures.columns told.1))
 
 pub returns-in-Err-clause-accepts : goal.returns-in-Err-clause-accepts
 returns-in-Err-clause-accepts g c = λ d e keeps. (c.in-Err.ensures.causes []).damaged d e

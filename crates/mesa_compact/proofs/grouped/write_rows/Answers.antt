@@ -16,6 +16,8 @@ use Rattle.mesa_answer.specs.Answering.{KeepsSums}
 use Rattle.mesa_answer.proofs.Bounds.{sums_taken}
 use Rattle.mesa_compact.proofs.Causing.{no_write_damage}
 use Rattle.mesa_compact.proofs.Following.{sums_follow, taken_form}
+use Rattle.mesa_compact.specs.Damaged.{TotalLeaves}
+use Rattle.mesa_compact.proofs.Leaving.{among_at, refused}
 use Rattle.mesa_compact.proofs.grouped.write_rows.Goals as goal
 
 pub push-requires-after_bounds : goal.push-requires-after_bounds
@@ -34,7 +36,15 @@ push-requires-after_bounds g c = λ _ _.
     )
 
 pub returns-then-not-allows-clause-causes : goal.returns-then-not-allows-clause-causes
-returns-then-not-allows-clause-causes g c = λ reads. caused_damage _ _ _ reads reads _ (sum_damage c.args.newest) c.rows.invariant.faults refl c.sum_fault.ensures refl
+returns-then-not-allows-clause-causes g c = λ reads.
+    let inv = c.rows.invariant in
+    let rows = c.args.rows.now in
+    let i = c.rows.row-index in
+    let s : Columns = columns_of c.args.writer.now in
+    let here = refused (columns_of c.rows.writer) (take i rows) (lent c.lend-next.result) c.allows.result (c.allows.ensures (take i rows) inv.taken) c.if-not-allows.true in
+    let there = subst (λ (t : Columns). TotalLeaves t (take i rows) (lent c.lend-next.result)) inv.columns here in
+    let row = subst (λ (x : Row). TotalLeaves s (take i rows) x) c.lend-next.ensures there in
+    caused_damage _ _ _ reads reads _ (sum_damage c.args.newest) inv.faults refl c.sum_fault.ensures (refl, among_at (TotalLeaves s) [] rows i c.row-item.result c.rows-test.true c.row-item.is row)
 
 pub returns-in-Err-clause-causes : goal.returns-in-Err-clause-causes
 returns-in-Err-clause-causes g c = λ reads. caused_write _ _ _ _ reads reads c.in-Err.error c.from.result c.rows.invariant.faults refl c.from.ensures c.in-Err.ensures.cause

@@ -35,5 +35,11 @@ returns-in-Err-clause-never c = λ d e s given h takes keeps.
     c.in-Err.ensures.never d e s given (upto_at c.groups.i _ _ c.groups.groups c.index-groups-i.result (inv.put given h) (omega (arith, c.groups-test.true, c.groups.auto.groups)))
     (all_at (TakesRows s) c.groups.groups c.groups.i c.index-groups-i.result (takes_kept s c.args.groups.now c.groups.groups inv.wanted takes) (omega (arith, c.groups-test.true, c.groups.auto.groups))) keeps
 
+pub returns-in-Err-clause-leaves : goal.returns-in-Err-clause-leaves
+returns-in-Err-clause-leaves c = λ d e s given h takes.
+    let inv = c.groups.invariant in
+    c.in-Err.ensures.leaves d e s given (upto_at c.groups.i _ _ c.groups.groups c.index-groups-i.result (inv.put given h) (omega (arith, c.groups-test.true, c.groups.auto.groups)))
+    (all_at (TakesRows s) c.groups.groups c.groups.i c.index-groups-i.result (takes_kept s c.args.groups.now c.groups.groups inv.wanted takes) (omega (arith, c.groups-test.true, c.groups.auto.groups)))
+
 pub returns-clause-put : goal.returns-clause-put
 returns-clause-put c = λ given h. upto_all c.groups.i _ _ c.groups.groups (c.groups.invariant.put given h) (omega (arith, c.groups-test.false, c.groups.auto.groups, c.groups.auto.i-end))

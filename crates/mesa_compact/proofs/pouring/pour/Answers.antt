@@ -25,6 +25,7 @@ use Rattle.mesa_compact.specs.Bounded.{AreBounded}
 use Rattle.mesa_compact.proofs.Whole.{told_sums}
 use Rattle.mesa_compact.proofs.Poured.{goes_on, if_none_from, merged_formed}
 use Rattle.mesa_compact.proofs.Putting.{takes_kept}
+use Rattle.mesa_compact.proofs.Leaving.{refused}
 use Rattle.mesa_compact.proofs.Totals.{total_of}
 use Rattle.mesa_compact.proofs.pouring.pour.Goals as goal
 
@@ -205,7 +206,7 @@ returns-then-not-allows-clause-causes g c =
     let leaves : KeepsSums s (folded (aggs_of s) now.0 ++ row ∷ []) → ⊥ = λ all.
     (let no : false ≡ true = sym c.if-not-allows.true ∙ (c.allows.ensures (folded (aggs_of s) now.0) now.2).1 (λ _. sums_follow s (folded (aggs_of s) now.0) row (taken_form s _ now.2.good) all) in cc) in
     caused_damage _ _ _ _ _ _ (sum_damage c.last_file-newest.result) inv.faults ((c.in-Ok.ensures.next now.1.going).cause.quiet ∙ inv.reads) c.sum_fault.ensures
-    (inr (total_of g.R.FileReader.bytes s c.next.new.self next.0 (folded (aggs_of s) now.0) row file.0 _ next.1 next.2 next.4 leaves file.1 (ap sum_damage file.2)))
+    (inr (total_of g.R.FileReader.bytes s c.next.new.self next.0 (folded (aggs_of s) now.0) row file.0 _ next.1 next.2 next.4 (inl (refused s (folded (aggs_of s) now.0) row c.allows.result (c.allows.ensures (folded (aggs_of s) now.0) now.2) c.if-not-allows.true)) leaves file.1 (ap sum_damage file.2)))
 
 pub returns-then-not-allows-clause-known : goal.returns-then-not-allows-clause-known
 returns-then-not-allows-clause-known g c =
@@ -251,7 +252,7 @@ returns-in-Err-put_all-clause-causes g c =
     let file = c.last_file-newest.ensures in
     let takes = takes_kept s c.args.groups.now c.rows.groups inv.wanted (subst (λ (t : Columns). AllByRecursion (TakesRows t) c.args.groups.now) (sym inv.columns) c.requires.takes) in
     caused_unread _ _ _ _ _ c.in-Err-put_all.unfit inv.faults ((c.in-Ok.ensures.next now.1.going).cause.quiet ∙ inv.reads) c.in-Err-put_all.ensures.unread
-    (λ d is. inr (total_of g.R.FileReader.bytes s c.next.new.self next.0 (folded (aggs_of s) now.0) row file.0 d next.1 next.2 next.4
+    (λ d is. inr (total_of g.R.FileReader.bytes s c.next.new.self next.0 (folded (aggs_of s) now.0) row file.0 d next.1 next.2 next.4 (inr (c.in-Err-put_all.ensures.leaves d is s (folded (aggs_of s) now.0) now.3 takes))
     (λ all. c.in-Err-put_all.ensures.never d is s (folded (aggs_of s) now.0) now.3 takes all) file.1 (c.in-Err-put_all.ensures.damaged d is ∙ ap sum_damage file.2)))
 
 pub returns-in-Err-put_all-clause-known : goal.returns-in-Err-put_all-clause-known

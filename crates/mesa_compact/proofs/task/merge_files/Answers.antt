@@ -1,4 +1,4 @@
-use Rattle.std.proofs.Common.{List, inl, length, map, refl, sym, ◌∙◌, ap, subst}
+use Rattle.std.proofs.Common.{List, inl, inr, length, map, refl, sym, ◌∙◌, ap, subst}
 use Rattle.std.specs.Prelude.{Option, flat_map}
 use Rattle.std.specs.List.{AllByRecursion}
 use Rattle.mesa_schema.specs.Columns.{Columns}
@@ -112,14 +112,26 @@ returns-in-Ok-view_files-clause-inputs_kept g c = table_kept g.R.FileReader.byte
 pub returns-in-Ok-view_files-clause-causes : goal.returns-in-Ok-view_files-clause-causes
 returns-in-Ok-view_files-clause-causes g c =
     let merged = c.in-Ok-merged_file.ensures.causes in
-    caused_views g.R.FileReader.faults _ (λ d. IsFilesDamage g.R.FileReader.bytes g.R.FileReader.size c.merged_file.new.inputs.items c.view_files.new.views d) _ _ _ c.args.inputs.now.items c.merged_file.new.inputs.items (flat_map own_inputs c.args.views.now) (flat_map own_inputs c.view_files.new.views) _ _ merged.drafts.quiet merged.reads.quiet c.in-Ok-view_files.ensures.causes tt (λ d told. files_damage g.R.FileReader.bytes g.R.FileReader.size _ _ c.view_files.new.views c.newest_of-newest.result d c.in-Ok-merged_file.ensures.known (subst (λ (is : List (Input g.row.R.Denot)). IsNewestOf (knowns_of g.R.FileReader.bytes is) c.newest_of-newest.result) c.deref-2.ensures.value c.newest_of-newest.ensures) told)
+    caused_views g.R.FileReader.faults _ (λ d. IsFilesDamage g.R.FileReader.bytes g.R.FileReader.size c.merged_file.new.inputs.items c.view_files.new.views d) _ _ _ c.args.inputs.now.items c.merged_file.new.inputs.items (flat_map own_inputs c.args.views.now) (flat_map own_inputs c.view_files.new.views) _ _ merged.drafts.quiet merged.reads.quiet c.in-Ok-view_files.ensures.causes tt (λ d told.
+    let groups = c.in-Ok-gatherers_of.groups in
+    let made = c.in-Ok-merged_file.ensures.made in
+    let put = subst (λ (gs : List (Option Groups)). HavePut gs made.0) (sym (refill groups.len groups.items c.merged_file.new.groups (sym groups.ok.0) (c.merged_file.auto.groups ∙ ap length c.deref_mut.ensures.value))) made.3 in
+    let merge = subst (λ (s : Columns). IsMergeOf g.R.FileReader.bytes s c.args.inputs.now.items made.0) c.present-2.ensures.columns made.1 in
+    let newest = subst (λ (is : List (Input g.row.R.Denot)). IsNewestOf (knowns_of g.R.FileReader.bytes is) c.newest_of-newest.result) c.deref-2.ensures.value c.newest_of-newest.ensures in
+    files_damage g.R.FileReader.bytes g.R.FileReader.size c.args.evolving.now _ _ c.view_files.new.views made.0 c.newest_of-newest.result d c.in-Ok-merged_file.ensures.known newest c.requires.inputs merge (elim told [ inl view ↦ inl view | inr total ↦ inr (total.0, inr (total.1 made.0 put)) ]))
 
 -- ---- the table's file is written, and not all of the views'
 
 pub returns-clause-causes : goal.returns-clause-causes
 returns-clause-causes g c =
     let merged = c.in-Ok-merged_file.ensures.causes in
-    caused_views g.R.FileReader.faults _ (λ d. IsFilesDamage g.R.FileReader.bytes g.R.FileReader.size c.merged_file.new.inputs.items c.view_files.new.views d) _ _ _ c.args.inputs.now.items c.merged_file.new.inputs.items (flat_map own_inputs c.args.views.now) (flat_map own_inputs c.view_files.new.views) _ _ merged.drafts.quiet merged.reads.quiet c.in-Err-view_files.ensures.causes refl (λ d told. files_damage g.R.FileReader.bytes g.R.FileReader.size _ _ c.view_files.new.views c.newest_of-newest.result d c.in-Ok-merged_file.ensures.known (subst (λ (is : List (Input g.row.R.Denot)). IsNewestOf (knowns_of g.R.FileReader.bytes is) c.newest_of-newest.result) c.deref-2.ensures.value c.newest_of-newest.ensures) told)
+    caused_views g.R.FileReader.faults _ (λ d. IsFilesDamage g.R.FileReader.bytes g.R.FileReader.size c.merged_file.new.inputs.items c.view_files.new.views d) _ _ _ c.args.inputs.now.items c.merged_file.new.inputs.items (flat_map own_inputs c.args.views.now) (flat_map own_inputs c.view_files.new.views) _ _ merged.drafts.quiet merged.reads.quiet c.in-Err-view_files.ensures.causes refl (λ d told.
+    let groups = c.in-Ok-gatherers_of.groups in
+    let made = c.in-Ok-merged_file.ensures.made in
+    let put = subst (λ (gs : List (Option Groups)). HavePut gs made.0) (sym (refill groups.len groups.items c.merged_file.new.groups (sym groups.ok.0) (c.merged_file.auto.groups ∙ ap length c.deref_mut.ensures.value))) made.3 in
+    let merge = subst (λ (s : Columns). IsMergeOf g.R.FileReader.bytes s c.args.inputs.now.items made.0) c.present-2.ensures.columns made.1 in
+    let newest = subst (λ (is : List (Input g.row.R.Denot)). IsNewestOf (knowns_of g.R.FileReader.bytes is) c.newest_of-newest.result) c.deref-2.ensures.value c.newest_of-newest.ensures in
+    files_damage g.R.FileReader.bytes g.R.FileReader.size c.args.evolving.now _ _ c.view_files.new.views made.0 c.newest_of-newest.result d c.in-Ok-merged_file.ensures.known newest c.requires.inputs merge (elim told [ inl view ↦ inl view | inr total ↦ inr (total.0, inr (total.1 made.0 put)) ]))
 
 pub returns-clause-ids : goal.returns-clause-ids
 returns-clause-ids g c =

@@ -16,7 +16,8 @@ use Rattle.mesa_compact.proofs.views.source_file.Goals as goal
 pub returns-in-Some-clause-causes : goal.returns-in-Some-clause-causes
 returns-in-Some-clause-causes g c =
     let reads = faults_of g.R.FileReader.faults (own_inputs c.args.view.now) in
-    caused_on _ _ _ _ _ reads reads reads c.grouped_file.result c.grouped_file.result refl refl (c.grouped_file.ensures.causes reads) (same_end c.grouped_file.result) (λ d told. inr told)
+    caused_on _ _ _ _ _ reads reads reads c.grouped_file.result c.grouped_file.result refl refl (c.grouped_file.ensures.causes reads) (same_end c.grouped_file.result)
+    (λ d told. inr (told.0, λ s v rows columns source put. told.1 s v rows (subst (HasPutIn rows) c.in-Some.is put) (subst (λ (o : Option Groups). IsSourceOf s v c.args.view.now (wanted_in o)) c.in-Some.is source) columns))
 
 pub returns-in-None-clause-causes : goal.returns-in-None-clause-causes
 returns-in-None-clause-causes g c =

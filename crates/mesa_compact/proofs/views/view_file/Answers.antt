@@ -1,11 +1,11 @@
-use Rattle.std.proofs.Common.{◌≡◌, refl, sym, ap, subst, arith}
+use Rattle.std.proofs.Common.{◌≡◌, inl, inr, refl, sym, ap, subst, arith}
 use Rattle.std.specs.Prelude.{Option, IfSome}
 use Rattle.mesa_schema.specs.declared.views.View.{View}
 use Rattle.mesa_schema.specs.Changes.{columns_of}
 use Rattle.mesa_schema.specs.Views.{view_columns}
 use Rattle.mesa_tasks.specs.Tasks.{IsMergedView}
 use Rattle.mesa_compact.specs.Tasks.{KnownView}
-use Rattle.mesa_compact.proofs.Causing.{caused_memory}
+use Rattle.mesa_compact.proofs.Causing.{caused_memory, caused_on}
 use Rattle.mesa_compact.proofs.Viewing.{some_within}
 use Rattle.mesa_compact.proofs.views.view_file.Goals as goal
 
@@ -38,6 +38,15 @@ returns-in-Ok-source_file-clause-ids g c = (1, omega arith, c.draw-id.ensures.ne
 
 pub returns-clause-ids : goal.returns-clause-ids
 returns-clause-ids g c = (1, omega arith, c.draw-id.ensures.next)
+
+pub returns-clause-causes : goal.returns-clause-causes
+returns-clause-causes g c =
+    let s = columns_of c.args.evolving.now in
+    caused_on _ _ _ _ _ _ _ _ _ _ refl refl c.in-Err.ensures.causes refl
+    (λ d told. elim told [
+      | inl merge ↦ inl merge
+      | inr total ↦ inr (total.0, λ v rows at source put. total.1 s v rows (subst (λ (o : Option View). IfSome o (λ (w : View). c.in-Ok.schema ≡ view_columns s w)) at c.in-Ok.ensures) source put)
+    ])
 
 pub returns-clause-accepts : goal.returns-clause-accepts
 returns-clause-accepts g c = λ d e v rows at source put keeps own.

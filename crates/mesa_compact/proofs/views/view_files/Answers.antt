@@ -103,13 +103,28 @@ returns-in-Err-clause-kept g c =
 
 pub returns-in-Err-clause-causes : goal.returns-in-Err-clause-causes
 returns-in-Err-clause-causes g c =
+    let bytes = g.R.FileReader.bytes in
     let inv = c.views.invariant in
     let i = c.views.i in
+    let x = c.index-views-i.result in
+    let old = c.args.views.now in
+    let known = view_known bytes (columns_of c.args.evolving.now) c.args.evolving.now.views c.views.views i x inv.kept (omega (arith, c.views-test.true, c.views.auto.views)) in
+    let first = drop_some c.args.groups.items c.pop_front.new.self.items i c.in-Some.groups (sym inv.left ∙ c.in-Some.ensures.items) in
+    let same : get_or c.views.views i x ≡ get_or old i x = inv.rest i x (omega arith) in
+    let there : slice_get old i ≡ Some (get_or c.views.views i x) = get_some old i x (omega (arith, c.views-test.true, c.views.auto.views)) ∙ ap Some (sym same) in
     let all = caused_view g.R.FileReader.faults _ _ _ c.views.views i c.view_file.new.view c.index-views-i.result _ (omega (arith, c.views-test.true, c.views.auto.views)) c.in-Err.ensures.causes in
     caused_on _ _ _ _ _ _ _ _ _ _ inv.faults inv.reads all refl
     (λ d told. elim told [
       | inl merge ↦ inl (record { at = i; view = c.view_file.new.view; one = set_some c.views.views i c.view_file.new.view (omega (arith, c.views-test.true, c.views.auto.views)); told = merge })
-      | inr total ↦ inr total
+      | inr total ↦ inr (
+        total.0,
+        λ rows put. record {
+          number = (get_or c.views.views i x).view;
+          view = known.0;
+          one = known.2;
+          total = total.1 known.0 rows known.2 (c.requires.sources.each i known.0 (get_or c.views.views i x) c.in-Some.groups known.1 there first.0) (all_some (HasPutIn rows) c.args.groups.items i c.in-Some.groups put first.0);
+        },
+      )
     ])
 
 pub returns-in-Err-clause-accepts : goal.returns-in-Err-clause-accepts

@@ -8,6 +8,7 @@ use Rattle.mesa_tasks.specs.Made.{IsMadeFile}
 use Rattle.mesa_compact.specs.Grouping.{HavePut, TakesRows}
 use Rattle.mesa_compact.proofs.Causing.{caused_bench, caused_on, same_end}
 use Rattle.mesa_compact.proofs.Whole.{if_err_map, if_ok_map}
+use Rattle.mesa_compact.specs.Damaged.{LeavesAmong, RowLeaves}
 use Rattle.mesa_split.specs.Parts.{joined}
 use Rattle.mesa_split.proofs.files.parts_file.Goals as goal
 
@@ -56,7 +57,8 @@ returns-in-Ok-write_parts-clause-accepts g c = if_err_map c.end_file.result _ _ 
 
 pub returns-in-Err-write_parts-clause-causes : goal.returns-in-Err-write_parts-clause-causes
 returns-in-Err-write_parts-clause-causes g c = λ reads.
-    caused_bench _ _ _ _ _ _ _ reads reads c.in-Err-write_parts.error (c.in-Ok.ensures.causes []).drafts.quiet c.in-Ok.ensures.fresh (c.in-Err-write_parts.ensures.causes reads) c.give_up.ensures.counted c.give_up.ensures.quiet c.give_up.ensures.later (λ d told. told)
+    caused_bench _ _ _ _ _ _ _ reads reads c.in-Err-write_parts.error (c.in-Ok.ensures.causes []).drafts.quiet c.in-Ok.ensures.fresh (c.in-Err-write_parts.ensures.causes reads) c.give_up.ensures.counted c.give_up.ensures.quiet c.give_up.ensures.later
+    (λ d told. (told.0, subst (λ (s : Columns). LeavesAmong (RowLeaves s) (joined c.args.parts.now)) c.in-Ok.ensures.columns told.1))
 
 pub returns-in-Err-write_parts-clause-accepts : goal.returns-in-Err-write_parts-clause-accepts
 returns-in-Err-write_parts-clause-accepts g c = λ d e keeps. c.in-Err-write_parts.ensures.accepts d e (subst (λ (s : Columns). KeepsSums s (joined c.args.parts.now)) (sym c.in-Ok.ensures.columns) keeps)

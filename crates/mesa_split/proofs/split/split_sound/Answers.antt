@@ -1,4 +1,4 @@
-use Rattle.std.proofs.Common.{◌≡◌, ◌<◌, inl, inr, [], List, length, refl, sym, ap, subst, ◌∙◌}
+use Rattle.std.proofs.Common.{◌≡◌, ◌⊎◌, ◌<◌, inl, inr, [], List, length, refl, sym, ap, subst, ◌∙◌}
 use Rattle.std.specs.Prelude.{◌==◌, flat_map, None, Result, Some}
 use Rattle.std.specs.List.{AllByRecursion}
 use Rattle.mesa_schema.specs.declared.rows.Row.{Row}
@@ -11,15 +11,16 @@ use Rattle.mesa_cursor.specs.Cursors.{IsInput}
 use Rattle.mesa_merge.specs.Inputs.{knowns_of}
 use Rattle.mesa_merge.proofs.Handing.{refill}
 use Rattle.mesa_tasks.specs.GivingBack.{own_inputs}
-use Rattle.mesa_tasks.specs.Inputs.{IsMergeOf}
+use Rattle.mesa_tasks.specs.Inputs.{AreInputsOf, IsMergeOf}
 use Rattle.mesa_tasks.specs.Made.{IsMadeFile}
 use Rattle.mesa_tasks.specs.Spares.{AreSpareInputs}
 use Rattle.mesa_tasks.specs.Tasks.{AreMergedViews, AreTaskViews}
 use Rattle.mesa_tasks.specs.declared.merging.Spare.{Spare}
 use Rattle.mesa_tasks.specs.declared.merging.TaskView.{TaskView}
 use Rattle.mesa_compact.specs.Bounded.{AreBounded, AreViewsBounded}
-use Rattle.mesa_compact.specs.Damaged.{IsNewestOf}
-use Rattle.mesa_compact.specs.Tasks.{IsFilesDamage, known_views}
+use Rattle.mesa_merge.specs.Sums.{sum_damage}
+use Rattle.mesa_compact.specs.Damaged.{IsNewestOf, LeavesAmong, RowLeaves, ViewLeaves}
+use Rattle.mesa_compact.specs.Tasks.{IsFilesDamage, IsViewDamage, known_views}
 use Rattle.mesa_compact.proofs.Causing.{caused_memory, caused_ok}
 use Rattle.mesa_compact.proofs.Tasking.{files_damage, first_table, some_of}
 use Rattle.mesa_compact.proofs.Viewing.{table_kept}
@@ -181,10 +182,19 @@ returns-in-Ok-write_files-clause-causes g c =
     let back = refill ss.len ss.items c.parts_of.new.spare (sym ss.ok.0) (c.parts_of.auto.spare ∙ ap length c.deref_mut.ensures.value) in
     let returned = refill old.views.len old.views.items c.write_files.new.views (sym old.views.ok.0) (c.write_files.auto.views ∙ ap length c.deref_mut-2.ensures.value) in
     let more : List (Input g.row.R.Denot) = flat_map own_inputs old.views.items in
+    let items = old.inputs.items in
+    let some : 0 < length items = some_of items c.is_empty.result (c.is_empty.ensures ∙ ap (λ n. n == 0) old.inputs.ok.0) c.if-is_empty.false in
+    let own = c.deref-4.result.now in
+    let l = c.requires.task.0 in
+    let same : own ≡ l = c.deref-4.ensures ∙ c.in-Ok.ensures.cases ∙ ap (λ (i : Input g.row.R.Denot). i.evolving.value) c.index.ensures ∙ first_table bytes l items c.index.result.now c.requires.task.1.inputs some in
+    let inputs : AreInputsOf bytes own items = subst (λ (o : Lineage). AreInputsOf bytes o items) (sym same) c.requires.task.1.inputs in
+    let merge = subst (λ (o : Lineage). IsMergeOf bytes (columns_of o) items (joined c.in-Ok-parts_of.parts.items)) (c.deref-2.ensures ∙ sym c.deref-4.ensures) c.in-Ok-parts_of.ensures.merge in
     let last = subst (λ (is : List (Input g.row.R.Denot)). IsNewestOf (knowns_of bytes is) c.newest_of-newest.result) c.deref.ensures.value c.newest_of-newest.ensures in
     split_ended g.R.FileReader.faults _ _ _ _ old.inputs.items new old.views.items c.deref_mut-2.result.now c.write_files.new.views _ ss.items c.deref_mut.result.now c.parts_of.new.spare _ _ _
     c.deref_mut-2.ensures.value returned c.deref_mut.ensures.value back (c.in-Ok-parts_of.ensures.cause more).quiet c.in-Ok-write_files.ensures.causes tt
-    (λ d told. inl (subst (λ (ts : List (TaskView g.row.R.Denot)). IsFilesDamage bytes size new ts d) (sym returned) (files_damage bytes size old.inputs.items new c.write_files.new.views c.newest_of-newest.result d c.in-Ok-parts_of.ensures.known last told)))
+    (λ d told.
+    let whole = subst (λ (rs : List (Result (List Row) FileError)). IsViewDamage bytes size c.write_files.new.views d ⊎ ((d ≡ sum_damage c.newest_of-newest.result) × (LeavesAmong (RowLeaves (columns_of own)) (joined rs) ⊎ ViewLeaves own (joined rs)))) c.deref-5.ensures.value told in
+    inl (subst (λ (ts : List (TaskView g.row.R.Denot)). IsFilesDamage bytes size new ts d) (sym returned) (files_damage bytes size own old.inputs.items new c.write_files.new.views (joined c.in-Ok-parts_of.parts.items) c.newest_of-newest.result d c.in-Ok-parts_of.ensures.known last inputs merge whole)))
 
 pub returns-in-Ok-write_files-clause-same : goal.returns-in-Ok-write_files-clause-same
 returns-in-Ok-write_files-clause-same g c =
@@ -237,10 +247,19 @@ returns-clause-causes g c =
     let back = refill ss.len ss.items c.parts_of.new.spare (sym ss.ok.0) (c.parts_of.auto.spare ∙ ap length c.deref_mut.ensures.value) in
     let returned = refill old.views.len old.views.items c.write_files.new.views (sym old.views.ok.0) (c.write_files.auto.views ∙ ap length c.deref_mut-2.ensures.value) in
     let more : List (Input g.row.R.Denot) = flat_map own_inputs old.views.items in
+    let items = old.inputs.items in
+    let some : 0 < length items = some_of items c.is_empty.result (c.is_empty.ensures ∙ ap (λ n. n == 0) old.inputs.ok.0) c.if-is_empty.false in
+    let own = c.deref-4.result.now in
+    let l = c.requires.task.0 in
+    let same : own ≡ l = c.deref-4.ensures ∙ c.in-Ok.ensures.cases ∙ ap (λ (i : Input g.row.R.Denot). i.evolving.value) c.index.ensures ∙ first_table bytes l items c.index.result.now c.requires.task.1.inputs some in
+    let inputs : AreInputsOf bytes own items = subst (λ (o : Lineage). AreInputsOf bytes o items) (sym same) c.requires.task.1.inputs in
+    let merge = subst (λ (o : Lineage). IsMergeOf bytes (columns_of o) items (joined c.in-Ok-parts_of.parts.items)) (c.deref-2.ensures ∙ sym c.deref-4.ensures) c.in-Ok-parts_of.ensures.merge in
     let last = subst (λ (is : List (Input g.row.R.Denot)). IsNewestOf (knowns_of bytes is) c.newest_of-newest.result) c.deref.ensures.value c.newest_of-newest.ensures in
     split_ended g.R.FileReader.faults _ _ _ _ old.inputs.items new old.views.items c.deref_mut-2.result.now c.write_files.new.views _ ss.items c.deref_mut.result.now c.parts_of.new.spare _ _ _
     c.deref_mut-2.ensures.value returned c.deref_mut.ensures.value back (c.in-Ok-parts_of.ensures.cause more).quiet c.in-Err-write_files.ensures.causes refl
-    (λ d told. inl (subst (λ (ts : List (TaskView g.row.R.Denot)). IsFilesDamage bytes size new ts d) (sym returned) (files_damage bytes size old.inputs.items new c.write_files.new.views c.newest_of-newest.result d c.in-Ok-parts_of.ensures.known last told)))
+    (λ d told.
+    let whole = subst (λ (rs : List (Result (List Row) FileError)). IsViewDamage bytes size c.write_files.new.views d ⊎ ((d ≡ sum_damage c.newest_of-newest.result) × (LeavesAmong (RowLeaves (columns_of own)) (joined rs) ⊎ ViewLeaves own (joined rs)))) c.deref-5.ensures.value told in
+    inl (subst (λ (ts : List (TaskView g.row.R.Denot)). IsFilesDamage bytes size new ts d) (sym returned) (files_damage bytes size own old.inputs.items new c.write_files.new.views (joined c.in-Ok-parts_of.parts.items) c.newest_of-newest.result d c.in-Ok-parts_of.ensures.known last inputs merge whole)))
 
 pub returns-clause-same : goal.returns-clause-same
 returns-clause-same g c =

@@ -1,4 +1,4 @@
-use Rattle.std.proofs.Common.{◌≡◌, List, [], inr, length, map, refl, sym, ◌∙◌, ap, subst}
+use Rattle.std.proofs.Common.{◌≡◌, List, [], inl, inr, length, map, refl, sym, ◌∙◌, ap, subst}
 use Rattle.std.specs.Prelude.{Option, flat_map}
 use Rattle.std.specs.List.{AllByRecursion}
 use Rattle.mesa_schema.specs.Columns.{Columns}
@@ -7,11 +7,11 @@ use Rattle.mesa_schema.specs.Rows.{AreRowsOf}
 use Rattle.mesa_answer.specs.Answering.{KeepsSums}
 use Rattle.mesa_answer.specs.declared.groups.Groups.{Groups}
 use Rattle.mesa_merge.specs.Faults.{faults_of}
-use Rattle.mesa_merge.specs.Sums.{sum_damage}
 use Rattle.mesa_merge.proofs.Handing.{refill}
 use Rattle.mesa_tasks.specs.GivingBack.{own_inputs}
 use Rattle.mesa_tasks.specs.Made.{IsMadeFile}
 use Rattle.mesa_tasks.specs.Serials.{Drafts, after_drafts, drawn}
+use Rattle.mesa_compact.specs.Damaged.{LeavesAmong, RowLeaves}
 use Rattle.mesa_compact.specs.Grouping.{HavePut, wanted_in}
 use Rattle.mesa_compact.specs.Sources.{ArePlaces, AreSeen, AreSources}
 use Rattle.mesa_compact.proofs.Causing.{caused_memory, caused_on}
@@ -63,7 +63,8 @@ returns-in_default-gatherers_of-clause-ids g c = (0, refl)
 pub returns-in-Err-clause-causes : goal.returns-in-Err-clause-causes
 returns-in-Err-clause-causes g c =
     let reads = faults_of g.R.FileReader.faults (flat_map own_inputs c.args.views.now) in
-    caused_on (λ d. d ≡ sum_damage c.args.newest) _ _ _ _ reads reads reads _ _ refl refl (c.in-Err.ensures.causes reads) refl (λ d is. inr is)
+    caused_on _ _ _ _ _ reads reads reads _ _ refl refl (c.in-Err.ensures.causes reads) refl
+    (λ d told. inr (told.0, inl (subst (λ (s : Columns). LeavesAmong (RowLeaves s) (joined c.args.parts.now)) c.present-schema.ensures.columns told.1)))
 
 pub returns-in-Err-clause-ids : goal.returns-in-Err-clause-ids
 returns-in-Err-clause-ids g c = (1, c.draw-id.ensures.next)
@@ -94,12 +95,24 @@ returns-in-Ok-view_files-clause-ids g c =
     drafts_more 1 more.0 c.args.ids.now _ _ c.draw-id.ensures.next more.1
 
 pub returns-in-Ok-view_files-clause-causes : goal.returns-in-Ok-view_files-clause-causes
-returns-in-Ok-view_files-clause-causes g c = caused_on _ _ _ _ _ _ _ _ _ _ (c.in-Ok-parts_file.ensures.causes []).drafts.quiet refl c.in-Ok-view_files.ensures.causes tt (λ d told. told)
+returns-in-Ok-view_files-clause-causes g c = caused_on _ _ _ _ _ _ _ _ _ _ (c.in-Ok-parts_file.ensures.causes []).drafts.quiet refl c.in-Ok-view_files.ensures.causes tt
+    (λ d told.
+    let groups = c.in-Ok-gatherers_of.groups in
+    elim told [
+      | inl view ↦ inl view
+      | inr total ↦ inr (total.0, inr (total.1 (joined c.args.parts.now) (subst (λ (gs : List (Option Groups)). HavePut gs (joined c.args.parts.now)) (sym (refill groups.len groups.items c.parts_file.new.groups (sym groups.ok.0) (c.parts_file.auto.groups ∙ ap length c.deref_mut.ensures.value))) c.in-Ok-parts_file.ensures.made.1)))
+    ])
 
 -- ---- the table's file is written, and not all of the views'
 
 pub returns-clause-causes : goal.returns-clause-causes
-returns-clause-causes g c = caused_on _ _ _ _ _ _ _ _ _ _ (c.in-Ok-parts_file.ensures.causes []).drafts.quiet refl c.in-Err-view_files.ensures.causes refl (λ d told. told)
+returns-clause-causes g c = caused_on _ _ _ _ _ _ _ _ _ _ (c.in-Ok-parts_file.ensures.causes []).drafts.quiet refl c.in-Err-view_files.ensures.causes refl
+    (λ d told.
+    let groups = c.in-Ok-gatherers_of.groups in
+    elim told [
+      | inl view ↦ inl view
+      | inr total ↦ inr (total.0, inr (total.1 (joined c.args.parts.now) (subst (λ (gs : List (Option Groups)). HavePut gs (joined c.args.parts.now)) (sym (refill groups.len groups.items c.parts_file.new.groups (sym groups.ok.0) (c.parts_file.auto.groups ∙ ap length c.deref_mut.ensures.value))) c.in-Ok-parts_file.ensures.made.1)))
+    ])
 
 pub returns-clause-ids : goal.returns-clause-ids
 returns-clause-ids g c =

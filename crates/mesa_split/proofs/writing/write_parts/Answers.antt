@@ -4,12 +4,13 @@ use Rattle.mesa_schema.specs.Columns.{Columns}
 use Rattle.mesa_schema.specs.Rows.{AreRowsOf, IsRowOf, keys_rise}
 use Rattle.mesa_delta.specs.Writing.{columns_of}
 use Rattle.mesa_answer.specs.Answering.{KeepsSums}
+use Rattle.mesa_compact.specs.Damaged.{LeavesAmong, RowLeaves}
 use Rattle.mesa_compact.specs.Grouping.{TakesRows}
 use Rattle.mesa_compact.proofs.Causing.{caused_ok, caused_on}
 use Rattle.mesa_compact.proofs.Putting.{takes_kept}
 use Rattle.mesa_split.specs.Parts.{joined}
 use Rattle.mesa_split.specs.Written.{HasPoured}
-use Rattle.mesa_split.proofs.Written.{joined_form, joined_one, joined_sums, joined_up_to}
+use Rattle.mesa_split.proofs.Written.{joined_form, joined_leaves, joined_one, joined_sums, joined_up_to}
 use Rattle.mesa_split.proofs.writing.write_parts.Goals as goal
 
 pub write_rows-requires-clause-poured : goal.write_rows-requires-clause-poured
@@ -44,7 +45,18 @@ parts-preserved g c =
     }
 
 pub returns-in-Err-clause-causes : goal.returns-in-Err-clause-causes
-returns-in-Err-clause-causes g c = λ reads. caused_on _ _ _ _ _ reads reads reads _ _ c.parts.invariant.faults refl (c.in-Err.ensures.causes reads) refl (λ d told. told)
+returns-in-Err-clause-causes g c = λ reads.
+    let parts = c.args.parts.now in
+    let i = c.parts.part-index in
+    let inv = c.parts.invariant in
+    let s : Columns = columns_of c.args.writer.now in
+    let more : joined (take i parts) ++ c.rows_of_part.result.now ≡ joined (take (i + 1) parts) = ap (λ rows. joined (take i parts) ++ rows) c.rows_of_part.ensures ∙ sym (joined_one parts i c.part-item.result c.parts-test.true c.part-item.is) in
+    caused_on _ _ _ _ _ reads reads reads _ _ inv.faults refl (c.in-Err.ensures.causes reads) refl (λ d told. (
+      told.0,
+      let here = told.1 (joined (take i parts)) inv.poured (ap keys_rise more ∙ joined_up_to parts (i + 1) c.requires.rise) in
+          let there = subst (λ (t : Columns). LeavesAmong (RowLeaves t) (joined (take i parts) ++ c.rows_of_part.result.now)) inv.columns here in
+          joined_leaves (RowLeaves s) parts (i + 1) (subst (LeavesAmong (RowLeaves s)) more there),
+    ))
 
 pub returns-in-Err-clause-accepts : goal.returns-in-Err-clause-accepts
 returns-in-Err-clause-accepts g c = λ d e keeps.

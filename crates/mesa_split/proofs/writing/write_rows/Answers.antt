@@ -1,4 +1,4 @@
-use Rattle.std.proofs.Common.{◌≡◌, ◌+◌, ◌++◌, ◌∷◌, [], take, true, false, refl, sym, ◌∙◌, ap, subst, append_assoc}
+use Rattle.std.proofs.Common.{◌≡◌, ◌+◌, ◌++◌, ◌∷◌, [], take, true, false, inl, inr, refl, sym, ◌∙◌, ap, subst, append_assoc}
 use Rattle.std.specs.Prelude.{Some, slice_get}
 use Rattle.mesa_schema.specs.declared.rows.Row.{Row}
 use Rattle.mesa_schema.specs.Columns.{Columns}
@@ -8,11 +8,13 @@ use Rattle.mesa_delta.specs.Writing.{HasTaken, columns_of}
 use Rattle.mesa_delta.specs.declared.error.FileError.TheVariants.{Damaged}
 use Rattle.mesa_answer.specs.Answering.{KeepsSums}
 use Rattle.mesa_merge.specs.Sums.{sum_damage}
+use Rattle.mesa_compact.specs.Damaged.{RowLeaves, TotalLeaves}
 use Rattle.mesa_compact.specs.Grouping.{HavePut}
+use Rattle.mesa_compact.proofs.Leaving.{refused}
 use Rattle.mesa_compact.proofs.Causing.{caused_damage, caused_ok, caused_unread, caused_write, no_write_damage}
 use Rattle.mesa_compact.proofs.Following.{rises, sums_follow, taken_form}
 use Rattle.mesa_compact.proofs.Putting.{takes_kept}
-use Rattle.mesa_split.proofs.Written.{sums_there, take_there, there_of, up_to}
+use Rattle.mesa_split.proofs.Written.{leaves_there, sums_there, take_there, there_of, up_to}
 use Rattle.mesa_split.proofs.writing.write_rows.Goals as goal
 
 pub put_all-requires-clause-gathering : goal.put_all-requires-clause-gathering
@@ -70,7 +72,21 @@ rows-preserved g c =
     }
 
 pub returns-then-not-allows-clause-causes : goal.returns-then-not-allows-clause-causes
-returns-then-not-allows-clause-causes g c = λ reads. caused_damage _ _ _ reads reads _ (sum_damage c.args.newest) c.rows.invariant.faults refl c.sum_fault.ensures refl
+returns-then-not-allows-clause-causes g c = λ reads.
+    let inv = c.rows.invariant in
+    let rows = c.args.rows.now in
+    let i = c.rows.i in
+    let next : Row = lent c.row-next.result in
+    let at : slice_get rows i ≡ Some next = c.row-next.ensures in
+    let s : Columns = columns_of c.args.writer.now in
+    caused_damage _ _ _ reads reads _ (sum_damage c.args.newest) inv.faults refl c.sum_fault.ensures (
+      refl,
+      λ given h rise.
+          let now = inv.poured given h rise in
+          let here = refused (columns_of c.rows.writer) (given ++ take i rows) next c.allows.result (c.allows.ensures (given ++ take i rows) now.taken) c.if-not-allows.true in
+          let there = subst (λ (t : Columns). TotalLeaves t (given ++ take i rows) next) inv.columns here in
+          leaves_there (RowLeaves s) given rows i next at (inl there),
+    )
 
 pub returns-then-not-allows-clause-accepts : goal.returns-then-not-allows-clause-accepts
 returns-then-not-allows-clause-accepts g c = λ d e given h rise keeps.
@@ -88,7 +104,19 @@ returns-then-not-allows-clause-accepts g c = λ d e given h rise keeps.
     cc
 
 pub returns-in-Err-clause-causes : goal.returns-in-Err-clause-causes
-returns-in-Err-clause-causes g c = λ reads. caused_unread _ _ _ reads reads c.in-Err.unfit c.rows.invariant.faults refl c.in-Err.ensures.unread c.in-Err.ensures.damaged
+returns-in-Err-clause-causes g c = λ reads.
+    let inv = c.rows.invariant in
+    let rows = c.args.rows.now in
+    let i = c.rows.i in
+    let next : Row = lent c.row-next.result in
+    let at : slice_get rows i ≡ Some next = c.row-next.ensures in
+    let s : Columns = columns_of c.args.writer.now in
+    caused_unread _ _ _ reads reads c.in-Err.unfit inv.faults refl c.in-Err.ensures.unread (λ d is. (
+      c.in-Err.ensures.damaged d is,
+      λ given h rise.
+          let now = inv.poured given h rise in
+          leaves_there (RowLeaves s) given rows i next at (inr (c.in-Err.ensures.leaves d is s (given ++ take i rows) now.put (takes_kept s c.args.groups.now c.rows.groups inv.wanted c.requires.takes))),
+    ))
 
 pub returns-in-Err-clause-accepts : goal.returns-in-Err-clause-accepts
 returns-in-Err-clause-accepts g c = λ d e given h rise keeps.

@@ -1,0 +1,7 @@
+pub use Rattle.mesa_compact.proofs as mesa_compact
+pub mod Numbering
+pub mod Rewriting
+pub mod Counting
+pub mod Same
+pub mod Lending
+pub mod Mapping

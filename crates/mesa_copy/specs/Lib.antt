@@ -1,0 +1,3 @@
+pub use Rattle.mesa_compact.specs as mesa_compact
+pub mod Renewals
+pub mod Copying
