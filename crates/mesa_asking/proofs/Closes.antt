@@ -15,14 +15,14 @@ use Rattle.mesa_fault.specs.Causes.{last, Rose}
 use Rattle.mesa_history.specs.Counting.{answers_disk}
 use Rattle.mesa_history.specs.Replay.{is_skip}
 use Rattle.mesa_history.specs.Run.{State, Finished}
-use Rattle.mesa_ledger.proofs.Staying.{answered_vault}
-use Rattle.mesa_ledger.specs.Ledger.{Ledger, books_of}
-use Rattle.mesa_ledger.specs.Turned.{answered_ledger}
-use Rattle.mesa_ledger.specs.Vault.{Origin, Starts, IsVault, outset_of}
-use Rattle.mesa_log.proofs.Printing.{page_block}
-use Rattle.mesa_log.specs.Printing.{GoesOn}
-use Rattle.mesa_log.specs.declared.log.Log.{Log}
-use Rattle.mesa_metadata.specs.Memory.{Memory, is_of_another, with_ledger}
+use Rattle.mesa_engine.proofs.mesa_ledger.Staying.{answered_vault}
+use Rattle.mesa_engine.specs.mesa_ledger.Ledger.{Ledger, books_of}
+use Rattle.mesa_engine.specs.mesa_ledger.Turned.{answered_ledger}
+use Rattle.mesa_engine.specs.mesa_ledger.Vault.{Origin, Starts, IsVault, outset_of}
+use Rattle.mesa_engine.proofs.mesa_log.Printing.{page_block}
+use Rattle.mesa_engine.specs.mesa_log.Printing.{GoesOn}
+use Rattle.mesa_engine.specs.mesa_log.declared.log.Log.{Log}
+use Rattle.mesa_engine.specs.mesa_metadata.Memory.{Memory, is_of_another, with_ledger}
 use Rattle.mesa_model.specs.Query.{Answer}
 use Rattle.mesa_model.specs.declared.commands.Command.TheVariants as command
 use Rattle.mesa_model.specs.declared.commands.Script.{Script}
@@ -32,14 +32,14 @@ use Rattle.mesa_output.specs.Output.{block}
 use Rattle.mesa_script.specs.declared.rendered.Rendered.{Rendered}
 use Rattle.mesa_skeleton.specs.Rows.{Rows}
 use Rattle.mesa_tasks.specs.GivingBack.{GivesBack, SomeFailed}
-use Rattle.mesa_ledger.proofs.mesa_walk.Asking.{close_turn}
-use Rattle.mesa_ledger.proofs.mesa_walk.Going.{close_takes}
-use Rattle.mesa_ledger.specs.mesa_walk.Causes.{Cause}
-use Rattle.mesa_ledger.specs.mesa_walk.Printing.{IsPut}
-use Rattle.mesa_ledger.specs.mesa_walk.Queries.{ClosesWith, MayClose, closing_fault, closing_outcome, closing_told}
-use Rattle.mesa_ledger.specs.mesa_walk.Turns.{Shown, IsSeen, Takes, entry}
-use Rattle.mesa_ledger.specs.mesa_walk.Undamaged.{is_damaged}
-use Rattle.mesa_ledger.specs.mesa_walk.Walk.{Outset, Counts, run_at, run_of}
+use Rattle.mesa_engine.proofs.mesa_ledger.mesa_walk.Asking.{close_turn}
+use Rattle.mesa_engine.proofs.mesa_ledger.mesa_walk.Going.{close_takes}
+use Rattle.mesa_engine.specs.mesa_ledger.mesa_walk.Causes.{Cause}
+use Rattle.mesa_engine.specs.mesa_ledger.mesa_walk.Printing.{IsPut}
+use Rattle.mesa_engine.specs.mesa_ledger.mesa_walk.Queries.{ClosesWith, MayClose, closing_fault, closing_outcome, closing_told}
+use Rattle.mesa_engine.specs.mesa_ledger.mesa_walk.Turns.{Shown, IsSeen, Takes, entry}
+use Rattle.mesa_engine.specs.mesa_ledger.mesa_walk.Undamaged.{is_damaged}
+use Rattle.mesa_engine.specs.mesa_ledger.mesa_walk.Walk.{Outset, Counts, run_at, run_of}
 
 -- a reader that has failed is counted
 some_counted : {R : Type 0} (faults : R → ℕ) (old new : ℕ) (inputs : List (Input R)) → AllByRecursion (λ (i : Input R). 0 < faults (reader_in i) → Rose old new) inputs → SomeFailed faults inputs → Rose old new

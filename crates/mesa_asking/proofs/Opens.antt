@@ -21,12 +21,12 @@ use Rattle.mesa_filter.specs.declared.words.VersionWord.TheVariants as asks
 use Rattle.mesa_history.specs.Refused.{is_refusal}
 use Rattle.mesa_history.specs.Run.{First, Answered, Finished, Place}
 use Rattle.mesa_history.specs.Turns.{IsDue}
-use Rattle.mesa_ledger.proofs.Staying.{queried_vault, still_vault}
-use Rattle.mesa_ledger.specs.Ledger.{Ledger, books_of}
-use Rattle.mesa_ledger.specs.Vault.{Origin, Starts, IsVault, outset_of}
-use Rattle.mesa_log.specs.Printing.{PrintsBlock}
-use Rattle.mesa_log.specs.declared.log.Log.{Log}
-use Rattle.mesa_metadata.specs.Memory.{Memory, hold_now, with_ledger}
+use Rattle.mesa_engine.proofs.mesa_ledger.Staying.{queried_vault, still_vault}
+use Rattle.mesa_engine.specs.mesa_ledger.Ledger.{Ledger, books_of}
+use Rattle.mesa_engine.specs.mesa_ledger.Vault.{Origin, Starts, IsVault, outset_of}
+use Rattle.mesa_engine.specs.mesa_log.Printing.{PrintsBlock}
+use Rattle.mesa_engine.specs.mesa_log.declared.log.Log.{Log}
+use Rattle.mesa_engine.specs.mesa_metadata.Memory.{Memory, hold_now, with_ledger}
 use Rattle.mesa_model.specs.Query.{Answer, query_answer}
 use Rattle.mesa_model.specs.declared.commands.Command.TheVariants as command
 use Rattle.mesa_model.specs.declared.entries.Entry.{Entry}
@@ -35,14 +35,14 @@ use Rattle.mesa_model.specs.declared.entries.Outcome.TheVariants as outcome
 use Rattle.mesa_output.specs.Output.{block}
 use Rattle.mesa_skeleton.specs.Rows.{Rows, no_rows}
 use Rattle.mesa_tasks.specs.Opening.{Counted}
-use Rattle.mesa_ledger.proofs.mesa_walk.Asking.{pinned_open, pinned_turn, unpinned_ends, unpinned_turn}
-use Rattle.mesa_ledger.proofs.mesa_walk.Going.{takes_as}
-use Rattle.mesa_ledger.specs.mesa_walk.Causes.{Cause, Replies, Unread, Damaged, Unwritten, NoMemory, is_read_fault, outcome_of, reply_of, told_at}
-use Rattle.mesa_ledger.specs.mesa_walk.Printing.{IsPut}
-use Rattle.mesa_ledger.specs.mesa_walk.Queries.{HasNoAnswer, IsOpenFrom, IsPinned, IsUnanswered}
-use Rattle.mesa_ledger.specs.mesa_walk.Turns.{Shown, IsSeen, Takes, entry}
-use Rattle.mesa_ledger.specs.mesa_walk.Undamaged.{is_damaged}
-use Rattle.mesa_ledger.specs.mesa_walk.Walk.{Outset, Counts, WalksOn, run_at, run_of}
+use Rattle.mesa_engine.proofs.mesa_ledger.mesa_walk.Asking.{pinned_open, pinned_turn, unpinned_ends, unpinned_turn}
+use Rattle.mesa_engine.proofs.mesa_ledger.mesa_walk.Going.{takes_as}
+use Rattle.mesa_engine.specs.mesa_ledger.mesa_walk.Causes.{Cause, Replies, Unread, Damaged, Unwritten, NoMemory, is_read_fault, outcome_of, reply_of, told_at}
+use Rattle.mesa_engine.specs.mesa_ledger.mesa_walk.Printing.{IsPut}
+use Rattle.mesa_engine.specs.mesa_ledger.mesa_walk.Queries.{HasNoAnswer, IsOpenFrom, IsPinned, IsUnanswered}
+use Rattle.mesa_engine.specs.mesa_ledger.mesa_walk.Turns.{Shown, IsSeen, Takes, entry}
+use Rattle.mesa_engine.specs.mesa_ledger.mesa_walk.Undamaged.{is_damaged}
+use Rattle.mesa_engine.specs.mesa_ledger.mesa_walk.Walk.{Outset, Counts, WalksOn, run_at, run_of}
 
 -- ---- why a query isn't answered
 

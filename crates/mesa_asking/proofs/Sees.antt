@@ -4,13 +4,13 @@ use Rattle.std.specs.Prelude.{find, option_map}
 use Rattle.std.specs.Option.{ok_or}
 use Rattle.std.proofs.lemmas.Simd.{map-map}
 use Rattle.mesa_asking.specs.Seeing.{catalogue_asked, pinned_asked}
-use Rattle.mesa_catalog.specs.Lookups.{known_as}
+use Rattle.mesa_engine.specs.mesa_catalog.Lookups.{known_as}
 use Rattle.mesa_filter.specs.declared.words.QueryWords.{QueryWords}
 use Rattle.mesa_filter.specs.declared.words.VersionWord.{VersionWord}
 use Rattle.mesa_filter.specs.declared.words.VersionWord.TheVariants as asks
-use Rattle.mesa_catalog.specs.mesa_image.Catalog.{Catalog}
-use Rattle.mesa_ledger.specs.Ledger.{HeldPin, Ledger, bare_held, books_of, skeleton_at, skeleton_of, skeletons, skeletons_at}
-use Rattle.mesa_ledger.specs.Turned.{is_held_pin}
+use Rattle.mesa_engine.specs.mesa_catalog.mesa_image.Catalog.{Catalog}
+use Rattle.mesa_engine.specs.mesa_ledger.Ledger.{HeldPin, Ledger, bare_held, books_of, skeleton_at, skeleton_of, skeletons, skeletons_at}
+use Rattle.mesa_engine.specs.mesa_ledger.Turned.{is_held_pin}
 use Rattle.mesa_list.specs.Checks.{◌>>=◌, ◌>>◌}
 use Rattle.mesa_model.specs.Pins.{is_pin}
 use Rattle.mesa_model.specs.Query.{Answer, query_answer, store_asked, version_seen}

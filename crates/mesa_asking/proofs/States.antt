@@ -7,19 +7,19 @@ use Rattle.mesa_asking.specs.Seeing.{catalogue_asked, pinned_asked}
 use Rattle.mesa_pinning.proofs.Contents.{HasContents, kept_catalog, pinned_contents, present_contents}
 use Rattle.mesa_asking.proofs.Sees.{asked_there}
 use Rattle.mesa_asking.proofs.Versions.{common_most, version_there}
-use Rattle.mesa_catalog.proofs.Loads.{find_mapped, found_holds}
-use Rattle.mesa_catalog.proofs.Stocks.{all_at}
+use Rattle.mesa_engine.proofs.mesa_catalog.Loads.{find_mapped, found_holds}
+use Rattle.mesa_engine.proofs.mesa_catalog.Stocks.{all_at}
 use Rattle.mesa_filter.specs.declared.words.QueryWords.{QueryWords}
 use Rattle.mesa_filter.specs.declared.words.VersionWord.{VersionWord}
 use Rattle.mesa_filter.specs.declared.words.VersionWord.TheVariants as asks
 use Rattle.mesa_history.specs.Found.{Kept}
 use Rattle.mesa_history.specs.Run.{State}
-use Rattle.mesa_catalog.specs.mesa_image.Catalog.{Catalog, no_stock, stock_at}
-use Rattle.mesa_catalog.specs.mesa_image.Contents.{Rows, kept_of}
-use Rattle.mesa_catalog.specs.mesa_image.Shape.{IsCatalog, IsShaped}
-use Rattle.mesa_ledger.specs.Ledger.{HeldPin, Ledger, books_of, held_with}
-use Rattle.mesa_ledger.specs.Turned.{is_held_pin}
-use Rattle.mesa_ledger.specs.Vault.{IsVersioned}
+use Rattle.mesa_engine.specs.mesa_catalog.mesa_image.Catalog.{Catalog, no_stock, stock_at}
+use Rattle.mesa_engine.specs.mesa_catalog.mesa_image.Contents.{Rows, kept_of}
+use Rattle.mesa_engine.specs.mesa_catalog.mesa_image.Shape.{IsCatalog, IsShaped}
+use Rattle.mesa_engine.specs.mesa_ledger.Ledger.{HeldPin, Ledger, books_of, held_with}
+use Rattle.mesa_engine.specs.mesa_ledger.Turned.{is_held_pin}
+use Rattle.mesa_engine.specs.mesa_ledger.Vault.{IsVersioned}
 use Rattle.mesa_list.specs.Checks.{◌>>=◌}
 use Rattle.mesa_model.specs.Pins.{is_pin, store_at}
 use Rattle.mesa_model.specs.Query.{store_asked, version_seen}
@@ -29,7 +29,7 @@ use Rattle.mesa_model.specs.declared.replies.Refusal.TheVariants as no
 use Rattle.mesa_rules.specs.Found.{Sees, of_catalog, version_in}
 use Rattle.mesa_rules.specs.Seen.{HasCatalog}
 use Rattle.mesa_skeleton.specs.Rows.{no_rows}
-use Rattle.mesa_ledger.specs.mesa_walk.Books.{AreBooksOf}
+use Rattle.mesa_engine.specs.mesa_ledger.mesa_walk.Books.{AreBooksOf}
 
 -- A query sees a catalogue's tables in a warehouse, and the content there of the one of a number at a version.
 pub record SeesContents (rows : Rows) (c : Catalog) (pinned : Option ℕ) (number version : ℕ) (words : QueryWords) (session : ℕ) (w : Warehouse) : Type 0 where

@@ -2,35 +2,35 @@
 use Rattle.std.proofs.Common.{◌≡◌, ℕ, ◌<◌, ◌^◌, List, [], ◌∷◌, ◌++◌, length, Bool, true, false, IsTrue, refl, sym, ◌∙◌, ap, subst, Option, None, Some, Ok}
 use Rattle.std.specs.Prelude.{find, option_map}
 use Rattle.std.specs.List.{AllByRecursion}
-use Rattle.mesa_asking.specs.Opening.{HasItsFiles, HasUnsoundFile, IsHeaded, tells_damage}
+use Rattle.mesa_asking.specs.Opening.{HasItsFiles, HasUnsoundFile, IsHeaded, read_in, tells_damage}
 use Rattle.mesa_asking.specs.Seeing.{catalogue_asked}
-use Rattle.mesa_pinning.proofs.Contents.{seen_columns, seen_content}
+use Rattle.mesa_pinning.proofs.Contents.{columns_found, seen_columns, seen_content}
 use Rattle.mesa_asking.proofs.Opens.{Answers, one_answer, opened_from}
 use Rattle.mesa_asking.proofs.States.{sees_state, version_range}
 use Rattle.mesa_pinning.proofs.There.{name_there}
-use Rattle.mesa_catalog.proofs.Loads.{found_holds}
-use Rattle.mesa_catalog.proofs.Stocks.{all_at}
+use Rattle.mesa_engine.proofs.mesa_catalog.Loads.{found_holds}
+use Rattle.mesa_engine.proofs.mesa_catalog.Stocks.{all_at}
 use Rattle.mesa_commit.specs.Images.{Has}
 use Rattle.mesa_disk.specs.Image.{Image}
 use Rattle.mesa_disk.specs.Story.{Story, Unmoved}
-use Rattle.mesa_filter.specs.Query.{BuiltQuery, group_kinds}
+use Rattle.mesa_filter.specs.Query.{BuiltQuery, IsQueryOf, group_kinds}
 use Rattle.mesa_filter.specs.declared.words.QueryWords.{QueryWords}
 use Rattle.mesa_filter.specs.declared.words.VersionWord.{VersionWord}
 use Rattle.mesa_filter.specs.declared.words.VersionWord.TheVariants as asks
 use Rattle.mesa_history.specs.Run.{First, State}
 use Rattle.mesa_history.specs.Turns.{IsDue}
-use Rattle.mesa_catalog.specs.mesa_image.Catalog.{Catalog, no_stock, stock_at}
-use Rattle.mesa_catalog.specs.mesa_image.Fitting.{delta_shelved, deltas_of, shelved}
-use Rattle.mesa_ledger.proofs.mesa_image_laws.Lists.{all_unflat}
-use Rattle.mesa_ledger.specs.mesa_image_laws.Planned.{planned}
-use Rattle.mesa_catalog.specs.mesa_image.Shape.{IsCatalog, IsShaped}
-use Rattle.mesa_catalog.specs.mesa_image.Sound.{AreStocked, IsStocked, wants}
-use Rattle.mesa_ledger.proofs.Holding.{pins_of}
-use Rattle.mesa_ledger.proofs.Lists.{map_all}
-use Rattle.mesa_ledger.proofs.Staying.{there_now}
-use Rattle.mesa_ledger.specs.Ledger.{HeldPin, Holder, Ledger, books_of, files_held, holders}
-use Rattle.mesa_ledger.specs.Turned.{is_held_pin}
-use Rattle.mesa_ledger.specs.Vault.{Origin, Starts, IsVault, IsVaultAt, outset_of}
+use Rattle.mesa_engine.specs.mesa_catalog.mesa_image.Catalog.{Catalog, no_stock, stock_at}
+use Rattle.mesa_engine.specs.mesa_catalog.mesa_image.Fitting.{delta_shelved, deltas_of, shelved}
+use Rattle.mesa_engine.proofs.mesa_ledger.mesa_image_laws.Lists.{all_unflat}
+use Rattle.mesa_engine.specs.mesa_ledger.mesa_image_laws.Planned.{planned}
+use Rattle.mesa_engine.specs.mesa_catalog.mesa_image.Shape.{IsCatalog, IsShaped}
+use Rattle.mesa_engine.specs.mesa_catalog.mesa_image.Sound.{AreStocked, IsStocked, wants}
+use Rattle.mesa_engine.proofs.mesa_ledger.Holding.{pins_of}
+use Rattle.mesa_engine.proofs.mesa_ledger.Lists.{map_all}
+use Rattle.mesa_engine.proofs.mesa_ledger.Staying.{there_now}
+use Rattle.mesa_engine.specs.mesa_ledger.Ledger.{HeldPin, Holder, Ledger, books_of, files_held, holders}
+use Rattle.mesa_engine.specs.mesa_ledger.Turned.{is_held_pin}
+use Rattle.mesa_engine.specs.mesa_ledger.Vault.{Origin, Starts, IsVault, IsVaultAt, outset_of}
 use Rattle.mesa_model.specs.Page.{page_of}
 use Rattle.mesa_model.specs.Query.{Answer, answer_rows, query_answer}
 use Rattle.mesa_model.specs.Warehouse.{Warehouse}
@@ -39,9 +39,13 @@ use Rattle.mesa_model.specs.declared.entries.Entry.{Entry}
 use Rattle.mesa_model.specs.declared.entries.Kind.TheVariants as kind
 use Rattle.mesa_model.specs.declared.entries.Outcome.TheVariants as outcome
 use Rattle.mesa_pinning.specs.Told.{Tells}
-use Rattle.mesa_log.specs.declared.failure.Failure.{Failure}
+use Rattle.mesa_engine.specs.mesa_log.declared.failure.Failure.{Failure}
 use Rattle.mesa_pinning.proofs.Given.{AreGiven, IsGiven, all_given}
-use Rattle.mesa_pinning.proofs.Telling.{pinned_tells, stock_given}
+use Rattle.mesa_pinning.proofs.Ordered.{IsAllowed, read_rows, read_view}
+use Rattle.mesa_pinning.proofs.Reading.{columns_read}
+use Rattle.mesa_pinning.proofs.Telling.{content_form, content_read, pinned_tells, stock_given}
+use Rattle.mesa_rules.proofs.ReadBy.{read_limit, read_prefix, read_resume, read_version}
+use Rattle.mesa_schema.specs.Columns.{Columns}
 use Rattle.mesa_pinning.proofs.Unsound.{seen_sound}
 use Rattle.mesa_pinning.specs.Read.{relation_read}
 use Rattle.mesa_pinning.proofs.mesa_plans.Among.{all_planned}
@@ -51,10 +55,10 @@ use Rattle.mesa_skeleton.specs.Bare.{bare_answer, bare_result}
 use Rattle.mesa_skeleton.specs.Rows.{Rows, no_rows}
 use Rattle.mesa_tasks.specs.declared.querying.Pinned.{Pinned}
 use Rattle.mesa_trash.specs.Filed.{PinFiles}
-use Rattle.mesa_ledger.specs.mesa_walk.Books.{AreBooksOf}
-use Rattle.mesa_ledger.specs.mesa_walk.Queries.{IsOpen, IsPinned}
-use Rattle.mesa_ledger.specs.mesa_walk.Turns.{entry}
-use Rattle.mesa_ledger.specs.mesa_walk.Walk.{Outset, Counts, run_at}
+use Rattle.mesa_engine.specs.mesa_ledger.mesa_walk.Books.{AreBooksOf}
+use Rattle.mesa_engine.specs.mesa_ledger.mesa_walk.Queries.{IsOpen, IsPinned}
+use Rattle.mesa_engine.specs.mesa_ledger.mesa_walk.Turns.{entry}
+use Rattle.mesa_engine.specs.mesa_ledger.mesa_walk.Walk.{Outset, Counts, run_at}
 
 -- ---- the catalogue that a query sees
 
@@ -111,8 +115,9 @@ module _ (o : Outset) (g : Origin) (sound : Bool) (l : Ledger) (story : Story) (
       let read = asked_read image told session words.version c has.asked in
       let there = name_there c words.relation f.relation has.relation in
       let given = stock_given v.rows c image f.relation.table read.stocked read.has there.0 in
-      seen_sound v.rows image story.told told (relation_read t.lineage f.relation.view (planned t f.query.version))
-      (all_given v.rows image t.lineage f.relation.view there.1 (planned t f.query.version) (all_planned (AreGiven v.rows image t.lineage) t (all_unflat (IsGiven v.rows image) (delta_shelved t.lineage) (deltas_of t) given) f.query.version)) has.unsound
+      let q = read_in c f in
+      seen_sound v.rows image story.told told (relation_read t.lineage q.relation.view (planned t q.query.version))
+      (all_given v.rows image t.lineage q.relation.view (read_view t.lineage f there.1) (planned t q.query.version) (all_planned (AreGiven v.rows image t.lineage) t (all_unflat (IsGiven v.rows image) (delta_shelved t.lineage) (deltas_of t) given) q.query.version)) has.unsound
 
   -- Its files tell the answer that each state gives of which the vault's books are.
   pub asked_tells : {R : Type 0} (bytes : R → Option (List ℕ)) (faults : R → ℕ) (session : ℕ) (words : QueryWords) (p : Pinned R) → HasItsFiles bytes faults story.told l session words p
@@ -133,10 +138,22 @@ module _ (o : Outset) (g : Origin) (sound : Bool) (l : Ledger) (story : Story) (
       let same : answer_found sees.sees.store f ≡ answer = cc in
       let columns = seen_columns v.rows c f.query.version sees.sees.store f.relation sees.has in
       let content = seen_content v.rows c f.query.version sees.sees.store f.relation sees.has in
-      pinned_tells bytes faults story.told t f p has.files there.1 v.rows image told c.floor c.next (all_at (IsShaped c.floor c.next) c.tables f.relation.table no_stock shaped.tables there.0) (all_at (IsStocked v.rows) c.tables f.relation.table no_stock read.stocked there.0)
-      (stock_given v.rows c image f.relation.table read.stocked read.has there.0) answer
-      (ap (λ (a : Answer). a.page) (sym same) ∙ (λ j. page_of f.query.version f.query.limit f.query.resume (answer_rows (columns j) f.query.asked (content j))))
-      (ap (λ (a : Answer). a.heading) (sym same))
+      let q = read_in c f in
+      let its = all_at (IsShaped c.floor c.next) c.tables f.relation.table no_stock shaped.tables there.0 in
+      let stocked = all_at (IsStocked v.rows) c.tables f.relation.table no_stock read.stocked there.0 in
+      let given = stock_given v.rows c image f.relation.table read.stocked read.has there.0 in
+      let allowed : IsAllowed t.lineage f = record {
+        query = subst (λ (s : Columns). IsQueryOf s f.query) (columns_found c f.relation) has.query;
+        within = has.within;
+        views = its.lineage.views;
+        there = there.1;
+      } in
+      let formed = content_form v.rows c.floor c.next t its stocked f.query.version None tt in
+      pinned_tells bytes faults story.told t q p has.files (read_view t.lineage f there.1) v.rows image told c.floor c.next its stocked given answer
+      (ap (λ (a : Answer). a.page) (sym same) ∙ (λ j. page_of f.query.version f.query.limit f.query.resume (answer_rows (columns j) f.query.asked (content j)))
+      ∙ (λ j. page_of (sym (read_version t.lineage f) j) (sym (read_limit t.lineage f) j) (sym (read_resume t.lineage f) j) (sym (read_rows v.rows t f f.query.version allowed formed) j))
+      ∙ ap (λ n. page_of q.query.version q.query.limit q.query.resume (answer_rows (columns_read t.lineage q.relation.view) q.query.asked (content_read v.rows t q.relation.view n))) (sym (read_version t.lineage f)))
+      (ap (λ (a : Answer). a.heading) (sym same) ∙ (λ j. record { kinds = sym has.kinds j; prefix = sym (read_prefix t.lineage f) j }))
 
 -- the books answer a query that has its files
 pub files_answered : {R : Type 0} (bytes : R → Option (List ℕ)) (faults : R → ℕ) (told : Option Image) (l : Ledger) (session : ℕ) (words : QueryWords) (p : Pinned R) → HasItsFiles bytes faults told l session words p → Answers l session words
@@ -146,13 +163,15 @@ files_answered bytes faults told l session words p has = (answer_found has.sees.
 files_headed : {R : Type 0} (bytes : R → Option (List ℕ)) (faults : R → ℕ) (told : Option Image) (l : Ledger) (session : ℕ) (words : QueryWords) (p : Pinned R) → HasItsFiles bytes faults told l session words p
     → (sound : Bool) (rows : Rows) (s : State) (answer : Answer) → AreBooksOf sound (books_of rows l) s → query_answer s.warehouse session words ≡ Ok answer → IsHeaded p.query p.version answer
 files_headed bytes faults told l session words p has sound rows s answer are is =
-    let found = answer_found has.sees.store has.found in
+    let f = has.found in
+    let l' = (stock_at has.catalogue f.relation.table).lineage in
+    let found = answer_found has.sees.store f in
     let both : Ok (bare_answer answer) ≡ Ok (bare_answer found) =
     ap (bare_result bare_answer) (sym is) ∙ query-bare s.warehouse session words ∙ ap (λ (x : Warehouse). bare_result bare_answer (query_answer x session words)) are.skeleton ∙ ap (bare_result bare_answer) (has.answered (books_of no_rows l).bare session has.sees) in
     let same : bare_answer answer ≡ bare_answer found = cc in
     record {
-      at = ap (λ (a : Answer). a.page.version) same ∙ sym has.files.version;
-      heading = ap (λ (a : Answer). a.heading) same ∙ ap (λ (q : BuiltQuery). record { kinds = group_kinds q; prefix = q.prefix }) (sym has.files.query);
+      at = ap (λ (a : Answer). a.page.version) same ∙ sym (read_version l' f) ∙ sym has.files.version;
+      heading = ap (λ (a : Answer). a.heading) same ∙ (λ j. record { kinds = sym has.kinds j; prefix = sym (read_prefix l' f) j }) ∙ ap (λ (q : BuiltQuery). record { kinds = group_kinds q; prefix = q.prefix }) (sym has.files.query);
     }
 
 -- ---- what a turn leaves

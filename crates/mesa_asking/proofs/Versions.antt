@@ -3,8 +3,8 @@ use Rattle.std.proofs.Common.{◌≡◌, ℕ, zero, suc, ◌-◌, ◌<◌, ◌�
 use Rattle.std.proofs.lemmas.Bool.{leb-false, ltb-false}
 use Rattle.mesa_filter.specs.declared.words.VersionWord.{VersionWord}
 use Rattle.mesa_filter.specs.declared.words.VersionWord.TheVariants as asks
-use Rattle.mesa_catalog.specs.mesa_image.Catalog.{Catalog, Stock, no_stock, stock_at}
-use Rattle.mesa_ledger.specs.Ledger.{skeleton_of, skeletons}
+use Rattle.mesa_engine.specs.mesa_catalog.mesa_image.Catalog.{Catalog, Stock, no_stock, stock_at}
+use Rattle.mesa_engine.specs.mesa_ledger.Ledger.{skeleton_of, skeletons}
 use Rattle.mesa_list.specs.Checks.{◌>>◌, refuse_if}
 use Rattle.mesa_model.specs.Versions.{common_oldest, oldest_among, version_asked}
 use Rattle.mesa_model.specs.Warehouse.{Warehouse, newest_of}

@@ -4,7 +4,7 @@ use Rattle.mesa_delta.specs.declared.error.FileError.{FileError}
 use Rattle.mesa_delta.specs.declared.error.FileError.TheVariants as file_error
 use Rattle.mesa_filter.specs.declared.words.QueryWords.{QueryWords}
 use Rattle.mesa_history.specs.Run.{Run}
-use Rattle.mesa_log.specs.Printing.{page_text}
+use Rattle.mesa_engine.specs.mesa_log.Printing.{page_text}
 use Rattle.mesa_model.specs.Query.{Answer}
 use Rattle.mesa_model.specs.declared.commands.Script.{Script}
 use Rattle.mesa_model.specs.declared.entries.Entry.{Entry}
@@ -13,9 +13,9 @@ use Rattle.mesa_model.specs.declared.replies.Page.{Page}
 use Rattle.mesa_output.specs.Output.{block}
 use Rattle.mesa_script.specs.Rows.{rendered}
 use Rattle.mesa_script.specs.declared.rendered.Rendered.{Rendered}
-use Rattle.mesa_ledger.specs.mesa_walk.Causes.{Cause, Unread, Damaged, NoMemory, reply_of, told_at}
-use Rattle.mesa_ledger.specs.mesa_walk.Queries.{IsOpenFrom, closing_outcome}
-use Rattle.mesa_ledger.specs.mesa_walk.Turns.{entry}
+use Rattle.mesa_engine.specs.mesa_ledger.mesa_walk.Causes.{Cause, Unread, Damaged, NoMemory, reply_of, told_at}
+use Rattle.mesa_engine.specs.mesa_ledger.mesa_walk.Queries.{IsOpenFrom, closing_outcome}
+use Rattle.mesa_engine.specs.mesa_ledger.mesa_walk.Turns.{entry}
 
 -- A session's query was answered at a position and isn't closed yet, and this is told of its answer.
 pub record IsToClose (script : Script) (r : Run) (session number position : ℕ) (tells : Answer → Type 0) : Type 0 where

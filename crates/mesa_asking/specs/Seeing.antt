@@ -4,11 +4,11 @@ use Rattle.mesa_asking.specs.declared.seeing.Seen.{Seen}
 use Rattle.mesa_filter.specs.declared.words.QueryWords.{QueryWords}
 use Rattle.mesa_filter.specs.declared.words.VersionWord.{VersionWord}
 use Rattle.mesa_filter.specs.declared.words.VersionWord.TheVariants as asks
-use Rattle.mesa_catalog.specs.mesa_image.Catalog.{Catalog}
-use Rattle.mesa_ledger.specs.Ledger.{HeldPin, Ledger}
-use Rattle.mesa_ledger.specs.Turned.{is_held_pin}
+use Rattle.mesa_engine.specs.mesa_catalog.mesa_image.Catalog.{Catalog}
+use Rattle.mesa_engine.specs.mesa_ledger.Ledger.{HeldPin, Ledger}
+use Rattle.mesa_engine.specs.mesa_ledger.Turned.{is_held_pin}
 use Rattle.mesa_rules.specs.Found.{Sees}
-use Rattle.mesa_ledger.specs.mesa_walk.Books.{Books}
+use Rattle.mesa_engine.specs.mesa_ledger.mesa_walk.Books.{Books}
 
 -- A session's query sees these tables in the books, and where they are a pin's, this version of each of them.
 abbrev pub SeesBooks : Seen → QueryWords → ℕ → Books → Type 0

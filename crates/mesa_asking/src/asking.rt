@@ -3,18 +3,17 @@ ghost use Rattle.std.specs.Prelude.{◌≡◌, None, Ok, Some, IfErr, IfOk};
 ghost use Rattle.mesa_asked.specs.Told.{IsDue};
 ghost use Rattle.mesa_asked.specs.declared.failure.Failure.TheVariants.{Memory as WantOfMemory};
 ghost use Rattle.mesa_asking.specs.Seeing.{catalogue_asked, pinned_asked};
-ghost use Rattle.mesa_catalog.specs.Lookups.{relation_of};
+ghost use Rattle.mesa_engine.specs.mesa_catalog.Lookups.{relation_of};
 ghost use Rattle.mesa_filter.specs.Query.{IsQueryOf};
-ghost use Rattle.mesa_ledger.specs.Ledger.{books_of};
+ghost use Rattle.mesa_engine.specs.mesa_ledger.Ledger.{books_of};
 ghost use Rattle.mesa_model.specs.Query.{query_answer};
 ghost use Rattle.mesa_rules.specs.Found.{IsAnswered, Sees, columns_at, version_in};
 ghost use Rattle.mesa_skeleton.specs.Rows.{Rows};
 
 use crate::{Seen, seen_by};
 use mesa_asked::Failure;
-use mesa_catalog::Catalog;
+use mesa_engine::{Catalog, Metadata};
 use mesa_filter::QueryWords;
-use mesa_metadata::Metadata;
 use mesa_rules::Found;
 use std::alloc::Global;
 

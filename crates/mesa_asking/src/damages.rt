@@ -4,7 +4,7 @@ ghost use Rattle.mesa_tasks.specs.Errors.{Differs, HasDiffered};
 ghost use Rattle.mesa_asking.specs.Closing.{cause_if};
 ghost use Rattle.mesa_key.specs.Spelling.{AreBytes};
 ghost use Rattle.mesa_output.specs.Output.{IsDamage, IsSeen};
-ghost use Rattle.mesa_ledger.specs.mesa_walk.Queries.{MayClose};
+ghost use Rattle.mesa_engine.specs.mesa_ledger.mesa_walk.Queries.{MayClose};
 
 use mesa_delta::FileError;
 use mesa_file::{Damage, Seen};

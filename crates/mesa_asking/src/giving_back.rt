@@ -1,11 +1,10 @@
 // Giving back what a query was handed.
 ghost use Rattle.std.specs.Prelude.{◌≡◌};
-ghost use Rattle.mesa_ledger.specs.mesa_walk.Turns.{NoneFell};
+ghost use Rattle.mesa_engine.specs.mesa_ledger.mesa_walk.Turns.{NoneFell};
 
 use mesa_disk::{Disk, Made};
-use mesa_engine::Engine;
+use mesa_engine::{Engine, Naming};
 use mesa_io::Sink;
-use mesa_ledger::Naming;
 use mesa_tasks::{Pinned, retire_pinned};
 
 /// Gives back the readers of a query. Those that have failed are counted by the disk.

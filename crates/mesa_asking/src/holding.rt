@@ -3,22 +3,21 @@ ghost use Rattle.std.specs.Prelude.{◌≡◌, true, IfErr, IfOk, OnErr, OnOk, S
 ghost use Rattle.mesa_asking.specs.Opening.{HasItsFiles, HasUnsoundFile, asked_ledger, is_unread, tells_damage};
 ghost use Rattle.mesa_asking.specs.Seeing.{catalogue_asked};
 ghost use Rattle.mesa_disk.specs.Story.{Unmoved};
-ghost use Rattle.mesa_catalog.specs.mesa_image.Catalog.{Catalog as AnyCatalog};
-ghost use Rattle.mesa_catalog.specs.mesa_image.Shape.{IsCatalog};
-ghost use Rattle.mesa_ledger.specs.Ledger.{books_of};
-ghost use Rattle.mesa_log.specs.Failure.{cause_in};
-ghost use Rattle.mesa_metadata.specs.Memory.{with_ledger};
+ghost use Rattle.mesa_engine.specs.mesa_catalog.mesa_image.Catalog.{Catalog as AnyCatalog};
+ghost use Rattle.mesa_engine.specs.mesa_catalog.mesa_image.Shape.{IsCatalog};
+ghost use Rattle.mesa_engine.specs.mesa_ledger.Ledger.{books_of};
+ghost use Rattle.mesa_engine.specs.mesa_log.Failure.{cause_in};
+ghost use Rattle.mesa_engine.specs.mesa_metadata.Memory.{with_ledger};
 ghost use Rattle.mesa_schema.specs.Columns.{Columns};
 ghost use Rattle.mesa_skeleton.specs.Rows.{no_rows};
 ghost use Rattle.mesa_tasks.specs.Pins.{IsPinned};
-ghost use Rattle.mesa_ledger.specs.mesa_walk.Queries.{HasNoAnswer};
-ghost use Rattle.mesa_ledger.specs.mesa_walk.Walk.{Counts};
+ghost use Rattle.mesa_engine.specs.mesa_ledger.mesa_walk.Queries.{HasNoAnswer};
+ghost use Rattle.mesa_engine.specs.mesa_ledger.mesa_walk.Walk.{Counts};
 
 use crate::opening::files_asked;
 use mesa_disk::{Disk, Made};
+use mesa_engine::{Failure, Metadata};
 use mesa_filter::{QueryWords, VersionWord};
-use mesa_log::Failure;
-use mesa_metadata::Metadata;
 use mesa_tasks::{Pinned, retire_pinned};
 use std::alloc::{AllocError, Global};
 

@@ -9,17 +9,15 @@ ghost use Rattle.mesa_pinning.specs.Told.{Tells};
 ghost use Rattle.mesa_schema.specs.Columns.{Columns};
 ghost use Rattle.mesa_skeleton.specs.Rows.{no_rows};
 ghost use Rattle.mesa_tasks.specs.Pins.{IsPinned};
-ghost use Rattle.mesa_ledger.specs.mesa_walk.Queries.{IsOpen};
-ghost use Rattle.mesa_ledger.specs.mesa_walk.Turns.{AnswersDisk, IsSeen, IsTurn, SomeRose, Takes};
-ghost use Rattle.mesa_ledger.specs.mesa_walk.Walk.{run_at};
+ghost use Rattle.mesa_engine.specs.mesa_ledger.mesa_walk.Queries.{IsOpen};
+ghost use Rattle.mesa_engine.specs.mesa_ledger.mesa_walk.Turns.{AnswersDisk, IsSeen, IsTurn, SomeRose, Takes};
+ghost use Rattle.mesa_engine.specs.mesa_ledger.mesa_walk.Walk.{run_at};
 
 use crate::holding::hold_files;
 use mesa_disk::{Disk, Made};
-use mesa_engine::Engine;
+use mesa_engine::{Engine, Naming, Who};
 use mesa_filter::QueryWords;
 use mesa_io::Sink;
-use mesa_ledger::Naming;
-use mesa_log::Who;
 use mesa_model::{Kind, Outcome, Refusal, Reply};
 use mesa_tasks::Pinned;
 

@@ -2,13 +2,12 @@
 ghost use Rattle.std.specs.Prelude.{◌≡◌, ℕ, Err, IfErr, IfOk, None, Some};
 ghost use Rattle.mesa_asking.specs.Seeing.{SeesBooks, catalogue_asked, pinned_asked};
 ghost use Rattle.mesa_filter.specs.declared.words.QueryWords.{QueryWords as AnyWords};
-ghost use Rattle.mesa_ledger.specs.Ledger.{books_of};
+ghost use Rattle.mesa_engine.specs.mesa_ledger.Ledger.{books_of};
 ghost use Rattle.mesa_model.specs.Query.{query_answer};
 ghost use Rattle.mesa_skeleton.specs.Rows.{Rows};
 
-use mesa_catalog::Catalog;
+use mesa_engine::{Catalog, Metadata};
 use mesa_filter::VersionWord;
-use mesa_metadata::Metadata;
 use mesa_model::Refusal;
 
 /// The tables that a query sees, and where they are a pin's, its version, which is asked of each of them.

@@ -7,5 +7,6 @@ pub mod Sums
 pub mod Bounds
 pub mod Unsound
 pub mod Telling
+pub mod Ordered
 pub mod Contents
 pub mod There

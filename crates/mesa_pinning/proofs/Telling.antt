@@ -78,7 +78,7 @@ pinned_of bytes s view (f ∷ files) all = (all.0.relation, pinned_of bytes s vi
 
 -- ---- the content of a relation
 
-abbrev rows_by : Columns → Option View → List Row → List Row
+abbrev pub rows_by : Columns → Option View → List Row → List Row
 rows_by s None rows = rows
 rows_by s (Some v) rows = view_rows s v rows
 

@@ -9,11 +9,11 @@ use Rattle.mesa_list.specs.Bytes.{same_bytes}
 use Rattle.mesa_schema.specs.Changes.{Lineage}
 use Rattle.mesa_schema.specs.Columns.{place_of}
 use Rattle.mesa_schema.specs.declared.views.View.{View}
-use Rattle.mesa_catalog.specs.Lookups.{relation_from, relation_of}
-use Rattle.mesa_catalog.specs.mesa_image.Catalog.{Catalog, Stock, no_stock, stock_at}
+use Rattle.mesa_rules.specs.mesa_catalog.Lookups.{relation_from, relation_of}
+use Rattle.mesa_rules.specs.mesa_catalog.mesa_image.Catalog.{Catalog, Stock, no_stock, stock_at}
 use Rattle.mesa_pinning.proofs.Reading.{IsThere}
-use Rattle.mesa_catalog.specs.mesa_shelf.Lookups.{relation_in, view_names}
-use Rattle.mesa_catalog.specs.mesa_shelf.declared.relation.Relation.{Relation as Place}
+use Rattle.mesa_rules.specs.mesa_catalog.mesa_shelf.Lookups.{relation_in, view_names}
+use Rattle.mesa_rules.specs.mesa_catalog.mesa_shelf.declared.relation.Relation.{Relation as Place}
 
 -- a view that was found by its name is one
 view_there : (name : List ℕ) (l : Lineage) (i : ℕ) → place_of name (view_names l) ≡ Some i → IsThere l (Some i)
@@ -66,3 +66,8 @@ name_there c name p e =
 pub view_within : (l : Lineage) (view : Option ℕ) → IsThere l view → IfSome view (λ number. number < length l.views)
 view_within l None there = tt
 view_within l (Some number) there = slice_get_within l.views number there.0 there.1
+
+-- and one of the table's numbers is that of a view that is there
+pub within_there : (l : Lineage) (view : Option ℕ) → IfSome view (λ number. number < length l.views) → IsThere l view
+within_there l None within = tt
+within_there l (Some number) within = let d : View = record { name = []; keys = []; values = [] } in (get_or l.views number d, slice_get-get_or l.views number d within)

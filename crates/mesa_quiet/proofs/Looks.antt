@@ -9,13 +9,13 @@ use Rattle.mesa_model.specs.declared.entries.Kind.TheVariants as kind
 use Rattle.mesa_history.specs.Replay.{is_skip}
 use Rattle.mesa_history.specs.Run.{First}
 use Rattle.mesa_history.specs.Turns.{IsDue}
-use Rattle.mesa_ledger.specs.mesa_walk.Turns.{entry, is_load, looking}
-use Rattle.mesa_ledger.specs.mesa_walk.Walk.{Outset, run_of}
-use Rattle.mesa_ledger.proofs.mesa_walk.Reading.{look_turn}
-use Rattle.mesa_ledger.proofs.mesa_walk.Turning.{stays}
-use Rattle.mesa_ledger.specs.Ledger.{Ledger, books_of}
-use Rattle.mesa_ledger.specs.Vault.{Origin, IsVault}
-use Rattle.mesa_ledger.proofs.Staying.{still_vault}
+use Rattle.mesa_engine.specs.mesa_ledger.mesa_walk.Turns.{entry, is_load, looking}
+use Rattle.mesa_engine.specs.mesa_ledger.mesa_walk.Walk.{Outset, run_of}
+use Rattle.mesa_engine.proofs.mesa_ledger.mesa_walk.Reading.{look_turn}
+use Rattle.mesa_engine.proofs.mesa_ledger.mesa_walk.Turning.{stays}
+use Rattle.mesa_engine.specs.mesa_ledger.Ledger.{Ledger, books_of}
+use Rattle.mesa_engine.specs.mesa_ledger.Vault.{Origin, IsVault}
+use Rattle.mesa_engine.proofs.mesa_ledger.Staying.{still_vault}
 
 -- what a command that loads is
 pub load_of : (c : Command) → IsTrue (is_load c) → (rows : List RowWords) × (c ≡ command.Load rows)
@@ -29,6 +29,7 @@ load_of (command.Pin asked) is = absurd cc
 load_of (command.Release token) is = absurd cc
 load_of (command.Expire table version) is = absurd cc
 load_of (command.Work words) is = absurd cc
+load_of (command.Recast words) is = absurd cc
 
 -- a look is skipped exactly where the sink has failed
 pub skips : (running found : Bool) → is_skip (looking running found) ≡ not running

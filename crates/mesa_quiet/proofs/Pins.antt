@@ -28,18 +28,19 @@ use Rattle.mesa_history.specs.Turns.{IsDue}
 use Rattle.mesa_output.specs.Output.{block}
 use Rattle.mesa_rules.specs.Seen.{HasCatalog, known_of}
 use Rattle.mesa_skeleton.specs.Rows.{Rows}
-use Rattle.mesa_ledger.specs.mesa_walk.Causes.{told_at}
-use Rattle.mesa_ledger.specs.mesa_walk.Changes.{MakesPin}
-use Rattle.mesa_ledger.specs.mesa_walk.Printing.{IsPut}
-use Rattle.mesa_ledger.specs.mesa_walk.Turns.{entry}
-use Rattle.mesa_ledger.specs.mesa_walk.Walk.{Outset, run_of}
-use Rattle.mesa_ledger.proofs.mesa_walk.Pinning.{pin_turn}
-use Rattle.mesa_ledger.proofs.mesa_walk.Turning.{stays}
-use Rattle.mesa_ledger.specs.Ledger.{Ledger, bare_held, books_of, skeleton_of, skeletons}
-use Rattle.mesa_ledger.specs.Turned.{pinned_ledger}
-use Rattle.mesa_ledger.specs.Vault.{Origin, IsVault}
-use Rattle.mesa_ledger.proofs.Staying.{pinned_vault}
-use Rattle.mesa_metadata.specs.Memory.{hold_now}
+use Rattle.mesa_engine.specs.Engine.{most_turns}
+use Rattle.mesa_engine.specs.mesa_ledger.mesa_walk.Causes.{told_at}
+use Rattle.mesa_engine.specs.mesa_ledger.mesa_walk.Changes.{MakesPin}
+use Rattle.mesa_engine.specs.mesa_ledger.mesa_walk.Printing.{IsPut}
+use Rattle.mesa_engine.specs.mesa_ledger.mesa_walk.Turns.{entry}
+use Rattle.mesa_engine.specs.mesa_ledger.mesa_walk.Walk.{Outset, run_of}
+use Rattle.mesa_engine.proofs.mesa_ledger.mesa_walk.Pinning.{pin_turn}
+use Rattle.mesa_engine.proofs.mesa_ledger.mesa_walk.Turning.{stays}
+use Rattle.mesa_engine.specs.mesa_ledger.Ledger.{Ledger, bare_held, books_of, skeleton_of, skeletons}
+use Rattle.mesa_engine.specs.mesa_ledger.Turned.{pinned_ledger}
+use Rattle.mesa_engine.specs.mesa_ledger.Vault.{Origin, IsVault}
+use Rattle.mesa_engine.proofs.mesa_ledger.Staying.{pinned_vault}
+use Rattle.mesa_engine.specs.mesa_metadata.Memory.{hold_now}
 
 -- ---- results
 
@@ -151,5 +152,5 @@ count_within (c ∷ counts) zero n all = all.0
 count_within (c ∷ counts) (suc place) n all = count_within counts place n all.1
 
 -- a session's next pin has a token of 32 bits
-pub token_fits : (counts : List ℕ) (s n turns : ℕ) → AllByRecursion (λ x. x ≤ n) counts → n < turns → turns ≤ 2 ^ 20 → count_at counts s + 1 < 2 ^ 32
+pub token_fits : (counts : List ℕ) (s n turns : ℕ) → AllByRecursion (λ x. x ≤ n) counts → n < turns → turns ≤ most_turns → count_at counts s + 1 < 2 ^ 32
 token_fits counts s n turns all room few = let within = count_within counts s n all in omega (arith, within, room, few)

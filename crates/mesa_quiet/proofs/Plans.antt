@@ -7,6 +7,7 @@ use Rattle.mesa_asked.specs.declared.failure.Failure.TheVariants as failure
 use Rattle.mesa_disk.specs.Story.{Story}
 use Rattle.mesa_engine.specs.Failing.{is_of_device}
 use Rattle.mesa_list.specs.Checks.{◌>>=◌, ◌>>◌}
+use Rattle.mesa_model.specs.Orders.{order_asked}
 use Rattle.mesa_model.specs.Refusals.{no_such_table, refuse_closed}
 use Rattle.mesa_model.specs.Relations.{Relation, relation_of}
 use Rattle.mesa_model.specs.Versions.{version_asked}
@@ -28,16 +29,16 @@ use Rattle.mesa_output.specs.Output.{block}
 use Rattle.mesa_quiet.specs.Asked.{cause_asked}
 use Rattle.mesa_skeleton.specs.Rows.{Rows}
 use Rattle.mesa_span.specs.Plan.{plan}
-use Rattle.mesa_ledger.specs.mesa_walk.Causes.{told_at}
-use Rattle.mesa_ledger.specs.mesa_walk.Changes.{HasNoPlan, is_plain}
-use Rattle.mesa_ledger.specs.mesa_walk.Printing.{IsPut}
-use Rattle.mesa_ledger.specs.mesa_walk.Turns.{entry}
-use Rattle.mesa_ledger.specs.mesa_walk.Walk.{Outset, run_of}
-use Rattle.mesa_ledger.proofs.mesa_walk.Reading.{explained_turn}
-use Rattle.mesa_ledger.proofs.mesa_walk.Turning.{stays}
-use Rattle.mesa_ledger.specs.Ledger.{Ledger, books_of}
-use Rattle.mesa_ledger.specs.Vault.{Origin, IsVault}
-use Rattle.mesa_ledger.proofs.Staying.{still_vault}
+use Rattle.mesa_engine.specs.mesa_ledger.mesa_walk.Causes.{told_at}
+use Rattle.mesa_engine.specs.mesa_ledger.mesa_walk.Changes.{HasNoPlan, is_plain}
+use Rattle.mesa_engine.specs.mesa_ledger.mesa_walk.Printing.{IsPut}
+use Rattle.mesa_engine.specs.mesa_ledger.mesa_walk.Turns.{entry}
+use Rattle.mesa_engine.specs.mesa_ledger.mesa_walk.Walk.{Outset, run_of}
+use Rattle.mesa_engine.proofs.mesa_ledger.mesa_walk.Reading.{explained_turn}
+use Rattle.mesa_engine.proofs.mesa_ledger.mesa_walk.Turning.{stays}
+use Rattle.mesa_engine.specs.mesa_ledger.Ledger.{Ledger, books_of}
+use Rattle.mesa_engine.specs.mesa_ledger.Vault.{Origin, IsVault}
+use Rattle.mesa_engine.proofs.mesa_ledger.Staying.{still_vault}
 
 -- what is told of a plan is its ranges: no page, no refusal, and nothing that was written
 pub record IsPlanReply (r : Reply) : Type 0 where
@@ -48,15 +49,20 @@ pub record IsPlanReply (r : Reply) : Type 0 where
 pub plan_told : (w : Warehouse) (m : Machine) (words : ExplainWords) (r : Reply) → explained w m words ≡ Ok r → IsPlanReply r
 plan_told w m words r is = by w.closed (ok_or (relation_of w.store words.relation) no_such_table) is
   where
-    at : (relation : Relation) (v : Result ℕ Refusal) → (v >>= (λ version. Ok (reply.Spans (plan (ranges_at m relation.number) version)))) ≡ Ok r → IsPlanReply r
-    at relation (Err x) e = absurd cc
-    at relation (Ok version) e =
-        let same : reply.Spans (plan (ranges_at m relation.number) version) ≡ r = cc in record { plain = ap is_plain (sym same); silent = ap is_written (sym same); granted = ap is_refusal (sym same) }
+    at : (relation : Relation) (order : Option (List ℕ)) (v : Result ℕ Refusal) → (v >>= (λ version. Ok (reply.Spans (plan (ranges_at m relation.number) version) order))) ≡ Ok r → IsPlanReply r
+    at relation order (Err x) e = absurd cc
+    at relation order (Ok version) e =
+        let same : reply.Spans (plan (ranges_at m relation.number) version) order ≡ r = cc in record { plain = ap is_plain (sym same); silent = ap is_written (sym same); granted = ap is_refusal (sym same) }
 
-    by : (o : Option ℕ) (q : Result Relation Refusal) → (refuse_closed o >> (q >>= (λ relation. version_asked w relation.table.oldest words.version >>= (λ version. Ok (reply.Spans (plan (ranges_at m relation.number) version)))))) ≡ Ok r → IsPlanReply r
+    ordered : (relation : Relation) (q : Result (Option (List ℕ)) Refusal) → (q >>= (λ order. version_asked w relation.table.oldest words.version >>= (λ version. Ok (reply.Spans (plan (ranges_at m relation.number) version) order)))) ≡ Ok r → IsPlanReply r
+    ordered relation (Err x) e = absurd cc
+    ordered relation (Ok order) e = at relation order (version_asked w relation.table.oldest words.version) e
+
+    by : (o : Option ℕ) (q : Result Relation Refusal)
+        → (refuse_closed o >> (q >>= (λ relation. order_asked relation words.filter >>= (λ order. version_asked w relation.table.oldest words.version >>= (λ version. Ok (reply.Spans (plan (ranges_at m relation.number) version) order)))))) ≡ Ok r → IsPlanReply r
     by (Some p) q e = absurd cc
     by None (Err x) e = absurd cc
-    by None (Ok relation) e = at relation (version_asked w relation.table.oldest words.version) e
+    by None (Ok relation) e = ordered relation (order_asked relation words.filter) e
 
 -- the vault behind it
 pub explained_vault : (o : Outset) (g : Origin) (sound : Bool) (l : Ledger) (story : Story) (held : Option (List ℕ)) (h : List Entry) (running refused : Bool) → IsVault o g sound l story held h running refused

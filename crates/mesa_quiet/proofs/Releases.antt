@@ -16,18 +16,18 @@ use Rattle.mesa_history.specs.Run.{First}
 use Rattle.mesa_history.specs.Turns.{IsDue}
 use Rattle.mesa_output.specs.Output.{block}
 use Rattle.mesa_skeleton.specs.Rows.{Rows}
-use Rattle.mesa_ledger.specs.mesa_walk.Books.{without_pin}
-use Rattle.mesa_ledger.specs.mesa_walk.Causes.{told_at}
-use Rattle.mesa_ledger.specs.mesa_walk.Changes.{ReleasesPin}
-use Rattle.mesa_ledger.specs.mesa_walk.Printing.{IsPut}
-use Rattle.mesa_ledger.specs.mesa_walk.Turns.{entry}
-use Rattle.mesa_ledger.specs.mesa_walk.Walk.{Outset, run_of}
-use Rattle.mesa_ledger.proofs.mesa_walk.Pinning.{release_turn}
-use Rattle.mesa_ledger.proofs.mesa_walk.Turning.{stays}
-use Rattle.mesa_ledger.specs.Ledger.{HeldPin, Ledger, bare_held, books_of}
-use Rattle.mesa_ledger.specs.Turned.{is_held_pin, released_ledger}
-use Rattle.mesa_ledger.specs.Vault.{Origin, IsVault}
-use Rattle.mesa_ledger.proofs.Staying.{released_vault}
+use Rattle.mesa_engine.specs.mesa_ledger.mesa_walk.Books.{without_pin}
+use Rattle.mesa_engine.specs.mesa_ledger.mesa_walk.Causes.{told_at}
+use Rattle.mesa_engine.specs.mesa_ledger.mesa_walk.Changes.{ReleasesPin}
+use Rattle.mesa_engine.specs.mesa_ledger.mesa_walk.Printing.{IsPut}
+use Rattle.mesa_engine.specs.mesa_ledger.mesa_walk.Turns.{entry}
+use Rattle.mesa_engine.specs.mesa_ledger.mesa_walk.Walk.{Outset, run_of}
+use Rattle.mesa_engine.proofs.mesa_ledger.mesa_walk.Pinning.{release_turn}
+use Rattle.mesa_engine.proofs.mesa_ledger.mesa_walk.Turning.{stays}
+use Rattle.mesa_engine.specs.mesa_ledger.Ledger.{HeldPin, Ledger, bare_held, books_of}
+use Rattle.mesa_engine.specs.mesa_ledger.Turned.{is_held_pin, released_ledger}
+use Rattle.mesa_engine.specs.mesa_ledger.Vault.{Origin, IsVault}
+use Rattle.mesa_engine.proofs.mesa_ledger.Staying.{released_vault}
 
 -- a pin without rows is found exactly where the ledger has it
 found_bare : (s token : ℕ) (pins : List HeldPin) → is_none (find (is_pin s token) (map bare_held pins)) ≡ is_none (find (is_held_pin s token) pins)

@@ -2,7 +2,7 @@
 use Rattle.mesa_asked.specs.declared.failure.Failure.{Failure}
 use Rattle.mesa_asked.specs.declared.failure.Failure.TheVariants as failure
 use Rattle.mesa_model.specs.declared.replies.Reply.TheVariants as reply
-use Rattle.mesa_ledger.specs.mesa_walk.Causes.{Cause, Replies, NoMemory}
+use Rattle.mesa_engine.specs.mesa_ledger.mesa_walk.Causes.{Cause, Replies, NoMemory}
 
 -- The cause that a failure of the rules is.
 abbrev pub cause_asked : Failure → Cause

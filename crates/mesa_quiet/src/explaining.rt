@@ -6,24 +6,21 @@ ghost use Rattle.mesa_history.specs.Replay.{no_rows as no_heading};
 ghost use Rattle.mesa_history.specs.Run.{First, Finished};
 ghost use Rattle.mesa_history.specs.Turns.{IsDue};
 ghost use Rattle.mesa_image.specs.Shape.{IsCatalog};
-ghost use Rattle.mesa_ledger.specs.Ledger.{books_of};
-ghost use Rattle.mesa_log.specs.Failure.{cause_in};
+ghost use Rattle.mesa_engine.specs.mesa_ledger.Ledger.{books_of};
+ghost use Rattle.mesa_engine.specs.mesa_log.Failure.{cause_in};
 ghost use Rattle.mesa_model.specs.declared.commands.Command.TheVariants as command;
 ghost use Rattle.mesa_model.specs.declared.entries.Kind.TheVariants as kind;
 ghost use Rattle.mesa_quiet.specs.Asked.{cause_asked};
 ghost use Rattle.mesa_script.specs.Rows.{body_of};
 ghost use Rattle.mesa_skeleton.specs.Rows.{no_rows};
-ghost use Rattle.mesa_ledger.specs.mesa_walk.Changes.{HasNoPlan};
-ghost use Rattle.mesa_ledger.specs.mesa_walk.Turns.{AnswersDisk, Takes};
-ghost use Rattle.mesa_ledger.specs.mesa_walk.Walk.{run_at};
+ghost use Rattle.mesa_engine.specs.mesa_ledger.mesa_walk.Changes.{HasNoPlan};
+ghost use Rattle.mesa_engine.specs.mesa_ledger.mesa_walk.Turns.{AnswersDisk, Takes};
+ghost use Rattle.mesa_engine.specs.mesa_ledger.mesa_walk.Walk.{run_at};
 
 use crate::spans::lines_of;
 use mesa_disk::{Disk, Made};
-use mesa_engine::Engine;
+use mesa_engine::{Engine, Failure, Metadata, Naming, Who};
 use mesa_io::Sink;
-use mesa_ledger::Naming;
-use mesa_log::{Failure, Who};
-use mesa_metadata::Metadata;
 use mesa_model::{ExplainWords, Kind, Outcome, Refusal, Reply};
 use std::alloc::Global;
 
@@ -64,7 +61,7 @@ fn planned(alloc: Global, metadata: &Metadata, words: &ExplainWords) -> Result<T
     }
 }
 
-/// The turn of an explain: the ranges are told that a query of a relation would read.
+/// The turn of an explain: the ranges are told that a query of a relation would read, and where its filter is named the relation in whose order it would be answered.
 pub fn explain<N: Naming, M: Made, D: Disk<M>, K: Sink>(
     alloc: Global,
     engine: &mut Engine<N, M, D, K>,

@@ -5,17 +5,15 @@ ghost use Rattle.mesa_rules.specs.mesa_catalog.Lookups.{sight_of};
 ghost use Rattle.mesa_history.specs.Run.{First, Looked};
 ghost use Rattle.mesa_model.specs.declared.entries.Kind.TheVariants as kind;
 ghost use Rattle.mesa_skeleton.specs.Rows.{no_rows};
-ghost use Rattle.mesa_ledger.specs.mesa_walk.Sight.{tables_seen};
-ghost use Rattle.mesa_ledger.specs.mesa_walk.Turns as spec;
-ghost use Rattle.mesa_ledger.specs.mesa_walk.Turns.{AnswersDisk, Asks, Takes, is_load};
-ghost use Rattle.mesa_ledger.specs.mesa_walk.Walk.{run_at};
+ghost use Rattle.mesa_engine.specs.mesa_ledger.mesa_walk.Sight.{tables_seen};
+ghost use Rattle.mesa_engine.specs.mesa_ledger.mesa_walk.Turns as spec;
+ghost use Rattle.mesa_engine.specs.mesa_ledger.mesa_walk.Turns.{AnswersDisk, Asks, Takes, is_load};
+ghost use Rattle.mesa_engine.specs.mesa_ledger.mesa_walk.Walk.{run_at};
 
 use mesa_batch::Glance;
 use mesa_disk::{Disk, Made};
-use mesa_engine::Engine;
+use mesa_engine::{Engine, Naming, Who};
 use mesa_io::Sink;
-use mesa_ledger::Naming;
-use mesa_log::Who;
 use mesa_model::{Kind, Outcome};
 use std::alloc::AllocError;
 

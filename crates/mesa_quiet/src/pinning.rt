@@ -2,22 +2,19 @@
 ghost use Rattle.std.specs.Prelude.{◌≡◌, ◌<◌, ℕ, length, IfErr, IfOk, OnOk, None, Err};
 ghost use Rattle.mesa_history.specs.Run.{First, Finished};
 ghost use Rattle.mesa_history.specs.Turns.{IsDue};
-ghost use Rattle.mesa_ledger.specs.Ledger.{books_of};
+ghost use Rattle.mesa_engine.specs.mesa_ledger.Ledger.{books_of};
 ghost use Rattle.mesa_model.specs.Pins.{make_pin};
 ghost use Rattle.mesa_model.specs.declared.commands.Command.TheVariants as command;
 ghost use Rattle.mesa_model.specs.declared.entries.Kind.TheVariants as kind;
 ghost use Rattle.mesa_skeleton.specs.Rows.{no_rows};
-ghost use Rattle.mesa_ledger.specs.mesa_walk.Changes.{MakesPin};
-ghost use Rattle.mesa_ledger.specs.mesa_walk.Turns.{AnswersDisk, Takes};
-ghost use Rattle.mesa_ledger.specs.mesa_walk.Walk.{run_at};
+ghost use Rattle.mesa_engine.specs.mesa_ledger.mesa_walk.Changes.{MakesPin};
+ghost use Rattle.mesa_engine.specs.mesa_ledger.mesa_walk.Turns.{AnswersDisk, Takes};
+ghost use Rattle.mesa_engine.specs.mesa_ledger.mesa_walk.Walk.{run_at};
 
 use mesa_disk::{Disk, Made};
-use mesa_engine::Engine;
+use mesa_engine::{Engine, Failure, Metadata, Naming, Who};
 use mesa_filter::VersionWord;
 use mesa_io::Sink;
-use mesa_ledger::Naming;
-use mesa_log::{Failure, Who};
-use mesa_metadata::Metadata;
 use mesa_model::{Kind, Outcome, Refusal, Reply};
 
 // The version that a pin is made of, or why none is made.

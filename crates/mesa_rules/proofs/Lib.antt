@@ -3,5 +3,6 @@ pub mod Doing
 pub mod Fits
 pub mod Seen
 pub mod Answering
-pub mod Explaining
+pub mod Explained
 pub mod Finding
+pub mod ReadBy

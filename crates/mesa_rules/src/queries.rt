@@ -1,16 +1,13 @@
-// Queries, and what is told of how they would be answered.
-ghost use Rattle.std.specs.Prelude.{◌≡◌, ◌<◌, ℕ, map, Option as AnyOption, Ok, Some, IfOk, IfErr, IfSome, IsOk, length};
+// Queries.
+ghost use Rattle.std.specs.Prelude.{◌≡◌, ◌<◌, ℕ, Option as AnyOption, Ok, Some, IfOk, IfErr, IfSome, IsOk, length};
 ghost use Rattle.mesa_filter.specs.Asked.{asked_of};
 ghost use Rattle.mesa_filter.specs.Query.{IsQueryOf};
 ghost use Rattle.mesa_model.specs.Query.{query_answer};
 ghost use Rattle.mesa_model.specs.Warehouse.{Warehouse};
-ghost use Rattle.mesa_catalog.specs.mesa_history.Machine.{Machine, explained};
-ghost use Rattle.mesa_catalog.specs.mesa_image.Catalog.{ranges_of, stock_at};
-ghost use Rattle.mesa_catalog.specs.mesa_image.Shape.{IsCatalog};
+ghost use Rattle.mesa_catalog.specs.mesa_image.Catalog.{stock_at};
 ghost use Rattle.mesa_catalog.specs.Lookups.{relation_of};
 ghost use Rattle.mesa_asked.specs.Told.{IsDue};
 ghost use Rattle.mesa_rules.specs.Found.{IsAnswered, IsFound, Sees, columns_at, version_in};
-ghost use Rattle.mesa_rules.specs.Seen.{HasCatalog};
 
 use crate::Found;
 use crate::lookups::relation_asked;
@@ -18,10 +15,9 @@ use crate::versions::version_asked;
 use mesa_asked::{Failure, build_query, check_query};
 use mesa_catalog::{Catalog, Relation};
 use mesa_filter::{QueryWords, VersionWord};
-use mesa_list::{Items, TryCopy};
-use mesa_model::{ExplainWords, Refusal, Reply};
+use mesa_list::TryCopy;
+use mesa_model::Refusal;
 use mesa_schema::Schema;
-use mesa_span::plan;
 use std::alloc::{AllocError, Global};
 
 /// What a query asks of the catalogue's tables: the vault's, or a pin's own copy, with the pin's version.
@@ -92,19 +88,4 @@ pub fn relation_schema(catalog: &Catalog, relation: Relation) -> Result<Schema, 
         Some(view) => evolving.view_schema(view),
         None => evolving.present().copy(),
     }
-}
-
-/// The ranges that a query of a relation would read.
-pub fn explain(alloc: Global, catalog: &Catalog, words: &ExplainWords) -> Result<Reply, Failure>
-    requires { IsCatalog catalog.now.catalogue }
-    ensures explained { IfOk result (λ told. (w : Warehouse) (m : Machine) → HasCatalog catalog.now.catalogue w → m.ranges ≡ map ranges_of catalog.now.catalogue.tables → explained w m words.now ≡ Ok told) }
-    ensures refused { IfErr result (λ failure. (w : Warehouse) (m : Machine) → HasCatalog catalog.now.catalogue w → IsDue (explained w m words.now) failure) }
-{
-    let Some(relation) = relation_asked(catalog, words.relation.as_slice()) else {
-        return Err(Failure::Refused(Refusal::NoTable { row: None }));
-    };
-    let version = version_asked(catalog, catalog.oldest(relation.table), words.version)?;
-    let ranges = catalog.ranges(relation.table)?;
-    let spans = plan(alloc, &ranges, version)?;
-    Ok(Reply::Spans(Items::from_vec(spans)))
 }

@@ -1,6 +1,6 @@
 use Rattle.std.proofs.Common.{◌≡◌, ℕ, refl, subst, Option, Ok}
 use Rattle.std.proofs.lemmas.Result.{err_from_is_err_and}
-use Rattle.mesa_ledger.specs.Ledger.{books_of}
+use Rattle.mesa_engine.specs.mesa_ledger.Ledger.{books_of}
 use Rattle.mesa_rules.specs.Found.{IsAnswered, Sees, version_in}
 use Rattle.mesa_skeleton.specs.Rows.{no_rows}
 use Rattle.mesa_asking.proofs.asking.ask.Goals as goal

@@ -5,14 +5,14 @@ use Rattle.mesa_model.specs.Query.{Answer}
 use Rattle.mesa_model.specs.declared.commands.Command.TheVariants as command
 use Rattle.mesa_model.specs.declared.entries.Kind.TheVariants as kind
 use Rattle.mesa_skeleton.specs.Rows.{Rows, no_rows}
-use Rattle.mesa_ledger.specs.Vault.{Starts}
-use Rattle.mesa_ledger.proofs.Beginning.{vault_at_seen}
+use Rattle.mesa_engine.specs.mesa_ledger.Vault.{Starts}
+use Rattle.mesa_engine.proofs.mesa_ledger.Beginning.{vault_at_seen}
 use Rattle.mesa_tasks.specs.GivingBack.{pinned_inputs}
-use Rattle.mesa_ledger.specs.mesa_walk.Printing.{IsPut}
-use Rattle.mesa_ledger.specs.mesa_walk.Queries.{closing_fault}
-use Rattle.mesa_ledger.specs.mesa_walk.Turns.{AnswersDisk, Shown, SomeRose, Takes, faults_of}
-use Rattle.mesa_ledger.specs.mesa_walk.Walk.{Counts, run_at}
-use Rattle.mesa_ledger.proofs.mesa_walk.Faulting.{disk_counted}
+use Rattle.mesa_engine.specs.mesa_ledger.mesa_walk.Printing.{IsPut}
+use Rattle.mesa_engine.specs.mesa_ledger.mesa_walk.Queries.{closing_fault}
+use Rattle.mesa_engine.specs.mesa_ledger.mesa_walk.Turns.{AnswersDisk, Shown, SomeRose, Takes, faults_of}
+use Rattle.mesa_engine.specs.mesa_ledger.mesa_walk.Walk.{Counts, run_at}
+use Rattle.mesa_engine.proofs.mesa_ledger.mesa_walk.Faulting.{disk_counted}
 use Rattle.mesa_engine.specs.Engine.{Standing, IsEngine, starts_of}
 use Rattle.mesa_asking.specs.Closing.{IsPageOf, IsSomePageOf, IsToClose, cause_if, closing_entry, closing_text}
 use Rattle.mesa_asking.proofs.Closes.{closed_engine, closed_takes, closing_answers, given_counts, shows_answer, tells_answer}

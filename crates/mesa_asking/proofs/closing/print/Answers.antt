@@ -1,6 +1,6 @@
 use Rattle.std.proofs.Common.{◌≡◌, [], sym, subst}
 use Rattle.mesa_history.specs.Replay.{no_rows as no_lines}
-use Rattle.mesa_log.proofs.Printing.{no_body}
+use Rattle.mesa_engine.proofs.mesa_log.Printing.{no_body}
 use Rattle.mesa_script.specs.Rows.{body_of}
 use Rattle.mesa_asking.proofs.closing.print.Goals as goal
 

@@ -6,11 +6,11 @@ use Rattle.mesa_asking.proofs.pinning.pin_query.Goals as goal
 use Rattle.mesa_engine.specs.Engine.{Standing, IsEngine, starts_of}
 use Rattle.mesa_history.specs.Run.{First, Finished}
 use Rattle.mesa_history.specs.Turns.{IsDue}
-use Rattle.mesa_ledger.proofs.Beginning.{vault_at_seen}
-use Rattle.mesa_ledger.specs.Ledger.{books_of}
-use Rattle.mesa_ledger.specs.Vault.{Starts, outset_of}
-use Rattle.mesa_log.specs.Failure.{cause_in}
-use Rattle.mesa_metadata.specs.Memory.{Memory}
+use Rattle.mesa_engine.proofs.mesa_ledger.Beginning.{vault_at_seen}
+use Rattle.mesa_engine.specs.mesa_ledger.Ledger.{books_of}
+use Rattle.mesa_engine.specs.mesa_ledger.Vault.{Starts, outset_of}
+use Rattle.mesa_engine.specs.mesa_log.Failure.{cause_in}
+use Rattle.mesa_engine.specs.mesa_metadata.Memory.{Memory}
 use Rattle.mesa_model.specs.Entry.{IsShort}
 use Rattle.mesa_model.specs.declared.commands.Command.TheVariants as command
 use Rattle.mesa_model.specs.declared.entries.Entry.{Entry}
@@ -18,12 +18,12 @@ use Rattle.mesa_model.specs.declared.entries.Kind.TheVariants as kind
 use Rattle.mesa_model.specs.declared.entries.Outcome.TheVariants as outcome
 use Rattle.mesa_pinning.specs.Told.{Tells}
 use Rattle.mesa_skeleton.specs.Rows.{Rows, no_rows}
-use Rattle.mesa_ledger.proofs.mesa_walk.Alike.{due_alike}
-use Rattle.mesa_ledger.proofs.mesa_walk.Faulting.{disk_caused, disk_counted}
-use Rattle.mesa_ledger.specs.mesa_walk.Causes.{Unwritten, outcome_of}
-use Rattle.mesa_ledger.specs.mesa_walk.Queries.{HasNoAnswer, IsOpen}
-use Rattle.mesa_ledger.specs.mesa_walk.Turns.{AnswersDisk, Shown, SomeRose, Takes, entry, faults_of}
-use Rattle.mesa_ledger.specs.mesa_walk.Walk.{run_at}
+use Rattle.mesa_engine.proofs.mesa_ledger.mesa_walk.Alike.{due_alike}
+use Rattle.mesa_engine.proofs.mesa_ledger.mesa_walk.Faulting.{disk_caused, disk_counted}
+use Rattle.mesa_engine.specs.mesa_ledger.mesa_walk.Causes.{Unwritten, outcome_of}
+use Rattle.mesa_engine.specs.mesa_ledger.mesa_walk.Queries.{HasNoAnswer, IsOpen}
+use Rattle.mesa_engine.specs.mesa_ledger.mesa_walk.Turns.{AnswersDisk, Shown, SomeRose, Takes, entry, faults_of}
+use Rattle.mesa_engine.specs.mesa_ledger.mesa_walk.Walk.{run_at}
 
 pub skip-requires-clause-due : goal.skip-requires-clause-due
 skip-requires-clause-due g c κs within w =

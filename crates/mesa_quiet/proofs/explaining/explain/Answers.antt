@@ -8,16 +8,16 @@ use Rattle.mesa_model.specs.declared.commands.Command.TheVariants as command
 use Rattle.mesa_model.specs.declared.entries.Entry.{Entry}
 use Rattle.mesa_model.specs.declared.entries.Kind.TheVariants as kind
 use Rattle.mesa_model.specs.declared.entries.Outcome.TheVariants as outcome
-use Rattle.mesa_ledger.specs.Vault.{Starts, outset_of}
-use Rattle.mesa_ledger.proofs.Beginning.{vault_at_seen}
-use Rattle.mesa_log.specs.Printing.{PrintsBlock}
+use Rattle.mesa_engine.specs.mesa_ledger.Vault.{Starts, outset_of}
+use Rattle.mesa_engine.proofs.mesa_ledger.Beginning.{vault_at_seen}
+use Rattle.mesa_engine.specs.mesa_log.Printing.{PrintsBlock}
 use Rattle.mesa_skeleton.specs.Rows.{no_rows}
-use Rattle.mesa_ledger.specs.mesa_walk.Causes.{told_at}
-use Rattle.mesa_ledger.specs.mesa_walk.Turns.{AnswersDisk, Shown, Takes, entry}
-use Rattle.mesa_ledger.specs.mesa_walk.Walk.{run_at}
-use Rattle.mesa_ledger.proofs.mesa_walk.Alike.{due_alike}
-use Rattle.mesa_ledger.proofs.mesa_walk.Faulting.{disk_never}
-use Rattle.mesa_ledger.proofs.mesa_walk.Going.{simple_takes}
+use Rattle.mesa_engine.specs.mesa_ledger.mesa_walk.Causes.{told_at}
+use Rattle.mesa_engine.specs.mesa_ledger.mesa_walk.Turns.{AnswersDisk, Shown, Takes, entry}
+use Rattle.mesa_engine.specs.mesa_ledger.mesa_walk.Walk.{run_at}
+use Rattle.mesa_engine.proofs.mesa_ledger.mesa_walk.Alike.{due_alike}
+use Rattle.mesa_engine.proofs.mesa_ledger.mesa_walk.Faulting.{disk_never}
+use Rattle.mesa_engine.proofs.mesa_ledger.mesa_walk.Going.{simple_takes}
 use Rattle.mesa_engine.specs.Engine.{Standing, IsEngine, starts_of}
 use Rattle.mesa_engine.proofs.Turning.{told_engine}
 use Rattle.mesa_quiet.proofs.Plans.{explained_vault}

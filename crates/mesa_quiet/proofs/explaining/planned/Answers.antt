@@ -1,9 +1,9 @@
 use Rattle.std.proofs.Common.{map, sym, ◌∙◌, ap, subst}
 use Rattle.mesa_engine.specs.Failing.{is_of_device}
 use Rattle.mesa_image.specs.Catalog.{Catalog, ranges_of}
-use Rattle.mesa_ledger.specs.Ledger.{books_of}
+use Rattle.mesa_engine.specs.mesa_ledger.Ledger.{books_of}
 use Rattle.mesa_skeleton.specs.Rows.{no_rows}
-use Rattle.mesa_ledger.specs.mesa_walk.Changes.{HasNoPlan}
+use Rattle.mesa_engine.specs.mesa_ledger.mesa_walk.Changes.{HasNoPlan}
 use Rattle.mesa_quiet.proofs.Pins.{catalog_there}
 use Rattle.mesa_quiet.proofs.Plans.{no_device, no_plan, plan_told}
 use Rattle.mesa_quiet.proofs.explaining.planned.Goals as goal

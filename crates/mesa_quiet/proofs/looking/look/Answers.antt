@@ -2,7 +2,7 @@ use Rattle.std.proofs.Common.{◌≡◌, [], ◌∷◌, ◌++◌, Bool, true, fa
 use Rattle.std.specs.Prelude.{IfOk}
 use Rattle.mesa_batch.specs.Glance.{Sight, tables_of}
 use Rattle.mesa_rules.specs.mesa_catalog.Lookups.{sight_of}
-use Rattle.mesa_ledger.specs.mesa_walk.Sight.{tables_seen}
+use Rattle.mesa_engine.specs.mesa_ledger.mesa_walk.Sight.{tables_seen}
 use Rattle.mesa_engine.proofs.Seeing.{ok_also, tables_are_seen}
 use Rattle.mesa_history.specs.Counting.{answers_disk}
 use Rattle.mesa_history.specs.Replay.{closes}
@@ -12,15 +12,15 @@ use Rattle.mesa_model.specs.Entry.{IsShort}
 use Rattle.mesa_model.specs.declared.commands.Command.TheVariants as command
 use Rattle.mesa_model.specs.declared.entries.Entry.{Entry}
 use Rattle.mesa_model.specs.declared.entries.Kind.TheVariants as kind
-use Rattle.mesa_ledger.specs.Vault.{Starts, outset_of}
-use Rattle.mesa_ledger.proofs.Beginning.{vault_at_seen}
+use Rattle.mesa_engine.specs.mesa_ledger.Vault.{Starts, outset_of}
+use Rattle.mesa_engine.proofs.mesa_ledger.Beginning.{vault_at_seen}
 use Rattle.mesa_skeleton.specs.Rows.{no_rows}
-use Rattle.mesa_ledger.specs.mesa_walk.Turns.{AnswersDisk, Asks, Shown, Takes, entry, is_load, looking}
-use Rattle.mesa_ledger.specs.mesa_walk.Undamaged.{is_damaged}
-use Rattle.mesa_ledger.specs.mesa_walk.Walk.{run_at}
-use Rattle.mesa_ledger.proofs.mesa_walk.Alike.{due_alike}
-use Rattle.mesa_ledger.proofs.mesa_walk.Faulting.{disk_never}
-use Rattle.mesa_ledger.proofs.mesa_walk.Going.{look_takes}
+use Rattle.mesa_engine.specs.mesa_ledger.mesa_walk.Turns.{AnswersDisk, Asks, Shown, Takes, entry, is_load, looking}
+use Rattle.mesa_engine.specs.mesa_ledger.mesa_walk.Undamaged.{is_damaged}
+use Rattle.mesa_engine.specs.mesa_ledger.mesa_walk.Walk.{run_at}
+use Rattle.mesa_engine.proofs.mesa_ledger.mesa_walk.Alike.{due_alike}
+use Rattle.mesa_engine.proofs.mesa_ledger.mesa_walk.Faulting.{disk_never}
+use Rattle.mesa_engine.proofs.mesa_ledger.mesa_walk.Going.{look_takes}
 use Rattle.mesa_engine.specs.Engine.{Standing, IsEngine, starts_of}
 use Rattle.mesa_engine.proofs.Turning.{passed_engine}
 use Rattle.mesa_quiet.proofs.Looks.{load_of, looked_vault, skips}
