@@ -8,27 +8,27 @@ use Rattle.mesa_history.specs.Refused.{is_refusal}
 use Rattle.mesa_history.specs.Run.{Renewed, Finished}
 use Rattle.mesa_history.specs.Turns.{IsDue}
 use Rattle.mesa_lease.specs.Book.{ended}
-use Rattle.mesa_ledger.specs.Ledger.{Ledger, books_of}
-use Rattle.mesa_ledger.specs.Vault.{Starts, IsVault, outset_of}
-use Rattle.mesa_ledger.proofs.Staying.{leased_vault, still_vault}
-use Rattle.mesa_ledger.proofs.Swapping.{ended_granted}
-use Rattle.mesa_log.specs.declared.log.Log.{Log}
-use Rattle.mesa_log.specs.Printing.{PrintsBlock}
-use Rattle.mesa_metadata.specs.Memory.{Memory, with_ledger}
+use Rattle.mesa_engine.specs.mesa_ledger.Ledger.{Ledger, books_of}
+use Rattle.mesa_engine.specs.mesa_ledger.Vault.{Starts, IsVault, outset_of}
+use Rattle.mesa_engine.proofs.mesa_ledger.Staying.{leased_vault, still_vault}
+use Rattle.mesa_engine.proofs.mesa_ledger.Swapping.{ended_granted}
+use Rattle.mesa_engine.specs.mesa_log.declared.log.Log.{Log}
+use Rattle.mesa_engine.specs.mesa_log.Printing.{PrintsBlock}
+use Rattle.mesa_engine.specs.mesa_metadata.Memory.{Memory, with_ledger}
 use Rattle.mesa_model.specs.declared.commands.Command.TheVariants as command
 use Rattle.mesa_model.specs.declared.commands.WorkWords.{WorkWords}
 use Rattle.mesa_model.specs.declared.entries.Entry.{Entry}
 use Rattle.mesa_model.specs.declared.entries.Kind.TheVariants as kind
 use Rattle.mesa_output.specs.Output.{block}
 use Rattle.mesa_skeleton.specs.Rows.{Rows, no_rows}
-use Rattle.mesa_ledger.specs.mesa_walk.Causes.{Cause, outcome_of, reply_of, told_at}
-use Rattle.mesa_ledger.specs.mesa_walk.Printing.{IsPut}
-use Rattle.mesa_ledger.specs.mesa_walk.Turns.{Shown, IsSeen, Takes, entry}
-use Rattle.mesa_ledger.specs.mesa_walk.Undamaged.{is_damaged}
-use Rattle.mesa_ledger.specs.mesa_walk.Walk.{run_at, run_of}
-use Rattle.mesa_ledger.proofs.mesa_walk.Going.{complete_takes}
-use Rattle.mesa_ledger.proofs.mesa_walk.Turning.{counts_same, stays}
-use Rattle.mesa_ledger.proofs.mesa_walk.Working.{lost_turn, starved_turn}
+use Rattle.mesa_engine.specs.mesa_ledger.mesa_walk.Causes.{Cause, outcome_of, reply_of, told_at}
+use Rattle.mesa_engine.specs.mesa_ledger.mesa_walk.Printing.{IsPut}
+use Rattle.mesa_engine.specs.mesa_ledger.mesa_walk.Turns.{Shown, IsSeen, Takes, entry}
+use Rattle.mesa_engine.specs.mesa_ledger.mesa_walk.Undamaged.{is_damaged}
+use Rattle.mesa_engine.specs.mesa_ledger.mesa_walk.Walk.{run_at, run_of}
+use Rattle.mesa_engine.proofs.mesa_ledger.mesa_walk.Going.{complete_takes}
+use Rattle.mesa_engine.proofs.mesa_ledger.mesa_walk.Turning.{counts_same, stays}
+use Rattle.mesa_engine.proofs.mesa_ledger.mesa_walk.Working.{lost_turn, starved_turn}
 use Rattle.mesa_engine.specs.Engine.{IsEngine}
 use Rattle.mesa_engine.proofs.Turning.{told_engine}
 use Rattle.mesa_engine.proofs.Undone.{not_skipped}
@@ -48,10 +48,10 @@ module _ (n : Starts) (w : Rows) (sound : Bool) (l : Ledger) (story : Story) (he
       → IsVault (outset_of n w) (n.origin w) sound (unswapped_ledger e claim.table claim.lease l) story new_held (h ++ entry s number kind.Close (outcome_of (cause_met e)) m ∷ []) now (refused || is_refusal (reply_of (cause_met e)))
   unswapped_vault (why.Refused x) has put =
       still_vault (outset_of n w) (n.origin w) sound l story held h running refused v (entry s number kind.Close (outcome_of (cause_met (why.Refused x))) m) story new_held now (refused || true) (stays story)
-      (lost_turn (outset_of n w) sound (books_of v.rows l) story held h running refused v.walk s number low few words m ran at place moment story (stays story) claim due x has (counts_same story) now new_held put)
+      (lost_turn (outset_of n w) sound (books_of v.rows l) story held h running refused v.walk s number low few (command.Work words) refl m ran at place moment story (stays story) claim due x has (counts_same story) now new_held put)
   unswapped_vault why.Memory has put =
       leased_vault (outset_of n w) (n.origin w) sound l story held h running refused v (entry s number kind.Close (outcome_of (cause_met why.Memory)) m) story new_held now (refused || true) (stays story) (ended claim.table claim.lease l.leases) few_granted
-      (starved_turn (outset_of n w) sound (books_of v.rows l) story held h running refused v.walk s number low few words m ran at place moment story (stays story) claim due has (counts_same story) now new_held put)
+      (starved_turn (outset_of n w) sound (books_of v.rows l) story held h running refused v.walk s number low few (command.Work words) refl m ran at place moment story (stays story) claim due has (counts_same story) now new_held put)
 
 -- no damage keeps a range from being swapped in
 refused_undamaged : (e : Unswapped) → is_damaged (outcome_of (cause_met e)) ≡ false

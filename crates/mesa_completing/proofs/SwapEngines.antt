@@ -22,21 +22,21 @@ use Rattle.mesa_history.specs.Turns.{IsDue}
 use Rattle.mesa_record.specs.Reading.{record_at}
 use Rattle.mesa_record.specs.Rules.{IsTyped}
 use Rattle.mesa_image.specs.Catalog.{applied}
-use Rattle.mesa_ledger.specs.mesa_image_laws.Ids.{dropped_ids}
-use Rattle.mesa_metadata.specs.mesa_catalog.Lookups.{generation_of, turns_generation}
+use Rattle.mesa_engine.specs.mesa_ledger.mesa_image_laws.Ids.{dropped_ids}
+use Rattle.mesa_engine.specs.mesa_metadata.mesa_catalog.Lookups.{generation_of, turns_generation}
 use Rattle.mesa_script.specs.Rows.{body_of}
 use Rattle.mesa_skeleton.specs.Rows.{Rows, no_rows}
 use Rattle.mesa_tasks.specs.declared.merging.Task.{Task}
-use Rattle.mesa_ledger.specs.mesa_walk.Causes.{Unwritten, reply_of, told_at}
-use Rattle.mesa_ledger.specs.mesa_walk.Turns.{entry}
-use Rattle.mesa_ledger.specs.mesa_walk.Walk.{Counts, run_at}
-use Rattle.mesa_ledger.proofs.mesa_walk.Working.{checked_open}
-use Rattle.mesa_ledger.specs.Ledger.{books_of, first_id, next_id, past_id}
-use Rattle.mesa_ledger.specs.Recorded.{failed_ledger, left_by, recorded_ledger, removed_by}
-use Rattle.mesa_ledger.specs.Vault.{IsReady, IsVault, Starts, outset_of, written_by}
-use Rattle.mesa_log.specs.declared.log.Log.{Log}
-use Rattle.mesa_log.specs.Printing.{PrintsBlock}
-use Rattle.mesa_metadata.specs.Memory.{Memory}
+use Rattle.mesa_engine.specs.mesa_ledger.mesa_walk.Causes.{Unwritten, reply_of, told_at}
+use Rattle.mesa_engine.specs.mesa_ledger.mesa_walk.Turns.{entry}
+use Rattle.mesa_engine.specs.mesa_ledger.mesa_walk.Walk.{Counts, run_at}
+use Rattle.mesa_engine.proofs.mesa_ledger.mesa_walk.Working.{checked_open}
+use Rattle.mesa_engine.specs.mesa_ledger.Ledger.{books_of, first_id, next_id, past_id}
+use Rattle.mesa_engine.specs.mesa_ledger.Recorded.{failed_ledger, left_by, recorded_ledger, removed_by}
+use Rattle.mesa_engine.specs.mesa_ledger.Vault.{IsReady, IsVault, Starts, outset_of, written_by}
+use Rattle.mesa_engine.specs.mesa_log.declared.log.Log.{Log}
+use Rattle.mesa_engine.specs.mesa_log.Printing.{PrintsBlock}
+use Rattle.mesa_engine.specs.mesa_metadata.Memory.{Memory}
 use Rattle.mesa_engine.specs.Engine.{IsEngine}
 use Rattle.mesa_engine.proofs.Turning.{told_engine}
 use Rattle.mesa_swapping.specs.mesa_publishing.Published.{AllTell}

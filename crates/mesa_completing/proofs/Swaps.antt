@@ -18,6 +18,7 @@ use Rattle.mesa_model.specs.declared.entries.Kind.TheVariants as kind
 use Rattle.mesa_model.specs.declared.entries.Outcome.TheVariants as outcome
 use Rattle.mesa_history.specs.Machine.{Claim, claim_checked, swapped_reply}
 use Rattle.mesa_history.specs.Run.{Renewed}
+use Rattle.mesa_history.specs.Sources.{Written}
 use Rattle.mesa_history.specs.Turns.{IsDue}
 use Rattle.mesa_record.specs.Reading.{record_at}
 use Rattle.mesa_record.specs.Rules.{IsTyped, keeps_rules}
@@ -27,17 +28,19 @@ use Rattle.mesa_image.specs.Contents.{kept_of}
 use Rattle.mesa_image.specs.Fitting.{Shelved, brought, fits, shelved, shelved_id}
 use Rattle.mesa_image.specs.Held.{IsHeld, IsUnnamed}
 use Rattle.mesa_image.specs.Sound.{AreStocked, StandsFor, wants}
-use Rattle.mesa_ledger.proofs.mesa_image_laws.Agreeing.{agree_stocked, agree_wants}
-use Rattle.mesa_ledger.proofs.mesa_image_laws.AllSourced.{agree_sourced, merge_written, swap_replaces, swap_sourced}
-use Rattle.mesa_ledger.proofs.mesa_image_laws.Ids.{own_ids}
-use Rattle.mesa_ledger.proofs.mesa_image_laws.Moving.{kind_of, swap_step}
-use Rattle.mesa_ledger.proofs.mesa_image_laws.Swapping.{swap_there, swap_within}
-use Rattle.mesa_ledger.proofs.mesa_image_laws.Wholes.{fits_shaped}
-use Rattle.mesa_ledger.specs.mesa_image_laws.Brought.{AreTold, Replaces, merged_of}
-use Rattle.mesa_ledger.specs.mesa_image_laws.Ids.{brought_ids, dropped_ids, named}
-use Rattle.mesa_ledger.specs.mesa_image_laws.Moves.{Moves, first_of, is_base, kept_swapped, last_of, work_of}
-use Rattle.mesa_ledger.specs.mesa_image_laws.Sourced.{HasSources, IsMadeOf, Written}
-use Rattle.mesa_metadata.specs.mesa_catalog.Lookups.{generation_of, turns_generation}
+use Rattle.mesa_engine.proofs.mesa_ledger.mesa_image_laws.Agreeing.{agree_stocked, agree_wants}
+use Rattle.mesa_engine.proofs.mesa_ledger.mesa_image_laws.AllSourced.{agree_sourced, merge_written, swap_replaces, swap_sourced}
+use Rattle.mesa_engine.proofs.mesa_ledger.mesa_image_laws.CountedRecords.{fits_counted}
+use Rattle.mesa_engine.proofs.mesa_ledger.mesa_image_laws.Ids.{own_ids}
+use Rattle.mesa_engine.proofs.mesa_ledger.mesa_image_laws.Recordable.{applied_recordable}
+use Rattle.mesa_engine.proofs.mesa_ledger.mesa_image_laws.Moving.{kind_of, swap_step}
+use Rattle.mesa_engine.proofs.mesa_ledger.mesa_image_laws.Swapping.{swap_there, swap_within}
+use Rattle.mesa_engine.proofs.mesa_ledger.mesa_image_laws.Wholes.{fits_shaped}
+use Rattle.mesa_engine.specs.mesa_ledger.mesa_image_laws.Brought.{AreTold, Replaces, merged_of}
+use Rattle.mesa_engine.specs.mesa_ledger.mesa_image_laws.Ids.{brought_ids, dropped_ids, named}
+use Rattle.mesa_engine.specs.mesa_ledger.mesa_image_laws.Moves.{Moves, first_of, is_base, kept_swapped, last_of, work_of}
+use Rattle.mesa_engine.specs.mesa_ledger.mesa_image_laws.Sourced.{HasSources, IsMadeOf}
+use Rattle.mesa_engine.specs.mesa_metadata.mesa_catalog.Lookups.{generation_of, turns_generation}
 use Rattle.mesa_store.specs.Store.{Writes as IsWritten}
 use Rattle.mesa_output.specs.Output.{block}
 use Rattle.mesa_skeleton.specs.Rows.{Rows, no_rows}
@@ -45,22 +48,22 @@ use Rattle.mesa_trash.proofs.Filing.{freed_unnamed}
 use Rattle.mesa_trash.specs.Filed.{Renames}
 use Rattle.mesa_trash.specs.Holding.{Among, freed, ids_of}
 use Rattle.mesa_tasks.specs.declared.merging.Task.{Task}
-use Rattle.mesa_ledger.specs.mesa_walk.Causes.{Unwritten, reply_of, told_at}
-use Rattle.mesa_ledger.specs.mesa_walk.Printing.{IsPut}
-use Rattle.mesa_ledger.specs.mesa_walk.Turns.{entry}
-use Rattle.mesa_ledger.specs.mesa_walk.Walk.{Counts, Passes, StandsForEither, Writes, run_of}
-use Rattle.mesa_ledger.specs.mesa_walk.Works.{Swaps}
-use Rattle.mesa_ledger.proofs.mesa_walk.Working.{checked_open}
-use Rattle.mesa_ledger.specs.Ledger.{Ledger, books_of, first_id, holders, ids_held, next_id}
-use Rattle.mesa_ledger.specs.Recorded.{IsRecorded, failed_ledger, left_by, recorded_ledger, removed_by, waiting}
-use Rattle.mesa_ledger.specs.Vault.{IsVault, Starts, outset_of, written_by}
-use Rattle.mesa_ledger.proofs.Agreeing.{named_agree, same_kept}
-use Rattle.mesa_ledger.proofs.Filing.{filed_moved, holds_are}
-use Rattle.mesa_ledger.proofs.Recording.{Clears, clears_freed}
-use Rattle.mesa_ledger.proofs.Renaming.{record_brings, record_renames}
-use Rattle.mesa_ledger.proofs.Sources.{sources_stay}
-use Rattle.mesa_ledger.proofs.Swapping.{swap_accepts, swap_is, swapped_as}
-use Rattle.mesa_ledger.proofs.Writing.{swapped_vault, unswapped_vault}
+use Rattle.mesa_engine.specs.mesa_ledger.mesa_walk.Causes.{Unwritten, reply_of, told_at}
+use Rattle.mesa_engine.specs.mesa_ledger.mesa_walk.Printing.{IsPut}
+use Rattle.mesa_engine.specs.mesa_ledger.mesa_walk.Turns.{entry}
+use Rattle.mesa_engine.specs.mesa_ledger.mesa_walk.Walk.{Counts, Passes, StandsForEither, Writes, run_of}
+use Rattle.mesa_engine.specs.mesa_ledger.mesa_walk.Works.{Swaps}
+use Rattle.mesa_engine.proofs.mesa_ledger.mesa_walk.Working.{checked_open}
+use Rattle.mesa_engine.specs.mesa_ledger.Ledger.{Ledger, books_of, first_id, holders, ids_held, next_id}
+use Rattle.mesa_engine.specs.mesa_ledger.Recorded.{IsRecorded, failed_ledger, left_by, recorded_ledger, removed_by, waiting}
+use Rattle.mesa_engine.specs.mesa_ledger.Vault.{IsVault, Starts, outset_of, written_by}
+use Rattle.mesa_engine.proofs.mesa_ledger.Agreeing.{named_agree, same_kept}
+use Rattle.mesa_engine.proofs.mesa_ledger.Filing.{filed_moved, holds_are}
+use Rattle.mesa_engine.proofs.mesa_ledger.Recording.{Clears, clears_freed}
+use Rattle.mesa_engine.proofs.mesa_ledger.Renaming.{record_brings, record_renames}
+use Rattle.mesa_engine.proofs.mesa_ledger.Sources.{sources_stay}
+use Rattle.mesa_engine.proofs.mesa_ledger.Swapping.{swap_is, swap_leaves, swapped_as}
+use Rattle.mesa_engine.proofs.mesa_ledger.Writing.{swapped_vault, unswapped_vault}
 use Rattle.mesa_swapping.specs.mesa_publishing.Published.{AllTell, rows_with}
 use Rattle.mesa_swapping.specs.Finished.{HasRange}
 use Rattle.mesa_swapping.specs.Swapped.{IsSwapped, delta_of, swap_of}
@@ -75,11 +78,11 @@ work_same (range_of.Cumulative from to) = refl
 
 -- ---- ids
 
-all_among : (P : ℕ → Type 0) (ids : List ℕ) → ((id : ℕ) → Among id ids → P id) → AllByRecursion P ids
+pub all_among : (P : ℕ → Type 0) (ids : List ℕ) → ((id : ℕ) → Among id ids → P id) → AllByRecursion P ids
 all_among P [] each = tt
 all_among P (x ∷ ids) each = (each x (inl refl), all_among P ids (λ id is. each id (inr is)))
 
-not_among : (id : ℕ) (files : List Shelved) → (Among id (map shelved_id files) → ⊥) → AllByRecursion (λ (x : Shelved). x.file.id ≡ id → ⊥) files
+pub not_among : (id : ℕ) (files : List Shelved) → (Among id (map shelved_id files) → ⊥) → AllByRecursion (λ (x : Shelved). x.file.id ≡ id → ⊥) files
 not_among id [] none = tt
 not_among id (x ∷ files) none = (λ same. none (inl same), not_among id files (λ is. none (inr is)))
 
@@ -149,6 +152,8 @@ module _ (n : Starts) (w : Rows) (sound : Bool) (l : Ledger) (story : Story) (he
     brings = record_brings c r rules fit v.own made ids;
     shaped = fits_shaped c r v.shaped (subst IsTyped is.entry typed) fit;
     own = own_ids c r rules fit v.own;
+    columns = fits_counted c r v.shaped v.columns fit;
+    recordable = applied_recordable c r (record { typed = subst IsTyped is.entry typed; rules = rules }) v.recordable;
   }
 
   -- the files go that no hold is on, and the others wait
@@ -208,8 +213,8 @@ module _ (n : Starts) (w : Rows) (sound : Bool) (l : Ledger) (story : Story) (he
 
   module _ (new : Story) (m : ℕ) (moment : m ≡ new.moment) (passes : Passes story new) (only : Steps (MovesOnly made removed) story.told new.told) (now : Bool) (new_held : Option (List ℕ))
       (writes : IsTrue sound → Writes StandsFor story new (kept_of v.rows l.catalogue) (kept_of later (applied c r))) (end : ℕ) where
-    swaps : Swaps sound (books_of v.rows l) claim (kept_of later (applied c r))
-    swaps = swap_is (outset_of n w) (n.origin w) sound l story held h running refused v later agree claim (is_base t.work) (first_of t.work) (last_of t.work) t.epoch is.refs (work_same t.work)
+    swaps : Swaps sound (books_of v.rows l) claim t.work (kept_of later (applied c r))
+    swaps = swap_is (outset_of n w) (n.origin w) sound l story held h running refused v later agree claim t.work (is_base t.work) (first_of t.work) (last_of t.work) t.epoch is.refs (work_same t.work)
         (swap_within c t.table (is_base t.work) (first_of t.work) (last_of t.work) t.epoch is.refs (kind_of c r fit)) replaces
 
     abbrev after : Ledger
@@ -220,18 +225,18 @@ module _ (n : Starts) (w : Rows) (sound : Bool) (l : Ledger) (story : Story) (he
         → IsVault (outset_of n w) (n.origin w) sound after new new_held (h ++ entry session number kind.Close outcome.Stands m ∷ []) now (refused || false)
     stands_so counts bodies holds gone_now long rises put =
         swapped_vault n w sound l story held h running refused v session number low few m ran at place opened later (applied c r) made gone s.adopted is.adopts recorded (left_by l (length h) gone) removed clears new moment passes only writes now new_held
-        words claim due checked (generation_of (applied c r)) end swaps
-        (swapped_as (outset_of n w) (n.origin w) sound l story held h running refused v later agree claim (is_base t.work) (first_of t.work) (last_of t.work) t.epoch is.refs (work_same t.work) (generation_of (applied c r)) (left_by l (length h) gone) s.adopted end)
+        words claim t.work refl due checked (generation_of (applied c r)) end swaps
+        (swapped_as (outset_of n w) (n.origin w) sound l story held h running refused v later agree claim t.work (is_base t.work) (first_of t.work) (last_of t.work) t.epoch is.refs (work_same t.work) (generation_of (applied c r)) (left_by l (length h) gone) s.adopted end)
         counts bodies holds gone_now (λ ok. (moves ok).stocked) long (omega (arith, rises))
-        (λ told ok. sources_stay (outset_of n w) (n.origin w) sound l story held h running refused v later agree (entry session number kind.Close outcome.Stands m) _ (swapped_reply t.work) told (swap_accepts t.work) (applied c r)
+        (λ told ok. sources_stay (outset_of n w) (n.origin w) sound l story held h running refused v later agree (entry session number kind.Close outcome.Stands m) _ (swapped_reply t.work) told (swap_leaves t.work) (applied c r)
         (λ has. swap_sourced later written c v.shaped has t.table (is_base t.work) (first_of t.work) (last_of t.work) t.epoch is.refs fit (made_of ok)) ok) put
 
     fails_so : Counts story new true → IsPut (block (entry session number kind.Close outcome.WriteFault m) (Some (told_at at (reply_of Unwritten)))) now held new_held
         → IsVault (outset_of n w) (n.origin w) sound (failed_ledger l at (ended t.table t.lease l.leases) s.adopted) new new_held (h ++ entry session number kind.Close outcome.WriteFault m ∷ []) now (refused || true)
     fails_so counts put =
         unswapped_vault n w sound l story held h running refused v session number low few m ran at place opened later (applied c r) made gone s.adopted is.adopts recorded (left_by l (length h) gone) removed clears new moment passes only writes now new_held
-        words claim due checked (generation_of (applied c r)) end swaps
-        (swapped_as (outset_of n w) (n.origin w) sound l story held h running refused v later agree claim (is_base t.work) (first_of t.work) (last_of t.work) t.epoch is.refs (work_same t.work) (generation_of (applied c r)) (left_by l (length h) gone) s.adopted end)
+        words claim t.work refl due checked (generation_of (applied c r)) end swaps
+        (swapped_as (outset_of n w) (n.origin w) sound l story held h running refused v later agree claim t.work (is_base t.work) (first_of t.work) (last_of t.work) t.epoch is.refs (work_same t.work) (generation_of (applied c r)) (left_by l (length h) gone) s.adopted end)
         counts put
 
 -- ---- on every store

@@ -3,12 +3,12 @@ use Rattle.std.proofs.Common.{◌≡◌, ⊎_elim, inl, inr, ℕ, List, ◌∷�
 use Rattle.std.specs.Prelude.{filter}
 use Rattle.std.specs.List.{AllByRecursion}
 use Rattle.mesa_disk.specs.Story.{Story}
-use Rattle.mesa_ledger.specs.mesa_image_laws.Ids.{named}
-use Rattle.mesa_ledger.specs.Ledger.{Ledger, holders, ids_held, next_id}
-use Rattle.mesa_ledger.specs.Recorded.{holds_in}
-use Rattle.mesa_ledger.specs.Vault.{Origin, IsVault}
-use Rattle.mesa_ledger.specs.mesa_walk.Walk.{Outset}
-use Rattle.mesa_ledger.proofs.Filing.{holds_are}
+use Rattle.mesa_engine.specs.mesa_ledger.mesa_image_laws.Ids.{named}
+use Rattle.mesa_engine.specs.mesa_ledger.Ledger.{Ledger, holders, ids_held, next_id}
+use Rattle.mesa_engine.specs.mesa_ledger.Recorded.{holds_in}
+use Rattle.mesa_engine.specs.mesa_ledger.Vault.{Origin, IsVault}
+use Rattle.mesa_engine.specs.mesa_ledger.mesa_walk.Walk.{Outset}
+use Rattle.mesa_engine.proofs.mesa_ledger.Filing.{holds_are}
 use Rattle.mesa_model.specs.declared.entries.Entry.{Entry}
 use Rattle.mesa_trash.specs.declared.trash.Dropped.{Dropped}
 use Rattle.mesa_trash.specs.Holding.{Among, IsHad, ids_of, kept}

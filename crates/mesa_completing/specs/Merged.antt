@@ -2,11 +2,11 @@
 use Rattle.std.specs.Prelude.{◌≡◌, ℕ, None, Err}
 use Rattle.mesa_history.specs.Machine.{Claim, claim_checked}
 use Rattle.mesa_lease.specs.Book.{ended}
-use Rattle.mesa_ledger.specs.Ledger.{Ledger}
-use Rattle.mesa_ledger.specs.Turned.{leased_ledger}
+use Rattle.mesa_engine.specs.mesa_ledger.Ledger.{Ledger}
+use Rattle.mesa_engine.specs.mesa_ledger.Turned.{leased_ledger}
 use Rattle.mesa_model.specs.declared.replies.Reply.TheVariants as reply
-use Rattle.mesa_ledger.specs.mesa_walk.Books.{Books}
-use Rattle.mesa_ledger.specs.mesa_walk.Causes.{Cause, Replies, NoMemory}
+use Rattle.mesa_engine.specs.mesa_ledger.mesa_walk.Books.{Books}
+use Rattle.mesa_engine.specs.mesa_ledger.mesa_walk.Causes.{Cause, Replies, NoMemory}
 use Rattle.mesa_completing.specs.declared.completing.Unswapped.{Unswapped}
 use Rattle.mesa_completing.specs.declared.completing.Unswapped.TheVariants as why
 

@@ -2,9 +2,9 @@
 use Rattle.std.specs.Prelude.{◌≡◌, ◌⊎◌, ℕ, List, map, Option, None, Some}
 use Rattle.mesa_disk.specs.Image.{Image, file_of}
 use Rattle.mesa_image.specs.Catalog.{Catalog}
-use Rattle.mesa_ledger.specs.mesa_image_laws.Ids.{named}
-use Rattle.mesa_ledger.specs.Ledger.{Ledger, holders, ids_held}
-use Rattle.mesa_ledger.specs.Vault.{IsFiled}
+use Rattle.mesa_engine.specs.mesa_ledger.mesa_image_laws.Ids.{named}
+use Rattle.mesa_engine.specs.mesa_ledger.Ledger.{Ledger, holders, ids_held}
+use Rattle.mesa_engine.specs.mesa_ledger.Vault.{IsFiled}
 use Rattle.mesa_model.specs.declared.entries.Entry.{Entry}
 use Rattle.mesa_trash.specs.Holding.{Among, IsHad}
 

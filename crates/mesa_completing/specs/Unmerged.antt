@@ -5,12 +5,12 @@ use Rattle.mesa_delta.specs.declared.error.FileError.TheVariants as file_error
 use Rattle.mesa_model.specs.declared.replies.Refusal.TheVariants as no
 use Rattle.mesa_model.specs.declared.replies.Reply.TheVariants as reply
 use Rattle.mesa_output.specs.Output.{IsDamage}
-use Rattle.mesa_ledger.specs.Ledger.{Ledger}
-use Rattle.mesa_ledger.specs.Turned.{closed_ledger, leased_ledger}
+use Rattle.mesa_engine.specs.mesa_ledger.Ledger.{Ledger}
+use Rattle.mesa_engine.specs.mesa_ledger.Turned.{closed_ledger, leased_ledger}
 use Rattle.mesa_tasks.specs.Errors.{HasDiffered}
 use Rattle.mesa_tasks.specs.declared.merging.CompactError.{CompactError}
 use Rattle.mesa_tasks.specs.declared.merging.CompactError.TheVariants as compact
-use Rattle.mesa_ledger.specs.mesa_walk.Causes.{Cause, Replies, Unread, Damaged, Unwritten, NoMemory}
+use Rattle.mesa_engine.specs.mesa_ledger.mesa_walk.Causes.{Cause, Replies, Unread, Damaged, Unwritten, NoMemory}
 
 -- why a merge failed
 abbrev pub cause_of : CompactError → Cause

@@ -1,12 +1,13 @@
 // A work's last turn where its merge is finished.
 ghost use Rattle.std.specs.Prelude.{◌≡◌, ◌<◌, ℕ, List, Ok, Some, true, length};
+ghost use Rattle.mesa_history.specs.Claims.{is_live};
 ghost use Rattle.mesa_history.specs.Machine.{claim_checked, swapped_reply};
 ghost use Rattle.mesa_history.specs.Run.{Finished, Renewed};
 ghost use Rattle.mesa_history.specs.Turns.{IsDue};
 ghost use Rattle.mesa_image.specs.Catalog.{stock_at};
-ghost use Rattle.mesa_ledger.specs.Ledger.{books_of};
-ghost use Rattle.mesa_log.specs.Failure.{cause_in};
-ghost use Rattle.mesa_metadata.specs.Memory.{with_ledger};
+ghost use Rattle.mesa_engine.specs.mesa_ledger.Ledger.{books_of};
+ghost use Rattle.mesa_engine.specs.mesa_log.Failure.{cause_in};
+ghost use Rattle.mesa_engine.specs.mesa_metadata.Memory.{with_ledger};
 ghost use Rattle.mesa_model.specs.declared.commands.Command.TheVariants as command;
 ghost use Rattle.mesa_model.specs.declared.commands.WorkWords.{WorkWords};
 ghost use Rattle.mesa_model.specs.declared.entries.Kind.TheVariants as kind;
@@ -14,23 +15,20 @@ ghost use Rattle.mesa_model.specs.declared.replies.Reply.TheVariants as reply;
 ghost use Rattle.mesa_schema.specs.Changes.{Lineage};
 ghost use Rattle.mesa_skeleton.specs.Rows.{Rows, no_rows};
 ghost use Rattle.mesa_swapping.specs.Finished.{HasRange, IsFinished};
-ghost use Rattle.mesa_ledger.specs.mesa_walk.Causes.{reply_of};
-ghost use Rattle.mesa_ledger.specs.mesa_walk.Turns.{AnswersDisk, AnswersDraft, SomeRose, Takes};
-ghost use Rattle.mesa_ledger.specs.mesa_walk.Walk.{run_at};
+ghost use Rattle.mesa_engine.specs.mesa_ledger.mesa_walk.Causes.{reply_of};
+ghost use Rattle.mesa_engine.specs.mesa_ledger.mesa_walk.Turns.{AnswersDisk, AnswersDraft, SomeRose, Takes};
+ghost use Rattle.mesa_engine.specs.mesa_ledger.mesa_walk.Walk.{run_at};
 ghost use Rattle.mesa_tasks.specs.Tasks.{claim_in};
-ghost use Rattle.mesa_ledger.specs.Written.{written_at};
+ghost use Rattle.mesa_engine.specs.mesa_ledger.Written.{written_at};
 ghost use Rattle.mesa_completing.specs.Merged.{HasNotSwapped, cause_met, unswapped_ledger};
 ghost use Rattle.mesa_completing.specs.Swept.{IsSwept};
 
 use crate::checking::check;
 use crate::readying::{Ready, prepare};
 use mesa_disk::{Disk, Made};
-use mesa_engine::Engine;
+use mesa_engine::{Engine, Failure, Metadata, Naming, Who};
 use mesa_io::Sink;
 use mesa_lease::TABLES;
-use mesa_ledger::Naming;
-use mesa_log::{Failure, Who};
-use mesa_metadata::Metadata;
 use mesa_model::{Kind, Outcome, Refusal, Reply, WorkWords};
 use mesa_span::Work;
 use mesa_store::write_record;
@@ -163,7 +161,7 @@ fn close<N: Naming, M: Made, D: Disk<M>, K: Sink>(
 ) -> Reply
     requires due { (words : WorkWords) × IsDue N.script (run_at N.script (N.start no_rows) engine.old.shown.history) who.session who.command (command.Work words) (Renewed (claim_in task.now)) }
     requires table { task.now.table < TABLES }
-    requires finished { (was : Lineage) × IsFinished M.bytes M.id_of D.Reader.bytes was (stock_at engine.old.ledger.catalogue task.now.table).lineage task.now delta
+    requires finished { is_live engine.old.ledger.leases task.now.table task.now.lease ≡ true → (was : Lineage) × IsFinished M.bytes M.id_of D.Reader.bytes was (stock_at engine.old.ledger.catalogue task.now.table).lineage task.now delta
         × ((w : Rows) → N.sound w → HasRange D.Reader.bytes was task.now (written_at N.script (N.start w) (N.origin w) engine.old.shown.history task.now.table)) }
     requires told { (w : Rows) → N.sound w → (file : M) → (bytes : List ℕ) × (M.bytes file ≡ Some bytes) }
     requires room { length engine.old.shown.history < N.room }
@@ -174,7 +172,7 @@ fn close<N: Naming, M: Made, D: Disk<M>, K: Sink>(
     ensures swept { (from to : ℕ) → result ≡ reply.Swapped from to → IsSwept engine.new.told engine.new.ledger engine.new.shown.history }
 {
     let at = engine.log.position();
-    match check(&engine.metadata, task, at) {
+    match check(&engine.metadata, task.table, task.lease, at) {
         Ok(()) => swap_in(alloc, engine, who, task, delta),
         Err(refusal) => {
             drop(delta);
@@ -194,7 +192,9 @@ pub fn complete<N: Naming, M: Made, D: Disk<M>, K: Sink>(
 ) -> Reply
     requires due { IsDue N.script (run_at N.script (N.start no_rows) engine.old.shown.history) who.session who.command (command.Work words.now) (Renewed (claim_in task)) }
     requires table { task.table < TABLES }
-    requires finished { (was : Lineage) × IsFinished M.bytes M.id_of D.Reader.bytes was (stock_at engine.old.ledger.catalogue task.table).lineage task delta
+
+    // While the work's lease is its table's last one and hasn't ended, the table isn't recast: what was merged can be told of it.
+    requires finished { is_live engine.old.ledger.leases task.table task.lease ≡ true → (was : Lineage) × IsFinished M.bytes M.id_of D.Reader.bytes was (stock_at engine.old.ledger.catalogue task.table).lineage task delta
         × ((w : Rows) → N.sound w → HasRange D.Reader.bytes was task (written_at N.script (N.start w) (N.origin w) engine.old.shown.history task.table)) }
     requires told { (w : Rows) → N.sound w → (file : M) → (bytes : List ℕ) × (M.bytes file ≡ Some bytes) }
     requires room { length engine.old.shown.history < N.room }

@@ -6,8 +6,11 @@ mod completing;
 mod readying;
 mod unmerged;
 
+pub use checking::check;
 pub use completing::complete;
 pub use mesa_asking::{close_query, pin_query};
-pub use mesa_works::{grant, renew};
+pub use mesa_swapping::{Swapped, recast, tables_become};
+pub use mesa_works::{give_back_recast, grant, grant_recast, renew, renew_recast};
 pub use mesa_writing::{alter, expire, publish, table, view};
-pub use unmerged::give_up;
+pub use readying::make_room;
+pub use unmerged::{fall, give_up, may_be_told};

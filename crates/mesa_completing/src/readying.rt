@@ -3,10 +3,10 @@ ghost use Rattle.std.specs.Prelude.{◌≡◌, ◌+◌, ◌<◌, ◌≤◌, ◌^
 ghost use Rattle.mesa_image.specs.Catalog.{ranges_of};
 ghost use Rattle.mesa_image.specs.Fitting.{fits};
 ghost use Rattle.mesa_image.specs.Shape.{IsCatalog};
-ghost use Rattle.mesa_ledger.specs.mesa_image_laws.Ids.{dropped_ids, named};
+ghost use Rattle.mesa_engine.specs.mesa_ledger.mesa_image_laws.Ids.{dropped_ids, named};
 ghost use Rattle.mesa_key.specs.Spelling.{AreBytes};
-ghost use Rattle.mesa_ledger.specs.Ledger.{most_files, next_id};
-ghost use Rattle.mesa_ledger.specs.Recorded.{removed_by};
+ghost use Rattle.mesa_engine.specs.mesa_ledger.Ledger.{most_files, next_id};
+ghost use Rattle.mesa_engine.specs.mesa_ledger.Recorded.{removed_by};
 ghost use Rattle.mesa_record.specs.Reading.{record_at};
 ghost use Rattle.mesa_record.specs.Rules.{keeps_rules};
 ghost use Rattle.mesa_schema.specs.Changes.{Lineage};
@@ -17,9 +17,9 @@ ghost use Rattle.mesa_swapping.specs.Swapped.{IsSwapped, table_in};
 ghost use Rattle.mesa_trash.specs.Holding.{Among};
 
 use mesa_disk::{FileReader, Made};
+use mesa_engine::Metadata;
 use mesa_file::FileId;
 use mesa_journal::Framed;
-use mesa_metadata::Metadata;
 use mesa_opening::frame;
 use mesa_record::Record;
 use mesa_swapping::{Swapped, swap};
@@ -67,8 +67,8 @@ pub(crate) fn prepare<M: Made, R: FileReader>(
     })
 }
 
-// Takes all memory that a record takes in the turn at a position: what it lets go, its frame, and what the turn removes.
-fn make_room(
+/// Takes all memory that a record takes in the turn at a position: what it lets go, its frame, and what the turn removes.
+pub fn make_room(
     alloc: Global,
     metadata: &mut Metadata,
     at: u64,

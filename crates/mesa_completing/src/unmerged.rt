@@ -4,31 +4,28 @@ ghost use Rattle.mesa_fault.specs.Causes.{last};
 ghost use Rattle.mesa_history.specs.Refused.{is_refusal};
 ghost use Rattle.mesa_history.specs.Run.{Finished, Granted};
 ghost use Rattle.mesa_history.specs.Turns.{IsDue};
-ghost use Rattle.mesa_log.specs.Failure.{cause_in};
-ghost use Rattle.mesa_metadata.specs.Memory.{with_ledger};
+ghost use Rattle.mesa_engine.specs.mesa_log.Failure.{cause_in};
+ghost use Rattle.mesa_engine.specs.mesa_metadata.Memory.{with_ledger};
 ghost use Rattle.mesa_model.specs.declared.commands.Command.TheVariants as command;
 ghost use Rattle.mesa_model.specs.declared.entries.Kind.TheVariants as kind;
 ghost use Rattle.mesa_output.specs.Output.{block};
 ghost use Rattle.mesa_skeleton.specs.Rows.{Rows, no_rows};
 ghost use Rattle.mesa_tasks.specs.GivingBack.{SomeFailed, task_inputs};
 ghost use Rattle.mesa_tasks.specs.declared.merging.CompactError.TheVariants as compact;
-ghost use Rattle.mesa_ledger.specs.mesa_walk.Causes.{is_read_fault, outcome_of, reply_of, told_at};
-ghost use Rattle.mesa_ledger.specs.mesa_walk.Printing.{IsPut};
-ghost use Rattle.mesa_ledger.specs.mesa_walk.Turns.{AnswersDisk, AnswersDraft, SomeRose, Takes, entry};
-ghost use Rattle.mesa_ledger.specs.mesa_walk.Undamaged.{is_damaged};
-ghost use Rattle.mesa_ledger.specs.mesa_walk.Walk.{run_at};
+ghost use Rattle.mesa_engine.specs.mesa_ledger.mesa_walk.Causes.{is_read_fault, outcome_of, reply_of, told_at};
+ghost use Rattle.mesa_engine.specs.mesa_ledger.mesa_walk.Printing.{IsPut};
+ghost use Rattle.mesa_engine.specs.mesa_ledger.mesa_walk.Turns.{AnswersDisk, AnswersDraft, SomeRose, Takes, entry};
+ghost use Rattle.mesa_engine.specs.mesa_ledger.mesa_walk.Undamaged.{is_damaged};
+ghost use Rattle.mesa_engine.specs.mesa_ledger.mesa_walk.Walk.{run_at};
 ghost use Rattle.mesa_tasks.specs.Tasks.{claim_in};
 ghost use Rattle.mesa_completing.specs.Unmerged.{MergeDiffered, TellsDamage, cause_of, closing_cause, closing_ledger, unmerged_ledger};
 
 use mesa_asking::can_be_told;
 use mesa_delta::FileError;
 use mesa_disk::{Disk, Made};
-use mesa_engine::Engine;
+use mesa_engine::{Engine, Failure, Metadata, Naming, Who};
 use mesa_io::Sink;
 use mesa_lease::TABLES;
-use mesa_ledger::Naming;
-use mesa_log::{Failure, Who};
-use mesa_metadata::Metadata;
 use mesa_model::{Kind, Refusal, Reply, WorkWords};
 use mesa_tasks::{CompactError, Task, retire_task};
 use mesa_works::give_back;
@@ -45,8 +42,8 @@ fn failed(error: &CompactError) -> Failure
     }
 }
 
-// What a merge failed of can be told.
-fn may_be_told(error: &CompactError)
+/// What a merge failed of can be told.
+pub fn may_be_told(error: &CompactError)
     requires { MergeDiffered error.now }
     ensures { TellsDamage (cause_of error.now) }
 {
@@ -75,8 +72,8 @@ fn end_lease(
     }
 }
 
-// Why nothing is swapped in; the lease ends, unless the vault has closed.
-fn fall(
+/// Why no files are brought; the lease ends, unless the vault has closed.
+pub fn fall(
     metadata: &mut Metadata,
     table: u16,
     lease: u64,

@@ -1,14 +1,16 @@
 -- What a work is granted, by the history at the end of its first turn.
-use Rattle.std.proofs.Common.{◌≡◌, ℕ, ◌<◌, List, length, sym, ap, subst, ◌∙◌, Option, None, Ok, Err}
-use Rattle.std.specs.Prelude.{IfOk, IfSome, Result}
+use Rattle.std.proofs.Common.{◌≡◌, ℕ, ◌<◌, List, length, Bool, true, not, sym, ap, subst, ◌∙◌, Option, None, Ok, Err}
+use Rattle.std.specs.Prelude.{IfOk, IfSome, OnOk, Result}
 use Rattle.mesa_granted.specs.mesa_compact.Bounded.{AreBounded, IsBounded}
 use Rattle.mesa_granted.specs.mesa_gather.Gathered.{unread_views}
 use Rattle.mesa_granted.proofs.Merged.{grant_known}
 use Rattle.mesa_granted.proofs.Same.{range_known}
-use Rattle.mesa_history.specs.Run.{State}
+use Rattle.mesa_history.specs.Claims.{HasClaim, HasClaimAt}
+use Rattle.mesa_history.specs.Run.{Granted, Place, State}
+use Rattle.mesa_history.specs.Turns.{place_then}
 use Rattle.mesa_image.specs.Catalog.{Catalog, stock_at}
 use Rattle.mesa_image_laws.specs.Moves.{last_of}
-use Rattle.mesa_ledger.specs.Vault.{Origin}
+use Rattle.mesa_engine.specs.mesa_ledger.Vault.{Origin}
 use Rattle.mesa_granted.specs.mesa_merge.Inputs.{knowns_of}
 use Rattle.mesa_model.specs.declared.commands.Script.{Script}
 use Rattle.mesa_model.specs.declared.entries.Entry.{Entry}
@@ -20,27 +22,34 @@ use Rattle.mesa_skeleton.specs.Rows.{Rows, no_rows}
 use Rattle.mesa_granted.specs.mesa_swapping.Finished.{HasRange}
 use Rattle.mesa_tasks.specs.Errors.{Differs}
 use Rattle.mesa_tasks.specs.Spares.{HasSpares}
-use Rattle.mesa_tasks.specs.Tasks.{IsTask}
+use Rattle.mesa_tasks.specs.Tasks.{IsTask, claim_in}
 use Rattle.mesa_tasks.specs.declared.merging.Task.{Task}
 use Rattle.mesa_walk.specs.Walk.{run_at}
-use Rattle.mesa_ledger.specs.Written.{written_at}
+use Rattle.mesa_walk.specs.Works.{stage_if}
+use Rattle.mesa_engine.specs.mesa_ledger.Written.{written_at}
 use Rattle.mesa_core.specs.Handing.{IsGranted, store_after}
 use Rattle.mesa_core.specs.Standing.{IsCatalogAfter}
 use Rattle.mesa_core.proofs.Sights.{counted_is, lineage_is}
 
+-- the claim of a work is that of its session
+pub claim_if : {R E : Type 0} (s : State) (number : ℕ) (running : Bool) (place : Place) (r : Result (Task R) E) → OnOk r (running ≡ true) → place ≡ place_then (not running) number (stage_if claim_in Granted r) → HasClaimAt s place.stage → IfOk r (λ t. HasClaim s (claim_in t) t.work)
+claim_if s number running place (Ok t) ran at has = subst (λ (p : Place). HasClaimAt s p.stage) (at ∙ ap (λ b. place_then (not b) number (Granted (claim_in t))) ran) has
+claim_if s number running place (Err e) ran at has = tt
+
 module _ {R : Type 0} (read : R → Option (List ℕ)) (script : Script) (start : Rows → State) (origin : Rows → Origin) (sound : Rows → Type 0) (generation : ℕ) (h : List Entry) (c : Catalog) (is : IsCatalogAfter script start generation h c) where
   granted_as : (t : Task R) → t.table < max_tables → t.table < length (store_after script start h).tables → last_of t.work < (run_at script (start no_rows) h).state.warehouse.next
-      → IsTask read (stock_at c t.table).lineage t → t.views.items ≡ unread_views 0 (length (stock_at c t.table).lineage.views)
+      → HasClaim (run_at script (start no_rows) h).state (claim_in t) t.work → IsTask read (stock_at c t.table).lineage t → t.views.items ≡ unread_views 0 (length (stock_at c t.table).lineage.views)
       → ((w : Rows) → sound w → t.damage ≡ None) → ((w : Rows) → sound w → IsBounded read (stock_at c t.table).lineage t)
       → ((w : Rows) → sound w → HasRange read (stock_at c t.table).lineage t (written_at script (start w) (origin w) h t.table))
       → IsGranted read script start origin sound h (known_task read t)
-  granted_as t low there next task views whole bounded range =
+  granted_as t low there next claim task views whole bounded range =
       let at = lineage_is script start generation h c is t.table in
       record {
         low = low;
         there = there;
         lineage = subst IsLineage at (is.lineages t.table (subst (λ n. t.table < n) (sym (counted_is script start generation h c is)) there));
         known = grant_known read _ t (subst (λ (l : Lineage). IsTask read l t) at task) (views ∙ ap (λ (l : Lineage). unread_views 0 (length l.views)) at);
+        claim = claim;
         next = λ w. subst (λ n. last_of t.work < n) (sym (is.next no_rows) ∙ is.next w) next;
         whole = whole;
         bounded = λ w ok. subst (λ (l : Lineage). AreBounded (columns_of l) (knowns_of read t.inputs.items)) at (bounded w ok).table;
@@ -49,12 +58,12 @@ module _ {R : Type 0} (read : R → Option (List ℕ)) (script : Script) (start 
 
   -- where a work is granted
   pub granted_if : {E : Type 0} (r : Result (Task R) E) → IfOk r (λ t. t.table < max_tables) → IfOk r (λ t. t.table < length (store_after script start h).tables) → IfOk r (λ t. last_of t.work < (run_at script (start no_rows) h).state.warehouse.next)
-      → IfOk r (λ t. IsTask read (stock_at c t.table).lineage t) → IfOk r (λ t. t.views.items ≡ unread_views 0 (length (stock_at c t.table).lineage.views))
+      → IfOk r (λ t. HasClaim (run_at script (start no_rows) h).state (claim_in t) t.work) → IfOk r (λ t. IsTask read (stock_at c t.table).lineage t) → IfOk r (λ t. t.views.items ≡ unread_views 0 (length (stock_at c t.table).lineage.views))
       → ((w : Rows) → sound w → IfOk r (λ t. t.damage ≡ None)) → ((w : Rows) → sound w → IfOk r (λ t. IsBounded read (stock_at c t.table).lineage t))
       → ((w : Rows) → sound w → IfOk r (λ t. HasRange read (stock_at c t.table).lineage t (written_at script (start w) (origin w) h t.table)))
       → IfOk r (λ t. IsGranted read script start origin sound h (known_task read t))
-  granted_if (Ok t) low there next task views whole bounded range = granted_as t low there next task views whole bounded range
-  granted_if (Err e) low there next task views whole bounded range = tt
+  granted_if (Ok t) low there next claim task views whole bounded range = granted_as t low there next claim task views whole bounded range
+  granted_if (Err e) low there next claim task views whole bounded range = tt
 
   -- and what was granted can be merged
   pub mergeable_if : {E : Type 0} (r : Result (Task R) E) (more : ℕ) → IfOk r (λ t. IsTask read (stock_at c t.table).lineage t) → IfOk r (λ t. IfSome t.damage Differs) → IfOk r (HasSpares read more) → IfOk r (CanBeMerged read)

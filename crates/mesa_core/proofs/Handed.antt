@@ -3,8 +3,8 @@ use Rattle.std.proofs.Common.{◌≡◌, ℕ, List, [], ◌∷◌, append-nil, t
 use Rattle.std.specs.Prelude.{IfErr, IfOk, OnErr, OnOk, Result}
 use Rattle.std.specs.List.{AllByRecursion}
 use Rattle.mesa_answer.specs.Answering.{KeepsSums}
-use Rattle.mesa_completing.specs.mesa_asking.Closing.{IsPageOf as IsClosedWith, IsSomePageOf, IsToClose, cause_if}
-use Rattle.mesa_completing.specs.mesa_asking.Opening.{IsHeaded}
+use Rattle.mesa_recasting.specs.mesa_completing.mesa_asking.Closing.{IsPageOf as IsClosedWith, IsSomePageOf, IsToClose, cause_if}
+use Rattle.mesa_recasting.specs.mesa_completing.mesa_asking.Opening.{IsHeaded}
 use Rattle.mesa_filter.specs.declared.words.QueryWords.{QueryWords}
 use Rattle.mesa_delta.specs.declared.error.FileError.{FileError}
 use Rattle.mesa_delta.specs.declared.error.FileError.TheVariants as file_error
@@ -16,8 +16,8 @@ use Rattle.mesa_model.specs.declared.entries.Kind.TheVariants as kind
 use Rattle.mesa_model.specs.declared.replies.Reply.{Reply}
 use Rattle.mesa_model.specs.Query.{Answer}
 use Rattle.mesa_granted.specs.mesa_query.Files.{inputs_in, owns_in}
-use Rattle.mesa_completing.specs.mesa_pinning.Told.{AreOfRelation, parts_known, parts_under}
-use Rattle.mesa_completing.specs.mesa_pinning.Told.{Tells as TellsOf}
+use Rattle.mesa_recasting.specs.mesa_completing.mesa_pinning.Told.{AreOfRelation, parts_known, parts_under}
+use Rattle.mesa_recasting.specs.mesa_completing.mesa_pinning.Told.{Tells as TellsOf}
 use Rattle.mesa_granted.specs.mesa_query.Relation.{page_over, parts_pinned, parts_ungrouped, rows_ungrouped}
 use Rattle.mesa_schema.specs.declared.rows.Row.{Row}
 use Rattle.mesa_schema.specs.Columns.{Columns}

@@ -4,4 +4,7 @@ pub mod Due
 pub mod Sights
 pub mod Handed
 pub mod Granted
+pub mod RecastGranted
+pub mod RecastHeld
+pub mod Unmade
 pub mod Merged

@@ -4,17 +4,17 @@ use Rattle.std.specs.Prelude.{slice_index_or}
 use Rattle.std.proofs.lemmas.List.{length-map}
 use Rattle.std.proofs.lemmas.Simd.{map-map}
 use Rattle.mesa_batch.specs.Glance.{Known, Sight}
-use Rattle.mesa_catalog.specs.Lookups.{generation_of, known_as}
+use Rattle.mesa_engine.specs.mesa_catalog.Lookups.{generation_of, known_as}
 use Rattle.mesa_core.specs.Handing.{store_after}
 use Rattle.mesa_core.specs.Standing.{IsCatalogAfter}
 use Rattle.mesa_disk.specs.Story.{Story}
 use Rattle.mesa_granted.specs.Known.{lineage_in}
 use Rattle.mesa_history.specs.Run.{State}
 use Rattle.mesa_image.specs.Catalog.{Catalog, no_stock, stock_at}
-use Rattle.mesa_catalog.proofs.Stocks.{all_at}
+use Rattle.mesa_engine.proofs.mesa_catalog.Stocks.{all_at}
 use Rattle.mesa_image.specs.Shape.{IsShaped}
-use Rattle.mesa_ledger.specs.Ledger.{Ledger, skeletons}
-use Rattle.mesa_ledger.specs.Vault.{Starts, IsVault, IsVaultAt, outset_of}
+use Rattle.mesa_engine.specs.mesa_ledger.Ledger.{Ledger, skeletons}
+use Rattle.mesa_engine.specs.mesa_ledger.Vault.{Starts, IsVault, IsVaultAt, outset_of}
 use Rattle.mesa_model.specs.declared.commands.Script.{Script}
 use Rattle.mesa_model.specs.declared.entries.Entry.{Entry}
 use Rattle.mesa_model.specs.Warehouse.{Store, Table, Warehouse, no_table}

@@ -1,6 +1,6 @@
 -- What a catalogue is by the history of its run.
 use Rattle.std.specs.Prelude.{◌≡◌, ℕ, ◌<◌, List, length}
-use Rattle.mesa_catalog.specs.Lookups.{sight_of}
+use Rattle.mesa_engine.specs.mesa_catalog.Lookups.{sight_of}
 use Rattle.mesa_history.specs.Run.{State}
 use Rattle.mesa_image.specs.Catalog.{Catalog, stock_at}
 use Rattle.mesa_model.specs.declared.commands.Script.{Script}

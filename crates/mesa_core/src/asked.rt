@@ -3,14 +3,14 @@ ghost use Rattle.std.specs.Prelude.{◌≡◌, Some};
 ghost use Rattle.mesa_core.specs.Asked.{lent_command};
 ghost use Rattle.mesa_history.specs.Run.{command_at};
 ghost use Rattle.mesa_model.specs.declared.commands.Command.TheVariants as command;
-ghost use Rattle.mesa_history.specs.Legal.{is_query, is_work};
+ghost use Rattle.mesa_history.specs.Legal.{is_query};
 ghost use Rattle.mesa_passes.specs.Passes.{HasSort};
-ghost use Rattle.mesa_walk.specs.Turns.{is_load};
+ghost use Rattle.mesa_walk.specs.Turns.{is_load, is_merge, is_recast};
 
 use mesa_batch::LoadRows;
+use mesa_engine::Who;
 use mesa_filter::QueryWords;
-use mesa_log::Who;
-use mesa_model::{Command, Script, WorkWords};
+use mesa_model::{Command, RecastWords, Script, WorkWords};
 
 // The command of a turn; commands are counted from 1.
 pub(crate) fn command_of(script: &Script, who: Who) -> Option<&Command>
@@ -45,11 +45,22 @@ pub(crate) fn words_of(script: &Script, who: Who) -> &QueryWords
 
 // The words of the work that a turn is of.
 pub(crate) fn work_of(script: &Script, who: Who) -> &WorkWords
-    requires { HasSort script.now who.session who.command is_work }
+    requires { HasSort script.now who.session who.command is_merge }
     ensures { command_at script.now who.session who.command ≡ Some (command.Work result.now) }
 {
     match command_of(script, who) {
         Some(Command::Work(words)) => words,
+        _ => unreachable!(),
+    }
+}
+
+// The words of the recast that a turn is of.
+pub(crate) fn recast_of(script: &Script, who: Who) -> &RecastWords
+    requires { HasSort script.now who.session who.command is_recast }
+    ensures { command_at script.now who.session who.command ≡ Some (command.Recast result.now) }
+{
+    match command_of(script, who) {
+        Some(Command::Recast(words)) => words,
         _ => unreachable!(),
     }
 }

@@ -1,6 +1,6 @@
-// The one turn of a command that is no load, no query and no work.
+// The one turn of a command that is no load, no query, no work and no recast.
 ghost use Rattle.std.specs.Prelude.{◌<◌, length};
-ghost use Rattle.mesa_completing.specs.mesa_writing.Writing.{KeepsFiles};
+ghost use Rattle.mesa_recasting.specs.mesa_completing.mesa_writing.Writing.{KeepsFiles};
 ghost use Rattle.mesa_disk.specs.Story.{Steps};
 ghost use Rattle.mesa_history.specs.Run.{Finished, First};
 ghost use Rattle.mesa_model.specs.declared.entries.Kind.TheVariants as kind;
@@ -11,16 +11,15 @@ ghost use Rattle.mesa_walk.specs.Walk.{run_at};
 use crate::Vault;
 use crate::asked::command_of;
 use crate::standing::allocator;
-use mesa_completing::{alter, expire, table, view};
 use mesa_disk::{Disk, Made};
+use mesa_engine::{Naming, Who};
 use mesa_io::Sink;
-use mesa_ledger::Naming;
-use mesa_log::Who;
 use mesa_model::{Command, Reply};
 use mesa_quiet::{explain, pin, release};
+use mesa_recasting::{alter, expire, table, view};
 
 impl<'s, N: Naming, M: Made, D: Disk<M>, K: Sink> Vault<'s, N, M, D, K> {
-    /// The one turn of a command that is no load, no query and no work.
+    /// The one turn of a command that is no load, no query, no work and no recast.
     pub fn simple(&mut self, who: Who) -> Reply
         requires due { Asks N.script (run_at N.script (N.start no_rows) self.old.shown.history) who.session who.command First is_simple }
         requires room { length self.old.shown.history < N.room }

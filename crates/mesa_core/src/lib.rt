@@ -5,6 +5,7 @@ mod asked;
 mod commands;
 mod loads;
 mod queries;
+mod recasts;
 mod room;
 mod standing;
 mod starting;
@@ -12,6 +13,6 @@ mod turned;
 mod vault;
 mod works;
 
-pub use mesa_log::Who;
+pub use mesa_engine::Who;
 pub use room::turns_of;
 pub use vault::Vault;

@@ -1,7 +1,7 @@
 // The turns of a load.
 ghost use Rattle.std.specs.Prelude.{◌≡◌, ◌<◌, List, true, Err, Some, IfOk, OnOk, length};
 ghost use Rattle.mesa_batch.specs.declared.words.RowWords.{RowWords as AnyWords};
-ghost use Rattle.mesa_completing.specs.mesa_writing.Writing.{KeepsFiles};
+ghost use Rattle.mesa_recasting.specs.mesa_completing.mesa_writing.Writing.{KeepsFiles};
 ghost use Rattle.mesa_disk.specs.Story.{Steps};
 ghost use Rattle.mesa_history.specs.Run.{Finished, First, Looked, command_at};
 ghost use Rattle.mesa_model.specs.declared.commands.Command.TheVariants as command;
@@ -17,13 +17,12 @@ use crate::Vault;
 use crate::asked::rows_of;
 use crate::standing::{allocator, catalogue};
 use mesa_batch::Glance;
-use mesa_completing::publish;
 use mesa_disk::{Disk, Made};
+use mesa_engine::{Naming, Who};
 use mesa_io::Sink;
-use mesa_ledger::Naming;
-use mesa_log::Who;
 use mesa_model::Reply;
 use mesa_quiet::look;
+use mesa_recasting::publish;
 use mesa_tasks::{LoadError, Prepared};
 use std::alloc::AllocError;
 

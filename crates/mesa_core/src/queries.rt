@@ -1,7 +1,7 @@
 // The turns of a query.
 ghost use Rattle.std.specs.Prelude.{◌≡◌, ◌<◌, ◌++◌, ◌∷◌, [], true, length, IfOk, Some};
-ghost use Rattle.mesa_completing.specs.mesa_asking.Closing.{closing_entry, closing_text};
-ghost use Rattle.mesa_completing.specs.mesa_asking.Opening.{HasItsFiles};
+ghost use Rattle.mesa_recasting.specs.mesa_completing.mesa_asking.Closing.{closing_entry, closing_text};
+ghost use Rattle.mesa_recasting.specs.mesa_completing.mesa_asking.Opening.{HasItsFiles};
 ghost use Rattle.mesa_core.specs.Handing.{Tells};
 ghost use Rattle.mesa_history.specs.Legal.{is_query};
 ghost use Rattle.mesa_filter.specs.declared.words.QueryWords.{QueryWords};
@@ -16,13 +16,12 @@ ghost use Rattle.mesa_walk.specs.Walk.{run_at};
 
 use crate::Vault;
 use crate::asked::words_of;
-use mesa_completing::{close_query, pin_query};
 use mesa_delta::FileError;
 use mesa_disk::{Disk, Made};
+use mesa_engine::{Naming, Who};
 use mesa_io::Sink;
-use mesa_ledger::Naming;
-use mesa_log::Who;
 use mesa_model::Reply;
+use mesa_recasting::{close_query, pin_query};
 use mesa_script::Rendered;
 use mesa_tasks::Pinned;
 

@@ -8,7 +8,7 @@ ghost use Rattle.mesa_engine.specs.Engine.{most_turns, starts_of};
 ghost use Rattle.mesa_fault.specs.Causes.{last, Rose};
 ghost use Rattle.mesa_history.specs.Legal.{AllFit, fits_sink};
 ghost use Rattle.mesa_history.specs.Run.{begins};
-ghost use Rattle.mesa_ledger.specs.Vault.{outset_of};
+ghost use Rattle.mesa_engine.specs.mesa_ledger.Vault.{outset_of};
 ghost use Rattle.mesa_engine.specs.mesa_metadata.Memory.{opened_ledger};
 ghost use Rattle.mesa_passes.specs.Passes.{turns_of as turns_in};
 ghost use Rattle.mesa_skeleton.specs.Rows.{Rows};
@@ -18,11 +18,9 @@ ghost use Rattle.mesa_walk.specs.Undamaged.{NoneDamaged};
 ghost use Rattle.mesa_walk.specs.Walk.{AllFound, HasCounted, faults_in, run_at};
 
 use crate::{Vault, turns_of};
-use mesa_catalog::Begun;
 use mesa_disk::{Disk, Made};
-use mesa_engine::Engine;
+use mesa_engine::{Begun, Engine, Naming};
 use mesa_io::Sink;
-use mesa_ledger::Naming;
 use mesa_model::{Entry, Script};
 use std::alloc::{AllocError, Global};
 

@@ -1,8 +1,8 @@
 // A vault as the value of a turn lock.
 use crate::Vault;
 use mesa_disk::{Disk, Made};
+use mesa_engine::Naming;
 use mesa_io::Sink;
-use mesa_ledger::Naming;
 use mesa_turn::Turned;
 
 impl<'s, N: Naming + Send, M: Made, D: Disk<M>, K: Sink + Send> Turned for Vault<'s, N, M, D, K> {

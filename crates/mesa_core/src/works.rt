@@ -1,9 +1,8 @@
 // The turns of a work.
 ghost use Rattle.std.specs.Prelude.{◌≡◌, ◌<◌, ◌++◌, ◌∷◌, [], ℕ, true, not, Err, IfErr, IfOk, OnOk, Some, is_ok, length};
-ghost use Rattle.mesa_completing.specs.Swept.{IsSwept};
-ghost use Rattle.mesa_completing.specs.Unmerged.{closing_cause};
+ghost use Rattle.mesa_recasting.specs.mesa_completing.Swept.{IsSwept};
+ghost use Rattle.mesa_recasting.specs.mesa_completing.Unmerged.{closing_cause};
 ghost use Rattle.mesa_core.specs.Handing.{IsGranted};
-ghost use Rattle.mesa_history.specs.Legal.{is_work};
 ghost use Rattle.mesa_history.specs.Run.{Finished, First, Granted, Renewed};
 ghost use Rattle.mesa_model.specs.declared.entries.Kind.TheVariants as kind;
 ghost use Rattle.mesa_model.specs.declared.replies.Reply.TheVariants as reply;
@@ -14,26 +13,25 @@ ghost use Rattle.mesa_tasks.specs.Tasks.{claim_in};
 ghost use Rattle.mesa_tasks.specs.declared.merging.CompactError.TheVariants as compact;
 ghost use Rattle.mesa_walk.specs.Causes.{outcome_of, reply_of, told_at};
 ghost use Rattle.mesa_walk.specs.Printing.{IsPut};
-ghost use Rattle.mesa_walk.specs.Turns.{AnswersDisk, AnswersDraft, Asks, SomeRose, Takes, entry};
+ghost use Rattle.mesa_walk.specs.Turns.{AnswersDisk, AnswersDraft, Asks, SomeRose, Takes, entry, is_merge};
 ghost use Rattle.mesa_walk.specs.Walk.{run_at};
 ghost use Rattle.mesa_walk.specs.Works.{closing_stage, stage_if};
 
 use crate::Vault;
 use crate::asked::work_of;
-use crate::standing::{allocator, catalogue};
-use mesa_completing::{complete, give_up, grant, renew};
+use crate::standing::{allocator, catalogue, claims};
 use mesa_disk::{Disk, Made};
-use mesa_granted::{bounds_are_known, merges_are_known, ranges_go_on, tables_go_on};
+use mesa_engine::{Naming, Who};
+use mesa_granted::{bounds_are_known, leases_hold, merges_are_known, ranges_go_on, tables_go_on};
 use mesa_io::Sink;
-use mesa_ledger::Naming;
-use mesa_log::Who;
 use mesa_model::Reply;
+use mesa_recasting::{complete, give_up, grant, renew, tables_become};
 use mesa_tasks::{CompactError, NewDelta, Task};
 
 impl<'s, N: Naming, M: Made, D: Disk<M>, K: Sink> Vault<'s, N, M, D, K> {
     /// A work's first turn: the files that are to be merged. They have to come back by `renew` or `complete`.
     pub fn grant(&mut self, who: Who) -> Result<Task<D::Reader>, Reply>
-        requires due { Asks N.script (run_at N.script (N.start no_rows) self.old.shown.history) who.session who.command First is_work }
+        requires due { Asks N.script (run_at N.script (N.start no_rows) self.old.shown.history) who.session who.command First is_merge }
         requires room { length self.old.shown.history < N.room }
         ensures turn { Takes N.script (N.start no_rows) self.old.shown self.new.shown who.session who.command kind.Grant (stage_if claim_in Granted result) }
         ensures disk { AnswersDisk N.script (N.start no_rows) self.old.shown self.new.shown (SomeRose self.old.faults self.new.faults) }
@@ -44,12 +42,13 @@ impl<'s, N: Naming, M: Made, D: Disk<M>, K: Sink> Vault<'s, N, M, D, K> {
         let words = work_of(self.script, who);
         let granted = grant(&mut self.engine, who, words);
         catalogue(&self.engine);
+        claims(&self.engine);
         granted
     }
 
     /// A work's turn once its files are merged: its lease holds anew.
     pub fn renew(&mut self, who: Who, task: Task<D::Reader>) -> Result<Task<D::Reader>, Reply>
-        requires due { Asks N.script (run_at N.script (N.start no_rows) self.old.shown.history) who.session who.command (Granted (claim_in task)) is_work }
+        requires due { Asks N.script (run_at N.script (N.start no_rows) self.old.shown.history) who.session who.command (Granted (claim_in task)) is_merge }
         requires granted { WasGranted (IsGranted D.Reader.bytes N.script N.start N.origin N.sound) self.old.shown.history (known_task D.Reader.bytes task) }
         requires room { length self.old.shown.history < N.room }
         ensures turn { Takes N.script (N.start no_rows) self.old.shown self.new.shown who.session who.command kind.Renew (stage_if claim_in Renewed result) }
@@ -68,7 +67,7 @@ impl<'s, N: Naming, M: Made, D: Disk<M>, K: Sink> Vault<'s, N, M, D, K> {
         task: Task<D::Reader>,
         merged: Result<NewDelta<M>, CompactError>,
     ) -> Reply
-        requires due { Asks N.script (run_at N.script (N.start no_rows) self.old.shown.history) who.session who.command (closing_stage (not (is_ok merged)) (claim_in task)) is_work }
+        requires due { Asks N.script (run_at N.script (N.start no_rows) self.old.shown.history) who.session who.command (closing_stage (not (is_ok merged)) (claim_in task)) is_merge }
         requires granted { WasGranted (IsGranted D.Reader.bytes N.script N.start N.origin N.sound) self.old.shown.history (known_task D.Reader.bytes task) }
         requires merged { HasMerged M.bytes M.id_of D.Reader.bytes D.Reader.faults task merged }
         requires room { length self.old.shown.history < N.room }
@@ -84,13 +83,16 @@ impl<'s, N: Naming, M: Made, D: Disk<M>, K: Sink> Vault<'s, N, M, D, K> {
         ensures swept { (from to : ℕ) → result ≡ reply.Swapped from to → IsSwept self.new.told self.new.ledger self.new.shown.history }
     {
         catalogue(&self.engine);
+        claims(&self.engine);
         let alloc = allocator(&self.engine);
         let words = work_of(self.script, who);
         match merged {
             Ok(delta) => {
                 merges_are_known(&task, &delta);
+                leases_hold();
                 ranges_go_on(&task);
                 tables_go_on();
+                tables_become();
                 complete(alloc, &mut self.engine, who, words, task, delta)
             }
             Err(error) => {

@@ -2,14 +2,14 @@
 use Rattle.std.proofs.Common.{◌≡◌, ℕ, List, [], Bool, true, false, sym, ap, subst, Option}
 use Rattle.mesa_disk.specs.Story.{Story}
 use Rattle.mesa_disk.specs.declared.area.Area.{Area}
-use Rattle.mesa_catalog.specs.mesa_image.Catalog.{Catalog}
+use Rattle.mesa_metadata.specs.mesa_catalog.mesa_image.Catalog.{Catalog}
 use Rattle.mesa_lease.specs.Book.{Book}
-use Rattle.mesa_ledger.specs.mesa_skeleton.Rows.{Rows}
-use Rattle.mesa_ledger.specs.mesa_walk.Books.{AreBooksOf}
-use Rattle.mesa_ledger.proofs.mesa_walk.Beginning.{started}
-use Rattle.mesa_ledger.specs.Ledger.{books_of}
-use Rattle.mesa_ledger.specs.Vault.{Starts, IsVault, outset_of}
-use Rattle.mesa_ledger.proofs.Beginning.{first_ledger, started_vault}
+use Rattle.mesa_metadata.specs.mesa_ledger.mesa_skeleton.Rows.{Rows}
+use Rattle.mesa_metadata.specs.mesa_ledger.mesa_walk.Books.{AreBooksOf}
+use Rattle.mesa_metadata.proofs.mesa_ledger.mesa_walk.Beginning.{started}
+use Rattle.mesa_metadata.specs.mesa_ledger.Ledger.{books_of}
+use Rattle.mesa_metadata.specs.mesa_ledger.Vault.{Starts, IsVault, outset_of}
+use Rattle.mesa_metadata.proofs.mesa_ledger.Beginning.{first_ledger, started_vault}
 use Rattle.mesa_metadata.specs.Memory.{opened_ledger}
 use Rattle.mesa_engine.specs.Beginning.{IsBegun}
 
@@ -23,4 +23,4 @@ module _ (n : Starts) (w : Rows) (sound : Bool) (c : Catalog) (area : Area) (end
       (started_vault (outset_of n w) (n.origin w) sound c area end story held w is.bodies
       (started (outset_of n w) sound (books_of w (first_ledger (outset_of n w) c (n.origin w).generation area end)) story held
       (subst (λ l. AreBooksOf sound (books_of w l) (n.start w)) (sym ledger_is) is.state) is.since is.counted is.found is.sink)
-      (sym is.run) is.ranges (ap (λ (b : Book). b.granted) is.leases) is.holds is.shaped is.own is.named_given (record { long = is.ready.long; fresh = is.ready.fresh; strays = is.ready.strays }) is.stocked is.sourced is.read)
+      (sym is.run) is.ranges (ap (λ (b : Book). b.granted) is.leases) is.holds is.shaped is.own is.columns is.recordable is.named_given (record { long = is.ready.long; fresh = is.ready.fresh; strays = is.ready.strays }) is.stocked is.sourced is.read)

@@ -4,12 +4,12 @@ use Rattle.std.proofs.lemmas.List.{append_cancel_left}
 use Rattle.mesa_fault.specs.Causes.{last}
 use Rattle.mesa_model.specs.declared.commands.Script.{Script}
 use Rattle.mesa_model.specs.declared.entries.Entry.{Entry}
-use Rattle.mesa_catalog.specs.mesa_history.Counting.{answers_bench, answers_disk, is_bench_fault}
-use Rattle.mesa_catalog.specs.mesa_history.Replay.{closes}
-use Rattle.mesa_catalog.specs.mesa_history.Run.{State}
-use Rattle.mesa_ledger.specs.mesa_walk.Causes.{Cause, Replies, Unread, Damaged, Unwritten, NoMemory, outcome_of}
-use Rattle.mesa_ledger.specs.mesa_walk.Turns.{AnswersDraft, Shown}
-use Rattle.mesa_ledger.specs.mesa_walk.Walk.{run_at}
+use Rattle.mesa_metadata.specs.mesa_catalog.mesa_history.Counting.{answers_bench, answers_disk, is_bench_fault}
+use Rattle.mesa_metadata.specs.mesa_catalog.mesa_history.Replay.{closes}
+use Rattle.mesa_metadata.specs.mesa_catalog.mesa_history.Run.{State}
+use Rattle.mesa_metadata.specs.mesa_ledger.mesa_walk.Causes.{Cause, Replies, Unread, Damaged, Unwritten, NoMemory, outcome_of}
+use Rattle.mesa_metadata.specs.mesa_ledger.mesa_walk.Turns.{AnswersDraft, Shown}
+use Rattle.mesa_metadata.specs.mesa_ledger.mesa_walk.Walk.{run_at}
 use Rattle.mesa_engine.specs.Failing.{is_of_device}
 
 right_true : (a b : Bool) → IsTrue (a && b) → IsTrue b

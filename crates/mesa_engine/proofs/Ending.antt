@@ -3,9 +3,9 @@ use Rattle.std.proofs.Common.{ℕ, List, Bool, true, inr, refl, sym, ◌∙◌, 
 use Rattle.mesa_disk.specs.Story.{Story}
 use Rattle.mesa_model.specs.declared.entries.Entry.{Entry}
 use Rattle.mesa_model.specs.Warehouse.{Warehouse}
-use Rattle.mesa_ledger.specs.mesa_skeleton.Rows.{Rows}
-use Rattle.mesa_ledger.specs.Ledger.{Ledger}
-use Rattle.mesa_ledger.specs.Vault.{Starts, IsVault, outset_of}
+use Rattle.mesa_metadata.specs.mesa_ledger.mesa_skeleton.Rows.{Rows}
+use Rattle.mesa_metadata.specs.mesa_ledger.Ledger.{Ledger}
+use Rattle.mesa_metadata.specs.mesa_ledger.Vault.{Starts, IsVault, outset_of}
 use Rattle.mesa_engine.specs.Ending.{ReadsState}
 
 -- On a sound store that nothing closed, a read gives what stands behind the history.

@@ -3,15 +3,15 @@ use Rattle.std.proofs.Common.{◌≡◌, ℕ, List, Bool, sym, ◌∙◌, Option
 use Rattle.std.specs.Prelude.{IfOk, Result}
 use Rattle.std.proofs.lemmas.Simd.{map-map}
 use Rattle.mesa_batch.specs.Glance.{tables_of}
-use Rattle.mesa_catalog.specs.Lookups.{sight_of}
+use Rattle.mesa_metadata.specs.mesa_catalog.Lookups.{sight_of}
 use Rattle.mesa_disk.specs.Story.{Story}
 use Rattle.mesa_model.specs.declared.entries.Entry.{Entry}
-use Rattle.mesa_ledger.specs.mesa_walk.Sight.{tables_seen}
-use Rattle.mesa_ledger.specs.mesa_walk.Walk.{Outset, run_of}
-use Rattle.mesa_ledger.proofs.mesa_walk.Skeletons.{named_is}
-use Rattle.mesa_ledger.specs.Ledger.{Ledger, books_of}
-use Rattle.mesa_ledger.specs.Vault.{Origin, IsVault}
-use Rattle.mesa_ledger.proofs.Changing.{tables_are}
+use Rattle.mesa_metadata.specs.mesa_ledger.mesa_walk.Sight.{tables_seen}
+use Rattle.mesa_metadata.specs.mesa_ledger.mesa_walk.Walk.{Outset, run_of}
+use Rattle.mesa_metadata.proofs.mesa_ledger.mesa_walk.Skeletons.{named_is}
+use Rattle.mesa_metadata.specs.mesa_ledger.Ledger.{Ledger, books_of}
+use Rattle.mesa_metadata.specs.mesa_ledger.Vault.{Origin, IsVault}
+use Rattle.mesa_metadata.proofs.mesa_ledger.Changing.{tables_are}
 
 -- A glance at its catalogue is at the tables of the state that stands behind its history.
 pub tables_are_seen : (o : Outset) (g : Origin) (sound : Bool) (l : Ledger) (story : Story) (held : Option (List ℕ)) (h : List Entry) (running refused : Bool) → IsVault o g sound l story held h running refused → tables_of (sight_of l.catalogue) ≡ tables_seen (run_of o h)

@@ -10,22 +10,22 @@ use Rattle.mesa_model.specs.declared.commands.Script.{Script}
 use Rattle.mesa_model.specs.declared.entries.Entry.{Entry}
 use Rattle.mesa_model.specs.declared.entries.Kind.{Kind}
 use Rattle.mesa_model.specs.declared.entries.Outcome.TheVariants as outcome
-use Rattle.mesa_catalog.proofs.mesa_history.Finding.{all_more}
-use Rattle.mesa_catalog.proofs.mesa_history.Turns.{turn_goes}
-use Rattle.mesa_catalog.specs.mesa_history.Run.{State, Stage, Told, begins, place_of}
-use Rattle.mesa_catalog.specs.mesa_history.Turns.{IsDue, place_then}
-use Rattle.mesa_ledger.specs.mesa_output.Output.{block}
+use Rattle.mesa_metadata.proofs.mesa_catalog.mesa_history.Finding.{all_more}
+use Rattle.mesa_metadata.proofs.mesa_catalog.mesa_history.Turns.{turn_goes}
+use Rattle.mesa_metadata.specs.mesa_catalog.mesa_history.Run.{State, Stage, Told, begins, place_of}
+use Rattle.mesa_metadata.specs.mesa_catalog.mesa_history.Turns.{IsDue, place_then}
+use Rattle.mesa_metadata.specs.mesa_ledger.mesa_output.Output.{block}
 use Rattle.mesa_printer.specs.declared.printer.Printer.{Printer}
-use Rattle.mesa_ledger.specs.mesa_skeleton.Rows.{Rows, no_rows}
-use Rattle.mesa_ledger.specs.mesa_walk.Printing.{IsPut}
-use Rattle.mesa_ledger.specs.mesa_walk.Turns.{Shown, IsSeen, Takes, entry}
-use Rattle.mesa_ledger.specs.mesa_walk.Undamaged.{NoneDamaged, is_damaged}
-use Rattle.mesa_ledger.specs.mesa_walk.Walk.{Counts, run_at}
+use Rattle.mesa_metadata.specs.mesa_ledger.mesa_skeleton.Rows.{Rows, no_rows}
+use Rattle.mesa_metadata.specs.mesa_ledger.mesa_walk.Printing.{IsPut}
+use Rattle.mesa_metadata.specs.mesa_ledger.mesa_walk.Turns.{Shown, IsSeen, Takes, entry}
+use Rattle.mesa_metadata.specs.mesa_ledger.mesa_walk.Undamaged.{NoneDamaged, is_damaged}
+use Rattle.mesa_metadata.specs.mesa_ledger.mesa_walk.Walk.{Counts, run_at}
 use Rattle.mesa_log.specs.declared.log.Log.{Log}
 use Rattle.mesa_log.specs.Printing.{GoesOn, PrintsBlock}
 use Rattle.mesa_log.proofs.Printing.{same_goes}
-use Rattle.mesa_ledger.specs.Vault.{Starts, IsVaultAt, outset_of}
-use Rattle.mesa_ledger.proofs.Beginning.{unmoved_vault}
+use Rattle.mesa_metadata.specs.mesa_ledger.Vault.{Starts, IsVaultAt, outset_of}
+use Rattle.mesa_metadata.proofs.mesa_ledger.Beginning.{unmoved_vault}
 use Rattle.mesa_metadata.specs.Memory.{Memory}
 use Rattle.mesa_engine.specs.Engine.{IsEngine}
 

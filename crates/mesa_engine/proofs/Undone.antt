@@ -1,5 +1,5 @@
 -- How a turn that does nothing for its command keeps a vault.
-use Rattle.std.proofs.Common.{◌≡◌, ℕ, ◌<◌, ◌^◌, List, [], ◌∷◌, ◌++◌, length, Bool, true, false, ◌||◌, not, refl, sym, ◌∙◌, ap, subst, Option, Some, IsTrue}
+use Rattle.std.proofs.Common.{◌≡◌, ℕ, ◌<◌, ◌^◌, List, [], ◌∷◌, ◌++◌, length, Bool, true, false, ◌||◌, not, refl, sym, ◌∙◌, ap, subst, Option, Some, Result, IsTrue}
 use Rattle.mesa_disk.specs.Story.{Story}
 use Rattle.mesa_filter.specs.declared.words.QueryWords.{QueryWords}
 use Rattle.mesa_model.specs.declared.commands.Command.{Command}
@@ -9,35 +9,37 @@ use Rattle.mesa_model.specs.declared.entries.Entry.{Entry}
 use Rattle.mesa_model.specs.declared.entries.Kind.{Kind}
 use Rattle.mesa_model.specs.declared.entries.Kind.TheVariants as kind
 use Rattle.mesa_model.specs.declared.entries.Outcome.TheVariants as outcome
-use Rattle.mesa_catalog.specs.mesa_history.Legal.{is_answered, is_due_at}
-use Rattle.mesa_catalog.specs.mesa_history.Replay.{closes, is_skip}
-use Rattle.mesa_catalog.specs.mesa_history.Refused.{is_refusal}
-use Rattle.mesa_catalog.specs.mesa_history.Run.{Stage, First, Looked, Finished}
-use Rattle.mesa_catalog.specs.mesa_history.Turns.{IsDue}
+use Rattle.mesa_model.specs.declared.replies.Reply.{Reply}
+use Rattle.mesa_metadata.specs.mesa_catalog.mesa_history.Legal.{is_answered, is_due_at}
+use Rattle.mesa_metadata.specs.mesa_catalog.mesa_history.Machine.{Claim, claim_of, recast_claim_of}
+use Rattle.mesa_metadata.specs.mesa_catalog.mesa_history.Replay.{closes, is_skip}
+use Rattle.mesa_metadata.specs.mesa_catalog.mesa_history.Refused.{is_refusal}
+use Rattle.mesa_metadata.specs.mesa_catalog.mesa_history.Run.{Stage, First, Looked, Finished}
+use Rattle.mesa_metadata.specs.mesa_catalog.mesa_history.Turns.{IsDue}
 use Rattle.mesa_model.specs.Load.{load_batch}
 use Rattle.mesa_model.specs.Pins.{make_pin, release_pin}
 use Rattle.mesa_model.specs.Tables.{alter_table, make_table, make_view}
 use Rattle.mesa_model.specs.Versions.{expire_to}
-use Rattle.mesa_ledger.specs.mesa_output.Output.{block}
-use Rattle.mesa_ledger.specs.mesa_skeleton.Rows.{Rows}
-use Rattle.mesa_ledger.specs.mesa_walk.Books.{Books}
-use Rattle.mesa_ledger.specs.mesa_walk.Causes.{Cause, Replies, Unread, Damaged, Unwritten, NoMemory, outcome_of, reply_of, told_at, is_read_fault}
-use Rattle.mesa_ledger.specs.mesa_walk.Changes.{Doing, IsDecided, HasFailed, HasNoPlan, failed_books}
-use Rattle.mesa_ledger.specs.mesa_walk.Printing.{IsPut}
-use Rattle.mesa_ledger.specs.mesa_walk.Queries.{HasNoAnswer}
-use Rattle.mesa_ledger.specs.mesa_walk.Turns.{Shown, IsSeen, Takes, entry, is_simple}
-use Rattle.mesa_ledger.specs.mesa_walk.Undamaged.{is_damaged}
-use Rattle.mesa_ledger.specs.mesa_walk.Walk.{Outset, Counts, WalksOn, run_of}
-use Rattle.mesa_ledger.specs.mesa_walk.Works.{HasNoClaim}
-use Rattle.mesa_ledger.proofs.mesa_walk.Asking.{unpinned_turn, unpinned_ends}
-use Rattle.mesa_ledger.proofs.mesa_walk.Changing.{alter_decided, expire_decided, load_decided, pin_decided, release_decided, table_decided, view_decided, fails_turn}
-use Rattle.mesa_ledger.proofs.mesa_walk.Going.{publish_takes, simple_takes, takes_as}
-use Rattle.mesa_ledger.proofs.mesa_walk.Reading.{unexplained_turn}
-use Rattle.mesa_ledger.proofs.mesa_walk.Turning.{stays, counts_same, skipped_turn}
-use Rattle.mesa_ledger.proofs.mesa_walk.Working.{ungranted_turn, ungranted_ends}
-use Rattle.mesa_ledger.specs.Ledger.{Ledger, books_of}
-use Rattle.mesa_ledger.specs.Vault.{Origin, IsVault}
-use Rattle.mesa_ledger.proofs.Staying.{still_vault}
+use Rattle.mesa_metadata.specs.mesa_ledger.mesa_output.Output.{block}
+use Rattle.mesa_metadata.specs.mesa_ledger.mesa_skeleton.Rows.{Rows}
+use Rattle.mesa_metadata.specs.mesa_ledger.mesa_walk.Books.{Books}
+use Rattle.mesa_metadata.specs.mesa_ledger.mesa_walk.Causes.{Cause, Replies, Unread, Damaged, Unwritten, NoMemory, outcome_of, reply_of, told_at, is_read_fault}
+use Rattle.mesa_metadata.specs.mesa_ledger.mesa_walk.Changes.{Doing, IsDecided, HasFailed, HasNoPlan, failed_books}
+use Rattle.mesa_metadata.specs.mesa_ledger.mesa_walk.Printing.{IsPut}
+use Rattle.mesa_metadata.specs.mesa_ledger.mesa_walk.Queries.{HasNoAnswer}
+use Rattle.mesa_metadata.specs.mesa_ledger.mesa_walk.Turns.{Shown, IsSeen, Takes, entry, is_simple}
+use Rattle.mesa_metadata.specs.mesa_ledger.mesa_walk.Undamaged.{is_damaged}
+use Rattle.mesa_metadata.specs.mesa_ledger.mesa_walk.Walk.{Outset, Counts, WalksOn, run_of}
+use Rattle.mesa_metadata.specs.mesa_ledger.mesa_walk.Works.{HasNoClaim}
+use Rattle.mesa_metadata.proofs.mesa_ledger.mesa_walk.Asking.{unpinned_turn, unpinned_ends}
+use Rattle.mesa_metadata.proofs.mesa_ledger.mesa_walk.Changing.{alter_decided, expire_decided, load_decided, pin_decided, release_decided, table_decided, view_decided, fails_turn}
+use Rattle.mesa_metadata.proofs.mesa_ledger.mesa_walk.Going.{publish_takes, simple_takes, takes_as}
+use Rattle.mesa_metadata.proofs.mesa_ledger.mesa_walk.Reading.{unexplained_turn}
+use Rattle.mesa_metadata.proofs.mesa_ledger.mesa_walk.Turning.{stays, counts_same, skipped_turn}
+use Rattle.mesa_metadata.proofs.mesa_ledger.mesa_walk.Working.{ungranted_turn, ungranted_ends}
+use Rattle.mesa_metadata.specs.mesa_ledger.Ledger.{Ledger, books_of}
+use Rattle.mesa_metadata.specs.mesa_ledger.Vault.{Origin, IsVault}
+use Rattle.mesa_metadata.proofs.mesa_ledger.Staying.{still_vault}
 use Rattle.mesa_engine.specs.Failing.{HasNotDone, is_of_device, deciding_stage, deciding_kind}
 
 -- ---- causes hang on no rows
@@ -63,12 +65,12 @@ answer_alike a b l s words (Damaged damage) has = has
 answer_alike a b l s words Unwritten has = has
 answer_alike a b l s words NoMemory has = has
 
-claim_alike : (a b : Rows) (l : Ledger) (at : ℕ) (name : List ℕ) (cause : Cause) → HasNoClaim (books_of a l) at name cause → HasNoClaim (books_of b l) at name cause
-claim_alike a b l at name (Replies r) has = has
-claim_alike a b l at name Unread has = has
-claim_alike a b l at name (Damaged damage) has = has
-claim_alike a b l at name Unwritten has = has
-claim_alike a b l at name NoMemory has = has
+claim_alike : (a b : Rows) (l : Ledger) (asked : Result Claim Reply) (cause : Cause) → HasNoClaim (books_of a l) asked cause → HasNoClaim (books_of b l) asked cause
+claim_alike a b l asked (Replies r) has = has
+claim_alike a b l asked Unread has = has
+claim_alike a b l asked (Damaged damage) has = has
+claim_alike a b l asked Unwritten has = has
+claim_alike a b l asked NoMemory has = has
 
 pub undone_alike : (a b : Rows) (l : Ledger) (at s : ℕ) (c : Command) (cause : Cause) → HasNotDone (books_of a l) at s c cause → HasNotDone (books_of b l) at s c cause
 undone_alike a b l at s (command.Load rows) cause has = failed_alike a b l (command.Load rows) (λ w. load_batch w rows) cause has
@@ -80,7 +82,8 @@ undone_alike a b l at s (command.Release token) cause has = failed_alike a b l (
 undone_alike a b l at s (command.Expire table version) cause has = failed_alike a b l (command.Expire table version) (λ w. expire_to w table version) cause has
 undone_alike a b l at s (command.Explain words) cause has = plan_alike a b l words cause has
 undone_alike a b l at s (command.Query words) cause has = answer_alike a b l s words cause has
-undone_alike a b l at s (command.Work words) cause has = claim_alike a b l at words.table cause has
+undone_alike a b l at s (command.Work words) cause has = claim_alike a b l (claim_of (books_of a l).bare (books_of a l).machine at words.table) cause has
+undone_alike a b l at s (command.Recast words) cause has = claim_alike a b l (recast_claim_of (books_of a l).bare (books_of a l).machine at words) cause has
 
 -- a command that is to be decided has no answer open
 pub deciding_unanswered : (c : Command) → is_answered (deciding_stage c) ≡ false
@@ -94,6 +97,7 @@ deciding_unanswered (command.Pin asked) = refl
 deciding_unanswered (command.Release token) = refl
 deciding_unanswered (command.Expire table version) = refl
 deciding_unanswered (command.Work words) = refl
+deciding_unanswered (command.Recast words) = refl
 
 -- ---- causes without a device
 
@@ -159,7 +163,9 @@ module _ (o : Outset) (g : Origin) (sound : Bool) (l : Ledger) (story : Story) (
     walks (command.Query words) due cause has quiet now new_held put =
         unpinned_turn o sound (books_of v.rows l) story held h running refused v.walk s number low few words m moment ran story (stays story) due cause has (counts cause quiet) at place now new_held put
     walks (command.Work words) due cause has quiet now new_held put =
-        ungranted_turn o sound (books_of v.rows l) story held h running refused v.walk s number low few words m ran at place moment story (stays story) due cause has (counts cause quiet) now new_held put
+        ungranted_turn o sound (books_of v.rows l) story held h running refused v.walk s number low few (command.Work words) refl m ran at place moment story (stays story) due cause has (counts cause quiet) now new_held put
+    walks (command.Recast words) due cause has quiet now new_held put =
+        ungranted_turn o sound (books_of v.rows l) story held h running refused v.walk s number low few (command.Recast words) refl m ran at place moment story (stays story) due cause has (counts cause quiet) now new_held put
 
     -- A turn that fails.
     pub failing_vault : (a : Rows) (c : Command) → IsDue o.script (run_of o h) s number c (deciding_stage c) → (cause : Cause) → HasNotDone (books_of a l) at s c cause → is_of_device cause ≡ false → (now : Bool) (new_held : Option (List ℕ))
@@ -197,5 +203,9 @@ module _ (o : Outset) (g : Origin) (sound : Bool) (l : Ledger) (story : Story) (
       grew (runs_on cause) (λ on. ran) seen
   failing_takes (command.Work words) due cause has grew =
       takes_as o.script o.start old new s number (command.Work words) First kind.Grant Finished due (outcome_of cause)
-      (ungranted_ends o sound (books_of v.rows l) story held h running refused v.walk s number low few words new.clock ran at place moment story (stays story) due cause (claim_alike a v.rows l at words.table cause has))
+      (ungranted_ends o sound (books_of v.rows l) story held h running refused v.walk s number low few (command.Work words) refl new.clock ran at place moment story (stays story) due cause (claim_alike a v.rows l (claim_of (books_of a l).bare (books_of a l).machine at words.table) cause has))
+      grew (runs_on cause) (λ on. ran) seen
+  failing_takes (command.Recast words) due cause has grew =
+      takes_as o.script o.start old new s number (command.Recast words) First kind.Grant Finished due (outcome_of cause)
+      (ungranted_ends o sound (books_of v.rows l) story held h running refused v.walk s number low few (command.Recast words) refl new.clock ran at place moment story (stays story) due cause (claim_alike a v.rows l (recast_claim_of (books_of a l).bare (books_of a l).machine at words) cause has))
       grew (runs_on cause) (λ on. ran) seen

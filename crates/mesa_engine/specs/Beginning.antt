@@ -2,25 +2,27 @@
 use Rattle.std.specs.Prelude.{◌≡◌, ℕ, ◌+◌, ◌<◌, ◌≤◌, List, [], Bool, Option, IsTrue}
 use Rattle.mesa_disk.specs.Story.{Story}
 use Rattle.mesa_disk.specs.declared.area.Area.{Area}
-use Rattle.mesa_catalog.specs.mesa_history.Claims.{HasRanges}
+use Rattle.mesa_metadata.specs.mesa_catalog.mesa_history.Claims.{HasRanges}
 use Rattle.mesa_lease.specs.Book.{begun}
 use Rattle.mesa_model.specs.Warehouse.{max_tables}
-use Rattle.mesa_catalog.specs.mesa_image.Catalog.{Catalog}
-use Rattle.mesa_catalog.specs.mesa_image.Held.{IsHeld}
-use Rattle.mesa_catalog.specs.mesa_image.Shape.{IsCatalog}
-use Rattle.mesa_catalog.specs.mesa_image.Sound.{AreStocked}
-use Rattle.mesa_ledger.specs.mesa_image_laws.Ids.{HasOwnIds, named}
-use Rattle.mesa_ledger.specs.mesa_image_laws.Sourced.{HasSources, all_written}
-use Rattle.mesa_ledger.specs.mesa_skeleton.Rows.{Rows}
-use Rattle.mesa_ledger.specs.mesa_trash.Holding.{Among}
-use Rattle.mesa_ledger.specs.mesa_walk.Books.{AreBooksOf}
-use Rattle.mesa_ledger.specs.mesa_walk.Walk.{AllFound}
-use Rattle.mesa_ledger.specs.Ledger.{books_of, first_id}
-use Rattle.mesa_ledger.specs.Vault.{Starts, IsRead, IsReady, outset_of}
-use Rattle.mesa_catalog.specs.Lookups.{generation_of}
+use Rattle.mesa_metadata.specs.mesa_catalog.mesa_image.Catalog.{Catalog}
+use Rattle.mesa_metadata.specs.mesa_catalog.mesa_image.Held.{IsHeld}
+use Rattle.mesa_metadata.specs.mesa_catalog.mesa_image.Shape.{IsCatalog}
+use Rattle.mesa_metadata.specs.mesa_catalog.mesa_image.Sound.{AreStocked}
+use Rattle.mesa_metadata.specs.mesa_ledger.mesa_image_laws.Countable.{AreCounted}
+use Rattle.mesa_metadata.specs.mesa_ledger.mesa_image_laws.Ids.{HasOwnIds, named}
+use Rattle.mesa_metadata.specs.mesa_ledger.mesa_image_laws.Recordable.{AreRecordable}
+use Rattle.mesa_metadata.specs.mesa_ledger.mesa_image_laws.Sourced.{HasSources}
+use Rattle.mesa_metadata.specs.mesa_ledger.mesa_skeleton.Rows.{Rows}
+use Rattle.mesa_metadata.specs.mesa_ledger.mesa_trash.Holding.{Among}
+use Rattle.mesa_metadata.specs.mesa_ledger.mesa_walk.Books.{AreBooksOf}
+use Rattle.mesa_metadata.specs.mesa_ledger.mesa_walk.Walk.{AllFound}
+use Rattle.mesa_metadata.specs.mesa_ledger.Ledger.{books_of, first_id}
+use Rattle.mesa_metadata.specs.mesa_ledger.Vault.{Starts, IsRead, IsReady, outset_of}
+use Rattle.mesa_metadata.specs.mesa_catalog.Lookups.{generation_of}
 use Rattle.mesa_metadata.specs.Memory.{opened_ledger}
 
--- What a run of a family finds at its start, where the files have these rows. On every store: the catalogue is that of its start's skeleton and of this run, and has the shape and the ids of one; the disk's clock and counts aren't behind those of the start; the sink has what the start says; and the disk is ready for the run's first record. On a sound store: a read gives an image, the journal that ends here, in this area, holds the catalogue with these rows, and whatever a crash since the start may have left is found.
+-- What a run of a family finds at its start, where the files have these rows. On every store: the catalogue is that of its start's skeleton and of this run, and has the shape and the ids of one, and what its files are to keep; the disk's clock and counts aren't behind those of the start; the sink has what the start says; and the disk is ready for the run's first record. On a sound store: a read gives an image, the journal that ends here, in this area, holds the catalogue with these rows, and whatever a crash since the start may have left is found.
 pub record IsBegun (n : Starts) (w : Rows) (sound : Bool) (c : Catalog) (area : Area) (end turns : ℕ) (story : Story) (held : Option (List ℕ)) : Type 0 where
   pub bodies : List (List ℕ)
   pub state : AreBooksOf sound (books_of w (opened_ledger c area end turns)) (n.start w)
@@ -30,6 +32,8 @@ pub record IsBegun (n : Starts) (w : Rows) (sound : Bool) (c : Catalog) (area : 
   pub run : (n.origin w).run ≡ c.run
   pub shaped : IsCatalog c
   pub own : HasOwnIds c
+  pub columns : AreCounted c
+  pub recordable : AreRecordable c
   pub named_given : (id : ℕ) → Among id (named c) → id < first_id c.run + 0
   pub ready : IsReady (opened_ledger c area end turns) story
   pub since : n.since ≤ story.moment
@@ -39,4 +43,4 @@ pub record IsBegun (n : Starts) (w : Rows) (sound : Bool) (c : Catalog) (area : 
   pub found : IsTrue sound → AllFound (outset_of n w) [] story
   pub stocked : IsTrue sound → AreStocked w c
   pub read : IsTrue sound → IsRead story
-  pub sourced : IsTrue sound → HasSources w (all_written (n.origin w).found []) c
+  pub sourced : IsTrue sound → HasSources w (n.origin w).found c

@@ -1,17 +1,17 @@
 -- What an engine keeps between turns.
-use Rattle.std.specs.Prelude.{◌≡◌, ℕ, ◌≤◌, ◌^◌, List, [], true, false, not, Option, length, vec_capacity}
+use Rattle.std.specs.Prelude.{◌≡◌, ℕ, ◌≤◌, List, [], true, false, not, Option, length, vec_capacity}
 use Rattle.std.specs.List.{AllByRecursion}
 use Rattle.mesa_fault.specs.Causes.{Rose}
 use Rattle.mesa_disk.specs.Image.{Image}
 use Rattle.mesa_disk.specs.Story.{Story}
 use Rattle.mesa_model.specs.declared.commands.Script.{Script}
-use Rattle.mesa_catalog.specs.mesa_history.Run.{State}
-use Rattle.mesa_ledger.specs.mesa_skeleton.Rows.{Rows}
-use Rattle.mesa_ledger.specs.mesa_walk.Turns.{Faults, Shown}
-use Rattle.mesa_ledger.specs.mesa_walk.Undamaged.{NoneDamaged}
+use Rattle.mesa_metadata.specs.mesa_catalog.mesa_history.Run.{State}
+use Rattle.mesa_metadata.specs.mesa_ledger.mesa_skeleton.Rows.{Rows}
+use Rattle.mesa_metadata.specs.mesa_ledger.mesa_walk.Turns.{Faults, Shown}
+use Rattle.mesa_metadata.specs.mesa_ledger.mesa_walk.Undamaged.{NoneDamaged}
 use Rattle.mesa_log.specs.declared.log.Log.{Log}
-use Rattle.mesa_ledger.specs.Ledger.{Ledger}
-use Rattle.mesa_ledger.specs.Vault.{Origin, Starts, IsVaultAt}
+use Rattle.mesa_metadata.specs.mesa_ledger.Ledger.{Ledger}
+use Rattle.mesa_metadata.specs.mesa_ledger.Vault.{Origin, Starts, IsVaultAt}
 use Rattle.mesa_metadata.specs.Memory.{Memory}
 
 -- a run as the parts of its name tell it
@@ -26,9 +26,9 @@ pub record Standing : Type 0 where
   pub faults : Faults
   pub sink : Option (List ℕ)
 
--- how many turns a run has at most
+-- how many turns a run has at most: three for each of the commands that a script may have
 abbrev pub most_turns : ℕ
-most_turns = 2 ^ 20
+most_turns = 600000
 
 -- What an engine keeps: it is a vault, with room for each turn that the run may have yet. No lease was granted or renewed behind the last turn; no entry is from before the run; the sink's count of faults rose in the run exactly where its printer is broken; before the first turn the sink has what it had at the start; and where the store was sound no entry met damage.
 pub record IsEngine {K : Type 0} (held : K → Option (List ℕ)) (faults : K → ℕ) (n : Starts) (turns sinks : ℕ) (m : Memory) (story : Story) (log : Log K) : Type 0 where

@@ -9,14 +9,15 @@ use Rattle.mesa_model.specs.Load.{load_batch}
 use Rattle.mesa_model.specs.Tables.{alter_table, make_table, make_view}
 use Rattle.mesa_model.specs.Pins.{make_pin, release_pin}
 use Rattle.mesa_model.specs.Versions.{expire_to}
-use Rattle.mesa_catalog.specs.mesa_history.Run.{Stage, First, Looked, Run}
-use Rattle.mesa_catalog.specs.mesa_history.Legal.{is_due_at}
-use Rattle.mesa_catalog.specs.mesa_history.Turns.{IsDue}
-use Rattle.mesa_ledger.specs.mesa_walk.Books.{Books}
-use Rattle.mesa_ledger.specs.mesa_walk.Causes.{Cause, Unread, Damaged, Unwritten}
-use Rattle.mesa_ledger.specs.mesa_walk.Changes.{HasFailed, HasNoPlan}
-use Rattle.mesa_ledger.specs.mesa_walk.Queries.{HasNoAnswer}
-use Rattle.mesa_ledger.specs.mesa_walk.Works.{HasNoClaim}
+use Rattle.mesa_metadata.specs.mesa_catalog.mesa_history.Machine.{claim_of, recast_claim_of}
+use Rattle.mesa_metadata.specs.mesa_catalog.mesa_history.Run.{Stage, First, Looked, Run}
+use Rattle.mesa_metadata.specs.mesa_catalog.mesa_history.Legal.{is_due_at}
+use Rattle.mesa_metadata.specs.mesa_catalog.mesa_history.Turns.{IsDue}
+use Rattle.mesa_metadata.specs.mesa_ledger.mesa_walk.Books.{Books}
+use Rattle.mesa_metadata.specs.mesa_ledger.mesa_walk.Causes.{Cause, Unread, Damaged, Unwritten}
+use Rattle.mesa_metadata.specs.mesa_ledger.mesa_walk.Changes.{HasFailed, HasNoPlan}
+use Rattle.mesa_metadata.specs.mesa_ledger.mesa_walk.Queries.{HasNoAnswer}
+use Rattle.mesa_metadata.specs.mesa_ledger.mesa_walk.Works.{HasNoClaim}
 
 -- A turn of this kind is due to a session's command.
 pub record Comes (script : Script) (r : Run) (session number : ℕ) (k : Kind) : Type 0 where
@@ -33,6 +34,7 @@ deciding_stage c = First
 -- the kind of the turn that decides it
 abbrev pub deciding_kind : Command → Kind
 deciding_kind (command.Work words) = kind.Grant
+deciding_kind (command.Recast words) = kind.Grant
 deciding_kind c = kind.Decide
 
 -- Why the turn that decides a command does nothing for it: it is refused as the books say, or a fault or want of memory stands in its way.
@@ -46,7 +48,8 @@ HasNotDone books position session (command.Release token) cause = HasFailed book
 HasNotDone books position session (command.Expire table version) cause = HasFailed books (command.Expire table version) (λ w. expire_to w table version) cause
 HasNotDone books position session (command.Explain words) cause = HasNoPlan books words cause
 HasNotDone books position session (command.Query words) cause = HasNoAnswer books session words cause
-HasNotDone books position session (command.Work words) cause = HasNoClaim books position words.table cause
+HasNotDone books position session (command.Work words) cause = HasNoClaim books (claim_of books.bare books.machine position words.table) cause
+HasNotDone books position session (command.Recast words) cause = HasNoClaim books (recast_claim_of books.bare books.machine position words) cause
 
 -- whether a device has to have failed for a cause, or a file to be damaged
 abbrev pub is_of_device : Cause → Bool

@@ -1,19 +1,18 @@
 // The engine, and what can be asked of it between turns.
 ghost use Rattle.std.specs.Prelude.{◌≡◌, ◌+◌, ◌<◌, ◌^◌, IfOk};
 ghost use Rattle.mesa_batch.specs.Glance.{tables_of};
-ghost use Rattle.mesa_catalog.specs.Lookups.{sight_of};
-ghost use Rattle.mesa_catalog.specs.mesa_history.Refused.{some_refused};
-ghost use Rattle.mesa_catalog.specs.mesa_history.Run.{begins};
-ghost use Rattle.mesa_ledger.specs.mesa_skeleton.Rows.{Rows, no_rows};
-ghost use Rattle.mesa_ledger.specs.mesa_walk.Sight.{schema_changes, tables_seen};
-ghost use Rattle.mesa_ledger.specs.mesa_walk.Walk.{run_at};
+ghost use Rattle.mesa_metadata.specs.mesa_catalog.Lookups.{sight_of};
+ghost use Rattle.mesa_metadata.specs.mesa_catalog.mesa_history.Refused.{some_refused};
+ghost use Rattle.mesa_metadata.specs.mesa_catalog.mesa_history.Run.{begins};
+ghost use Rattle.mesa_metadata.specs.mesa_ledger.mesa_skeleton.Rows.{Rows, no_rows};
+ghost use Rattle.mesa_metadata.specs.mesa_ledger.mesa_walk.Sight.{schema_changes, tables_seen};
+ghost use Rattle.mesa_metadata.specs.mesa_ledger.mesa_walk.Walk.{run_at};
 
 use mesa_batch::Glance;
 use mesa_disk::{Disk, Made};
 use mesa_io::Sink;
-use mesa_ledger::Naming;
 use mesa_log::Log;
-use mesa_metadata::Metadata;
+use mesa_metadata::{Metadata, Naming};
 use std::alloc::AllocError;
 use std::marker::{Model, PhantomData};
 
@@ -32,7 +31,7 @@ impl<N: Naming, M: Made, D: Disk<M>, K: Sink> Model for Engine<N, M, D, K> {
     ghost use Rattle.std.specs.FinMap.{code as coded_map};
     ghost use Rattle.std.specs.Ordering.{nat_cmp};
     ghost use Rattle.mesa_engine.specs.Engine.{IsEngine, Standing, starts_of};
-    ghost use Rattle.mesa_ledger.specs.mesa_walk.Turns.{faults_of};
+    ghost use Rattle.mesa_metadata.specs.mesa_ledger.mesa_walk.Turns.{faults_of};
 
     ghost Value = { Standing };
 

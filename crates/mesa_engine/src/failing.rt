@@ -1,19 +1,19 @@
 // Turns that do nothing for their command.
 ghost use Rattle.std.specs.Prelude.{◌≡◌, ◌<◌, true, false, length};
 ghost use Rattle.mesa_engine.specs.Failing.{Comes, Fails};
-ghost use Rattle.mesa_catalog.specs.mesa_history.Run.{Finished, Stage};
-ghost use Rattle.mesa_ledger.specs.Ledger.{books_of};
+ghost use Rattle.mesa_metadata.specs.mesa_catalog.mesa_history.Run.{Finished, Stage};
+ghost use Rattle.mesa_metadata.specs.mesa_ledger.Ledger.{books_of};
 ghost use Rattle.mesa_log.specs.Failure.{cause_in};
-ghost use Rattle.mesa_ledger.specs.mesa_skeleton.Rows.{Rows, no_rows};
-ghost use Rattle.mesa_ledger.specs.mesa_walk.Causes.{reply_of};
-ghost use Rattle.mesa_ledger.specs.mesa_walk.Turns.{AnswersDisk, AnswersDraft, Takes};
-ghost use Rattle.mesa_ledger.specs.mesa_walk.Walk.{run_at};
+ghost use Rattle.mesa_metadata.specs.mesa_ledger.mesa_skeleton.Rows.{Rows, no_rows};
+ghost use Rattle.mesa_metadata.specs.mesa_ledger.mesa_walk.Causes.{reply_of};
+ghost use Rattle.mesa_metadata.specs.mesa_ledger.mesa_walk.Turns.{AnswersDisk, AnswersDraft, Takes};
+ghost use Rattle.mesa_metadata.specs.mesa_ledger.mesa_walk.Walk.{run_at};
 
 use crate::Engine;
 use mesa_disk::{Disk, Made};
 use mesa_io::Sink;
-use mesa_ledger::Naming;
 use mesa_log::{Failure, Who};
+use mesa_metadata::Naming;
 use mesa_model::{Kind, Outcome, Reply};
 
 impl<N: Naming, M: Made, D: Disk<M>, K: Sink> Engine<N, M, D, K> {

@@ -8,3 +8,5 @@ mod failing;
 mod starting;
 
 pub use engine::Engine;
+pub use mesa_log::{Failure, Log, Who};
+pub use mesa_metadata::{Begun, Catalog, Metadata, Naming};

@@ -74,7 +74,7 @@ task_views {R = R} bytes s count vs is = subst (λ n. AreTaskViews bytes s 0 vs 
 
 -- ---- damage
 
-differs : (told : Option Image) (s : Columns) (file : FileRef) (d : Damage) → IsDamageOf told s file d → d.want ≢ d.found
+pub differs : (told : Option Image) (s : Columns) (file : FileRef) (d : Damage) → IsDamageOf told s file d → d.want ≢ d.found
 differs told s file d is = elim is.shown [
   | inl absent ↦ subst (λ (x : Damage). x.want ≢ x.found) (sym absent.shown) (λ e. absurd cc)
   | inr marred ↦ by marred.content marred.size marred.shown

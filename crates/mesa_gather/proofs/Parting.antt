@@ -1,5 +1,5 @@
 -- Readers of one list of files for several parts.
-use Rattle.std.proofs.Common.{◌≡◌, ℕ, List, [], ◌∷◌, ◌++◌, length, map, refl, sym, ap, ◌∙◌, subst, false, Option, Some, None}
+use Rattle.std.proofs.Common.{◌≡◌, ℕ, List, [], ◌∷◌, ◌++◌, length, map, refl, sym, subst, false, Option, Some, None}
 use Rattle.std.specs.Prelude.{flat_map}
 use Rattle.std.specs.List.{AllByRecursion, range_with_len}
 use Rattle.mesa_file.specs.declared.damage.Damage.{Damage}
@@ -19,8 +19,7 @@ use Rattle.mesa_tasks.proofs.Openings.{opened_fresh}
 use Rattle.mesa_tasks.proofs.Retired.{all_append}
 use Rattle.mesa_tasks.proofs.Spares.{spares_opened}
 use Rattle.mesa_gather.specs.Gathered.{unread_view, unread_views}
-use Rattle.mesa_gather.specs.Parts.{AreReaders, ArePartsOf}
-use Rattle.mesa_gather.specs.declared.parts.Parts.{Parts}
+use Rattle.mesa_gather.specs.Parts.{AreReaders}
 
 -- a view that isn't read has no readers
 no_own : {R : Type 0} (ns : List ℕ) → flat_map (own_inputs {R = R}) (map (unread_view {R = R}) ns) ≡ []

@@ -1,100 +1,88 @@
--- What is accepted later is behind every range that was granted.
-use Rattle.std.proofs.Common.{◌≡◌, ◌∙◌, ℕ, ◌+◌, ◌<◌, ◌≤◌, List, [], ◌∷◌, ◌++◌, map, cond, Bool, true, false, ◌&&◌, nat_le, refl, sym, ap, subst, arith, append-nil, append_assoc, Option}
-use Rattle.std.specs.Prelude.{filter}
+-- What stands written of a range stays, while its table isn't recast.
+use Rattle.std.proofs.Common.{◌≡◌, ◌∙◌, ℕ, ◌<◌, ◌≤◌, List, [], ◌∷◌, ◌++◌, true, refl, sym, ap, subst, Option}
 use Rattle.std.specs.List.{AllByRecursion}
-use Rattle.std.proofs.lemmas.Bool.Decides.{nat_tests}
-use Rattle.std.proofs.lemmas.List.{map-append}
-use Rattle.std.proofs.lemmas.List.Elements.{filter-append}
-use Rattle.mesa_schema.specs.Changes.{Lineage, columns_of}
+use Rattle.mesa_schema.specs.Changes.{Lineage, columns_of, epoch_of}
 use Rattle.mesa_model.specs.declared.commands.Script.{Script}
 use Rattle.mesa_model.specs.declared.entries.Entry.{Entry}
-use Rattle.mesa_model.specs.Warehouse.{Warehouse}
-use Rattle.mesa_history.specs.Law.{Accepted, accepted_by, accepted_in}
+use Rattle.mesa_history.specs.Claims.{HasClaim, HasRanges, is_live}
+use Rattle.mesa_history.specs.Law.{begun_at, writing_by, written_in, written_through}
+use Rattle.mesa_history.specs.Machine.{Claim}
 use Rattle.mesa_history.specs.Replay.{go, runs}
 use Rattle.mesa_history.specs.Run.{Run, State, begins}
-use Rattle.mesa_history.specs.Sources.{Source, range_rows}
-use Rattle.mesa_gather.specs.mesa_image_laws.Moves.{last_of, first_of}
-use Rattle.mesa_gather.specs.mesa_image_laws.Sourced.{Written, batch_written, source_written, sources_from}
-use Rattle.mesa_laws.proofs.Moves.{Moves}
-use Rattle.mesa_laws.proofs.Turns.{go_moves}
+use Rattle.mesa_history.specs.Sources.{Source, Written, range_rows, sources_from}
+use Rattle.mesa_history.proofs.Claims.{begins_hold, runs_hold}
+use Rattle.mesa_laws.proofs.Begun.{claims_keep_begun}
+use Rattle.mesa_history.proofs.More.{runs-append}
+use Rattle.mesa_span.specs.declared.works.Work.{Work}
+use Rattle.mesa_swapping.specs.mesa_gather.mesa_image_laws.Moves.{last_of, first_of}
+use Rattle.mesa_laws.proofs.Ranges.{ranges_hold}
 use Rattle.mesa_swapping.specs.mesa_ledger.Vault.{Origin}
-use Rattle.mesa_swapping.proofs.mesa_ledger.Lists.{all_joined}
 use Rattle.mesa_swapping.specs.Finished.{GroupOnly, HasRange, sources_in}
+use Rattle.mesa_swapping.specs.Recasts.{HasItsRange, HasItsRanges}
+use Rattle.mesa_tasks.specs.Recasts.{recast_table}
 use Rattle.mesa_tasks.specs.declared.merging.Task.{Task}
+use Rattle.mesa_tasks.specs.declared.recasting.Recast.{Recast}
+use Rattle.mesa_tasks.specs.declared.recasting.RecastRange.{RecastRange}
 use Rattle.mesa_service.specs.mesa_walk.Walk.{run_at}
 use Rattle.mesa_swapping.specs.mesa_ledger.Written.{written_at}
 
--- ---- batches
+-- ---- what is written behind a history
 
--- no version is below this one, whatever a turn makes of a warehouse
-later_moves : (n : ℕ) (w : Warehouse) → n ≤ w.next → Moves w (λ s next batches. (n ≤ next) × AllByRecursion (λ (a : Accepted). n ≤ a.version) batches)
-later_moves n w le = record {
-  same = (le, tt);
-  loads = λ rows batch read. (omega (arith, le), (le, tt));
-  makes = λ words free good. (le, tt);
-  views = λ words number free at rules. (le, tt);
-  alters = λ words number c at asked rules. (le, tt);
-  expires = λ version ok. (le, tt);
-  expires_one = λ name number version at ok. (le, tt);
-}
+written_later : (script : Script) (r : Run) (h more : List Entry) (number : ℕ) (found : List Written) → written_in script r (h ++ more) number found ≡ written_in script (runs script r h) more number (written_in script r h number found)
+unfolding written_in runs
+written_later script r [] more number found = refl
+written_later script r (e ∷ h) more number found = written_later script (go script r e) h more number (written_through r.state.warehouse.store (writing_by script r e) number found)
 
-later_accepted : (n : ℕ) (script : Script) (r : Run) (h : List Entry) → n ≤ r.state.warehouse.next → AllByRecursion (λ (a : Accepted). n ≤ a.version) (accepted_in script r h)
-unfolding accepted_in
-later_accepted n script r [] le = tt
-later_accepted n script r (e ∷ h) le =
-    let both = go_moves script r e (λ s next batches. (n ≤ next) × AllByRecursion (λ (a : Accepted). n ≤ a.version) batches) (later_moves n r.state.warehouse le) in
-    all_joined (λ (a : Accepted). n ≤ a.version) (accepted_by script r e) (accepted_in script (go script r e) h) both.1 (later_accepted n script (go script r e) h both.0)
+module _ (script : Script) (start : State) (past later : List Entry) where
+  -- the run goes on from where it was
+  whole : runs script (run_at script start past) later ≡ run_at script start (past ++ later)
+  whole = sym (runs-append script (begins start) past later)
 
-accepted_append : (script : Script) (r : Run) (h more : List Entry) → accepted_in script r (h ++ more) ≡ accepted_in script r h ++ accepted_in script (runs script r h) more
-unfolding accepted_in runs
-accepted_append script r [] more = refl
-accepted_append script r (e ∷ h) more =
-    ap (λ xs. accepted_by script r e ++ xs) (accepted_append script (go script r e) h more) ∙ sym (append_assoc (accepted_by script r e) (accepted_in script (go script r e) h) (accepted_in script (runs script (go script r e) h) more))
+  -- a live lease keeps its table from being recast
+  pub lease_holds : (claim : Claim) (work : Work) → HasRanges start → HasClaim (run_at script start past).state claim work → is_live (run_at script start (past ++ later)).state.machine.leases claim.table claim.lease ≡ true
+      → begun_at (run_at script start (past ++ later)).state.warehouse claim.table ≡ begun_at (run_at script start past).state.warehouse claim.table
+  lease_holds claim work ranges has live =
+      subst (λ (r : Run). begun_at r.state.warehouse claim.table ≡ begun_at (run_at script start past).state.warehouse claim.table) whole
+      (claims_keep_begun script (run_at script start past) later claim work (runs_hold script (begins start) past (begins_hold start ranges)) has
+      (subst (λ (r : Run). is_live r.state.machine.leases claim.table claim.lease ≡ true) (sym whole) live))
 
--- ---- what they write
+  module _ (origin : Origin) (table : ℕ) (same : begun_at (run_at script start (past ++ later)).state.warehouse table ≡ begun_at (run_at script start past).state.warehouse table) where
+    sources_later : (from to : ℕ) → to < (run_at script start past).state.warehouse.next → sources_from from to (written_at script start origin (past ++ later) table) ≡ sources_from from to (written_at script start origin past table)
+    sources_later from to below =
+        ap (sources_from from to) (written_later script (begins start) past later table (origin.found table))
+        ∙ ranges_hold script (run_at script start past) later table from to (written_at script start origin past table) below (ap (λ (r : Run). begun_at r.state.warehouse table) whole ∙ same)
 
-and_false : (b : Bool) → (b && false) ≡ false
-and_false true = refl
-and_false false = refl
+-- ---- a task
 
-abbrev within : ℕ → ℕ → Written → Bool
-within from to w = nat_le from w.version && nat_le w.version to
-
-behind : (from to : ℕ) (w : Written) → to < w.version → within from to w ≡ false
-behind from to w lt = ap (λ b. nat_le from w.version && b) (past w.version to lt) ∙ and_false (nat_le from w.version)
-  where
-    past : (v t : ℕ) → t < v → nat_le v t ≡ false
-    past v t less = grind (arith, nat_tests)
-
-none_within : (from to number : ℕ) (batches : List Accepted) → AllByRecursion (λ (a : Accepted). to + 1 ≤ a.version) batches → filter (within from to) (map (batch_written number) batches) ≡ []
-none_within from to number [] all = refl
-none_within from to number (a ∷ batches) all =
-    ap (λ b. cond b (batch_written number a ∷ filter (within from to) (map (batch_written number) batches)) (filter (within from to) (map (batch_written number) batches))) (behind from to (batch_written number a) (omega (arith, all.0)))
-    ∙ none_within from to number batches all.1
-
-same_sources : (from to number : ℕ) (written : List Written) (batches : List Accepted) → AllByRecursion (λ (a : Accepted). to + 1 ≤ a.version) batches → sources_from from to (written ++ map (batch_written number) batches) ≡ sources_from from to written
-same_sources from to number written batches all =
-    ap (map source_written) (filter-append (within from to) written (map (batch_written number) batches) ∙ ap (λ xs. filter (within from to) written ++ xs) (none_within from to number batches all) ∙ append-nil (filter (within from to) written))
-
-module _ (script : Script) (start : State) (origin : Origin) (past later : List Entry) (table from to : ℕ) (below : to < (run_at script start past).state.warehouse.next) where
-  written_later : written_at script start origin (past ++ later) table ≡ written_at script start origin past table ++ map (batch_written table) (accepted_in script (run_at script start past) later)
-  written_later =
-      ap (λ xs. origin.found table ++ map (batch_written table) xs) (accepted_append script (begins start) past later)
-      ∙ ap (λ xs. origin.found table ++ xs) (map-append (batch_written table) (accepted_in script (begins start) past) (accepted_in script (run_at script start past) later))
-      ∙ sym (append_assoc (origin.found table) (map (batch_written table) (accepted_in script (begins start) past)) (map (batch_written table) (accepted_in script (run_at script start past) later)))
-
-  sources_later : sources_from from to (written_at script start origin (past ++ later) table) ≡ sources_from from to (written_at script start origin past table)
-  sources_later =
-      ap (sources_from from to) written_later
-      ∙ same_sources from to table (written_at script start origin past table) (accepted_in script (run_at script start past) later) (later_accepted (to + 1) script (run_at script start past) later (omega (arith, below)))
-
--- So a task has its range whatever comes later.
 pub range_later : {R : Type 0} (read : R → Option (List ℕ)) (was : Lineage) (t : Task R) (script : Script) (start : State) (origin : Origin) (past later : List Entry) → last_of t.work < (run_at script start past).state.warehouse.next
+    → begun_at (run_at script start (past ++ later)).state.warehouse t.table ≡ begun_at (run_at script start past).state.warehouse t.table
     → HasRange read was t (written_at script start origin past t.table) → HasRange read was t (written_at script start origin (past ++ later) t.table)
-range_later read was t script start origin past later below has =
-    let same : sources_in t (written_at script start origin past t.table) ≡ sources_in t (written_at script start origin (past ++ later) t.table) = sym (sources_later script start origin past later t.table (first_of t.work) (last_of t.work) below) in
+range_later read was t script start origin past later below begun has =
+    let same : sources_in t (written_at script start origin past t.table) ≡ sources_in t (written_at script start origin (past ++ later) t.table) = sym (sources_later script start past later origin t.table begun (first_of t.work) (last_of t.work) below) in
     record {
       epochs = subst (AllByRecursion (λ (s : Source). s.epoch ≤ t.epoch)) same has.epochs;
       rows = λ its merge. has.rows its merge ∙ ap (range_rows was t.epoch) same;
       views = subst (λ (ss : List Source). GroupOnly read (columns_of was) (range_rows was t.epoch ss) was.views t.views.items) same has.views;
     }
+
+-- ---- a recast
+
+module _ {R : Type 0} (read : R → Option (List ℕ)) (l : Lineage) (script : Script) (start : State) (origin : Origin) (past later : List Entry) (table : ℕ)
+    (begun : begun_at (run_at script start (past ++ later)).state.warehouse table ≡ begun_at (run_at script start past).state.warehouse table) where
+  one_later : (x : RecastRange R) → x.to < (run_at script start past).state.warehouse.next → HasItsRange read l (written_at script start origin past table) x → HasItsRange read l (written_at script start origin (past ++ later) table) x
+  one_later x below has =
+      let same : sources_from x.from x.to (written_at script start origin past table) ≡ sources_from x.from x.to (written_at script start origin (past ++ later) table) = sym (sources_later script start past later origin table begun x.from x.to below) in
+      record {
+        epochs = subst (AllByRecursion (λ (s : Source). s.epoch ≤ epoch_of l)) same has.epochs;
+        rows = λ its merge. has.rows its merge ∙ ap (range_rows l (epoch_of l)) same;
+      }
+
+  pub all_later : (ranges : List (RecastRange R)) → AllByRecursion (λ (x : RecastRange R). x.to < (run_at script start past).state.warehouse.next) ranges → AllByRecursion (HasItsRange read l (written_at script start origin past table)) ranges
+      → AllByRecursion (HasItsRange read l (written_at script start origin (past ++ later) table)) ranges
+  all_later [] below has = tt
+  all_later (x ∷ ranges) below has = (one_later x below.0 has.0, all_later ranges below.1 has.1)
+
+pub recast_later : {R : Type 0} (read : R → Option (List ℕ)) (t : Recast R) (script : Script) (start : State) (origin : Origin) (past later : List Entry) → AllByRecursion (λ (x : RecastRange R). x.to < (run_at script start past).state.warehouse.next) t.ranges.items
+    → begun_at (run_at script start (past ++ later)).state.warehouse t.table ≡ begun_at (run_at script start past).state.warehouse t.table
+    → HasItsRanges read t (written_at script start origin past t.table) → HasItsRanges read t (written_at script start origin (past ++ later) t.table)
+recast_later read t script start origin past later below begun has = all_later read (recast_table t) script start origin past later t.table begun t.ranges.items below has

@@ -1,4 +1,5 @@
 pub mod Same
+pub mod SameRecasts
 pub mod Merged
 pub mod Going
 pub mod Later

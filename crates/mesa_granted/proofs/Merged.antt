@@ -6,10 +6,9 @@ use Rattle.std.specs.declared.alloc.Global.{Global}
 use Rattle.mesa_schema.specs.declared.rows.Row.{Row}
 use Rattle.mesa_schema.specs.declared.views.View.{View}
 use Rattle.mesa_schema.specs.Changes.{Lineage, columns_of}
-use Rattle.mesa_schema.specs.Columns.{Columns, aggs_of}
-use Rattle.mesa_schema.specs.Folded.{folded}
+use Rattle.mesa_schema.specs.Columns.{Columns}
 use Rattle.mesa_delta.specs.declared.input.Input.{Input}
-use Rattle.mesa_gather.specs.Gathered.{unread_views}
+use Rattle.mesa_swapping.specs.mesa_gather.Gathered.{unread_views}
 use Rattle.mesa_service.specs.mesa_merge.Inputs.{Known, knowns_of}
 use Rattle.mesa_service.specs.Works.{known_task}
 use Rattle.mesa_service.specs.mesa_compact.Tasks.{KnownView, known_view}

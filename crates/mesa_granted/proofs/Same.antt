@@ -7,9 +7,8 @@ use Rattle.mesa_schema.specs.Changes.{Lineage, columns_of}
 use Rattle.mesa_schema.specs.Columns.{Columns}
 use Rattle.mesa_schema.specs.Views.{view_columns, view_rows}
 use Rattle.mesa_span.specs.declared.works.Work.{Work}
-use Rattle.mesa_history.specs.Sources.{Source, range_rows}
-use Rattle.mesa_gather.specs.mesa_image_laws.Moves.{first_of, last_of}
-use Rattle.mesa_gather.specs.mesa_image_laws.Sourced.{Written, sources_from}
+use Rattle.mesa_history.specs.Sources.{Source, Written, range_rows, sources_from}
+use Rattle.mesa_swapping.specs.mesa_gather.mesa_image_laws.Moves.{first_of, last_of}
 use Rattle.mesa_service.specs.Works.{KnownTask, known_task}
 use Rattle.mesa_service.specs.mesa_compact.Tasks.{KnownView, known_view}
 use Rattle.mesa_service.proofs.Known.{cons_none, first_same, merge_stays, only_stays, rest_same}

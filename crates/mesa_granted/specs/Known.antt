@@ -3,12 +3,16 @@ use Rattle.std.specs.Prelude.{◌≡◌, ℕ, ◌+◌, List, [], ◌∷◌, Opti
 use Rattle.std.specs.List.{AllByRecursion}
 use Rattle.mesa_schema.specs.Changes.{Lineage, epoch_of}
 use Rattle.mesa_schema.specs.declared.views.View.{View}
-use Rattle.mesa_gather.specs.mesa_image_laws.Sourced.{Written}
 use Rattle.mesa_service.specs.mesa_merge.Inputs.{Known}
+use Rattle.mesa_service.specs.mesa_copy.Copying.{IsRecastBounded}
+use Rattle.mesa_service.specs.Recasts.{KnownRecast, known_recast}
 use Rattle.mesa_model.specs.Warehouse.{Store, table_at}
 use Rattle.mesa_service.specs.Works.{KnownTask, known_task}
 use Rattle.mesa_service.specs.mesa_compact.Tasks.{KnownView}
 use Rattle.mesa_swapping.specs.Finished.{HasRange}
+use Rattle.mesa_swapping.specs.Recasts.{HasItsRanges}
+use Rattle.mesa_tasks.specs.mesa_history.Sources.{Written}
+use Rattle.mesa_tasks.specs.declared.recasting.Recast.{Recast}
 use Rattle.mesa_tasks.specs.declared.merging.Task.{Task}
 
 -- the columns and views of the table of a number
@@ -29,3 +33,13 @@ pub record IsKnownOf (was : Lineage) (k : KnownTask) : Type 0 where
   pub epoch : k.epoch ≡ epoch_of was
   pub files : AllByRecursion (λ (f : Known). f.table ≡ was) k.files
   pub views : k.views ≡ unread_from 0 was.views
+
+-- ---- recasts
+
+-- Each recast of which this is known has its ranges,
+abbrev pub AllHaveRanges : {R : Type 0} → (R → Option (List ℕ)) → KnownRecast → List Written → Type 0
+AllHaveRanges {R = R} read k written = (t : Recast R) → known_recast read t ≡ k → HasItsRanges read t written
+
+-- and no sum over one of them leaves its type.
+abbrev pub AllAreBounded : {R : Type 0} → (R → Option (List ℕ)) → KnownRecast → Type 0
+AllAreBounded {R = R} read k = (t : Recast R) → known_recast read t ≡ k → IsRecastBounded read t

@@ -1,5 +1,5 @@
 pub use Rattle.mesa_service.specs.mesa_compact as mesa_compact
-pub use Rattle.mesa_gather.specs as mesa_gather
+pub use Rattle.mesa_swapping.specs.mesa_gather as mesa_gather
 pub use Rattle.mesa_service.specs.mesa_merge as mesa_merge
 pub use Rattle.mesa_service.specs.mesa_query as mesa_query
 pub use Rattle.mesa_service.specs as mesa_service

@@ -5,7 +5,7 @@ use Rattle.mesa_walk.specs.mesa_disk.Story.{Story, Unmoved}
 use Rattle.mesa_image_laws.specs.mesa_model.declared.entries.Entry.{Entry}
 use Rattle.mesa_image_laws.specs.mesa_history.Claims.{HasRanges, HasClaimAt}
 use Rattle.mesa_image_laws.specs.mesa_history.Counting.{count_in}
-use Rattle.mesa_image_laws.specs.mesa_history.Law.{accepted_in}
+use Rattle.mesa_image_laws.specs.mesa_history.Law.{written_in}
 use Rattle.mesa_image_laws.specs.mesa_history.Run.{begins, place_of}
 use Rattle.mesa_image_laws.proofs.mesa_history.Claims.{runs_hold, begins_hold}
 use Rattle.mesa_image_laws.specs.mesa_image.Catalog.{Catalog}
@@ -20,7 +20,9 @@ use Rattle.mesa_walk.specs.Turns.{IsSeen}
 use Rattle.mesa_walk.specs.Walk.{Outset, IsWalk, Counts, run_of}
 use Rattle.mesa_walk.proofs.Beginning.{unmoved_walk}
 use Rattle.mesa_ledger.specs.Ledger.{Ledger, books_of, next_id}
-use Rattle.mesa_image_laws.specs.Sourced.{HasSources, all_written}
+use Rattle.mesa_image_laws.specs.Countable.{AreCounted}
+use Rattle.mesa_image_laws.specs.Recordable.{AreRecordable}
+use Rattle.mesa_image_laws.specs.Sourced.{HasSources}
 use Rattle.mesa_ledger.specs.Vault.{Origin, IsRead, IsReady, IsVault, Starts, IsVaultAt, outset_of}
 use Rattle.mesa_ledger.proofs.Standing.{held_unmoved, ready_unmoved, there_unmoved}
 
@@ -30,10 +32,10 @@ first_ledger o c generation area end = record { catalogue = c; generation = gene
 
 -- Before the first turn.
 pub started_vault : (o : Outset) (g : Origin) (sound : Bool) (c : Catalog) (area : Area) (end : ℕ) (story : Story) (held : Option (List ℕ)) (rows : Rows) (bodies : List (List ℕ)) → IsWalk o sound (books_of rows (first_ledger o c g.generation area end)) story held [] true false
-    → c.run ≡ g.run → HasRanges o.start → o.start.machine.leases.granted ≡ 0 → (IsTrue sound → IsHeld story area bodies end c rows) → IsCatalog c → HasOwnIds c → ((id : ℕ) → Among id (named c) → id < next_id (first_ledger o c g.generation area end))
-    → IsReady (first_ledger o c g.generation area end) story → (IsTrue sound → AreStocked rows c) → (IsTrue sound → HasSources rows (all_written g.found []) c) → (IsTrue sound → IsRead story) → IsVault o g sound (first_ledger o c g.generation area end) story held [] true false
-unfolding count_in accepted_in
-started_vault o g sound c area end story held rows bodies walk numbered ranges none stands shaped own named_given ready stocked sourced read = record {
+    → c.run ≡ g.run → HasRanges o.start → o.start.machine.leases.granted ≡ 0 → (IsTrue sound → IsHeld story area bodies end c rows) → IsCatalog c → HasOwnIds c → AreCounted c → AreRecordable c → ((id : ℕ) → Among id (named c) → id < next_id (first_ledger o c g.generation area end))
+    → IsReady (first_ledger o c g.generation area end) story → (IsTrue sound → AreStocked rows c) → (IsTrue sound → HasSources rows g.found c) → (IsTrue sound → IsRead story) → IsVault o g sound (first_ledger o c g.generation area end) story held [] true false
+unfolding count_in written_in
+started_vault o g sound c area end story held rows bodies walk numbered ranges none stands shaped own columns recordable named_given ready stocked sourced read = record {
   rows = rows;
   bodies = bodies;
   seen = λ position. c;
@@ -42,6 +44,8 @@ started_vault o g sound c area end story held rows bodies walk numbered ranges n
   stands = λ ok is. stands ok;
   shaped = shaped;
   own = own;
+  columns = columns;
+  recordable = recordable;
   copies = tt;
   versions = tt;
   counts = record { leases = omega (arith, none); given = tt; adopted = omega arith; generation = omega arith; run = numbered };
@@ -64,6 +68,8 @@ unmoved_vault o g sound l story new held h running refused same counts v = recor
   stands = λ ok is. held_unmoved story new same l.area v.bodies l.end l.catalogue v.rows (v.stands ok is);
   shaped = v.shaped;
   own = v.own;
+  columns = v.columns;
+  recordable = v.recordable;
   copies = v.copies;
   versions = v.versions;
   counts = v.counts;

@@ -15,4 +15,5 @@ pub mod Agreeing
 pub mod Changing
 pub mod Sources
 pub mod Swapping
+pub mod Recasting
 pub mod Writing

@@ -11,9 +11,9 @@ use Rattle.mesa_image_laws.specs.Ids.{named}
 use Rattle.mesa_trash.specs.Holding.{AreFiled}
 use Rattle.mesa_walk.specs.Walk.{Outset, WalksOn}
 use Rattle.mesa_ledger.specs.Ledger.{HeldPin, OpenQuery, Ledger, books_of, next_id, most_files, holders, ids_held}
-use Rattle.mesa_image_laws.specs.Sourced.{HasSources, all_written}
+use Rattle.mesa_image_laws.specs.Sourced.{HasSources}
 use Rattle.mesa_ledger.specs.Vault.{Origin, IsReady, IsVault}
-use Rattle.mesa_ledger.proofs.Accepting.{silent_accepts, silent_changes}
+use Rattle.mesa_ledger.proofs.Accepting.{silent_changes, silent_leaves}
 use Rattle.mesa_ledger.proofs.Holding.{AreKept}
 use Rattle.mesa_ledger.proofs.Standing.{held_unmoved, ready_unmoved}
 
@@ -39,6 +39,8 @@ module _ (o : Outset) (g : Origin) (sound : Bool) (l : Ledger) (story : Story) (
       stands = λ ok is. held_unmoved story new same l.area v.bodies l.end l.catalogue v.rows (v.stands ok (opened is));
       shaped = v.shaped;
       own = v.own;
+      columns = v.columns;
+      recordable = v.recordable;
       copies = kept.copies;
       versions = kept.versions;
       counts = record {
@@ -53,7 +55,7 @@ module _ (o : Outset) (g : Origin) (sound : Bool) (l : Ledger) (story : Story) (
       read = λ ok. let was = v.read ok in (was.0, same.told ∙ was.1);
       there = λ ok i is. kept.there ok i (sym same.told ∙ is);
       stocked = λ ok. ((v.stocked ok).0, kept.stocked ok);
-      sourced = λ ok. subst (λ a. HasSources v.rows (all_written g.found a) l.catalogue) (sym (silent_accepts o.script (begins o.start) h e on.silent)) (v.sourced ok);
+      sourced = λ ok. subst (λ written. HasSources v.rows written l.catalogue) (sym (silent_leaves o.script (begins o.start) h e on.silent g.found)) (v.sourced ok);
     }
       where
         more : length (h ++ e ∷ []) ≡ length h + 1

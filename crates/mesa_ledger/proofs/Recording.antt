@@ -26,9 +26,9 @@ use Rattle.mesa_walk.specs.Sight.{is_of_schemas, tells_of_schemas, schema_change
 use Rattle.mesa_walk.specs.Walk.{Outset, WalksOn, WalksWith}
 use Rattle.mesa_ledger.specs.Ledger.{Ledger, books_of, first_id, next_id, past_id, most_files, Holder, holders, ids_held, files_held}
 use Rattle.mesa_ledger.specs.Recorded.{waiting, removed_by, left_by, Adopts, IsRecorded, recorded_ledger, failed_ledger}
-use Rattle.mesa_image_laws.specs.Sourced.{HasSources, all_written}
+use Rattle.mesa_image_laws.specs.Sourced.{HasSources}
 use Rattle.mesa_ledger.specs.Vault.{Origin, IsRead, AreThere, IsVault, written_by}
-use Rattle.mesa_ledger.proofs.Accepting.{silent_accepts, silent_changes, changes_more}
+use Rattle.mesa_ledger.proofs.Accepting.{silent_changes, silent_leaves, changes_more}
 use Rattle.mesa_ledger.proofs.Filing.{IsCleared, holds_are, filed_lost, freed_cleared, none_cleared, old_agree, files_stay}
 use Rattle.mesa_ledger.proofs.Lists.{map_all, all_also}
 
@@ -121,6 +121,8 @@ module _ (o : Outset) (g : Origin) (sound : Bool) (l : Ledger) (story : Story) (
         stands = stands;
         shaped = recorded.shaped;
         own = recorded.own;
+        columns = recorded.columns;
+        recordable = recorded.recordable;
         copies = v.copies;
         versions = v.versions;
         counts = record {
@@ -160,6 +162,8 @@ module _ (o : Outset) (g : Origin) (sound : Bool) (l : Ledger) (story : Story) (
     stands = λ ok is. absurd (let never : Some position ≡ None = is in cc);
     shaped = v.shaped;
     own = v.own;
+    columns = v.columns;
+    recordable = v.recordable;
     copies = v.copies;
     versions = v.versions;
     counts = record {
@@ -174,5 +178,5 @@ module _ (o : Outset) (g : Origin) (sound : Bool) (l : Ledger) (story : Story) (
     read = read_stays;
     there = there_stays v.rows (λ id low. refl);
     stocked = λ ok. v.stocked ok;
-    sourced = λ ok. subst (λ a. HasSources v.rows (all_written g.found a) l.catalogue) (sym (silent_accepts o.script (begins o.start) h e on.silent)) (v.sourced ok);
+    sourced = λ ok. subst (λ written. HasSources v.rows written l.catalogue) (sym (silent_leaves o.script (begins o.start) h e on.silent g.found)) (v.sourced ok);
   }

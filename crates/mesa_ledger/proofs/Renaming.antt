@@ -13,7 +13,7 @@ use Rattle.mesa_image_laws.specs.mesa_record.Rules.{keeps_rules}
 use Rattle.mesa_image_laws.proofs.mesa_history.Places.{same_is}
 use Rattle.mesa_image_laws.specs.mesa_image.Catalog.{Catalog, Delta, Stock, applied, no_stock, start_in, stock_at}
 use Rattle.mesa_image_laws.specs.mesa_image.Fitting.{base_deltas, delta_in, delta_shelved, deltas_of, files_shelved, fits, shelved_id, stock_shelved, view_shelved}
-use Rattle.mesa_image_laws.specs.Ids.{HasOwnIds, brought_ids, delta_ids, dropped_deltas, dropped_ids, file_ids, named, times}
+use Rattle.mesa_image_laws.specs.Ids.{HasOwnIds, brought_ids, delta_ids, dropped_deltas, dropped_ids, file_ids, named, own_delta_id, own_id, recast_dropped, times}
 use Rattle.mesa_image_laws.proofs.Ids.{brought_own, counted}
 use Rattle.mesa_image_laws.proofs.Lists.{is_equal}
 use Rattle.mesa_image_laws.proofs.Moving.{kind_of}
@@ -74,6 +74,24 @@ module _ (id : ℕ) where
       (⊎_elim (λ two. in_left cumulatives t.singles two) (λ three. in_right cumulatives t.singles (in_front (to + 1 - start_in t) t.singles three)) (in_either cumulatives (take (to + 1 - start_in t) t.singles) rest)))
       (in_either base (cumulatives ++ take (to + 1 - start_in t) t.singles) is)
 
+  own_there : (ds : List Delta) → Among id (flat_map own_delta_id ds) → In ds
+  own_there [] is = absurd is
+  own_there (d ∷ ds) is = ⊎_elim (λ one. among_left id (delta_ids d) _ (by d.files one)) (λ more. among_right id (delta_ids d) _ (own_there ds more)) (among_split id (own_delta_id d) (flat_map own_delta_id ds) is)
+    where
+      by : (files : Option Files) → Among id (own_id files) → Among id (file_ids files)
+      by None is = absurd is
+      by (Some f) (inl same) = inl same
+      by (Some f) (inr never) = absurd never
+
+  -- and so are those whose files go with a recast
+  recast_there : (t : Stock) → Among id (recast_dropped t) → In (deltas_of t)
+  recast_there t is =
+      let base = base_deltas t.base in
+      let cumulatives = map delta_in t.cumulatives in
+      ⊎_elim (λ own. ⊎_elim (λ one. in_left base (cumulatives ++ t.singles) one) (λ three. in_right base (cumulatives ++ t.singles) (in_right cumulatives t.singles three)) (in_either base t.singles (own_there (base ++ t.singles) own)))
+      (λ two. in_right base (cumulatives ++ t.singles) (in_left cumulatives t.singles two))
+      (among_split id (flat_map own_delta_id (base ++ t.singles)) (flat_map delta_ids cumulatives) is)
+
 -- ---- ids of tables
 
 ids_of_files : (l : Lineage) (epoch : ℕ) (files : Option Files) → map shelved_id (files_shelved l epoch files) ≡ file_ids files
@@ -103,6 +121,7 @@ dropped_named id c (record_of.Swap table false from to epoch files) is = absurd 
 dropped_named id c (record_of.Expire version) is = absurd is
 dropped_named id c (record_of.ExpireTable table version) is = absurd is
 dropped_named id c (record_of.Checkpoint k) is = absurd is
+dropped_named id c (record_of.Recast k) is = table_named id c.tables k.table (recast_there id (stock_at c k.table) is)
 
 -- ---- a record
 

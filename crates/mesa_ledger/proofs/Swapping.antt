@@ -28,12 +28,12 @@ use Rattle.mesa_ledger.specs.Ledger.{Ledger, books_of, next_id, skeleton_of}
 use Rattle.mesa_ledger.specs.Recorded.{recorded_ledger}
 use Rattle.mesa_ledger.specs.Vault.{Origin, IsVault}
 use Rattle.mesa_ledger.proofs.Agreeing.{same_kept, same_pins}
-use Rattle.mesa_ledger.proofs.Sources.{AcceptsNone}
+use Rattle.mesa_ledger.proofs.Sources.{LeavesWritten}
 
--- a swap accepts no batch
-pub swap_accepts : (w : Work) → AcceptsNone (swapped_reply w)
-swap_accepts (range.Base to) = λ s c. refl
-swap_accepts (range.Cumulative from to) = λ s c. refl
+-- a swap leaves what stands written
+pub swap_leaves : (w : Work) → LeavesWritten (swapped_reply w)
+swap_leaves (range.Base to) = λ s c stage. refl
+swap_leaves (range.Cumulative from to) = λ s c stage. refl
 
 -- a lease that ends was granted before
 pub ended_granted : (table number : ℕ) (book : Book) → (ended table number book).granted ≡ book.granted
@@ -53,7 +53,7 @@ swap_skeleton t true to d = refl
 swap_skeleton t false to d = refl
 
 module _ (o : Outset) (g : Origin) (sound : Bool) (l : Ledger) (story : Story) (held : Option (List ℕ)) (h : List Entry) (running refused : Bool) (v : IsVault o g sound l story held h running refused)
-    (later : Rows) (agree : (id : ℕ) → id < next_id l → later id ≡ v.rows id) (claim : Claim) (base : Bool) (from to epoch : ℕ) (files : Option Files) (work_is : work_of base from to ≡ claim.work) where
+    (later : Rows) (agree : (id : ℕ) → id < next_id l → later id ≡ v.rows id) (claim : Claim) (work : Work) (base : Bool) (from to epoch : ℕ) (files : Option Files) (work_is : work_of base from to ≡ work) where
   abbrev c : Catalog
   c = l.catalogue
 
@@ -67,21 +67,21 @@ module _ (o : Outset) (g : Origin) (sound : Bool) (l : Ledger) (story : Story) (
   old = books_of v.rows l
 
   -- The claim's range is swapped in, and the store then keeps what the catalogue stands for.
-  pub swap_is : IsWithin base t to → (IsTrue sound → Replaces later t.lineage (merged_delta epoch files) (merged_of t base to)) → Swaps sound old claim (kept_of later x)
+  pub swap_is : IsWithin base t to → (IsTrue sound → Replaces later t.lineage (merged_delta epoch files) (merged_of t base to)) → Swaps sound old claim work (kept_of later x)
   swap_is within replaces s had ok =
-      ap (λ k. kept_swapped k claim.table claim.work) (had.rows ok ∙ sym (same_kept o g sound l story held h running refused v later agree)) ∙ ap (kept_swapped (kept_of later c) claim.table) (sym work_is)
+      ap (λ k. kept_swapped k claim.table work) (had.rows ok ∙ sym (same_kept o g sound l story held h running refused v later agree)) ∙ ap (kept_swapped (kept_of later c) claim.table) (sym work_is)
       ∙ sym (swap_moves later c claim.table base from to epoch files within (replaces ok))
 
   skeletons : map skeleton_of (slice_set c.tables claim.table (stock_swapped t base to (merged_delta epoch files))) ≡ map skeleton_of c.tables
   skeletons = set_same skeleton_of c.tables claim.table (stock_swapped t base to (merged_delta epoch files)) ∙ ap (slice_set (map skeleton_of c.tables) claim.table) (swap_skeleton t base to (merged_delta epoch files))
       ∙ sym (set_same skeleton_of c.tables claim.table t) ∙ ap (map skeleton_of) (set_back c.tables claim.table no_stock)
 
-  ranges : map ranges_of (slice_set c.tables claim.table (stock_swapped t base to (merged_delta epoch files))) ≡ slice_set (map ranges_of c.tables) claim.table (swapped claim.work (slice_index_or (map ranges_of c.tables) claim.table (ranges_of no_stock)))
+  ranges : map ranges_of (slice_set c.tables claim.table (stock_swapped t base to (merged_delta epoch files))) ≡ slice_set (map ranges_of c.tables) claim.table (swapped work (slice_index_or (map ranges_of c.tables) claim.table (ranges_of no_stock)))
   ranges = map-set ranges_of c.tables claim.table (stock_swapped t base to (merged_delta epoch files))
       ∙ ap (slice_set (map ranges_of c.tables) claim.table) (ranges_swapped t base from to (merged_delta epoch files) ∙ (λ i. swapped (work_is i) (sym (map_at ranges_of c.tables claim.table no_stock) i)))
 
   -- and the books are those of the ledger.
-  pub swapped_as : (generation : ℕ) (waits : List Dropped) (adopted end : ℕ) → books_of later (recorded_ledger l x generation waits (ended claim.table claim.lease l.leases) adopted end) ≡ swapped_books claim (kept_of later x) old
+  pub swapped_as : (generation : ℕ) (waits : List Dropped) (adopted end : ℕ) → books_of later (recorded_ledger l x generation waits (ended claim.table claim.lease l.leases) adopted end) ≡ swapped_books claim work (kept_of later x) old
   swapped_as generation waits adopted end = λ i. record (books_of later (recorded_ledger l x generation waits (ended claim.table claim.lease l.leases) adopted end)) {
     bare = record old.bare { store = record { tables = skeletons i; floor = c.floor } };
     machine = record { ranges = ranges i; leases = ended claim.table claim.lease l.leases };

@@ -2,8 +2,7 @@
 use Rattle.std.specs.Prelude.{ℕ, ◌+◌, ◌*◌, ◌^◌, List, [], ◌++◌, map, Option}
 use Rattle.mesa_walk.specs.mesa_disk.declared.area.Area.{Area}
 use Rattle.mesa_lease.specs.Book.{Book}
-use Rattle.mesa_image_laws.specs.mesa_schema.Views.{max_views}
-use Rattle.mesa_image_laws.specs.mesa_model.Warehouse.{Table, Store, Pin, max_tables}
+use Rattle.mesa_image_laws.specs.mesa_model.Warehouse.{Table, Store, Pin}
 use Rattle.mesa_image_laws.specs.mesa_model.Pins.{store_at}
 use Rattle.mesa_image_laws.specs.mesa_image.Catalog.{Stock, Catalog, ranges_of}
 use Rattle.mesa_image_laws.specs.mesa_image.Fitting.{shelved}
@@ -92,9 +91,13 @@ next_id l = first_id l.catalogue.run + l.adopted
 abbrev pub past_id : Ledger → ℕ
 past_id l = first_id (l.catalogue.run + 1)
 
--- how many files a turn adopts at most: one for each table, and one for each of its views
+-- how many ranges a recast rewrites at most: those of the singletons that its table had at the grant, its base, and those that came since
+abbrev pub most_ranges : ℕ
+most_ranges = 1200001
+
+-- How many files a turn adopts at most: a recast one for each range. A load adopts one for each table and for each of its views, which are fewer.
 abbrev pub most_files : ℕ
-most_files = max_tables * (1 + max_views)
+most_files = most_ranges
 
 -- A hold on the files that a catalogue named.
 abbrev pub Holder : Type 0

@@ -4,7 +4,9 @@ use Rattle.mesa_trash.specs.mesa_commit.Turn.{made_ids}
 use Rattle.mesa_image_laws.specs.mesa_image.Catalog.{Catalog}
 use Rattle.mesa_image_laws.specs.mesa_image.Shape.{IsCatalog}
 use Rattle.mesa_lease.specs.Book.{Book}
+use Rattle.mesa_image_laws.specs.Countable.{AreCounted}
 use Rattle.mesa_image_laws.specs.Ids.{HasOwnIds, named}
+use Rattle.mesa_image_laws.specs.Recordable.{AreRecordable}
 use Rattle.mesa_walk.specs.mesa_skeleton.Rows.{Rows}
 use Rattle.mesa_trash.specs.declared.trash.Dropped.{Dropped}
 use Rattle.mesa_trash.specs.declared.trash.Hold.{Hold}
@@ -48,6 +50,8 @@ pub record IsRecorded (l : Ledger) (rows later : Rows) (c : Catalog) (made : Lis
   pub brings : (id : ℕ) → Among id (made_ids made) → Among id (named c)
   pub shaped : IsCatalog c
   pub own : HasOwnIds c
+  pub columns : AreCounted c
+  pub recordable : AreRecordable c
 
 -- The ledger behind the record of a turn, with the files that wait then.
 abbrev pub recorded_ledger : Ledger → Catalog → ℕ → List Dropped → Book → ℕ → ℕ → Ledger

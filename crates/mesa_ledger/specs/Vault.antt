@@ -7,14 +7,17 @@ use Rattle.mesa_trash.specs.mesa_commit.Images.{Has}
 use Rattle.mesa_image_laws.specs.mesa_model.declared.commands.Script.{Script}
 use Rattle.mesa_image_laws.specs.mesa_model.declared.entries.Entry.{Entry}
 use Rattle.mesa_image_laws.specs.mesa_history.Claims.{HasRanges}
-use Rattle.mesa_image_laws.specs.mesa_history.Law.{Accepted, accepted_in}
+use Rattle.mesa_image_laws.specs.mesa_history.Law.{written_in}
 use Rattle.mesa_image_laws.specs.mesa_history.Run.{State, begins}
+use Rattle.mesa_image_laws.specs.mesa_history.Sources.{Written}
 use Rattle.mesa_image_laws.specs.mesa_image.Catalog.{Catalog}
 use Rattle.mesa_image_laws.specs.mesa_image.Held.{IsHeld}
 use Rattle.mesa_image_laws.specs.mesa_image.Shape.{IsCatalog}
 use Rattle.mesa_image_laws.specs.mesa_image.Sound.{AreStocked, StandsFor}
+use Rattle.mesa_image_laws.specs.Countable.{AreCounted as AreColumnsCounted}
 use Rattle.mesa_image_laws.specs.Ids.{HasOwnIds, named}
-use Rattle.mesa_image_laws.specs.Sourced.{Written, all_written, HasSources}
+use Rattle.mesa_image_laws.specs.Recordable.{AreRecordable}
+use Rattle.mesa_image_laws.specs.Sourced.{HasSources}
 use Rattle.mesa_walk.specs.mesa_skeleton.Rows.{Rows}
 use Rattle.mesa_trash.specs.Filed.{AreFresh, AreNamedOrWait, PinFiles}
 use Rattle.mesa_trash.specs.Holding.{AreFiled, ids_of}
@@ -23,13 +26,9 @@ use Rattle.mesa_walk.specs.Walk.{Outset, IsWalk}
 use Rattle.mesa_image_laws.specs.mesa_model.Versions.{common_oldest}
 use Rattle.mesa_ledger.specs.Ledger.{HeldPin, Ledger, books_of, next_id, past_id, most_files, Holder, holders, ids_held, files_held, skeletons}
 
--- The batches that a run accepted so far.
-abbrev pub accepted_by : Outset → List Entry → List Accepted
-accepted_by o h = accepted_in o.script (begins o.start) h
-
--- all that was written of each table so far
+-- All that stands written of each table so far: what was found of it, and the batches that the run accepted since, each carried through the recasts behind it.
 abbrev pub written_by : Outset → (ℕ → List Written) → List Entry → ℕ → List Written
-written_by o found h = all_written found (accepted_by o h)
+written_by o found h number = written_in o.script (begins o.start) h number (found number)
 
 -- The holds tell which files the pins and the open queries have; what waits isn't named; and all ids were given before the next one.
 abbrev pub IsFiled : (ℕ → Catalog) → Ledger → List Entry → Type 0
@@ -67,7 +66,7 @@ pub record Origin : Type 0 where
   pub found : ℕ → List Written
   pub generation : ℕ
 
--- The counts of a vault: of leases and of pins none is more than there were turns, no turn adopted more files than there can be, the catalogue's generation rose once for each turn that made or changed a table, a view or columns, and its run is this one.
+-- The counts of a vault: of leases and of pins none is more than there were turns, no turn adopted more files than there can be, the catalogue's generation rose once for each turn that made or changed a table, a view or columns, or recast a table, and its run is this one.
 pub record AreCounted (o : Outset) (g : Origin) (l : Ledger) (h : List Entry) : Type 0 where
   pub leases : l.leases.granted ≤ length h
   pub given : AllByRecursion (λ n. n ≤ length h) l.given
@@ -75,7 +74,7 @@ pub record AreCounted (o : Outset) (g : Origin) (l : Ledger) (h : List Entry) : 
   pub generation : l.generation ≡ g.generation + schema_changes o.script (begins o.start) h
   pub run : l.catalogue.run ≡ g.run
 
--- What a vault keeps, for rows that its files may have, and the catalogues that stood at its open queries' positions: the walk of its history with the books of its ledger; that each image stands for its catalogue while it is open; the shape of its catalogues, and its counts; its files, which a read gives where the store was sound; and what its rows are and were made of.
+-- What a vault keeps, for rows that its files may have, and the catalogues that stood at its open queries' positions: the walk of its history with the books of its ledger; that each image stands for its catalogue while it is open; the shape of its catalogues, whose files count their columns and keep the rules of records, and its counts; its files, which a read gives where the store was sound; and what its rows are and were made of.
 pub record IsVault (o : Outset) (g : Origin) (sound : Bool) (l : Ledger) (story : Story) (held : Option (List ℕ)) (h : List Entry) (running refused : Bool) : Type 0 where
   pub rows : Rows
   pub bodies : List (List ℕ)
@@ -85,6 +84,8 @@ pub record IsVault (o : Outset) (g : Origin) (sound : Bool) (l : Ledger) (story 
   pub stands : IsTrue sound → l.closed ≡ None → IsHeld story l.area bodies l.end l.catalogue rows
   pub shaped : IsCatalog l.catalogue
   pub own : HasOwnIds l.catalogue
+  pub columns : AreColumnsCounted l.catalogue
+  pub recordable : AreRecordable l.catalogue
   pub copies : AreShaped seen l
   pub versions : AllByRecursion IsVersioned l.pins
   pub counts : AreCounted o g l h

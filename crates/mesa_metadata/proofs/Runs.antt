@@ -20,4 +20,5 @@ run_stays c (record_of.Publish version parts) e low = low
 run_stays c (record_of.Swap table base from to epoch files) e low = low
 run_stays c (record_of.Expire version) e low = low
 run_stays c (record_of.ExpireTable table version) e low = low
+run_stays c (record_of.Recast k) e low = low
 run_stays c (record_of.Checkpoint k) e low = low

@@ -12,4 +12,6 @@ mod recording;
 mod trash;
 
 pub use holders::Pin;
+pub use mesa_catalog::{Begun, Catalog};
+pub use mesa_ledger::Naming;
 pub use metadata::Metadata;

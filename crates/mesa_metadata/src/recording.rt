@@ -25,7 +25,7 @@ impl Metadata {
         Ok(())
     }
 
-    /// The ids of the files that the swap of a work may remove in the turn at the position once it drops these: no pin and no open query holds them.
+    /// The ids of the files that the swap of a work, or a recast, may remove in the turn at the position once it drops these: no pin and no open query holds them.
     pub fn removable(&self, position: u64, gone: &[FileId]) -> Result<Vec<FileId>, AllocError>
         ensures { IfOk result (λ ids. ids.items ≡ removed_by self.now.ledger position gone.now) }
     {
@@ -52,7 +52,7 @@ impl Metadata {
         self.end = end;
     }
 
-    /// Takes in the record of a swap, whose turn at the position dropped these files and removed what it could of the trash; else as `apply`.
+    /// Takes in the record of a swap or of a recast, whose turn at the position dropped these files and removed what it could of the trash; else as `apply`.
     pub fn apply_swap(&mut self, r: Record, position: u64, gone: &[FileId], adopted: u64, end: u64)
         requires room { HasRoomFor r (length gone.now) self.old.reserved }
         requires few { adopted < 2 ^ 40 }

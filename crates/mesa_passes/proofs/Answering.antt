@@ -110,6 +110,7 @@ may_then : (store : Store) (c : Option Command) (e : Entry) → builds_files_in 
 may_then store None e builds fault fits = absurd cc
 may_then store (Some (command.Load rows)) e builds fault fits = sym (ap (outcome_fits (command.Load rows) e.kind) fault) ∙ fits
 may_then store (Some (command.Work words)) e builds fault fits = sym (ap (outcome_fits (command.Work words) e.kind) fault) ∙ fits
+may_then store (Some (command.Recast words)) e builds fault fits = sym (ap (outcome_fits (command.Recast words) e.kind) fault) ∙ fits
 may_then store (Some (command.Table words)) e builds fault fits = absurd cc
 may_then store (Some (command.View words)) e builds fault fits = absurd cc
 may_then store (Some (command.Alter words)) e builds fault fits = absurd cc
@@ -144,6 +145,7 @@ pub none_asking : (c : Command) (k : Kind) → is_query c ≡ true → may_answe
 none_asking (command.Query words) k is = refl
 none_asking (command.Load rows) k is = absurd cc
 none_asking (command.Work words) k is = absurd cc
+none_asking (command.Recast words) k is = absurd cc
 none_asking (command.Table words) k is = refl
 none_asking (command.View words) k is = refl
 none_asking (command.Alter words) k is = refl

@@ -22,8 +22,8 @@ pub struct Adopting<M: Drop> {
 }
 
 impl<M: Made> Adopting<M> {
-    // Gives a file the next id.
-    pub(crate) fn file(&mut self, file: MadeFile<M>) -> Result<FileRef, AllocError>
+    /// Gives a file the next id.
+    pub fn file(&mut self, file: MadeFile<M>) -> Result<FileRef, AllocError>
         requires { self.old.next + 1 < 2 ^ 64 }
         ensures reference { IfOk result (λ f. f ≡ ref_under self.old.next file) }
         ensures made { OnOk result (files_of M.bytes self.new.made.items ≡ files_of M.bytes self.old.made.items ++ told_under M.bytes self.old.next (file ∷ [])) }

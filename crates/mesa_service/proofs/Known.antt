@@ -8,9 +8,9 @@ use Rattle.mesa_schema.specs.Columns.{Columns, aggs_of}
 use Rattle.mesa_schema.specs.Folded.{folded}
 use Rattle.mesa_delta.specs.Reading.{IsIndexed}
 use Rattle.mesa_delta.specs.declared.input.Input.{Input}
-use Rattle.mesa_compact.specs.mesa_merge.Inputs.{Known, known_of, knowns_of}
-use Rattle.mesa_compact.specs.mesa_tasks.Inputs.{AreTold, IsMergeOf, present_parts}
-use Rattle.mesa_compact.specs.mesa_tasks.Tasks.{MergeOnlyTo}
+use Rattle.mesa_copy.specs.mesa_compact.mesa_merge.Inputs.{Known, known_of, knowns_of}
+use Rattle.mesa_copy.specs.mesa_compact.mesa_tasks.Inputs.{AreTold, IsMergeOf, present_parts}
+use Rattle.mesa_copy.specs.mesa_compact.mesa_tasks.Tasks.{MergeOnlyTo}
 
 -- ---- lists
 

@@ -33,11 +33,12 @@ use Rattle.mesa_model.specs.Load.{tables_named, bounds_checked, tables_loaded, l
 use Rattle.mesa_model.specs.Versions.{common_oldest, expire_to, table_from, version_asked, version_checked}
 use Rattle.mesa_model.specs.Pins.{make_pin, pin_of, release_pin}
 use Rattle.mesa_model.specs.Query.{Answer, query_answer}
-use Rattle.mesa_model.specs.Step.{step, done_or_refused}
+use Rattle.mesa_model.specs.Step.{step, done_or_refused, nothing_done}
 use Rattle.mesa_history.specs.Counting.{count_in, one_if}
-use Rattle.mesa_history.specs.Machine.{Claim, claim_of, claim_checked, explained}
+use Rattle.mesa_schema.specs.Recasts.{Recast}
+use Rattle.mesa_history.specs.Machine.{Claim, Errand, Merges, Recasts, claim_checked, explained, still_checked}
 use Rattle.mesa_history.specs.Run.{State, Stage, First, Looked, Answered, Granted, Renewed, Finished, CutOff, Run, place_of, begins, command_of}
-use Rattle.mesa_history.specs.Replay.{Turned, decided, decided_query, decided_explain, decide, grants, work_name, renews, renew, completes, close, refused_turn, closed_if, closes, standing, turn_of, turn_as, turned, go, runs}
+use Rattle.mesa_history.specs.Replay.{Turned, decided, decided_query, decided_explain, decide, grants, claim_asked, renews, renew, completes, does, recasts, close, refused_turn, closed_if, closes, standing, turn_of, turn_as, turned, go, runs}
 use Rattle.mesa_history.proofs.Checks.{ok_bind, ok_then}
 use Rattle.mesa_history.proofs.More.{runs-append, state_after}
 use Rattle.mesa_walk.specs.Sight.{is_of_schemas, tells_of_schemas, changes_schemas, schema_changes}
@@ -157,6 +158,7 @@ module _ (position : ℕ) (s : State) where
   decides session (command.Release token) = deciding (step s.warehouse session (command.Release token)) (done_keeps s.warehouse (release_pin s.warehouse session token) (release_keeps s.warehouse session token))
   decides session (command.Expire table version) = deciding (step s.warehouse session (command.Expire table version)) (done_keeps s.warehouse (expire_to s.warehouse table version) (expire_keeps s.warehouse table version))
   decides session (command.Work words) = deciding (step s.warehouse session (command.Work words)) (done_keeps s.warehouse _ (nothing_keeps s.warehouse))
+  decides session (command.Recast words) = deciding (done_or_refused s.warehouse (nothing_done s.warehouse)) (done_keeps s.warehouse _ (nothing_keeps s.warehouse))
 
   granting : (r : Result Claim Reply) → Leaves s (grants position s r)
   granting (Err r) none = refl
@@ -166,9 +168,17 @@ module _ (position : ℕ) (s : State) where
   renewing claim (Err refusal) none = refl
   renewing claim (Ok ok) none = refl
 
+  recasting : (claim : Claim) (recast : Recast) (r : Result (Unit {0}) Refusal) → Leaves s (recasts position s claim recast r)
+  recasting claim recast (Err refusal) none = refl
+  recasting claim recast (Ok ok) none = absurd (true≢false none)
+
+  doing : (claim : Claim) (errand : Errand) → Leaves s (does position s claim errand)
+  doing claim (Merges work) none = refl
+  doing claim (Recasts epoch recast) none = recasting claim recast (still_checked (table_at s.warehouse.store claim.table).lineage epoch recast) none
+
   completing : (claim : Claim) (r : Result (Unit {0}) Refusal) → Leaves s (completes position s claim r)
   completing claim (Err refusal) none = refl
-  completing claim (Ok ok) none = refl
+  completing claim (Ok ok) none = doing claim claim.errand none
 
   renews_from : (stage : Stage) → Leaves s (renew position s stage)
   renews_from First none = refl
@@ -192,7 +202,7 @@ module _ (position : ℕ) (s : State) where
   stands_as session c kind.Look stage none = refl
   stands_as session c kind.Decide stage none = decides session c none
   stands_as session c kind.Close stage none = closes_from stage none
-  stands_as session c kind.Grant stage none = granting (claim_of s.warehouse s.machine position (work_name c)) none
+  stands_as session c kind.Grant stage none = granting (claim_asked s.warehouse s.machine position c) none
   stands_as session c kind.Renew stage none = renews_from stage none
 
   closed_off_from : (stage : Stage) (refusal : Refusal) → Leaves s (refused_turn position s kind.Close stage refusal)

@@ -1,5 +1,6 @@
-pub use Rattle.mesa_compact.specs as mesa_compact
-pub use Rattle.mesa_compact.specs.mesa_merge as mesa_merge
+pub use Rattle.mesa_copy.specs.mesa_compact as mesa_compact
+pub use Rattle.mesa_copy.specs.mesa_compact.mesa_merge as mesa_merge
+pub use Rattle.mesa_copy.specs as mesa_copy
 pub use Rattle.mesa_query.specs as mesa_query
 pub use Rattle.mesa_walk.specs as mesa_walk
 pub mod Sight
@@ -7,3 +8,4 @@ pub mod Damages
 pub mod Drafts
 pub mod Pins
 pub mod Works
+pub mod Recasts

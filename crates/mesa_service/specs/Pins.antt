@@ -18,16 +18,16 @@ use Rattle.mesa_history.specs.Run.{State, Finished}
 use Rattle.mesa_skeleton.specs.Rows.{Rows, no_rows}
 use Rattle.mesa_walk.specs.Queries.{IsOpen}
 use Rattle.mesa_walk.specs.Turns.{Shown, IsTurn, IsSeen, Takes}
-use Rattle.mesa_compact.specs.mesa_answer.Answering.{KeepsSums}
+use Rattle.mesa_copy.specs.mesa_compact.mesa_answer.Answering.{KeepsSums}
 use Rattle.mesa_delta.specs.declared.error.FileError.{FileError}
-use Rattle.mesa_compact.specs.mesa_merge.Inputs.{Known, AreTold, knowns_of}
-use Rattle.mesa_compact.specs.mesa_tasks.GivingBack.{pinned_inputs}
-use Rattle.mesa_compact.specs.mesa_tasks.Pins.{IsPinned}
-use Rattle.mesa_compact.specs.mesa_tasks.declared.querying.Pinned.{Pinned}
+use Rattle.mesa_copy.specs.mesa_compact.mesa_merge.Inputs.{Known, AreTold, knowns_of}
+use Rattle.mesa_copy.specs.mesa_compact.mesa_tasks.GivingBack.{pinned_inputs}
+use Rattle.mesa_copy.specs.mesa_compact.mesa_tasks.Pins.{IsPinned}
+use Rattle.mesa_copy.specs.mesa_compact.mesa_tasks.declared.querying.Pinned.{Pinned}
 use Rattle.mesa_query.specs.Files.{inputs_in, owns_in}
 use Rattle.mesa_query.specs.Relation.{page_over, parts_pinned, parts_ungrouped}
 use Rattle.mesa_service.specs.Damages.{IsUnread}
-use Rattle.mesa_compact.specs.mesa_tasks.Errors.{Differs}
+use Rattle.mesa_copy.specs.mesa_compact.mesa_tasks.Errors.{Differs}
 
 -- What is known of a query's files while they are handed out, however much of them was read.
 pub record KnownPin : Type 0 where

@@ -5,18 +5,18 @@ use Rattle.mesa_file.specs.declared.damage.Damage.{Damage}
 use Rattle.mesa_span.specs.declared.works.Work.{Work}
 use Rattle.mesa_schema.specs.Changes.{Lineage}
 use Rattle.mesa_model.specs.declared.entries.Entry.{Entry}
-use Rattle.mesa_compact.specs.Bounded.{IsBounded}
-use Rattle.mesa_compact.specs.Tasks.{KnownView, known_views}
-use Rattle.mesa_compact.specs.mesa_merge.Inputs.{Known, knowns_of}
-use Rattle.mesa_compact.specs.mesa_tasks.GivingBack.{task_inputs}
-use Rattle.mesa_compact.specs.mesa_tasks.Spares.{IsSpareOf}
-use Rattle.mesa_compact.specs.mesa_tasks.Tasks.{IsTask, IsMerged}
-use Rattle.mesa_compact.specs.mesa_tasks.declared.merging.CompactError.{CompactError}
-use Rattle.mesa_compact.specs.mesa_tasks.declared.merging.CompactError.TheVariants as compact
-use Rattle.mesa_compact.specs.mesa_tasks.declared.merging.NewDelta.{NewDelta}
-use Rattle.mesa_compact.specs.mesa_tasks.declared.merging.Task.{Task}
+use Rattle.mesa_copy.specs.mesa_compact.Bounded.{IsBounded}
+use Rattle.mesa_copy.specs.mesa_compact.Tasks.{KnownView, known_views}
+use Rattle.mesa_copy.specs.mesa_compact.mesa_merge.Inputs.{Known as KnownFile, knowns_of}
+use Rattle.mesa_copy.specs.mesa_compact.mesa_tasks.GivingBack.{task_inputs}
+use Rattle.mesa_copy.specs.mesa_compact.mesa_tasks.Spares.{IsSpareOf}
+use Rattle.mesa_copy.specs.mesa_compact.mesa_tasks.Tasks.{IsTask, IsMerged}
+use Rattle.mesa_copy.specs.mesa_compact.mesa_tasks.declared.merging.CompactError.{CompactError}
+use Rattle.mesa_copy.specs.mesa_compact.mesa_tasks.declared.merging.CompactError.TheVariants as compact
+use Rattle.mesa_copy.specs.mesa_compact.mesa_tasks.declared.merging.NewDelta.{NewDelta}
+use Rattle.mesa_copy.specs.mesa_compact.mesa_tasks.declared.merging.Task.{Task}
 use Rattle.mesa_service.specs.Damages.{IsUnread}
-use Rattle.mesa_compact.specs.mesa_tasks.Errors.{Differs}
+use Rattle.mesa_copy.specs.mesa_compact.mesa_tasks.Errors.{Differs}
 
 -- What is known of a task while its files are handed out, however much of them was read.
 pub record KnownTask : Type 0 where
@@ -24,7 +24,7 @@ pub record KnownTask : Type 0 where
   pub work : Work
   pub lease : ℕ
   pub epoch : ℕ
-  pub files : List Known
+  pub files : List KnownFile
   pub views : List KnownView
   pub damage : Option Damage
 
@@ -37,8 +37,8 @@ pub record CanBeMerged {R : Type 0} (bytes : R → Option (List ℕ)) (t : Task 
   pub damage : IfSome t.damage Differs
   pub spare : t.damage ≡ None → AllByRecursion (IsSpareOf bytes t) t.spare.items
 
--- A task was handed out somewhere in a history: this was so of it by the history up to there.
-pub record WasGranted (granted : List Entry → KnownTask → Type 0) (h : List Entry) (t : KnownTask) : Type 0 where
+-- A task or a recast was handed out somewhere in a history: this was so of it by the history up to there.
+pub record WasGranted {Known : Type 0} (granted : List Entry → Known → Type 0) (h : List Entry) (t : Known) : Type 0 where
   pub past : List Entry
   pub later : List Entry
   pub whole : past ++ later ≡ h

@@ -68,12 +68,12 @@ some_there : (n : ℕ) → (n == 0) ≡ false → 1 ≤ n
 some_there n e = grind (arith, nat_tests)
 
 -- 1 to 16 value columns, and at most 16 key columns
-record HasFew (s : Columns) : Type 0 where
-  keys : length s.keys ≤ 16
-  some : 1 ≤ length s.values
-  values : length s.values ≤ 16
+pub record HasFew (s : Columns) : Type 0 where
+  pub keys : length s.keys ≤ 16
+  pub some : 1 ≤ length s.values
+  pub values : length s.values ≤ 16
 
-few_columns : (s : Columns) → IsTrue (is_schema s) → HasFew s
+pub few_columns : (s : Columns) → IsTrue (is_schema s) → HasFew s
 few_columns s h =
     let keys = passed_if (length s.keys == 0) _ _ h in
     let values = passed_if (length s.values == 0) _ _ keys.1 in

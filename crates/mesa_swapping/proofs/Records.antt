@@ -12,16 +12,15 @@ use Rattle.mesa_trash.specs.Holding.{Among}
 use Rattle.mesa_record.specs.Rules.{keeps_rules}
 use Rattle.mesa_record.specs.declared.record.Files.{Files}
 use Rattle.mesa_record.specs.declared.record.Record.{Record}
-use Rattle.mesa_tasks.specs.mesa_history.Sources.{Source, range_rows}
 use Rattle.mesa_metadata.specs.mesa_image.Catalog.{Catalog}
 use Rattle.mesa_metadata.specs.mesa_image.Contents.{Rows}
-use Rattle.mesa_metadata.specs.mesa_image.Fitting.{are_new_ids, brings_new_files, brought, files_fit_if_any, fits, may_be_work}
+use Rattle.mesa_metadata.specs.mesa_image.Fitting.{are_new_ids, brings_new_files, brought, files_fit_if_any, fits, has_epoch, may_be_work}
 use Rattle.mesa_metadata.specs.mesa_image.Shape.{IsCatalog, IsShaped}
 use Rattle.mesa_metadata.specs.mesa_image.Sound.{wants}
 use Rattle.mesa_metadata.specs.mesa_image_laws.Brought.{AreTold}
 use Rattle.mesa_metadata.specs.mesa_image_laws.Ids.{brought_ids, named}
 use Rattle.mesa_metadata.specs.mesa_image_laws.Moves.{first_of, is_base, last_of}
-use Rattle.mesa_metadata.specs.mesa_image_laws.Sourced.{Written}
+use Rattle.mesa_tasks.specs.mesa_history.Sources.{Source, Written, range_rows}
 use Rattle.mesa_metadata.proofs.mesa_image_laws.Lists.{stock_found}
 use Rattle.mesa_tasks.specs.declared.merging.NewDelta.{NewDelta}
 use Rattle.mesa_tasks.specs.declared.merging.Task.{Task}
@@ -86,8 +85,10 @@ module _ {M R : Type 0} (bytes : M → Option (List ℕ)) (id_of : M → ℕ) (r
     unfolding fits
     fits_record = both (both (less t.table (length c.tables) there) (both (both may epoch) right)) new
       where
-        epoch : nat_le t.epoch (epoch_of now) ≡ true
-        epoch = at_most t.epoch (epoch_of now) (let same = is.task.epoch in let le = epoch_was was now is.grown in omega (arith, same, le))
+        epoch : has_epoch now t.epoch ≡ true
+        epoch = both
+            (at_most now.begins t.epoch (let same = is.task.epoch in omega (arith, same, is.grown.begins)))
+            (at_most t.epoch (epoch_of now) (let same = is.task.epoch in let le = epoch_was was now is.grown in omega (arith, same, le)))
 
         right : files_fit_if_any now t.epoch files ≡ true
         right = merged_fit bytes id_of read (later (λ id. [])) was now is.grown its t is.task.epoch is.task.views (from_first was.views) (next_id l) d.files is.merged.files (at (λ id. []))

@@ -1,10 +1,11 @@
 -- What stays of a table's columns and views while they are changed.
-use Rattle.std.specs.Prelude.{◌≡◌, ℕ, List, length, map, take, IsTrue, is_ok, Some, slice_get}
+use Rattle.std.specs.Prelude.{◌≡◌, ◌⊎◌, ◌<◌, ℕ, List, length, map, take, IsTrue, is_ok, Some, slice_get}
 use Rattle.mesa_schema.specs.declared.changes.Change.{Change}
 use Rattle.mesa_schema.specs.declared.rows.Row.{Row}
 use Rattle.mesa_schema.specs.declared.views.View.{View}
 use Rattle.mesa_schema.specs.Changes.{Lineage, columns_of, epoch_of, lifted, rule_checked, with_change}
 use Rattle.mesa_schema.specs.Lineages.{IsLineage}
+use Rattle.mesa_schema.specs.Recasts.{Recast, recast_lineage}
 use Rattle.mesa_schema.specs.Rows.{AreRowsOf}
 use Rattle.mesa_schema.specs.Views.{view_columns, view_rows, with_view}
 
@@ -32,3 +33,37 @@ GrowsByChange = (was now : Lineage) (change : Change) → IsLineage now → IsTr
 -- A view comes.
 abbrev pub GrowsByView : Type 0
 GrowsByView = (was now : Lineage) (v : View) → HasGrown was now → HasGrown was (with_view now v)
+
+-- A table's columns and views have become these: they have grown, or the table was recast since.
+abbrev pub HasBecome : Lineage → Lineage → Type 0
+HasBecome was now = HasGrown was now ⊎ (epoch_of was < now.begins)
+
+-- Nothing has come yet.
+abbrev pub BecomesItself : Type 0
+BecomesItself = (l : Lineage) → HasBecome l l
+
+-- A change comes that the rules allow.
+abbrev pub BecomesByChange : Type 0
+BecomesByChange = (was now : Lineage) (change : Change) → IsLineage now → IsTrue (is_ok (rule_checked now change)) → HasBecome was now → HasBecome was (with_change now change)
+
+-- A view comes.
+abbrev pub BecomesByView : Type 0
+BecomesByView = (was now : Lineage) (v : View) → HasBecome was now → HasBecome was (with_view now v)
+
+-- A recast comes.
+abbrev pub BecomesByRecast : Type 0
+BecomesByRecast = (was now : Lineage) (r : Recast) → HasBecome was now → HasBecome was (recast_lineage now r)
+
+-- Where the columns begin at the same epoch, they have grown.
+abbrev pub GrowsWhereItBegins : Type 0
+GrowsWhereItBegins = (was now : Lineage) → now.begins ≡ was.begins → HasBecome was now → HasGrown was now
+
+-- The columns are the same; views may have been made since.
+pub record HasSameColumns (was now : Lineage) : Type 0 where
+  pub begins : now.begins ≡ was.begins
+  pub first : now.first ≡ was.first
+  pub changes : now.changes ≡ was.changes
+
+-- Where the epoch is the same, the columns are.
+abbrev pub StaysWithItsEpoch : Type 0
+StaysWithItsEpoch = (was now : Lineage) → epoch_of now ≡ epoch_of was → HasBecome was now → HasSameColumns was now

@@ -15,7 +15,8 @@ use Rattle.mesa_metadata.specs.mesa_image.Sound.{AreGrouped, wants}
 use Rattle.mesa_metadata.specs.mesa_image_laws.Brought.{AreTold}
 use Rattle.mesa_metadata.specs.mesa_image_laws.Ids.{brought_ids}
 use Rattle.mesa_metadata.specs.mesa_image_laws.Moves.{first_of, is_base, last_of}
-use Rattle.mesa_metadata.specs.mesa_image_laws.Sourced.{IsMergedOf, Written}
+use Rattle.mesa_metadata.specs.mesa_image_laws.Sourced.{IsMergedOf}
+use Rattle.mesa_tasks.specs.mesa_history.Sources.{Written}
 use Rattle.mesa_tasks.specs.declared.made.MadeFiles.{MadeFiles}
 use Rattle.mesa_tasks.specs.declared.merging.Task.{Task}
 use Rattle.mesa_metadata.specs.mesa_ledger.Ledger.{Ledger, next_id}

@@ -22,7 +22,7 @@ use mesa_span::Work;
 use mesa_tasks::{MadeFiles, NewDelta, Task};
 use std::alloc::{AllocError, Global};
 
-/// A merged range that may be swapped in: the record that does it, the files that it brings with their ids, and how many files the run has adopted with them.
+/// What may take the place of a table's files: the record that does it, the files that it brings with their ids, and how many files the run has adopted with them.
 #[derive(Drop)]
 pub struct Swapped<M: Drop> {
     pub entry: Record,

@@ -4,7 +4,7 @@ use Rattle.std.specs.Prelude.{flat_map, slice_get}
 use Rattle.std.specs.List.{AllByRecursion}
 use Rattle.mesa_batch.specs.Totals.{abs_total, sum_bound}
 use Rattle.mesa_commit.specs.Images.{Has}
-use Rattle.mesa_compact.specs.Bounded.{AreBounded, AreOwnBounded, IsBounded}
+use Rattle.mesa_swapping.specs.mesa_compact.Bounded.{AreBounded, AreOwnBounded, IsBounded}
 use Rattle.mesa_disk.specs.Image.{Image}
 use Rattle.mesa_disk.specs.Story.{Story}
 use Rattle.mesa_schema.specs.Changes.{Lineage, columns_of, epoch_of, lifted}
@@ -14,18 +14,18 @@ use Rattle.mesa_schema.specs.Views.{view_columns}
 use Rattle.mesa_schema.specs.declared.rows.Row.{Row}
 use Rattle.mesa_schema.specs.declared.views.View.{View}
 use Rattle.mesa_delta.specs.declared.input.Input.{Input}
-use Rattle.mesa_metadata.specs.mesa_image.Catalog.{Catalog, Delta, Stock, stock_at}
-use Rattle.mesa_metadata.specs.mesa_image.Contents.{Rows, present}
-use Rattle.mesa_metadata.specs.mesa_image.Fitting.{delta_shelved, deltas_of, shelved}
-use Rattle.mesa_metadata.specs.mesa_image.Sound.{wants}
-use Rattle.mesa_ledger.proofs.mesa_image_laws.Lists.{all_unflat, stock_found}
-use Rattle.mesa_metadata.specs.mesa_image.Sound.{IsStocked}
-use Rattle.mesa_ledger.specs.mesa_image_laws.Brought.{merged_of}
-use Rattle.mesa_ledger.specs.mesa_image_laws.Moves.{is_base, last_of}
-use Rattle.mesa_ledger.specs.Ledger.{Ledger}
-use Rattle.mesa_ledger.specs.Vault.{Origin, IsVault}
-use Rattle.mesa_ledger.proofs.Standing.{held_there}
-use Rattle.mesa_compact.specs.mesa_merge.Inputs.{AreTold, knowns_of, lifted_parts}
+use Rattle.mesa_engine.specs.mesa_metadata.mesa_image.Catalog.{Catalog, Delta, Stock, stock_at}
+use Rattle.mesa_engine.specs.mesa_metadata.mesa_image.Contents.{Rows, present}
+use Rattle.mesa_engine.specs.mesa_metadata.mesa_image.Fitting.{delta_shelved, deltas_of, shelved}
+use Rattle.mesa_engine.specs.mesa_metadata.mesa_image.Sound.{wants}
+use Rattle.mesa_engine.proofs.mesa_ledger.mesa_image_laws.Lists.{all_unflat, stock_found}
+use Rattle.mesa_engine.specs.mesa_metadata.mesa_image.Sound.{IsStocked}
+use Rattle.mesa_engine.specs.mesa_ledger.mesa_image_laws.Brought.{merged_of}
+use Rattle.mesa_engine.specs.mesa_ledger.mesa_image_laws.Moves.{is_base, last_of}
+use Rattle.mesa_engine.specs.mesa_ledger.Ledger.{Ledger}
+use Rattle.mesa_engine.specs.mesa_ledger.Vault.{Origin, IsVault}
+use Rattle.mesa_engine.proofs.mesa_ledger.Standing.{held_there}
+use Rattle.mesa_swapping.specs.mesa_compact.mesa_merge.Inputs.{AreTold, knowns_of, lifted_parts}
 use Rattle.mesa_model.specs.declared.entries.Entry.{Entry}
 use Rattle.mesa_gather.specs.Gathered.{IsGathered, unread_view}
 use Rattle.mesa_pinning.specs.Read.{own_file}
@@ -40,7 +40,7 @@ use Rattle.mesa_tasks.specs.Opening.{HaveOpened}
 use Rattle.mesa_tasks.specs.declared.merging.Task.{Task}
 use Rattle.mesa_tasks.specs.declared.merging.TaskView.{TaskView}
 use Rattle.mesa_tasks.specs.declared.opening.Wanted.{Wanted}
-use Rattle.mesa_ledger.specs.mesa_walk.Walk.{Outset}
+use Rattle.mesa_engine.specs.mesa_ledger.mesa_walk.Walk.{Outset}
 use Rattle.mesa_works.proofs.Grants.{shaped_at}
 
 -- a view that has no files of its own has none that could be wrong

@@ -10,13 +10,13 @@ use Rattle.mesa_span.specs.declared.works.Work.{Work}
 use Rattle.mesa_span.specs.Ranges.{base_before}
 use Rattle.mesa_span.specs.Work.{missing_end, next_work}
 use Rattle.mesa_span.specs.declared.works.Work.TheVariants as range
-use Rattle.mesa_history.specs.Machine.{Claim, Machine, claim_of, ranges_at, refuse_busy}
-use Rattle.mesa_metadata.specs.mesa_image.Catalog.{Catalog, Stock, no_stock, ranges_of, start_in, stock_at}
-use Rattle.mesa_metadata.specs.mesa_image.Fitting.{is_number, may_be_work}
-use Rattle.mesa_metadata.specs.mesa_image.Shape.{IsShaped}
-use Rattle.mesa_ledger.proofs.mesa_image_laws.Lists.{both_true, is_at_most, is_equal}
-use Rattle.mesa_ledger.proofs.mesa_image_laws.ShapedBatches.{missing_there}
-use Rattle.mesa_ledger.specs.mesa_image_laws.Moves.{first_of, is_base, last_of}
+use Rattle.mesa_history.specs.Machine.{Claim, Machine, Merges, claim_of, ranges_at, refuse_busy}
+use Rattle.mesa_engine.specs.mesa_metadata.mesa_image.Catalog.{Catalog, Stock, no_stock, ranges_of, start_in, stock_at}
+use Rattle.mesa_engine.specs.mesa_metadata.mesa_image.Fitting.{is_number, may_be_work}
+use Rattle.mesa_engine.specs.mesa_metadata.mesa_image.Shape.{IsShaped}
+use Rattle.mesa_engine.proofs.mesa_ledger.mesa_image_laws.Lists.{both_true, is_at_most, is_equal}
+use Rattle.mesa_engine.proofs.mesa_ledger.mesa_image_laws.ShapedBatches.{missing_there}
+use Rattle.mesa_engine.specs.mesa_ledger.mesa_image_laws.Moves.{first_of, is_base, last_of}
 use Rattle.mesa_lease.specs.Book.{holder}
 use Rattle.mesa_model.specs.Refusals.{no_such_table, refuse_closed}
 use Rattle.mesa_model.specs.Relations.{table_number}
@@ -24,7 +24,7 @@ use Rattle.mesa_model.specs.Warehouse.{Table, Warehouse, table_at}
 use Rattle.mesa_model.specs.declared.replies.Refusal.TheVariants as no
 use Rattle.mesa_model.specs.declared.replies.Reply.{Reply}
 use Rattle.mesa_model.specs.declared.replies.Reply.TheVariants as reply
-use Rattle.mesa_ledger.specs.Ledger.{Ledger, books_of, skeleton_of}
+use Rattle.mesa_engine.specs.mesa_ledger.Ledger.{Ledger, books_of, skeleton_of}
 use Rattle.mesa_rules.specs.Seen.{number_of}
 use Rattle.mesa_skeleton.specs.Rows.{no_rows}
 
@@ -36,7 +36,7 @@ module _ (l : Ledger) (at : ℕ) (name : List ℕ) where
   machine = (books_of no_rows l).machine
 
   abbrev given : ℕ → Option Work → Result Claim Reply
-  given table work = ok_or work reply.Idle >>= (λ w. Ok (record { table = table; lease = l.leases.granted + 1; work = w }))
+  given table work = ok_or work reply.Idle >>= (λ w. Ok (record { table = table; lease = l.leases.granted + 1; errand = Merges w }))
 
   abbrev at_table : ℕ → Option ℕ → Option Work → Result Claim Reply
   at_table table held work = refuse_busy held >> given table work
@@ -78,7 +78,7 @@ module _ (l : Ledger) (at : ℕ) (name : List ℕ) where
       idle free is = table_is ∙ (λ i. at_table table (free i) (work_is None is i))
 
       pub claimed : (work : Work) → holder l.leases table at ≡ None → next_work (ranges_of (stock_at l.catalogue table)) (stock_at l.catalogue table).oldest (base_before l.catalogue.next) ≡ Some work
-          → claim_of bare machine at name ≡ Ok (record { table = table; lease = l.leases.granted + 1; work = work })
+          → claim_of bare machine at name ≡ Ok (record { table = table; lease = l.leases.granted + 1; errand = Merges work })
       claimed work free is = table_is ∙ (λ i. at_table table (free i) (work_is (Some work) is i))
 
 -- ---- its range

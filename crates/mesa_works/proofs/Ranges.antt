@@ -7,25 +7,24 @@ use Rattle.mesa_disk.specs.Story.{Story}
 use Rattle.mesa_schema.specs.Changes.{Lineage, columns_of}
 use Rattle.mesa_schema.specs.Columns.{aggs_of}
 use Rattle.mesa_schema.specs.Folded.{rows_of}
-use Rattle.mesa_history.specs.Sources.{Source, range_rows}
-use Rattle.mesa_metadata.specs.mesa_image.Catalog.{Catalog, Stock, stock_at}
-use Rattle.mesa_metadata.specs.mesa_image.Contents.{present}
-use Rattle.mesa_metadata.specs.mesa_image.Fitting.{may_be_work, shelved}
-use Rattle.mesa_metadata.specs.mesa_image.Sound.{wants}
-use Rattle.mesa_ledger.proofs.mesa_image_laws.AllSourced.{epochs_written, work_written}
-use Rattle.mesa_ledger.specs.mesa_image_laws.Brought.{merged_of}
-use Rattle.mesa_ledger.specs.mesa_image_laws.Moves.{first_of, is_base, last_of}
-use Rattle.mesa_ledger.specs.mesa_image_laws.Sourced.{Written}
-use Rattle.mesa_ledger.specs.Ledger.{Ledger}
-use Rattle.mesa_ledger.specs.Vault.{Origin, IsVault, written_by}
-use Rattle.mesa_ledger.proofs.Standing.{held_there}
+use Rattle.mesa_history.specs.Sources.{Source, Written, range_rows}
+use Rattle.mesa_engine.specs.mesa_metadata.mesa_image.Catalog.{Catalog, Stock, stock_at}
+use Rattle.mesa_engine.specs.mesa_metadata.mesa_image.Contents.{present}
+use Rattle.mesa_engine.specs.mesa_metadata.mesa_image.Fitting.{may_be_work, shelved}
+use Rattle.mesa_engine.specs.mesa_metadata.mesa_image.Sound.{wants}
+use Rattle.mesa_engine.proofs.mesa_ledger.mesa_image_laws.AllSourced.{epochs_written, work_written}
+use Rattle.mesa_engine.specs.mesa_ledger.mesa_image_laws.Brought.{merged_of}
+use Rattle.mesa_engine.specs.mesa_ledger.mesa_image_laws.Moves.{first_of, is_base, last_of}
+use Rattle.mesa_engine.specs.mesa_ledger.Ledger.{Ledger}
+use Rattle.mesa_engine.specs.mesa_ledger.Vault.{Origin, IsVault, written_by}
+use Rattle.mesa_engine.proofs.mesa_ledger.Standing.{held_there}
 use Rattle.mesa_model.specs.declared.entries.Entry.{Entry}
 use Rattle.mesa_gather.specs.Gathered.{IsGathered, unread_view}
 use Rattle.mesa_swapping.specs.Finished.{GroupOnly, HasRange, sources_in}
 use Rattle.mesa_tasks.specs.Inputs.{present_parts}
 use Rattle.mesa_tasks.specs.Tasks.{IsTask}
 use Rattle.mesa_tasks.specs.declared.merging.Task.{Task}
-use Rattle.mesa_ledger.specs.mesa_walk.Walk.{Outset}
+use Rattle.mesa_engine.specs.mesa_ledger.mesa_walk.Walk.{Outset}
 use Rattle.mesa_works.proofs.Sound.{IsSoundDelta, none_met, none_own, present_lifted, same_folded, sound_deltas, sound_merged, told_inputs}
 use Rattle.mesa_works.proofs.Bounded.{range_told}
 

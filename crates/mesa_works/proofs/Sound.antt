@@ -1,35 +1,33 @@
 -- What the files of a range tell on a sound store.
-use Rattle.std.proofs.Common.{◌≡◌, ◌∙◌, ℕ, ◌+◌, ◌-◌, ◌<◌, List, [], ◌∷◌, ◌++◌, length, map, take, refl, sym, ap, subst, Bool, true, false, Option, None, Some}
+use Rattle.std.proofs.Common.{◌≡◌, ℕ, ◌+◌, ◌-◌, ◌<◌, List, [], ◌∷◌, ◌++◌, length, map, take, refl, sym, subst, Bool, true, false, Option, None, Some}
 use Rattle.std.specs.Prelude.{flat_map}
 use Rattle.std.specs.List.{AllByRecursion}
 use Rattle.mesa_file.specs.declared.damage.Damage.{Damage}
 use Rattle.mesa_file.specs.declared.file_ref.FileRef.{FileRef}
 use Rattle.mesa_schema.specs.declared.rows.Row.{Row}
 use Rattle.mesa_schema.specs.declared.views.View.{View}
-use Rattle.mesa_schema.specs.Changes.{Lineage, columns_at, epoch_of, lifted}
+use Rattle.mesa_schema.specs.Changes.{Lineage, columns_at}
 use Rattle.mesa_schema.specs.Columns.{Columns}
 use Rattle.mesa_schema.specs.Folded.{folded, folded_at, keys_of, rows_of}
 use Rattle.mesa_value.specs.declared.Agg.{Agg}
 use Rattle.mesa_disk.specs.Image.{Image, file_of}
 use Rattle.mesa_commit.specs.Images.{Has}
-use Rattle.mesa_delta.specs.Reading.{IsWhole, index_of}
 use Rattle.mesa_delta.specs.declared.input.Input.{Input}
-use Rattle.mesa_cursor.specs.Cursors.{lift_by, reader_in}
 use Rattle.mesa_record.specs.declared.record.Files.{Files}
-use Rattle.mesa_metadata.specs.mesa_image.Catalog.{Catalog, Delta, Stock, start_in, stock_at}
-use Rattle.mesa_metadata.specs.mesa_image.Contents.{Rows, present, rows_if_any}
-use Rattle.mesa_metadata.specs.mesa_image.Fitting.{Shelved, base_deltas, delta_in, delta_shelved, deltas_of, files_shelved, shelved, stock_shelved}
-use Rattle.mesa_metadata.specs.mesa_image.Sound.{AreStocked, IsStocked, IsTold, bytes_of, wanted, wants}
-use Rattle.mesa_ledger.proofs.mesa_image_laws.Lists.{all_back, all_front, all_take, all_unflat, all_unmap, stock_found}
-use Rattle.mesa_ledger.specs.mesa_image_laws.Brought.{merged_of}
-use Rattle.mesa_ledger.proofs.Lists.{all_also, all_joined}
+use Rattle.mesa_engine.specs.mesa_metadata.mesa_image.Catalog.{Catalog, Delta, Stock, start_in, stock_at}
+use Rattle.mesa_engine.specs.mesa_metadata.mesa_image.Contents.{Rows}
+use Rattle.mesa_engine.specs.mesa_metadata.mesa_image.Fitting.{Shelved, base_deltas, delta_in, delta_shelved, deltas_of, files_shelved, shelved, stock_shelved}
+use Rattle.mesa_engine.specs.mesa_metadata.mesa_image.Sound.{AreStocked, IsStocked, IsTold, bytes_of, wanted, wants}
+use Rattle.mesa_engine.proofs.mesa_ledger.mesa_image_laws.Lists.{all_back, all_front, all_take, all_unflat, all_unmap, stock_found}
+use Rattle.mesa_engine.specs.mesa_ledger.mesa_image_laws.Brought.{merged_of}
+use Rattle.mesa_engine.proofs.mesa_ledger.Lists.{all_also, all_joined}
 use Rattle.mesa_pinning.specs.mesa_plans.Files.{Want, files_wanted, table_wanted, want_of}
 use Rattle.mesa_gather.specs.Gathered.{unread_view}
 use Rattle.mesa_swapping.specs.Finished.{GroupOnly}
-use Rattle.mesa_compact.specs.mesa_merge.Inputs.{AreTold, known_of, knowns_of, lifted_in, lifted_parts}
+use Rattle.mesa_swapping.specs.mesa_compact.mesa_merge.Inputs.{AreTold, known_of, knowns_of, lifted_in, lifted_parts}
 use Rattle.mesa_tasks.specs.Inputs.{present_parts}
 use Rattle.mesa_tasks.specs.Inputs.{AreTold as AreToldInputs}
-use Rattle.mesa_tasks.specs.Opening.{HaveOpened, IsOpened, wanted_columns, wanted_layout}
+use Rattle.mesa_tasks.specs.Opening.{HaveOpened, wanted_columns}
 use Rattle.mesa_tasks.specs.declared.opening.Wanted.{Wanted}
 
 -- ---- lists

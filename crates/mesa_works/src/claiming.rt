@@ -2,19 +2,18 @@
 ghost use Rattle.std.specs.Prelude.{◌≡◌, ◌<◌, ◌≤◌, length, None, Some, Ok, IfErr, IfOk, OnOk, false};
 ghost use Rattle.mesa_engine.specs.Failing.{is_of_device};
 ghost use Rattle.mesa_history.specs.Machine.{claim_of};
-ghost use Rattle.mesa_metadata.specs.mesa_image.Catalog.{ranges_of, stock_at};
+ghost use Rattle.mesa_engine.specs.mesa_metadata.mesa_image.Catalog.{ranges_of, stock_at};
 ghost use Rattle.mesa_lease.specs.Book.{holder};
-ghost use Rattle.mesa_ledger.specs.Ledger.{books_of};
-ghost use Rattle.mesa_log.specs.Failure.{cause_in};
+ghost use Rattle.mesa_engine.specs.mesa_ledger.Ledger.{books_of};
+ghost use Rattle.mesa_engine.specs.mesa_log.Failure.{cause_in};
 ghost use Rattle.mesa_skeleton.specs.Rows.{no_rows};
 ghost use Rattle.mesa_span.specs.Ranges.{base_before};
 ghost use Rattle.mesa_span.specs.Work.{next_work as work_due};
-ghost use Rattle.mesa_ledger.specs.mesa_walk.Works.{HasNoClaim};
+ghost use Rattle.mesa_engine.specs.mesa_ledger.mesa_walk.Works.{HasNoClaim};
 ghost use Rattle.mesa_works.specs.Claims.{claim_as};
 
+use mesa_engine::{Failure, Metadata};
 use mesa_lease::TABLES;
-use mesa_log::Failure;
-use mesa_metadata::Metadata;
 use mesa_model::Refusal;
 use mesa_rules::table_number;
 use mesa_span::{Work, next_work};
@@ -35,7 +34,7 @@ pub(crate) fn claim(metadata: &Metadata, name: &[u8], position: u64) -> Result<C
     ensures free { IfOk result (λ x. holder metadata.now.ledger.leases x.table position ≡ None) }
     ensures opened { OnOk result (metadata.now.ledger.closed ≡ None) }
     ensures next { IfOk result (λ x. work_due (ranges_of (stock_at metadata.now.ledger.catalogue x.table)) (stock_at metadata.now.ledger.catalogue x.table).oldest (base_before metadata.now.ledger.catalogue.next) ≡ Some x.work) }
-    ensures refused { IfErr result (λ f. HasNoClaim (books_of no_rows metadata.now.ledger) position name.now (cause_in f)) }
+    ensures refused { IfErr result (λ f. HasNoClaim (books_of no_rows metadata.now.ledger) (claim_of (books_of no_rows metadata.now.ledger).bare (books_of no_rows metadata.now.ledger).machine position name.now) (cause_in f)) }
     ensures quiet { IfErr result (λ f. is_of_device (cause_in f) ≡ false) }
 {
     if let Some(position) = metadata.closed() {

@@ -1,16 +1,16 @@
 // A work's grant.
 ghost use Rattle.std.specs.Prelude.{◌≡◌, ◌≢◌, ◌+◌, ◌-◌, ◌<◌, ◌≤◌, ◌^◌, ℕ, List, true, length, None, Some, Ok, IfOk, IfSome, OnOk};
-ghost use Rattle.mesa_compact.specs.Bounded.{IsBounded};
+ghost use Rattle.mesa_swapping.specs.mesa_compact.Bounded.{IsBounded};
 ghost use Rattle.mesa_gather.specs.Gathered.{unread_views};
 ghost use Rattle.mesa_history.specs.Machine.{claim_of};
 ghost use Rattle.mesa_history.specs.Run.{First, Granted};
 ghost use Rattle.mesa_history.specs.Turns.{IsDue};
-ghost use Rattle.mesa_metadata.specs.mesa_image.Catalog.{ranges_of, stock_at};
-ghost use Rattle.mesa_ledger.specs.mesa_image_laws.Moves.{last_of};
+ghost use Rattle.mesa_engine.specs.mesa_metadata.mesa_image.Catalog.{ranges_of, stock_at};
+ghost use Rattle.mesa_engine.specs.mesa_ledger.mesa_image_laws.Moves.{last_of};
 ghost use Rattle.mesa_lease.specs.Book.{granted, holder};
-ghost use Rattle.mesa_ledger.specs.Ledger.{books_of};
-ghost use Rattle.mesa_log.specs.Failure.{cause_in};
-ghost use Rattle.mesa_metadata.specs.Memory.{with_leases};
+ghost use Rattle.mesa_engine.specs.mesa_ledger.Ledger.{books_of};
+ghost use Rattle.mesa_engine.specs.mesa_log.Failure.{cause_in};
+ghost use Rattle.mesa_engine.specs.mesa_metadata.Memory.{with_leases};
 ghost use Rattle.mesa_model.specs.declared.commands.Command.TheVariants as command;
 ghost use Rattle.mesa_model.specs.declared.commands.WorkWords.{WorkWords};
 ghost use Rattle.mesa_model.specs.declared.entries.Kind.TheVariants as kind;
@@ -20,21 +20,18 @@ ghost use Rattle.mesa_span.specs.Work.{next_work};
 ghost use Rattle.mesa_swapping.specs.Finished.{HasRange};
 ghost use Rattle.mesa_tasks.specs.Spares.{HasSpares};
 ghost use Rattle.mesa_tasks.specs.Tasks.{IsTask, claim_in};
-ghost use Rattle.mesa_ledger.specs.mesa_walk.Turns.{AnswersDisk, SomeRose, Takes};
-ghost use Rattle.mesa_ledger.specs.mesa_walk.Walk.{run_at};
-ghost use Rattle.mesa_ledger.specs.mesa_walk.Works.{stage_if};
+ghost use Rattle.mesa_engine.specs.mesa_ledger.mesa_walk.Turns.{AnswersDisk, SomeRose, Takes};
+ghost use Rattle.mesa_engine.specs.mesa_ledger.mesa_walk.Walk.{run_at};
+ghost use Rattle.mesa_engine.specs.mesa_ledger.mesa_walk.Works.{stage_if};
 ghost use Rattle.mesa_works.specs.Claims.{cause_met, claim_as};
-ghost use Rattle.mesa_ledger.specs.Written.{written_at};
+ghost use Rattle.mesa_engine.specs.mesa_ledger.Written.{written_at};
 
 use crate::claiming::{Claimed, claim};
 use mesa_disk::{Disk, Made};
-use mesa_engine::Engine;
+use mesa_engine::{Engine, Failure, Metadata, Naming, Who};
 use mesa_gather::gather;
 use mesa_io::Sink;
 use mesa_lease::TABLES;
-use mesa_ledger::Naming;
-use mesa_log::{Failure, Who};
-use mesa_metadata::Metadata;
 use mesa_model::{Kind, Outcome, Refusal, Reply, WorkWords};
 use mesa_tasks::{Task, Unopened};
 
@@ -136,7 +133,7 @@ fn take<N: Naming, M: Made, D: Disk<M>, K: Sink>(
 }
 
 // Grants a lease on a table that has none.
-fn lease(metadata: &mut Metadata, table: u16, worker: u16, position: u64) -> u64
+pub(crate) fn lease(metadata: &mut Metadata, table: u16, worker: u16, position: u64) -> u64
     requires table { table < TABLES }
     requires position { position < 2 ^ 60 }
     requires rising { metadata.old.leased ≤ position }
@@ -150,8 +147,8 @@ fn lease(metadata: &mut Metadata, table: u16, worker: u16, position: u64) -> u64
     }
 }
 
-// Why a work isn't granted whose files weren't opened.
-fn failure_of(unopened: Unopened) -> Failure
+/// Why nothing is granted whose files weren't opened.
+pub fn failure_of(unopened: Unopened) -> Failure
     ensures { cause_in result ≡ cause_met unopened }
 {
     match unopened {

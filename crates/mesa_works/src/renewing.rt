@@ -1,45 +1,46 @@
-// A work's renewal.
+// The renewal of a work and of a recast.
 ghost use Rattle.std.specs.Prelude.{◌≡◌, ◌+◌, ◌<◌, ◌≤◌, ◌^◌, true, length, IfErr, IfOk, OnErr, OnOk, Ok, Err};
-ghost use Rattle.mesa_history.specs.Machine.{claim_checked};
+ghost use Rattle.mesa_history.specs.Legal.{is_work};
+ghost use Rattle.mesa_history.specs.Machine.{Errand};
 ghost use Rattle.mesa_history.specs.Run.{Granted, Renewed};
 ghost use Rattle.mesa_history.specs.Turns.{IsDue};
 ghost use Rattle.mesa_lease.specs.Book.{renewed};
-ghost use Rattle.mesa_ledger.specs.Ledger.{books_of};
-ghost use Rattle.mesa_metadata.specs.Memory.{with_leases};
+ghost use Rattle.mesa_engine.specs.mesa_ledger.Ledger.{books_of};
+ghost use Rattle.mesa_engine.specs.mesa_metadata.Memory.{with_leases};
+ghost use Rattle.mesa_model.specs.declared.commands.Command.{Command};
 ghost use Rattle.mesa_model.specs.declared.commands.Command.TheVariants as command;
 ghost use Rattle.mesa_model.specs.declared.entries.Kind.TheVariants as kind;
 ghost use Rattle.mesa_skeleton.specs.Rows.{no_rows};
-ghost use Rattle.mesa_ledger.specs.mesa_walk.Turns.{AnswersDisk, SomeRose, Takes};
-ghost use Rattle.mesa_ledger.specs.mesa_walk.Walk.{run_at};
-ghost use Rattle.mesa_ledger.specs.mesa_walk.Works.{stage_if};
+ghost use Rattle.mesa_engine.specs.mesa_ledger.mesa_walk.Turns.{AnswersDisk, SomeRose, Takes};
+ghost use Rattle.mesa_engine.specs.mesa_ledger.mesa_walk.Walk.{run_at};
+ghost use Rattle.mesa_engine.specs.mesa_ledger.mesa_walk.Works.{stage_if};
+ghost use Rattle.mesa_tasks.specs.Recasts.{claim_of_recast};
 ghost use Rattle.mesa_tasks.specs.Tasks.{claim_in};
+ghost use Rattle.mesa_works.specs.Claims.{claim_with, lease_checked};
 
-use crate::give_back;
+use crate::{give_back, give_back_recast};
 use mesa_disk::{Disk, Made};
-use mesa_engine::Engine;
+use mesa_engine::{Engine, Metadata, Naming, Who};
 use mesa_io::Sink;
 use mesa_lease::TABLES;
-use mesa_ledger::Naming;
-use mesa_log::Who;
-use mesa_metadata::Metadata;
-use mesa_model::{Kind, Outcome, Refusal, Reply, WorkWords};
-use mesa_tasks::Task;
+use mesa_model::{Kind, Outcome, RecastWords, Refusal, Reply, WorkWords};
+use mesa_tasks::{Recast, Task};
 
-// Lets a claim's lease hold anew from the turn at the position on, or says why it doesn't.
-fn claims<R>(metadata: &mut Metadata, task: &Task<R>, position: u64) -> Result<(), Refusal>
-    requires table { task.now.table < TABLES }
+// Lets a lease of a table hold anew from the turn at the position on, or says why it doesn't.
+fn claims(metadata: &mut Metadata, table: u16, lease: u64, position: u64) -> Result<(), Refusal>
+    requires table { table < TABLES }
     requires position { position < 2 ^ 60 }
     requires rising { metadata.old.leased ≤ position }
-    ensures held { OnOk result (claim_checked (books_of no_rows metadata.old.ledger).bare (books_of no_rows metadata.old.ledger).machine position (claim_in task.now) ≡ Ok tt) }
-    ensures renewed { OnOk result (metadata.new ≡ with_leases (renewed task.now.table task.now.lease position metadata.old.ledger.leases) (position + 1) metadata.old) }
-    ensures refused { IfErr result (λ x. claim_checked (books_of no_rows metadata.old.ledger).bare (books_of no_rows metadata.old.ledger).machine position (claim_in task.now) ≡ Err x) }
+    ensures held { OnOk result (lease_checked (books_of no_rows metadata.old.ledger) position table lease ≡ Ok tt) }
+    ensures renewed { OnOk result (metadata.new ≡ with_leases (renewed table lease position metadata.old.ledger.leases) (position + 1) metadata.old) }
+    ensures refused { IfErr result (λ x. lease_checked (books_of no_rows metadata.old.ledger) position table lease ≡ Err x) }
     ensures same { OnErr result (metadata.new.ledger ≡ metadata.old.ledger) }
     ensures leased { metadata.new.leased ≤ position + 1 }
 {
     if let Some(position) = metadata.closed() {
         return Err(Refusal::Closed { position });
     }
-    match metadata.renew(task.table, task.lease, position) {
+    match metadata.renew(table, lease, position) {
         Ok(()) => Ok(()),
         Err(lost) => Err(Refusal::Lost {
             lease: lost.lease,
@@ -48,8 +49,43 @@ fn claims<R>(metadata: &mut Metadata, task: &Task<R>, position: u64) -> Result<(
     }
 }
 
-/// The turn of a work once its rows are merged: its lease holds anew, unless it was lost or the vault
-/// has closed.
+// The turn in which a lease of a table holds anew, unless it was lost or the vault has closed.
+fn renew_lease<N: Naming, M: Made, D: Disk<M>, K: Sink>(
+    engine: &mut Engine<N, M, D, K>,
+    who: Who,
+    table: u16,
+    lease: u64,
+) -> Result<(), Reply>
+    requires due { (c : Command) × (errand : Errand) × (is_work c ≡ true) × IsDue N.script (run_at N.script (N.start no_rows) engine.old.shown.history) who.session who.command c (Granted (claim_with table lease errand)) }
+    requires table { table < TABLES }
+    requires room { length engine.old.shown.history < N.room }
+    ensures turn { (c : Command) (errand : Errand) → is_work c ≡ true → IsDue N.script (run_at N.script (N.start no_rows) engine.old.shown.history) who.session who.command c (Granted (claim_with table lease errand))
+        → Takes N.script (N.start no_rows) engine.old.shown engine.new.shown who.session who.command kind.Renew (stage_if (λ done. claim_with table lease errand) Renewed result) }
+    ensures disk { AnswersDisk N.script (N.start no_rows) engine.old.shown engine.new.shown ⊥ }
+    ensures ran { OnOk result (engine.old.shown.running ≡ true) }
+    ensures catalogue { engine.new.ledger.catalogue ≡ engine.old.ledger.catalogue }
+{
+    if !engine.running() {
+        engine.skip(who, Kind::Renew);
+        return Err(Reply::Refused(Refusal::Memory));
+    }
+    let at = engine.log.position();
+    let claimed = claims(&mut engine.metadata, table, lease, at);
+    let turn = who.turn(Kind::Renew, Outcome::Stands, engine.disk.clock());
+    match claimed {
+        Ok(()) => {
+            engine.log.pass(turn);
+            Ok(())
+        }
+        Err(refusal) => {
+            let reply = Reply::Refused(refusal);
+            engine.log.tell(turn, at, &reply, b"");
+            Err(reply)
+        }
+    }
+}
+
+/// The turn of a work once its rows are merged: its lease holds anew, unless it was lost or the vault has closed.
 pub fn renew<N: Naming, M: Made, D: Disk<M>, K: Sink>(
     engine: &mut Engine<N, M, D, K>,
     who: Who,
@@ -65,23 +101,35 @@ pub fn renew<N: Naming, M: Made, D: Disk<M>, K: Sink>(
     ensures ran { OnOk result (engine.old.shown.running ≡ true) }
     ensures catalogue { engine.new.ledger.catalogue ≡ engine.old.ledger.catalogue }
 {
-    if !engine.running() {
-        engine.skip(who, Kind::Renew);
-        give_back(engine, task);
-        return Err(Reply::Refused(Refusal::Memory));
-    }
-    let at = engine.log.position();
-    let claimed = claims(&mut engine.metadata, &task, at);
-    let turn = who.turn(Kind::Renew, Outcome::Stands, engine.disk.clock());
-    match claimed {
-        Ok(()) => {
-            engine.log.pass(turn);
-            Ok(task)
-        }
-        Err(refusal) => {
-            let reply = Reply::Refused(refusal);
-            engine.log.tell(turn, at, &reply, b"");
+    match renew_lease(engine, who, task.table, task.lease) {
+        Ok(()) => Ok(task),
+        Err(reply) => {
             give_back(engine, task);
+            Err(reply)
+        }
+    }
+}
+
+/// The turn of a recast once its rows are grouped: its lease holds anew, unless it was lost or the vault has closed.
+pub fn renew_recast<N: Naming, M: Made, D: Disk<M>, K: Sink>(
+    engine: &mut Engine<N, M, D, K>,
+    who: Who,
+    words: &RecastWords,
+    task: Recast<D::Reader>,
+) -> Result<Recast<D::Reader>, Reply>
+    requires due { IsDue N.script (run_at N.script (N.start no_rows) engine.old.shown.history) who.session who.command (command.Recast words.now) (Granted (claim_of_recast task)) }
+    requires table { task.table < TABLES }
+    requires room { length engine.old.shown.history < N.room }
+    ensures turn { Takes N.script (N.start no_rows) engine.old.shown engine.new.shown who.session who.command kind.Renew (stage_if claim_of_recast Renewed result) }
+    ensures disk { AnswersDisk N.script (N.start no_rows) engine.old.shown engine.new.shown (SomeRose engine.old.faults engine.new.faults) }
+    ensures same { IfOk result (λ t. t ≡ task) }
+    ensures ran { OnOk result (engine.old.shown.running ≡ true) }
+    ensures catalogue { engine.new.ledger.catalogue ≡ engine.old.ledger.catalogue }
+{
+    match renew_lease(engine, who, task.table, task.lease) {
+        Ok(()) => Ok(task),
+        Err(reply) => {
+            give_back_recast(engine, task);
             Err(reply)
         }
     }

@@ -30,31 +30,31 @@ use Rattle.mesa_record.specs.declared.record.Part.{Part}
 use Rattle.mesa_record.specs.declared.record.Record.{Record}
 use Rattle.mesa_record.specs.declared.record.Record.TheVariants as record_of
 use Rattle.mesa_record.specs.Rules.{IsTyped, IsTypedChange}
-use Rattle.mesa_catalog.specs.mesa_image.Catalog.{Catalog, applied, stock_at}
-use Rattle.mesa_catalog.specs.mesa_image.Fitting.{expire_fits, fits, is_new_name, is_there}
-use Rattle.mesa_catalog.specs.mesa_image.Sound.{AreStocked}
-use Rattle.mesa_ledger.proofs.mesa_image_laws.Agreeing.{agree_stocked}
-use Rattle.mesa_ledger.proofs.mesa_image_laws.AllSourced.{alter_sourced, expire_sourced, expire_table_sourced, table_sourced, view_sourced}
-use Rattle.mesa_ledger.proofs.mesa_image_laws.Lists.{both_true, is_less}
-use Rattle.mesa_ledger.proofs.mesa_image_laws.Moving.{alter_step, expire_step, expire_table_step, kind_of, publish_step, table_step, view_step}
-use Rattle.mesa_ledger.specs.mesa_image_laws.Brought.{AreTold, BringsAll}
-use Rattle.mesa_ledger.specs.mesa_image_laws.Ids.{dropped_ids}
-use Rattle.mesa_ledger.specs.mesa_image_laws.Moves.{Moves}
-use Rattle.mesa_ledger.specs.mesa_image_laws.Sourced.{HasSources, tables_read}
-use Rattle.mesa_catalog.specs.Lookups.{generation_of, turns_generation}
+use Rattle.mesa_engine.specs.mesa_catalog.mesa_image.Catalog.{Catalog, applied, stock_at}
+use Rattle.mesa_engine.specs.mesa_catalog.mesa_image.Fitting.{expire_fits, fits, is_new_name, is_there}
+use Rattle.mesa_engine.specs.mesa_catalog.mesa_image.Sound.{AreStocked}
+use Rattle.mesa_engine.proofs.mesa_ledger.mesa_image_laws.Agreeing.{agree_stocked}
+use Rattle.mesa_engine.proofs.mesa_ledger.mesa_image_laws.AllSourced.{alter_sourced, expire_sourced, expire_table_sourced, table_sourced, view_sourced}
+use Rattle.mesa_engine.proofs.mesa_ledger.mesa_image_laws.Lists.{both_true, is_less}
+use Rattle.mesa_engine.proofs.mesa_ledger.mesa_image_laws.Moving.{alter_step, expire_step, expire_table_step, kind_of, publish_step, table_step, view_step}
+use Rattle.mesa_engine.specs.mesa_ledger.mesa_image_laws.Brought.{AreTold, BringsAll}
+use Rattle.mesa_engine.specs.mesa_ledger.mesa_image_laws.Ids.{dropped_ids}
+use Rattle.mesa_engine.specs.mesa_ledger.mesa_image_laws.Moves.{Moves}
+use Rattle.mesa_engine.specs.mesa_ledger.mesa_image_laws.Sourced.{HasSources, tables_read}
+use Rattle.mesa_engine.specs.mesa_catalog.Lookups.{generation_of, turns_generation}
 use Rattle.mesa_rules.specs.Seen.{number_of}
 use Rattle.mesa_skeleton.specs.Rows.{Rows}
-use Rattle.mesa_ledger.specs.mesa_walk.Causes.{told_at}
-use Rattle.mesa_ledger.specs.mesa_walk.Changes.{Doing, IsChange, IsDecided}
-use Rattle.mesa_ledger.specs.mesa_walk.Sight.{is_of_schemas}
-use Rattle.mesa_ledger.specs.mesa_walk.Walk.{Outset, run_of}
-use Rattle.mesa_ledger.proofs.mesa_walk.Changing.{alter_decided, expire_decided, load_decided, table_decided, view_decided}
-use Rattle.mesa_ledger.specs.Ledger.{Ledger, books_of, next_id, skeleton_of}
-use Rattle.mesa_ledger.specs.Recorded.{recorded_ledger}
-use Rattle.mesa_ledger.specs.Vault.{Origin, IsVault, written_by}
-use Rattle.mesa_ledger.proofs.Agreeing.{named_agree}
-use Rattle.mesa_ledger.proofs.Changing.{alter_change, expire_change, expire_table_change, load_change, table_change, view_change}
-use Rattle.mesa_ledger.proofs.Sources.{batch_sources, sources_stay}
+use Rattle.mesa_engine.specs.mesa_ledger.mesa_walk.Causes.{told_at}
+use Rattle.mesa_engine.specs.mesa_ledger.mesa_walk.Changes.{Doing, IsChange, IsDecided}
+use Rattle.mesa_engine.specs.mesa_ledger.mesa_walk.Sight.{is_of_schemas}
+use Rattle.mesa_engine.specs.mesa_ledger.mesa_walk.Walk.{Outset, run_of}
+use Rattle.mesa_engine.proofs.mesa_ledger.mesa_walk.Changing.{alter_decided, expire_decided, load_decided, table_decided, view_decided}
+use Rattle.mesa_engine.specs.mesa_ledger.Ledger.{Ledger, books_of, next_id, skeleton_of}
+use Rattle.mesa_engine.specs.mesa_ledger.Recorded.{recorded_ledger}
+use Rattle.mesa_engine.specs.mesa_ledger.Vault.{Origin, IsVault, written_by}
+use Rattle.mesa_engine.proofs.mesa_ledger.Agreeing.{named_agree}
+use Rattle.mesa_engine.proofs.mesa_ledger.Changing.{alter_change, expire_change, expire_table_change, load_change, table_change, view_change}
+use Rattle.mesa_engine.proofs.mesa_ledger.Sources.{batch_sources, sources_stay}
 use Rattle.mesa_engine.specs.Failing.{deciding_stage}
 use Rattle.mesa_writing.specs.Writing.{Does, HasRecord}
 
@@ -106,7 +106,7 @@ module _ (o : Outset) (g : Origin) (sound : Bool) (l : Ledger) (story : Story) (
         change = expire_change o g sound l story held h running refused v new (agree v.rows) opened (generation_after r) l.trash adopted end version (version_there c.floor version (kind_of c r fit)) does.after does.is;
         moves = λ stocked. (_, expire_step new c stocked version fit);
         sources = λ e p known told ok.
-            sources_stay o g sound l story held h running refused v new (agree v.rows) e p (reply.Expired None version) told (λ s k. refl) (applied c r) (λ has. expire_sourced new (written_by o g.found h) c has version) ok;
+            sources_stay o g sound l story held h running refused v new (agree v.rows) e p (reply.Expired None version) told (λ s k stage. refl) (applied c r) (λ has. expire_sourced new (written_by o g.found h) c has version) ok;
         gone = refl;
         run = refl;
         rises = refl;
@@ -125,7 +125,7 @@ module _ (o : Outset) (g : Origin) (sound : Bool) (l : Ledger) (story : Story) (
         change = expire_table_change o g sound l story held h running refused v new (agree v.rows) opened (generation_after r) l.trash adopted end name number version (number_seen name ∙ found) (is_less number (length c.tables) both.0) (version_there (stock_at c number).oldest version both.1) does.after does.is;
         moves = λ stocked. (_, expire_table_step new c stocked number version fit);
         sources = λ e p known told ok.
-            sources_stay o g sound l story held h running refused v new (agree v.rows) e p (reply.Expired (Some name) version) told (λ s k. refl) (applied c r)
+            sources_stay o g sound l story held h running refused v new (agree v.rows) e p (reply.Expired (Some name) version) told (λ s k stage. refl) (applied c r)
             (λ has. expire_table_sourced new (written_by o g.found h) c has number version fit) ok;
         gone = refl;
         run = refl;
@@ -144,7 +144,7 @@ module _ (o : Outset) (g : Origin) (sound : Bool) (l : Ledger) (story : Story) (
         change = table_change o g sound l story held h running refused v new (agree v.rows) opened (generation_after r) l.trash adopted end words does.after does.is;
         moves = λ stocked. (_, table_step new c stocked words.table (columns_asked words).keys (columns_asked words).values);
         sources = λ e p known told ok.
-            sources_stay o g sound l story held h running refused v new (agree v.rows) e p (reply.Table words.table) told (λ s k. refl) (applied c r)
+            sources_stay o g sound l story held h running refused v new (agree v.rows) e p (reply.Table words.table) told (λ s k stage. refl) (applied c r)
             (λ has. table_sourced new (written_by o g.found h) c v.shaped has words.table (columns_asked words).keys (columns_asked words).values) ok;
         gone = refl;
         run = refl;
@@ -170,7 +170,7 @@ module _ (o : Outset) (g : Origin) (sound : Bool) (l : Ledger) (story : Story) (
         change = view_change o g sound l story held h running refused v new (agree v.rows) opened (generation_after r) l.trash adopted end words number (number_seen words.table ∙ found) (view_there number words.view words.keys words.values fit) does.after does.is;
         moves = λ stocked. (_, view_step new c stocked number words.view words.keys words.values fit);
         sources = λ e p known told ok.
-            sources_stay o g sound l story held h running refused v new (agree v.rows) e p (reply.View words.view) told (λ s k. refl) (applied c r)
+            sources_stay o g sound l story held h running refused v new (agree v.rows) e p (reply.View words.view) told (λ s k stage. refl) (applied c r)
             (λ has. view_sourced new (written_by o g.found h) c v.shaped has (stocked_later ok) number words.view words.keys words.values fit) ok;
         gone = refl;
         run = refl;
@@ -189,7 +189,7 @@ module _ (o : Outset) (g : Origin) (sound : Bool) (l : Ledger) (story : Story) (
         change = alter_change o g sound l story held h running refused v new (agree v.rows) opened (generation_after r) l.trash adopted end words number (number_seen words.table ∙ found) change asked (kind_of c r fit) typed does.after does.is;
         moves = λ stocked. (_, alter_step new c stocked v.shaped number change fit typed);
         sources = λ e p known told ok.
-            sources_stay o g sound l story held h running refused v new (agree v.rows) e p (reply.Altered words.table (epoch_of (stock_at c number).lineage + 1)) told (λ s k. refl) (applied c r)
+            sources_stay o g sound l story held h running refused v new (agree v.rows) e p (reply.Altered words.table (epoch_of (stock_at c number).lineage + 1)) told (λ s k stage. refl) (applied c r)
             (λ has. alter_sourced new (written_by o g.found h) c v.shaped has number change fit typed) ok;
         gone = refl;
         run = refl;
@@ -239,3 +239,4 @@ module _ (o : Outset) (g : Origin) (sound : Bool) (l : Ledger) (story : Story) (
   command_done (command.Pin asked) r rep fit typed told has = absurd has
   command_done (command.Release token) r rep fit typed told has = absurd has
   command_done (command.Work words) r rep fit typed told has = absurd has
+  command_done (command.Recast words) r rep fit typed told has = absurd has

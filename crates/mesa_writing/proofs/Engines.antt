@@ -14,20 +14,20 @@ use Rattle.mesa_history.specs.Run.{Run}
 use Rattle.mesa_history.specs.Turns.{IsDue}
 use Rattle.mesa_record.specs.Reading.{record_at}
 use Rattle.mesa_record.specs.Rules.{IsTyped}
-use Rattle.mesa_catalog.specs.mesa_image.Catalog.{applied}
-use Rattle.mesa_catalog.specs.Lookups.{generation_of, turns_generation}
+use Rattle.mesa_engine.specs.mesa_catalog.mesa_image.Catalog.{applied}
+use Rattle.mesa_engine.specs.mesa_catalog.Lookups.{generation_of, turns_generation}
 use Rattle.mesa_skeleton.specs.Bare.{bare_state}
 use Rattle.mesa_skeleton.specs.Rows.{Rows, no_rows}
-use Rattle.mesa_ledger.specs.mesa_walk.Causes.{Unwritten, reply_of, told_at}
-use Rattle.mesa_ledger.specs.mesa_walk.Turns.{entry}
-use Rattle.mesa_ledger.specs.mesa_walk.Walk.{Counts, run_at, run_of}
-use Rattle.mesa_ledger.proofs.mesa_walk.Alike.{due_alike}
-use Rattle.mesa_ledger.specs.Ledger.{first_id, next_id, past_id}
-use Rattle.mesa_ledger.specs.Recorded.{failed_ledger, recorded_ledger}
-use Rattle.mesa_ledger.specs.Vault.{IsReady, IsVault, Starts, outset_of}
-use Rattle.mesa_log.specs.declared.log.Log.{Log}
-use Rattle.mesa_log.specs.Printing.{PrintsBlock}
-use Rattle.mesa_metadata.specs.Memory.{Memory}
+use Rattle.mesa_engine.specs.mesa_ledger.mesa_walk.Causes.{Unwritten, reply_of, told_at}
+use Rattle.mesa_engine.specs.mesa_ledger.mesa_walk.Turns.{entry}
+use Rattle.mesa_engine.specs.mesa_ledger.mesa_walk.Walk.{Counts, run_at, run_of}
+use Rattle.mesa_engine.proofs.mesa_ledger.mesa_walk.Alike.{due_alike}
+use Rattle.mesa_engine.specs.mesa_ledger.Ledger.{first_id, next_id, past_id}
+use Rattle.mesa_engine.specs.mesa_ledger.Recorded.{failed_ledger, recorded_ledger}
+use Rattle.mesa_engine.specs.mesa_ledger.Vault.{IsReady, IsVault, Starts, outset_of}
+use Rattle.mesa_engine.specs.mesa_log.declared.log.Log.{Log}
+use Rattle.mesa_engine.specs.mesa_log.Printing.{PrintsBlock}
+use Rattle.mesa_engine.specs.mesa_metadata.Memory.{Memory}
 use Rattle.mesa_engine.specs.Engine.{IsEngine}
 use Rattle.mesa_engine.specs.Failing.{deciding_stage}
 use Rattle.mesa_engine.proofs.Turning.{told_engine}

@@ -25,30 +25,30 @@ use Rattle.mesa_model.specs.Warehouse.{Warehouse, max_versions}
 use Rattle.mesa_history.specs.Legal.{builds_files}
 use Rattle.mesa_history.specs.Run.{Run, First, Looked}
 use Rattle.mesa_history.specs.Turns.{IsDue}
-use Rattle.mesa_catalog.specs.mesa_image.Catalog.{Catalog}
-use Rattle.mesa_ledger.specs.mesa_image_laws.Sourced.{tables_read}
-use Rattle.mesa_catalog.specs.Lookups.{sight_of}
+use Rattle.mesa_engine.specs.mesa_catalog.mesa_image.Catalog.{Catalog}
+use Rattle.mesa_engine.specs.mesa_ledger.mesa_image_laws.Sourced.{tables_read}
+use Rattle.mesa_engine.specs.mesa_catalog.Lookups.{sight_of}
 use Rattle.mesa_output.specs.Output.{block}
 use Rattle.mesa_skeleton.specs.Bare.{bare_state}
 use Rattle.mesa_skeleton.specs.Rows.{Rows, no_rows}
-use Rattle.mesa_ledger.specs.mesa_walk.Causes.{Unwritten, reply_of, told_at}
-use Rattle.mesa_ledger.specs.mesa_walk.Changes.{HasFailed}
-use Rattle.mesa_ledger.specs.mesa_walk.Printing.{IsPut}
-use Rattle.mesa_ledger.specs.mesa_walk.Turns.{entry}
-use Rattle.mesa_ledger.specs.mesa_walk.Walk.{Outset, run_at, run_of}
-use Rattle.mesa_ledger.proofs.mesa_walk.Alike.{due_alike}
-use Rattle.mesa_ledger.proofs.mesa_walk.Changing.{fails_turn, load_decided}
-use Rattle.mesa_ledger.proofs.mesa_walk.Clock.{begun_moment, closing, not_closing}
-use Rattle.mesa_ledger.proofs.mesa_walk.Turning.{stays}
-use Rattle.mesa_ledger.specs.Ledger.{Ledger, books_of, most_files}
-use Rattle.mesa_ledger.specs.Turned.{closed_ledger}
-use Rattle.mesa_ledger.specs.Vault.{Origin, IsVault, Starts, outset_of}
-use Rattle.mesa_ledger.proofs.Changing.{tables_are}
-use Rattle.mesa_ledger.proofs.Staying.{closed_vault, still_vault}
+use Rattle.mesa_engine.specs.mesa_ledger.mesa_walk.Causes.{Unwritten, reply_of, told_at}
+use Rattle.mesa_engine.specs.mesa_ledger.mesa_walk.Changes.{HasFailed}
+use Rattle.mesa_engine.specs.mesa_ledger.mesa_walk.Printing.{IsPut}
+use Rattle.mesa_engine.specs.mesa_ledger.mesa_walk.Turns.{entry}
+use Rattle.mesa_engine.specs.mesa_ledger.mesa_walk.Walk.{Outset, run_at, run_of}
+use Rattle.mesa_engine.proofs.mesa_ledger.mesa_walk.Alike.{due_alike}
+use Rattle.mesa_engine.proofs.mesa_ledger.mesa_walk.Changing.{fails_turn, load_decided}
+use Rattle.mesa_engine.proofs.mesa_ledger.mesa_walk.Clock.{begun_moment, closing, not_closing}
+use Rattle.mesa_engine.proofs.mesa_ledger.mesa_walk.Turning.{stays}
+use Rattle.mesa_engine.specs.mesa_ledger.Ledger.{Ledger, books_of, most_files}
+use Rattle.mesa_engine.specs.mesa_ledger.Turned.{closed_ledger}
+use Rattle.mesa_engine.specs.mesa_ledger.Vault.{Origin, IsVault, Starts, outset_of}
+use Rattle.mesa_engine.proofs.mesa_ledger.Changing.{tables_are}
+use Rattle.mesa_engine.proofs.mesa_ledger.Staying.{closed_vault, still_vault}
 use Rattle.mesa_publishing.specs.declared.publishing.Published.{Published}
-use Rattle.mesa_log.specs.declared.log.Log.{Log}
-use Rattle.mesa_log.specs.Printing.{PrintsBlock}
-use Rattle.mesa_metadata.specs.Memory.{Memory}
+use Rattle.mesa_engine.specs.mesa_log.declared.log.Log.{Log}
+use Rattle.mesa_engine.specs.mesa_log.Printing.{PrintsBlock}
+use Rattle.mesa_engine.specs.mesa_metadata.Memory.{Memory}
 use Rattle.mesa_engine.specs.Engine.{IsEngine}
 use Rattle.mesa_engine.proofs.Turning.{told_engine}
 use Rattle.mesa_publishing.specs.Published.{AllTell, IsLoaded, IsPublished, bare_of, rows_later}

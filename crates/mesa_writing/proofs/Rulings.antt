@@ -24,20 +24,20 @@ use Rattle.mesa_history.specs.Replay.{is_skip, no_rows as no_lines}
 use Rattle.mesa_history.specs.Run.{State, First, Finished}
 use Rattle.mesa_history.specs.Turns.{IsDue}
 use Rattle.mesa_record.specs.declared.record.Record.{Record}
-use Rattle.mesa_catalog.specs.mesa_image.Fitting.{brought, shelved_id}
-use Rattle.mesa_catalog.specs.mesa_image.Sound.{IsTold, wants}
+use Rattle.mesa_engine.specs.mesa_catalog.mesa_image.Fitting.{brought, shelved_id}
+use Rattle.mesa_engine.specs.mesa_catalog.mesa_image.Sound.{IsTold, wants}
 use Rattle.mesa_script.specs.Rows.{body_of}
 use Rattle.mesa_rules.specs.declared.ruled.Ruled.{Ruled}
 use Rattle.mesa_rules.specs.Ruled.{IsRuled, IsRefused as IsUnruled}
 use Rattle.mesa_rules.specs.Seen.{HasCatalog, known_of}
 use Rattle.mesa_skeleton.specs.Rows.{Rows, no_rows}
-use Rattle.mesa_ledger.specs.mesa_walk.Causes.{NoMemory}
-use Rattle.mesa_ledger.specs.mesa_walk.Changes.{Doing, HasFailed}
-use Rattle.mesa_ledger.specs.mesa_walk.Turns.{Shown, IsSeen, Takes, entry}
-use Rattle.mesa_ledger.specs.mesa_walk.Walk.{run_at}
-use Rattle.mesa_ledger.proofs.mesa_walk.Going.{publish_takes, simple_takes}
-use Rattle.mesa_ledger.specs.Ledger.{Ledger, books_of, skeleton_of}
-use Rattle.mesa_log.specs.Failure.{cause_in}
+use Rattle.mesa_engine.specs.mesa_ledger.mesa_walk.Causes.{NoMemory}
+use Rattle.mesa_engine.specs.mesa_ledger.mesa_walk.Changes.{Doing, HasFailed}
+use Rattle.mesa_engine.specs.mesa_ledger.mesa_walk.Turns.{Shown, IsSeen, Takes, entry}
+use Rattle.mesa_engine.specs.mesa_ledger.mesa_walk.Walk.{run_at}
+use Rattle.mesa_engine.proofs.mesa_ledger.mesa_walk.Going.{publish_takes, simple_takes}
+use Rattle.mesa_engine.specs.mesa_ledger.Ledger.{Ledger, books_of, skeleton_of}
+use Rattle.mesa_engine.specs.mesa_log.Failure.{cause_in}
 use Rattle.mesa_engine.specs.Failing.{HasNotDone, deciding_kind, deciding_stage}
 use Rattle.mesa_writing.specs.Ruling.{IsAllowed, IsRefused, told_as}
 use Rattle.mesa_writing.specs.Writing.{Brings, CanWrite, Does, HasRecord}
@@ -78,6 +78,7 @@ writes_decide l later (command.Explain words) r rep has = absurd has
 writes_decide l later (command.Pin asked) r rep has = absurd has
 writes_decide l later (command.Release token) r rep has = absurd has
 writes_decide l later (command.Work words) r rep has = absurd has
+writes_decide l later (command.Recast words) r rep has = absurd has
 
 -- there may be no memory for one
 pub writes_starve : (l : Ledger) (later : Rows → Rows) (c : Command) (r : Record) (rep : Reply) (position session : ℕ) → l.closed ≡ None → HasRecord l later c r rep → HasNotDone (books_of no_rows l) position session c NoMemory
@@ -91,6 +92,7 @@ writes_starve l later (command.Explain words) r rep position session opened has 
 writes_starve l later (command.Pin asked) r rep position session opened has = absurd has
 writes_starve l later (command.Release token) r rep position session opened has = absurd has
 writes_starve l later (command.Work words) r rep position session opened has = absurd has
+writes_starve l later (command.Recast words) r rep position session opened has = absurd has
 
 -- its reply is printed as a head line alone
 pub writes_print : (l : Ledger) (later : Rows → Rows) (c : Command) (r : Record) (rep : Reply) → HasRecord l later c r rep → [] ≡ body_of no_lines rep
@@ -105,6 +107,7 @@ writes_print l later (command.Explain words) r rep has = absurd has
 writes_print l later (command.Pin asked) r rep has = absurd has
 writes_print l later (command.Release token) r rep has = absurd has
 writes_print l later (command.Work words) r rep has = absurd has
+writes_print l later (command.Recast words) r rep has = absurd has
 
 -- one that isn't a load brings no files
 pub nothing_brought : (l : Ledger) (later : Rows → Rows) (c : Command) (r : Record) (rep : Reply) → deciding_stage c ≡ First → HasRecord l later c r rep → brought l.catalogue r ≡ []
@@ -119,6 +122,7 @@ nothing_brought l later (command.Explain words) r rep simple has = absurd has
 nothing_brought l later (command.Pin asked) r rep simple has = absurd has
 nothing_brought l later (command.Release token) r rep simple has = absurd has
 nothing_brought l later (command.Work words) r rep simple has = absurd has
+nothing_brought l later (command.Recast words) r rep simple has = absurd has
 
 -- What the rules allow of a command that brings no files can be written.
 pub allowed_writes : {M : Type 0} (bytes : M → Option (List ℕ)) (l : Ledger) (c : Command) (r : Ruled) (made : Vec (Adoption M) Global) (adopted : ℕ) → deciding_stage c ≡ First → IsAllowed l c r → made.items ≡ [] → adopted ≡ l.adopted → adopted < 2 ^ 40
@@ -154,6 +158,7 @@ deciding_comes (command.Pin asked) is = refl
 deciding_comes (command.Release token) is = refl
 deciding_comes (command.Expire table version) is = refl
 deciding_comes (command.Work words) is = absurd cc
+deciding_comes (command.Recast words) is = absurd cc
 
 -- ---- its session's command is over
 
@@ -170,3 +175,4 @@ module _ (script : Script) (start : State) (old new : Shown) (s n : ℕ) (ran : 
   writes_take (command.Pin asked) has due = absurd has
   writes_take (command.Release token) has due = absurd has
   writes_take (command.Work words) has due = absurd has
+  writes_take (command.Recast words) has due = absurd has

@@ -17,31 +17,33 @@ use Rattle.mesa_history.specs.Turns.{IsDue}
 use Rattle.mesa_record.specs.declared.record.Record.{Record}
 use Rattle.mesa_record.specs.Reading.{record_at}
 use Rattle.mesa_record.specs.Rules.{IsTyped}
-use Rattle.mesa_catalog.specs.mesa_image.Catalog.{Catalog, applied}
-use Rattle.mesa_catalog.specs.mesa_image.Contents.{kept_of}
-use Rattle.mesa_catalog.specs.mesa_image.Fitting.{shelved}
-use Rattle.mesa_catalog.specs.mesa_image.Held.{IsHeld, StandsForEither as EitherOf}
-use Rattle.mesa_catalog.specs.mesa_image.Sound.{StandsFor}
-use Rattle.mesa_ledger.proofs.mesa_image_laws.Agreeing.{agree_wants}
-use Rattle.mesa_ledger.proofs.mesa_image_laws.Ids.{own_ids}
-use Rattle.mesa_ledger.proofs.mesa_image_laws.Wholes.{fits_shaped}
-use Rattle.mesa_ledger.specs.mesa_image_laws.Ids.{named}
-use Rattle.mesa_catalog.specs.Lookups.{generation_of, turns_generation}
+use Rattle.mesa_engine.specs.mesa_catalog.mesa_image.Catalog.{Catalog, applied}
+use Rattle.mesa_engine.specs.mesa_catalog.mesa_image.Contents.{kept_of}
+use Rattle.mesa_engine.specs.mesa_catalog.mesa_image.Fitting.{shelved}
+use Rattle.mesa_engine.specs.mesa_catalog.mesa_image.Held.{IsHeld, StandsForEither as EitherOf}
+use Rattle.mesa_engine.specs.mesa_catalog.mesa_image.Sound.{StandsFor}
+use Rattle.mesa_engine.proofs.mesa_ledger.mesa_image_laws.Agreeing.{agree_wants}
+use Rattle.mesa_engine.proofs.mesa_ledger.mesa_image_laws.CountedRecords.{fits_counted}
+use Rattle.mesa_engine.proofs.mesa_ledger.mesa_image_laws.Ids.{own_ids}
+use Rattle.mesa_engine.proofs.mesa_ledger.mesa_image_laws.Recordable.{applied_recordable}
+use Rattle.mesa_engine.proofs.mesa_ledger.mesa_image_laws.Wholes.{fits_shaped}
+use Rattle.mesa_engine.specs.mesa_ledger.mesa_image_laws.Ids.{named}
+use Rattle.mesa_engine.specs.mesa_catalog.Lookups.{generation_of, turns_generation}
 use Rattle.mesa_store.specs.Store.{Writes as IsWritten}
 use Rattle.mesa_output.specs.Output.{block}
 use Rattle.mesa_skeleton.specs.Rows.{Rows}
 use Rattle.mesa_trash.specs.Filed.{AreGiven, Renames}
-use Rattle.mesa_ledger.specs.mesa_walk.Causes.{Unwritten, reply_of, told_at}
-use Rattle.mesa_ledger.specs.mesa_walk.Printing.{IsPut}
-use Rattle.mesa_ledger.specs.mesa_walk.Turns.{entry}
-use Rattle.mesa_ledger.specs.mesa_walk.Walk.{Counts, Passes, StandsForEither, Writes, run_of}
-use Rattle.mesa_ledger.specs.Ledger.{Ledger}
-use Rattle.mesa_ledger.specs.Recorded.{IsRecorded, failed_ledger, recorded_ledger}
-use Rattle.mesa_ledger.specs.Vault.{IsVault, Starts, outset_of}
-use Rattle.mesa_ledger.proofs.Agreeing.{named_agree, same_kept}
-use Rattle.mesa_ledger.proofs.Recording.{Clears, clears_none}
-use Rattle.mesa_ledger.proofs.Renaming.{record_brings, record_renames}
-use Rattle.mesa_ledger.proofs.Writing.{unwritten_vault, written_vault}
+use Rattle.mesa_engine.specs.mesa_ledger.mesa_walk.Causes.{Unwritten, reply_of, told_at}
+use Rattle.mesa_engine.specs.mesa_ledger.mesa_walk.Printing.{IsPut}
+use Rattle.mesa_engine.specs.mesa_ledger.mesa_walk.Turns.{entry}
+use Rattle.mesa_engine.specs.mesa_ledger.mesa_walk.Walk.{Counts, Passes, StandsForEither, Writes, run_of}
+use Rattle.mesa_engine.specs.mesa_ledger.Ledger.{Ledger}
+use Rattle.mesa_engine.specs.mesa_ledger.Recorded.{IsRecorded, failed_ledger, recorded_ledger}
+use Rattle.mesa_engine.specs.mesa_ledger.Vault.{IsVault, Starts, outset_of}
+use Rattle.mesa_engine.proofs.mesa_ledger.Agreeing.{named_agree, same_kept}
+use Rattle.mesa_engine.proofs.mesa_ledger.Recording.{Clears, clears_none}
+use Rattle.mesa_engine.proofs.mesa_ledger.Renaming.{record_brings, record_renames}
+use Rattle.mesa_engine.proofs.mesa_ledger.Writing.{unwritten_vault, written_vault}
 use Rattle.mesa_engine.specs.Failing.{deciding_stage}
 use Rattle.mesa_publishing.specs.Published.{AllTell}
 use Rattle.mesa_writing.specs.declared.writing.Change.{Change}
@@ -98,6 +100,8 @@ module _ (n : Starts) (w : Rows) (sound : Bool) (l : Ledger) (story : Story) (he
     brings = record_brings c change.writes to.can.rules to.can.fit v.own made to.can.brings.ids;
     shaped = fits_shaped c change.writes v.shaped typed to.can.fit;
     own = own_ids c change.writes to.can.rules to.can.fit v.own;
+    columns = fits_counted c change.writes v.shaped v.columns to.can.fit;
+    recordable = applied_recordable c change.writes (record { typed = typed; rules = to.can.rules }) v.recordable;
   }
 
   -- the files that wait wait still

@@ -8,13 +8,13 @@ use Rattle.mesa_history.specs.Turns.{IsDue}
 use Rattle.mesa_asked.specs.declared.failure.Failure.{Failure as Unruled}
 use Rattle.mesa_asked.specs.declared.failure.Failure.TheVariants as unruled
 use Rattle.mesa_record.specs.Rules.{keeps_rules}
-use Rattle.mesa_catalog.specs.mesa_image.Fitting.{fits}
+use Rattle.mesa_engine.specs.mesa_catalog.mesa_image.Fitting.{fits}
 use Rattle.mesa_skeleton.specs.Rows.{no_rows}
-use Rattle.mesa_ledger.specs.Ledger.{Ledger, books_of}
-use Rattle.mesa_log.specs.Failure.{cause_in}
-use Rattle.mesa_log.specs.declared.failure.Failure.{Failure}
-use Rattle.mesa_log.specs.declared.failure.Failure.TheVariants as failure
-use Rattle.mesa_metadata.specs.Memory.{Memory}
+use Rattle.mesa_engine.specs.mesa_ledger.Ledger.{Ledger, books_of}
+use Rattle.mesa_engine.specs.mesa_log.Failure.{cause_in}
+use Rattle.mesa_engine.specs.mesa_log.declared.failure.Failure.{Failure}
+use Rattle.mesa_engine.specs.mesa_log.declared.failure.Failure.TheVariants as failure
+use Rattle.mesa_engine.specs.mesa_metadata.Memory.{Memory}
 use Rattle.mesa_rules.specs.declared.ruled.Ruled.{Ruled}
 use Rattle.mesa_engine.specs.Failing.{HasNotDone, deciding_kind, deciding_stage, is_of_device}
 use Rattle.mesa_writing.specs.Writing.{HasRecord}

@@ -22,16 +22,16 @@ use Rattle.mesa_record.specs.declared.record.Part.{Part}
 use Rattle.mesa_record.specs.declared.record.Record.{Record}
 use Rattle.mesa_record.specs.declared.record.Record.TheVariants as record_of
 use Rattle.mesa_record.specs.Rules.{keeps_rules}
-use Rattle.mesa_catalog.specs.mesa_image.Catalog.{stock_at}
-use Rattle.mesa_catalog.specs.mesa_image.Fitting.{brought, fits}
-use Rattle.mesa_catalog.specs.mesa_image.Sound.{wants}
-use Rattle.mesa_ledger.specs.mesa_image_laws.Brought.{AreTold, BringsAll}
-use Rattle.mesa_ledger.specs.mesa_image_laws.Ids.{brought_ids}
-use Rattle.mesa_ledger.specs.mesa_image_laws.Sourced.{tables_read}
+use Rattle.mesa_engine.specs.mesa_catalog.mesa_image.Catalog.{stock_at}
+use Rattle.mesa_engine.specs.mesa_catalog.mesa_image.Fitting.{brought, fits}
+use Rattle.mesa_engine.specs.mesa_catalog.mesa_image.Sound.{wants}
+use Rattle.mesa_engine.specs.mesa_ledger.mesa_image_laws.Brought.{AreTold, BringsAll}
+use Rattle.mesa_engine.specs.mesa_ledger.mesa_image_laws.Ids.{brought_ids}
+use Rattle.mesa_engine.specs.mesa_ledger.mesa_image_laws.Sourced.{tables_read}
 use Rattle.mesa_skeleton.specs.Rows.{Rows, no_rows}
-use Rattle.mesa_ledger.specs.mesa_walk.Changes.{Doing}
-use Rattle.mesa_ledger.specs.Ledger.{Ledger, books_of, next_id}
-use Rattle.mesa_ledger.specs.Recorded.{Adopts}
+use Rattle.mesa_engine.specs.mesa_ledger.mesa_walk.Changes.{Doing}
+use Rattle.mesa_engine.specs.mesa_ledger.Ledger.{Ledger, books_of, next_id}
+use Rattle.mesa_engine.specs.mesa_ledger.Recorded.{Adopts}
 use Rattle.mesa_publishing.specs.Published.{AllTell}
 use Rattle.mesa_rules.specs.Seen.{number_of}
 use Rattle.mesa_engine.specs.Failing.{deciding_stage}

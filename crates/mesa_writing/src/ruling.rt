@@ -1,12 +1,11 @@
 // What the rules let a command do while the vault is open.
 ghost use Rattle.std.specs.Prelude.{◌≡◌, ℕ, IfErr, IfOk, None, OnOk, Some};
-ghost use Rattle.mesa_log.specs.declared.failure.Failure.TheVariants as failure;
+ghost use Rattle.mesa_engine.specs.mesa_log.declared.failure.Failure.TheVariants as failure;
 ghost use Rattle.mesa_model.specs.declared.commands.Command.TheVariants as command;
 ghost use Rattle.mesa_model.specs.declared.replies.Refusal.TheVariants as no;
 ghost use Rattle.mesa_writing.specs.Ruling.{IsAllowed, IsRefused, told_as};
 
-use mesa_log::Failure;
-use mesa_metadata::Metadata;
+use mesa_engine::{Failure, Metadata};
 use mesa_model::{AlterWords, Refusal, TableWords, ViewWords};
 use mesa_rules::Ruled;
 use mesa_schema::Words;

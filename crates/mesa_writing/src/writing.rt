@@ -2,24 +2,21 @@
 ghost use Rattle.std.specs.Prelude.{◌≡◌, ◌<◌, [], true, length, None, Some, Ok, IsTrue, IfOk, OnErr, OnOk};
 ghost use Rattle.mesa_disk.specs.Story.{Steps};
 ghost use Rattle.mesa_history.specs.Run.{Finished};
-ghost use Rattle.mesa_catalog.specs.mesa_image.Fitting.{fits};
+ghost use Rattle.mesa_engine.specs.mesa_catalog.mesa_image.Fitting.{fits};
 ghost use Rattle.mesa_key.specs.Spelling.{AreBytes};
 ghost use Rattle.mesa_model.specs.declared.entries.Kind.TheVariants as kind;
 ghost use Rattle.mesa_publishing.specs.Published.{AllTell};
 ghost use Rattle.mesa_record.specs.Reading.{record_at};
 ghost use Rattle.mesa_record.specs.Rules.{keeps_rules};
 ghost use Rattle.mesa_skeleton.specs.Rows.{Rows, no_rows};
-ghost use Rattle.mesa_ledger.specs.mesa_walk.Turns.{AnswersDisk, AnswersDraft, SomeRose, Takes};
-ghost use Rattle.mesa_ledger.specs.mesa_walk.Walk.{run_at};
+ghost use Rattle.mesa_engine.specs.mesa_ledger.mesa_walk.Turns.{AnswersDisk, AnswersDraft, SomeRose, Takes};
+ghost use Rattle.mesa_engine.specs.mesa_ledger.mesa_walk.Walk.{run_at};
 ghost use Rattle.mesa_writing.specs.Writing.{IsToWrite, KeepsFiles};
 
 use mesa_disk::{Adoption, Disk, Made};
-use mesa_engine::Engine;
+use mesa_engine::{Engine, Failure, Metadata, Naming, Who};
 use mesa_io::Sink;
 use mesa_journal::Framed;
-use mesa_ledger::Naming;
-use mesa_log::{Failure, Who};
-use mesa_metadata::Metadata;
 use mesa_model::{Kind, Outcome, Reply};
 use mesa_opening::frame;
 use mesa_record::Record;

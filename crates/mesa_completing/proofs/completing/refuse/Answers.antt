@@ -5,17 +5,17 @@ use Rattle.mesa_history.specs.Run.{Renewed, Finished}
 use Rattle.mesa_history.specs.Turns.{IsDue}
 use Rattle.mesa_model.specs.declared.commands.Command.TheVariants as command
 use Rattle.mesa_model.specs.declared.entries.Kind.TheVariants as kind
-use Rattle.mesa_ledger.specs.Ledger.{books_of}
-use Rattle.mesa_ledger.specs.Vault.{Starts}
-use Rattle.mesa_ledger.proofs.Beginning.{vault_at_seen}
-use Rattle.mesa_log.specs.Failure.{cause_in}
-use Rattle.mesa_metadata.specs.Memory.{Memory}
+use Rattle.mesa_engine.specs.mesa_ledger.Ledger.{books_of}
+use Rattle.mesa_engine.specs.mesa_ledger.Vault.{Starts}
+use Rattle.mesa_engine.proofs.mesa_ledger.Beginning.{vault_at_seen}
+use Rattle.mesa_engine.specs.mesa_log.Failure.{cause_in}
+use Rattle.mesa_engine.specs.mesa_metadata.Memory.{Memory}
 use Rattle.mesa_skeleton.specs.Rows.{no_rows}
-use Rattle.mesa_ledger.specs.mesa_walk.Causes.{outcome_of}
-use Rattle.mesa_ledger.specs.mesa_walk.Turns.{AnswersDisk, AnswersDraft, Shown, Takes, entry}
-use Rattle.mesa_ledger.specs.mesa_walk.Walk.{run_at}
-use Rattle.mesa_ledger.proofs.mesa_walk.Alike.{due_alike}
-use Rattle.mesa_ledger.proofs.mesa_walk.Faulting.{disk_never}
+use Rattle.mesa_engine.specs.mesa_ledger.mesa_walk.Causes.{outcome_of}
+use Rattle.mesa_engine.specs.mesa_ledger.mesa_walk.Turns.{AnswersDisk, AnswersDraft, Shown, Takes, entry}
+use Rattle.mesa_engine.specs.mesa_ledger.mesa_walk.Walk.{run_at}
+use Rattle.mesa_engine.proofs.mesa_ledger.mesa_walk.Alike.{due_alike}
+use Rattle.mesa_engine.proofs.mesa_ledger.mesa_walk.Faulting.{disk_never}
 use Rattle.mesa_engine.specs.Engine.{Standing, IsEngine, starts_of}
 use Rattle.mesa_engine.proofs.Drafting.{answers_none}
 use Rattle.mesa_tasks.specs.Tasks.{claim_in}

@@ -6,8 +6,8 @@ use Rattle.mesa_history.specs.Refused.{is_refusal}
 use Rattle.mesa_history.specs.Run.{Finished, Renewed}
 use Rattle.mesa_history.specs.Turns.{IsDue}
 use Rattle.mesa_image.specs.Catalog.{applied, stock_at}
-use Rattle.mesa_ledger.specs.mesa_image_laws.Ids.{dropped_ids}
-use Rattle.mesa_metadata.specs.mesa_catalog.Lookups.{generation_of, turns_generation}
+use Rattle.mesa_engine.specs.mesa_ledger.mesa_image_laws.Ids.{dropped_ids}
+use Rattle.mesa_engine.specs.mesa_metadata.mesa_catalog.Lookups.{generation_of, turns_generation}
 use Rattle.mesa_lease.specs.Book.{ended}
 use Rattle.mesa_model.specs.Entry.{IsShort}
 use Rattle.mesa_model.specs.declared.commands.Command.TheVariants as command
@@ -21,27 +21,27 @@ use Rattle.mesa_script.specs.Rows.{body_of}
 use Rattle.mesa_skeleton.specs.Rows.{Rows, no_rows}
 use Rattle.mesa_swapping.specs.Finished.{HasRange, IsFinished}
 use Rattle.mesa_swapping.specs.Swapped.{IsSwapped}
-use Rattle.mesa_ledger.specs.mesa_walk.Causes.{Replies, Unwritten, told_at}
-use Rattle.mesa_ledger.specs.mesa_walk.Turns.{AnswersDisk, AnswersDraft, Shown, SomeRose, Takes, entry, faults_of}
-use Rattle.mesa_ledger.specs.mesa_walk.Walk.{Counts, run_at}
-use Rattle.mesa_ledger.proofs.mesa_walk.Alike.{due_alike}
-use Rattle.mesa_ledger.proofs.mesa_walk.Clock.{closing}
-use Rattle.mesa_ledger.proofs.mesa_walk.Faulting.{disk_counted, disk_where}
-use Rattle.mesa_ledger.proofs.mesa_walk.Working.{checked_open}
-use Rattle.mesa_ledger.specs.Ledger.{Ledger, books_of}
-use Rattle.mesa_ledger.specs.Recorded.{failed_ledger, holds_in, left_by, recorded_ledger, removed_by, waiting}
-use Rattle.mesa_ledger.specs.Turned.{leased_ledger}
-use Rattle.mesa_ledger.specs.Vault.{Starts, outset_of, written_by}
-use Rattle.mesa_ledger.proofs.Beginning.{vault_at_seen}
-use Rattle.mesa_log.specs.Printing.{PrintsBlock}
-use Rattle.mesa_metadata.specs.Memory.{Memory}
+use Rattle.mesa_engine.specs.mesa_ledger.mesa_walk.Causes.{Replies, Unwritten, told_at}
+use Rattle.mesa_engine.specs.mesa_ledger.mesa_walk.Turns.{AnswersDisk, AnswersDraft, Shown, SomeRose, Takes, entry, faults_of}
+use Rattle.mesa_engine.specs.mesa_ledger.mesa_walk.Walk.{Counts, run_at}
+use Rattle.mesa_engine.proofs.mesa_ledger.mesa_walk.Alike.{due_alike}
+use Rattle.mesa_engine.proofs.mesa_ledger.mesa_walk.Clock.{closing}
+use Rattle.mesa_engine.proofs.mesa_ledger.mesa_walk.Faulting.{disk_counted, disk_where}
+use Rattle.mesa_engine.proofs.mesa_ledger.mesa_walk.Working.{checked_open}
+use Rattle.mesa_engine.specs.mesa_ledger.Ledger.{Ledger, books_of}
+use Rattle.mesa_engine.specs.mesa_ledger.Recorded.{failed_ledger, holds_in, left_by, recorded_ledger, removed_by, waiting}
+use Rattle.mesa_engine.specs.mesa_ledger.Turned.{leased_ledger}
+use Rattle.mesa_engine.specs.mesa_ledger.Vault.{Starts, outset_of, written_by}
+use Rattle.mesa_engine.proofs.mesa_ledger.Beginning.{vault_at_seen}
+use Rattle.mesa_engine.specs.mesa_log.Printing.{PrintsBlock}
+use Rattle.mesa_engine.specs.mesa_metadata.Memory.{Memory}
 use Rattle.mesa_engine.specs.Engine.{IsEngine, Standing, starts_of}
 use Rattle.mesa_engine.proofs.Drafting.{answers_none}
 use Rattle.mesa_tasks.specs.Tasks.{claim_in}
 use Rattle.mesa_trash.specs.Holding.{kept}
 use Rattle.mesa_writing.proofs.Loads.{all_tell}
 use Rattle.mesa_writing.proofs.Written.{IsWhole, IsWorked}
-use Rattle.mesa_ledger.specs.Written.{written_at}
+use Rattle.mesa_engine.specs.mesa_ledger.Written.{written_at}
 use Rattle.mesa_completing.proofs.Claims.{due_still}
 use Rattle.mesa_completing.proofs.Refusing.{closed_takes}
 use Rattle.mesa_completing.proofs.SwapEngines.{absent_still, ready_still, swap_prints, swapped_engine, unswapped_engine}
@@ -76,7 +76,7 @@ prepare-requires-clause-there g c κs within =
     let due = subst (λ (x : Standing). IsDue N.script (run_at N.script (N.start no_rows) x.shown.history) c.args.who.session c.args.who.command (command.Work c.requires.due.0) (Renewed claim)) (sym c.engine.view_is) c.requires.due.1 in
     let holds = subst (λ (x : Standing). claim_checked (books_of no_rows x.ledger).bare (books_of no_rows x.ledger).machine (length x.shown.history) claim ≡ Ok tt) (sym c.engine.view_is) c.requires.holds in
     (due_still (outset_of n no_rows) (n.origin no_rows) i.metadata.ledger (g.D.Disk.story i.disk) (g.K.Sink.held i.log.printer.sink) h (not i.log.printer.broken) i.log.refused (c.engine.invariant.vault no_rows false (λ is. absurd cc))
-    c.args.who.session c.args.who.command c.requires.due.0 (length h) claim due holds).there
+    c.args.who.session c.args.who.command c.requires.due.0 (length h) claim c.args.task.now.work refl due holds).there
 
 pub prepare-requires-clause-due : goal.prepare-requires-clause-due
 prepare-requires-clause-due g c κs within =
@@ -88,7 +88,7 @@ prepare-requires-clause-due g c κs within =
     let due = subst (λ (x : Standing). IsDue N.script (run_at N.script (N.start no_rows) x.shown.history) c.args.who.session c.args.who.command (command.Work c.requires.due.0) (Renewed claim)) (sym c.engine.view_is) c.requires.due.1 in
     let holds = subst (λ (x : Standing). claim_checked (books_of no_rows x.ledger).bare (books_of no_rows x.ledger).machine (length x.shown.history) claim ≡ Ok tt) (sym c.engine.view_is) c.requires.holds in
     let still = due_still (outset_of n no_rows) (n.origin no_rows) i.metadata.ledger (g.D.Disk.story i.disk) (g.K.Sink.held i.log.printer.sink) h (not i.log.printer.broken) i.log.refused (c.engine.invariant.vault no_rows false (λ is. absurd cc))
-    c.args.who.session c.args.who.command c.requires.due.0 (length h) claim due holds in
+    c.args.who.session c.args.who.command c.requires.due.0 (length h) claim c.args.task.now.work refl due holds in
     (still.oldest, still.next, still.due, still.later_oldest, still.later_next)
 
 -- ---- the device work

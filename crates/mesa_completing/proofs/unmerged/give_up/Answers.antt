@@ -8,29 +8,29 @@ use Rattle.mesa_history.specs.Run.{Granted, Finished}
 use Rattle.mesa_history.specs.Turns.{IsDue}
 use Rattle.mesa_model.specs.declared.commands.Command.TheVariants as command
 use Rattle.mesa_model.specs.declared.entries.Kind.TheVariants as kind
-use Rattle.mesa_ledger.specs.Ledger.{Ledger}
-use Rattle.mesa_ledger.specs.Vault.{Starts}
-use Rattle.mesa_ledger.proofs.Beginning.{vault_at_seen}
-use Rattle.mesa_log.specs.Failure.{cause_in}
-use Rattle.mesa_log.specs.Printing.{PrintsBlock}
-use Rattle.mesa_metadata.specs.Memory.{Memory}
+use Rattle.mesa_engine.specs.mesa_ledger.Ledger.{Ledger}
+use Rattle.mesa_engine.specs.mesa_ledger.Vault.{Starts, outset_of}
+use Rattle.mesa_engine.proofs.mesa_ledger.Beginning.{vault_at_seen}
+use Rattle.mesa_engine.specs.mesa_log.Failure.{cause_in}
+use Rattle.mesa_engine.specs.mesa_log.Printing.{PrintsBlock}
+use Rattle.mesa_engine.specs.mesa_metadata.Memory.{Memory}
 use Rattle.mesa_output.specs.Output.{block}
 use Rattle.mesa_skeleton.specs.Rows.{no_rows}
 use Rattle.mesa_tasks.specs.GivingBack.{task_inputs}
-use Rattle.mesa_ledger.specs.mesa_walk.Causes.{Cause, is_read_fault, outcome_of, reply_of, told_at}
-use Rattle.mesa_ledger.specs.mesa_walk.Printing.{IsPut}
-use Rattle.mesa_ledger.specs.mesa_walk.Turns.{AnswersDisk, AnswersDraft, Shown, SomeRose, Takes, entry, faults_of}
-use Rattle.mesa_ledger.specs.mesa_walk.Walk.{run_at}
-use Rattle.mesa_ledger.proofs.mesa_walk.Alike.{due_alike}
-use Rattle.mesa_ledger.proofs.mesa_walk.Clock.{begun_moment, not_closing}
-use Rattle.mesa_ledger.proofs.mesa_walk.Faulting.{disk_caused}
+use Rattle.mesa_engine.specs.mesa_ledger.mesa_walk.Causes.{Cause, is_read_fault, outcome_of, reply_of, told_at}
+use Rattle.mesa_engine.specs.mesa_ledger.mesa_walk.Printing.{IsPut}
+use Rattle.mesa_engine.specs.mesa_ledger.mesa_walk.Turns.{AnswersDisk, AnswersDraft, Shown, SomeRose, Takes, entry, faults_of}
+use Rattle.mesa_engine.specs.mesa_ledger.mesa_walk.Walk.{run_at}
+use Rattle.mesa_engine.proofs.mesa_ledger.mesa_walk.Alike.{due_alike}
+use Rattle.mesa_engine.proofs.mesa_ledger.mesa_walk.Clock.{begun_moment, not_closing}
+use Rattle.mesa_engine.proofs.mesa_ledger.mesa_walk.Faulting.{disk_caused}
 use Rattle.mesa_engine.specs.Engine.{Standing, IsEngine, starts_of}
 use Rattle.mesa_engine.proofs.Drafting.{answers_where}
 use Rattle.mesa_tasks.specs.Tasks.{claim_in}
 use Rattle.mesa_tasks.specs.declared.merging.CompactError.TheVariants as compact
 use Rattle.mesa_asking.proofs.Closes.{given_counts}
-use Rattle.mesa_completing.specs.Unmerged.{closing_cause, closing_ledger}
-use Rattle.mesa_completing.proofs.Closings.{closing_read, closing_refuses, given_up_engine, given_up_takes, only_draft}
+use Rattle.mesa_completing.specs.Unmerged.{cause_of, closing_cause, closing_ledger}
+use Rattle.mesa_completing.proofs.Closings.{closing_read, closing_refuses, given_up_engine, given_up_takes, only_draft, paid_back}
 use Rattle.mesa_completing.proofs.unmerged.give_up.Goals as goal
 
 abbrev closed_of : Ledger → Option ℕ
@@ -84,9 +84,12 @@ kept g c =
     let h = i.log.history.items in
     let mo = c.clock-moment.result in
     given_up_engine g.K.Sink.held g.K.Sink.faults n N.room N.sink_faults i.metadata c.fall-failure.new.metadata (g.D.Disk.story i.disk) (g.D.Disk.story c.retire_task.new.disk) i.log c.fail.new.self c.engine.invariant
-    s number c.fail.ensures.short.session c.fail.ensures.short.command words mo (c.clock-moment.ensures ∙ c.retire_task.ensures.unmoved.moment) (omega arith) (runs g c) c.position-at.result c.position-at.ensures claim
+    s number c.fail.ensures.short.session c.fail.ensures.short.command (command.Work words) refl true mo (c.clock-moment.ensures ∙ c.retire_task.ensures.unmoved.moment) (omega arith) (runs g c) c.position-at.result c.position-at.ensures claim
     (λ w. due_alike N.script (N.start no_rows) (N.start w) h s number (command.Work words) (Granted claim) (N.alike w) refl (due_at g c))
-    c.retire_task.ensures.unmoved g.D.Reader.FileReader.faults (task_inputs c.args.task) c.retire_task.ensures.given c.args.error c.requires.read c.may_be_told.ensures c.requires.undamaged
+    c.retire_task.ensures.unmoved c.args.error
+    (λ w b ok. paid_back (outset_of n w) (n.origin w) b i.metadata.ledger (g.D.Disk.story i.disk) (g.D.Disk.story c.retire_task.new.disk) (g.K.Sink.held i.log.printer.sink) h (not i.log.printer.broken) i.log.refused
+    (c.engine.invariant.vault w b ok) (is_read_fault (cause_of c.args.error)) c.retire_task.ensures.unmoved g.D.Reader.FileReader.faults (task_inputs c.args.task) c.retire_task.ensures.given c.requires.read)
+    c.may_be_told.ensures c.requires.undamaged
     cause c.fall-failure.ensures.cause c.fail.ensures.items c.fail.ensures.room c.fall-failure.ensures.after
     (subst (λ at. PrintsBlock g.K.Sink.held g.K.Sink.faults i.log.printer c.fail.new.self.printer (entry s number kind.Close (outcome_of cause) mo) (told_at at (reply_of cause))) (sym c.position-at.ensures) c.fail.ensures.told)
     c.fail.ensures.refused
@@ -108,7 +111,7 @@ returns-clause-turn g c =
     let cause = cause_in c.fall-failure.result in
     let new : Shown = record { history = later.history.items; running = not later.printer.broken; clock = new_story.moment } in
     subst (λ (x : Standing). Takes N.script (N.start no_rows) x.shown new s number kind.Close Finished) c.engine.view_is
-    (given_up_takes n no_rows (record { history = h; running = not i.log.printer.broken; clock = story.moment }) new s number c.args.words.now (claim_in c.args.task) (due_at g c) cause
+    (given_up_takes n no_rows (record { history = h; running = not i.log.printer.broken; clock = story.moment }) new s number (command.Work c.args.words.now) refl true (claim_in c.args.task) (due_at g c) cause
     (c.fail.ensures.items ∙ ap (λ x. h ++ entry s number kind.Close (outcome_of cause) x ∷ []) c.clock-moment.ensures) (runs g c)
     (vault_at_seen n c.fall-failure.new.metadata.ledger new_story (g.K.Sink.held later.printer.sink) later.history.items (not later.printer.broken) later.refused new_story.moment (kept g c).vault))
 

@@ -1,6 +1,6 @@
 use Rattle.std.proofs.Common.{not, sym, ◌∙◌, subst}
 use Rattle.mesa_engine.specs.Engine.{Standing, starts_of}
-use Rattle.mesa_ledger.specs.Vault.{Starts}
+use Rattle.mesa_engine.specs.mesa_ledger.Vault.{Starts}
 use Rattle.mesa_skeleton.specs.Rows.{no_rows}
 use Rattle.mesa_core.specs.Standing.{IsCatalogAfter}
 use Rattle.mesa_core.proofs.Sights.{catalogue_is}

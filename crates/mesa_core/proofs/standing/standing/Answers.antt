@@ -1,7 +1,7 @@
 use Rattle.std.proofs.Common.{not, subst}
 use Rattle.mesa_engine.specs.Engine.{Standing, starts_of}
-use Rattle.mesa_ledger.specs.Vault.{Starts}
-use Rattle.mesa_ledger.proofs.Beginning.{vault_at_seen}
+use Rattle.mesa_engine.specs.mesa_ledger.Vault.{Starts}
+use Rattle.mesa_engine.proofs.mesa_ledger.Beginning.{vault_at_seen}
 use Rattle.mesa_skeleton.specs.Rows.{no_rows}
 use Rattle.mesa_walk.specs.Turns.{IsSeen}
 use Rattle.mesa_core.proofs.standing.standing.Goals as goal

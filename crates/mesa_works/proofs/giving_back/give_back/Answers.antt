@@ -1,6 +1,6 @@
 use Rattle.std.proofs.Common.{arith, subst}
-use Rattle.mesa_ledger.specs.Vault.{Starts}
-use Rattle.mesa_ledger.specs.mesa_walk.Turns.{NoneFell, faults_of}
+use Rattle.mesa_engine.specs.mesa_ledger.Vault.{Starts}
+use Rattle.mesa_engine.specs.mesa_ledger.mesa_walk.Turns.{NoneFell, faults_of}
 use Rattle.mesa_engine.specs.Engine.{Standing, starts_of}
 use Rattle.mesa_engine.proofs.Turning.{unmoved_engine}
 use Rattle.mesa_works.proofs.giving_back.give_back.Goals as goal

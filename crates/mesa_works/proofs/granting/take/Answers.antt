@@ -3,40 +3,40 @@ use Rattle.std.specs.List.{AllByRecursion}
 use Rattle.mesa_schema.specs.Changes.{Lineage, epoch_of}
 use Rattle.mesa_span.specs.Ranges.{base_before}
 use Rattle.mesa_span.specs.Work.{next_work}
-use Rattle.mesa_history.specs.Machine.{Claim, claim_of}
+use Rattle.mesa_history.specs.Machine.{Claim, Merges, claim_of}
 use Rattle.mesa_history.specs.Replay.{is_skip}
 use Rattle.mesa_history.specs.Run.{First, Granted, Finished}
 use Rattle.mesa_history.specs.Turns.{IsDue}
-use Rattle.mesa_metadata.specs.mesa_image.Catalog.{Catalog, Delta, Stock, ranges_of, stock_at}
-use Rattle.mesa_metadata.specs.mesa_image.Fitting.{deltas_of, may_be_work}
+use Rattle.mesa_engine.specs.mesa_metadata.mesa_image.Catalog.{Catalog, Delta, Stock, ranges_of, stock_at}
+use Rattle.mesa_engine.specs.mesa_metadata.mesa_image.Fitting.{deltas_of, may_be_work}
 use Rattle.mesa_model.specs.Entry.{IsShort}
 use Rattle.mesa_model.specs.declared.commands.Command.TheVariants as command
 use Rattle.mesa_model.specs.declared.entries.Kind.TheVariants as kind
 use Rattle.mesa_model.specs.declared.entries.Outcome.TheVariants as outcome
-use Rattle.mesa_ledger.specs.Ledger.{Ledger, books_of}
-use Rattle.mesa_ledger.proofs.mesa_image_laws.Plans.{due_work_fits}
-use Rattle.mesa_ledger.specs.mesa_image_laws.Moves.{first_of, is_base, last_of}
-use Rattle.mesa_ledger.specs.Vault.{IsVault, Starts, outset_of}
-use Rattle.mesa_ledger.proofs.Beginning.{vault_at_seen}
-use Rattle.mesa_compact.specs.Bounded.{IsBounded}
-use Rattle.mesa_log.specs.Failure.{cause_in}
+use Rattle.mesa_engine.specs.mesa_ledger.Ledger.{Ledger, books_of}
+use Rattle.mesa_engine.proofs.mesa_ledger.mesa_image_laws.Plans.{due_work_fits}
+use Rattle.mesa_engine.specs.mesa_ledger.mesa_image_laws.Moves.{first_of, is_base, last_of}
+use Rattle.mesa_engine.specs.mesa_ledger.Vault.{IsVault, Starts, outset_of}
+use Rattle.mesa_engine.proofs.mesa_ledger.Beginning.{vault_at_seen}
+use Rattle.mesa_swapping.specs.mesa_compact.Bounded.{IsBounded}
+use Rattle.mesa_engine.specs.mesa_log.Failure.{cause_in}
 use Rattle.mesa_gather.specs.Gathered.{IsGathered, unread_views}
 use Rattle.mesa_lease.specs.Book.{granted}
-use Rattle.mesa_metadata.specs.Memory.{Memory, with_leases}
+use Rattle.mesa_engine.specs.mesa_metadata.Memory.{Memory, with_leases}
 use Rattle.mesa_gather.specs.mesa_shelf.Meaning.{stock_of}
 use Rattle.mesa_skeleton.specs.Rows.{Rows, no_rows}
 use Rattle.mesa_swapping.specs.Finished.{HasRange}
 use Rattle.mesa_tasks.specs.Tasks.{IsTask}
 use Rattle.mesa_tasks.specs.declared.merging.Task.{Task}
-use Rattle.mesa_ledger.specs.mesa_walk.Causes.{Unwritten, is_read_fault, outcome_of}
-use Rattle.mesa_ledger.specs.mesa_walk.Turns.{AnswersDisk, Shown, SomeRose, Takes, entry, faults_of}
-use Rattle.mesa_ledger.specs.mesa_walk.Walk.{Counts, run_at}
-use Rattle.mesa_ledger.specs.mesa_walk.Works.{HasNoClaim}
-use Rattle.mesa_ledger.proofs.mesa_walk.Alike.{due_alike}
-use Rattle.mesa_ledger.proofs.mesa_walk.Faulting.{disk_caused, disk_counted}
+use Rattle.mesa_engine.specs.mesa_ledger.mesa_walk.Causes.{Unwritten, is_read_fault, outcome_of}
+use Rattle.mesa_engine.specs.mesa_ledger.mesa_walk.Turns.{AnswersDisk, Shown, SomeRose, Takes, entry, faults_of}
+use Rattle.mesa_engine.specs.mesa_ledger.mesa_walk.Walk.{Counts, run_at}
+use Rattle.mesa_engine.specs.mesa_ledger.mesa_walk.Works.{HasNoClaim}
+use Rattle.mesa_engine.proofs.mesa_ledger.mesa_walk.Alike.{due_alike}
+use Rattle.mesa_engine.proofs.mesa_ledger.mesa_walk.Faulting.{disk_caused, disk_counted}
 use Rattle.mesa_engine.specs.Engine.{Standing, IsEngine, starts_of}
 use Rattle.mesa_works.specs.Claims.{claim_as}
-use Rattle.mesa_ledger.specs.Written.{written_at}
+use Rattle.mesa_engine.specs.mesa_ledger.Written.{written_at}
 use Rattle.mesa_works.proofs.Bounded.{is_bounded}
 use Rattle.mesa_works.proofs.Claims.{work_ends}
 use Rattle.mesa_works.proofs.Ranges.{has_no_damage, has_range}
@@ -90,7 +90,7 @@ kept g c =
     let story = g.D.Disk.story i.disk in
     let new = g.D.Disk.story c.gather-gathered.new.disk in
     let short = is_short g c in
-    granted_engine g.K.Sink.held g.K.Sink.faults (starts g c) N.room N.sink_faults i.metadata story new i.log c.pass.new.self c.engine.invariant c.gather-gathered.ensures.unmoved s number short.session short.command words c.clock-moment.result c.clock-moment.ensures (runs g c) c.position-at.result c.position-at.ensures
+    granted_engine g.K.Sink.held g.K.Sink.faults (starts g c) N.room N.sink_faults i.metadata story new i.log c.pass.new.self c.engine.invariant c.gather-gathered.ensures.unmoved s number short.session short.command (command.Work words) refl c.clock-moment.result c.clock-moment.ensures (runs g c) c.position-at.result c.position-at.ensures
     (λ w. due_alike N.script (N.start no_rows) (N.start w) h s number (command.Work words) First (N.alike w) refl (due_at g c)) c.pass.ensures.room
     (claim_as i.metadata.ledger c.args.claimed) c.lease.new.metadata (claim_at g c) (fault_counts story new false c.in-Ok.ensures.counted) c.lease.ensures.granted (c.pass.ensures.items ∙ ap (λ x. h ++ x ∷ []) c.turn-turn.ensures.same) c.pass.ensures.printer c.pass.ensures.refused
 
@@ -112,10 +112,10 @@ returns-in-Ok-clause-turn g c =
     let short = is_short g c in
     let later = c.pass.new.self in
     let shown : Shown = record { history = later.history.items; running = not later.printer.broken; clock = new.moment } in
-    let same : claim ≡ record { table = c.in-Ok.task.table; lease = c.lease.result; work = c.in-Ok.task.work } = λ i. record { table = sym c.in-Ok.ensures.table i; lease = sym c.lease.ensures.number i; work = sym c.in-Ok.ensures.work i } in
+    let same : claim ≡ record { table = c.in-Ok.task.table; lease = c.lease.result; errand = Merges c.in-Ok.task.work } = λ i. record { table = sym c.in-Ok.ensures.table i; lease = sym c.lease.ensures.number i; errand = Merges (sym c.in-Ok.ensures.work i) } in
     subst (λ (x : Claim). Takes N.script (N.start no_rows) c.args.engine.now.shown shown s number kind.Grant (Granted x)) same
     (subst (λ (x : Standing). Takes N.script (N.start no_rows) x.shown shown s number kind.Grant (Granted claim)) c.engine.view_is
-    (granted_takes (outset_of n no_rows) (n.origin no_rows) false l story (g.K.Sink.held i.log.printer.sink) h (not i.log.printer.broken) i.log.refused (c.engine.invariant.vault no_rows false (λ z. absurd cc)) s number short.session short.command c.requires.due.0 (runs g c) c.position-at.result c.position-at.ensures (due_at g c) new c.gather-gathered.ensures.unmoved story.moment shown refl
+    (granted_takes (outset_of n no_rows) (n.origin no_rows) false l story (g.K.Sink.held i.log.printer.sink) h (not i.log.printer.broken) i.log.refused (c.engine.invariant.vault no_rows false (λ z. absurd cc)) s number short.session short.command (command.Work c.requires.due.0) refl (runs g c) c.position-at.result c.position-at.ensures (due_at g c) new c.gather-gathered.ensures.unmoved story.moment shown refl
     (vault_at_seen n c.lease.new.metadata.ledger new (g.K.Sink.held later.printer.sink) later.history.items (not later.printer.broken) later.refused new.moment (kept g c).vault)
     claim (claim_at g c) (c.pass.ensures.items ∙ ap (λ x. h ++ x ∷ []) c.turn-turn.ensures.same ∙ ap (λ x. h ++ entry s number kind.Grant outcome.Stands x ∷ []) c.clock-moment.ensures)))
 
@@ -263,9 +263,9 @@ invariant_of-engine-in-Err g c =
     let is : claim_of (books_of no_rows l).bare (books_of no_rows l).machine at words.table ≡ Ok claim = subst (λ (x : Standing). claim_of (books_of no_rows x.ledger).bare (books_of no_rows x.ledger).machine (length x.shown.history) words.table ≡ Ok (claim_as x.ledger c.args.claimed)) (sym c.engine.view_is) c.requires.due.2 in
     let open' = ap (λ (x : Standing). x.ledger.closed) c.engine.view_is ∙ c.requires.opened in
     let ran : not i.log.printer.broken ≡ true = ap (λ (x : Standing). x.shown.running) c.engine.view_is ∙ c.requires.runs in
-    let has = subst (HasNoClaim (books_of no_rows l) at words.table) (sym c.failure_of.ensures) (has_no_claim l at words.table claim c.in-Err.unopened open' is) in
+    let has = subst (HasNoClaim (books_of no_rows l) (claim_of (books_of no_rows l).bare (books_of no_rows l).machine at words.table)) (sym c.failure_of.ensures) (has_no_claim l (claim_of (books_of no_rows l).bare (books_of no_rows l).machine at words.table) claim c.in-Err.unopened open' is) in
     let counts = subst (λ x. Counts story new (is_read_fault x)) (sym c.failure_of.ensures) (unopened_counts (Task g.row.D-Reader.Denot) story new c.in-Err.unopened c.in-Err.ensures.counted) in
-    ungranted_engine g.K.Sink.held g.K.Sink.faults n N.room N.sink_faults i.metadata story new i.log later c.engine.invariant c.gather-gathered.ensures.unmoved s number short.session short.command words c.clock-moment.result c.clock-moment.ensures ran at refl
+    ungranted_engine g.K.Sink.held g.K.Sink.faults n N.room N.sink_faults i.metadata story new i.log later c.engine.invariant c.gather-gathered.ensures.unmoved s number short.session short.command (command.Work words) refl c.clock-moment.result c.clock-moment.ensures ran at refl
     (λ w. due_alike N.script (N.start no_rows) (N.start w) h s number (command.Work words) First (N.alike w) refl due) c.fail-reply.ensures.room
     cause has counts c.fail-reply.ensures.items c.fail-reply.ensures.told c.fail-reply.ensures.refused
 
@@ -290,15 +290,15 @@ returns-in-Err-clause-turn g c =
     let is : claim_of (books_of no_rows l).bare (books_of no_rows l).machine at words.table ≡ Ok claim = subst (λ (x : Standing). claim_of (books_of no_rows x.ledger).bare (books_of no_rows x.ledger).machine (length x.shown.history) words.table ≡ Ok (claim_as x.ledger c.args.claimed)) (sym c.engine.view_is) c.requires.due.2 in
     let open' = ap (λ (x : Standing). x.ledger.closed) c.engine.view_is ∙ c.requires.opened in
     let ran : not i.log.printer.broken ≡ true = ap (λ (x : Standing). x.shown.running) c.engine.view_is ∙ c.requires.runs in
-    let has = subst (HasNoClaim (books_of no_rows l) at words.table) (sym c.failure_of.ensures) (has_no_claim l at words.table claim c.in-Err.unopened open' is) in
+    let has = subst (HasNoClaim (books_of no_rows l) (claim_of (books_of no_rows l).bare (books_of no_rows l).machine at words.table)) (sym c.failure_of.ensures) (has_no_claim l (claim_of (books_of no_rows l).bare (books_of no_rows l).machine at words.table) claim c.in-Err.unopened open' is) in
     let counts = subst (λ x. Counts story new (is_read_fault x)) (sym c.failure_of.ensures) (unopened_counts (Task g.row.D-Reader.Denot) story new c.in-Err.unopened c.in-Err.ensures.counted) in
     let kept =
-    ungranted_engine g.K.Sink.held g.K.Sink.faults n N.room N.sink_faults i.metadata story new i.log later c.engine.invariant c.gather-gathered.ensures.unmoved s number short.session short.command words c.clock-moment.result c.clock-moment.ensures ran at refl
+    ungranted_engine g.K.Sink.held g.K.Sink.faults n N.room N.sink_faults i.metadata story new i.log later c.engine.invariant c.gather-gathered.ensures.unmoved s number short.session short.command (command.Work words) refl c.clock-moment.result c.clock-moment.ensures ran at refl
     (λ w. due_alike N.script (N.start no_rows) (N.start w) h s number (command.Work words) First (N.alike w) refl due) c.fail-reply.ensures.room
     cause has counts c.fail-reply.ensures.items c.fail-reply.ensures.told c.fail-reply.ensures.refused in
     let shown : Shown = record { history = later.history.items; running = not later.printer.broken; clock = new.moment } in
     subst (λ (x : Standing). Takes N.script (N.start no_rows) x.shown shown s number kind.Grant Finished) c.engine.view_is
-    (ungranted_takes (outset_of n no_rows) (n.origin no_rows) false l story (g.K.Sink.held i.log.printer.sink) h (not i.log.printer.broken) i.log.refused (c.engine.invariant.vault no_rows false (λ z. absurd cc)) s number short.session short.command words ran at refl due new c.gather-gathered.ensures.unmoved story.moment shown refl
+    (ungranted_takes (outset_of n no_rows) (n.origin no_rows) false l story (g.K.Sink.held i.log.printer.sink) h (not i.log.printer.broken) i.log.refused (c.engine.invariant.vault no_rows false (λ z. absurd cc)) s number short.session short.command (command.Work words) refl ran at refl due new c.gather-gathered.ensures.unmoved story.moment shown refl
     (vault_at_seen n i.metadata.ledger new (g.K.Sink.held later.printer.sink) later.history.items (not later.printer.broken) later.refused new.moment kept.vault)
     cause has (ap (λ x. is_skip (outcome_of x)) c.failure_of.ensures ∙ answers c.in-Err.unopened) (c.fail-reply.ensures.items ∙ ap (λ x. h ++ entry s number kind.Grant (outcome_of cause) x ∷ []) c.clock-moment.ensures))
 

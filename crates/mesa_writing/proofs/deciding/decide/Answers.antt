@@ -2,7 +2,7 @@ use Rattle.std.proofs.Common.{◌∙◌, ap, length, refl, subst}
 use Rattle.std.specs.Prelude.{IfErr, IfOk}
 use Rattle.mesa_history.specs.Run.{Finished}
 use Rattle.mesa_skeleton.specs.Rows.{no_rows}
-use Rattle.mesa_ledger.proofs.mesa_walk.Alike.{due_alike}
+use Rattle.mesa_engine.proofs.mesa_ledger.mesa_walk.Alike.{due_alike}
 use Rattle.mesa_engine.specs.Engine.{Standing}
 use Rattle.mesa_engine.specs.Failing.{deciding_stage}
 use Rattle.mesa_engine.proofs.Undone.{deciding_unanswered}

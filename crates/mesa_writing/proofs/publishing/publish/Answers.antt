@@ -2,7 +2,7 @@ use Rattle.std.proofs.Common.{◌≡◌, length, false, refl, ap, arith}
 use Rattle.mesa_history.specs.Run.{Finished, Looked}
 use Rattle.mesa_model.specs.declared.commands.Command.TheVariants as command
 use Rattle.mesa_skeleton.specs.Rows.{no_rows}
-use Rattle.mesa_ledger.proofs.mesa_walk.Alike.{due_alike}
+use Rattle.mesa_engine.proofs.mesa_ledger.mesa_walk.Alike.{due_alike}
 use Rattle.mesa_engine.specs.Engine.{Standing}
 use Rattle.mesa_writing.proofs.Keeping.{same_keep}
 use Rattle.mesa_writing.proofs.Loads.{all_tell}

@@ -1,10 +1,10 @@
 use Rattle.std.proofs.Common.{refl, sym, ◌∙◌, ap, subst}
-use Rattle.mesa_catalog.specs.Lookups.{sight_of}
-use Rattle.mesa_catalog.specs.mesa_image.Catalog.{Catalog}
+use Rattle.mesa_engine.specs.mesa_catalog.Lookups.{sight_of}
+use Rattle.mesa_engine.specs.mesa_catalog.mesa_image.Catalog.{Catalog}
 use Rattle.mesa_model.specs.declared.commands.Command.TheVariants as command
 use Rattle.mesa_skeleton.specs.Rows.{no_rows}
-use Rattle.mesa_ledger.specs.mesa_walk.Changes.{HasFailed}
-use Rattle.mesa_ledger.specs.Ledger.{books_of}
+use Rattle.mesa_engine.specs.mesa_ledger.mesa_walk.Changes.{HasFailed}
+use Rattle.mesa_engine.specs.mesa_ledger.Ledger.{books_of}
 use Rattle.mesa_model.specs.Load.{load_batch}
 use Rattle.mesa_publishing.specs.Bounds.{IsDue}
 use Rattle.mesa_publishing.specs.Published.{bare_of}

@@ -8,20 +8,20 @@ use Rattle.mesa_model.specs.declared.entries.Kind.TheVariants as kind
 use Rattle.mesa_model.specs.declared.entries.Outcome.TheVariants as outcome
 use Rattle.mesa_model.specs.Load.{load_batch}
 use Rattle.mesa_skeleton.specs.Rows.{no_rows}
-use Rattle.mesa_ledger.specs.mesa_walk.Causes.{Unwritten, reply_of, told_at}
-use Rattle.mesa_ledger.specs.mesa_walk.Changes.{HasFailed}
-use Rattle.mesa_ledger.specs.mesa_walk.Turns.{AnswersDisk, Shown, SomeRose, Takes, entry, faults_of}
-use Rattle.mesa_ledger.specs.mesa_walk.Walk.{run_at}
-use Rattle.mesa_ledger.proofs.mesa_walk.Clock.{begun_moment, not_closing}
-use Rattle.mesa_ledger.proofs.mesa_walk.Faulting.{disk_caused}
-use Rattle.mesa_ledger.proofs.mesa_walk.Going.{publish_takes}
-use Rattle.mesa_ledger.proofs.mesa_walk.Turning.{counts_same}
-use Rattle.mesa_ledger.specs.Ledger.{books_of}
-use Rattle.mesa_ledger.specs.Turned.{closed_ledger}
-use Rattle.mesa_ledger.specs.Vault.{Starts}
-use Rattle.mesa_ledger.proofs.Beginning.{vault_at_seen}
-use Rattle.mesa_log.specs.Printing.{PrintsBlock}
-use Rattle.mesa_metadata.specs.Memory.{Memory}
+use Rattle.mesa_engine.specs.mesa_ledger.mesa_walk.Causes.{Unwritten, reply_of, told_at}
+use Rattle.mesa_engine.specs.mesa_ledger.mesa_walk.Changes.{HasFailed}
+use Rattle.mesa_engine.specs.mesa_ledger.mesa_walk.Turns.{AnswersDisk, Shown, SomeRose, Takes, entry, faults_of}
+use Rattle.mesa_engine.specs.mesa_ledger.mesa_walk.Walk.{run_at}
+use Rattle.mesa_engine.proofs.mesa_ledger.mesa_walk.Clock.{begun_moment, not_closing}
+use Rattle.mesa_engine.proofs.mesa_ledger.mesa_walk.Faulting.{disk_caused}
+use Rattle.mesa_engine.proofs.mesa_ledger.mesa_walk.Going.{publish_takes}
+use Rattle.mesa_engine.proofs.mesa_ledger.mesa_walk.Turning.{counts_same}
+use Rattle.mesa_engine.specs.mesa_ledger.Ledger.{books_of}
+use Rattle.mesa_engine.specs.mesa_ledger.Turned.{closed_ledger}
+use Rattle.mesa_engine.specs.mesa_ledger.Vault.{Starts}
+use Rattle.mesa_engine.proofs.mesa_ledger.Beginning.{vault_at_seen}
+use Rattle.mesa_engine.specs.mesa_log.Printing.{PrintsBlock}
+use Rattle.mesa_engine.specs.mesa_metadata.Memory.{Memory}
 use Rattle.mesa_engine.specs.Engine.{Standing, starts_of}
 use Rattle.mesa_writing.specs.Writing.{KeepsFiles}
 use Rattle.mesa_writing.proofs.Keeping.{same_keep}

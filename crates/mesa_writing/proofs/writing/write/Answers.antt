@@ -4,24 +4,24 @@ use Rattle.mesa_disk.specs.Files.{files_of}
 use Rattle.mesa_disk.specs.Story.{Steps}
 use Rattle.mesa_history.specs.Replay.{no_rows as no_lines}
 use Rattle.mesa_history.specs.Run.{Finished}
-use Rattle.mesa_catalog.specs.mesa_image.Catalog.{applied}
-use Rattle.mesa_catalog.specs.Lookups.{generation_of, turns_generation}
+use Rattle.mesa_engine.specs.mesa_catalog.mesa_image.Catalog.{applied}
+use Rattle.mesa_engine.specs.mesa_catalog.Lookups.{generation_of, turns_generation}
 use Rattle.mesa_model.specs.Entry.{IsShort}
 use Rattle.mesa_model.specs.declared.entries.Kind.TheVariants as kind
 use Rattle.mesa_model.specs.declared.entries.Outcome.TheVariants as outcome
 use Rattle.mesa_record.proofs.RecordsBoth.{record_found}
 use Rattle.mesa_skeleton.specs.Rows.{no_rows}
-use Rattle.mesa_ledger.specs.mesa_walk.Causes.{Unwritten, reply_of, told_at}
-use Rattle.mesa_ledger.specs.mesa_walk.Turns.{AnswersDisk, AnswersDraft, Shown, SomeRose, Takes, entry, faults_of}
-use Rattle.mesa_ledger.specs.mesa_walk.Walk.{Counts, run_at}
-use Rattle.mesa_ledger.proofs.mesa_walk.Clock.{closing}
-use Rattle.mesa_ledger.proofs.mesa_walk.Faulting.{disk_counted, disk_where}
-use Rattle.mesa_ledger.specs.Ledger.{Ledger}
-use Rattle.mesa_ledger.specs.Recorded.{failed_ledger, recorded_ledger}
-use Rattle.mesa_ledger.specs.Vault.{Starts}
-use Rattle.mesa_ledger.proofs.Beginning.{vault_at_seen}
-use Rattle.mesa_log.specs.Printing.{PrintsBlock}
-use Rattle.mesa_metadata.specs.Memory.{Memory}
+use Rattle.mesa_engine.specs.mesa_ledger.mesa_walk.Causes.{Unwritten, reply_of, told_at}
+use Rattle.mesa_engine.specs.mesa_ledger.mesa_walk.Turns.{AnswersDisk, AnswersDraft, Shown, SomeRose, Takes, entry, faults_of}
+use Rattle.mesa_engine.specs.mesa_ledger.mesa_walk.Walk.{Counts, run_at}
+use Rattle.mesa_engine.proofs.mesa_ledger.mesa_walk.Clock.{closing}
+use Rattle.mesa_engine.proofs.mesa_ledger.mesa_walk.Faulting.{disk_counted, disk_where}
+use Rattle.mesa_engine.specs.mesa_ledger.Ledger.{Ledger}
+use Rattle.mesa_engine.specs.mesa_ledger.Recorded.{failed_ledger, recorded_ledger}
+use Rattle.mesa_engine.specs.mesa_ledger.Vault.{Starts}
+use Rattle.mesa_engine.proofs.mesa_ledger.Beginning.{vault_at_seen}
+use Rattle.mesa_engine.specs.mesa_log.Printing.{PrintsBlock}
+use Rattle.mesa_engine.specs.mesa_metadata.Memory.{Memory}
 use Rattle.mesa_engine.specs.Engine.{Standing, starts_of}
 use Rattle.mesa_engine.proofs.Drafting.{answers_none}
 use Rattle.mesa_writing.specs.Writing.{IsToWrite, KeepsFiles}

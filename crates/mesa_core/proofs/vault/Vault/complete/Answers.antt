@@ -1,6 +1,5 @@
 use Rattle.std.proofs.Common.{◌≡◌, Err, true, false, not, sym, ap, ◌∙◌, subst}
 use Rattle.std.specs.Prelude.{is_ok}
-use Rattle.mesa_history.specs.Legal.{is_work}
 use Rattle.mesa_history.specs.Refused.{is_refusal}
 use Rattle.mesa_history.specs.Run.{Granted, Renewed}
 use Rattle.mesa_model.specs.declared.commands.Command.TheVariants as command
@@ -8,39 +7,44 @@ use Rattle.mesa_granted.specs.mesa_service.Works.{HasMerged, WasGranted, known_t
 use Rattle.mesa_skeleton.specs.Rows.{no_rows}
 use Rattle.mesa_tasks.specs.Tasks.{claim_in}
 use Rattle.mesa_tasks.specs.declared.merging.CompactError.TheVariants as compact
-use Rattle.mesa_walk.specs.Turns.{AnswersDisk, AnswersDraft, Asks, SomeRose}
+use Rattle.mesa_walk.specs.Turns.{AnswersDisk, AnswersDraft, Asks, SomeRose, is_merge}
 use Rattle.mesa_walk.specs.Walk.{run_at}
 use Rattle.mesa_walk.specs.Works.{closing_stage}
 use Rattle.mesa_core.specs.Handing.{IsGranted}
 use Rattle.mesa_core.specs.Vault.{Stand}
 use Rattle.mesa_core.proofs.Due.{due_of, sort_of}
+use Rattle.mesa_history.specs.Claims.{is_live}
+use Rattle.mesa_history.specs.mesa_lease.Book.{Book}
+use Rattle.mesa_walk.proofs.Alike.{begun_alike}
 use Rattle.mesa_core.proofs.Merged.{answers_more, finished_as, unmerged_differed, unmerged_failed, unmerged_whole}
 use Rattle.mesa_core.proofs.vault.Vault.complete.Goals as goal
 
 pub work_of-words-requires : goal.work_of-words-requires
-work_of-words-requires g c = sort_of g.N.Naming.script _ _ c.args.who.session c.args.who.command (closing_stage (not (is_ok c.args.merged)) (claim_in c.args.task)) is_work c.self.invariant.script c.requires.due
+work_of-words-requires g c = sort_of g.N.Naming.script _ _ c.args.who.session c.args.who.command (closing_stage (not (is_ok c.args.merged)) (claim_in c.args.task)) is_merge c.self.invariant.script c.requires.due
 
 pub complete-requires-clause-due : goal.complete-requires-clause-due
 complete-requires-clause-due g c κs within =
     let N = g.N.Naming in
     let who = c.args.who in
     let claim = claim_in c.args.task in
-    let due = subst (λ m. Asks N.script (run_at N.script (N.start no_rows) c.args.self.now.shown.history) who.session who.command (closing_stage (not (is_ok m)) claim) is_work) c.in-Ok.is c.requires.due in
-    due_of N.script _ (run_at N.script (N.start no_rows) c.self.inside.engine.shown.history) who.session who.command (Renewed claim) is_work (command.Work c.work_of-words.result.now) c.self.invariant.script
-    (subst (λ (s : Stand). Asks N.script (run_at N.script (N.start no_rows) s.shown.history) who.session who.command (Renewed claim) is_work) (sym c.self.view_is) due) c.work_of-words.ensures
+    let due = subst (λ m. Asks N.script (run_at N.script (N.start no_rows) c.args.self.now.shown.history) who.session who.command (closing_stage (not (is_ok m)) claim) is_merge) c.in-Ok.is c.requires.due in
+    due_of N.script _ (run_at N.script (N.start no_rows) c.self.inside.engine.shown.history) who.session who.command (Renewed claim) is_merge (command.Work c.work_of-words.result.now) c.self.invariant.script
+    (subst (λ (s : Stand). Asks N.script (run_at N.script (N.start no_rows) s.shown.history) who.session who.command (Renewed claim) is_merge) (sym c.self.view_is) due) c.work_of-words.ensures
 
 pub complete-requires-clause-table : goal.complete-requires-clause-table
 complete-requires-clause-table g c κs within = c.requires.granted.was.low
 
 pub complete-requires-clause-finished : goal.complete-requires-clause-finished
-complete-requires-clause-finished g c κs within =
+complete-requires-clause-finished g c κs within live =
     let N = g.N.Naming in
     let read = g.D.Reader.FileReader.bytes in
     let t = c.args.task in
     finished_as g.M.Made.bytes g.M.Made.id_of read g.D.Reader.FileReader.faults N.script N.start N.origin N.sound (N.origin no_rows).generation c.self.inside.engine.shown.history c.self.inside.engine.ledger.catalogue t c.in-Ok.delta c.catalogue.ensures
     (subst (λ (s : Stand). WasGranted (IsGranted read N.script N.start N.origin N.sound) s.shown.history (known_task read t)) (sym c.self.view_is) c.requires.granted)
     (subst (HasMerged g.M.Made.bytes g.M.Made.id_of read g.D.Reader.FileReader.faults t) c.in-Ok.is c.requires.merged)
-    c.merges_are_known.ensures c.ranges_go_on.ensures c.tables_go_on.ensures
+    c.merges_are_known.ensures c.leases_hold.ensures c.ranges_go_on.ensures c.tables_go_on.ensures.becomes c.tables_become.ensures.grown c.claims.ensures.ranges
+    (λ w past. begun_alike N.script (N.start no_rows) (N.start w) past t.table (N.alike w))
+    (subst (λ (b : Book). is_live b t.table t.lease ≡ true) c.claims.ensures.leases live)
 
 pub complete-requires-clause-told : goal.complete-requires-clause-told
 complete-requires-clause-told g c κs within = c.self.invariant.told
@@ -50,9 +54,9 @@ give_up-requires-clause-due g c κs within =
     let N = g.N.Naming in
     let who = c.args.who in
     let claim = claim_in c.args.task in
-    let due = subst (λ m. Asks N.script (run_at N.script (N.start no_rows) c.args.self.now.shown.history) who.session who.command (closing_stage (not (is_ok m)) claim) is_work) c.in-Err.is c.requires.due in
-    due_of N.script _ (run_at N.script (N.start no_rows) c.self.inside.engine.shown.history) who.session who.command (Granted claim) is_work (command.Work c.work_of-words.result.now) c.self.invariant.script
-    (subst (λ (s : Stand). Asks N.script (run_at N.script (N.start no_rows) s.shown.history) who.session who.command (Granted claim) is_work) (sym c.self.view_is) due) c.work_of-words.ensures
+    let due = subst (λ m. Asks N.script (run_at N.script (N.start no_rows) c.args.self.now.shown.history) who.session who.command (closing_stage (not (is_ok m)) claim) is_merge) c.in-Err.is c.requires.due in
+    due_of N.script _ (run_at N.script (N.start no_rows) c.self.inside.engine.shown.history) who.session who.command (Granted claim) is_merge (command.Work c.work_of-words.result.now) c.self.invariant.script
+    (subst (λ (s : Stand). Asks N.script (run_at N.script (N.start no_rows) s.shown.history) who.session who.command (Granted claim) is_merge) (sym c.self.view_is) due) c.work_of-words.ensures
 
 pub give_up-requires-clause-table : goal.give_up-requires-clause-table
 give_up-requires-clause-table g c κs within = c.requires.granted.was.low

@@ -1,6 +1,6 @@
 use Rattle.std.proofs.Common.{◌≡◌, ◌∙◌, ap}
 use Rattle.mesa_batch.specs.Glance.{Sight}
-use Rattle.mesa_catalog.specs.Lookups.{sight_of}
+use Rattle.mesa_engine.specs.mesa_catalog.Lookups.{sight_of}
 use Rattle.mesa_core.specs.Vault.{Stand}
 use Rattle.mesa_engine.proofs.Seeing.{ok_also}
 use Rattle.mesa_granted.specs.mesa_service.Sight.{sight_after}

@@ -1,25 +1,24 @@
 use Rattle.std.proofs.Common.{sym, subst}
-use Rattle.mesa_history.specs.Legal.{is_work}
-use Rattle.mesa_history.specs.Run.{First}
+use Rattle.mesa_history.specs.Run.{First, place_of}
 use Rattle.mesa_model.specs.declared.commands.Command.TheVariants as command
 use Rattle.mesa_skeleton.specs.Rows.{no_rows}
-use Rattle.mesa_walk.specs.Turns.{Asks}
+use Rattle.mesa_walk.specs.Turns.{AnswersDisk, Asks, SomeRose, is_merge}
 use Rattle.mesa_walk.specs.Walk.{run_at}
 use Rattle.mesa_core.specs.Standing.{IsCatalogAfter}
 use Rattle.mesa_core.specs.Vault.{Stand}
 use Rattle.mesa_core.proofs.Due.{due_of, sort_of}
-use Rattle.mesa_core.proofs.Granted.{granted_if, mergeable_if}
+use Rattle.mesa_core.proofs.Granted.{claim_if, granted_if, mergeable_if}
 use Rattle.mesa_core.proofs.vault.Vault.grant.Goals as goal
 
 pub work_of-words-requires : goal.work_of-words-requires
-work_of-words-requires g c = sort_of g.N.Naming.script _ _ c.args.who.session c.args.who.command First is_work c.self.invariant.script c.requires.due
+work_of-words-requires g c = sort_of g.N.Naming.script _ _ c.args.who.session c.args.who.command First is_merge c.self.invariant.script c.requires.due
 
 pub grant-granted-requires-clause-due : goal.grant-granted-requires-clause-due
 grant-granted-requires-clause-due g c κs within =
     let N = g.N.Naming in
     let who = c.args.who in
-    due_of N.script _ (run_at N.script (N.start no_rows) c.self.inside.engine.shown.history) who.session who.command First is_work (command.Work c.work_of-words.result.now) c.self.invariant.script
-    (subst (λ (s : Stand). Asks N.script (run_at N.script (N.start no_rows) s.shown.history) who.session who.command First is_work) (sym c.self.view_is) c.requires.due) c.work_of-words.ensures
+    due_of N.script _ (run_at N.script (N.start no_rows) c.self.inside.engine.shown.history) who.session who.command First is_merge (command.Work c.work_of-words.result.now) c.self.invariant.script
+    (subst (λ (s : Stand). Asks N.script (run_at N.script (N.start no_rows) s.shown.history) who.session who.command First is_merge) (sym c.self.view_is) c.requires.due) c.work_of-words.ensures
 
 pub returns-clause-task : goal.returns-clause-task
 returns-clause-task g c =
@@ -35,4 +34,12 @@ returns-clause-granted g c =
     let e = c.grant-granted.ensures in
     granted_if g.D.Reader.FileReader.bytes N.script N.start N.origin N.sound (N.origin no_rows).generation c.grant-granted.new.engine.shown.history c.self.inside.engine.ledger.catalogue
     (subst (IsCatalogAfter N.script N.start (N.origin no_rows).generation c.grant-granted.new.engine.shown.history) e.catalogue c.catalogue.ensures)
-    c.grant-granted.result e.low e.there e.next e.task e.views e.whole e.bounded e.range
+    c.grant-granted.result e.low e.there e.next
+    (claim_if (run_at N.script (N.start no_rows) c.grant-granted.new.engine.shown.history).state c.args.who.command c.self.inside.engine.shown.running (place_of (run_at N.script (N.start no_rows) c.grant-granted.new.engine.shown.history) c.args.who.session)
+    c.grant-granted.result e.ran e.turn.place (c.claims.ensures.claims c.args.who.session)) e.task e.views e.whole e.bounded e.range
+
+pub returns-clause-disk : goal.returns-clause-disk
+returns-clause-disk g c =
+    let N = g.N.Naming in
+    let now = c.grant-granted.new.engine in
+    subst (λ (s : Stand). AnswersDisk N.script (N.start no_rows) s.shown now.shown (SomeRose s.faults now.faults)) c.self.view_is c.grant-granted.ensures.disk

@@ -1,6 +1,6 @@
 use Rattle.std.proofs.Common.{◌≡◌, ◌∙◌, ap, sym, subst, Some}
 use Rattle.std.specs.Prelude.{IfOk}
-use Rattle.mesa_completing.specs.mesa_asking.Opening.{HasItsFiles}
+use Rattle.mesa_recasting.specs.mesa_completing.mesa_asking.Opening.{HasItsFiles}
 use Rattle.mesa_filter.specs.declared.words.QueryWords.{QueryWords}
 use Rattle.mesa_history.specs.Legal.{is_query}
 use Rattle.mesa_history.specs.Run.{First, command_at}

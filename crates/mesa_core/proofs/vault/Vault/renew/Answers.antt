@@ -1,25 +1,24 @@
 use Rattle.std.proofs.Common.{sym, subst}
-use Rattle.mesa_history.specs.Legal.{is_work}
 use Rattle.mesa_history.specs.Run.{Granted}
 use Rattle.mesa_model.specs.declared.commands.Command.TheVariants as command
 use Rattle.mesa_skeleton.specs.Rows.{no_rows}
 use Rattle.mesa_tasks.specs.Tasks.{claim_in}
-use Rattle.mesa_walk.specs.Turns.{AnswersDisk, Asks, SomeRose}
+use Rattle.mesa_walk.specs.Turns.{AnswersDisk, Asks, SomeRose, is_merge}
 use Rattle.mesa_walk.specs.Walk.{run_at}
 use Rattle.mesa_core.specs.Vault.{Stand}
 use Rattle.mesa_core.proofs.Due.{due_of, sort_of}
 use Rattle.mesa_core.proofs.vault.Vault.renew.Goals as goal
 
 pub work_of-words-requires : goal.work_of-words-requires
-work_of-words-requires g c = sort_of g.N.Naming.script _ _ c.args.who.session c.args.who.command (Granted (claim_in c.args.task)) is_work c.self.invariant.script c.requires.due
+work_of-words-requires g c = sort_of g.N.Naming.script _ _ c.args.who.session c.args.who.command (Granted (claim_in c.args.task)) is_merge c.self.invariant.script c.requires.due
 
 pub renew-requires-clause-due : goal.renew-requires-clause-due
 renew-requires-clause-due g c κs within =
     let N = g.N.Naming in
     let who = c.args.who in
     let stage = Granted (claim_in c.args.task) in
-    due_of N.script _ (run_at N.script (N.start no_rows) c.self.inside.engine.shown.history) who.session who.command stage is_work (command.Work c.work_of-words.result.now) c.self.invariant.script
-    (subst (λ (s : Stand). Asks N.script (run_at N.script (N.start no_rows) s.shown.history) who.session who.command stage is_work) (sym c.self.view_is) c.requires.due) c.work_of-words.ensures
+    due_of N.script _ (run_at N.script (N.start no_rows) c.self.inside.engine.shown.history) who.session who.command stage is_merge (command.Work c.work_of-words.result.now) c.self.invariant.script
+    (subst (λ (s : Stand). Asks N.script (run_at N.script (N.start no_rows) s.shown.history) who.session who.command stage is_merge) (sym c.self.view_is) c.requires.due) c.work_of-words.ensures
 
 pub renew-requires-clause-table : goal.renew-requires-clause-table
 renew-requires-clause-table g c κs within = c.requires.granted.was.low

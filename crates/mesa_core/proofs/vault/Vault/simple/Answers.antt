@@ -1,6 +1,6 @@
 use Rattle.std.proofs.Common.{subst}
-use Rattle.mesa_completing.proofs.mesa_writing.Keeping.{same_keep}
-use Rattle.mesa_completing.specs.mesa_writing.Writing.{KeepsFiles}
+use Rattle.mesa_recasting.proofs.mesa_completing.mesa_writing.Keeping.{same_keep}
+use Rattle.mesa_recasting.specs.mesa_completing.mesa_writing.Writing.{KeepsFiles}
 use Rattle.mesa_disk.specs.Story.{Steps}
 use Rattle.mesa_core.specs.Vault.{Stand}
 use Rattle.mesa_core.proofs.vault.Vault.simple.Goals as goal

@@ -1,19 +1,19 @@
 use Rattle.std.proofs.Common.{◌≡◌, ◌∷◌, ◌++◌, [], length, true, false, ◌||◌, not, refl, sym, ◌∙◌, subst, arith, Some}
-use Rattle.mesa_catalog.specs.mesa_history.Refused.{is_refusal}
-use Rattle.mesa_catalog.specs.mesa_history.Replay.{closes}
-use Rattle.mesa_catalog.specs.mesa_history.Run.{Finished}
-use Rattle.mesa_ledger.specs.Ledger.{books_of}
-use Rattle.mesa_ledger.specs.Vault.{Starts, IsVault, outset_of}
-use Rattle.mesa_ledger.proofs.Beginning.{vault_at_seen}
+use Rattle.mesa_metadata.specs.mesa_catalog.mesa_history.Refused.{is_refusal}
+use Rattle.mesa_metadata.specs.mesa_catalog.mesa_history.Replay.{closes}
+use Rattle.mesa_metadata.specs.mesa_catalog.mesa_history.Run.{Finished}
+use Rattle.mesa_metadata.specs.mesa_ledger.Ledger.{books_of}
+use Rattle.mesa_metadata.specs.mesa_ledger.Vault.{Starts, IsVault, outset_of}
+use Rattle.mesa_metadata.proofs.mesa_ledger.Beginning.{vault_at_seen}
 use Rattle.mesa_log.specs.Failure.{cause_in}
-use Rattle.mesa_ledger.specs.mesa_output.Output.{block}
-use Rattle.mesa_ledger.specs.mesa_skeleton.Rows.{no_rows}
-use Rattle.mesa_ledger.specs.mesa_walk.Causes.{outcome_of, reply_of, told_at}
-use Rattle.mesa_ledger.specs.mesa_walk.Printing.{IsPut}
-use Rattle.mesa_ledger.specs.mesa_walk.Turns.{AnswersDisk, AnswersDraft, Shown, Takes, entry}
-use Rattle.mesa_ledger.specs.mesa_walk.Walk.{run_at}
-use Rattle.mesa_ledger.proofs.mesa_walk.Alike.{due_alike}
-use Rattle.mesa_ledger.proofs.mesa_walk.Faulting.{disk_never}
+use Rattle.mesa_metadata.specs.mesa_ledger.mesa_output.Output.{block}
+use Rattle.mesa_metadata.specs.mesa_ledger.mesa_skeleton.Rows.{no_rows}
+use Rattle.mesa_metadata.specs.mesa_ledger.mesa_walk.Causes.{outcome_of, reply_of, told_at}
+use Rattle.mesa_metadata.specs.mesa_ledger.mesa_walk.Printing.{IsPut}
+use Rattle.mesa_metadata.specs.mesa_ledger.mesa_walk.Turns.{AnswersDisk, AnswersDraft, Shown, Takes, entry}
+use Rattle.mesa_metadata.specs.mesa_ledger.mesa_walk.Walk.{run_at}
+use Rattle.mesa_metadata.proofs.mesa_ledger.mesa_walk.Alike.{due_alike}
+use Rattle.mesa_metadata.proofs.mesa_ledger.mesa_walk.Faulting.{disk_never}
 use Rattle.mesa_engine.specs.Engine.{Standing, IsEngine, starts_of}
 use Rattle.mesa_engine.specs.Failing.{Fails, deciding_stage, deciding_kind}
 use Rattle.mesa_engine.proofs.Drafting.{answers_none, quiet_cause, quiet_disk}

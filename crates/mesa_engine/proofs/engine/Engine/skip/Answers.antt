@@ -1,12 +1,12 @@
 use Rattle.std.proofs.Common.{◌≡◌, [], ◌∷◌, ◌++◌, false, not, refl, sym, ◌∙◌, ap, subst, arith}
 use Rattle.mesa_model.specs.Entry.{IsShort}
 use Rattle.mesa_model.specs.declared.entries.Outcome.TheVariants as outcome
-use Rattle.mesa_ledger.specs.Vault.{Starts, outset_of}
-use Rattle.mesa_ledger.proofs.Beginning.{vault_at_seen}
-use Rattle.mesa_ledger.specs.mesa_skeleton.Rows.{Rows, no_rows}
-use Rattle.mesa_ledger.specs.mesa_walk.Turns.{AnswersDisk, AnswersDraft, Shown, Takes, entry}
-use Rattle.mesa_ledger.specs.mesa_walk.Walk.{run_at}
-use Rattle.mesa_ledger.proofs.mesa_walk.Faulting.{disk_never}
+use Rattle.mesa_metadata.specs.mesa_ledger.Vault.{Starts, outset_of}
+use Rattle.mesa_metadata.proofs.mesa_ledger.Beginning.{vault_at_seen}
+use Rattle.mesa_metadata.specs.mesa_ledger.mesa_skeleton.Rows.{Rows, no_rows}
+use Rattle.mesa_metadata.specs.mesa_ledger.mesa_walk.Turns.{AnswersDisk, AnswersDraft, Shown, Takes, entry}
+use Rattle.mesa_metadata.specs.mesa_ledger.mesa_walk.Walk.{run_at}
+use Rattle.mesa_metadata.proofs.mesa_ledger.mesa_walk.Faulting.{disk_never}
 use Rattle.mesa_engine.specs.Engine.{Standing, IsEngine, starts_of}
 use Rattle.mesa_engine.specs.Failing.{Comes}
 use Rattle.mesa_engine.proofs.Drafting.{answers_none}

@@ -1,11 +1,11 @@
 use Rattle.std.proofs.Common.{◌≡◌, true, false, not, refl, subst, IsTrue}
 use Rattle.mesa_fault.specs.Causes.{Rose}
-use Rattle.mesa_catalog.specs.mesa_history.Legal.{fits_sink}
-use Rattle.mesa_catalog.specs.mesa_history.Run.{begins}
-use Rattle.mesa_ledger.specs.mesa_walk.Printing.{IsPrinted, IsPrintedButRows}
-use Rattle.mesa_ledger.specs.mesa_walk.Walk.{run_at}
-use Rattle.mesa_ledger.specs.mesa_skeleton.Rows.{no_rows}
-use Rattle.mesa_ledger.specs.Vault.{Starts}
+use Rattle.mesa_metadata.specs.mesa_catalog.mesa_history.Legal.{fits_sink}
+use Rattle.mesa_metadata.specs.mesa_catalog.mesa_history.Run.{begins}
+use Rattle.mesa_metadata.specs.mesa_ledger.mesa_walk.Printing.{IsPrinted, IsPrintedButRows}
+use Rattle.mesa_metadata.specs.mesa_ledger.mesa_walk.Walk.{run_at}
+use Rattle.mesa_metadata.specs.mesa_ledger.mesa_skeleton.Rows.{no_rows}
+use Rattle.mesa_metadata.specs.mesa_ledger.Vault.{Starts}
 use Rattle.mesa_engine.specs.Engine.{Standing, starts_of}
 use Rattle.mesa_engine.proofs.Ending.{reads_state}
 use Rattle.mesa_engine.proofs.engine.Engine.stop.Goals as goal

@@ -1,0 +1,30 @@
+use Rattle.std.proofs.Common.{sym, subst}
+use Rattle.mesa_history.specs.Run.{Granted}
+use Rattle.mesa_model.specs.declared.commands.Command.TheVariants as command
+use Rattle.mesa_skeleton.specs.Rows.{no_rows}
+use Rattle.mesa_tasks.specs.Recasts.{claim_of_recast}
+use Rattle.mesa_walk.specs.Turns.{AnswersDisk, Asks, SomeRose, is_recast}
+use Rattle.mesa_walk.specs.Walk.{run_at}
+use Rattle.mesa_core.specs.Vault.{Stand}
+use Rattle.mesa_core.proofs.Due.{due_of, sort_of}
+use Rattle.mesa_core.proofs.vault.Vault.renew_recast.Goals as goal
+
+pub recast_of-words-requires : goal.recast_of-words-requires
+recast_of-words-requires g c = sort_of g.N.Naming.script _ _ c.args.who.session c.args.who.command (Granted (claim_of_recast c.args.task)) is_recast c.self.invariant.script c.requires.due
+
+pub renew_recast-requires-clause-due : goal.renew_recast-requires-clause-due
+renew_recast-requires-clause-due g c κs within =
+    let N = g.N.Naming in
+    let who = c.args.who in
+    let stage = Granted (claim_of_recast c.args.task) in
+    due_of N.script _ (run_at N.script (N.start no_rows) c.self.inside.engine.shown.history) who.session who.command stage is_recast (command.Recast c.recast_of-words.result.now) c.self.invariant.script
+    (subst (λ (s : Stand). Asks N.script (run_at N.script (N.start no_rows) s.shown.history) who.session who.command stage is_recast) (sym c.self.view_is) c.requires.due) c.recast_of-words.ensures
+
+pub renew_recast-requires-clause-table : goal.renew_recast-requires-clause-table
+renew_recast-requires-clause-table g c κs within = c.requires.granted.was.low
+
+pub returns-clause-disk : goal.returns-clause-disk
+returns-clause-disk g c =
+    let N = g.N.Naming in
+    let now = c.renew_recast.new.engine in
+    subst (λ (s : Stand). AnswersDisk N.script (N.start no_rows) s.shown now.shown (SomeRose s.faults now.faults)) c.self.view_is c.renew_recast.ensures.disk

@@ -1,0 +1,67 @@
+use Rattle.std.proofs.Common.{◌<◌, inl, sym, ap, ◌∙◌, subst}
+use Rattle.mesa_granted.specs.mesa_service.Recasts.{known_recast}
+use Rattle.mesa_granted.specs.mesa_service.Works.{WasGranted}
+use Rattle.mesa_granted.specs.mesa_swapping.Grown.{HasBecome}
+use Rattle.mesa_engine.specs.mesa_ledger.Ledger.{Ledger}
+use Rattle.mesa_skeleton.specs.Rows.{no_rows}
+use Rattle.mesa_tasks.specs.Recasts.{recast_table}
+use Rattle.mesa_walk.specs.Turns.{Shown}
+use Rattle.mesa_core.specs.Handing.{AllAreRested, IsRecastGranted, IsRecastHeld}
+use Rattle.mesa_core.specs.Vault.{Stand}
+use Rattle.mesa_core.proofs.RecastHeld.{held_longer, rested_known}
+use Rattle.mesa_core.proofs.Sights.{counted_is, lineage_is}
+use Rattle.mesa_core.proofs.vault.Vault.rest.Goals as goal
+
+pub held-requires-clause-granted : goal.held-requires-clause-granted
+held-requires-clause-granted g c κs within =
+    let N = g.N.Naming in
+    let read = g.D.Reader.FileReader.bytes in
+    inl (subst (λ (s : Stand). WasGranted (IsRecastGranted read N.script N.start N.origin N.sound) s.shown.history (known_recast read c.args.task)) (sym c.self.view_is) c.requires.granted)
+
+pub rest-found-requires-clause-there : goal.rest-found-requires-clause-there
+rest-found-requires-clause-there g c κs within =
+    let N = g.N.Naming in
+    let now = c.self.inside.engine in
+    subst (λ n. c.args.task.table < n) (sym (counted_is N.script N.start (N.origin no_rows).generation now.shown.history now.ledger.catalogue c.catalogue.ensures)) c.held.ensures.there
+
+pub rest-found-requires-clause-grown : goal.rest-found-requires-clause-grown
+rest-found-requires-clause-grown g c κs within =
+    let N = g.N.Naming in
+    let now = c.self.inside.engine in
+    subst (HasBecome (recast_table c.args.task)) (sym (lineage_is N.script N.start (N.origin no_rows).generation now.shown.history now.ledger.catalogue c.catalogue.ensures c.args.task.table)) c.held.ensures.become
+
+pub returns-clause-task : goal.returns-clause-task
+returns-clause-task g c = record { task = c.rest-found.ensures.kept; damage = c.rest-found.ensures.differs }
+
+pub returns-in-Err-clause-task : goal.returns-in-Err-clause-task
+returns-in-Err-clause-task g c = record { task = c.rest-found.ensures.kept; damage = c.rest-found.ensures.differs }
+
+pub returns-clause-held : goal.returns-clause-held
+returns-clause-held g c =
+    let N = g.N.Naming in
+    let read = g.D.Reader.FileReader.bytes in
+    let e = c.rest-found.ensures in
+    let now = c.rest-found.new.task in
+    subst (λ (s : Shown). IsRecastHeld read N.script N.start N.origin N.sound s.history (known_recast read now)) (sym e.shown)
+    (held_longer read N.script N.start N.origin N.sound c.self.inside.engine.shown.history c.args.task now e.longer c.held.ensures e.whole e.bounded e.ranges c.recasts_are_known.ensures.ranges c.recasts_are_known.ensures.bounded)
+
+pub returns-in-Err-clause-held : goal.returns-in-Err-clause-held
+returns-in-Err-clause-held g c =
+    let N = g.N.Naming in
+    let read = g.D.Reader.FileReader.bytes in
+    let e = c.rest-found.ensures in
+    let now = c.rest-found.new.task in
+    subst (λ (s : Shown). IsRecastHeld read N.script N.start N.origin N.sound s.history (known_recast read now)) (sym e.shown)
+    (held_longer read N.script N.start N.origin N.sound c.self.inside.engine.shown.history c.args.task now e.longer c.held.ensures e.whole e.bounded e.ranges c.recasts_are_known.ensures.ranges c.recasts_are_known.ensures.bounded)
+
+pub returns-clause-rested : goal.returns-clause-rested
+returns-clause-rested g c runs whole =
+    let N = g.N.Naming in
+    let read = g.D.Reader.FileReader.bytes in
+    let e = c.rest-found.ensures in
+    let now = c.self.inside.engine in
+    let t = c.args.task in
+    subst (λ (l : Ledger). AllAreRested read l (known_recast read c.rest-found.new.task)) (sym e.ledger)
+    (rested_known read now.ledger t c.rest-found.new.task e.longer
+    (subst (HasBecome (recast_table t)) (sym (lineage_is N.script N.start (N.origin no_rows).generation now.shown.history now.ledger.catalogue c.catalogue.ensures t.table)) c.held.ensures.become)
+    (λ opened same. c.in-Ok.ensures.holds (ap (λ (s : Shown). s.running) (sym e.shown) ∙ runs) opened whole same) c.recasts_are_known.ensures.holds)

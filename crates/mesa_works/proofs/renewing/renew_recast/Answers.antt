@@ -1,0 +1,33 @@
+use Rattle.std.proofs.Common.{refl, sym, subst}
+use Rattle.mesa_history.specs.Machine.{Recasts}
+use Rattle.mesa_history.specs.Run.{Finished}
+use Rattle.mesa_model.specs.declared.commands.Command.TheVariants as command
+use Rattle.mesa_model.specs.declared.entries.Kind.TheVariants as kind
+use Rattle.mesa_skeleton.specs.Rows.{no_rows}
+use Rattle.mesa_engine.specs.mesa_ledger.mesa_walk.Turns.{AnswersDisk, Shown, SomeRose, Takes}
+use Rattle.mesa_engine.proofs.mesa_ledger.mesa_walk.Faulting.{disk_also}
+use Rattle.mesa_tasks.specs.Recasts.{recast_in}
+use Rattle.mesa_works.proofs.renewing.renew_recast.Goals as goal
+
+pub renew_lease-requires-clause-due : goal.renew_lease-requires-clause-due
+renew_lease-requires-clause-due g c κs within = (command.Recast c.args.words.now, Recasts c.args.task.epoch (recast_in c.args.task), refl, c.requires.due)
+
+pub returns-in-Ok-clause-turn : goal.returns-in-Ok-clause-turn
+returns-in-Ok-clause-turn g c = c.in-Ok.ensures.turn (command.Recast c.args.words.now) (Recasts c.args.task.epoch (recast_in c.args.task)) refl c.requires.due
+
+pub returns-in-Err-clause-turn : goal.returns-in-Err-clause-turn
+returns-in-Err-clause-turn g c =
+    let N = g.N.Naming in
+    subst (λ (x : Shown). Takes N.script (N.start no_rows) c.args.engine.now.shown x c.args.who.session c.args.who.command kind.Renew Finished) (sym c.give_back_recast.ensures.shown)
+    (c.in-Err.ensures.turn (command.Recast c.args.words.now) (Recasts c.args.task.epoch (recast_in c.args.task)) refl c.requires.due)
+
+pub returns-in-Ok-clause-disk : goal.returns-in-Ok-clause-disk
+returns-in-Ok-clause-disk g c =
+    let N = g.N.Naming in
+    disk_also N.script (N.start no_rows) c.args.engine.now.shown c.renew_lease.new.engine.shown (λ (no : ⊥). absurd no) c.renew_lease.ensures.disk
+
+pub returns-in-Err-clause-disk : goal.returns-in-Err-clause-disk
+returns-in-Err-clause-disk g c =
+    let N = g.N.Naming in
+    subst (λ (x : Shown). AnswersDisk N.script (N.start no_rows) c.args.engine.now.shown x (SomeRose c.args.engine.now.faults c.give_back_recast.new.engine.faults)) (sym c.give_back_recast.ensures.shown)
+    (disk_also N.script (N.start no_rows) c.args.engine.now.shown c.renew_lease.new.engine.shown (λ (no : ⊥). absurd no) c.renew_lease.ensures.disk)
