@@ -21,10 +21,17 @@ use Rattle.mesa_query.specs.Files.{IsDamageIn}
 use Rattle.mesa_query.specs.Sums.{IsSumIn}
 use Rattle.mesa_tasks.specs.declared.merging.Task.{Task}
 use Rattle.mesa_compact.specs.Damaged.{IsMergeDamage}
+use Rattle.mesa_compact.specs.Regrouped.{IsRegroupDamage}
 use Rattle.mesa_compact.specs.Tasks.{IsFilesDamage, IsTaskDamage}
 use Rattle.mesa_split.specs.Split.{IsSplitDamage}
 use Rattle.mesa_tasks.specs.GivingBack.{SomeFailed}
 use Rattle.mesa_tasks.specs.Errors.{Differs}
+use Rattle.mesa_tasks.specs.Recasts.{own, recast_in, recast_table}
+use Rattle.mesa_tasks.specs.declared.recasting.Recast.{Recast}
+use Rattle.mesa_copy.specs.Copying.{IsRecastDamage}
+use Rattle.mesa_schema.specs.Changes.{columns_of}
+use Rattle.mesa_schema.specs.Columns.{Columns}
+use Rattle.mesa_schema.specs.Recasts.{recast_keys, recast_values}
 
 -- ---- faults
 
@@ -112,3 +119,16 @@ pub split_differs : {R : Type 0} (bytes : R → Option (List ℕ)) (size : R →
 split_differs bytes size old new d met (inl is) = some_differs old.damage d met is
 split_differs bytes size old new d met (inr (none, inl files)) = files_differs bytes size new d files
 split_differs bytes size old new d met (inr (none, inr spare)) = merge_differs bytes size spare.spare.inputs.items d spare.told
+
+-- ---- damage of a recast
+
+range_differs : {R : Type 0} (bytes : R → Option (List ℕ)) (size : R → ℕ) (s : Columns) (columns values : List ℕ) (inputs : List (Input R)) (d : Damage) → IsRegroupDamage bytes size s columns values inputs d → Differs d
+range_differs bytes size s columns values inputs d (inl files) = merge_differs bytes size inputs d files
+range_differs bytes size s columns values inputs d (inr total) = told_as d _ total.told (λ same. unlike_fits 0 same)
+
+-- what is told of a recast's files differs from what was wanted
+pub recast_differs : {R : Type 0} (bytes : R → Option (List ℕ)) (size : R → ℕ) (old new : Recast R) (d : Damage) → IfSome old.damage Differs → IsRecastDamage bytes size old new d → Differs d
+recast_differs bytes size old new d met (inl is) = some_differs old.damage d met is
+recast_differs bytes size old new d met (inr (none, ranges)) =
+    let s = columns_of (recast_table old) in
+    range_differs bytes size s (recast_keys s (recast_in old)) (recast_values s (recast_in old)) (own ranges.range) d ranges.told

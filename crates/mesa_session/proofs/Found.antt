@@ -28,13 +28,12 @@ use Rattle.mesa_walk.specs.Turns.{Shown, IsTurn, IsSeen}
 use Rattle.mesa_walk.specs.Walk.{run_at}
 use Rattle.mesa_tasks.specs.declared.prepared.LoadError.{LoadError}
 use Rattle.mesa_tasks.specs.declared.prepared.Prepared.{Prepared}
-use Rattle.mesa_tasks.specs.declared.merging.Task.{Task}
 use Rattle.mesa_tasks.specs.declared.querying.Pinned.{Pinned}
 use Rattle.mesa_core.proofs.mesa_passes.Behind.{comes_in_time, place_found, whole_found}
 use Rattle.mesa_core.proofs.mesa_passes.Turning.{found_history}
 use Rattle.mesa_tasks.specs.Batches.{HasPrepared}
 use Rattle.mesa_service.specs.Pins.{CanBeAnswered, IsOpenQuery, KnownPin, TakesQuery, known_pin}
-use Rattle.mesa_service.specs.Works.{KnownTask, WasGranted, known_task}
+use Rattle.mesa_service.specs.Works.{WasGranted}
 use Rattle.mesa_session.specs.Loads.{StaysPrepared}
 
 module _ (p : Known) (ticket : ℕ) (h : List Entry) (finds : Finds p ticket (numbers_of h)) (short : AllByRecursion IsShort h) where
@@ -52,8 +51,8 @@ module _ (p : Known) (ticket : ℕ) (h : List Entry) (finds : Finds p ticket (nu
   longer : (past between : List Entry) → past ++ between ≡ history_of p.seen → past ++ (between ++ later) ≡ h
   longer past between is = sym (append_assoc past between later) ∙ (ap (λ (l : List Entry). l ++ later) is ∙ whole)
 
-  -- a task was granted before
-  pub granted_found : (granted : List Entry → KnownTask → Type 0) (t : KnownTask) → WasGranted granted (history_of p.seen) t → WasGranted granted h t
+  -- a task or a recast was granted before
+  pub granted_found : {K : Type 0} (granted : List Entry → K → Type 0) (t : K) → WasGranted granted (history_of p.seen) t → WasGranted granted h t
   granted_found granted t was = record {
     past = was.past;
     later = was.later ++ later;
@@ -101,7 +100,7 @@ module _ (p : Known) (ticket : ℕ) (h : List Entry) (finds : Finds p ticket (nu
     }
 
 -- what was so somewhere in what a pass had seen is so somewhere in what it sees later
-pub granted_later : (granted : List Entry → KnownTask → Type 0) (t : KnownTask) (old new : List ℕ) → IsPrefix old new → WasGranted granted (history_of old) t → WasGranted granted (history_of new) t
+pub granted_later : {K : Type 0} (granted : List Entry → K → Type 0) (t : K) (old new : List ℕ) → IsPrefix old new → WasGranted granted (history_of old) t → WasGranted granted (history_of new) t
 granted_later granted t old new more was = record {
   past = was.past;
   later = was.later ++ history_of more.0;
@@ -110,9 +109,9 @@ granted_later granted t old new more was = record {
 }
 
 -- a task that a turn granted was granted by the end of it
-pub granted_then : {R E : Type 0} (bytes : R → Option (List ℕ)) (granted : List Entry → KnownTask → Type 0) (r : Result (Task R) E) (h now : List Entry) → h ≡ now → IfOk r (λ t. granted h (known_task bytes t)) → IfOk r (λ t. WasGranted granted now (known_task bytes t))
-granted_then bytes granted (Ok t) h now same is = record { past = h; later = []; whole = append-nil h ∙ same; was = is }
-granted_then bytes granted (Err e) h now same is = is
+pub granted_then : {T E K : Type 0} (known : T → K) (granted : List Entry → K → Type 0) (r : Result T E) (h now : List Entry) → h ≡ now → IfOk r (λ t. granted h (known t)) → IfOk r (λ t. WasGranted granted now (known t))
+granted_then known granted (Ok t) h now same is = record { past = h; later = []; whole = append-nil h ∙ same; was = is }
+granted_then known granted (Err e) h now same is = is
 
 -- ---- a query's first turn
 

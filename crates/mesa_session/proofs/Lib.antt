@@ -2,7 +2,9 @@ pub mod Damaged
 pub mod Pinned
 pub mod Spelling
 pub mod Merged
+pub mod Regrouped
 pub mod Found
 pub mod Stepping
 pub mod Prepared
 pub mod Drawing
+pub mod Closing

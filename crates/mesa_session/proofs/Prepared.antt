@@ -15,7 +15,7 @@ use Rattle.mesa_tasks.specs.declared.merging.CompactError.{CompactError}
 use Rattle.mesa_tasks.specs.declared.merging.CompactError.TheVariants as compact
 use Rattle.mesa_load.specs.Preparing.{IsReason}
 use Rattle.mesa_core.specs.mesa_passes.Answers.{Owes}
-use Rattle.mesa_service.specs.Drafts.{owed_by_load, owed_by_work}
+use Rattle.mesa_service.specs.Drafts.{owed_by_error, owed_by_load, owed_by_work}
 use Rattle.mesa_session.specs.Loads.{StaysPrepared}
 
 ok_given : {A E : Type 0} (r : Result A E) → IsOk r → (a : A) × (r ≡ Ok a)
@@ -51,6 +51,10 @@ owed_made made failed = let one : owed_by_load made ≡ 1 = ap owed_by_load fail
 -- and so is one of a work
 pub owed_merged : {T : Type 0} (merged : Result T CompactError) → merged ≡ Err compact.Draft → 0 < owed_by_work merged
 owed_merged merged failed = let one : owed_by_work merged ≡ 1 = ap owed_by_work failed in omega (arith, one)
+
+-- and so is one by which a recast's ranges weren't rewritten
+pub owed_error : {T : Type 0} (e : CompactError) → ◌≡◌ {A = Result T CompactError} (Err e) (Err compact.Draft) → 0 < owed_by_error e
+owed_error {T = T} e failed = let one : owed_by_work {T = T} (Err e) ≡ 1 = ap owed_by_work failed in omega (arith, one)
 
 -- preparing counts the faults that it tells
 pub prepared_owes : {T : Type 0} (batch : Result (List Placed) BatchError) (before now : ℕ) (made : Result T LoadError) → IfErr made (IsReason batch before now) → OnOk made (now ≡ before) → Owes before now (owed_by_load made)

@@ -1,20 +1,21 @@
 // The turns of each command.
 ghost use Rattle.std.specs.Prelude.{◌≡◌, ◌<◌, ◌≤◌, not, Some, length};
-ghost use Rattle.mesa_history.specs.Legal.{is_query, is_work};
+ghost use Rattle.mesa_history.specs.Legal.{is_query};
 ghost use Rattle.mesa_history.specs.Run.{First, Finished, command_at};
 ghost use Rattle.mesa_history.specs.Turns.{place_then};
 ghost use Rattle.mesa_model.specs.declared.commands.Command.TheVariants as command;
 ghost use Rattle.mesa_skeleton.specs.Rows.{no_rows};
+ghost use Rattle.mesa_walk.specs.Turns.{is_merge, is_recast};
 ghost use Rattle.mesa_core.specs.mesa_passes.Answers.{Answers};
 ghost use Rattle.mesa_core.specs.mesa_passes.Passes.{HasSort, Mine, Took, at_stage};
 ghost use Rattle.mesa_session.specs.Drafts.{AreOf, GoOn};
 
 use crate::gate::{Gate, Point};
-use crate::outside::{answered, merged};
+use crate::outside::{answered, merged, regrouped};
 use crate::preparing::{ids_of, prepared_first};
 use crate::turns::{
-    close_turn, complete_turn, grant_turn, look_turn, pin_turn, publish_turn, renew_turn,
-    simple_turn,
+    abandon_turn, close_turn, complete_turn, grant_recast_turn, grant_turn, look_turn, pin_turn,
+    publish_turn, recast_turn, renew_recast_turn, renew_turn, simple_turn,
 };
 use mesa_batch::LoadRows;
 use mesa_core::Vault;
@@ -147,7 +148,7 @@ fn work<
     requires session { who.session < 8 }
     requires room { (3 ≤ pass.room) × (pass.limit ≤ N.room) }
     requires mine { Mine N.script (N.start no_rows) pass who.session (at_stage who.command First) }
-    requires sort { HasSort N.script who.session who.command is_work }
+    requires sort { HasSort N.script who.session who.command is_merge }
     requires own { AreOf (N.origin no_rows).run who.session ids.old }
     ensures took { Took who.session pass result.0 3 }
     ensures mine { Mine N.script (N.start no_rows) result.0 who.session (place_then (not result.1) who.command Finished) }
@@ -175,6 +176,72 @@ fn work<
         Err(reply) => {
             drop(reply);
             drop(delta);
+            (pass, ran)
+        }
+    }
+}
+
+// A recast is granted, rewritten outside, renewed, and closed, with what came meanwhile rewritten in its last turn. One whose ranges weren't rewritten isn't renewed.
+fn recast<
+    's,
+    N: Naming + Send,
+    M: Made,
+    D: Disk<M>,
+    K: Sink + Send,
+    R: Threads + Wait + Sync,
+    B: Bench<M>,
+    G: Gate,
+>(
+    rt: &R,
+    alloc: Global,
+    lock: &TurnLock<Vault<'s, N, M, D, K>>,
+    pass: Pass,
+    who: Who,
+    bench: &mut B,
+    ids: &mut Option<Serials>,
+    gate: &G,
+) -> (Pass, bool)
+    requires lock { pass.lock ≡ lock.now }
+    requires few { length N.script.sessions ≤ 8 }
+    requires session { who.session < 8 }
+    requires room { (3 ≤ pass.room) × (pass.limit ≤ N.room) }
+    requires mine { Mine N.script (N.start no_rows) pass who.session (at_stage who.command First) }
+    requires sort { HasSort N.script who.session who.command is_recast }
+    requires own { AreOf (N.origin no_rows).run who.session ids.old }
+    ensures took { Took who.session pass result.0 3 }
+    ensures mine { Mine N.script (N.start no_rows) result.0 who.session (place_then (not result.1) who.command Finished) }
+    ensures answers { Answers N.script (N.start no_rows) who.session pass result.0 (B.faults bench.old) (B.faults bench.new) 0 }
+    ensures ids { GoOn (N.origin no_rows).run who.session ids.old ids.new }
+{
+    let (pass, ran, run, task) = grant_recast_turn(rt, lock, pass, who);
+    let mut task = match task {
+        Ok(task) => task,
+        Err(reply) => {
+            drop(reply);
+            return (pass, ran);
+        }
+    };
+    let mut serials = ids_of(ids.take(), run, who.session);
+    let made = regrouped(alloc, bench, &mut serials, &mut task);
+    gate.reach(rt, Point::Merged, who.session);
+    let made = match made {
+        Ok(made) => made,
+        Err(error) => {
+            *ids = Some(serials);
+            return abandon_turn(rt, lock, pass, who, task, error);
+        }
+    };
+    let (pass, ran, renewed) = renew_recast_turn(rt, lock, pass, who, task);
+    match renewed {
+        Ok(task) => {
+            let closed = recast_turn(rt, alloc, lock, pass, who, bench, &mut serials, task, made);
+            *ids = Some(serials);
+            closed
+        }
+        Err(reply) => {
+            drop(reply);
+            drop(made);
+            *ids = Some(serials);
             (pass, ran)
         }
     }
@@ -217,6 +284,7 @@ pub(crate) fn run_command<
         Command::Load(rows) => load(rt, alloc, lock, pass, who, rows, bench, ids),
         Command::Query(_) => query(rt, alloc, lock, pass, who),
         Command::Work(_) => work(rt, alloc, lock, pass, who, bench, ids, gate),
+        Command::Recast(_) => recast(rt, alloc, lock, pass, who, bench, ids, gate),
         _ => simple_turn(rt, lock, pass, who),
     }
 }

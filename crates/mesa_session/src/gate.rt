@@ -6,7 +6,7 @@ use std::sync::Wait;
 pub enum Point {
     /// Before its first command.
     Started,
-    /// After a work's merge, before its next turn.
+    /// After a work's merge, or once a recast's ranges are rewritten, before the next turn.
     Merged,
     /// After a command's last turn.
     Printed,

@@ -1,28 +1,39 @@
-// What a session does between the turns of a query or a work.
+// What a session does between the turns of a query, a work or a recast.
 ghost use Rattle.std.specs.List.{AllByRecursion};
-ghost use Rattle.std.specs.Prelude.{◌≡◌, ◌-◌, ◌≤◌, ℕ, IsTrue, IfOk, IfErr, IfSome, length};
+ghost use Rattle.std.specs.Prelude.{◌≡◌, ◌⊎◌, ◌-◌, ◌≤◌, ℕ, IsTrue, IfOk, IfErr, IfSome, OnOk, Err, None, length, true};
 ghost use Rattle.mesa_key.specs.Spelling.{is_spelling};
 ghost use Rattle.mesa_schema.specs.declared.rows.Row.{Row as AnyRow};
 ghost use Rattle.mesa_filter.specs.Query.{group_kinds as kinds_grouped};
 ghost use Rattle.mesa_script.specs.Rows.{rendered};
 ghost use Rattle.mesa_core.specs.mesa_passes.Answers.{Owes};
-ghost use Rattle.mesa_tasks.specs.Serials.{after_drafts};
+ghost use Rattle.mesa_tasks.specs.Recasts.{IsRecasted, IsRecastedSoFar, claim_of_recast, recast_ids};
+ghost use Rattle.mesa_tasks.specs.Serials.{AreNext, after_drafts};
+ghost use Rattle.mesa_tasks.specs.declared.merging.CompactError.TheVariants as compact;
+ghost use Rattle.mesa_delta.specs.declared.error.FileError.TheVariants as file_error;
+ghost use Rattle.mesa_core.specs.Handing.{AllAreRested, IsRecastGranted, IsRecastHeld};
+ghost use Rattle.mesa_core.specs.mesa_recasting.Rested.{HasUnpaid};
+ghost use Rattle.mesa_skeleton.specs.Rows.{no_rows};
 ghost use Rattle.mesa_compact.specs.Tasks.{AreNumbered};
 ghost use Rattle.mesa_service.specs.Drafts.{owed_by_work};
 ghost use Rattle.mesa_service.specs.Pins.{CanBeAnswered, HasAnswered, heading_in, known_pin};
-ghost use Rattle.mesa_service.specs.Works.{CanBeMerged, HasMerged, known_task};
+ghost use Rattle.mesa_service.specs.Recasts.{CanBeRegrouped, HasRegrouped, known_recast};
+ghost use Rattle.mesa_service.specs.Works.{CanBeMerged, HasMerged, WasGranted, known_task};
 
 use mesa_compact::merge_task;
+use mesa_copy::{regroup_more, regroup_task};
+use mesa_core::Vault;
 use mesa_delta::FileError;
-use mesa_disk::{Bench, FileReader, Made};
+use mesa_disk::{Bench, Disk, FileReader, Made};
 use mesa_filter::Query;
+use mesa_io::Sink;
 use mesa_key::reads_back;
+use mesa_ledger::Naming;
 use mesa_model::Page;
 use mesa_print::render;
 use mesa_query::answer;
 use mesa_script::Rendered;
 use mesa_split::{merge_split, sample};
-use mesa_tasks::{CompactError, NewDelta, Pinned, Serials, Task};
+use mesa_tasks::{CompactError, NewDelta, Pinned, Recast, Recasted, Serials, Task};
 use std::alloc::{AllocError, Global};
 use std::thread::Threads;
 
@@ -106,4 +117,82 @@ pub(crate) fn merged<T: Threads + Sync, M: Made, B: Bench<M>, R: FileReader>(
         return merge_task(alloc, bench, ids, task);
     }
     merged_in_parts(rt, alloc, bench, ids, task)
+}
+
+/// A recast's ranges rewritten, or why they aren't.
+pub(crate) fn regrouped<M: Made, B: Bench<M>, R: FileReader>(
+    alloc: Global,
+    bench: &mut B,
+    ids: &mut Serials,
+    task: &mut Recast<R>,
+) -> Result<Recasted<M>, CompactError>
+    requires { CanBeRegrouped R.bytes task.old }
+    ensures known { known_recast R.bytes task.new ≡ known_recast R.bytes task.old }
+    ensures task { CanBeRegrouped R.bytes task.new }
+    ensures made { HasRegrouped M.bytes M.id_of R.bytes R.faults task.new result }
+    ensures owes { Owes (B.faults bench.old) (B.faults bench.new) (owed_by_work result) }
+    ensures numbered { IfOk result (λ made. AreNext ids.old ids.new (recast_ids M.id_of made.ranges.items)) }
+    ensures ids { (n : ℕ) × (ids.new ≡ after_drafts n ids.old) }
+{
+    regroup_task(alloc, bench, ids, task)
+}
+
+// The ranges behind those that are rewritten, rewritten too.
+fn regrouped_more<M: Made, B: Bench<M>, R: FileReader>(
+    alloc: Global,
+    bench: &mut B,
+    ids: &mut Serials,
+    task: &mut Recast<R>,
+    made: Recasted<M>,
+) -> Result<Recasted<M>, CompactError>
+    requires task { CanBeRegrouped R.bytes task.old }
+    requires begun { IsRecastedSoFar M.bytes M.id_of R.bytes task.old made }
+    ensures known { known_recast R.bytes task.new ≡ known_recast R.bytes task.old }
+    ensures task { CanBeRegrouped R.bytes task.new }
+    ensures made { HasRegrouped M.bytes M.id_of R.bytes R.faults task.new result }
+    ensures whole { OnOk result (task.new.damage ≡ None) }
+    ensures owes { Owes (B.faults bench.old) (B.faults bench.new) (owed_by_work result) }
+    ensures ids { (n : ℕ) × (ids.new ≡ after_drafts n ids.old) }
+{
+    let mut made = made;
+    match regroup_more(alloc, bench, ids, task, &mut made) {
+        Ok(()) => Ok(made),
+        Err(error) => {
+            drop(made);
+            Err(error)
+        }
+    }
+}
+
+/// What a recast's ranges are rewritten to, in its closing turn: with those of the batches that came meanwhile. With it the recast, which may have got further ranges.
+pub(crate) fn regrouped_now<'s, N: Naming + Send, M: Made, D: Disk<M>, K: Sink + Send, B: Bench<M>>(
+    alloc: Global,
+    vault: &mut Vault<'s, N, M, D, K>,
+    bench: &mut B,
+    ids: &mut Serials,
+    task: Recast<D::Reader>,
+    made: Recasted<M>,
+) -> (Recast<D::Reader>, Result<Recasted<M>, CompactError>)
+    requires granted { WasGranted (IsRecastGranted D.Reader.bytes N.script N.start N.origin N.sound) vault.old.shown.history (known_recast D.Reader.bytes task) }
+    requires task { CanBeRegrouped D.Reader.bytes task }
+    requires made { IsRecasted M.bytes M.id_of D.Reader.bytes task made }
+    ensures shown { vault.new.shown ≡ vault.old.shown }
+    ensures claim { claim_of_recast result.0 ≡ claim_of_recast task }
+    ensures task { CanBeRegrouped D.Reader.bytes result.0 }
+    ensures held { IsRecastHeld D.Reader.bytes N.script N.start N.origin N.sound vault.new.shown.history (known_recast D.Reader.bytes result.0) }
+    ensures rested { OnOk result.1 (vault.new.shown.running ≡ true → AllAreRested D.Reader.bytes vault.new.ledger (known_recast D.Reader.bytes result.0)) }
+    ensures made { HasRegrouped M.bytes M.id_of D.Reader.bytes D.Reader.faults result.0 result.1 ⊎ ((result.1 ≡ Err (compact.File file_error.Read)) × HasUnpaid N.script N.start N.counted vault.new.shown vault.new.faults) }
+    ensures owes { Owes (B.faults bench.old) (B.faults bench.new) (owed_by_work result.1) }
+    ensures ids { (n : ℕ) × (ids.new ≡ after_drafts n ids.old) }
+{
+    match vault.rest(task) {
+        Ok(mut task) => {
+            let made = regrouped_more(alloc, bench, ids, &mut task, made);
+            (task, made)
+        }
+        Err((error, task)) => {
+            drop(made);
+            (task, Err(CompactError::File(error)))
+        }
+    }
 }

@@ -1,24 +1,27 @@
 // One turn of each sort.
 ghost use Rattle.std.specs.Prelude.{◌≡◌, ◌<◌, ◌≤◌, ◌^◌, ℕ, not, true, IfOk, IfErr, OnOk, Some, is_ok, length};
-ghost use Rattle.mesa_history.specs.Legal.{is_query, is_work};
+ghost use Rattle.mesa_history.specs.Legal.{is_query};
 ghost use Rattle.mesa_history.specs.Run.{First, Looked, Granted, Renewed, Finished, command_at};
 ghost use Rattle.mesa_history.specs.Turns.{place_then};
 ghost use Rattle.mesa_model.specs.declared.commands.Command.TheVariants as command;
 ghost use Rattle.mesa_model.specs.Entry.{history_of};
-ghost use Rattle.mesa_core.specs.Handing.{IsGranted, Tells};
+ghost use Rattle.mesa_core.specs.Handing.{IsGranted, IsRecastGranted, Tells};
 ghost use Rattle.mesa_skeleton.specs.Rows.{no_rows};
-ghost use Rattle.mesa_walk.specs.Turns.{is_load, is_simple};
+ghost use Rattle.mesa_walk.specs.Turns.{is_load, is_merge, is_recast, is_simple};
 ghost use Rattle.mesa_walk.specs.Works.{closing_stage, stage_if};
 ghost use Rattle.mesa_core.specs.mesa_passes.Answers.{Answers};
 ghost use Rattle.mesa_core.specs.mesa_passes.Passes.{HasSort, Holds, Mine, Took, at_stage};
-ghost use Rattle.mesa_service.specs.Drafts.{owed_by_load, owed_by_work};
+ghost use Rattle.mesa_service.specs.Drafts.{owed_by_error, owed_by_load, owed_by_work};
 ghost use Rattle.mesa_service.specs.Pins.{CanBeAnswered, HasAnswered, IsOpenQuery, known_pin};
 ghost use Rattle.mesa_service.specs.Sight.{sight_after};
+ghost use Rattle.mesa_service.specs.Recasts.{CanBeRegrouped, IsUnmade, known_recast};
 ghost use Rattle.mesa_service.specs.Works.{CanBeMerged, HasMerged, WasGranted, known_task};
+ghost use Rattle.mesa_tasks.specs.Recasts.{IsRecasted, claim_of_recast};
 ghost use Rattle.mesa_tasks.specs.Tasks.{claim_in};
 ghost use Rattle.mesa_tasks.specs.Serials.{after_drafts};
 ghost use Rattle.mesa_session.specs.Loads.{StaysPrepared};
 
+use crate::outside::regrouped_now;
 use crate::preparing::prepared_now;
 use mesa_batch::{Glance, LoadRows};
 use mesa_core::Vault;
@@ -29,7 +32,9 @@ use mesa_ledger::Naming;
 use mesa_log::Who;
 use mesa_model::Reply;
 use mesa_script::Rendered;
-use mesa_tasks::{CompactError, LoadError, NewDelta, Pinned, Prepared, Serials, Task};
+use mesa_tasks::{
+    CompactError, LoadError, NewDelta, Pinned, Prepared, Recast, Recasted, Serials, Task,
+};
 use mesa_turn::{Pass, TurnLock};
 use std::alloc::{AllocError, Global};
 use std::sync::Wait;
@@ -64,7 +69,7 @@ pub fn look_turn<'s, N: Naming + Send, M: Made, D: Disk<M>, K: Sink + Send, R: W
     (lock.leave(held), ran, run, glance)
 }
 
-/// The one turn of a command that is no load, no query and no work.
+/// The one turn of a command that is no load, no query, no work and no recast.
 pub fn simple_turn<'s, N: Naming + Send, M: Made, D: Disk<M>, K: Sink + Send, R: Wait>(
     rt: &R,
     lock: &TurnLock<Vault<'s, N, M, D, K>>,
@@ -191,7 +196,7 @@ pub fn grant_turn<'s, N: Naming + Send, M: Made, D: Disk<M>, K: Sink + Send, R: 
     requires few { length N.script.sessions ≤ 8 }
     requires room { (0 < pass.room) × (pass.limit ≤ N.room) }
     requires mine { Mine N.script (N.start no_rows) pass who.session (at_stage who.command First) }
-    requires sort { HasSort N.script who.session who.command is_work }
+    requires sort { HasSort N.script who.session who.command is_merge }
     ensures took { Took who.session pass result.0 1 }
     ensures mine { Mine N.script (N.start no_rows) result.0 who.session (place_then (not result.1) who.command (stage_if claim_in Granted result.3)) }
     ensures ran { OnOk result.3 (result.1 ≡ true) }
@@ -221,7 +226,7 @@ pub fn renew_turn<'s, N: Naming + Send, M: Made, D: Disk<M>, K: Sink + Send, R: 
     requires few { length N.script.sessions ≤ 8 }
     requires room { (0 < pass.room) × (pass.limit ≤ N.room) }
     requires mine { Mine N.script (N.start no_rows) pass who.session (at_stage who.command (Granted (claim_in task))) }
-    requires sort { HasSort N.script who.session who.command is_work }
+    requires sort { HasSort N.script who.session who.command is_merge }
     requires granted { WasGranted (IsGranted D.Reader.bytes N.script N.start N.origin N.sound) (history_of pass.seen) (known_task D.Reader.bytes task) }
     ensures took { Took who.session pass result.0 1 }
     ensures mine { Mine N.script (N.start no_rows) result.0 who.session (place_then (not result.1) who.command (stage_if claim_in Renewed result.2)) }
@@ -250,7 +255,7 @@ pub fn complete_turn<'s, N: Naming + Send, M: Made, D: Disk<M>, K: Sink + Send, 
     requires few { length N.script.sessions ≤ 8 }
     requires room { (0 < pass.room) × (pass.limit ≤ N.room) }
     requires mine { Mine N.script (N.start no_rows) pass who.session (at_stage who.command (closing_stage (not (is_ok merged)) (claim_in task))) }
-    requires sort { HasSort N.script who.session who.command is_work }
+    requires sort { HasSort N.script who.session who.command is_merge }
     requires granted { WasGranted (IsGranted D.Reader.bytes N.script N.start N.origin N.sound) (history_of pass.seen) (known_task D.Reader.bytes task) }
     requires merged { HasMerged M.bytes M.id_of D.Reader.bytes D.Reader.faults task merged }
     ensures took { Took who.session pass result.0 1 }
@@ -261,6 +266,126 @@ pub fn complete_turn<'s, N: Naming + Send, M: Made, D: Disk<M>, K: Sink + Send, 
     let vault = held.value();
     let ran = vault.running();
     let reply = vault.complete(who, task, merged);
+    drop(reply); // it was printed
+    (lock.leave(held), ran)
+}
+
+/// A recast's first turn.
+pub fn grant_recast_turn<'s, N: Naming + Send, M: Made, D: Disk<M>, K: Sink + Send, R: Wait>(
+    rt: &R,
+    lock: &TurnLock<Vault<'s, N, M, D, K>>,
+    pass: Pass,
+    who: Who,
+) -> (Pass, bool, u32, Result<Recast<D::Reader>, Reply>)
+    requires lock { pass.lock ≡ lock.now }
+    requires few { length N.script.sessions ≤ 8 }
+    requires room { (0 < pass.room) × (pass.limit ≤ N.room) }
+    requires mine { Mine N.script (N.start no_rows) pass who.session (at_stage who.command First) }
+    requires sort { HasSort N.script who.session who.command is_recast }
+    ensures took { Took who.session pass result.0 1 }
+    ensures mine { Mine N.script (N.start no_rows) result.0 who.session (place_then (not result.1) who.command (stage_if claim_of_recast Granted result.3)) }
+    ensures ran { OnOk result.3 (result.1 ≡ true) }
+    ensures run { result.2 < 2 ^ 24 }
+    ensures number { result.2 ≡ (N.origin no_rows).run }
+    ensures task { IfOk result.3 (CanBeRegrouped D.Reader.bytes) }
+    ensures granted { IfOk result.3 (λ t. WasGranted (IsRecastGranted D.Reader.bytes N.script N.start N.origin N.sound) (history_of result.0.seen) (known_recast D.Reader.bytes t)) }
+    ensures answers { Answers N.script (N.start no_rows) who.session pass result.0 0 0 0 }
+{
+    let mut held = lock.enter(rt, pass);
+    let vault = held.value();
+    let ran = vault.running();
+    let run = vault.run();
+    let task = vault.grant_recast(who);
+    (lock.leave(held), ran, run, task)
+}
+
+/// A recast's turn once its ranges are rewritten.
+pub fn renew_recast_turn<'s, N: Naming + Send, M: Made, D: Disk<M>, K: Sink + Send, R: Wait>(
+    rt: &R,
+    lock: &TurnLock<Vault<'s, N, M, D, K>>,
+    pass: Pass,
+    who: Who,
+    task: Recast<D::Reader>,
+) -> (Pass, bool, Result<Recast<D::Reader>, Reply>)
+    requires lock { pass.lock ≡ lock.now }
+    requires few { length N.script.sessions ≤ 8 }
+    requires room { (0 < pass.room) × (pass.limit ≤ N.room) }
+    requires mine { Mine N.script (N.start no_rows) pass who.session (at_stage who.command (Granted (claim_of_recast task))) }
+    requires sort { HasSort N.script who.session who.command is_recast }
+    requires granted { WasGranted (IsRecastGranted D.Reader.bytes N.script N.start N.origin N.sound) (history_of pass.seen) (known_recast D.Reader.bytes task) }
+    ensures took { Took who.session pass result.0 1 }
+    ensures mine { Mine N.script (N.start no_rows) result.0 who.session (place_then (not result.1) who.command (stage_if claim_of_recast Renewed result.2)) }
+    ensures ran { OnOk result.2 (result.1 ≡ true) }
+    ensures same { IfOk result.2 (λ t. t ≡ task) }
+    ensures granted { WasGranted (IsRecastGranted D.Reader.bytes N.script N.start N.origin N.sound) (history_of result.0.seen) (known_recast D.Reader.bytes task) }
+    ensures answers { Answers N.script (N.start no_rows) who.session pass result.0 0 0 0 }
+{
+    let mut held = lock.enter(rt, pass);
+    let vault = held.value();
+    let ran = vault.running();
+    let renewed = vault.renew_recast(who, task);
+    (lock.leave(held), ran, renewed)
+}
+
+/// A recast's last turn once its lease was renewed: the ranges of the batches that came meanwhile are rewritten too, and then its table is recast.
+pub fn recast_turn<'s, N: Naming + Send, M: Made, D: Disk<M>, K: Sink + Send, R: Wait, B: Bench<M>>(
+    rt: &R,
+    alloc: Global,
+    lock: &TurnLock<Vault<'s, N, M, D, K>>,
+    pass: Pass,
+    who: Who,
+    bench: &mut B,
+    ids: &mut Serials,
+    task: Recast<D::Reader>,
+    made: Recasted<M>,
+) -> (Pass, bool)
+    requires lock { pass.lock ≡ lock.now }
+    requires few { length N.script.sessions ≤ 8 }
+    requires room { (0 < pass.room) × (pass.limit ≤ N.room) }
+    requires mine { Mine N.script (N.start no_rows) pass who.session (at_stage who.command (Renewed (claim_of_recast task))) }
+    requires sort { HasSort N.script who.session who.command is_recast }
+    requires granted { WasGranted (IsRecastGranted D.Reader.bytes N.script N.start N.origin N.sound) (history_of pass.seen) (known_recast D.Reader.bytes task) }
+    requires task { CanBeRegrouped D.Reader.bytes task }
+    requires made { IsRecasted M.bytes M.id_of D.Reader.bytes task made }
+    ensures took { Took who.session pass result.0 1 }
+    ensures mine { Mine N.script (N.start no_rows) result.0 who.session (place_then (not result.1) who.command Finished) }
+    ensures answers { Answers N.script (N.start no_rows) who.session pass result.0 (B.faults bench.old) (B.faults bench.new) 0 }
+    ensures ids { (n : ℕ) × (ids.new ≡ after_drafts n ids.old) }
+{
+    let mut held = lock.enter(rt, pass);
+    let vault = held.value();
+    let ran = vault.running();
+    let (task, made) = regrouped_now(alloc, vault, bench, ids, task, made);
+    let reply = vault.recast(who, task, made);
+    drop(reply); // it was printed
+    (lock.leave(held), ran)
+}
+
+/// The last turn of a recast whose ranges weren't rewritten.
+pub fn abandon_turn<'s, N: Naming + Send, M: Made, D: Disk<M>, K: Sink + Send, R: Wait>(
+    rt: &R,
+    lock: &TurnLock<Vault<'s, N, M, D, K>>,
+    pass: Pass,
+    who: Who,
+    task: Recast<D::Reader>,
+    error: CompactError,
+) -> (Pass, bool)
+    requires lock { pass.lock ≡ lock.now }
+    requires few { length N.script.sessions ≤ 8 }
+    requires room { (0 < pass.room) × (pass.limit ≤ N.room) }
+    requires mine { Mine N.script (N.start no_rows) pass who.session (at_stage who.command (Granted (claim_of_recast task))) }
+    requires sort { HasSort N.script who.session who.command is_recast }
+    requires granted { WasGranted (IsRecastGranted D.Reader.bytes N.script N.start N.origin N.sound) (history_of pass.seen) (known_recast D.Reader.bytes task) }
+    requires task { CanBeRegrouped D.Reader.bytes task }
+    requires unmade { IsUnmade D.Reader.bytes D.Reader.faults task error }
+    ensures took { Took who.session pass result.0 1 }
+    ensures mine { Mine N.script (N.start no_rows) result.0 who.session (place_then (not result.1) who.command Finished) }
+    ensures answers { Answers N.script (N.start no_rows) who.session pass result.0 0 0 (owed_by_error error) }
+{
+    let mut held = lock.enter(rt, pass);
+    let vault = held.value();
+    let ran = vault.running();
+    let reply = vault.recast(who, task, Err(error));
     drop(reply); // it was printed
     (lock.leave(held), ran)
 }

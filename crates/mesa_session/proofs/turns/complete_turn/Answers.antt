@@ -3,7 +3,7 @@ use Rattle.std.specs.Prelude.{Err, is_ok}
 use Rattle.mesa_core.specs.Vault.{Stand}
 use Rattle.mesa_model.specs.Entry.{numbers_of}
 use Rattle.mesa_core.specs.Handing.{IsGranted}
-use Rattle.mesa_history.specs.Legal.{is_work}
+use Rattle.mesa_walk.specs.Turns.{is_merge}
 use Rattle.mesa_history.specs.Run.{Finished}
 use Rattle.mesa_model.specs.declared.entries.Kind.TheVariants as kind
 use Rattle.mesa_skeleton.specs.Rows.{no_rows}
@@ -31,7 +31,7 @@ complete-reply-requires-clause-due g c κs within =
       numbers = ap (λ (v : Stand). numbers_of v.shown.history) (sym c.value-vault.ensures.value);
       seen = c.running-ran.ensures.seen;
     } in
-    asks e c.args.who.command (closing_stage (not (is_ok c.args.merged)) (claim_in c.args.task)) is_work c.requires.mine c.requires.sort
+    asks e c.args.who.command (closing_stage (not (is_ok c.args.merged)) (claim_in c.args.task)) is_merge c.requires.mine c.requires.sort
 
 pub complete-reply-requires-clause-room : goal.complete-reply-requires-clause-room
 complete-reply-requires-clause-room g c κs within =

@@ -2,7 +2,7 @@ use Rattle.std.proofs.Common.{refl, ap, sym}
 use Rattle.mesa_core.specs.Vault.{Stand}
 use Rattle.mesa_model.specs.Entry.{numbers_of}
 use Rattle.mesa_core.specs.Handing.{IsGranted}
-use Rattle.mesa_history.specs.Legal.{is_work}
+use Rattle.mesa_walk.specs.Turns.{is_merge}
 use Rattle.mesa_history.specs.Run.{First, Granted}
 use Rattle.mesa_model.specs.declared.entries.Kind.TheVariants as kind
 use Rattle.mesa_skeleton.specs.Rows.{no_rows}
@@ -10,6 +10,7 @@ use Rattle.mesa_core.proofs.mesa_passes.Answering.{none_granting, step_none}
 use Rattle.mesa_core.proofs.mesa_passes.Turning.{Step, step_took, step_seen}
 use Rattle.mesa_walk.specs.Works.{stage_if}
 use Rattle.mesa_tasks.specs.Tasks.{claim_in}
+use Rattle.mesa_service.specs.Works.{known_task}
 use Rattle.mesa_session.proofs.Found.{granted_then}
 use Rattle.mesa_session.proofs.Stepping.{Enters, asks, goes_on, one, room_for, step}
 use Rattle.mesa_session.proofs.turns.grant_turn.Goals as goal
@@ -28,7 +29,7 @@ grant-task-requires-clause-due g c κs within =
       numbers = ap (λ (v : Stand). numbers_of v.shown.history) (sym c.value-vault.ensures.value);
       seen = c.running-ran.ensures.seen;
     } in
-    asks e c.args.who.command First is_work c.requires.mine c.requires.sort
+    asks e c.args.who.command First is_merge c.requires.mine c.requires.sort
 
 pub grant-task-requires-clause-room : goal.grant-task-requires-clause-room
 grant-task-requires-clause-room g c κs within =
@@ -85,7 +86,7 @@ pub returns-clause-mine : goal.returns-clause-mine
 returns-clause-mine g c = goes_on (whole g c) (stage_if claim_in Granted c.grant-task.result) c.running-ran.result c.grant-task.ensures.turn c.running-ran.ensures.running
 
 pub returns-clause-granted : goal.returns-clause-granted
-returns-clause-granted g c = granted_then g.D.Reader.FileReader.bytes (IsGranted g.D.Reader.FileReader.bytes g.N.Naming.script g.N.Naming.start g.N.Naming.origin g.N.Naming.sound) c.grant-task.result _ _ (sym (step_seen (whole g c))) c.grant-task.ensures.granted
+returns-clause-granted g c = granted_then (known_task g.D.Reader.FileReader.bytes) (IsGranted g.D.Reader.FileReader.bytes g.N.Naming.script g.N.Naming.start g.N.Naming.origin g.N.Naming.sound) c.grant-task.result _ _ (sym (step_seen (whole g c))) c.grant-task.ensures.granted
 
 pub returns-clause-answers : goal.returns-clause-answers
 returns-clause-answers g c = step_none (whole g c) c.requires.sort.asked c.requires.sort.known (none_granting c.requires.sort.asked)

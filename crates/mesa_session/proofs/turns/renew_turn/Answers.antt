@@ -2,7 +2,7 @@ use Rattle.std.proofs.Common.{refl, ap, sym}
 use Rattle.mesa_core.specs.Vault.{Stand}
 use Rattle.mesa_model.specs.Entry.{numbers_of}
 use Rattle.mesa_core.specs.Handing.{IsGranted}
-use Rattle.mesa_history.specs.Legal.{is_work}
+use Rattle.mesa_walk.specs.Turns.{is_merge}
 use Rattle.mesa_history.specs.Run.{Granted, Renewed}
 use Rattle.mesa_model.specs.declared.entries.Kind.TheVariants as kind
 use Rattle.mesa_skeleton.specs.Rows.{no_rows}
@@ -29,7 +29,7 @@ renew-renewed-requires-clause-due g c κs within =
       numbers = ap (λ (v : Stand). numbers_of v.shown.history) (sym c.value-vault.ensures.value);
       seen = c.running-ran.ensures.seen;
     } in
-    asks e c.args.who.command (Granted (claim_in c.args.task)) is_work c.requires.mine c.requires.sort
+    asks e c.args.who.command (Granted (claim_in c.args.task)) is_merge c.requires.mine c.requires.sort
 
 pub renew-renewed-requires-clause-room : goal.renew-renewed-requires-clause-room
 renew-renewed-requires-clause-room g c κs within =
