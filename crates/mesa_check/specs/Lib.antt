@@ -1,3 +1,4 @@
+pub use Rattle.mesa_examine.specs as mesa_examine
 pub mod Held
 pub mod Counted
 pub mod Tested

@@ -1,6 +1,10 @@
 -- The contents of a store after any runs, from an empty one.
-use Rattle.std.proofs.Common.{◌≡◌, ℕ, zero, suc, List, [], ◌∷◌, ◌++◌, refl, sym, subst, arith, append_assoc, append-nil, slice_get, Some}
-use Rattle.mesa_schema.specs.Changes.{rule_checked}
+use Rattle.std.proofs.Common.{◌≡◌, ℕ, ◌-◌, List, [], ◌∷◌, map, cond, refl, true, ◌∙◌, ap, arith}
+use Rattle.std.specs.Prelude.{filter, nat_le}
+use Rattle.std.proofs.lemmas.Bool.Decides.{nat_tests}
+use Rattle.mesa_schema.specs.Changes.{columns_of, epoch_of, lifted, rule_checked}
+use Rattle.mesa_schema.specs.Columns.{aggs_of}
+use Rattle.mesa_schema.specs.Folded.{folded}
 use Rattle.mesa_schema.proofs.Lists.{all_so}
 use Rattle.mesa_schema.proofs.Passing.{passed_first}
 use Rattle.mesa_model.specs.declared.commands.Script.{Script}
@@ -9,74 +13,25 @@ use Rattle.mesa_model.specs.Warehouse.{Store, Table, Warehouse, empty_warehouse,
 use Rattle.mesa_model.specs.Tables.{columns_asked}
 use Rattle.mesa_model.specs.WellFormed.{IsTable, IsWellFormed}
 use Rattle.mesa_history.specs.Found.{Kept, kept_in}
-use Rattle.mesa_history.specs.Law.{Accepted, accepted_by, accepted_in, start_rows}
+use Rattle.mesa_history.specs.Law.{Writing, carried_in, carried_through, writing_by, written_in, written_through}
 use Rattle.mesa_history.specs.Replay.{go, runs}
 use Rattle.mesa_history.specs.Run.{Run, begins}
-use Rattle.mesa_laws.proofs.Kept.{Law}
-use Rattle.mesa_laws.proofs.LawAlters.{law_alters}
+use Rattle.mesa_history.specs.Sources.{Source, Written, rows_now, source_written, sources_to}
+use Rattle.mesa_laws.proofs.FoldLaw.{law_starts, start_early}
+use Rattle.mesa_laws.proofs.Kept.{Law, all_written, first_written, law_late}
 use Rattle.mesa_laws.proofs.LawLoads.{law_loads}
-use Rattle.mesa_laws.proofs.LawTables.{law_expires, law_expires_one, law_makes, law_views}
+use Rattle.mesa_laws.proofs.LawTables.{law_alters, law_expires, law_expires_one, law_makes, law_recasts, law_views}
 use Rattle.mesa_laws.proofs.Lineages.{change_default}
 use Rattle.mesa_laws.proofs.Moves.{Moves}
+use Rattle.mesa_laws.proofs.Recasts.{recast_rules, recast_there}
 use Rattle.mesa_laws.proofs.Turns.{go_moves}
 use Rattle.mesa_laws.proofs.WellFormed.{empty_well, go_well, runs_well, table_kept, table_there}
-use Rattle.mesa_ending.specs.Life.{LifeLaw, Stretch, accepted_over, kept_after, kept_at_first, kept_next, warehouse_of}
+use Rattle.mesa_ending.specs.Life.{LifeLaw, Stretch, kept_after, kept_at_first, kept_next, warehouse_of, written_over}
 use Rattle.mesa_ending.specs.Start.{state_of}
 
--- what the law says of a warehouse that an empty store became
-abbrev Holds : List Accepted → Store → ℕ → Type 0
-Holds batches s next = Law empty_warehouse batches s next
+-- ---- what a store keeps of a run
 
-none_there : (number : ℕ) (t : Table) → slice_get [] number ≡ Some t → ⊥
-none_there zero t is = cc is
-none_there (suc number) t is = cc is
-
-nothing_first : (number : ℕ) (t : Table) → start_rows empty_warehouse.store number t 0 ≡ []
-nothing_first zero t = refl
-nothing_first (suc number) t = refl
-
-holds_first : Holds [] empty_warehouse.store 0
-holds_first = record {
-  tables = λ number t at. absurd (none_there number t at);
-  more = omega arith;
-  grows = omega arith;
-  batches = tt;
-}
-
--- ---- a turn
-
-module _ (w : Warehouse) (is : IsWellFormed w) (batches : List Accepted) (law : Holds batches w.store w.next) where
-  -- with no batch more
-  no_more : (s : Store) (next : ℕ) → Holds batches s next → Holds (batches ++ []) s next
-  no_more s next kept = subst (λ (past : List Accepted). Holds past s next) (sym (append-nil batches)) kept
-
-  law_moves : Moves w (λ s next more. Holds (batches ++ more) s next)
-  law_moves = record {
-    same = no_more w.store w.next law;
-    loads = λ words batch read. law_loads empty_warehouse w batches law (table_kept w is) (λ number t none. nothing_first number t) words batch read;
-    makes = λ words free schema. no_more _ w.next (law_makes empty_warehouse batches w law words.table (columns_asked words));
-    views = λ words number free at rules. no_more _ w.next (law_views empty_warehouse batches w.store w.next number (table_at w.store number) words law (table_there w.store words.table number at));
-    alters = λ words number c at asked rules.
-        let t : Table = table_at w.store number in
-        no_more _ w.next (law_alters empty_warehouse batches w.store w.next number t c law (table_there w.store words.table number at) (change_default t.lineage words.change c asked (passed_first (rule_checked t.lineage c) _ rules).0));
-    expires = λ version ok. no_more _ w.next (law_expires empty_warehouse batches w.store w.next version law);
-    expires_one = λ name number version at ok. no_more _ w.next (law_expires_one empty_warehouse batches w.store w.next number version (table_at w.store number) law (table_there w.store name number at));
-  }
-
--- ---- a run
-
-run_holds : (script : Script) (r : Run) (h : List Entry) (batches : List Accepted) → IsWellFormed r.state.warehouse → Holds batches r.state.warehouse.store r.state.warehouse.next
-    → Holds (batches ++ accepted_in script r h) (runs script r h).state.warehouse.store (runs script r h).state.warehouse.next
-unfolding runs accepted_in
-run_holds script r [] batches is law = subst (λ (past : List Accepted). Holds past r.state.warehouse.store r.state.warehouse.next) (sym (append-nil batches)) law
-run_holds script r (e ∷ h) batches is law =
-    let next : Run = go script r e in
-    let more : List Accepted = accepted_by script r e in
-    let kept : Holds (batches ++ more) next.state.warehouse.store next.state.warehouse.next = go_moves script r e (λ s n past. Holds (batches ++ past) s n) (law_moves r.state.warehouse is batches law) in
-    subst (λ (past : List Accepted). Holds past (runs script next h).state.warehouse.store (runs script next h).state.warehouse.next) (append_assoc batches more (accepted_in script next h))
-    (run_holds script next h (batches ++ more) (go_well script r e is) kept)
-
--- what a store keeps of a warehouse is well formed as it was
+-- a warehouse of it is well formed as it was
 kept_well : (r : Run) → IsWellFormed r.state.warehouse → IsWellFormed (warehouse_of (kept_in r))
 unfolding kept_in
 kept_well r is = record {
@@ -85,23 +40,78 @@ kept_well r is = record {
   floor = is.floor;
 }
 
-kept_holds : (r : Run) (batches : List Accepted) → Holds batches r.state.warehouse.store r.state.warehouse.next → Holds batches (kept_in r).store (kept_in r).next
+kept_law : (r : Run) (early : ℕ → ℕ → Source) (later : ℕ → List Written) → Law empty_warehouse early later r.state.warehouse.store r.state.warehouse.next → Law empty_warehouse early later (kept_in r).store (kept_in r).next
 unfolding kept_in
-kept_holds r batches law = law
+kept_law r early later law = law
+
+-- ---- a turn
+
+abbrev early_by : Store → Writing → (ℕ → ℕ → Source) → ℕ → ℕ → Source
+early_by s x early number version = carried_through s x number (early number version)
+
+abbrev later_by : Store → Writing → (ℕ → List Written) → ℕ → List Written
+later_by s x later number = written_through s x number (later number)
+
+module _ (w : Warehouse) (is : IsWellFormed w) (early : ℕ → ℕ → Source) (later : ℕ → List Written) (law : Law empty_warehouse early later w.store w.next) where
+  -- every turn keeps the law, of what is carried through it
+  law_moves : Moves w (λ s next x. Law empty_warehouse (early_by w.store x early) (later_by w.store x later) s next)
+  law_moves = record {
+    same = law;
+    loads = λ words batch read. law_loads empty_warehouse early later w law (table_kept w is) words batch read;
+    makes = λ words free schema. law_makes empty_warehouse early later w law words.table (columns_asked words);
+    views = λ words number free at rules. law_views empty_warehouse early later w.store w.next law number (table_at w.store number) words (table_there w.store words.table number at);
+    alters = λ words number c at asked rules.
+        let t : Table = table_at w.store number in
+        law_alters empty_warehouse early later w.store w.next law number t c (table_there w.store words.table number at) (change_default t.lineage words.change c asked (passed_first (rule_checked t.lineage c) _ rules).0);
+    expires = λ version ok. law_expires empty_warehouse early later w.store w.next law version;
+    expires_one = λ name number version at ok. law_expires_one empty_warehouse early later w.store w.next law number version (table_at w.store number) (table_there w.store name number at);
+    recasts = λ number r rules. law_recasts empty_warehouse early later w law number r (recast_there w.store number r rules) (recast_rules (table_at w.store number).lineage r rules);
+  }
+
+-- ---- a run
+
+run_holds : (script : Script) (r : Run) (h : List Entry) (early : ℕ → ℕ → Source) (later : ℕ → List Written) → IsWellFormed r.state.warehouse → Law empty_warehouse early later r.state.warehouse.store r.state.warehouse.next
+    → Law empty_warehouse (λ number version. carried_in script r h number (early number version)) (λ number. written_in script r h number (later number)) (runs script r h).state.warehouse.store (runs script r h).state.warehouse.next
+unfolding runs carried_in written_in
+run_holds script r [] early later is law = law
+run_holds script r (e ∷ h) early later is law =
+    let s : Store = r.state.warehouse.store in
+    run_holds script (go script r e) h (early_by s (writing_by script r e) early) (later_by s (writing_by script r e) later) (go_well script r e is)
+    (go_moves script r e (λ store next x. Law empty_warehouse (early_by s x early) (later_by s x later) store next) (law_moves r.state.warehouse is early later law))
 
 -- ---- a life
 
-life_holds : (life : List Stretch) (kept : Kept) (batches : List Accepted) → IsWellFormed (warehouse_of kept) → Holds batches kept.store kept.next
-    → Holds (batches ++ accepted_over kept life) (kept_after kept life).store (kept_after kept life).next
-unfolding kept_after accepted_over
-life_holds [] kept batches is law = subst (λ (past : List Accepted). Holds past kept.store kept.next) (sym (append-nil batches)) law
-life_holds (s ∷ rest) kept batches is law =
+early_over : Kept → List Stretch → (ℕ → ℕ → Source) → ℕ → ℕ → Source
+early_over kept [] early = early
+early_over kept (s ∷ rest) early = early_over (kept_next kept s) rest (λ number version. carried_in s.script (begins (state_of s.script kept)) s.turns number (early number version))
+
+life_holds : (life : List Stretch) (kept : Kept) (early : ℕ → ℕ → Source) (later : ℕ → List Written) → IsWellFormed (warehouse_of kept) → Law empty_warehouse early later kept.store kept.next
+    → Law empty_warehouse (early_over kept life early) (λ number. written_over kept life number (later number)) (kept_after kept life).store (kept_after kept life).next
+unfolding kept_after early_over written_over
+life_holds [] kept early later is law = law
+life_holds (s ∷ rest) kept early later is law =
     let r : Run = begins (state_of s.script kept) in
     let behind : Run = runs s.script r s.turns in
-    let more : List Accepted = accepted_in s.script r s.turns in
-    subst (λ (past : List Accepted). Holds past (kept_after (kept_next kept s) rest).store (kept_after (kept_next kept s) rest).next) (append_assoc batches more (accepted_over (kept_next kept s) rest))
-    (life_holds rest (kept_next kept s) (batches ++ more) (kept_well behind (runs_well s.script r s.turns is)) (kept_holds behind (batches ++ more) (run_holds s.script r s.turns batches is law)))
+    let carried : ℕ → ℕ → Source = (λ number version. carried_in s.script r s.turns number (early number version)) in
+    let written : ℕ → List Written = (λ number. written_in s.script r s.turns number (later number)) in
+    life_holds rest (kept_next kept s) carried written (kept_well behind (runs_well s.script r s.turns is)) (kept_law behind carried written (run_holds s.script r s.turns early later is law))
+
+-- what was written up to a version, from the first on
+from_first : (version : ℕ) (x : Written) (written : List Written) → nat_le x.version version ≡ true → sources_to version (x ∷ written) ≡ x.source ∷ sources_to version written
+from_first version x written below =
+    let rest : List Written = filter (λ (w : Written). nat_le w.version version) written in
+    ap (λ b. map source_written (cond b (x ∷ rest) rest)) below
 
 -- Each content is the fold of all batches that were accepted through its version.
 pub life_law : LifeLaw
-life_law life number t version at le lt = ((life_holds life kept_at_first [] empty_well holds_first).tables number t at).contents version le lt
+life_law life number t version at le lt =
+    let first : ℕ → ℕ → Source = start_early empty_warehouse empty_well in
+    let early : ℕ → ℕ → Source = early_over kept_at_first life first in
+    let later : List Written = written_over kept_at_first life number [] in
+    let law : Law empty_warehouse early (λ n. written_over kept_at_first life n []) (kept_after kept_at_first life).store (kept_after kept_at_first life).next = life_holds life kept_at_first first (λ n. []) empty_well (law_starts empty_warehouse empty_well) in
+    let start : Source = early number (0 - 1) in
+    let below : nat_le 0 version ≡ true = grind (arith, nat_tests) in
+    (law.tables number t at).contents version le lt
+    ∙ law_late empty_warehouse t (early number) (all_written empty_warehouse (early number) later) version (omega arith)
+    ∙ ap (λ sources. folded (aggs_of (columns_of t.lineage)) (map (rows_now t.lineage) sources)) (from_first version (first_written empty_warehouse (early number)) later below)
+    ∙ (λ i. folded (aggs_of (columns_of t.lineage)) (map (lifted t.lineage start.epoch (epoch_of t.lineage)) (law.nothing refl number (0 - 1) i) ∷ map (rows_now t.lineage) (sources_to version later)))

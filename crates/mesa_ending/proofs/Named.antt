@@ -10,6 +10,7 @@ use Rattle.mesa_schema.specs.declared.columns.ValueColumn.{ValueColumn}
 use Rattle.mesa_schema.specs.Columns.{Columns, place_of, value_names}
 use Rattle.mesa_schema.specs.Changes.{changed, columns_after, columns_of}
 use Rattle.mesa_schema.proofs.Lists.{all_append, all_at, all_drop, all_map, all_set, all_so}
+use Rattle.mesa_schema.specs.Recasts.{recast_values}
 use Rattle.mesa_schema.proofs.PresentRows.{columns_more}
 use Rattle.mesa_model.specs.declared.commands.Script.{Script}
 use Rattle.mesa_skeleton.specs.Rows.{Rows}
@@ -19,7 +20,7 @@ use Rattle.mesa_record.specs.declared.record.Part.{Part}
 use Rattle.mesa_record.specs.declared.checkpoint.StatedTable.{StatedTable}
 use Rattle.mesa_record.specs.declared.checkpoint.Checkpoint.{Checkpoint}
 use Rattle.mesa_record.specs.Rules.{IsNamed, IsTyped, IsTypedChange, IsTypedCheckpoint, IsTypedTable}
-use Rattle.mesa_image.specs.Catalog.{Catalog, Delta, Stock, applied, new_stock, no_stock, part_of, stock_at, stock_changed, stock_from, stock_loaded, stock_swapped, stocks_loaded, merged_delta}
+use Rattle.mesa_image.specs.Catalog.{Catalog, Delta, Stock, applied, new_stock, no_stock, part_of, stock_at, stock_changed, stock_from, stock_loaded, stock_recast, stock_swapped, stocks_loaded, merged_delta, recast_in}
 use Rattle.mesa_image.specs.Contents.{kept_of, table_of}
 use Rattle.mesa_image.specs.Checkpoint.{stated, stock_stated}
 use Rattle.mesa_image.specs.Journaled.{catalog}
@@ -27,6 +28,7 @@ use Rattle.mesa_opening.proofs.mesa_image_laws.Wholes.{whole}
 use Rattle.mesa_excerpt.specs.Excerpt.{ArePlainColumns, HasPlainNames, IsPlainColumn, IsPlainTable}
 use Rattle.mesa_excerpt.specs.Lines.{IsUnbroken}
 use Rattle.mesa_excerpt.proofs.Breaks.{name_unbroken}
+use Rattle.mesa_excerpt.proofs.Names.{chosen_plain}
 use Rattle.mesa_ending.specs.Start.{start_of}
 
 -- a table's name has no line break, nor has a name of its value columns
@@ -80,6 +82,10 @@ applied_plain c (record_of.Swap table base from to epoch files) is typed =
 applied_plain c (record_of.Expire version) is typed = all_map IsPlainStock (stock_from version) c.tables (all_so IsPlainStock (λ t. IsPlainStock (stock_from version t)) c.tables (λ t its. its) is)
 applied_plain c (record_of.Checkpoint k) is typed = is
 applied_plain c (record_of.ExpireTable table version) is typed = all_set IsPlainStock c.tables table (stock_from version (stock_at c table)) (stock_plain c table is) is
+applied_plain c (record_of.Recast k) is typed =
+    let t : Stock = stock_at c k.table in
+    let old = stock_plain c k.table is in
+    all_set IsPlainStock c.tables k.table (stock_recast c.next t k) (old.0, chosen_plain IsPlainColumn (recast_values (columns_of t.lineage) (recast_in k)) (columns_of t.lineage).values old.1) is
 
 -- ---- a checkpoint's tables
 

@@ -4,7 +4,6 @@ use Rattle.std.specs.List.{AllByRecursion}
 use Rattle.mesa_disk.specs.Image.{Image}
 use Rattle.mesa_model.specs.declared.commands.Script.{Script}
 use Rattle.mesa_model.specs.declared.entries.Entry.{Entry}
-use Rattle.mesa_model.specs.Warehouse.{empty_warehouse}
 use Rattle.mesa_history.specs.Found.{Kept}
 use Rattle.mesa_history.specs.Law.{HoldsIn}
 use Rattle.mesa_words.specs.declared.forms.Form.{Form}
@@ -13,7 +12,7 @@ use Rattle.mesa_ending.specs.Ports.{Ports}
 use Rattle.mesa_ending.specs.Start.{state_of}
 use Rattle.mesa_ending.specs.Completing.{AsksFor}
 use Rattle.mesa_ending.specs.Ending.{Ends}
-use Rattle.mesa_ending.specs.Life.{Stretch, accepted_over, kept_after, kept_at_first, warehouse_of}
+use Rattle.mesa_ending.specs.Life.{Stretch, kept_after, kept_at_first, life_content, warehouse_of}
 use Rattle.mesa_ending.specs.Next.{GoesOnAtRest, IsSoundWith}
 use Rattle.mesa_ending.specs.declared.done.Devices.{Devices}
 use Rattle.mesa_ending.specs.declared.done.Done.{Done}
@@ -71,12 +70,12 @@ module _ {K D M B : Type 0} (ports : Ports K D M B) where
       ((call.done.history.items ≡ []) × AreRunsOf calls life)
       ⊎ ((s : Stretch) × (more : List Stretch) × (life ≡ s ∷ more) × IsStretch call s × AreRunsOf calls more)
 
-  -- What a store has come to after calls: it is sound, and keeps what the runs of its life come to; so each content at a version that can be queried is the fold of all batches that these accepted through it.
+  -- What a store has come to after calls: it is sound, and keeps what the runs of its life come to; so each content at a version that can be queried is the fold of all batches that these accepted through it, each carried to the present.
   pub record HasLived (calls : List (Call K D B)) (disk : D) : Type 0 where
     pub life : List Stretch
     pub runs : AreRunsOf calls life
     pub sound : IsSoundWith ports.bytes (ports.story disk) (kept_after kept_at_first life)
-    pub holds : HoldsIn empty_warehouse (accepted_over kept_at_first life) (warehouse_of (kept_after kept_at_first life))
+    pub holds : HoldsIn (life_content life) (warehouse_of (kept_after kept_at_first life))
 
   -- A life of calls and crashes that begins with an empty store is such a list of runs.
   abbrev pub LivesLaw : Type 0

@@ -61,7 +61,8 @@ pub fn calls_leave_sound_stores<M: Made, D: Disk<M>, K, B>()
 {}
 
 /// From an empty store, after any runs and whatever crashes came between them, each content at a version that
-/// can be queried is the fold of all batches that were accepted through it.
+/// can be queried is the fold of all batches that were accepted through it, each carried to the present: lifted
+/// through the changes of its table's schema, and grouped by its recasts.
 pub fn contents_are_folds_of_all_batches()
     ensures { LifeLaw }
 {}

@@ -1,6 +1,6 @@
 -- A store on which a run has begun is one that a vault starts from.
-use Rattle.std.proofs.Common.{◌≡◌, inl, ℕ, ◌+◌, ◌*◌, ◌<◌, ◌≤◌, List, [], ◌∷◌, map, Bool, true, false, IsTrue, refl, sym, ◌∙◌, ap, subst, arith, Option}
-use Rattle.std.proofs.lemmas.List.{append-nil, length-map}
+use Rattle.std.proofs.Common.{◌≡◌, inl, ℕ, ◌+◌, ◌*◌, ◌<◌, ◌≤◌, List, [], ◌∷◌, map, Bool, true, false, IsTrue, refl, sym, ◌∙◌, ap, arith, Option}
+use Rattle.std.proofs.lemmas.List.{length-map}
 use Rattle.mesa_disk.specs.Image.{Image}
 use Rattle.mesa_disk.specs.Story.{Story}
 use Rattle.mesa_disk.specs.declared.area.Area.{Area}
@@ -16,11 +16,10 @@ use Rattle.mesa_skeleton.specs.Rows.{Rows}
 use Rattle.mesa_trash.specs.Filed.{AreFresh}
 use Rattle.mesa_trash.specs.Holding.{Among}
 use Rattle.mesa_walk.specs.Books.{AreBooksOf}
-use Rattle.mesa_image.specs.Catalog.{Stock, Catalog, ranges_of, stock_at}
+use Rattle.mesa_image.specs.Catalog.{Stock, Catalog, ranges_of}
 use Rattle.mesa_image.specs.Contents.{kept_of, table_of}
 use Rattle.mesa_image.specs.Sound.{StandsFor}
 use Rattle.mesa_image_laws.specs.Ids.{named}
-use Rattle.mesa_image_laws.specs.Sourced.{HasSources, Written, all_written, found_written}
 use Rattle.mesa_image_laws.proofs.AllSourced.{all_found}
 use Rattle.mesa_ledger.specs.Ledger.{books_of, first_id, skeleton_of}
 use Rattle.mesa_ledger.specs.Vault.{IsReady, Starts}
@@ -29,8 +28,8 @@ use Rattle.mesa_sessions.specs.mesa_engine.Beginning.{IsBegun}
 use Rattle.mesa_sessions.specs.mesa_engine.Engine.{most_turns, starts_of}
 use Rattle.mesa_catalog.specs.declared.begun.Begun.{Begun}
 use Rattle.mesa_passes.specs.Passes.{turns_of}
-use Rattle.mesa_ending.specs.Scripts.{IsSmall, commands_in}
-use Rattle.mesa_ending.specs.Start.{start_of}
+use Rattle.mesa_telling.specs.mesa_ending.Scripts.{IsSmall, commands_in}
+use Rattle.mesa_telling.specs.mesa_ending.Start.{start_of}
 use Rattle.mesa_shell.specs.Begun.{IsReadyToRun, IsSoundBegun}
 use Rattle.mesa_shell.specs.Start.{origin_of}
 
@@ -71,9 +70,6 @@ found_first script c w t x stands = record {
   how = inl (record { past = []; rest = []; split = refl; later = tt; same = refl });
 }
 
-sourced : (c : Catalog) (w : Rows) → HasSources w (λ number. found_written w (stock_at c number)) c → HasSources w (all_written (origin_of c w).found []) c
-sourced c w has = subst (λ (f : ℕ → List Written). HasSources w f c) (λ i number. sym (append-nil (found_written w (stock_at c number))) i) has
-
 module _ {D : Type 0} (story : D → Story) (b : Begun D) (ready : IsReadyToRun story b) where
   abbrev c : Catalog
   c = b.catalog.catalogue
@@ -101,6 +97,8 @@ module _ {D : Type 0} (story : D → Story) (b : Begun D) (ready : IsReadyToRun 
       run = refl;
       shaped = ready.shaped;
       own = ready.own;
+      columns = ready.columns;
+      recordable = ready.recordable;
       named_given = given;
       ready = is_ready script.lease;
       since = ready.since;
@@ -123,6 +121,8 @@ module _ {D : Type 0} (story : D → Story) (b : Begun D) (ready : IsReadyToRun 
       run = refl;
       shaped = ready.shaped;
       own = ready.own;
+      columns = ready.columns;
+      recordable = ready.recordable;
       named_given = given;
       ready = is_ready script.lease;
       since = ready.since;
@@ -132,7 +132,7 @@ module _ {D : Type 0} (story : D → Story) (b : Begun D) (ready : IsReadyToRun 
       found = λ is below t x from to left. found_first script c w t x (s.found below t x from to left);
       stocked = λ is. s.held.1.stocked;
       read = λ is. s.read;
-      sourced = λ is. sourced c w (all_found w c ready.shaped s.held.1.stocked);
+      sourced = λ is. all_found w c ready.shaped s.held.1.stocked;
     }
 
     -- on every store, and with the rows of a sound one

@@ -1,5 +1,5 @@
 -- How a call ends that digests a relation, from the opening's clauses and those of the look-up.
-use Rattle.std.proofs.Common.{◌≡◌, ◌⊎◌, inl, inr, ℕ, List, refl, sym, ◌∙◌, subst}
+use Rattle.std.proofs.Common.{◌≡◌, ◌⊎◌, inl, inr, ℕ, List, refl, sym, subst}
 use Rattle.mesa_fault.specs.Causes.{Rose}
 use Rattle.mesa_disk.specs.Story.{Story, Unmoved}
 use Rattle.mesa_disk.specs.declared.area.Area.{Area}
@@ -9,17 +9,16 @@ use Rattle.mesa_look.specs.declared.error.LookError.{LookError}
 use Rattle.mesa_look.specs.declared.error.LookError.TheVariants as look
 use Rattle.mesa_look.specs.Looked.{IsDigestOf}
 use Rattle.mesa_image.specs.Catalog.{Catalog}
-use Rattle.mesa_skeleton.specs.Rows.{Rows}
-use Rattle.mesa_ending.specs.mesa_opening.declared.error.OpenError.{OpenError}
-use Rattle.mesa_ending.specs.mesa_opening.declared.error.OpenError.TheVariants as open_error
-use Rattle.mesa_ending.specs.mesa_opening.Opening.{HasReason, IsRead, IsSoundStart, ReadsAs}
-use Rattle.mesa_ending.specs.Ports.{Ports}
-use Rattle.mesa_ending.specs.Exits.{answered_status, digest_line, no_table_line, no_version_line, open_line, open_status, refused_status}
-use Rattle.mesa_ending.specs.Ending.{Ended, EndsDigest, EndsNamed}
-use Rattle.mesa_ending.specs.Unopened.{HasSameCounts, IsUnread}
-use Rattle.mesa_ending.specs.declared.done.Devices.{Devices}
-use Rattle.mesa_ending.specs.declared.done.Done.{Done}
-use Rattle.mesa_ending.proofs.Unmoved.{read_before, reason_before, sound_after}
+use Rattle.mesa_telling.specs.mesa_ending.mesa_opening.declared.error.OpenError.{OpenError}
+use Rattle.mesa_telling.specs.mesa_ending.mesa_opening.declared.error.OpenError.TheVariants as open_error
+use Rattle.mesa_telling.specs.mesa_ending.mesa_opening.Opening.{HasReason, IsRead}
+use Rattle.mesa_telling.specs.mesa_ending.Ports.{Ports}
+use Rattle.mesa_telling.specs.mesa_ending.Exits.{answered_status, digest_line, no_table_line, no_version_line, open_line, open_status, refused_status}
+use Rattle.mesa_telling.specs.mesa_ending.Ending.{Ended, EndsDigest, EndsNamed}
+use Rattle.mesa_telling.specs.mesa_ending.Unopened.{HasSameCounts, IsUnread}
+use Rattle.mesa_telling.specs.mesa_ending.declared.done.Devices.{Devices}
+use Rattle.mesa_telling.specs.mesa_ending.declared.done.Done.{Done}
+use Rattle.mesa_telling.proofs.mesa_ending.Unmoved.{read_before, sound_after}
 use Rattle.mesa_shell.proofs.Verdicts.{counts_there, fault_there, nothing_moved}
 
 module _ {K D M B : Type 0} (ports : Ports K D M B) (g : Devices K D B) (done : Done K D B) (name : List ℕ) where

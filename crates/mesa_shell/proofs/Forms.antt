@@ -5,16 +5,16 @@ use Rattle.mesa_words.specs.declared.forms.Form.TheVariants as form
 use Rattle.mesa_model.specs.declared.commands.Script.{Script}
 use Rattle.mesa_skeleton.specs.Rows.{Rows}
 use Rattle.mesa_image.specs.Catalog.{Catalog}
-use Rattle.mesa_ending.specs.mesa_opening.Opening.{IsSoundStart}
-use Rattle.mesa_ending.specs.Ports.{Ports}
-use Rattle.mesa_ending.specs.Completing.{AsksFor, Completes, Decides, HasRoomToRun, IsUndamaged, NoneRose, NothingFailed}
-use Rattle.mesa_ending.specs.Ending.{Ends, EndsForm}
-use Rattle.mesa_ending.specs.Statuses.{Tells}
-use Rattle.mesa_ending.specs.declared.done.Devices.{Devices}
-use Rattle.mesa_ending.specs.declared.done.Done.{Done}
-use Rattle.mesa_ending.proofs.Checked.{decides, looks}
-use Rattle.mesa_ending.proofs.Completing.{completes}
-use Rattle.mesa_ending.proofs.Telling.{all_tells}
+use Rattle.mesa_telling.specs.mesa_ending.mesa_opening.Opening.{IsSoundStart}
+use Rattle.mesa_telling.specs.mesa_ending.Ports.{Ports}
+use Rattle.mesa_telling.specs.mesa_ending.Completing.{AsksFor, Completes, Decides, HasRoomToRun, IsUndamaged, NoneRose, NothingFailed}
+use Rattle.mesa_telling.specs.mesa_ending.Ending.{Ends, EndsForm}
+use Rattle.mesa_telling.specs.mesa_ending.Statuses.{Tells}
+use Rattle.mesa_telling.specs.mesa_ending.declared.done.Devices.{Devices}
+use Rattle.mesa_telling.specs.mesa_ending.declared.done.Done.{Done}
+use Rattle.mesa_telling.proofs.mesa_ending.Checked.{decides, looks}
+use Rattle.mesa_telling.proofs.mesa_ending.Completing.{completes}
+use Rattle.mesa_telling.proofs.mesa_ending.Telling.{all_tells}
 
 module _ {K D M B : Type 0} (ports : Ports K D M B) (given : Devices K D B) (done : Done K D B) (asked : Option Form) (input : Option (List ℕ)) (before now : ℕ) where
   -- how it ends, what its status tells, and what it comes to where nothing failed

@@ -9,11 +9,11 @@ use Rattle.mesa_skeleton.specs.Rows.{Rows}
 use Rattle.mesa_catalog.specs.declared.begun.Begun.{Begun}
 use Rattle.mesa_walk.specs.Walk.{AllFound}
 use Rattle.mesa_ledger.specs.Vault.{IsRead}
-use Rattle.mesa_ending.specs.Counting.{HasBenchCounts}
-use Rattle.mesa_ending.specs.Ports.{Ports}
-use Rattle.mesa_ending.specs.Run.{RanAnyhow, RanSoundly, outset_from}
-use Rattle.mesa_ending.specs.Start.{start_of}
-use Rattle.mesa_ending.specs.declared.done.Devices.{Devices}
+use Rattle.mesa_telling.specs.mesa_ending.Counting.{HasBenchCounts}
+use Rattle.mesa_telling.specs.mesa_ending.Ports.{Ports}
+use Rattle.mesa_telling.specs.mesa_ending.Run.{RanAnyhow, RanSoundly, outset_from}
+use Rattle.mesa_telling.specs.mesa_ending.Start.{start_of}
+use Rattle.mesa_telling.specs.mesa_ending.declared.done.Devices.{Devices}
 use Rattle.mesa_shell.specs.Begun.{IsSoundBegun}
 use Rattle.mesa_shell.specs.Ran.{HasNotRun, RanFrom}
 use Rattle.mesa_shell.specs.declared.running.Left.{Left}

@@ -9,18 +9,21 @@ use Rattle.mesa_trash.specs.Filed.{FilesAdopted}
 use Rattle.mesa_skeleton.specs.Rows.{Rows}
 use Rattle.mesa_image.specs.Catalog.{Catalog, applied}
 use Rattle.mesa_image.specs.Shape.{IsCatalog}
+use Rattle.mesa_image.specs.Fitting.{max_runs}
+use Rattle.mesa_image_laws.specs.Countable.{AreCounted}
 use Rattle.mesa_image_laws.specs.Ids.{HasOwnIds, named}
+use Rattle.mesa_image_laws.specs.Recordable.{AreRecordable}
 use Rattle.mesa_image_laws.proofs.Wholes.{catalog_whole}
-use Rattle.mesa_ending.specs.mesa_opening.declared.error.OpenError.{OpenError}
-use Rattle.mesa_ending.specs.mesa_opening.declared.error.OpenError.TheVariants as open_error
-use Rattle.mesa_ending.specs.mesa_opening.Opening.{HasReason, IsHeldAs, IsSoundStart, Keeps, first_id, most_runs, run_record}
-use Rattle.mesa_ending.proofs.mesa_opening.Beginnings.{runs_few}
+use Rattle.mesa_telling.specs.mesa_ending.mesa_opening.declared.error.OpenError.{OpenError}
+use Rattle.mesa_telling.specs.mesa_ending.mesa_opening.declared.error.OpenError.TheVariants as open_error
+use Rattle.mesa_telling.specs.mesa_ending.mesa_opening.Opening.{HasReason, IsHeldAs, IsSoundStart, Keeps, first_id, most_runs, run_record}
+use Rattle.mesa_telling.proofs.mesa_ending.mesa_opening.Beginnings.{runs_few}
 use Rattle.mesa_ledger.specs.Vault.{IsRead}
 use Rattle.mesa_catalog.specs.declared.begun.Begun.{Begun}
 use Rattle.mesa_recover.specs.declared.opened.Opened.{Opened}
 use Rattle.mesa_recover.specs.Opened.{IsOpened}
-use Rattle.mesa_ending.specs.Unopened.{HasSameCounts, IsUnopened}
-use Rattle.mesa_ending.proofs.Unmoved.{keeps_before, keeps_unmoved, read_before, reason_before, sound_after}
+use Rattle.mesa_telling.specs.mesa_ending.Unopened.{HasSameCounts, IsUnopened}
+use Rattle.mesa_telling.proofs.mesa_ending.Unmoved.{keeps_before, keeps_unmoved, read_before, reason_before, sound_after}
 use Rattle.mesa_shell.specs.Begun.{HasBegun}
 
 run_shaped : (c : Catalog) (number : ℕ) → IsCatalog c → IsCatalog (applied c (run_record number))
@@ -28,6 +31,9 @@ run_shaped c number is = record { tables = is.tables; names = is.names; floor = 
 
 run_owns : (c : Catalog) (number : ℕ) → c.run ≤ number → HasOwnIds c → HasOwnIds (applied c (run_record number))
 run_owns c number le own = record { once = own.once; runs = λ id some. let most = own.runs id some in omega (arith, most, le) }
+
+run_counted : (c : Catalog) (number : ℕ) → number ≤ max_runs → AreCounted c → AreCounted (applied c (run_record number))
+run_counted c number few is = record { tables = is.tables; run = few }
 
 module _ {D : Type 0} (story : D → Story) (old : Story) (o : Opened D) (is : IsOpened (story o.disk) o) (still : Unmoved old (story o.disk))
     (faults : (story o.disk).faults ≡ old.faults) (reads : (story o.disk).read_faults ≡ old.read_faults) where
@@ -53,6 +59,8 @@ module _ {D : Type 0} (story : D → Story) (old : Story) (o : Opened D) (is : I
           free = free;
           shaped = subst IsCatalog (sym applies) (run_shaped known b.run whole.shaped);
           own = subst HasOwnIds (sym applies) (run_owns known b.run (omega (arith, run, is.run)) whole.own);
+          columns = subst AreCounted (sym applies) (run_counted known b.run (omega (arith, run, less)) whole.counted);
+          recordable = subst AreRecordable (sym applies) whole.recordable;
           long = long;
           filed = filed;
           since = omega (arith, since, is.now, later);

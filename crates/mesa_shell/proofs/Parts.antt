@@ -16,8 +16,8 @@ use Rattle.mesa_skeleton.proofs.Alike.{go_alike, legal_alike}
 use Rattle.mesa_passes.specs.Answers.{AreTimely, HasCounted, HaveCounted}
 use Rattle.mesa_walk.specs.Printing.{IsPrintedButRows}
 use Rattle.mesa_walk.specs.Walk.{HasCounted as HasCountedFaults}
-use Rattle.mesa_ending.specs.Counting.{HasBenchCounts}
-use Rattle.mesa_ending.specs.Run.{RanAnyhow}
+use Rattle.mesa_telling.specs.mesa_ending.Counting.{HasBenchCounts}
+use Rattle.mesa_telling.specs.mesa_ending.Run.{RanAnyhow}
 use Rattle.mesa_ledger.specs.Vault.{IsRead}
 use Rattle.mesa_sessions.specs.mesa_engine.Ending.{ReadsState}
 

@@ -17,21 +17,21 @@ use Rattle.mesa_image.specs.Catalog.{Catalog}
 use Rattle.mesa_image.specs.Contents.{kept_of}
 use Rattle.mesa_image.specs.Sound.{StandsFor}
 use Rattle.mesa_image_laws.proofs.Wholes.{catalog_whole}
-use Rattle.mesa_ending.specs.mesa_opening.Opening.{IsSoundStart, Keeps}
+use Rattle.mesa_telling.specs.mesa_ending.mesa_opening.Opening.{IsSoundStart, Keeps}
 use Rattle.mesa_catalog.specs.declared.begun.Begun.{Begun}
-use Rattle.mesa_ending.specs.Counting.{HasBenchCounts}
-use Rattle.mesa_ending.specs.Ports.{Ports}
-use Rattle.mesa_ending.specs.Run.{Ran, RanAnyhow, RanSoundly}
-use Rattle.mesa_ending.specs.Start.{AreTold, IsSoundStore, start_of}
-use Rattle.mesa_ending.specs.Unopened.{StaysSound}
-use Rattle.mesa_ending.specs.Ending.{EndsScript}
-use Rattle.mesa_ending.specs.declared.done.Devices.{Devices}
-use Rattle.mesa_ending.specs.declared.done.Done.{Done}
-use Rattle.mesa_ending.proofs.Alike.{kept_begun, start_begun}
-use Rattle.mesa_ending.proofs.Alone.{alone_appends}
-use Rattle.mesa_ending.proofs.Ends.{run_ended}
-use Rattle.mesa_ending.proofs.Readable.{reads_same}
-use Rattle.mesa_ending.proofs.WellFormed.{well_formed_start}
+use Rattle.mesa_telling.specs.mesa_ending.Counting.{HasBenchCounts}
+use Rattle.mesa_telling.specs.mesa_ending.Ports.{Ports}
+use Rattle.mesa_telling.specs.mesa_ending.Run.{Ran, RanAnyhow, RanSoundly}
+use Rattle.mesa_telling.specs.mesa_ending.Start.{AreTold, IsSoundStore, start_of}
+use Rattle.mesa_telling.specs.mesa_ending.Unopened.{StaysSound}
+use Rattle.mesa_telling.specs.mesa_ending.Ending.{EndsScript}
+use Rattle.mesa_telling.specs.mesa_ending.declared.done.Devices.{Devices}
+use Rattle.mesa_telling.specs.mesa_ending.declared.done.Done.{Done}
+use Rattle.mesa_telling.proofs.mesa_ending.Alike.{kept_begun, start_begun}
+use Rattle.mesa_telling.proofs.mesa_ending.Alone.{alone_appends}
+use Rattle.mesa_telling.proofs.mesa_ending.Ends.{run_ended}
+use Rattle.mesa_telling.proofs.mesa_ending.Readable.{reads_same}
+use Rattle.mesa_telling.proofs.mesa_ending.WellFormed.{well_formed_start}
 use Rattle.mesa_shell.specs.Begun.{HasBegun, IsSoundBegun}
 use Rattle.mesa_shell.specs.Ran.{HasNotRun, RanFrom}
 use Rattle.mesa_shell.specs.declared.running.Left.{Left}

@@ -5,19 +5,19 @@ use Rattle.mesa_fault.specs.Causes.{last, Rose}
 use Rattle.mesa_disk.specs.Story.{Story, Unmoved}
 use Rattle.mesa_disk.specs.declared.area.Area.{Area}
 use Rattle.mesa_image.specs.Catalog.{Catalog}
-use Rattle.mesa_ending.specs.mesa_verdict.Faults.{Fault}
-use Rattle.mesa_ending.specs.mesa_verdict.Verdict.{IsFirstFault}
-use Rattle.mesa_ending.specs.mesa_opening.declared.error.OpenError.{OpenError}
-use Rattle.mesa_ending.specs.mesa_opening.declared.error.OpenError.TheVariants as open_error
-use Rattle.mesa_ending.specs.mesa_opening.Opening.{HasReason, IsRead, ReadsAs}
-use Rattle.mesa_ending.proofs.mesa_opening.Firsts.{unmoved_twice}
-use Rattle.mesa_ending.specs.Ports.{Ports}
-use Rattle.mesa_ending.specs.Exits.{open_line, open_status, verdict_line, verdict_status}
-use Rattle.mesa_ending.specs.Ending.{Ended, EndsCheck}
-use Rattle.mesa_ending.specs.Unopened.{HasSameCounts, IsUnread}
-use Rattle.mesa_ending.specs.declared.done.Devices.{Devices}
-use Rattle.mesa_ending.specs.declared.done.Done.{Done}
-use Rattle.mesa_ending.proofs.Unmoved.{read_before, reason_before}
+use Rattle.mesa_telling.specs.mesa_ending.mesa_verdict.Faults.{Fault}
+use Rattle.mesa_telling.specs.mesa_ending.mesa_verdict.Verdict.{IsFirstFault}
+use Rattle.mesa_telling.specs.mesa_ending.mesa_opening.declared.error.OpenError.{OpenError}
+use Rattle.mesa_telling.specs.mesa_ending.mesa_opening.declared.error.OpenError.TheVariants as open_error
+use Rattle.mesa_telling.specs.mesa_ending.mesa_opening.Opening.{HasReason, IsRead, ReadsAs}
+use Rattle.mesa_telling.proofs.mesa_ending.mesa_opening.Firsts.{unmoved_twice}
+use Rattle.mesa_telling.specs.mesa_ending.Ports.{Ports}
+use Rattle.mesa_telling.specs.mesa_ending.Exits.{open_line, open_status, verdict_line, verdict_status}
+use Rattle.mesa_telling.specs.mesa_ending.Ending.{Ended, EndsCheck}
+use Rattle.mesa_telling.specs.mesa_ending.Unopened.{HasSameCounts, IsUnread}
+use Rattle.mesa_telling.specs.mesa_ending.declared.done.Devices.{Devices}
+use Rattle.mesa_telling.specs.mesa_ending.declared.done.Done.{Done}
+use Rattle.mesa_telling.proofs.mesa_ending.Unmoved.{read_before, reason_before}
 
 -- one more than both counts had: one of them rose, or stands at its last value
 pub one_rose : (f r g s : ℕ) → f ≤ g → r ≤ s → (g < last → s < last → f + r + 1 ≤ g + s) → Rose f g ⊎ Rose r s

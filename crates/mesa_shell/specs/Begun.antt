@@ -10,19 +10,23 @@ use Rattle.mesa_image.specs.Catalog.{Catalog, applied}
 use Rattle.mesa_image.specs.Contents.{kept_of}
 use Rattle.mesa_image.specs.Shape.{IsCatalog}
 use Rattle.mesa_image.specs.Sound.{StandsFor}
+use Rattle.mesa_image_laws.specs.Countable.{AreCounted}
 use Rattle.mesa_image_laws.specs.Ids.{HasOwnIds, named}
-use Rattle.mesa_ending.specs.mesa_opening.Opening.{IsHeldAs, IsSoundStart, Keeps, ReadsAs, first_id, most_runs, run_record}
+use Rattle.mesa_image_laws.specs.Recordable.{AreRecordable}
+use Rattle.mesa_telling.specs.mesa_ending.mesa_opening.Opening.{IsHeldAs, IsSoundStart, Keeps, ReadsAs, first_id, most_runs, run_record}
 use Rattle.mesa_ledger.specs.Vault.{IsRead}
 use Rattle.mesa_catalog.specs.declared.begun.Begun.{Begun}
-use Rattle.mesa_ending.specs.Start.{AreTold}
+use Rattle.mesa_telling.specs.mesa_ending.Start.{AreTold}
 
--- What holds on any store on which a run has begun: its catalogue is that of the run, and has the shape and the ids of one; the area in which the journal goes on has room for a body behind its end; the files that are there are those that the catalogue names, and none has an id that the run may give; and the clock isn't before the run's start.
+-- What holds on any store on which a run has begun: its catalogue is that of the run, and has the shape and the ids of one, and what its files are to keep; the area in which the journal goes on has room for a body behind its end; the files that are there are those that the catalogue names, and none has an id that the run may give; and the clock isn't before the run's start.
 pub record IsReadyToRun {D : Type 0} (story : D → Story) (b : Begun D) : Type 0 where
   pub run : b.catalog.catalogue.run ≡ b.run
   pub few : b.run < 2 ^ 24
   pub free : b.catalog.reserved ≡ None
   pub shaped : IsCatalog b.catalog.catalogue
   pub own : HasOwnIds b.catalog.catalogue
+  pub columns : AreCounted b.catalog.catalogue
+  pub recordable : AreRecordable b.catalog.catalogue
   pub long : b.end < (story b.disk).len b.area
   pub filed : FilesAdopted 0 (first_id b.run) (first_id (b.run + 1)) (named b.catalog.catalogue) [] [] (story b.disk).told
   pub since : b.since ≤ (story b.disk).moment

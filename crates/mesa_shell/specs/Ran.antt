@@ -6,14 +6,14 @@ use Rattle.mesa_history.specs.Refused.{some_refused}
 use Rattle.mesa_history.specs.Run.{begins}
 use Rattle.mesa_skeleton.specs.Rows.{Rows}
 use Rattle.mesa_catalog.specs.declared.begun.Begun.{Begun}
-use Rattle.mesa_ending.specs.Counting.{HasBenchCounts}
-use Rattle.mesa_ending.specs.Ports.{Ports}
+use Rattle.mesa_telling.specs.mesa_ending.Counting.{HasBenchCounts}
+use Rattle.mesa_telling.specs.mesa_ending.Ports.{Ports}
 use Rattle.mesa_walk.specs.Walk.{AllFound}
 use Rattle.mesa_ledger.specs.Vault.{IsRead}
-use Rattle.mesa_ending.specs.Run.{RanAnyhow, RanSoundly, outset_from}
-use Rattle.mesa_ending.specs.Start.{start_of}
+use Rattle.mesa_telling.specs.mesa_ending.Run.{RanAnyhow, RanSoundly, outset_from}
+use Rattle.mesa_telling.specs.mesa_ending.Start.{start_of}
 use Rattle.mesa_shell.specs.Begun.{IsSoundBegun}
-use Rattle.mesa_ending.specs.declared.done.Devices.{Devices}
+use Rattle.mesa_telling.specs.mesa_ending.declared.done.Devices.{Devices}
 use Rattle.mesa_shell.specs.declared.running.Left.{Left}
 
 -- A run of a script from the catalogue of a store that was begun: what holds on any store whatever rows its files have, what holds on a sound one, whether the sink failed, and that as many benches come back as were given.

@@ -9,8 +9,7 @@ mod running;
 mod shell;
 mod standard;
 
-pub use mesa_ending::{Devices, Done};
 pub use mesa_sessions::{Gate, OpenGate, Point};
-pub use mesa_telling::statuses;
+pub use mesa_telling::{Devices, Done, statuses};
 pub use shell::{MAX_INPUT, mesa};
 pub use standard::program;

@@ -3,12 +3,12 @@ ghost use Rattle.std.specs.Prelude.{◌≡◌, ◌≢◌, ◌≤◌, ℕ, List, 
 ghost use Rattle.mesa_image.specs.Catalog.{Catalog as AnyCatalog};
 ghost use Rattle.mesa_model.specs.declared.commands.Script.{Script as AnyScript};
 ghost use Rattle.mesa_skeleton.specs.Rows.{Rows};
-ghost use Rattle.mesa_ending.specs.Completing.{AsksFor, Completes, Decides, HasRoomToRun, IsUndamaged, NoneRose, NothingFailed};
-ghost use Rattle.mesa_ending.specs.Ending as spec;
-ghost use Rattle.mesa_ending.specs.Ports.{ports};
-ghost use Rattle.mesa_ending.specs.Scripts.{IsSmall};
-ghost use Rattle.mesa_ending.specs.Statuses.{Tells};
-ghost use Rattle.mesa_ending.specs.mesa_opening.Opening.{IsSoundStart};
+ghost use Rattle.mesa_telling.specs.mesa_ending.Completing.{AsksFor, Completes, Decides, HasRoomToRun, IsUndamaged, NoneRose, NothingFailed};
+ghost use Rattle.mesa_telling.specs.mesa_ending.Ending as spec;
+ghost use Rattle.mesa_telling.specs.mesa_ending.Ports.{ports};
+ghost use Rattle.mesa_telling.specs.mesa_ending.Scripts.{IsSmall};
+ghost use Rattle.mesa_telling.specs.mesa_ending.Statuses.{Tells};
+ghost use Rattle.mesa_telling.specs.mesa_ending.mesa_opening.Opening.{IsSoundStart};
 ghost use Rattle.mesa_words.specs.Forms.{form_of};
 ghost use Rattle.mesa_words.specs.declared.forms.Form.TheVariants as form;
 
@@ -18,13 +18,15 @@ use crate::generating::run_generated;
 use crate::opening::open;
 use crate::running::{Left, run_begun};
 use mesa_disk::{Bench, Disk, Made};
-use mesa_ending::{Devices, Done, scripts_are_small};
 use mesa_io::{ReadError, Sink, Source, read_all};
 use mesa_model::Script;
 use mesa_parse::parse;
 use mesa_script::ScriptError;
 use mesa_sessions::Gate;
-use mesa_telling::{ended, ended_opening, ended_refused, lacks_memory, run_status, statuses};
+use mesa_telling::{
+    Devices, Done, ended, ended_opening, ended_refused, lacks_memory, run_status,
+    scripts_are_small, statuses,
+};
 use mesa_words::{Form, read_form};
 use std::alloc::{AllocError, Global};
 use std::sync::Wait;

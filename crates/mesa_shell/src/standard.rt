@@ -3,10 +3,9 @@ ghost use Rattle.std.specs.Prelude.{◌≡◌, IfOk, length};
 
 use crate::shell::mesa;
 use mesa_dir::{DirBench, DirDisk};
-use mesa_ending::Done;
 use mesa_io::{StdSink, StdSource};
 use mesa_sessions::OpenGate;
-use mesa_telling::statuses;
+use mesa_telling::{Done, statuses};
 use std::alloc::{AllocError, Global};
 use std::env;
 use std::io::ErrorKind;

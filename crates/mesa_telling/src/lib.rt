@@ -9,3 +9,4 @@ mod verdict;
 
 pub use digests::ended_digest;
 pub use ending::{ended, ended_checked, ended_opening, ended_refused, lacks_memory, run_status};
+pub use mesa_ending::{Devices, Done, scripts_are_small};

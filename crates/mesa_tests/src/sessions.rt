@@ -1,5 +1,6 @@
 // Sessions beside each other, and runs that are done again by the plain warehouse.
-mod beside;
+pub mod beside;
 mod held;
 mod long;
+mod recasts;
 pub mod replay;

@@ -8,6 +8,7 @@ mod faults;
 mod formats;
 mod fronts;
 mod older;
+mod recasts;
 mod reopening;
 pub mod shown;
 mod unsound;

@@ -40,22 +40,34 @@ fn next(number: u32) -> u32 {
 }
 
 // Adds the records of a session's step by a number; how many commands they are.
-fn push_step(rt: &impl Abort, script: &mut String, step: u32, number: u32) -> u32 {
+fn push_step(
+    rt: &impl Abort,
+    script: &mut String,
+    all: &[(&str, u32); 16],
+    step: u32,
+    number: u32,
+) -> u32 {
     let place = (number % 16) as usize;
-    let (records, commands) = RECORDS[place];
+    let (records, commands) = all[place];
     let numbers = [number % 23, number % 3, number % 101, step, 1 + step / 16];
     push_filled(rt, script, records, &numbers);
     commands
 }
 
-// A session's commands: 200, or one more where the last are two.
-fn push_session(rt: &impl Abort, script: &mut String, session: u32) {
+/// Adds a session's commands, of these sorts: so many, or one more where the last are two.
+pub fn push_session(
+    rt: &impl Abort,
+    script: &mut String,
+    all: &[(&str, u32); 16],
+    session: u32,
+    commands: u32,
+) {
     let mut number = session;
     let mut count = 0u32;
-    for step in 0..200u32 {
-        if count < 200 {
+    for step in 0..commands {
+        if count < commands {
             number = next(number);
-            count = count.saturating_add(push_step(rt, script, step, number));
+            count = count.saturating_add(push_step(rt, script, all, step, number));
         }
     }
 }
@@ -63,10 +75,10 @@ fn push_session(rt: &impl Abort, script: &mut String, session: u32) {
 // The prologue's commands come behind the tables; each further session has its own.
 fn eight_sessions(rt: &impl Abort, alloc: Global) -> String {
     let mut script = String::from_str(alloc, TABLES).expect(rt, "memory");
-    push_session(rt, &mut script, 0);
+    push_session(rt, &mut script, &RECORDS, 0, 200);
     for session in 1..8u32 {
         script.push_str("session\n").expect(rt, "memory");
-        push_session(rt, &mut script, session);
+        push_session(rt, &mut script, &RECORDS, session, 200);
     }
     script
 }

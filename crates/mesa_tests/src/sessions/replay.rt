@@ -192,7 +192,16 @@ fn expect_block(
     );
 }
 
-// Stops the test where a block is none of a work and no plan.
+// Whether a recast was told that another session's turns came between.
+fn is_interrupted(printed: &[u8]) -> bool {
+    let reply = str::from_utf8(printed).unwrap_or("");
+    let (_head, reply) = reply.split_once(' ').unwrap_or(("", ""));
+    reply.starts_with("busy lease=")
+        || reply.starts_with("refused lost lease=")
+        || reply.starts_with("refused changed epoch=")
+}
+
+// Stops the test where a block is none of a work, of an interrupted recast, and no plan.
 fn expect_work(rt: &impl Abort, printed: &[u8]) {
     let reply = str::from_utf8(printed).unwrap_or("");
     let (_head, reply) = reply.split_once(' ').unwrap_or(("", ""));
@@ -200,6 +209,7 @@ fn expect_work(rt: &impl Abort, printed: &[u8]) {
         || reply.starts_with("idle\n")
         || reply.starts_with("busy lease=")
         || reply.starts_with("refused lost lease=")
+        || reply.starts_with("refused changed epoch=")
         || reply.starts_with("refused no_table\n")
         || reply.starts_with("refused stale asked=")
         || reply.starts_with("refused future asked=")
@@ -224,7 +234,7 @@ fn expect_blocks(
     'commands: for block in blocks {
         let command = command_of(script, block).expect(rt, "a command");
         let printed = all.get(block.from..block.to).expect(rt, "a text");
-        if is_done(command) {
+        if is_done(command) && !is_interrupted(printed) {
             assert!(rt; done < u32::MAX, "too many commands");
             expect_block(rt, alloc, warehouse, done, block, command, printed, text);
             done += 1;
@@ -242,6 +252,7 @@ fn is_kept(command: &Command) -> bool {
             | Command::View(_)
             | Command::Alter(_)
             | Command::Load(_)
+            | Command::Recast(_)
             | Command::Expire { .. }
     )
 }
@@ -269,7 +280,8 @@ fn script_of(rt: &impl Abort, alloc: Global, script: &str) -> Script {
 }
 
 /// Stops the test where the plain warehouse, given a script's commands in the order of the printed positions,
-/// prints another block than the run did. Of a work and of an explain it is tested that it is one of their replies.
+/// prints another block than the run did. Of a work, of an explain
+/// and of a recast that others came between it is tested that it is one of their replies.
 pub fn expect_replayed(rt: &impl Abort, alloc: Global, script: &str, printed: &[u8]) {
     expect_replayed_behind(rt, alloc, "", script, printed);
 }

@@ -19,7 +19,7 @@ use std::thread::Threads;
 pub const RUNS: u32 = 6_554;
 
 // What the next run leaves in area 1: the checkpoint of the number 1, and the run's record behind it.
-const AREA_1: &str = "01000000130d000000010000199a000000000000000000000100000005010000199b00";
+const AREA_1: &str = "01000000130f000000010000199a000000000000000000000100000005010000199b00";
 
 /// Adds the records of so many runs behind this one, and a gate that is shut.
 pub fn push_runs(rt: &impl Abort, area: &mut String, last: u32, count: u32) {
@@ -141,6 +141,7 @@ struct Stated {
     versions: &'static str,
     // behind the count of tables: a table each
     oldest: &'static str,
+    begins: &'static str,
     totals: &'static str,
     base: &'static str,
     cumulatives: &'static str,
@@ -161,6 +162,7 @@ const STATED: Stated = Stated {
     floor: "00000000",
     versions: "00000002",
     oldest: "00000000",
+    begins: "00000000",
     totals: "0100000000000000000000000000000005",
     base: "00",
     cumulatives: "00000000",
@@ -168,7 +170,7 @@ const STATED: Stated = Stated {
 };
 
 // Stores behind one run in area 0, whose checkpoint in area 1 doesn't fit.
-static MISFITS: [Stated; 15] = [
+static MISFITS: [Stated; 17] = [
     Stated {
         name: "an even number",
         number: "00000002",
@@ -242,14 +244,30 @@ static MISFITS: [Stated; 15] = [
         ..STATED
     },
     Stated {
+        name: "an epoch before the table's first",
+        begins: "00000001",
+        ..STATED
+    },
+    Stated {
+        name: "more epochs than there may be",
+        begins: "000003e9",
+        singles: "00000000",
+        ..STATED
+    },
+    Stated {
         name: "a file that is named twice",
         singles: "000000020000000000000000020000010000000000000000000000006f00000000000000010000000100088000000000000001000880000000000000010100000000000000000000000000000005c81c296f0f6edacf6039963d5def2a2dba052cfcdd802539023abf3c861cc7360001000000000000000000000000000000050000000100000000020000010000000000000000000000006f00000000000000010000000100088000000000000001000880000000000000010100000000000000000000000000000005c81c296f0f6edacf6039963d5def2a2dba052cfcdd802539023abf3c861cc736000100000000000000000000000000000005",
         ..STATED
     },
 ];
 
-// A store with this checkpoint.
-fn store_of(rt: &impl Abort, alloc: Global, stated: &Stated) -> String {
+/// The kind of a checkpoint as it is written, and as it was before tables could be recast.
+const WRITTEN: &str = "0f";
+
+const OLDER: &str = "0d";
+
+// A store with this checkpoint, of this kind.
+fn store_of(rt: &impl Abort, alloc: Global, stated: &Stated, kind: &str) -> String {
     let Stated {
         name: _,
         number,
@@ -257,14 +275,15 @@ fn store_of(rt: &impl Abort, alloc: Global, stated: &Stated) -> String {
         floor,
         versions,
         oldest,
+        begins,
         totals,
         base,
         cumulatives,
         singles,
     } = *stated;
     let mut body = String::new(alloc);
-    write!(body, "0d{number}{run}{floor}{versions}0001").expect(rt, "memory");
-    write!(body, "0174{oldest}01016b00010176000000").expect(rt, "memory");
+    write!(body, "{kind}{number}{run}{floor}{versions}0001").expect(rt, "memory");
+    write!(body, "0174{oldest}{begins}01016b00010176000000").expect(rt, "memory");
     write!(body, "00{totals}{base}{cumulatives}{singles}").expect(rt, "memory");
     let len = body.len() / 2;
     format!(in alloc; "0100000005010000000100|01{len:08x}{body}00\n{FILE}").expect(rt, "memory")
@@ -277,7 +296,7 @@ static QUERIED: Case<'static> = Case {
 
 // Stops the test where a store with this checkpoint is opened, or changed.
 fn expect_misfit<R: Abort + Threads + Wait + Sync>(rt: &R, alloc: Global, stated: &Stated) {
-    let store = store_of(rt, alloc, stated);
+    let store = store_of(rt, alloc, stated, WRITTEN);
     let disk = spelled(rt, alloc, store.as_str(), &[]);
     let mut left = call_over(rt, alloc, disk, &QUERIED);
     let text = "mesa: damaged journal=1 at=0 want=fits found=misfit:0\n";
@@ -292,22 +311,42 @@ fn checkpoints_that_do_not_fit(rt: HostRuntime) {
     }
 }
 
+// A table that is stated without a first epoch.
+static STATED_BEFORE: Stated = Stated {
+    begins: "",
+    ..STATED
+};
+
+// Stops the test where a store with a checkpoint that fits isn't opened, or isn't sound.
+fn expect_fit<R: Abort + Threads + Wait + Sync>(
+    rt: &R,
+    alloc: Global,
+    stated: &Stated,
+    kind: &str,
+) {
+    let store = store_of(rt, alloc, stated, kind);
+    let disk = spelled(rt, alloc, store.as_str(), &[]);
+    let left = call_over(rt, alloc, disk, &QUERIED);
+    let text = "0.1@0 rows 1 version=1\n1,5\n0.2@2 rows 1 version=0\n1,5\n";
+    expect_text(rt, "a checkpoint that fits", &left, 0, text);
+    let left = call_over(rt, alloc, left.disk, &CHECKED);
+    expect_text(rt, "its check", &left, 0, "sound\n");
+}
+
 #[test]
 fn a_checkpoint_that_fits(rt: HostRuntime) {
-    let alloc = rt.alloc();
-    let store = store_of(&rt, alloc, &STATED);
-    let disk = spelled(&rt, alloc, store.as_str(), &[]);
-    let left = call_over(&rt, alloc, disk, &QUERIED);
-    let text = "0.1@0 rows 1 version=1\n1,5\n0.2@2 rows 1 version=0\n1,5\n";
-    expect_text(&rt, "a checkpoint that fits", &left, 0, text);
-    let left = call_over(&rt, alloc, left.disk, &CHECKED);
-    expect_text(&rt, "its check", &left, 0, "sound\n");
+    expect_fit(&rt, rt.alloc(), &STATED, WRITTEN);
+}
+
+#[test]
+fn an_older_checkpoint_that_fits(rt: HostRuntime) {
+    expect_fit(&rt, rt.alloc(), &STATED_BEFORE, OLDER);
 }
 
 // ---- which area is live
 
 // A store that is damaged is left as it is.
-static AREAS: [Case<'static>; 16] = [
+static AREAS: [Case<'static>; 17] = [
     Case {
         name: "a checkpoint of the first edition",
         store: "0100000005010000000100|01000000130800000001000000010000000000000000000000",
@@ -325,18 +364,26 @@ static AREAS: [Case<'static>; 16] = [
         ..PLAIN
     },
     Case {
-        name: "a greater number in area 0",
-        store: "01000000130d00000002000000050000000000000000000000|01000000130d00000001000000030000000000000000000000",
+        name: "a checkpoint of the third edition",
+        store: "0100000005010000000100|01000000130d00000001000000010000000000000000000000",
         left: Some(
-            "01000000130d0000000200000005000000000000000000000100000005010000000600|01000000130d00000001000000030000000000000000000000",
+            "0100000005010000000100|01000000130d0000000100000001000000000000000000000100000005010000000200",
+        ),
+        ..PLAIN
+    },
+    Case {
+        name: "a greater number in area 0",
+        store: "01000000130f00000002000000050000000000000000000000|01000000130f00000001000000030000000000000000000000",
+        left: Some(
+            "01000000130f0000000200000005000000000000000000000100000005010000000600|01000000130f00000001000000030000000000000000000000",
         ),
         ..PLAIN
     },
     Case {
         name: "the same number in both areas",
-        store: "01000000130d00000002000000050000000000000000000000|01000000130d00000002000000030000000000000000000000",
+        store: "01000000130f00000002000000050000000000000000000000|01000000130f00000002000000030000000000000000000000",
         left: Some(
-            "01000000130d0000000200000005000000000000000000000100000005010000000600|01000000130d00000002000000030000000000000000000000",
+            "01000000130f0000000200000005000000000000000000000100000005010000000600|01000000130f00000002000000030000000000000000000000",
         ),
         ..PLAIN
     },
@@ -354,36 +401,36 @@ static AREAS: [Case<'static>; 16] = [
     },
     Case {
         name: "an older area whose record doesn't fit",
-        store: "0100000005010000000200|01000000130d00000001000000010000000000000000000000",
+        store: "0100000005010000000200|01000000130f00000001000000010000000000000000000000",
         left: Some(
-            "0100000005010000000200|01000000130d0000000100000001000000000000000000000100000005010000000200",
+            "0100000005010000000200|01000000130f0000000100000001000000000000000000000100000005010000000200",
         ),
         ..PLAIN
     },
     Case {
         name: "an odd number in area 0",
-        store: "01000000130d00000003000000050000000000000000000000|01000000130d00000001000000030000000000000000000000",
+        store: "01000000130f00000003000000050000000000000000000000|01000000130f00000001000000030000000000000000000000",
         status: 7,
         text: "mesa: damaged journal=0 at=0 want=fits found=misfit:0\n",
         left: Some(
-            "01000000130d00000003000000050000000000000000000000|01000000130d00000001000000030000000000000000000000",
+            "01000000130f00000003000000050000000000000000000000|01000000130f00000001000000030000000000000000000000",
         ),
         ..PLAIN
     },
     Case {
         name: "the number 0",
-        store: "01000000130d00000000000000010000000000000000000000",
+        store: "01000000130f00000000000000010000000000000000000000",
         status: 7,
         text: "mesa: damaged journal=0 at=0 want=fits found=misfit:0\n",
-        left: Some("01000000130d00000000000000010000000000000000000000"),
+        left: Some("01000000130f00000000000000010000000000000000000000"),
         ..PLAIN
     },
     Case {
         name: "a checkpoint behind a run",
-        store: "0100000005010000000101000000130d00000002000000010000000000000000000000",
+        store: "0100000005010000000101000000130f00000002000000010000000000000000000000",
         status: 7,
         text: "mesa: damaged journal=0 at=10 want=fits found=misfit:0\n",
-        left: Some("0100000005010000000101000000130d00000002000000010000000000000000000000"),
+        left: Some("0100000005010000000101000000130f00000002000000010000000000000000000000"),
         ..PLAIN
     },
     Case {
@@ -396,42 +443,42 @@ static AREAS: [Case<'static>; 16] = [
     },
     Case {
         name: "a checkpoint without its count of tables",
-        store: "0100000005010000000100|01000000110d0000000100000001000000000000000000",
+        store: "0100000005010000000100|01000000110f0000000100000001000000000000000000",
         status: 7,
         text: "mesa: damaged journal=1 at=0 want=fits found=misfit:17\n",
-        left: Some("0100000005010000000100|01000000110d0000000100000001000000000000000000"),
+        left: Some("0100000005010000000100|01000000110f0000000100000001000000000000000000"),
         ..PLAIN
     },
     Case {
         name: "a byte behind a checkpoint",
-        store: "0100000005010000000100|01000000140d0000000100000001000000000000000000000700",
+        store: "0100000005010000000100|01000000140f0000000100000001000000000000000000000700",
         status: 7,
         text: "mesa: damaged journal=1 at=0 want=fits found=misfit:19\n",
-        left: Some("0100000005010000000100|01000000140d0000000100000001000000000000000000000700"),
+        left: Some("0100000005010000000100|01000000140f0000000100000001000000000000000000000700"),
         ..PLAIN
     },
     Case {
         name: "area 1 cut short beside a live area 0",
-        store: "0100000005010000000100|01000000130d000000",
+        store: "0100000005010000000100|01000000130f000000",
         status: 7,
         text: "mesa: damaged journal=1 at=0 want=length:25 found=length:9\n",
-        left: Some("0100000005010000000100|01000000130d000000"),
+        left: Some("0100000005010000000100|01000000130f000000"),
         ..PLAIN
     },
     Case {
         name: "both areas cut short",
-        store: "0100000005010000000101000000050100|01000000130d000000",
+        store: "0100000005010000000101000000050100|01000000130f000000",
         status: 7,
         text: "mesa: damaged journal=0 at=10 want=length:21 found=length:17\n",
-        left: Some("0100000005010000000101000000050100|01000000130d000000"),
+        left: Some("0100000005010000000101000000050100|01000000130f000000"),
         ..PLAIN
     },
     Case {
         name: "area 1 cut short beside a record that doesn't fit",
-        store: "0100000005010000000200|01000000130d000000",
+        store: "0100000005010000000200|01000000130f000000",
         status: 7,
         text: "mesa: damaged journal=1 at=0 want=length:25 found=length:9\n",
-        left: Some("0100000005010000000200|01000000130d000000"),
+        left: Some("0100000005010000000200|01000000130f000000"),
         ..PLAIN
     },
 ];
@@ -542,7 +589,7 @@ pub fn expect_checkpoint(rt: &impl Abort, disk: &mut MemDisk, area: Area, number
     }
     let [gate, _, _, _, _, kind, a, b, c, d] = front;
     let found = (gate, kind, u32::from_be_bytes([a, b, c, d]));
-    expect_same(rt, &found, &(1, 13, number), &"the first record of an area");
+    expect_same(rt, &found, &(1, 15, number), &"the first record of an area");
 }
 
 // Stops the test where an image of a moment isn't sound or answers otherwise.

@@ -1,6 +1,7 @@
 // Stores that earlier runs left.
 use crate::call::{Case, PLAIN};
 use crate::cases::expect_in_turn;
+use crate::devices::{Hold, Place};
 
 /// The number of the first file that a run adopts.
 const RUN_1: u64 = 1 << 40;
@@ -8,7 +9,7 @@ const RUN_1: u64 = 1 << 40;
 const RUN_2: u64 = 2 << 40;
 
 // Runs over one disk, which is empty at first.
-static CASES: [&[Case<'static>]; 6] = [
+static CASES: [&[Case<'static>]; 7] = [
     &[
         Case {
             name: "pages across a compaction and sessions, and another run",
@@ -247,6 +248,52 @@ static CASES: [&[Case<'static>]; 6] = [
                 "01000000050100000001010000000b02017401016b0001017600010000008109000000000001000000000000020000010000000000000000000000006f00000000000000010000000100088000000000000001000880000000000000010100000000000000000000000000000005c81c296f0f6edacf6039963d5def2a2dba052cfcdd802539023abf3c861cc7360001000000000000000000000000000000050100000007090000000100000100000005010000000200\n\
          0000010000000000 0000018000000000000001000000000000000000000000000000058000000000000001000000000000000000000000000000000000001b3b67a19d6e109f5699455c7b879e2aac9c239bc564a294d734174daebe20ca94000000000000000000010000000101014d455341444c5432",
             ),
+            ..PLAIN
+        },
+    ],
+    // A batch that comes while a table's rows are rewritten is rewritten in the recast's last turn.
+    &[
+        Case {
+            name: "recast under load",
+            script: b"table,t,a int;b int,v sum\n\
+                 row,t,1,2,5\n\
+                 row,t,2,1,7\n\
+                 row,t,3,1,1\n\
+                 commit\n\
+                 session\n\
+                 recast,t,b,v\n\
+                 session\n\
+                 row,t,4,2,10\n\
+                 commit\n",
+            holds: &[
+                Hold {
+                    session: 2,
+                    at: Place::Started,
+                    until: (1, Place::Merged),
+                },
+                Hold {
+                    session: 1,
+                    at: Place::Merged,
+                    until: (2, Place::Printed),
+                },
+            ],
+            status: 0,
+            turns: Some(8),
+            text: "0.1@0 table t\n\
+                 0.2@2 loaded version=0 rows=3\n\
+                 2.1@5 loaded version=1 rows=1\n\
+                 1.1@7 recast t epoch=1\n",
+            files: Some(&[RUN_1 + 2, RUN_1 + 3]),
+            ..PLAIN
+        },
+        Case {
+            name: "recast under load, and the next run",
+            script: b"query,t\n",
+            status: 0,
+            text: "0.1@0 rows 2 version=1\n\
+                 1,8\n\
+                 2,15\n",
+            files: Some(&[RUN_1 + 2, RUN_1 + 3]),
             ..PLAIN
         },
     ],

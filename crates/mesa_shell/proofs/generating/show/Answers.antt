@@ -1,7 +1,7 @@
 use Rattle.std.proofs.Common.{◌≡◌, true, false, sym, ap, subst, ◌∙◌}
-use Rattle.mesa_ending.specs.Exits.{gen_line, memory_line}
-use Rattle.mesa_ending.specs.Ports.{ports}
-use Rattle.mesa_ending.specs.declared.done.Done.{Done}
+use Rattle.mesa_telling.specs.mesa_ending.Exits.{gen_line, memory_line}
+use Rattle.mesa_telling.specs.mesa_ending.Ports.{ports}
+use Rattle.mesa_telling.specs.mesa_ending.declared.done.Done.{Done}
 use Rattle.mesa_excerpt.specs.Excerpt.{CutsOut}
 use Rattle.mesa_telling.proofs.Printing.{printed_prints}
 use Rattle.std.specs.Prelude.{◌++◌, if◌then◌else◌}

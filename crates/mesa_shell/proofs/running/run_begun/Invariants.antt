@@ -1,7 +1,7 @@
 use Rattle.std.specs.Prelude.{◌+◌}
 use Rattle.mesa_skeleton.specs.Rows.{no_rows}
-use Rattle.mesa_ending.specs.Start.{start_of}
-use Rattle.mesa_ending.proofs.Alike.{start_alike}
+use Rattle.mesa_telling.specs.mesa_ending.Start.{start_of}
+use Rattle.mesa_telling.proofs.mesa_ending.Alike.{start_alike}
 use Rattle.mesa_shell.specs.Begun.{IsSoundBegun}
 use Rattle.mesa_passes.specs.Passes.{turns_of}
 use Rattle.mesa_shell.specs.Start.{origin_of}

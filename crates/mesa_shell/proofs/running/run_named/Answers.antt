@@ -11,8 +11,8 @@ use Rattle.mesa_walk.specs.Printing.{IsPrinted, IsPrintedButRows}
 use Rattle.mesa_walk.specs.Walk.{AllFound}
 use Rattle.mesa_catalog.specs.declared.begun.Begun.{Begun}
 use Rattle.mesa_ledger.specs.Vault.{IsRead}
-use Rattle.mesa_ending.specs.Run.{RanAnyhow, RanSoundly, outset_from}
-use Rattle.mesa_ending.proofs.Small.{session_small}
+use Rattle.mesa_telling.specs.mesa_ending.Run.{RanAnyhow, RanSoundly, outset_from}
+use Rattle.mesa_telling.proofs.mesa_ending.Small.{session_small}
 use Rattle.mesa_shell.proofs.Parts.{benches_counted, fits_room, ran_anyhow, read_first, refilled}
 use Rattle.mesa_shell.proofs.running.run_named.Goals as goal
 
