@@ -77,7 +77,7 @@ def bodies(area, source):
 
 
 # the kinds of checkpoints, with their editions
-CHECKPOINTS = {8: 1, 11: 2, 13: 3}
+CHECKPOINTS = {8: 1, 11: 2, 13: 3, 15: 4}
 
 
 def rank(found):
@@ -96,7 +96,8 @@ def live(areas):
 
 # FORMATS, "Records": what columns, file references and the files of a range are. In the first edition (kinds 5, 6 and 8) a
 # file has format 1, and what was added up takes 8 bytes; in the second (kinds 9, 10 and 11) the format is told, and it takes
-# 16. The third differs in checkpoints alone (kind 13), which tell each table's oldest version.
+# 16. The third differs in checkpoints alone (kind 13), which tell each table's oldest version. The fourth has recasts (kind 14),
+# and its checkpoints (kind 15) tell each table's first epoch too.
 
 
 class Column(typing.NamedTuple):
@@ -253,23 +254,33 @@ class View(typing.NamedTuple):
 
 
 class Table:
-    """A table: its oldest version, its columns in each epoch, its views by their numbers, and its deltas."""
+    """A table: its oldest version, its columns in each epoch since it was made or recast, its views by their numbers, and its deltas."""
 
     def __init__(self, name, columns, oldest):
-        self.name, self.oldest, self.epochs, self.changes, self.views = name, oldest, [columns], [], []
+        self.name, self.oldest, self.begins, self.epochs, self.changes, self.views = name, oldest, 0, [columns], [], []
         base = Delta(0, oldest - 1, 0, None) if oldest else None
         self.base, self.cumulatives, self.singletons = base, [], {}
 
     @classmethod
-    def stated(cls, name, columns, oldest):
+    def stated(cls, name, columns, oldest, begins):
         """A table of a checkpoint, whose base is told."""
         table = cls(name, columns, oldest)
-        table.base = None
+        table.begins, table.base = begins, None
         return table
 
     @property
     def columns(self):
         return self.epochs[-1]
+
+    @property
+    def epoch(self):
+        return self.begins + len(self.changes)
+
+    def columns_at(self, epoch):
+        """The columns of an epoch that the table has had since it was made or recast."""
+        if epoch < self.begins:
+            raise IndexError(epoch)
+        return self.epochs[epoch - self.begins]
 
     @property
     def behind_base(self):
@@ -286,6 +297,11 @@ class Table:
         """Puts a base in the place of all deltas that begin within it: each cumulative does, right behind the base before."""
         self.base, self.cumulatives = delta, []
         self.singletons = {version: it for version, it in self.singletons.items() if version > delta.last}
+
+    def recast(self, epoch, columns, base, singletons):
+        """Puts columns in the place of all that there were, and deltas of them in the place of all deltas."""
+        self.begins, self.epochs, self.changes = epoch, [columns], []
+        self.base, self.cumulatives, self.singletons = base, [], {it.first: it for it in singletons}
 
     def swap_cumulative(self, delta):
         self.cumulatives.append(delta)
@@ -309,11 +325,17 @@ class Table:
 
     def lifted(self, epoch, rows):
         """Rows of an epoch as rows of the present."""
-        steps = list(zip(self.epochs[epoch:], self.changes[epoch:]))
+        since = epoch - self.begins
+        steps = list(zip(self.epochs[since:], self.changes[since:]))
         for key, values in rows:
             for before, change in steps:
                 key, values = change.lift(before, key, values)
             yield key, values
+
+
+def ranges(base, singletons):
+    """The versions of a base and of singletons, each with its views' files, or None where there are no files."""
+    return [(it.first, it.last, it.files and it.files.views) for it in (*filter(None, [base]), *singletons)]
 
 
 class Catalogue:
@@ -331,7 +353,7 @@ class Catalogue:
     def apply(self, b, area):
         """Takes in a record; `area` is the number of its area where it is the first there."""
         kind = b.number(1)
-        readers = {1: self.run, 2: self.table, 3: self.view, 4: self.alter, 7: self.expire, 12: self.expire_table}
+        readers = {1: self.run, 2: self.table, 3: self.view, 4: self.alter, 7: self.expire, 12: self.expire_table, 14: self.recast}
         readers |= {5: lambda b: self.publish(b, 1), 6: lambda b: self.swap(b, 1)}
         readers |= {9: lambda b: self.publish(b, 2), 10: lambda b: self.swap(b, 2)}
         readers |= {it: lambda b, edition=edition: self.checkpoint(b, edition, area) for it, edition in CHECKPOINTS.items()}
@@ -353,10 +375,11 @@ class Catalogue:
         b.many(2, lambda: self.stated_table(b, edition))
 
     def stated_table(self, b, edition):
-        name, oldest = b.name(), b.number(4) if edition == 3 else self.floor
+        name, oldest = b.name(), b.number(4) if edition >= 3 else self.floor
+        begins = b.number(4) if edition >= 4 else 0
         if not (self.floor <= oldest and (oldest < self.next or oldest == self.next == 0)):
             raise b.fault(f"the oldest version of {name} is {oldest}")
-        table = Table.stated(name, self.columns(b), oldest)
+        table = Table.stated(name, self.columns(b), oldest, begins)
         b.many(2, lambda: self.change(b, table))
         b.many(1, lambda: self.add_view(b, table))
         b.many(1, lambda: b.number(8 * min(edition, 2)))
@@ -443,9 +466,35 @@ class Catalogue:
         else:
             raise b.fault(f"no work gives the range [{first},{last}]")
 
+    def recast(self, b):
+        table, epoch = self.tables[b.number(2)], b.number(4)
+        if epoch != table.epoch + 1:
+            raise b.fault(f"{table.name} is recast to the epoch {epoch}")
+        columns = View(table.name, b.many(1, b.name), b.many(1, b.name)).columns(table.columns)
+        # (a column of a view that isn't there any more is found here)
+        for view in table.views:
+            view.columns(columns)
+        base = self.recast_base(b, epoch) if b.one_of((False, True)) else None
+        singletons = b.many(4, lambda: self.recast_singleton(b, epoch))
+        if ranges(base, singletons) != ranges(table.base, table.singletons.values()):
+            raise b.fault(f"the ranges of {table.name} or files of its views are others")
+        table.recast(epoch, columns, base, singletons)
+
+    def recast_base(self, b, epoch):
+        last = b.number(4)
+        return Delta(0, last, epoch, Files.read(b, 2) if b.one_of((False, True)) else None)
+
+    def recast_singleton(self, b, epoch):
+        version, told = b.number(4), b.number(4)
+        if told != epoch:
+            raise b.fault(f"version {version} has the epoch {told}")
+        delta = Delta(version, version, epoch, Files.read(b, 2))
+        b.many(1, lambda: b.number(16))
+        return delta
+
     def tested(self, table, delta):
         """The delta, whose epoch and views are there."""
-        table.epochs[delta.epoch]
+        table.columns_at(delta.epoch)
         for view in delta.files.views if delta.files else ():
             table.views[view]
         return delta

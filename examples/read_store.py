@@ -127,7 +127,7 @@ class Store:
         """The rows of a delta, lifted to the present: those of a view by its own file where there is one."""
         if view in delta.files.views:
             return self.file_rows(delta.files.views[view], table.views[view].columns(table.columns))
-        rows = table.lifted(delta.epoch, self.file_rows(delta.files.table, table.epochs[delta.epoch]))
+        rows = table.lifted(delta.epoch, self.file_rows(delta.files.table, table.columns_at(delta.epoch)))
         return rows if view is None else table.views[view].derived(table.columns, rows)
 
     def file_rows(self, told, columns):
@@ -153,7 +153,7 @@ class Store:
     def test_files(self, table):
         """Tests that each file of a table is there, with the length and the tail that were recorded."""
         for delta in table.deltas():
-            self.test_file(delta.files.table, table.epochs[delta.epoch])
+            self.test_file(delta.files.table, table.columns_at(delta.epoch))
             for view, told in delta.files.views.items():
                 self.test_file(told, table.views[view].columns(table.columns))
 
