@@ -58,41 +58,47 @@ module _ (live : Area) (bodies : List (List ℕ)) (end : ℕ) (files : List (ℕ
     ends : 0 + length body + 5 ≡ length body + 5
     ends = omega arith
 
-    within : (c : Image) → IsWithinAppend s1 (other_of live) [] 0 body c → P c
-    within c from =
+    -- the other area was written, and counts for nothing yet
+    still : (step : List ℕ → List ℕ → Type 0) (i j : Image) → (change : InArea (other_of live) step i j) → Closed change.bytes [] 0 → Shows live bodies end files i → Shows live bodies end files j
+    still step i j change shut is =
+        let bytes : area_of (other_of live) j ≡ change.bytes = ap (area_of (other_of live)) change.same ∙ area_of-with_area (other_of live) change.bytes i in
+        record {
+          journal = live_stays step i j change is;
+          behind = record { others = []; end = 0; whole = inr (subst (λ (b : List ℕ). Closed b [] 0) (sym bytes) shut); leads = leads_none live bodies is.behind.others is.behind.leads };
+          has = has_changed files (other_of live) step i j change is.has;
+        }
+
+    within : ((i : Image) → s1.told ≡ Some i → s1.may_leave i) → (c : Image) → IsWithinAppend s1 (other_of live) [] 0 body c → P c
+    within read c (inl from) = inl (still _ from.0 c from.2 from.2.stepped (old from.0 from.1))
+    within read c (inr from) =
         let step = from.2 in
-        let was = old from.0 from.1 in
+        let was = old from.0 (read from.0 from.1) in
         let bytes : area_of (other_of live) c ≡ step.bytes = ap (area_of (other_of live)) step.same ∙ area_of-with_area (other_of live) step.bytes from.0 in
-        let has : Has files c = has_changed files (other_of live) _ from.0 c step was.has in
         ⊎_elim
-        (λ is. inl (record {
-          journal = live_stays _ from.0 c step was;
-          behind = record { others = []; end = 0; whole = inr (subst (λ (b : List ℕ). Closed b [] 0) (sym bytes) is); leads = leads_none live bodies was.behind.others was.behind.leads };
-          has = has;
-        }))
+        (λ is. inl (still _ from.0 c step is was))
         (λ is. inr (record {
           journal = subst (λ (n : ℕ). Closed (area_of (other_of live) c) (body ∷ []) n) ends (subst (λ (b : List ℕ). Closed b (body ∷ []) (0 + length body + 5)) (sym bytes) is);
           behind = taken _ from.0 c step was;
-          has = has;
+          has = has_changed files (other_of live) _ from.0 c step was.has;
         })) step.stepped
 
     -- once the body was appended, or that was tried
-    pub restated : (s2 : Story) → Spans (IsWithinAppend s1 (other_of live) [] 0 body) s1 s2 → Spans P s0 s2
-    restated s2 more = spans_on P (IsWithinAppend s1 (other_of live) [] 0 body) s0 s1 s2 (readied s1 run) more within
+    pub restated : ((i : Image) → s1.told ≡ Some i → s1.may_leave i) → (s2 : Story) → Spans (IsWithinAppend s1 (other_of live) [] 0 body) s1 s2 → Spans P s0 s2
+    restated read s2 more = spans_on P (IsWithinAppend s1 (other_of live) [] 0 body) s0 s1 s2 (readied s1 run) more (within read)
 
     -- and once that is done
-    pub all_restated : (s2 : Story) → Spans (IsWithinAppend s1 (other_of live) [] 0 body) s1 s2 → IsSettled s2 (other_of live) (body ∷ []) (0 + length body + 5) → ((i : Image) → s2.told ≡ Some i → s2.may_leave i)
+    pub all_restated : ((i : Image) → s1.told ≡ Some i → s1.may_leave i) → (s2 : Story) → Steps (AnyChange (other_of live)) s1.told s2.told → IsSettled s2 (other_of live) (body ∷ []) (0 + length body + 5) → ((c : Image) → s2.may_leave c → s2.told ≡ Some c)
         → Stands s2 (other_of live) (body ∷ []) (length body + 5) files
-    all_restated s2 more settled read = record { read = λ i e. shown i (read i e); left = shown }
+    all_restated read s2 told settled durable = record { read = shown; left = λ c l. shown c (durable c l) }
       where
-        shown : (c : Image) → s2.may_leave c → Shows (other_of live) (body ∷ []) (length body + 5) files c
-        shown c l =
-            let from = more.left c l in
-            let was = old from.0 from.1 in
+        shown : (j : Image) → s2.told ≡ Some j → Shows (other_of live) (body ∷ []) (length body + 5) files j
+        shown j e =
+            let from = told.back j e in
+            let was = old from.0 (read from.0 from.1) in
             record {
-              journal = subst (λ (n : ℕ). Closed (area_of (other_of live) c) (body ∷ []) n) ends (settled.left c l);
-              behind = taken _ from.0 c from.2 was;
-              has = has_changed files (other_of live) _ from.0 c from.2 was.has;
+              journal = subst (λ (n : ℕ). Closed (area_of (other_of live) j) (body ∷ []) n) ends (settled.read j e);
+              behind = taken _ from.0 j from.2 was;
+              has = has_changed files (other_of live) _ from.0 j from.2 was.has;
             }
 
 -- a long area without a body has its gate

@@ -14,8 +14,9 @@ use mesa_journal::{Framed, append};
 /// Adopts files, appends a body behind the gate at `end`, and removes files, until one of these fails.
 /// Gives the new end. It takes no memory.
 ///
-/// A file is adopted before the record that names it, and removed after the record that drops it: so at
-/// each moment the bodies that a crash leaves find their files.
+/// A file is adopted before the record that names it, and removed after the record that drops it; and a
+/// record's gate is opened behind a sync, with which the files come to the disk. So at each moment the
+/// bodies that a crash leaves find their files.
 pub fn commit_turn<M: Made, D: Disk<M>>(
     disk: &mut D,
     area: Area,

@@ -71,10 +71,10 @@ pub record IsGone (path : List ℕ) (old new : Asked) : Type 0 where
   pub gone : (answer ≡ None) ⊎ (answer ≡ Some NotFound)
   pub removed : new ≡ with_named (Removed path answer) old
 
--- The file of the first path got the second, and then the names were synced; no other call was made.
+-- The file of the first path got the second; no other call was made.
 abbrev pub IsAdopted : List ℕ → List ℕ → Asked → Asked → Type 0
-IsAdopted from to old new = new ≡ with_named (Synced true) (with_named (Renamed from to true) old)
+IsAdopted from to old new = new ≡ with_named (Renamed from to true) old
 
--- At most such a renaming was tried, and at most a sync behind it failed; no other call was made.
+-- At most such a renaming was tried, and failed; no other call was made.
 abbrev pub IsUnadopted : List ℕ → List ℕ → Asked → Asked → Type 0
-IsUnadopted from to old new = (new ≡ old) ⊎ ((new ≡ with_named (Renamed from to false) old) ⊎ (new ≡ with_named (Synced false) (with_named (Renamed from to true) old)))
+IsUnadopted from to old new = (new ≡ old) ⊎ (new ≡ with_named (Renamed from to false) old)

@@ -19,8 +19,8 @@ pub(crate) struct AreaFile<S: System> {
 }
 
 impl<S: System> AreaFile<S> {
-    ghost use Rattle.std.specs.Prelude.{◌⊎◌, IfOk, OnOk, is_ok};
-    ghost use Rattle.mesa_dir.specs.Calls.{Read, SyncedBytes, WroteAt, with_call};
+    ghost use Rattle.std.specs.Prelude.{◌⊎◌, IfOk, IsTrue, OnOk, is_ok};
+    ghost use Rattle.mesa_dir.specs.Calls.{Read, Synced, SyncedBytes, WroteAt, with_call};
     ghost use Rattle.mesa_dir.specs.Folders.{area_calls};
     ghost use Rattle.mesa_dir.specs.Opening.{IsSettled};
 
@@ -59,6 +59,13 @@ impl<S: System> AreaFile<S> {
         self.system.write_at(&mut self.file, at, bytes)
     }
 
+    /// Whether the device has all that was written.
+    pub(crate) fn is_synced(&self) -> bool
+        ensures { IsTrue result → is_durable (area_calls self.now) ≡ true }
+    {
+        self.is_synced
+    }
+
     /// Syncs the bytes, where some may not be on the device, and with them the length, which is all of the
     /// file's own data that reading needs.
     pub(crate) fn sync(&mut self) -> io::Result<()>
@@ -70,5 +77,19 @@ impl<S: System> AreaFile<S> {
             self.is_synced = true;
         }
         Ok(())
+    }
+
+    /// Syncs the names of a folder, and beside them the bytes, where some may not be on the device.
+    pub(crate) fn sync_beside(&mut self, folder: &mut S::Handle) -> (io::Result<()>, io::Result<()>)
+        ensures synced { OnOk result.0 (is_durable (area_calls self.new) ≡ true) }
+        ensures calls { (area_calls self.new ≡ area_calls self.old) ⊎ (area_calls self.new ≡ with_call (SyncedBytes (is_ok result.0)) (area_calls self.old)) }
+        ensures folder { S.calls folder.new ≡ with_call (Synced (is_ok result.1)) (S.calls folder.old) }
+    {
+        if self.is_synced {
+            return (Ok(()), self.system.sync(folder));
+        }
+        let (bytes, names) = self.system.sync_beside(&mut self.file, folder);
+        self.is_synced = bytes.is_ok();
+        (bytes, names)
     }
 }

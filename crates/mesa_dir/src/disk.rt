@@ -201,7 +201,6 @@ where
     fn adopt(&mut self, made: DirMade<S>, id: FileId) -> Result<(), DiskFailed>
         ensures adopted { OnOk result (Steps (Adopts (id, made_bytes made)) (story_of self.old).told (story_of self.new).told) }
         ensures whole { Steps (May Adopts (id, made_bytes made)) (story_of self.old).told (story_of self.new).told }
-        ensures stays { OnOk result (Follows (Adopts (id, made_bytes made)) (story_of self.old).may_leave (story_of self.new).may_leave) }
         ensures crash { Follows (May Adopts (id, made_bytes made)) (story_of self.old).may_leave (story_of self.new).may_leave }
 
         ensures len { (a : Area) → (story_of self.new).len a ≡ (story_of self.old).len a }
@@ -210,8 +209,8 @@ where
         ensures cause { HasCause (story_of self.old).faults (story_of self.new).faults result }
         ensures read_cause { (story_of self.new).read_faults ≡ (story_of self.old).read_faults }
 
-        // This file got the name of this id, and then the names were synced. No sync ever failed; once one
-        // has, no call is made. What failed isn't tried again.
+        // This file got the name of this id; the next sync makes that last. No sync ever failed; once one has,
+        // no call is made. What failed isn't tried again.
         ensures named { OnOk result (IsAdopted (path_of_made made) (adopted_path_of (disk_path self.old) id) (disk_asked self.old) (disk_asked self.new)) }
         ensures trusted { OnOk result (IsTrusted (disk_asked self.new)) }
         ensures untried { (IsTrusted (disk_asked self.old) → ⊥) → disk_asked self.new ≡ disk_asked self.old }

@@ -126,7 +126,8 @@ impl<S: System> Folder<S> {
         Ok(())
     }
 
-    // Syncs what changed, in a folder that is taken for lost until all of it was synced.
+    // Syncs what changed, in a folder that is taken for lost until all of it was synced: the names beside the
+    // area that was written, and not behind it.
     fn sync_changes(&mut self) -> io::Result<()>
         requires lost { self.old.has_lost ≡ true }
         requires trusted { IsTrusted (folder_asked self.old) }
@@ -134,24 +135,22 @@ impl<S: System> Folder<S> {
         ensures trusted { OnOk result (IsTrusted (folder_asked self.new)) }
         ensures only { OnlySynced (folder_asked self.old) (folder_asked self.new) }
     {
-        self.zero.sync()?;
-        self.one.sync()?;
-        if !self.has_all_names {
-            self.sync_names()?;
+        if self.has_all_names {
+            self.zero.sync()?;
+            return self.one.sync();
         }
-        Ok(())
+        let (bytes, names) = if self.zero.is_synced() {
+            self.one.sync_beside(&mut self.opened.folder)
+        } else {
+            self.one.sync()?;
+            self.zero.sync_beside(&mut self.opened.folder)
+        };
+        self.has_all_names = names.is_ok();
+        bytes?;
+        names
     }
 
-    fn sync_names(&mut self) -> io::Result<()>
-        ensures { folder_asked self.new ≡ with_named (Synced (is_ok result)) (folder_asked self.old) }
-    {
-        let synced = self.system.sync(&mut self.opened.folder);
-        self.has_all_names = synced.is_ok();
-        self.has_lost = self.has_lost || synced.is_err();
-        synced
-    }
-
-    /// Gives a written file its name, for good.
+    /// Gives a written file its name. The next sync makes that last.
     pub(crate) fn adopt(&mut self, made: DirMade<S>, path: &str) -> io::Result<()>
         ensures adopted { OnOk result (IsAdopted (path_of_made made) path.now (folder_asked self.old) (folder_asked self.new)) }
         ensures trusted { OnOk result (IsTrusted (folder_asked self.new)) }
@@ -162,8 +161,7 @@ impl<S: System> Folder<S> {
             return Err(lost());
         }
         self.has_all_names = false;
-        made.rename(&mut self.opened.folder, path)?;
-        self.sync_names()
+        made.rename(&mut self.opened.folder, path)
     }
 
     /// Takes a name away, if it is there. The next sync makes that last.

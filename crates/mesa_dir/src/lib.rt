@@ -2,8 +2,8 @@
 //! their counts of faults, and which calls of the system each of theirs made and how they were answered. What
 //! a device then keeps, no contract can say.
 //!
-//! Every acknowledged byte is on the device as far as the system's syncs go: a file before it is adopted, its
-//! name before `adopt` answers, and the journal by its own syncs.
+//! Every acknowledged byte is on the device as far as the system's syncs go: a file before it is adopted, and
+//! its name and the journal by the journal's syncs.
 #![tactic(auto)]
 
 mod again;
@@ -24,6 +24,6 @@ mod system;
 pub use bench::DirBench;
 pub use disk::DirDisk;
 pub use draft::{DirDraft, DirMade};
-pub use host::ClosedFile;
+pub use host::{ClosedFile, Host};
 pub use reader::DirReader;
 pub use system::System;

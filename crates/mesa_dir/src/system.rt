@@ -74,6 +74,16 @@ pub trait System: Copy {
     fn sync_bytes(&self, file: &mut Self::Handle) -> io::Result<()>
         ensures { calls file.new ≡ with_call (SyncedBytes (is_ok result)) (calls file.old) };
 
+    /// Has the device take a file's bytes and its length, and beside them a folder's names, so that it waits
+    /// for the longer of the two and not for one behind the other.
+    fn sync_beside(
+        &self,
+        file: &mut Self::Handle,
+        folder: &mut Self::Handle,
+    ) -> (io::Result<()>, io::Result<()>)
+        ensures file { calls file.new ≡ with_call (SyncedBytes (is_ok result.0)) (calls file.old) }
+        ensures folder { calls folder.new ≡ with_call (Synced (is_ok result.1)) (calls folder.old) };
+
     /// Closes a file.
     fn close(&self, file: Self::Handle) -> Self::Closed
         ensures { closed_calls result ≡ calls file };

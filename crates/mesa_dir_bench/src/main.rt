@@ -11,21 +11,22 @@ mod records;
 
 use failure::Failure;
 use finding::{Found, find};
-use mesa_dir::{DirBench, DirDisk};
+use mesa_dir::{DirBench, DirDisk, Host};
 use mesa_disk::{Area, Disk};
 use mesa_journal::{Framed, append};
 use records::{file_id, files_of, make_file};
 use std::alloc::Global;
+use std::thread::Threads;
 use std::{env, fs};
 
 // The folder, within the current one.
 const FOLDER: &str = "mesa-bench-store";
 
 // Adopts the files of a batch.
-fn add_files(
+fn add_files<R: Threads + Sync + Copy + Send>(
     alloc: Global,
-    disk: &mut DirDisk<HostRuntime>,
-    bench: &mut DirBench<HostRuntime>,
+    disk: &mut DirDisk<Host<R>>,
+    bench: &mut DirBench<Host<R>>,
     number: u64,
 ) -> Result<(), Failure> {
     for file in files_of(number) {
@@ -38,9 +39,9 @@ fn add_files(
 }
 
 // Appends the record of a batch: then it is acknowledged.
-fn add_record(
+fn add_record<R: Threads + Sync + Copy + Send>(
     alloc: Global,
-    disk: &mut DirDisk<HostRuntime>,
+    disk: &mut DirDisk<Host<R>>,
     number: u64,
     end: u64,
 ) -> Result<u64, Failure> {
@@ -52,10 +53,10 @@ fn add_record(
 }
 
 // Adds batches until there are so many.
-fn add_all(
+fn add_all<R: Threads + Sync + Copy + Send>(
     rt: &HostRuntime,
-    disk: &mut DirDisk<HostRuntime>,
-    bench: &mut DirBench<HostRuntime>,
+    disk: &mut DirDisk<Host<R>>,
+    bench: &mut DirBench<Host<R>>,
     count: u64,
 ) -> Result<(), Failure> {
     let Found { batches, mut end } = find(rt.alloc(), disk)?;
@@ -69,7 +70,11 @@ fn add_all(
 }
 
 // Opens the folder, and adds batches.
-fn run(rt: HostRuntime, words: &[String]) -> Result<(), Failure> {
+fn run<R: Threads + Sync + Copy + Send>(
+    threads: R,
+    rt: HostRuntime,
+    words: &[String],
+) -> Result<(), Failure> {
     let [word, count] = words else {
         return Err(Failure::Words);
     };
@@ -83,12 +88,12 @@ fn run(rt: HostRuntime, words: &[String]) -> Result<(), Failure> {
         "on" => {}
         _ => return Err(Failure::Words),
     }
-    let mut disk = DirDisk::open(rt, FOLDER)?;
+    let mut disk = DirDisk::open(Host::new(threads, rt), FOLDER)?;
     let mut bench = disk.bench()?;
     add_all(&rt, &mut disk, &mut bench, count)
 }
 
 fn main(rt: HostRuntime) -> Result<(), Failure> {
     let words: Vec<String> = env::args(&rt)?.skip(1).collect(rt.alloc())?;
-    run(rt, &words)
+    run(rt, rt, &words)
 }

@@ -1,12 +1,13 @@
 // The journal areas of a folder.
 use crate::expected::expect_same;
 use crate::folders::{opened, remove};
-use mesa_dir::DirDisk;
+use mesa_dir::{DirDisk, Host};
 use mesa_disk::{Area, Disk};
 use std::process::Abort;
+use std::thread::Threads;
 
 // Writes into both areas of a new disk.
-fn write_areas(rt: &impl Abort, disk: &mut DirDisk<HostRuntime>) {
+fn write_areas<R: Abort + Threads + Sync + Copy + Send>(rt: &R, disk: &mut DirDisk<Host<R>>) {
     assert_eq!(rt; disk.journal_len(Area::Zero), 0);
     assert_eq!(rt; disk.journal_len(Area::One), 0);
     assert!(rt;
@@ -21,7 +22,7 @@ fn write_areas(rt: &impl Abort, disk: &mut DirDisk<HostRuntime>) {
 }
 
 // Reads what was written.
-fn read_areas(rt: &impl Abort, disk: &mut DirDisk<HostRuntime>) {
+fn read_areas<R: Abort + Threads + Sync + Copy + Send>(rt: &R, disk: &mut DirDisk<Host<R>>) {
     let mut four = [0u8; 4];
     assert_eq!(rt; disk.journal_len(Area::Zero), 4);
     assert!(rt; disk.journal_read(Area::Zero, 0, &mut four).is_ok());
@@ -39,7 +40,7 @@ fn areas_are_found_again(rt: HostRuntime) {
     let mut new = opened(&rt, rt, name);
     write_areas(&rt, &mut new);
     drop(new);
-    let mut again = DirDisk::open(rt, name).expect(&rt, "a disk");
+    let mut again = DirDisk::open(Host::new(rt, rt), name).expect(&rt, "a disk");
     read_areas(&rt, &mut again);
     remove(&rt, rt, name);
 }

@@ -2,21 +2,23 @@
 use crate::expected::expect_same;
 use crate::folders::remove;
 use crate::recorder::Recorder;
-use mesa_dir::{DirBench, DirDisk, DirDraft, DirMade};
+use mesa_dir::{DirBench, DirDisk, DirDraft, DirMade, Host};
 use mesa_disk::{Area, Bench, Disk, Draft, FileId};
 use std::fs;
 use std::process::Abort;
+use std::thread::Threads;
 
 // A system whose calls are lines of a new file.
-fn recorder<R: Abort + Copy>(
+fn recorder<R: Abort + Threads + Sync + Copy>(
     rt: R,
     files: HostRuntime,
     lines: &'static str,
     fails: &'static str,
-) -> Recorder<R> {
+) -> Recorder<R, Host<R>> {
     let _ = fs::remove_file(&files, lines);
     Recorder {
         rt,
+        system: Host::new(rt, files),
         files,
         lines,
         fails,
@@ -99,7 +101,10 @@ fn a_folder_that_is_found(rt: HostRuntime) {
 }
 
 // A disk in a new folder, and no lines of the calls that opened it.
-fn opened<R: Abort + Copy>(system: Recorder<R>, name: &str) -> DirDisk<Recorder<R>> {
+fn opened<R: Abort + Threads + Sync + Copy>(
+    system: Recorder<R, Host<R>>,
+    name: &str,
+) -> DirDisk<Recorder<R, Host<R>>> {
     let (rt, files, lines) = (system.rt, system.files, system.lines);
     let _ = fs::remove_dir_all(&files, name);
     let disk = DirDisk::open(system, name).expect(&rt, "a disk");
@@ -108,11 +113,11 @@ fn opened<R: Abort + Copy>(system: Recorder<R>, name: &str) -> DirDisk<Recorder<
 }
 
 // The file of two bytes.
-fn made<R: Abort + Copy + Send>(
+fn made<R: Abort + Threads + Sync + Copy + Send>(
     rt: &R,
-    bench: &mut DirBench<Recorder<R>>,
+    bench: &mut DirBench<Recorder<R, Host<R>>>,
     id: FileId,
-) -> DirMade<Recorder<R>> {
+) -> DirMade<Recorder<R, Host<R>>> {
     let mut draft = bench.draft(id).expect(rt, "a draft");
     draft.append(b"ab".as_slice()).expect(rt, "written bytes");
     match draft.finish() {
@@ -122,7 +127,11 @@ fn made<R: Abort + Copy + Send>(
 }
 
 // Each call of a disk, and those of the system that it makes. What is clean isn't synced again.
-fn go_on<R: Abort + Copy + Send>(rt: &R, system: Recorder<R>, disk: &mut DirDisk<Recorder<R>>) {
+fn go_on<R: Abort + Threads + Sync + Copy + Send>(
+    rt: &R,
+    system: Recorder<R, Host<R>>,
+    disk: &mut DirDisk<Recorder<R, Host<R>>>,
+) {
     let mut bench = disk.bench().expect(rt, "a bench");
     let (files, lines) = (system.files, system.lines);
     assert!(rt; disk.journal_write(Area::Zero, 0, b"abc".as_slice()).is_ok());
@@ -135,6 +144,19 @@ fn go_on<R: Abort + Copy + Send>(rt: &R, system: Recorder<R>, disk: &mut DirDisk
     expect_calls(rt, files, lines, FINISHED);
     assert!(rt; disk.adopt(made, FileId::of(7)).is_ok());
     expect_calls(rt, files, lines, ADOPTED);
+    assert!(rt; disk.journal_write(Area::One, 0, b"de".as_slice()).is_ok());
+    assert!(rt; disk.journal_sync().is_ok());
+    assert!(rt; disk.journal_sync().is_ok());
+    expect_calls(rt, files, lines, BESIDE);
+}
+
+// Removals, and the sync behind them.
+fn remove_file<R: Abort + Threads + Sync + Copy + Send>(
+    rt: &R,
+    system: Recorder<R, Host<R>>,
+    disk: &mut DirDisk<Recorder<R, Host<R>>>,
+) {
+    let (files, lines) = (system.files, system.lines);
     assert!(rt; disk.remove(FileId::of(7)).is_ok());
     expect_calls(
         rt,
@@ -163,8 +185,11 @@ static FINISHED: &str = "make mesa_dir_told/0000000000000005.draft\n\
      close mesa_dir_told/0000000000000005.draft\n";
 
 static ADOPTED: &str =
-    "rename mesa_dir_told/0000000000000005.draft mesa_dir_told/0000000000000007.mesa\n\
-     sync mesa_dir_told\n";
+    "rename mesa_dir_told/0000000000000005.draft mesa_dir_told/0000000000000007.mesa\n";
+
+// What the next sync makes last: the name of the file, beside the bytes that were written.
+static BESIDE: &str = "write at 0 2 mesa_dir_told/journal1\n\
+     sync bytes beside mesa_dir_told mesa_dir_told/journal1\n";
 
 #[test]
 fn each_call_of_a_disk(rt: HostRuntime) {
@@ -172,12 +197,17 @@ fn each_call_of_a_disk(rt: HostRuntime) {
     let system = recorder(rt, rt, lines, "");
     let mut disk = opened(system, name);
     go_on(&rt, system, &mut disk);
+    remove_file(&rt, system, &mut disk);
     drop(disk);
     remove(&rt, rt, name);
 }
 
 // Once a sync has failed none is tried again, and no file gets its name.
-fn lose<R: Abort + Copy + Send>(rt: &R, system: Recorder<R>, disk: &mut DirDisk<Recorder<R>>) {
+fn lose<R: Abort + Threads + Sync + Copy + Send>(
+    rt: &R,
+    system: Recorder<R, Host<R>>,
+    disk: &mut DirDisk<Recorder<R, Host<R>>>,
+) {
     let mut bench = disk.bench().expect(rt, "a bench");
     let (files, lines) = (system.files, system.lines);
     let made = made(rt, &mut bench, FileId::of(5));
@@ -207,10 +237,10 @@ fn a_sync_that_failed(rt: HostRuntime) {
 }
 
 // A draft that has failed.
-fn fail<R: Abort + Copy + Send>(
+fn fail<R: Abort + Threads + Sync + Copy + Send>(
     rt: &R,
-    bench: &mut DirBench<Recorder<R>>,
-) -> DirDraft<Recorder<R>> {
+    bench: &mut DirBench<Recorder<R, Host<R>>>,
+) -> DirDraft<Recorder<R, Host<R>>> {
     let mut draft = bench.draft(FileId::of(5)).expect(rt, "a draft");
     assert!(rt; draft.append(b"ab".as_slice()).is_err());
     match draft.finish() {

@@ -1,18 +1,19 @@
 // Drafts, and adopted files as they are read.
 use crate::expected::expect_same;
 use crate::folders::{expect_exists, opened, remove};
-use mesa_dir::{DirBench, DirDisk, DirMade, DirReader};
+use mesa_dir::{DirBench, DirDisk, DirMade, DirReader, Host};
 use mesa_disk::{Bench, Disk, Draft, FileId, FileReader, Made, OpenFault};
 use std::fs;
 use std::process::Abort;
+use std::thread::Threads;
 
 // The file of these bytes.
-fn made(
-    rt: &impl Abort,
-    bench: &mut DirBench<HostRuntime>,
+fn made<R: Abort + Threads + Sync + Copy + Send>(
+    rt: &R,
+    bench: &mut DirBench<Host<R>>,
     id: FileId,
     bytes: &[u8],
-) -> DirMade<HostRuntime> {
+) -> DirMade<Host<R>> {
     let mut draft = bench.draft(id).expect(rt, "a draft");
     draft.append(bytes).expect(rt, "written bytes");
     match draft.finish() {
@@ -27,7 +28,11 @@ fn adopted() -> FileId {
 }
 
 // Adopts a file under another name than its draft's.
-fn adopt(rt: &impl Abort, files: HostRuntime, disk: &mut DirDisk<HostRuntime>) {
+fn adopt<R: Abort + Threads + Sync + Copy + Send>(
+    rt: &R,
+    files: HostRuntime,
+    disk: &mut DirDisk<Host<R>>,
+) {
     let mut bench = disk.bench().expect(rt, "a bench");
     let file = made(
         rt,
@@ -43,14 +48,14 @@ fn adopt(rt: &impl Abort, files: HostRuntime, disk: &mut DirDisk<HostRuntime>) {
 }
 
 // Removes the file, of which there may be no name any more.
-fn remove_twice(rt: &impl Abort, disk: &mut DirDisk<HostRuntime>) {
+fn remove_twice<R: Abort + Threads + Sync + Copy + Send>(rt: &R, disk: &mut DirDisk<Host<R>>) {
     assert!(rt; disk.remove(adopted()).is_ok());
     assert!(rt; disk.remove(adopted()).is_ok());
     assert!(rt; disk.journal_sync().is_ok());
 }
 
 // Stops the test of a reader that doesn't read the file.
-fn expect_read(rt: &impl Abort, reader: &mut DirReader<HostRuntime>) {
+fn expect_read<R: Abort + Threads + Sync + Copy + Send>(rt: &R, reader: &mut DirReader<Host<R>>) {
     assert_eq!(rt; reader.len(), 8);
     let mut five = [0u8; 5];
     assert!(rt; reader.read_at(3, &mut five).is_ok());
@@ -58,7 +63,7 @@ fn expect_read(rt: &impl Abort, reader: &mut DirReader<HostRuntime>) {
 }
 
 // A reader outlasts the name of its file.
-fn read_removed(rt: &impl Abort, disk: &mut DirDisk<HostRuntime>) {
+fn read_removed<R: Abort + Threads + Sync + Copy + Send>(rt: &R, disk: &mut DirDisk<Host<R>>) {
     let mut reader = disk.reader(adopted()).expect(rt, "a reader");
     remove_twice(rt, disk);
     expect_read(rt, &mut reader);
@@ -77,20 +82,28 @@ fn a_draft_becomes_a_file(rt: HostRuntime) {
 }
 
 // A finished file is let go; no other draft takes its name meanwhile.
-fn let_go(rt: &impl Abort, bench: &mut DirBench<HostRuntime>) {
+fn let_go<R: Abort + Threads + Sync + Copy + Send>(rt: &R, bench: &mut DirBench<Host<R>>) {
     let file = made(rt, bench, FileId::of(2), b"a".as_slice());
     assert!(rt; bench.draft(FileId::of(2)).is_err());
     drop(file);
 }
 
 // A draft is given up.
-fn give_up(rt: &impl Abort, files: HostRuntime, bench: &mut DirBench<HostRuntime>) {
+fn give_up<R: Abort + Threads + Sync + Copy + Send>(
+    rt: &R,
+    files: HostRuntime,
+    bench: &mut DirBench<Host<R>>,
+) {
     let draft = bench.draft(FileId::of(3)).expect(rt, "a draft");
     expect_exists(rt, files, "mesa_dir_drafts/0000000000000003.draft", true);
     bench.spoil(draft);
 }
 
-fn drafts_go(rt: &impl Abort, files: HostRuntime, bench: &mut DirBench<HostRuntime>) {
+fn drafts_go<R: Abort + Threads + Sync + Copy + Send>(
+    rt: &R,
+    files: HostRuntime,
+    bench: &mut DirBench<Host<R>>,
+) {
     let_go(rt, bench);
     expect_exists(rt, files, "mesa_dir_drafts/0000000000000002.draft", false);
     give_up(rt, files, bench);
@@ -126,7 +139,7 @@ fn write_names(rt: &impl Abort, files: HostRuntime, name: &str) {
 }
 
 // The numbers of a disk's files.
-fn expect_ids(rt: &impl Abort, disk: &mut DirDisk<HostRuntime>) {
+fn expect_ids<R: Abort + Threads + Sync + Copy + Send>(rt: &R, disk: &mut DirDisk<Host<R>>) {
     let ids = disk.file_ids().expect(rt, "a list of files");
     assert_eq!(rt; ids.len(), 2);
     let numbers = (ids[0].number(), ids[1].number());
@@ -137,7 +150,7 @@ fn expect_ids(rt: &impl Abort, disk: &mut DirDisk<HostRuntime>) {
 fn other_names_are_left_alone(rt: HostRuntime) {
     let name = "mesa_dir_names";
     write_names(&rt, rt, name);
-    let mut disk = DirDisk::open(rt, name).expect(&rt, "a disk");
+    let mut disk = DirDisk::open(Host::new(rt, rt), name).expect(&rt, "a disk");
     expect_ids(&rt, &mut disk);
     drop(disk);
     expect_exists(&rt, rt, "mesa_dir_names/0000000100000003.draft", false);
@@ -149,7 +162,7 @@ fn other_names_are_left_alone(rt: HostRuntime) {
 static CUT: &str = "mesa_dir_cut/0000000000000005.mesa";
 
 // Stops the test of a reader that reads a file of four bytes which is shorter meanwhile.
-fn expect_fault(rt: &impl Abort, reader: &mut DirReader<HostRuntime>) {
+fn expect_fault<R: Abort + Threads + Sync + Copy + Send>(rt: &R, reader: &mut DirReader<Host<R>>) {
     let mut four = [0u8; 4];
     assert_eq!(rt; reader.len(), 4);
     assert!(rt; reader.read_at(0, &mut four).is_err());

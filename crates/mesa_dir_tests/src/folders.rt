@@ -1,13 +1,18 @@
 // Folders of tests, and what lies in them.
 use crate::expected::expect_same;
-use mesa_dir::DirDisk;
+use mesa_dir::{DirDisk, Host};
 use std::fs;
 use std::process::Abort;
+use std::thread::Threads;
 
 /// A disk in a folder that is new.
-pub fn opened(rt: &impl Abort, files: HostRuntime, name: &str) -> DirDisk<HostRuntime> {
+pub fn opened<R: Abort + Threads + Sync + Copy + Send>(
+    rt: &R,
+    files: HostRuntime,
+    name: &str,
+) -> DirDisk<Host<R>> {
     let _ = fs::remove_dir_all(&files, name);
-    DirDisk::open(files, name).expect(rt, "a disk")
+    DirDisk::open(Host::new(*rt, files), name).expect(rt, "a disk")
 }
 
 /// Stops the test of a path at which there is a file, or none, though there shouldn't be.

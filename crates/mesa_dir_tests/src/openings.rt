@@ -1,13 +1,17 @@
 // Folders that can't be opened.
 use crate::expected::expect_same;
 use crate::folders::{opened, remove};
-use mesa_dir::DirDisk;
+use mesa_dir::{DirDisk, Host};
 use mesa_disk::{Area, Bench, Disk, FileId, OpenFault};
 use std::fs;
 use std::process::Abort;
+use std::thread::Threads;
 
 // Asserts that each call that can fail does, and that the areas are told as two bytes long.
-fn fails_in_each_call(rt: &impl Abort, disk: &mut DirDisk<HostRuntime>) {
+fn fails_in_each_call<R: Abort + Threads + Sync + Copy + Send>(
+    rt: &R,
+    disk: &mut DirDisk<Host<R>>,
+) {
     let mut two = [0u8; 2];
     assert_eq!(rt; disk.journal_len(Area::Zero), 2);
     assert!(rt; disk.journal_read(Area::Zero, 0, &mut two).is_err());
@@ -24,8 +28,8 @@ fn fails_in_each_call(rt: &impl Abort, disk: &mut DirDisk<HostRuntime>) {
 }
 
 // Opens a folder that isn't to be had.
-fn open_in_vain(rt: &impl Abort, files: HostRuntime, name: &str) {
-    let mut disk = DirDisk::open(files, name).expect(rt, "a disk");
+fn open_in_vain<R: Abort + Threads + Sync + Copy + Send>(rt: &R, files: HostRuntime, name: &str) {
+    let mut disk = DirDisk::open(Host::new(*rt, files), name).expect(rt, "a disk");
     fails_in_each_call(rt, &mut disk);
 }
 
@@ -38,7 +42,7 @@ fn a_folder_that_is_none_fails(rt: HostRuntime) {
 }
 
 // A disk is opened, and in vain a second time; the first goes on unharmed.
-fn open_twice(rt: &impl Abort, files: HostRuntime, name: &str) {
+fn open_twice<R: Abort + Threads + Sync + Copy + Send>(rt: &R, files: HostRuntime, name: &str) {
     let mut first = opened(rt, files, name);
     let written = first.journal_write(Area::Zero, 0, b"abc".as_slice());
     assert!(rt; written.is_ok());
@@ -51,7 +55,7 @@ fn open_twice(rt: &impl Abort, files: HostRuntime, name: &str) {
 fn a_folder_that_another_has_fails(rt: HostRuntime) {
     let name = "mesa_dir_locked";
     open_twice(&rt, rt, name);
-    let third = DirDisk::open(rt, name).expect(&rt, "a disk");
+    let third = DirDisk::open(Host::new(rt, rt), name).expect(&rt, "a disk");
     assert_eq!(rt; third.journal_len(Area::Zero), 3);
     drop(third);
     remove(&rt, rt, name);

@@ -10,12 +10,13 @@ use std::fs::{File, OpenOptions};
 use std::io::{self, ErrorKind, Write};
 use std::process::Abort;
 
-/// The system itself, whose calls are recorded. A handle tells its own, the newest first. All calls are lines of a
+/// A system whose calls are recorded, such as the machine's own. A handle tells its own, the newest first. All calls are lines of a
 /// file, in their order: what was called, with the numbers of places and bytes, and the path. The calls whose lines
 /// begin so, where that isn't empty, aren't made, and fail.
 #[derive(Clone, Copy)]
-pub struct Recorder<R: Abort + Copy> {
+pub struct Recorder<R: Abort + Copy, S: System<Handle = File>> {
     pub rt: R,
+    pub system: S,
     pub files: HostRuntime,
     pub lines: &'static str,
     pub fails: &'static str,
@@ -45,7 +46,7 @@ fn failure<T>(answer: &io::Result<T>) -> Option<ErrorKind>
     }
 }
 
-impl<R: Abort + Copy> Recorder<R> {
+impl<R: Abort + Copy, S: System<Handle = File>> Recorder<R, S> {
     fn text(&self, text: &str) -> String
         ensures { string_bytes result ≡ text.now }
     {
@@ -92,7 +93,7 @@ impl<R: Abort + Copy> Recorder<R> {
     }
 }
 
-impl<R: Abort + Copy> System for Recorder<R> {
+impl<R: Abort + Copy, S: System<Handle = File>> System for Recorder<R, S> {
     type Handle = Recorded;
 
     type Closed = RecordedClosed;
@@ -107,7 +108,7 @@ impl<R: Abort + Copy> System for Recorder<R> {
 
     fn make_folder(&self, above: &mut Recorded, path: &str) -> io::Result<()> {
         let made = match self.begin("make folder", path) {
-            Ok(()) => self.files.make_folder(&mut above.file, path),
+            Ok(()) => self.system.make_folder(&mut above.file, path),
             Err(error) => Err(error),
         };
         let answer = failure(&made);
@@ -117,13 +118,13 @@ impl<R: Abort + Copy> System for Recorder<R> {
 
     fn open(&self, path: &str) -> io::Result<Recorded> {
         self.begin("open", path)?;
-        let file = System::open(&self.files, path)?;
+        let file = self.system.open(path)?;
         Ok(self.first(file, path, Told::Opened(self.text(path))))
     }
 
     fn open_within(&self, folder: &mut Recorded, path: &str) -> io::Result<Recorded> {
         let opened = match self.begin("open within", path) {
-            Ok(()) => self.files.open_within(&mut folder.file, path),
+            Ok(()) => self.system.open_within(&mut folder.file, path),
             Err(error) => Err(error),
         };
         self.note(folder, Told::OpenedWithin(self.text(path), opened.is_ok()));
@@ -132,13 +133,13 @@ impl<R: Abort + Copy> System for Recorder<R> {
 
     fn create(&self, path: &str) -> io::Result<Recorded> {
         self.begin("make", path)?;
-        let file = System::create(&self.files, path)?;
+        let file = self.system.create(path)?;
         Ok(self.first(file, path, Told::Created(self.text(path))))
     }
 
     fn lock(&self, folder: &mut Recorded, file: &mut Recorded) -> io::Result<()> {
         let locked = match self.begin("lock", file.path.as_str()) {
-            Ok(()) => System::lock(&self.files, &mut folder.file, &mut file.file),
+            Ok(()) => self.system.lock(&mut folder.file, &mut file.file),
             Err(error) => Err(error),
         };
         self.note(folder, Told::Locked(locked.is_ok()));
@@ -147,12 +148,12 @@ impl<R: Abort + Copy> System for Recorder<R> {
     }
 
     fn is_stream(&self, handle: &Recorded) -> bool {
-        self.files.is_stream(&handle.file)
+        self.system.is_stream(&handle.file)
     }
 
     fn len(&self, file: &mut Recorded) -> io::Result<u64> {
         self.begin("length", file.path.as_str())?;
-        let len = System::len(&self.files, &mut file.file)?;
+        let len = self.system.len(&mut file.file)?;
         self.note(file, Told::Measured(len));
         Ok(len)
     }
@@ -160,7 +161,7 @@ impl<R: Abort + Copy> System for Recorder<R> {
     fn read_at(&self, file: &mut Recorded, at: u64, buf: &mut [u8]) -> io::Result<()> {
         let call = format!(in self.memory(); "read {at} {}", buf.len()).expect(&self.rt, "memory");
         let read = match self.begin(call.as_str(), file.path.as_str()) {
-            Ok(()) => System::read_at(&self.files, &mut file.file, at, buf),
+            Ok(()) => self.system.read_at(&mut file.file, at, buf),
             Err(error) => Err(error),
         };
         self.note(file, Told::Read(at, self.copy(buf), read.is_ok()));
@@ -170,7 +171,7 @@ impl<R: Abort + Copy> System for Recorder<R> {
     fn write(&self, file: &mut Recorded, bytes: &[u8]) -> io::Result<()> {
         let call = format!(in self.memory(); "write {}", bytes.len()).expect(&self.rt, "memory");
         let written = match self.begin(call.as_str(), file.path.as_str()) {
-            Ok(()) => System::write(&self.files, &mut file.file, bytes),
+            Ok(()) => self.system.write(&mut file.file, bytes),
             Err(error) => Err(error),
         };
         self.note(file, Told::Wrote(self.copy(bytes), written.is_ok()));
@@ -182,7 +183,7 @@ impl<R: Abort + Copy> System for Recorder<R> {
             &self.rt, "memory",
         );
         let written = match self.begin(call.as_str(), file.path.as_str()) {
-            Ok(()) => System::write_at(&self.files, &mut file.file, at, bytes),
+            Ok(()) => self.system.write_at(&mut file.file, at, bytes),
             Err(error) => Err(error),
         };
         self.note(file, Told::WroteAt(at, self.copy(bytes), written.is_ok()));
@@ -191,7 +192,7 @@ impl<R: Abort + Copy> System for Recorder<R> {
 
     fn sync(&self, handle: &mut Recorded) -> io::Result<()> {
         let synced = match self.begin("sync", handle.path.as_str()) {
-            Ok(()) => System::sync(&self.files, &mut handle.file),
+            Ok(()) => self.system.sync(&mut handle.file),
             Err(error) => Err(error),
         };
         self.note(handle, Told::Synced(synced.is_ok()));
@@ -200,24 +201,41 @@ impl<R: Abort + Copy> System for Recorder<R> {
 
     fn sync_bytes(&self, file: &mut Recorded) -> io::Result<()> {
         let synced = match self.begin("sync bytes", file.path.as_str()) {
-            Ok(()) => System::sync_bytes(&self.files, &mut file.file),
+            Ok(()) => self.system.sync_bytes(&mut file.file),
             Err(error) => Err(error),
         };
         self.note(file, Told::SyncedBytes(synced.is_ok()));
         synced
     }
 
+    fn sync_beside(
+        &self,
+        file: &mut Recorded,
+        folder: &mut Recorded,
+    ) -> (io::Result<()>, io::Result<()>) {
+        let call = format!(in self.memory(); "sync bytes beside {}", folder.path.as_str()).expect(
+            &self.rt, "memory",
+        );
+        let (bytes, names) = match self.begin(call.as_str(), file.path.as_str()) {
+            Ok(()) => self.system.sync_beside(&mut file.file, &mut folder.file),
+            Err(error) => (Err(error), Err(ErrorKind::Other.into())),
+        };
+        self.note(file, Told::SyncedBytes(bytes.is_ok()));
+        self.note(folder, Told::Synced(names.is_ok()));
+        (bytes, names)
+    }
+
     fn close(&self, file: Recorded) -> RecordedClosed {
         let Recorded { file, path, calls } = file;
         let _told = self.begin("close", path.as_str());
-        let _closed = System::close(&self.files, file);
+        let _closed = self.system.close(file);
         RecordedClosed { calls }
     }
 
     fn rename(&self, folder: &mut Recorded, from: &str, to: &str) -> io::Result<()> {
         let call = format!(in self.memory(); "rename {from}").expect(&self.rt, "memory");
         let renamed = match self.begin(call.as_str(), to) {
-            Ok(()) => System::rename(&self.files, &mut folder.file, from, to),
+            Ok(()) => self.system.rename(&mut folder.file, from, to),
             Err(error) => Err(error),
         };
         let told = Told::Renamed(self.text(from), self.text(to), renamed.is_ok());
@@ -227,7 +245,7 @@ impl<R: Abort + Copy> System for Recorder<R> {
 
     fn remove(&self, folder: &mut Recorded, path: &str) -> io::Result<()> {
         let removed = match self.begin("remove", path) {
-            Ok(()) => System::remove(&self.files, &mut folder.file, path),
+            Ok(()) => self.system.remove(&mut folder.file, path),
             Err(error) => Err(error),
         };
         let answer = failure(&removed);
@@ -237,11 +255,11 @@ impl<R: Abort + Copy> System for Recorder<R> {
 
     fn discard(&self, path: &str) {
         let _told = self.begin("discard", path);
-        self.files.discard(path);
+        self.system.discard(path);
     }
 
     fn names(&self, path: &str) -> io::Result<Vec<io::Result<String>>> {
         self.begin("names", path)?;
-        self.files.names(path)
+        self.system.names(path)
     }
 }

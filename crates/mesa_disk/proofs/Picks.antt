@@ -6,7 +6,7 @@ use Rattle.std.proofs.lemmas.List.{take_more, take_all, length-replicate}
 use Rattle.std.specs.Arc.{arc_value}
 use Rattle.mesa_disk.specs.Image.{Image, area_of, with_area, with_file, without_file, overwritten, Tears, May, Loses}
 use Rattle.mesa_disk.specs.Recorded.{Left, seen_step, other_step, seen_after, OtherAfter, PastLeft, MayLeave, MayHaveLeft, IsPlaced, ArePlaced, nothing}
-use Rattle.mesa_disk.specs.Picked.{synced, is_sync, picked_bytes, picked_step, picked_after, picked_image, calls_before}
+use Rattle.mesa_disk.specs.Picked.{synced, is_sync, picked_bytes, loses_name, picked_step, picked_after, picked_image, calls_before}
 use Rattle.mesa_disk.specs.declared.area.Area.{Area}
 use Rattle.mesa_disk.specs.declared.area.Area.TheVariants.{Zero, One}
 use Rattle.mesa_disk.specs.declared.memory.calls.Done.{Done}
@@ -50,7 +50,7 @@ NoSync [] = Unit {0}
 NoSync (d ∷ ds) = (is_sync d.call ≡ false) × NoSync ds
 
 length-picked : (pick : ℕ) (bytes : List ℕ) → length (picked_bytes pick bytes) ≡ length bytes
-length-picked pick bytes = elim (pick == 1) as (λ b. length (if b then bytes else replicate (length bytes) 1) ≡ length bytes) [ true ↦ refl | false ↦ length-replicate (length bytes) 1 ]
+length-picked pick bytes = elim (pick == 2) as (λ b. length (if b then replicate (length bytes) 1 else bytes) ≡ length bytes) [ true ↦ length-replicate (length bytes) 1 | false ↦ refl ]
 
 other_area : (area a : Area) (x : List ℕ) (i j : Image) → ((b : Area) → length (area_of b i) ≡ length (area_of b j)) → (y : List ℕ) → length x ≡ length y
     → length (area_of a (with_area area x i)) ≡ length (area_of a (with_area area y j))
@@ -72,12 +72,16 @@ module _ (pick : ℕ) where
   lost id left true = inl refl
   lost id left false = inr refl
 
+  named : (id : ℕ) (bytes : List ℕ) (left : Image) (b : Bool) → ((if b then left else with_file id bytes left) ≡ left) ⊎ ((if b then left else with_file id bytes left) ≡ with_file id bytes left)
+  named id bytes left true = inl refl
+  named id bytes left false = inr refl
+
   become : (call : Call) (seen : Image) (other : Image → Type 0) (left : Image) → is_sync call ≡ false → IsPlaced call seen → SameSizes pick seen left
       → Left seen other left → Left (seen_step call seen) (other_step call seen other) (picked_step pick call left)
   become (Write area at bytes) seen other left pending placed same had = inr (left, had, tears_picked area at bytes seen left placed same (pick == 0) refl)
   become Sync seen other left pending placed same had = absurd (let e : true ≡ false = pending in cc)
-  become (Adopt id bytes) seen other left pending placed same had = inr (left, had, refl)
-  become (Remove id) seen other left pending placed same had = inr (left, had, lost id left (pick == 0))
+  become (Adopt id bytes) seen other left pending placed same had = inr (left, had, named id (arc_value bytes) left (loses_name pick id))
+  become (Remove id) seen other left pending placed same had = inr (left, had, lost id left (loses_name pick id))
 
   same_step : (call : Call) (seen left : Image) → IsPlaced call seen → SameSizes pick seen left → SameSizes pick (seen_step call seen) (picked_step pick call left)
   same_step (Write area at bytes) seen left placed same some a =
@@ -87,16 +91,20 @@ module _ (pick : ℕ) where
       ap (λ b. length (area_of a (if b then left else with_area area (overwritten at (picked_bytes pick bytes) (area_of area left)) left))) some
       ∙ other_area area a _ left seen (same some) _ longer
   same_step Sync seen left placed same some a = same some a
-  same_step (Adopt id bytes) seen left placed same some a = untouched a
+  same_step (Adopt id bytes) seen left placed same some a = untouched a (loses_name pick id)
     where
-      untouched : (a : Area) → length (area_of a (with_file id (arc_value bytes) left)) ≡ length (area_of a (with_file id (arc_value bytes) seen))
-      untouched Zero = same some Zero
-      untouched One = same some One
-  same_step (Remove id) seen left placed same some a = ap (λ b. length (area_of a (if b then left else without_file id left))) some ∙ untouched a
+      untouched : (a : Area) (b : Bool) → length (area_of a (if b then left else with_file id (arc_value bytes) left)) ≡ length (area_of a (with_file id (arc_value bytes) seen))
+      untouched Zero true = same some Zero
+      untouched Zero false = same some Zero
+      untouched One true = same some One
+      untouched One false = same some One
+  same_step (Remove id) seen left placed same some a = untouched a (loses_name pick id)
     where
-      untouched : (a : Area) → length (area_of a (without_file id left)) ≡ length (area_of a (without_file id seen))
-      untouched Zero = same some Zero
-      untouched One = same some One
+      untouched : (a : Area) (b : Bool) → length (area_of a (if b then left else without_file id left)) ≡ length (area_of a (without_file id seen))
+      untouched Zero true = same some Zero
+      untouched Zero false = same some Zero
+      untouched One true = same some One
+      untouched One false = same some One
 
   grown : (seen : Image) (other : Image → Type 0) (calls : List Done) (left : Image) → NoSync calls → ArePlaced seen calls → SameSizes pick seen left → Left seen other left
       → Left (seen_after seen calls) (OtherAfter seen other calls) (picked_after pick left calls)

@@ -1,5 +1,5 @@
--- One of the images that a crash may leave, by a pick: 0 leaves of each pending call nothing, 1 all of it, and another pick all of it with the byte 01 throughout what was written.
-use Rattle.std.specs.Prelude.{ℕ, ◌+◌, Bool, true, false, ◌==◌, nat_lt, if◌then◌else◌, List, [], ◌∷◌, length, take, drop, replicate}
+-- One of the images that a crash may leave, by a pick: 0 leaves of each pending call nothing, 1 all of it, and 2 all of it with the byte 01 throughout what was written. A higher one leaves all but every other name: an odd pick loses what came of the files whose ids are odd, an even one of the others.
+use Rattle.std.specs.Prelude.{ℕ, ◌+◌, ◌%◌, Bool, true, false, ◌&&◌, ◌||◌, ◌==◌, nat_lt, if◌then◌else◌, List, [], ◌∷◌, length, take, drop, replicate}
 use Rattle.std.specs.Arc.{arc_value}
 use Rattle.mesa_disk.specs.Image.{Image, area_of, with_area, with_file, without_file, overwritten}
 use Rattle.mesa_disk.specs.Recorded.{seen_after}
@@ -9,14 +9,18 @@ use Rattle.mesa_disk.specs.declared.memory.calls.Call.TheVariants.{Write, Sync, 
 
 -- what stands in the range of a write that has come to the disk
 abbrev pub picked_bytes : ℕ → List ℕ → List ℕ
-picked_bytes pick bytes = if pick == 1 then bytes else replicate (length bytes) 1
+picked_bytes pick bytes = if pick == 2 then replicate (length bytes) 1 else bytes
+
+-- whether the name of a file is as it was at the last sync
+abbrev pub loses_name : ℕ → ℕ → Bool
+loses_name pick id = (pick == 0) || (nat_lt 2 pick && (id % 2 == pick % 2))
 
 -- what a crash leaves of a call that no sync has followed
 abbrev pub picked_step : ℕ → Call → Image → Image
 picked_step pick (Write area at bytes) left = if pick == 0 then left else with_area area (overwritten at (picked_bytes pick bytes) (area_of area left)) left
 picked_step pick Sync left = left
-picked_step pick (Adopt id bytes) left = with_file id (arc_value bytes) left
-picked_step pick (Remove id) left = if pick == 0 then left else without_file id left
+picked_step pick (Adopt id bytes) left = if loses_name pick id then left else with_file id (arc_value bytes) left
+picked_step pick (Remove id) left = if loses_name pick id then left else without_file id left
 
 -- what a crash leaves of calls that no sync has followed
 abbrev pub picked_after : ℕ → Image → List Done → Image

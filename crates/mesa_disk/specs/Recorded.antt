@@ -59,7 +59,7 @@ Left seen other c = (seen ≡ c) ⊎ other c
 abbrev pub other_step : Call → Image → (Image → Type 0) → Image → Type 0
 other_step (Write area at bytes) seen other = After (Tears area at (length bytes)) (Left seen other)
 other_step Sync seen other = λ c. ⊥
-other_step (Adopt id bytes) seen other = After (λ d c. c ≡ with_file id (arc_value bytes) d) (Left seen other)
+other_step (Adopt id bytes) seen other = After (λ d c. (c ≡ d) ⊎ (c ≡ with_file id (arc_value bytes) d)) (Left seen other)
 other_step (Remove id) seen other = After (May Loses id) (Left seen other)
 
 -- What a crash after calls may leave beside what a read gives.

@@ -70,15 +70,12 @@ pub trait Disk<M: Made>: Send {
         ensures cause { HasCause (story self.old).faults (story self.new).faults result }
         ensures read_cause { (story self.new).read_faults ≡ (story self.old).read_faults };
 
-    /// Puts a finished file on the disk under this id, whatever its draft's was. After an `Err` the file
-    /// is there whole or absent.
+    /// Puts a finished file on the disk under this id, whatever its draft's was. After Ok a read finds it.
+    /// After Ok or Err a crash may leave it whole or absent, until a sync succeeds.
     fn adopt(&mut self, made: M, id: FileId) -> Result<(), DiskFailed>
         requires { (i : Image) → (story self.old).told ≡ Some i → file_of i id ≡ None }
         ensures adopted { OnOk result (Steps (Adopts (id, M.bytes made)) (story self.old).told (story self.new).told) }
         ensures whole { Steps (May Adopts (id, M.bytes made)) (story self.old).told (story self.new).told }
-
-        // Once it has answered Ok, each image has the file.
-        ensures stays { OnOk result (Follows (Adopts (id, M.bytes made)) (story self.old).may_leave (story self.new).may_leave) }
         ensures crash { Follows (May Adopts (id, M.bytes made)) (story self.old).may_leave (story self.new).may_leave }
 
         ensures len { (a : Area) → (story self.new).len a ≡ (story self.old).len a }

@@ -1,7 +1,7 @@
 ghost use Rattle.std.specs.Prelude.{◌≡◌, ◌≤◌, ℕ, List, Some, OnOk, OnErr};
 ghost use Rattle.mesa_disk.specs.declared.area.Area.{Area};
 ghost use Rattle.mesa_disk.specs.Image.{Image};
-ghost use Rattle.mesa_disk.specs.Files.{files_of, AddsAll, AddsFirst, AreAbsent, AreGone, AreThere, HasDistinctIds, HasOtherIds, IsNoneOf, LosesAll, LosesFirst, LosesSome, OthersStay};
+ghost use Rattle.mesa_disk.specs.Files.{files_of, AddsAll, AddsFirst, AddsSome, AreAbsent, AreGone, AreThere, HasDistinctIds, HasOtherIds, IsNoneOf, LosesAll, LosesFirst, LosesSome, OthersStay};
 ghost use Rattle.mesa_disk.specs.Story.{Steps, After, Follows, Elapses};
 ghost use Rattle.mesa_fault.specs.Causes.{HasCause, Rose};
 
@@ -22,19 +22,17 @@ pub fn adopt_all<M: Made, D: Disk<M>>(
     requires distinct { HasDistinctIds (files_of M.bytes made.items) }
     requires new { (i : Image) → (D.story disk.old).told ≡ Some i → AreAbsent (files_of M.bytes made.items) i }
 
-    // After it each file is there, in what a read gives and in each image.
+    // After it a read gives each file.
     ensures adopted { OnOk result (Steps (AddsAll (files_of M.bytes made.items)) (D.story disk.old).told (D.story disk.new).told) }
-    ensures stays { OnOk result (Follows (AddsAll (files_of M.bytes made.items)) (D.story disk.old).may_leave (D.story disk.new).may_leave) }
-
     ensures all { OnOk result ((i : Image) → (D.story disk.new).told ≡ Some i → AreThere (files_of M.bytes made.items) i) }
 
     // Whatever it answers, a read gives the first few of them more, and else what it gave before.
     ensures partly { Steps (AddsFirst (files_of M.bytes made.items)) (D.story disk.old).told (D.story disk.new).told }
     ensures only { Steps (OthersStay (λ id. HasOtherIds id (files_of M.bytes made.items))) (D.story disk.old).told (D.story disk.new).told }
 
-    // A crash at any moment, and whatever it answers a crash now, leaves what one before would have left, with the first few of the files.
-    ensures any_moment { Elapses (After (AddsFirst (files_of M.bytes made.items)) (D.story disk.old).may_leave) (D.story disk.old) (D.story disk.new) }
-    ensures left { Follows (AddsFirst (files_of M.bytes made.items)) (D.story disk.old).may_leave (D.story disk.new).may_leave }
+    // A crash at any moment, and whatever it answers a crash now, leaves what one before would have left, with none, some or all of the files.
+    ensures any_moment { Elapses (After (AddsSome (files_of M.bytes made.items)) (D.story disk.old).may_leave) (D.story disk.old) (D.story disk.new) }
+    ensures left { Follows (AddsSome (files_of M.bytes made.items)) (D.story disk.old).may_leave (D.story disk.new).may_leave }
 
     ensures len { (a : Area) → (D.story disk.new).len a ≡ (D.story disk.old).len a }
     ensures clock { OnErr result (Rose (D.story disk.old).moment (D.story disk.new).moment) }

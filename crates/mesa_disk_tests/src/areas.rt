@@ -95,7 +95,7 @@ fn expect_images(
     live: Area,
     run: u32,
 ) {
-    for pick in 0..3_u8 {
+    for pick in 0..5_u8 {
         let mut image = disk.image(moment, pick).expect(rt, "memory");
         let found = read(rt, alloc, &mut image);
         let stated = moment >= 7 || (moment == 6 && pick != 0);

@@ -16,7 +16,7 @@ struct Case {
     reads: [Read; 6],
 }
 
-static CASES: [Case; 4] = [
+static CASES: [Case; 5] = [
     Case {
         name: "over all pages",
         pages: 1,
@@ -67,6 +67,19 @@ static CASES: [Case; 4] = [
             (35_000, 10, true),
             (0, 10, true),
             (20_000, 10, false),
+        ],
+    },
+    Case {
+        name: "a read over a page's end keeps no page, and goes on behind one that is kept",
+        pages: 2,
+        fails: 1,
+        reads: [
+            (0, 16_385, true),
+            (16_384, 1, false),
+            (5, 10, true),
+            (0, 40_000, true),
+            (0, 16_385, true),
+            (16_390, 4, true),
         ],
     },
 ];

@@ -1,6 +1,7 @@
 // Journals in an area of a disk in memory.
+use crate::disk::adopts;
 use crate::expected::expect_same;
-use mesa_disk::{Area, Disk, MemDisk};
+use mesa_disk::{Area, Disk, FileId, MemDisk};
 use mesa_journal::{Framed, JournalError, JournalRead, append, close_gate, read_journal};
 use std::alloc::Global;
 use std::process::Abort;
@@ -99,7 +100,7 @@ fn bodies(rt: &impl Abort, alloc: Global, disk: &MemDisk, moment: u64, pick: u8)
 // The calls are: the closed gate and a sync, the body and a sync, the open gate and a sync. So the body
 // is there from the last sync on, and before that sync only where the gate has come to the disk.
 fn expect_images(rt: &impl Abort, alloc: Global, disk: &MemDisk, moment: u64) {
-    for pick in 0..3_u8 {
+    for pick in 0..5_u8 {
         let count = bodies(rt, alloc, disk, moment, pick);
         let there = moment == 6 || (moment == 5 && pick != 0);
         expect_same(rt, &count, &usize::from(there), &(moment, pick));
@@ -119,5 +120,30 @@ fn expect_stopped(rt: &impl Abort, alloc: Global, call: u64) {
 fn an_append_that_is_stopped_leaves_no_body(rt: HostRuntime) {
     for call in 0..4_u64 {
         expect_stopped(&rt, rt.alloc(), call);
+    }
+}
+
+// Whether file 9 is there in an image of a disk, and whether a body is.
+fn named(rt: &impl Abort, alloc: Global, disk: &MemDisk, moment: u64, pick: u8) -> (bool, bool) {
+    let mut image = disk.image(moment, pick).expect(rt, "memory");
+    let ids = image.file_ids().expect(rt, "a list of files");
+    let bodies = read(rt, alloc, &mut image).bodies.len();
+    (ids.contains(&FileId::of(9)), bodies == 1)
+}
+
+// The calls are: the adoption, the body and a sync, the open gate and a sync. The file's name is on the disk from the first
+// sync on, and before it where the pick leaves the names of odd ids; so no image has the body and not the file.
+#[test]
+fn a_file_comes_to_the_disk_before_its_record(rt: HostRuntime) {
+    let mut disk = disk_of(&rt, rt.alloc(), &[0], &[]);
+    assert!(rt; adopts(&rt, rt.alloc(), &mut disk));
+    assert!(rt; appended(&rt, rt.alloc(), &mut disk));
+    for moment in 0..6_u64 {
+        for pick in 0..5_u8 {
+            let file = moment > 2 || (moment > 0 && pick != 0 && pick != 3);
+            let body = moment == 5 || (moment == 4 && pick != 0);
+            let found = named(&rt, rt.alloc(), &disk, moment, pick);
+            expect_same(&rt, &found, &(file, body), &(moment, pick));
+        }
     }
 }

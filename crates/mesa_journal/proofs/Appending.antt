@@ -1,5 +1,5 @@
 -- What a crash leaves at each moment of an append.
-use Rattle.std.proofs.Common.{◌≡◌, ℕ, ◌+◌, ◌^◌, ◌<◌, List, [], ◌∷◌, ◌++◌, length, Option, Some, ◌∙◌, ap, subst, inl}
+use Rattle.std.proofs.Common.{◌≡◌, ℕ, ◌+◌, ◌^◌, ◌<◌, List, [], ◌∷◌, ◌++◌, length, Option, Some, ◌∙◌, ap, subst, inl, inr}
 use Rattle.mesa_disk.specs.Image.{Image, area_of, with_area, overwritten, Torn, InArea, Overwrites, Tears}
 use Rattle.mesa_disk.specs.Story.{Story, Steps, After, Follows, Elapses, Spans}
 use Rattle.mesa_disk.specs.declared.area.Area.{Area}
@@ -8,9 +8,9 @@ use Rattle.mesa_journal.specs.Journal.{Closed, record_bytes}
 use Rattle.mesa_journal.specs.Settled.{IsSettled, IsWithinAppend}
 use Rattle.mesa_journal.proofs.Bytes.{Staged, closed_torn, closed_written, staged_torn, staged_either, staged_written}
 
--- an image from the start whose area is staged
+-- what a read gave at the start, whose area is staged
 abbrev IsStaged : Story → Area → List (List ℕ) → ℕ → List ℕ → Image → Type 0
-IsStaged start area bodies end body = After (InArea area (λ old new. Staged new bodies end body)) start.may_leave
+IsStaged start area bodies end body = After (InArea area (λ old new. Staged new bodies end body)) (λ i. start.told ≡ Some i)
 
 module _ (start : Story) (area : Area) (bodies : List (List ℕ)) (end : ℕ) (body : List ℕ) (small : length body < 2 ^ 32) (settled : IsSettled start area bodies end) where
   -- once the record was written, or not whole
@@ -19,20 +19,20 @@ module _ (start : Story) (area : Area) (bodies : List (List ℕ)) (end : ℕ) (b
       let left = λ (c : Image) (left : now.may_leave c). (
       let from = crash c left in
       let is : IsWithinAppend start area bodies end body c =
-      (from.0, from.1, record { bytes = from.2.bytes; stepped = inl (closed_torn bodies end n _ _ (settled.left from.0 from.1) from.2.stepped); same = from.2.same }) in
+      inl (from.0, from.1, record { bytes = from.2.bytes; stepped = closed_torn bodies end n _ _ (settled.left from.0 from.1) from.2.stepped; same = from.2.same }) in
       is
       ) in
       record { run = goes_on _ now.may_leave start start now (starts _ start) time left; left = left }
 
   -- what a read gives once it was written whole
-  pub staged : ((i : Image) → start.told ≡ Some i → start.may_leave i) → (record_is : List ℕ) → record_is ≡ record_bytes body → (told : Option Image)
+  pub staged : (record_is : List ℕ) → record_is ≡ record_bytes body → (told : Option Image)
       → Steps (Overwrites area (end + 1) record_is) start.told told → (c : Image) → told ≡ Some c → IsStaged start area bodies end body c
-  staged read record_is same told wrote c is =
+  staged record_is same told wrote c is =
       let from = wrote.back c is in
-      (from.0, read from.0 from.1, record { bytes = _; stepped = closed_written bodies end body _ _ (settled.read from.0 from.1) (ap (λ (l : List ℕ). overwritten (end + 1) l (area_of area from.0)) same); same = from.2 })
+      (from.0, from.1, record { bytes = _; stepped = closed_written bodies end body _ _ (settled.read from.0 from.1) (ap (λ (l : List ℕ). overwritten (end + 1) l (area_of area from.0)) same); same = from.2 })
 
   within : (c : Image) → IsStaged start area bodies end body c → IsWithinAppend start area bodies end body c
-  within c is = (is.0, is.1, record { bytes = is.2.bytes; stepped = staged_either bodies end body _ is.2.stepped small; same = is.2.same })
+  within c is = inr (is.0, is.1, record { bytes = is.2.bytes; stepped = staged_either bodies end body _ is.2.stepped small; same = is.2.same })
 
   torn_gate : (told : Option Image) (old new : Image → Type 0) → ((c : Image) → told ≡ Some c → IsStaged start area bodies end body c) → ((c : Image) → old c → told ≡ Some c)
       → Follows (Tears area end 1) old new → (c : Image) → new c → IsStaged start area bodies end body c

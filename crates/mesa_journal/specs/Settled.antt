@@ -14,6 +14,8 @@ pub record IsSettled (story : Story) (area : Area) (bodies : List (List ℕ)) (e
 abbrev pub WithOrWithout : List (List ℕ) → ℕ → List ℕ → List ℕ → Type 0
 WithOrWithout bodies end body area = Closed area bodies end ⊎ Closed area (bodies ++ body ∷ []) (end + length body + 5)
 
--- An image from the start, whose area has the bodies with one more or without it.
+-- An image from the start, whose area has the bodies; or what a read gave at the start, whose area has them with one more or without it. So where one more is, all else is what a read gave: its gate is opened behind a sync.
 abbrev pub IsWithinAppend : Story → Area → List (List ℕ) → ℕ → List ℕ → Image → Type 0
-IsWithinAppend start area bodies end body = After (InArea area (λ old new. WithOrWithout bodies end body new)) start.may_leave
+IsWithinAppend start area bodies end body c =
+    After (InArea area (λ old new. Closed new bodies end)) start.may_leave c
+    ⊎ After (InArea area (λ old new. WithOrWithout bodies end body new)) (λ i. start.told ≡ Some i) c

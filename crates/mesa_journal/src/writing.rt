@@ -28,7 +28,7 @@ pub fn append<M: Made, D: Disk<M>>(
     ensures acknowledged { OnOk result ((bodies : List (List ℕ)) → IsSettled (D.story disk.old) area bodies end
         → IsSettled (D.story disk.new) area (bodies ++ framed.now ∷ []) (end + length framed.now + 5)) }
 
-    // A crash at any moment, and whatever it answers a crash now, leaves the bodies with this one or without, and all else as a crash before would have left it.
+    // A crash at any moment, and whatever it answers a crash now, leaves the bodies without this one, and all else as a crash before would have left it; or with this one, and all else as a read gave it.
     ensures any_moment { (bodies : List (List ℕ)) → IsSettled (D.story disk.old) area bodies end
         → Elapses (IsWithinAppend (D.story disk.old) area bodies end framed.now) (D.story disk.old) (D.story disk.new) }
     ensures left { (bodies : List (List ℕ)) → IsSettled (D.story disk.old) area bodies end

@@ -76,7 +76,7 @@ fn expect_moment(
     before: &str,
     after: &str,
 ) -> Result<(), Fail> {
-    for pick in 0..3_u8 {
+    for pick in 0..5_u8 {
         expect_image(rt, alloc, disk, Crash { moment, pick }, before, after)?;
     }
     Ok(())

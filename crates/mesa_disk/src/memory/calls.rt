@@ -5,7 +5,7 @@ ghost use Rattle.std.specs.FinMap.{keys};
 ghost use Rattle.std.specs.Arc.{arc_value};
 ghost use Rattle.mesa_disk.specs.Image.{area_of, file_of};
 ghost use Rattle.mesa_disk.specs.Recorded.{held_image, start_image, now_image, image_code, seen_step, seen_after, IsPlaced, ArePlaced, ArePlaced-prop};
-ghost use Rattle.mesa_disk.specs.Picked.{picked_step, picked_after, picked_image, calls_before, synced};
+ghost use Rattle.mesa_disk.specs.Picked.{loses_name as is_lost, picked_step, picked_after, picked_image, calls_before, synced};
 ghost use Rattle.mesa_disk.specs.declared.memory.held.Start.{Start as Starts};
 ghost use Rattle.mesa_disk.specs.declared.memory.calls.Call.TheVariants.{Write as WriteCall};
 
@@ -226,12 +226,20 @@ fn pick_all(alloc: Global, held: &mut Held, calls: &[Done], pick: u8) -> Result<
 fn pick_one(alloc: Global, held: &mut Held, call: &Call, pick: u8) -> Result<(), AllocError>
     ensures { OnOk result (held_image held.new ≡ picked_step pick call.now (held_image held.old)) }
 {
-    match (call, pick) {
-        (Call::Write(..) | Call::Remove(_), 0) => Ok(()),
-        (Call::Write(area, at, bytes), pick) if pick != 1 => {
+    match call {
+        Call::Write(..) if pick == 0 => Ok(()),
+        Call::Write(area, at, bytes) if pick == 2 => {
             let ones = vec![in alloc; 1; bytes.len()]?;
             write_area(held, *area, *at as usize, &ones)
         }
-        (call, _) => repeat(held, call),
+        Call::Adopt(id, _) | Call::Remove(id) if loses_name(pick, *id) => Ok(()),
+        _ => repeat(held, call),
     }
+}
+
+// Whether the pick leaves the name of a file as it was at the last sync.
+fn loses_name(pick: u8, id: FileId) -> bool
+    ensures { result ≡ is_lost pick id }
+{
+    pick == 0 || pick > 2 && id.number() % 2 == u64::from(pick % 2)
 }

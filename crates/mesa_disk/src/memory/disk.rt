@@ -77,7 +77,8 @@ impl MemDisk {
     }
 
     /// A disk that holds one image of a crash at this moment. Of the calls that no sync had followed,
-    /// pick 0 leaves nothing, 1 all, and another pick all, with the byte 01 throughout what was written.
+    /// pick 0 leaves nothing, 1 all, and 2 all, with the byte 01 throughout what was written. 3 leaves all
+    /// but what came of files whose ids are odd, 4 all but what came of the others.
     pub fn image(&self, moment: u64, pick: u8) -> Result<MemDisk, AllocError>
         ensures picked { IfOk result (λ d. (story_of d).told ≡ Some (image_at self.now moment pick)) }
         ensures left { IfOk result (λ d. (c : Image) → (story_of d).told ≡ Some c → (story_of self.now).may_have_left moment c) }
@@ -271,9 +272,6 @@ impl Disk<MemMade> for MemDisk {
         requires { (i : Image) → (story_of self.old).told ≡ Some i → file_of i id ≡ None }
         ensures adopted { OnOk result (Steps (Adopts (id, Some (made_bytes made))) (story_of self.old).told (story_of self.new).told) }
         ensures whole { Steps (May Adopts (id, Some (made_bytes made))) (story_of self.old).told (story_of self.new).told }
-
-        // Once it has answered Ok, each image has the file.
-        ensures stays { OnOk result (Follows (Adopts (id, Some (made_bytes made))) (story_of self.old).may_leave (story_of self.new).may_leave) }
         ensures crash { Follows (May Adopts (id, Some (made_bytes made))) (story_of self.old).may_leave (story_of self.new).may_leave }
 
         ensures len { (a : Area) → (story_of self.new).len a ≡ (story_of self.old).len a }

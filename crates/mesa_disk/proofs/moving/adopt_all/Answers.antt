@@ -1,10 +1,10 @@
-use Rattle.std.proofs.Common.{◌≡◌, inr, Result, Ok, Err, OnErr, ℕ, List, Option, ◌++◌, [], ◌∷◌, length, refl, sym, ◌∙◌, ap, subst, arith, rules, append_assoc}
+use Rattle.std.proofs.Common.{◌≡◌, Result, Ok, Err, OnErr, ℕ, List, Option, ◌++◌, [], ◌∷◌, length, refl, sym, ◌∙◌, ap, subst, arith, rules, append_assoc}
 use Rattle.std.proofs.lemmas.List.{append-nil, map-append, nil_from_length}
 use Rattle.std.specs.Vec.Iter.{into_iter_items}
 use Rattle.mesa_disk.specs.Story.{Steps, After, Follows, Elapses}
-use Rattle.mesa_disk.specs.Image.{Adopts}
-use Rattle.mesa_disk.specs.Files.{InTurn, AddsFirst, AreAbsent, HasDistinctIds, HasOtherIds, OthersStay, files_of}
-use Rattle.mesa_disk.proofs.Rounds.{Moving, nothing_done, tried, run_tried, told_tried, one_more, steps_weaker, first_all, first_tried, still_absent}
+use Rattle.mesa_disk.specs.Image.{Adopts, May}
+use Rattle.mesa_disk.specs.Files.{InTurn, AddsFirst, AddsSome, AreAbsent, HasDistinctIds, HasOtherIds, OthersStay, files_of}
+use Rattle.mesa_disk.proofs.Rounds.{Moving, nothing_done, tried, run_tried, told_tried, one_more, steps_weaker, first_all, some_tried, still_absent}
 use Rattle.mesa_disk.proofs.Others.{adds_first_only, adds_there}
 use Rattle.mesa_disk.proofs.moving.adopt_all.Goals as goal
 
@@ -18,7 +18,7 @@ loop-adoption-init g c =
       size = search rules;
       distinct = subst (λ l. HasDistinctIds (files l)) items c.requires.distinct;
       absent = λ i e. subst (λ l. AreAbsent (files l) i) items (c.requires.new i e);
-      moving = nothing_done Adopts Adopts AddsFirst _ (g.D.Disk.story c.args.disk.now);
+      moving = nothing_done Adopts (May Adopts) AddsSome _ (g.D.Disk.story c.args.disk.now);
       len = λ a. refl;
       faults = refl;
       read_faults = refl;
@@ -43,10 +43,10 @@ loop-adoption-preserved g c =
     let rest = files (into_iter_items c.next.new.self) in
     let done = files at.yielded in
     let file : ℕ × Option (List ℕ) = (x.id, g.M.Made.bytes x.made) in
-    let moving = subst (λ l. Moving Adopts Adopts AddsFirst done (files l) start mid) steps at.invariant.moving in
+    let moving = subst (λ l. Moving Adopts (May Adopts) AddsSome done (files l) start mid) steps at.invariant.moving in
     let distinct = subst (λ l. HasDistinctIds (files l)) steps at.invariant.distinct in
-    let more = one_more Adopts Adopts AddsFirst (λ y a b is. inr is) done file rest (first_tried Adopts done file rest) start mid new moving
-    c.in_ok-adopt.ensures.adopted c.in_ok-adopt.ensures.stays c.adopt.ensures.time in
+    let more = one_more Adopts (May Adopts) AddsSome (λ y a b is. is) done file rest (some_tried Adopts done file rest) start mid new moving
+    c.in_ok-adopt.ensures.adopted c.adopt.ensures.crash c.adopt.ensures.time in
     let gone = c.in-Some.ensures.steps.1 in
     let short = ap length steps in
     record {
@@ -56,7 +56,7 @@ loop-adoption-preserved g c =
       absent = λ j e.
           let from = c.in_ok-adopt.ensures.adopted.back j e in
           still_absent x.id (g.M.Made.bytes x.made) rest from.0 j distinct.0 from.2 (subst (λ l. AreAbsent (files l) from.0) steps (at.invariant.absent from.0 from.1)).1;
-      moving = subst (λ l. Moving Adopts Adopts AddsFirst l rest start new) (sym (map-append _ at.yielded (x ∷ []))) more;
+      moving = subst (λ l. Moving Adopts (May Adopts) AddsSome l rest start new) (sym (map-append _ at.yielded (x ∷ []))) more;
       len = λ a. c.adopt.ensures.len a ∙ at.invariant.len a;
       faults = c.in_ok-adopt.ensures.cause.quiet ∙ at.invariant.faults;
       read_faults = c.adopt.ensures.read_cause ∙ at.invariant.read_faults;
@@ -75,12 +75,12 @@ returns-in_err-adopt-clause-partly g c =
     let rest = files (into_iter_items c.next.new.self) in
     let done = files at.yielded in
     let file : ℕ × Option (List ℕ) = (x.id, g.M.Made.bytes x.made) in
-    let moving = subst (λ l. Moving Adopts Adopts AddsFirst done (files l) start mid) steps at.invariant.moving in
+    let moving = subst (λ l. Moving Adopts (May Adopts) AddsSome done (files l) start mid) steps at.invariant.moving in
     let whole : done ++ file ∷ rest ≡ files c.args.made.items =
     sym (map-append _ at.yielded (x ∷ into_iter_items c.next.new.self))
     ∙ ap files (ap (λ l. at.yielded ++ l) (sym steps) ∙ at.invariant.items ∙ c.into_iter-adoption-iterator.ensures.into_iter_gives.0) in
     subst (λ l. Steps (AddsFirst l) start.told new.told) whole
-    (told_tried Adopts Adopts AddsFirst (λ y a b is. inr is) done file rest (first_tried Adopts done file rest) start mid new moving c.adopt.ensures.whole)
+    (told_tried Adopts (May Adopts) AddsSome (λ y a b is. is) done file rest (some_tried Adopts done file rest) start mid new moving c.adopt.ensures.whole)
 
 pub returns-in_err-adopt-clause-only : goal.returns-in_err-adopt-clause-only
 returns-in_err-adopt-clause-only g c =
@@ -100,12 +100,12 @@ returns-in_err-adopt-clause-any_moment g c =
     let rest = files (into_iter_items c.next.new.self) in
     let done = files at.yielded in
     let file : ℕ × Option (List ℕ) = (x.id, g.M.Made.bytes x.made) in
-    let moving = subst (λ l. Moving Adopts Adopts AddsFirst done (files l) start mid) steps at.invariant.moving in
+    let moving = subst (λ l. Moving Adopts (May Adopts) AddsSome done (files l) start mid) steps at.invariant.moving in
     let whole : done ++ file ∷ rest ≡ files c.args.made.items =
     sym (map-append _ at.yielded (x ∷ into_iter_items c.next.new.self))
     ∙ ap files (ap (λ l. at.yielded ++ l) (sym steps) ∙ at.invariant.items ∙ c.into_iter-adoption-iterator.ensures.into_iter_gives.0) in
-    subst (λ l. Elapses (After (AddsFirst l) start.may_leave) start new) whole
-    (run_tried Adopts Adopts AddsFirst (λ y a b is. inr is) done file rest (first_tried Adopts done file rest) start mid new moving c.adopt.ensures.crash c.adopt.ensures.time)
+    subst (λ l. Elapses (After (AddsSome l) start.may_leave) start new) whole
+    (run_tried Adopts (May Adopts) AddsSome (λ y a b is. is) done file rest (some_tried Adopts done file rest) start mid new moving c.adopt.ensures.crash c.adopt.ensures.time)
 
 pub returns-in_err-adopt-clause-left : goal.returns-in_err-adopt-clause-left
 returns-in_err-adopt-clause-left g c =
@@ -120,12 +120,12 @@ returns-in_err-adopt-clause-left g c =
     let rest = files (into_iter_items c.next.new.self) in
     let done = files at.yielded in
     let file : ℕ × Option (List ℕ) = (x.id, g.M.Made.bytes x.made) in
-    let moving = subst (λ l. Moving Adopts Adopts AddsFirst done (files l) start mid) steps at.invariant.moving in
+    let moving = subst (λ l. Moving Adopts (May Adopts) AddsSome done (files l) start mid) steps at.invariant.moving in
     let whole : done ++ file ∷ rest ≡ files c.args.made.items =
     sym (map-append _ at.yielded (x ∷ into_iter_items c.next.new.self))
     ∙ ap files (ap (λ l. at.yielded ++ l) (sym steps) ∙ at.invariant.items ∙ c.into_iter-adoption-iterator.ensures.into_iter_gives.0) in
-    subst (λ l. Follows (AddsFirst l) start.may_leave new.may_leave) whole
-    (tried Adopts Adopts AddsFirst (λ y a b is. inr is) done file rest (first_tried Adopts done file rest) start mid new moving c.adopt.ensures.crash)
+    subst (λ l. Follows (AddsSome l) start.may_leave new.may_leave) whole
+    (tried Adopts (May Adopts) AddsSome (λ y a b is. is) done file rest (some_tried Adopts done file rest) start mid new moving c.adopt.ensures.crash)
 
 pub returns-clause-adopted : goal.returns-clause-adopted
 returns-clause-adopted g c =
@@ -137,21 +137,8 @@ returns-clause-adopted g c =
     let none = c.in-None.ensures.steps in
     let empty : into_iter_items at.adoption-iterator ≡ [] = nil_from_length _ (sym at.invariant.size ∙ none.0) in
     let all : at.yielded ≡ c.args.made.items = sym (append-nil at.yielded) ∙ rw empty at at.invariant.items ∙ c.into_iter-adoption-iterator.ensures.into_iter_gives.0 in
-    let moving = subst (λ l. Moving Adopts Adopts AddsFirst (files at.yielded) (files l) start new) empty at.invariant.moving in
+    let moving = subst (λ l. Moving Adopts (May Adopts) AddsSome (files at.yielded) (files l) start new) empty at.invariant.moving in
     subst (λ l. Steps (InTurn Adopts (files l)) start.told new.told) all moving.told
-
-pub returns-clause-stays : goal.returns-clause-stays
-returns-clause-stays g c =
-    let story = g.D.Disk.story in
-    let start = story c.args.disk.now in
-    let new = story c.loop-adoption.disk in
-    let files = files_of g.M.Made.bytes in
-    let at = c.loop-adoption in
-    let none = c.in-None.ensures.steps in
-    let empty : into_iter_items at.adoption-iterator ≡ [] = nil_from_length _ (sym at.invariant.size ∙ none.0) in
-    let all : at.yielded ≡ c.args.made.items = sym (append-nil at.yielded) ∙ rw empty at at.invariant.items ∙ c.into_iter-adoption-iterator.ensures.into_iter_gives.0 in
-    let moving = subst (λ l. Moving Adopts Adopts AddsFirst (files at.yielded) (files l) start new) empty at.invariant.moving in
-    subst (λ l. Follows (InTurn Adopts (files l)) start.may_leave new.may_leave) all moving.left
 
 pub returns-clause-all : goal.returns-clause-all
 returns-clause-all g c j is =
@@ -170,10 +157,17 @@ returns-clause-only g c =
     steps_weaker (AddsFirst files) (OthersStay (λ id. HasOtherIds id files)) (adds_first_only files) _ _ (returns-clause-partly g c)
 
 pub returns-clause-left : goal.returns-clause-left
-returns-clause-left g c x l =
-    let files = files_of g.M.Made.bytes c.args.made.items in
-    let from = returns-clause-stays g c x l in
-    (from.0, from.1, first_all Adopts files from.0 x from.2)
+returns-clause-left g c =
+    let story = g.D.Disk.story in
+    let start = story c.args.disk.now in
+    let new = story c.loop-adoption.disk in
+    let files = files_of g.M.Made.bytes in
+    let at = c.loop-adoption in
+    let none = c.in-None.ensures.steps in
+    let empty : into_iter_items at.adoption-iterator ≡ [] = nil_from_length _ (sym at.invariant.size ∙ none.0) in
+    let all : at.yielded ≡ c.args.made.items = sym (append-nil at.yielded) ∙ rw empty at at.invariant.items ∙ c.into_iter-adoption-iterator.ensures.into_iter_gives.0 in
+    let moving = subst (λ l. Moving Adopts (May Adopts) AddsSome (files at.yielded) (files l) start new) empty at.invariant.moving in
+    subst (λ l. Follows (AddsSome (files l)) start.may_leave new.may_leave) all moving.left
 
 pub returns-clause-any_moment : goal.returns-clause-any_moment
 returns-clause-any_moment g c =
@@ -185,8 +179,8 @@ returns-clause-any_moment g c =
     let none = c.in-None.ensures.steps in
     let empty : into_iter_items at.adoption-iterator ≡ [] = nil_from_length _ (sym at.invariant.size ∙ none.0) in
     let all : at.yielded ≡ c.args.made.items = sym (append-nil at.yielded) ∙ rw empty at at.invariant.items ∙ c.into_iter-adoption-iterator.ensures.into_iter_gives.0 in
-    let moving = subst (λ l. Moving Adopts Adopts AddsFirst (files at.yielded) (files l) start new) empty at.invariant.moving in
-    subst (λ l. Elapses (After (AddsFirst l) start.may_leave) start new) (append-nil (files at.yielded) ∙ ap files all) moving.run
+    let moving = subst (λ l. Moving Adopts (May Adopts) AddsSome (files at.yielded) (files l) start new) empty at.invariant.moving in
+    subst (λ l. Elapses (After (AddsSome l) start.may_leave) start new) (append-nil (files at.yielded) ∙ ap files all) moving.run
 
 on_err : {T E P : Type 0} (r : Result T E) → P → OnErr r P
 on_err (Ok x) p = tt

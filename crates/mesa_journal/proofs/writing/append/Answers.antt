@@ -71,9 +71,8 @@ returns-in_err-journal_write-2-clause-any_moment g c bodies settled =
     let P = IsWithinAppend start area bodies end body in
     let one = written start area bodies end body small settled _ (story c.journal_write.new.self) c.journal_write.ensures.crash c.journal_write.ensures.time in
     let two = spans_synced P start (story c.journal_write.new.self) (story c.journal_sync.new.self) one c.journal_sync.ensures.crash c.journal_sync.ensures.time in
-    let laws = g.met.D.Disk g.world.𝓛 g.world.𝓜 g.world.𝓡 ((λ s x. x), (λ x. x), (λ x. x), λ x. x) in
     let is_staged = λ (x : Image) (is : (story c.journal_sync.new.self).told ≡ Some x).
-    staged start area bodies end body small settled (laws.read_is_left c.args.disk.now) _ c.behind_gate-bytes.ensures.bytes _ c.in_ok-journal_write.ensures.written x (sym c.journal_sync.ensures.told ∙ is) in
+    staged start area bodies end body small settled _ c.behind_gate-bytes.ensures.bytes _ c.in_ok-journal_write.ensures.written x (sym c.journal_sync.ensures.told ∙ is) in
     let three = gated start area bodies end body small settled (story c.journal_sync.new.self) (story c.journal_write-2.new.self) two is_staged c.in_ok-journal_sync.ensures.durable _ c.gate.ensures c.journal_write-2.ensures.crash c.journal_write-2.ensures.time in
     three.run
 
@@ -88,9 +87,8 @@ returns-in_err-journal_write-2-clause-left g c bodies settled =
     let P = IsWithinAppend start area bodies end body in
     let one = written start area bodies end body small settled _ (story c.journal_write.new.self) c.journal_write.ensures.crash c.journal_write.ensures.time in
     let two = spans_synced P start (story c.journal_write.new.self) (story c.journal_sync.new.self) one c.journal_sync.ensures.crash c.journal_sync.ensures.time in
-    let laws = g.met.D.Disk g.world.𝓛 g.world.𝓜 g.world.𝓡 ((λ s x. x), (λ x. x), (λ x. x), λ x. x) in
     let is_staged = λ (x : Image) (is : (story c.journal_sync.new.self).told ≡ Some x).
-    staged start area bodies end body small settled (laws.read_is_left c.args.disk.now) _ c.behind_gate-bytes.ensures.bytes _ c.in_ok-journal_write.ensures.written x (sym c.journal_sync.ensures.told ∙ is) in
+    staged start area bodies end body small settled _ c.behind_gate-bytes.ensures.bytes _ c.in_ok-journal_write.ensures.written x (sym c.journal_sync.ensures.told ∙ is) in
     let three = gated start area bodies end body small settled (story c.journal_sync.new.self) (story c.journal_write-2.new.self) two is_staged c.in_ok-journal_sync.ensures.durable _ c.gate.ensures c.journal_write-2.ensures.crash c.journal_write-2.ensures.time in
     three.left
 
@@ -105,9 +103,8 @@ returns-in_err-journal_sync-2-clause-any_moment g c bodies settled =
     let P = IsWithinAppend start area bodies end body in
     let one = written start area bodies end body small settled _ (story c.journal_write.new.self) c.journal_write.ensures.crash c.journal_write.ensures.time in
     let two = spans_synced P start (story c.journal_write.new.self) (story c.journal_sync.new.self) one c.journal_sync.ensures.crash c.journal_sync.ensures.time in
-    let laws = g.met.D.Disk g.world.𝓛 g.world.𝓜 g.world.𝓡 ((λ s x. x), (λ x. x), (λ x. x), λ x. x) in
     let is_staged = λ (x : Image) (is : (story c.journal_sync.new.self).told ≡ Some x).
-    staged start area bodies end body small settled (laws.read_is_left c.args.disk.now) _ c.behind_gate-bytes.ensures.bytes _ c.in_ok-journal_write.ensures.written x (sym c.journal_sync.ensures.told ∙ is) in
+    staged start area bodies end body small settled _ c.behind_gate-bytes.ensures.bytes _ c.in_ok-journal_write.ensures.written x (sym c.journal_sync.ensures.told ∙ is) in
     let three = gated start area bodies end body small settled (story c.journal_sync.new.self) (story c.journal_write-2.new.self) two is_staged c.in_ok-journal_sync.ensures.durable _ c.gate.ensures c.journal_write-2.ensures.crash c.journal_write-2.ensures.time in
     let four = spans_synced P start (story c.journal_write-2.new.self) (story c.journal_sync-2.new.self) three c.journal_sync-2.ensures.crash c.journal_sync-2.ensures.time in
     four.run
@@ -123,9 +120,8 @@ returns-in_err-journal_sync-2-clause-left g c bodies settled =
     let P = IsWithinAppend start area bodies end body in
     let one = written start area bodies end body small settled _ (story c.journal_write.new.self) c.journal_write.ensures.crash c.journal_write.ensures.time in
     let two = spans_synced P start (story c.journal_write.new.self) (story c.journal_sync.new.self) one c.journal_sync.ensures.crash c.journal_sync.ensures.time in
-    let laws = g.met.D.Disk g.world.𝓛 g.world.𝓜 g.world.𝓡 ((λ s x. x), (λ x. x), (λ x. x), λ x. x) in
     let is_staged = λ (x : Image) (is : (story c.journal_sync.new.self).told ≡ Some x).
-    staged start area bodies end body small settled (laws.read_is_left c.args.disk.now) _ c.behind_gate-bytes.ensures.bytes _ c.in_ok-journal_write.ensures.written x (sym c.journal_sync.ensures.told ∙ is) in
+    staged start area bodies end body small settled _ c.behind_gate-bytes.ensures.bytes _ c.in_ok-journal_write.ensures.written x (sym c.journal_sync.ensures.told ∙ is) in
     let three = gated start area bodies end body small settled (story c.journal_sync.new.self) (story c.journal_write-2.new.self) two is_staged c.in_ok-journal_sync.ensures.durable _ c.gate.ensures c.journal_write-2.ensures.crash c.journal_write-2.ensures.time in
     let four = spans_synced P start (story c.journal_write-2.new.self) (story c.journal_sync-2.new.self) three c.journal_sync-2.ensures.crash c.journal_sync-2.ensures.time in
     four.left
@@ -141,9 +137,8 @@ returns-clause-any_moment g c bodies settled =
     let P = IsWithinAppend start area bodies end body in
     let one = written start area bodies end body small settled _ (story c.journal_write.new.self) c.journal_write.ensures.crash c.journal_write.ensures.time in
     let two = spans_synced P start (story c.journal_write.new.self) (story c.journal_sync.new.self) one c.journal_sync.ensures.crash c.journal_sync.ensures.time in
-    let laws = g.met.D.Disk g.world.𝓛 g.world.𝓜 g.world.𝓡 ((λ s x. x), (λ x. x), (λ x. x), λ x. x) in
     let is_staged = λ (x : Image) (is : (story c.journal_sync.new.self).told ≡ Some x).
-    staged start area bodies end body small settled (laws.read_is_left c.args.disk.now) _ c.behind_gate-bytes.ensures.bytes _ c.in_ok-journal_write.ensures.written x (sym c.journal_sync.ensures.told ∙ is) in
+    staged start area bodies end body small settled _ c.behind_gate-bytes.ensures.bytes _ c.in_ok-journal_write.ensures.written x (sym c.journal_sync.ensures.told ∙ is) in
     let three = gated start area bodies end body small settled (story c.journal_sync.new.self) (story c.journal_write-2.new.self) two is_staged c.in_ok-journal_sync.ensures.durable _ c.gate.ensures c.journal_write-2.ensures.crash c.journal_write-2.ensures.time in
     let four = spans_synced P start (story c.journal_write-2.new.self) (story c.journal_sync-2.new.self) three c.journal_sync-2.ensures.crash c.journal_sync-2.ensures.time in
     four.run
@@ -159,9 +154,8 @@ returns-clause-left g c bodies settled =
     let P = IsWithinAppend start area bodies end body in
     let one = written start area bodies end body small settled _ (story c.journal_write.new.self) c.journal_write.ensures.crash c.journal_write.ensures.time in
     let two = spans_synced P start (story c.journal_write.new.self) (story c.journal_sync.new.self) one c.journal_sync.ensures.crash c.journal_sync.ensures.time in
-    let laws = g.met.D.Disk g.world.𝓛 g.world.𝓜 g.world.𝓡 ((λ s x. x), (λ x. x), (λ x. x), λ x. x) in
     let is_staged = λ (x : Image) (is : (story c.journal_sync.new.self).told ≡ Some x).
-    staged start area bodies end body small settled (laws.read_is_left c.args.disk.now) _ c.behind_gate-bytes.ensures.bytes _ c.in_ok-journal_write.ensures.written x (sym c.journal_sync.ensures.told ∙ is) in
+    staged start area bodies end body small settled _ c.behind_gate-bytes.ensures.bytes _ c.in_ok-journal_write.ensures.written x (sym c.journal_sync.ensures.told ∙ is) in
     let three = gated start area bodies end body small settled (story c.journal_sync.new.self) (story c.journal_write-2.new.self) two is_staged c.in_ok-journal_sync.ensures.durable _ c.gate.ensures c.journal_write-2.ensures.crash c.journal_write-2.ensures.time in
     let four = spans_synced P start (story c.journal_write-2.new.self) (story c.journal_sync-2.new.self) three c.journal_sync-2.ensures.crash c.journal_sync-2.ensures.time in
     four.left
@@ -174,9 +168,8 @@ returns-clause-acknowledged g c bodies settled =
     let end = c.args.end in
     let body = c.args.framed.now in
     let small = c.behind_gate-bytes.ensures.fits in
-    let laws = g.met.D.Disk g.world.𝓛 g.world.𝓜 g.world.𝓡 ((λ s x. x), (λ x. x), (λ x. x), λ x. x) in
     let is_staged = λ (x : Image) (is : (story c.journal_sync.new.self).told ≡ Some x).
-    staged start area bodies end body small settled (laws.read_is_left c.args.disk.now) _ c.behind_gate-bytes.ensures.bytes _ c.in_ok-journal_write.ensures.written x (sym c.journal_sync.ensures.told ∙ is) in
+    staged start area bodies end body small settled _ c.behind_gate-bytes.ensures.bytes _ c.in_ok-journal_write.ensures.written x (sym c.journal_sync.ensures.told ∙ is) in
     let told = λ (x : Image) (is : (story c.journal_sync-2.new.self).told ≡ Some x).
     opened start area bodies end body small settled _ _ is_staged _ c.gate.ensures c.in_ok-journal_write-2.ensures.written x (sym c.journal_sync-2.ensures.told ∙ is) in
     record { read = told; left = λ x now. told x (c.in_ok-journal_sync-2.ensures.durable x now) }

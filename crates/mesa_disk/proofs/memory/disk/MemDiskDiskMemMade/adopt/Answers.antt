@@ -1,4 +1,4 @@
-use Rattle.std.proofs.Common.{inl, inr, Some, refl, sym, subst, arith}
+use Rattle.std.proofs.Common.{inl, inr, ⊎_elim, Some, refl, sym, subst, arith}
 use Rattle.std.specs.Arc.{arc_value}
 use Rattle.mesa_disk.specs.Image.{Adopts, May}
 use Rattle.mesa_disk.specs.Recorded.{AllBefore, MayLeave}
@@ -67,19 +67,12 @@ returns-in_default-clause-whole c =
     let notes : Notes d S.log c.note.new.self = c.in_default.ensures.ok in
     steps_some (May Adopts (c.args.id, Some (arc_value c.args.made.bytes))) _ _ (inr (adopts_told c.args.id (arc_value c.args.made.bytes) _ _ notes.seen))
 
-pub returns-in_default-clause-stays : goal.returns-in_default-clause-stays
-returns-in_default-clause-stays c =
-    let S = c.args.self.now in
-    let d : Done = record { before = S.clock; call = Adopt c.args.id c.args.made.bytes } in
-    let notes : Notes d S.log c.note.new.self = c.in_default.ensures.ok in
-    left_by S.log _ d notes (Adopts (c.args.id, Some (arc_value c.args.made.bytes))) (adopts_told c.args.id (arc_value c.args.made.bytes) _ _ refl) (λ x other. (other.0, other.1, adopts_told c.args.id (arc_value c.args.made.bytes) other.0 x other.2))
-
 pub returns-in_default-clause-crash : goal.returns-in_default-clause-crash
 returns-in_default-clause-crash c =
     let S = c.args.self.now in
     let d : Done = record { before = S.clock; call = Adopt c.args.id c.args.made.bytes } in
     let notes : Notes d S.log c.note.new.self = c.in_default.ensures.ok in
-    left_by S.log _ d notes (May Adopts (c.args.id, Some (arc_value c.args.made.bytes))) (inr (adopts_told c.args.id (arc_value c.args.made.bytes) _ _ refl)) (λ x other. (other.0, other.1, inr (adopts_told c.args.id (arc_value c.args.made.bytes) other.0 x other.2)))
+    left_by S.log _ d notes (May Adopts (c.args.id, Some (arc_value c.args.made.bytes))) (inr (adopts_told c.args.id (arc_value c.args.made.bytes) _ _ refl)) (λ x other. (other.0, other.1, ⊎_elim (λ same. inl same) (λ is. inr (adopts_told c.args.id (arc_value c.args.made.bytes) other.0 x is)) other.2))
 
 pub returns-clause-whole : goal.returns-clause-whole
 returns-clause-whole c =
