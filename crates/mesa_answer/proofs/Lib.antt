@@ -1,5 +1,6 @@
 pub mod Bounds
 pub mod ColumnCuts
+pub mod Cuts
 pub mod Entries
 pub mod Firsts
 pub mod Forms
@@ -8,6 +9,7 @@ pub mod Paging
 pub mod Parts
 pub mod Passing
 pub mod Picked
+pub mod Putting
 pub mod Results
 pub mod Seeking
 pub mod Steps

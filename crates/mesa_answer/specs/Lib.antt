@@ -1,4 +1,5 @@
 pub mod Answering
+pub mod Cut
 pub mod Gathered
 pub mod Gathering
 pub mod Held

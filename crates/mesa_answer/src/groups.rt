@@ -4,7 +4,7 @@ ghost use Rattle.std.specs.Option.{option_copied};
 ghost use Rattle.mesa_schema.specs.declared.columns.KeyColumn.{KeyColumn as Column};
 ghost use Rattle.mesa_schema.specs.declared.rows.Row.{Row as AnyRow};
 ghost use Rattle.mesa_schema.specs.Columns.{aggs_of, chosen};
-ghost use Rattle.mesa_schema.specs.Folded.{grouped};
+ghost use Rattle.mesa_schema.specs.Folded.{grouped, regrouped};
 ghost use Rattle.mesa_schema.specs.Lent.{lent};
 ghost use Rattle.mesa_schema.specs.Rows.{AreRowsOf, IsRowOf};
 ghost use Rattle.mesa_filter.specs.Query.{IsQueryOf, are_places};
@@ -15,6 +15,7 @@ ghost use Rattle.mesa_answer.specs.Gathering.{first_groups, group_from, wanted_b
 ghost use Rattle.mesa_answer.specs.Held.{is_behind as comes_after};
 ghost use Rattle.mesa_answer.specs.Sums.{HasGroup, SumLeaves};
 
+use crate::cut::Cut;
 use crate::error::GroupError;
 use crate::hand::Hand;
 use crate::held::Held;
@@ -38,6 +39,8 @@ pub struct Groups<'a> {
     // What is looked up for each row: the types of the key columns, and the aggregations of the chosen values.
     kinds: Vec<KeyType>,
     aggs: Vec<Agg>,
+    // Where a group's key and values stand in one piece in each row. Then the row lends them, and no column is looked for.
+    cut: Option<Cut>,
     held: Held,
     hand: Hand,
 }
@@ -54,6 +57,7 @@ impl Drop for Groups<'_> {
             most: _,
             kinds: _,
             aggs: _,
+            cut: _,
             held: _,
             hand: _,
         } = self;
@@ -104,6 +108,7 @@ impl<'a> Groups<'a> {
     {
         let kinds = kinds_in(alloc, schema.keys())?;
         let aggs = chosen_aggs(alloc, schema, values)?;
+        let cut = Cut::of(&kinds, columns, values);
         Ok(Groups {
             schema,
             columns,
@@ -113,6 +118,7 @@ impl<'a> Groups<'a> {
             most,
             kinds,
             aggs,
+            cut,
             held: Held::new(alloc),
             hand: Hand::new(alloc),
         })
@@ -130,6 +136,46 @@ impl<'a> Groups<'a> {
         // and only where the absolute values of the rows may add up to more than it holds.
         ensures cause { IfErr result (λ e. e ≡ GroupError.Sum → (given : List AnyRow) → HasPut self.old given → KeepsSums (wanted_of self.old).schema (given ++ lent row.entry ∷ []) → ⊥) }
     {
+        if let Some(cut) = self.cut
+            && let Some(part) = cut.row(row)
+        {
+            return self.put_part(row, part);
+        }
+        self.put_taken(row)
+    }
+
+    // One row more, of which this is put into its group.
+    fn put_part(&mut self, row: LentRow, part: LentRow) -> Result<(), GroupError>
+        requires gathering { (given : List AnyRow) × HasPut self.old given }
+        requires form { IsRowOf (wanted_of self.old).schema (lent row) }
+        requires part { lent part ≡ regrouped (wanted_of self.old).schema (wanted_of self.old).columns (wanted_of self.old).values (lent row) }
+        ensures put { OnOk result ((given : List AnyRow) → HasPut self.old given → HasPut self.new (given ++ lent row.entry ∷ [])) }
+        ensures same { OnErr result ((given : List AnyRow) → HasPut self.old given → HasPut self.new given) }
+        ensures wanted { wanted_of self.new ≡ wanted_of self.old }
+        ensures sum { IfErr result (λ e. e ≡ GroupError.Sum → (given : List AnyRow) → HasPut self.old given → SumLeaves (wanted_of self.old) given (lent row.entry) (key_at_hand self.new)) }
+        ensures cause { IfErr result (λ e. e ≡ GroupError.Sum → (given : List AnyRow) → HasPut self.old given → KeepsSums (wanted_of self.old).schema (given ++ lent row.entry ∷ []) → ⊥) }
+    {
+        if !is_behind(self.inclusive, self.resume, part.key) {
+            return Ok(());
+        }
+        if let Err(error) = self.held.put(&self.aggs, self.most, part.key, part.values) {
+            // The key of the group that refused it is asked for then.
+            self.hand.hold(part)?;
+            return Err(error);
+        }
+        Ok(())
+    }
+
+    // One row more, whose columns are copied.
+    fn put_taken(&mut self, row: LentRow) -> Result<(), GroupError>
+        requires gathering { (given : List AnyRow) × HasPut self.old given }
+        requires form { IsRowOf (wanted_of self.old).schema (lent row) }
+        ensures put { OnOk result ((given : List AnyRow) → HasPut self.old given → HasPut self.new (given ++ lent row.entry ∷ [])) }
+        ensures same { OnErr result ((given : List AnyRow) → HasPut self.old given → HasPut self.new given) }
+        ensures wanted { wanted_of self.new ≡ wanted_of self.old }
+        ensures sum { IfErr result (λ e. e ≡ GroupError.Sum → (given : List AnyRow) → HasPut self.old given → SumLeaves (wanted_of self.old) given (lent row.entry) (key_at_hand self.new)) }
+        ensures cause { IfErr result (λ e. e ≡ GroupError.Sum → (given : List AnyRow) → HasPut self.old given → KeepsSums (wanted_of self.old).schema (given ++ lent row.entry ∷ []) → ⊥) }
+    {
         self.hand.take(&self.kinds, self.columns, self.values, row)?;
         if !is_behind(self.inclusive, self.resume, self.hand.key()) {
             return Ok(());
@@ -138,7 +184,7 @@ impl<'a> Groups<'a> {
             .put(&self.aggs, self.most, self.hand.key(), self.hand.values())
     }
 
-    /// The group key of the row that was put in or refused last.
+    /// The group key of the row that was refused last.
     pub fn key_at_hand(&self) -> &[u8]
         ensures { result.now ≡ key_at_hand self.now }
     {
@@ -181,6 +227,7 @@ impl<'a> Groups<'a> {
             most: _,
             kinds: _,
             aggs: _,
+            cut: _,
             held,
             hand: _,
         } = self;

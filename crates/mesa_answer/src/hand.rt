@@ -60,7 +60,17 @@ impl Hand {
         self.values.as_slice()
     }
 
-    // Takes a row in hand. Of its key only the columns up to the last of these places are looked at.
+    // Takes a row in hand as it is.
+    pub(crate) fn hold(&mut self, row: LentRow) -> Result<(), AllocError>
+        ensures { OnOk result (self.new ≡ lent row.entry) }
+    {
+        self.key.clear();
+        self.key.extend_from_slice(row.key)?;
+        self.values.clear();
+        self.values.extend_from_slice(row.values)
+    }
+
+    // Takes a row in hand under its group key. Of its key only the columns up to the last of these places are looked at.
     pub(crate) fn take(
         &mut self,
         kinds: &[KeyType],

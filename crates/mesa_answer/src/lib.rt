@@ -2,6 +2,7 @@
 #![tactic(auto)]
 
 mod answering;
+mod cut;
 mod error;
 mod grouping;
 mod groups;
