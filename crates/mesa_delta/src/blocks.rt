@@ -68,6 +68,35 @@ impl<M: Made, T: Draft<M>> BlockWriter<M, T> {
         Ok(())
     }
 
+    /// The same blocks with another draft, and the draft so far.
+    pub fn over<U: Draft<M>>(self, draft: U) -> (BlockWriter<M, U>, T)
+        ensures laid { (s : Layout) (f : Filling) → Lays T.bytes s self f → U.bytes draft ≡ T.bytes self.draft → Lays U.bytes s result.0 f }
+        ensures draft { result.0.draft ≡ draft }
+        ensures given_back { result.1 ≡ self.draft }
+    {
+        let BlockWriter {
+            draft: before,
+            builder,
+            entries,
+            pending,
+            offset,
+            blocks,
+            short,
+            made,
+        } = self;
+        let writer = BlockWriter {
+            draft,
+            builder,
+            entries,
+            pending,
+            offset,
+            blocks,
+            short,
+            made,
+        };
+        (writer, before)
+    }
+
     /// The draft as it is.
     pub fn into_draft(self) -> T
         ensures { result ≡ self.draft }

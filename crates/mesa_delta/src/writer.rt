@@ -25,6 +25,7 @@ use mesa_schema::{LentRow, Schema};
 use mesa_value::Amount;
 use std::alloc::{AllocError, Global};
 use std::marker::PhantomData;
+use std::mem;
 
 /// A file that is being written through a draft: full blocks are appended whole, and one is kept in memory. The bytes of up to four blocks stay until their digests are taken side by side.
 ///
@@ -128,6 +129,48 @@ impl<M: Made, T: Draft<M>> DeltaWriter<M, T> {
             Ok(made) => Ok((made, file)),
             Err((error, draft)) => Err((WriteError::from(error), draft)),
         }
+    }
+
+    /// The draft that full blocks are put on.
+    pub fn draft(&self) -> &T
+        ensures { result.now ≡ draft_of self.now }
+    {
+        &self.blocks.draft
+    }
+
+    /// Puts further blocks on another draft, and gives the one so far. The rows so far are taken where both have the same bytes.
+    pub fn replace_draft(&mut self, draft: T) -> T
+        ensures taken { (rows : List AnyRow) → HasTaken T.bytes self.old rows → T.bytes draft ≡ T.bytes (draft_of self.old) → HasTaken T.bytes self.new rows }
+        ensures columns { columns_of self.new ≡ columns_of self.old }
+        ensures id { id_of self.new ≡ id_of self.old }
+        ensures draft { draft_of self.new ≡ draft }
+        ensures given_back { result ≡ draft_of self.old }
+    {
+        mem::replace(&mut self.blocks.draft, draft)
+    }
+
+    /// The writer over a draft of another type, and the draft so far. The rows so far are taken where both have the same bytes.
+    pub fn over<U: Draft<M>>(self, draft: U) -> (DeltaWriter<M, U>, T)
+        ensures taken { (rows : List AnyRow) → HasTaken T.bytes self rows → U.bytes draft ≡ T.bytes (draft_of self) → HasTaken U.bytes result.0 rows }
+        ensures columns { columns_of result.0 ≡ columns_of self }
+        ensures id { id_of result.0 ≡ id_of self }
+        ensures draft { draft_of result.0 ≡ draft }
+        ensures given_back { result.1 ≡ draft_of self }
+    {
+        let DeltaWriter {
+            id,
+            schema,
+            blocks,
+            tally,
+        } = self;
+        let (blocks, before) = blocks.over(draft);
+        let writer = DeltaWriter {
+            id,
+            schema,
+            blocks,
+            tally,
+        };
+        (writer, before)
     }
 
     /// The draft as it is.
