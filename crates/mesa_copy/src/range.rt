@@ -3,13 +3,14 @@ ghost use Rattle.std.specs.Prelude.{◌≡◌, ◌<◌, ℕ, List, [], ◌∷◌
 ghost use Rattle.std.specs.List.{AllByRecursion};
 ghost use Rattle.mesa_file.specs.declared.damage.Damage.{Damage as AnyDamage};
 ghost use Rattle.mesa_schema.specs.declared.rows.Row.{Row as AnyRow};
+ghost use Rattle.mesa_schema.specs.Changes.{columns_of};
 ghost use Rattle.mesa_schema.specs.Recasts.{Recast as Asked, recast_columns, recast_rows};
 ghost use Rattle.mesa_batch.specs.Totals.{abs_totals, sum_bound};
 ghost use Rattle.mesa_tasks.specs.mesa_cursor.Cursors.{IsInput};
 ghost use Rattle.mesa_delta.specs.declared.error.FileError.TheVariants as file_error;
 ghost use Rattle.mesa_merge.specs.Faults.{faults_of};
 ghost use Rattle.mesa_merge.specs.Inputs.{known_of, knowns_of};
-ghost use Rattle.mesa_tasks.specs.Inputs.{AreInputsOf, IsMergeOf, lineage_of};
+ghost use Rattle.mesa_tasks.specs.Inputs.{AreInputsTo, IsMergeOf, lineage_of};
 ghost use Rattle.mesa_tasks.specs.Made.{IsMadeFile};
 ghost use Rattle.mesa_tasks.specs.Recasts.{IsRangeRewritten, own, recast_content, recast_ids};
 ghost use Rattle.mesa_tasks.specs.Serials.{AreNext, after_drafts};
@@ -40,12 +41,12 @@ pub fn rewrite_range<M: Made, B: Bench<M>, R: FileReader>(
     range: &mut RecastRange<R>,
 ) -> Result<RecastedRange<M>, CompactError>
     requires renewal { (r : Asked) × IsRenewal r renewal.now }
-    requires range { AreInputsOf R.bytes renewal.now.table.value (own range.old) }
+    requires range { AreInputsTo R.bytes (columns_in renewal.now) (own range.old) }
     ensures rewritten { IfOk result (λ made. (r : Asked) → IsRenewal r renewal.now → IsRangeRewritten M.bytes M.id_of R.bytes (columns_in renewal.now) r range.old made) }
     ensures numbered { IfOk result (λ made. AreNext ids.old ids.new (recast_ids M.id_of (made ∷ []))) }
     ensures ids { (n : ℕ) × (ids.new ≡ after_drafts n ids.old) }
     ensures known { known_range R.bytes range.new ≡ known_range R.bytes range.old }
-    ensures kept { AreInputsOf R.bytes renewal.now.table.value (own range.new) }
+    ensures kept { AreInputsTo R.bytes (columns_in renewal.now) (own range.new) }
     ensures causes { HasCauses (B.faults bench.old) (B.faults bench.new) (faults_of R.faults (own range.old)) (faults_of R.faults (own range.new)) (IsRegroupDamage R.bytes R.size (columns_in renewal.now) renewal.now.columns.items renewal.now.values.items (own range.new)) result }
     ensures accepts { IfErr result (λ e. (d : AnyDamage) → e ≡ damaged_by d → AreBounded (columns_in renewal.now) (knowns_of R.bytes (own range.old)) → ⊥) }
 {
@@ -102,7 +103,7 @@ fn rewrite_input<M: Made, B: Bench<M>, R: FileReader>(
 ) -> (Input<R>, Result<(MadeFile<M>, Totals), CompactError>)
     requires renewal { (r : Asked) × IsRenewal r renewal.now }
     requires input { IsInput R.bytes input }
-    requires table { lineage_of input ≡ renewal.now.table.value }
+    requires table { columns_of (lineage_of input) ≡ columns_in renewal.now }
     ensures known { known_of R.bytes result.0 ≡ known_of R.bytes input }
     ensures kept { IsInput R.bytes result.0 }
     ensures made { IfOk result.1 (λ made. (r : Asked) → IsRenewal r renewal.now → (rows : List AnyRow) × IsMergeOf R.bytes (columns_in renewal.now) (input ∷ []) rows × IsMadeFile M.bytes M.id_of (recast_content (columns_in renewal.now) r rows) made.0

@@ -1,4 +1,4 @@
-//! Tests of merging files, whole and in parts, over files that are written byte by byte.
+//! Tests of merging files, whole and in parts, and of recasting tables, over files that are written byte by byte.
 #![tactic(auto)]
 
 #[cfg(test)]
@@ -10,7 +10,11 @@ mod merging;
 #[cfg(test)]
 mod overflow;
 #[cfg(test)]
+mod pairs;
+#[cfg(test)]
 mod parts;
+#[cfg(test)]
+mod recasting;
 #[cfg(test)]
 mod splitting;
 #[cfg(test)]

@@ -10,7 +10,7 @@ use Rattle.mesa_batch.specs.Totals.{abs_totals, sum_bound}
 use Rattle.mesa_delta.specs.declared.input.Input.{Input}
 use Rattle.mesa_history.specs.Machine.{Claim, Recasts}
 use Rattle.mesa_tasks.specs.Batches.{made_ids}
-use Rattle.mesa_tasks.specs.Inputs.{AreInputsOf, IsMergeOf}
+use Rattle.mesa_tasks.specs.Inputs.{AreInputsTo, IsMergeOf}
 use Rattle.mesa_tasks.specs.Made.{Content, IsMadeFile}
 use Rattle.mesa_tasks.specs.declared.made.MadeFile.{MadeFile}
 use Rattle.mesa_tasks.specs.declared.recasting.Recast.{Recast}
@@ -40,9 +40,9 @@ own x = option_to_list x.input
 abbrev pub recast_inputs : {R : Type 0} → Recast R → List (Input R)
 recast_inputs t = flat_map own t.ranges.items
 
--- Ranges of a table: each input is a file of it.
+-- Ranges of a table: each input is lifted to its columns. Views may have come between the opening of two of them.
 abbrev pub AreRangesOf : {R : Type 0} → (R → Option (List ℕ)) → Lineage → List (RecastRange R) → Type 0
-AreRangesOf {R = R} bytes l ranges = AllByRecursion (λ (x : RecastRange R). AreInputsOf bytes l (own x)) ranges
+AreRangesOf {R = R} bytes l ranges = AllByRecursion (λ (x : RecastRange R). AreInputsTo bytes (columns_of l) (own x)) ranges
 
 -- A recast of a table that allows it.
 pub record IsRecastTask {R : Type 0} (bytes : R → Option (List ℕ)) (t : Recast R) : Type 0 where

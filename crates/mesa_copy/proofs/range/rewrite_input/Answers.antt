@@ -36,7 +36,7 @@ regroup_range-back-requires-clause-inputs g c = λ _ _.
     let s : Columns = columns_in c.args.renewal.now in
     let items : c.push_reserved.new.self.items ≡ c.args.input ∷ [] = c.push_reserved.ensures.items ∙ ap (λ xs. xs ++ c.args.input ∷ []) c.in-Ok.ensures.items in
     let present : c.present.result.now ≡ s = c.present.ensures.columns ∙ ap columns_of c.deref.ensures in
-    let one = mergeable read s (c.args.input ∷ []) ((c.requires.input, ap columns_of c.requires.table), tt) in
+    let one = mergeable read s (c.args.input ∷ []) ((c.requires.input, c.requires.table), tt) in
     subst (λ (t : Columns). AreInputs read t c.push_reserved.new.self.items) (sym present) (subst (λ (is : List (Input g.row.R.Denot)). AreInputs read s is) (sym items) one)
 
 pub regroup_range-back-requires-clause-columns_there : goal.regroup_range-back-requires-clause-columns_there

@@ -1,7 +1,7 @@
 use Rattle.std.proofs.Common.{◌≡◌, ◌++◌, ◌<◌, suc, zero, List, [], ◌∷◌, refl, sym, ◌∙◌, ap, subst}
 use Rattle.std.specs.Prelude.{Option, Some, None, Err, option_map, option_to_list}
 use Rattle.std.specs.List.{AllByRecursion}
-use Rattle.mesa_schema.specs.Changes.{Lineage}
+use Rattle.mesa_schema.specs.Changes.{columns_of}
 use Rattle.mesa_schema.specs.Columns.{Columns}
 use Rattle.mesa_schema.specs.Recasts.{Recast, recast_columns}
 use Rattle.mesa_batch.specs.Totals.{abs_totals, sum_bound}
@@ -9,7 +9,7 @@ use Rattle.mesa_delta.specs.declared.input.Input.{Input}
 use Rattle.mesa_merge.specs.Faults.{faults_of}
 use Rattle.mesa_merge.specs.Inputs.{Known, known_of, knowns_of}
 use Rattle.mesa_tasks.specs.Batches.{made_ids}
-use Rattle.mesa_tasks.specs.Inputs.{AreInputsOf, IsMergeOf}
+use Rattle.mesa_tasks.specs.Inputs.{AreInputsTo, IsMergeOf}
 use Rattle.mesa_tasks.specs.Recasts.{HasRangeFile, IsRangeRewritten, own, recast_content, recast_ids}
 use Rattle.mesa_tasks.specs.Serials.{AreNext, drawn, next_serials}
 use Rattle.mesa_tasks.specs.declared.made.MadeFile.{MadeFile}
@@ -27,12 +27,12 @@ use Rattle.mesa_copy.proofs.range.rewrite_range.Goals as goal
 pub rewrite_input-input-requires-clause-input : goal.rewrite_input-input-requires-clause-input
 rewrite_input-input-requires-clause-input g c = λ _ _.
     let there : c.args.range.now.input ≡ Some c.in-Some.input = sym c.take.ensures.value ∙ c.in-Some.is in
-    (subst (λ (o : Option (Input g.row.R.Denot)). AreInputsOf g.R.FileReader.bytes c.args.renewal.now.table.value (option_to_list o)) there c.requires.range).0.0
+    (subst (λ (o : Option (Input g.row.R.Denot)). AreInputsTo g.R.FileReader.bytes (columns_in c.args.renewal.now) (option_to_list o)) there c.requires.range).0.0
 
 pub rewrite_input-input-requires-clause-table : goal.rewrite_input-input-requires-clause-table
 rewrite_input-input-requires-clause-table g c = λ _ _.
     let there : c.args.range.now.input ≡ Some c.in-Some.input = sym c.take.ensures.value ∙ c.in-Some.is in
-    (subst (λ (o : Option (Input g.row.R.Denot)). AreInputsOf g.R.FileReader.bytes c.args.renewal.now.table.value (option_to_list o)) there c.requires.range).0.1
+    (subst (λ (o : Option (Input g.row.R.Denot)). AreInputsTo g.R.FileReader.bytes (columns_in c.args.renewal.now) (option_to_list o)) there c.requires.range).0.1
 
 -- ---- a range with an input
 
@@ -72,10 +72,10 @@ returns-in-Ok-clause-known g c =
 pub returns-in-Ok-clause-kept : goal.returns-in-Ok-clause-kept
 returns-in-Ok-clause-kept g c =
     let read = g.R.FileReader.bytes in
-    let l : Lineage = c.args.renewal.now.table.value in
+    let s : Columns = columns_in c.args.renewal.now in
     let there : c.args.range.now.input ≡ Some c.in-Some.input = sym c.take.ensures.value ∙ c.in-Some.is in
-    let was = (subst (λ (o : Option (Input g.row.R.Denot)). AreInputsOf read l (option_to_list o)) there c.requires.range).0 in
-    subst (λ (o : Option (Input g.row.R.Denot)). AreInputsOf read l (option_to_list o)) (sym c.replace-lent.ensures.after) ((c.rewrite_input-input.ensures.kept, ap (λ (k : Known). k.table) c.rewrite_input-input.ensures.known ∙ was.1), tt)
+    let was = (subst (λ (o : Option (Input g.row.R.Denot)). AreInputsTo read s (option_to_list o)) there c.requires.range).0 in
+    subst (λ (o : Option (Input g.row.R.Denot)). AreInputsTo read s (option_to_list o)) (sym c.replace-lent.ensures.after) ((c.rewrite_input-input.ensures.kept, ap (λ (k : Known). columns_of k.table) c.rewrite_input-input.ensures.known ∙ was.1), tt)
 
 pub returns-in-Ok-clause-causes : goal.returns-in-Ok-clause-causes
 returns-in-Ok-clause-causes g c =
@@ -127,7 +127,7 @@ returns-in_default-clause-known g c =
     λ i. record { from = c.args.range.now.from; to = c.args.range.now.to; file = file i }
 
 pub returns-in_default-clause-kept : goal.returns-in_default-clause-kept
-returns-in_default-clause-kept g c = subst (λ (o : Option (Input g.row.R.Denot)). AreInputsOf g.R.FileReader.bytes c.args.renewal.now.table.value (option_to_list o)) (sym c.take.ensures.after) tt
+returns-in_default-clause-kept g c = subst (λ (o : Option (Input g.row.R.Denot)). AreInputsTo g.R.FileReader.bytes (columns_in c.args.renewal.now) (option_to_list o)) (sym c.take.ensures.after) tt
 
 pub returns-in_default-clause-causes : goal.returns-in_default-clause-causes
 returns-in_default-clause-causes g c =
@@ -154,10 +154,10 @@ returns-in-Err-clause-known g c =
 pub returns-in-Err-clause-kept : goal.returns-in-Err-clause-kept
 returns-in-Err-clause-kept g c =
     let read = g.R.FileReader.bytes in
-    let l : Lineage = c.args.renewal.now.table.value in
+    let s : Columns = columns_in c.args.renewal.now in
     let there : c.args.range.now.input ≡ Some c.in-Some.input = sym c.take.ensures.value ∙ c.in-Some.is in
-    let was = (subst (λ (o : Option (Input g.row.R.Denot)). AreInputsOf read l (option_to_list o)) there c.requires.range).0 in
-    subst (λ (o : Option (Input g.row.R.Denot)). AreInputsOf read l (option_to_list o)) (sym c.replace-lent.ensures.after) ((c.rewrite_input-input.ensures.kept, ap (λ (k : Known). k.table) c.rewrite_input-input.ensures.known ∙ was.1), tt)
+    let was = (subst (λ (o : Option (Input g.row.R.Denot)). AreInputsTo read s (option_to_list o)) there c.requires.range).0 in
+    subst (λ (o : Option (Input g.row.R.Denot)). AreInputsTo read s (option_to_list o)) (sym c.replace-lent.ensures.after) ((c.rewrite_input-input.ensures.kept, ap (λ (k : Known). columns_of k.table) c.rewrite_input-input.ensures.known ∙ was.1), tt)
 
 pub returns-in-Err-clause-causes : goal.returns-in-Err-clause-causes
 returns-in-Err-clause-causes g c =

@@ -2,7 +2,7 @@ use Rattle.std.proofs.Common.{◌≡◌, ◌≢◌, ◌+◌, ◌<◌, ◌≤◌,
 use Rattle.std.proofs.lemmas.List.{get_or-set_other, take_all}
 use Rattle.mesa_schema.proofs.Lists.{all_set}
 use Rattle.mesa_merge.specs.Inputs.{knowns_of}
-use Rattle.mesa_tasks.specs.Inputs.{AreInputsOf}
+use Rattle.mesa_tasks.specs.Inputs.{AreInputsTo}
 use Rattle.mesa_tasks.specs.Recasts.{AreRewritten, IsRangeRewritten, own, recast_ids}
 use Rattle.mesa_tasks.specs.Serials.{AreNext}
 use Rattle.mesa_tasks.specs.declared.recasting.RecastRange.{RecastRange}
@@ -37,7 +37,7 @@ rewrite_range-requires-clause-renewal g c = λ _ _. (c.requires.begun.0, c.requi
 
 pub rewrite_range-requires-clause-range : goal.rewrite_range-requires-clause-range
 rewrite_range-requires-clause-range g c = λ _ _.
-    all_at (λ (x : RecastRange g.row.R.Denot). AreInputsOf g.R.FileReader.bytes c.args.renewal.now.table.value (own x)) c.each.ranges c.each.i c.index-ranges-i.result c.each.invariant.kept (omega (arith, c.each-test.true, c.each.auto.ranges))
+    all_at (λ (x : RecastRange g.row.R.Denot). AreInputsTo g.R.FileReader.bytes (columns_in c.args.renewal.now) (own x)) c.each.ranges c.each.i c.index-ranges-i.result c.each.invariant.kept (omega (arith, c.each-test.true, c.each.auto.ranges))
 
 pub each-preserved : goal.each-preserved
 each-preserved g c =
@@ -69,7 +69,7 @@ each-preserved g c =
         subst (AreNext c.args.ids.now c.rewrite_range.new.ids) (sym (ids_append id_of more.0 (one ∷ []))) (next_both c.args.ids.now c.each.ids c.rewrite_range.new.ids (recast_ids id_of more.0) (recast_ids id_of (one ∷ [])) more.2 c.in-Ok.ensures.numbered),
       );
       known = map_set (known_range read) c.each.ranges i new d c.in-Ok.ensures.known ∙ inv.known;
-      kept = all_set (λ (x : RecastRange g.row.R.Denot). AreInputsOf read c.args.renewal.now.table.value (own x)) c.each.ranges i new c.in-Ok.ensures.kept inv.kept;
+      kept = all_set (λ (x : RecastRange g.row.R.Denot). AreInputsTo read (columns_in c.args.renewal.now) (own x)) c.each.ranges i new c.in-Ok.ensures.kept inv.kept;
       faults = c.in-Ok.ensures.causes.drafts.quiet ∙ inv.faults;
       reads = (caused_at own g.R.FileReader.faults _ _ _ c.each.ranges i new d _ within c.in-Ok.ensures.causes).reads.quiet ∙ inv.reads;
     }
@@ -108,7 +108,7 @@ returns-in-Err-clause-known g c = map_set (known_range g.R.FileReader.bytes) c.e
 
 pub returns-in-Err-clause-kept : goal.returns-in-Err-clause-kept
 returns-in-Err-clause-kept g c =
-    all_set (λ (x : RecastRange g.row.R.Denot). AreInputsOf g.R.FileReader.bytes c.args.renewal.now.table.value (own x)) c.each.ranges c.each.i c.rewrite_range.new.range c.in-Err.ensures.kept c.each.invariant.kept
+    all_set (λ (x : RecastRange g.row.R.Denot). AreInputsTo g.R.FileReader.bytes (columns_in c.args.renewal.now) (own x)) c.each.ranges c.each.i c.rewrite_range.new.range c.in-Err.ensures.kept c.each.invariant.kept
 
 pub returns-in-Err-clause-causes : goal.returns-in-Err-clause-causes
 returns-in-Err-clause-causes g c =
@@ -145,7 +145,7 @@ returns-in-Err-push-clause-known g c = map_set (known_range g.R.FileReader.bytes
 
 pub returns-in-Err-push-clause-kept : goal.returns-in-Err-push-clause-kept
 returns-in-Err-push-clause-kept g c =
-    all_set (λ (x : RecastRange g.row.R.Denot). AreInputsOf g.R.FileReader.bytes c.args.renewal.now.table.value (own x)) c.each.ranges c.each.i c.rewrite_range.new.range c.in-Ok.ensures.kept c.each.invariant.kept
+    all_set (λ (x : RecastRange g.row.R.Denot). AreInputsTo g.R.FileReader.bytes (columns_in c.args.renewal.now) (own x)) c.each.ranges c.each.i c.rewrite_range.new.range c.in-Ok.ensures.kept c.each.invariant.kept
 
 pub returns-in-Err-push-clause-causes : goal.returns-in-Err-push-clause-causes
 returns-in-Err-push-clause-causes g c =
