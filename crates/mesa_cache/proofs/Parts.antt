@@ -1,7 +1,7 @@
 -- Parts of pages, put together to what was asked for.
-use Rattle.std.proofs.Common.{◌≡◌, inl, inr, ℕ, ◌+◌, ◌-◌, ◌*◌, ◌/◌, ◌%◌, ◌≤◌, min, List, ◌++◌, length, take, drop, Option, Some, ◌∙◌, sym, ap, subst, arith, length-append, length-drop, length-take}
+use Rattle.std.proofs.Common.{◌≡◌, refl, inl, inr, ℕ, ◌+◌, ◌-◌, ◌*◌, ◌/◌, ◌%◌, ◌≤◌, min, List, ◌++◌, length, take, drop, Option, Some, ◌∙◌, sym, ap, subst, arith, length-append, length-drop, length-take}
 use Rattle.std.proofs.lemmas.List.{take-take, drop-take, drop-drop, take_min, take_all}
-use Rattle.std.proofs.lemmas.Slice.{take-put_mid, take-put_mid_below}
+use Rattle.std.proofs.lemmas.Slice.{take-put_mid}
 use Rattle.std.proofs.Math.Seq.{take-add}
 use borrow.Rule.Slice.PartMut.{put_mid}
 use Rattle.mesa_cache.specs.Pages.{IsPage, ArePages, AreAmong, AreWith, page_of}
@@ -45,46 +45,25 @@ put_len buf piece done count k within len is =
     let rest = drop k (drop done buf) in
     length-append (take done buf) (piece ++ rest) ∙ omega (arith, length-take done buf, length-append piece rest, length-drop k (drop done buf), length-drop done buf)
 
--- what was written over before it was tried again
-abbrev pub tried_in : List ℕ → List ℕ → ℕ → ℕ → List ℕ
-tried_in buf tried done count = put_mid done (done + count - done) buf tried
-
-pub tried_len : (buf tried : List ℕ) (done count : ℕ) → done + count ≤ length buf → length tried ≡ count → length (tried_in buf tried done count) ≡ length buf
-tried_len buf tried done count within len = put_len buf tried done count (done + count - done) within len (omega arith)
-
-pub part_len_again : (buf tried : List ℕ) (done count : ℕ) → done + count ≤ length buf → length tried ≡ count → length (take (done + count - done) (drop done (tried_in buf tried done count))) ≡ count
-part_len_again buf tried done count within len = let long = tried_len buf tried done count within len in part_len (tried_in buf tried done count) done count (omega arith)
-
--- the same as above where that part was written over before
-pub filled_again : (b buf tried piece : List ℕ) (at done count : ℕ) → done + count ≤ length buf → length tried ≡ count → length piece ≡ count → take done buf ≡ take done (drop at b) → piece ≡ take count (drop (at + done) b)
-    → take (done + count) (put_mid done (done + count - done) (tried_in buf tried done count) piece) ≡ take (done + count) (drop at b)
-filled_again b buf tried piece at done count within len_tried len before part =
-    let front : done ≤ length buf = omega arith in
-    let here : done ≤ done = omega arith in
-    let long = tried_len buf tried done count within len_tried in
-    let room : done ≤ length (tried_in buf tried done count) = omega arith in
-    filled_behind b (tried_in buf tried done count) piece at done count (done + count - done) room len (take-put_mid_below done (done + count - done) buf tried done here front ∙ before) part
+-- a buffer that is filled whole by what was filled before
+pub filled_front : (b buf : List ℕ) (at done len : ℕ) → done ≡ length buf → length buf ≡ len → take done buf ≡ take done (drop at b) → buf ≡ take len (drop at b)
+filled_front b buf at done len whole long before = sym (take_all done buf (omega arith)) ∙ before ∙ ap (λ n. take n (drop at b)) (whole ∙ long)
 
 -- how many bytes are left
 pub rest_len : (xs : List ℕ) (done : ℕ) → length (take (length xs - done) (drop done xs)) ≡ length xs - done
 rest_len xs done = length-take (length xs - done) (drop done xs) ∙ omega (arith, length-drop done xs)
 
--- the same for all that was left
-pub filled_whole : (b buf tried rest : List ℕ) (at done count len : ℕ) → length buf ≡ len → done + count ≤ length buf → length tried ≡ count → take done buf ≡ take done (drop at b)
-    → let ys = tried_in buf tried done count in let left = length (take (length ys - done) (drop done ys)) in length rest ≡ left → rest ≡ take left (drop (at + done) b) → put_mid done (length ys - done) ys rest ≡ take len (drop at b)
-filled_whole b buf tried rest at done count len whole within len_tried before len_rest part =
-    let front : done ≤ length buf = omega arith in
-    let here : done ≤ done = omega arith in
-    let ys : List ℕ = tried_in buf tried done count in
-    let long : length ys ≡ length buf = tried_len buf tried done count within len_tried in
-    let left : length (take (length ys - done) (drop done ys)) ≡ len - done = rest_len ys done ∙ omega arith in
-    let room : done ≤ length ys = omega arith in
-    let all : done + (len - done) ≡ len = omega arith in
-    let fits : done + (len - done) ≤ length ys = omega arith in
-    let same : length ys - done ≡ len - done = omega arith in
-    let filled = filled_behind b ys rest at done (len - done) (length ys - done) room (len_rest ∙ left) (take-put_mid_below done (done + count - done) buf tried done here front ∙ before) (part ∙ ap (λ n. take n (drop (at + done) b)) left) in
-    let size : length (put_mid done (length ys - done) ys rest) ≤ done + (len - done) = omega (arith, put_len ys rest done (len - done) (length ys - done) fits (len_rest ∙ left) same) in
-    sym (take_all (done + (len - done)) (put_mid done (length ys - done) ys rest) size) ∙ filled ∙ ap (λ n. take n (drop at b)) all
+-- what is left, filled behind what was filled before
+pub filled_rest : (b buf rest : List ℕ) (at done len : ℕ) → length buf ≡ len → done ≤ len → take done buf ≡ take done (drop at b)
+    → let left = length (take (length buf - done) (drop done buf)) in length rest ≡ left → rest ≡ take left (drop (at + done) b) → put_mid done (length buf - done) buf rest ≡ take len (drop at b)
+filled_rest b buf rest at done len whole within before len_rest part =
+    let left : length (take (length buf - done) (drop done buf)) ≡ length buf - done = rest_len buf done in
+    let room : done ≤ length buf = omega arith in
+    let all : done + (length buf - done) ≡ len = omega arith in
+    let fits : done + (length buf - done) ≤ length buf = omega arith in
+    let long : length (put_mid done (length buf - done) buf rest) ≤ done + (length buf - done) = omega (arith, put_len buf rest done (length buf - done) (length buf - done) fits (len_rest ∙ left) refl) in
+    let filled = filled_behind b buf rest at done (length buf - done) (length buf - done) room (len_rest ∙ left) before (part ∙ ap (λ n. take n (drop (at + done) b)) left) in
+    sym (take_all (done + (length buf - done)) (put_mid done (length buf - done) buf rest) long) ∙ filled ∙ ap (λ n. take n (drop at b)) all
 
 -- pages of a file are pages of the same file
 pub ArePages-along : (content content' : Option (List ℕ)) (size size' : ℕ) (old new : List (ℕ × List ℕ)) → content ≡ content' → size ≡ size' → ArePages content size old → AreAmong new old → ArePages content' size' new

@@ -18,6 +18,14 @@ pub record IsPage (content : Option (List ℕ)) (size number : ℕ) (page : List
 abbrev pub ArePages : Option (List ℕ) → ℕ → List (ℕ × List ℕ) → Type 0
 ArePages content size pages = (number : ℕ) (page : List ℕ) → Contains pages (number, page) → IsPage content size number page
 
+-- They are as long as the file's size gives them.
+abbrev pub AreSized : ℕ → List (ℕ × List ℕ) → Type 0
+AreSized size pages = (number : ℕ) (page : List ℕ) → Contains pages (number, page) → length page ≡ min page_size (size - page_size * number)
+
+-- They are those pages of these bytes.
+abbrev pub AreOf : List ℕ → List (ℕ × List ℕ) → Type 0
+AreOf bytes pages = (number : ℕ) (page : List ℕ) → Contains pages (number, page) → page ≡ page_of number bytes
+
 -- Whatever page is kept now was kept before.
 abbrev pub AreAmong : List (ℕ × List ℕ) → List (ℕ × List ℕ) → Type 0
 AreAmong new old = (number : ℕ) (page : List ℕ) → Contains new (number, page) → Contains old (number, page)

@@ -1,6 +1,6 @@
 // The pages that are kept.
 ghost use Rattle.std.specs.Prelude.{◌≡◌, ◌+◌, ◌≤◌, ℕ, List, take, drop, length, vec_len, Contains, IsTrue, IfSome};
-ghost use Rattle.mesa_cache.specs.Pages.{AreAmong, AreWith};
+ghost use Rattle.mesa_cache.specs.Pages.{AreAmong, AreOf, AreSized, AreWith};
 
 use lru::LruCache;
 use mesa_disk::ByteList;
@@ -12,8 +12,8 @@ pub type Pages = LruCache<u64, ByteList>;
 /// How many bytes a page has. The last page of a file may have fewer.
 pub const PAGE_SIZE: u64 = 16_384;
 
-/// Copies a part of a page, where it is kept. It is then the page that was used last.
-pub fn copy_kept(pages: &mut Pages, number: u64, offset: usize, piece: &mut [u8]) -> bool
+// Copies a part of a page, where it is kept. It is then the page that was used last.
+fn copy_kept(pages: &mut Pages, number: u64, offset: usize, piece: &mut [u8]) -> bool
     requires { (page : List ℕ) → Contains pages.old.entries (number, page) → offset + length piece.old ≤ length page }
     ensures found { IsTrue result → (page : List ℕ) × Contains pages.old.entries (number, page) × (piece.new ≡ take (length piece.old) (drop offset page)) }
     ensures among { AreAmong pages.new.entries pages.old.entries }
@@ -25,6 +25,27 @@ pub fn copy_kept(pages: &mut Pages, number: u64, offset: usize, piece: &mut [u8]
         }
         None => false,
     }
+}
+
+/// Fills the front of a buffer from the pages of a file that are kept, up to the first one that isn't, and tells how much that is.
+pub fn copy_front(pages: &mut Pages, size: u64, at: u64, buf: &mut [u8]) -> usize
+    requires within { at + length buf.old ≤ size }
+    requires sized { AreSized size pages.old.entries }
+    ensures within { result ≤ length buf.old }
+    ensures copied { (bytes : List ℕ) → AreOf bytes pages.old.entries → take result buf.new ≡ take result (drop at bytes) }
+    ensures among { AreAmong pages.new.entries pages.old.entries }
+{
+    let mut done = 0;
+    'pieces: while done < buf.len() {
+        let from = at + done as u64;
+        let (number, offset) = (from / PAGE_SIZE, (from % PAGE_SIZE) as usize);
+        let end = done + (PAGE_SIZE as usize - offset).min(buf.len() - done);
+        if !copy_kept(pages, number, offset, &mut buf[done..end]) {
+            return done;
+        }
+        done = end;
+    }
+    done
 }
 
 /// A buffer of this length for one page more, if there is memory. Where no room is left for a page, it is that of the page that was not used for longest.
