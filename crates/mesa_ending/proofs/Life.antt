@@ -2,30 +2,20 @@
 use Rattle.std.proofs.Common.{◌≡◌, ℕ, ◌-◌, List, [], ◌∷◌, map, cond, refl, true, ◌∙◌, ap, arith}
 use Rattle.std.specs.Prelude.{filter, nat_le}
 use Rattle.std.proofs.lemmas.Bool.Decides.{nat_tests}
-use Rattle.mesa_schema.specs.Changes.{columns_of, epoch_of, lifted, rule_checked}
+use Rattle.mesa_schema.specs.Changes.{columns_of, epoch_of, lifted}
 use Rattle.mesa_schema.specs.Columns.{aggs_of}
 use Rattle.mesa_schema.specs.Folded.{folded}
 use Rattle.mesa_schema.proofs.Lists.{all_so}
-use Rattle.mesa_schema.proofs.Passing.{passed_first}
-use Rattle.mesa_model.specs.declared.commands.Script.{Script}
-use Rattle.mesa_model.specs.declared.entries.Entry.{Entry}
-use Rattle.mesa_model.specs.Warehouse.{Store, Table, Warehouse, empty_warehouse, table_at}
-use Rattle.mesa_model.specs.Tables.{columns_asked}
+use Rattle.mesa_model.specs.Warehouse.{empty_warehouse}
 use Rattle.mesa_model.specs.WellFormed.{IsTable, IsWellFormed}
 use Rattle.mesa_history.specs.Found.{Kept, kept_in}
-use Rattle.mesa_history.specs.Law.{Writing, carried_in, carried_through, writing_by, written_in, written_through}
-use Rattle.mesa_history.specs.Replay.{go, runs}
+use Rattle.mesa_history.specs.Law.{carried_in, written_in}
+use Rattle.mesa_history.specs.Replay.{runs}
 use Rattle.mesa_history.specs.Run.{Run, begins}
 use Rattle.mesa_history.specs.Sources.{Source, Written, rows_now, source_written, sources_to}
-use Rattle.mesa_laws.proofs.FoldLaw.{law_starts, start_early}
+use Rattle.mesa_laws.proofs.FoldLaw.{law_runs, law_starts, start_early}
 use Rattle.mesa_laws.proofs.Kept.{Law, all_written, first_written, law_late}
-use Rattle.mesa_laws.proofs.LawLoads.{law_loads}
-use Rattle.mesa_laws.proofs.LawTables.{law_alters, law_expires, law_expires_one, law_makes, law_recasts, law_views}
-use Rattle.mesa_laws.proofs.Lineages.{change_default}
-use Rattle.mesa_laws.proofs.Moves.{Moves}
-use Rattle.mesa_laws.proofs.Recasts.{recast_rules, recast_there}
-use Rattle.mesa_laws.proofs.Turns.{go_moves}
-use Rattle.mesa_laws.proofs.WellFormed.{empty_well, go_well, runs_well, table_kept, table_there}
+use Rattle.mesa_laws.proofs.WellFormed.{empty_well, runs_well}
 use Rattle.mesa_ending.specs.Life.{LifeLaw, Stretch, kept_after, kept_at_first, kept_next, warehouse_of, written_over}
 use Rattle.mesa_ending.specs.Start.{state_of}
 
@@ -44,41 +34,6 @@ kept_law : (r : Run) (early : ℕ → ℕ → Source) (later : ℕ → List Writ
 unfolding kept_in
 kept_law r early later law = law
 
--- ---- a turn
-
-abbrev early_by : Store → Writing → (ℕ → ℕ → Source) → ℕ → ℕ → Source
-early_by s x early number version = carried_through s x number (early number version)
-
-abbrev later_by : Store → Writing → (ℕ → List Written) → ℕ → List Written
-later_by s x later number = written_through s x number (later number)
-
-module _ (w : Warehouse) (is : IsWellFormed w) (early : ℕ → ℕ → Source) (later : ℕ → List Written) (law : Law empty_warehouse early later w.store w.next) where
-  -- every turn keeps the law, of what is carried through it
-  law_moves : Moves w (λ s next x. Law empty_warehouse (early_by w.store x early) (later_by w.store x later) s next)
-  law_moves = record {
-    same = law;
-    loads = λ words batch read. law_loads empty_warehouse early later w law (table_kept w is) words batch read;
-    makes = λ words free schema. law_makes empty_warehouse early later w law words.table (columns_asked words);
-    views = λ words number free at rules. law_views empty_warehouse early later w.store w.next law number (table_at w.store number) words (table_there w.store words.table number at);
-    alters = λ words number c at asked rules.
-        let t : Table = table_at w.store number in
-        law_alters empty_warehouse early later w.store w.next law number t c (table_there w.store words.table number at) (change_default t.lineage words.change c asked (passed_first (rule_checked t.lineage c) _ rules).0);
-    expires = λ version ok. law_expires empty_warehouse early later w.store w.next law version;
-    expires_one = λ name number version at ok. law_expires_one empty_warehouse early later w.store w.next law number version (table_at w.store number) (table_there w.store name number at);
-    recasts = λ number r rules. law_recasts empty_warehouse early later w law number r (recast_there w.store number r rules) (recast_rules (table_at w.store number).lineage r rules);
-  }
-
--- ---- a run
-
-run_holds : (script : Script) (r : Run) (h : List Entry) (early : ℕ → ℕ → Source) (later : ℕ → List Written) → IsWellFormed r.state.warehouse → Law empty_warehouse early later r.state.warehouse.store r.state.warehouse.next
-    → Law empty_warehouse (λ number version. carried_in script r h number (early number version)) (λ number. written_in script r h number (later number)) (runs script r h).state.warehouse.store (runs script r h).state.warehouse.next
-unfolding runs carried_in written_in
-run_holds script r [] early later is law = law
-run_holds script r (e ∷ h) early later is law =
-    let s : Store = r.state.warehouse.store in
-    run_holds script (go script r e) h (early_by s (writing_by script r e) early) (later_by s (writing_by script r e) later) (go_well script r e is)
-    (go_moves script r e (λ store next x. Law empty_warehouse (early_by s x early) (later_by s x later) store next) (law_moves r.state.warehouse is early later law))
-
 -- ---- a life
 
 early_over : Kept → List Stretch → (ℕ → ℕ → Source) → ℕ → ℕ → Source
@@ -94,7 +49,7 @@ life_holds (s ∷ rest) kept early later is law =
     let behind : Run = runs s.script r s.turns in
     let carried : ℕ → ℕ → Source = (λ number version. carried_in s.script r s.turns number (early number version)) in
     let written : ℕ → List Written = (λ number. written_in s.script r s.turns number (later number)) in
-    life_holds rest (kept_next kept s) carried written (kept_well behind (runs_well s.script r s.turns is)) (kept_law behind carried written (run_holds s.script r s.turns early later is law))
+    life_holds rest (kept_next kept s) carried written (kept_well behind (runs_well s.script r s.turns is)) (kept_law behind carried written (law_runs empty_warehouse s.script r s.turns early later is law))
 
 -- what was written up to a version, from the first on
 from_first : (version : ℕ) (x : Written) (written : List Written) → nat_le x.version version ≡ true → sources_to version (x ∷ written) ≡ x.source ∷ sources_to version written

@@ -1,5 +1,5 @@
 -- The fold law, over whole histories.
-use Rattle.std.proofs.Common.{◌≡◌, ℕ, ◌-◌, ◌≤◌, ◌==◌, List, [], ◌∷◌, map, length, cond, Bool, true, false, refl, sym, ◌∙◌, ap, subst, arith, slice_get, Option, Some, None}
+use Rattle.std.proofs.Common.{◌≡◌, ℕ, ◌-◌, ◌==◌, List, [], ◌∷◌, map, cond, Bool, true, false, refl, sym, ◌∙◌, ap, subst, arith, slice_get, Option, Some, None}
 use Rattle.std.proofs.lemmas.List.{get_or_past}
 use Rattle.std.proofs.lemmas.Option.{slice_get_past}
 use Rattle.mesa_schema.specs.Changes.{Lineage, columns_of, epoch_of, rule_checked}
@@ -11,11 +11,11 @@ use Rattle.mesa_model.specs.declared.entries.Entry.{Entry}
 use Rattle.mesa_model.specs.Warehouse.{Store, Table, Warehouse, content_at, table_at}
 use Rattle.mesa_model.specs.Tables.{columns_asked}
 use Rattle.mesa_model.specs.WellFormed.{IsContent, IsTable, IsWellFormed}
-use Rattle.mesa_history.specs.Law.{Accepts, FoldLaw, Leaves, Regroups, Writing, carried_content, carried_in, carried_through, source_then, start_source, start_written, writing_by, written_in, written_through}
+use Rattle.mesa_history.specs.Law.{Accepts, FoldLaw, Leaves, Regroups, Writing, carried_content, carried_in, carried_through, source_then, start_source, writing_by, written_in, written_through}
 use Rattle.mesa_history.specs.Run.{Run, begins}
 use Rattle.mesa_history.specs.Replay.{go, runs}
 use Rattle.mesa_history.specs.Sources.{Source, Written, rows_now, source_recast, written_recast}
-use Rattle.mesa_laws.proofs.Kept.{IsAt, Law, LawAt, all_written, first_written, law_early, no_source}
+use Rattle.mesa_laws.proofs.Kept.{IsAt, Law, LawAt, all_written, first_written, law_early}
 use Rattle.mesa_laws.proofs.LawLoads.{law_loads}
 use Rattle.mesa_laws.proofs.LawTables.{law_alters, law_expires, law_expires_one, law_makes, law_recasts, law_views}
 use Rattle.mesa_laws.proofs.Lifting.{present_now}
@@ -78,7 +78,7 @@ early_by s x early number version = carried_through s x number (early number ver
 abbrev later_by : Store → Writing → (ℕ → List Written) → ℕ → List Written
 later_by s x later number = written_through s x number (later number)
 
-module _ (start : Warehouse) (first : IsWellFormed start) (w : Warehouse) (is : IsWellFormed w) (early : ℕ → ℕ → Source) (later : ℕ → List Written) (law : Law start early later w.store w.next) where
+module _ (start : Warehouse) (w : Warehouse) (is : IsWellFormed w) (early : ℕ → ℕ → Source) (later : ℕ → List Written) (law : Law start early later w.store w.next) where
   -- Every turn keeps the law, of what is carried through it.
   law_moves : Moves w (λ s next x. Law start (early_by w.store x early) (later_by w.store x later) s next)
   law_moves = record {
@@ -96,26 +96,15 @@ module _ (start : Warehouse) (first : IsWellFormed start) (w : Warehouse) (is : 
 
 -- ---- a history
 
-pub early_in : Script → Run → List Entry → (ℕ → ℕ → Source) → ℕ → ℕ → Source
-early_in script r [] early = early
-early_in script r (e ∷ h) early = early_in script (go script r e) h (early_by r.state.warehouse.store (writing_by script r e) early)
-
-pub later_in : Script → Run → List Entry → (ℕ → List Written) → ℕ → List Written
-later_in script r [] later = later
-later_in script r (e ∷ h) later = later_in script (go script r e) h (later_by r.state.warehouse.store (writing_by script r e) later)
-
-pub law_runs : (start : Warehouse) → IsWellFormed start → (script : Script) (r : Run) (h : List Entry) (early : ℕ → ℕ → Source) (later : ℕ → List Written) → IsWellFormed r.state.warehouse → Law start early later r.state.warehouse.store r.state.warehouse.next
-    → Law start (early_in script r h early) (later_in script r h later) (runs script r h).state.warehouse.store (runs script r h).state.warehouse.next
-unfolding runs early_in later_in
-law_runs start first script r [] early later is law = law
-law_runs start first script r (e ∷ h) early later is law =
-    law_runs start first script (go script r e) h (early_by r.state.warehouse.store (writing_by script r e) early) (later_by r.state.warehouse.store (writing_by script r e) later) (go_well script r e is)
-    (go_moves script r e (λ s next x. Law start (early_by r.state.warehouse.store x early) (later_by r.state.warehouse.store x later) s next) (law_moves start first r.state.warehouse is early later law))
-
-early_same : (script : Script) (r : Run) (h : List Entry) (early : ℕ → ℕ → Source) (number version : ℕ) → early_in script r h early number version ≡ carried_in script r h number (early number version)
-unfolding early_in carried_in
-early_same script r [] early number version = refl
-early_same script r (e ∷ h) early number version = early_same script (go script r e) h (early_by r.state.warehouse.store (writing_by script r e) early) number version
+-- Every history keeps the law, of what is carried through it.
+pub law_runs : (start : Warehouse) (script : Script) (r : Run) (h : List Entry) (early : ℕ → ℕ → Source) (later : ℕ → List Written) → IsWellFormed r.state.warehouse → Law start early later r.state.warehouse.store r.state.warehouse.next
+    → Law start (λ number version. carried_in script r h number (early number version)) (λ number. written_in script r h number (later number)) (runs script r h).state.warehouse.store (runs script r h).state.warehouse.next
+unfolding runs carried_in written_in
+law_runs start script r [] early later is law = law
+law_runs start script r (e ∷ h) early later is law =
+    let s : Store = r.state.warehouse.store in
+    law_runs start script (go script r e) h (early_by s (writing_by script r e) early) (later_by s (writing_by script r e) later) (go_well script r e is)
+    (go_moves script r e (λ store next x. Law start (early_by s x early) (later_by s x later) store next) (law_moves start r.state.warehouse is early later law))
 
 -- the start's newest content is carried as all else
 first_if : (start : Warehouse) (l : Lineage) (r : Recast) (early : ℕ → Source) (later : List Written) (b : Bool) → cond b (map (written_recast l r) (first_written start early ∷ later)) (first_written start early ∷ later)
@@ -129,17 +118,21 @@ first_by start s (Accepts version batch) number early later = refl
 first_by start s (Regroups table r) number early later = first_if start (table_at s number).lineage r early later (table == number)
 first_by start s Leaves number early later = refl
 
-written_same : (start : Warehouse) (script : Script) (r : Run) (h : List Entry) (early : ℕ → ℕ → Source) (later : ℕ → List Written) (number : ℕ)
-    → written_in script r h number (all_written start (early number) (later number)) ≡ all_written start (early_in script r h early number) (later_in script r h later number)
-unfolding early_in later_in written_in
-written_same start script r [] early later number = refl
-written_same start script r (e ∷ h) early later number =
-    ap (written_in script (go script r e) h number) (first_by start r.state.warehouse.store (writing_by script r e) number (early number) (later number))
-    ∙ written_same start script (go script r e) h (early_by r.state.warehouse.store (writing_by script r e) early) (later_by r.state.warehouse.store (writing_by script r e) later) number
+written_same : (start : Warehouse) (script : Script) (r : Run) (h : List Entry) (number : ℕ) (early : ℕ → Source) (later : List Written)
+    → written_in script r h number (all_written start early later) ≡ all_written start (λ version. carried_in script r h number (early version)) (written_in script r h number later)
+unfolding carried_in written_in
+written_same start script r [] number early later = refl
+written_same start script r (e ∷ h) number early later =
+    let s : Store = r.state.warehouse.store in
+    let x : Writing = writing_by script r e in
+    ap (written_in script (go script r e) h number) (first_by start s x number early later)
+    ∙ written_same start script (go script r e) h number (λ version. carried_through s x number (early version)) (written_through s x number later)
 
 -- The fold law.
 pub law_holds : FoldLaw
 law_holds script start h is number t version at le lt =
-    let law = law_runs start.warehouse is script (begins start) h (start_early start.warehouse is) (λ n. []) is (law_starts start.warehouse is) in
+    let early = start_early start.warehouse is in
+    let r = begins start in
+    let law = law_runs start.warehouse script r h early (λ n. []) is (law_starts start.warehouse is) in
     (law.tables number t at).contents version le lt
-    ∙ (λ i. carried_content start.warehouse t (λ v. early_same script (begins start) h (start_early start.warehouse is) number v i) (sym (written_same start.warehouse script (begins start) h (start_early start.warehouse is) (λ n. []) number) i) version)
+    ∙ ap (λ written. carried_content start.warehouse t (λ v. carried_in script r h number (early number v)) written version) (sym (written_same start.warehouse script r h number (early number) []))
