@@ -1,5 +1,5 @@
 // The files of a session's query.
-ghost use Rattle.std.specs.Prelude.{◌≡◌, ◌≢◌, ◌<◌, ℕ, true, IfErr, IfOk, IfSome, IsTrue, Some, length, map};
+ghost use Rattle.std.specs.Prelude.{◌≡◌, ◌≢◌, ◌<◌, true, IfErr, IfOk, IfSome, IsTrue, Some, length, map};
 ghost use Rattle.mesa_asking.specs.Closing.{cause_of};
 ghost use Rattle.mesa_asking.specs.Opening.{HasItsFiles, HasUnsoundFile, cause_refused, is_unread, read_in, tells_damage};
 ghost use Rattle.mesa_asking.specs.Seeing.{catalogue_asked};

@@ -1,5 +1,5 @@
 // What a query sees of a vault.
-ghost use Rattle.std.specs.Prelude.{◌≡◌, ℕ, Err, IfErr, IfOk, None, Some};
+ghost use Rattle.std.specs.Prelude.{◌≡◌, Err, IfErr, IfOk, None, Some};
 ghost use Rattle.mesa_asking.specs.Seeing.{SeesBooks, catalogue_asked, pinned_asked};
 ghost use Rattle.mesa_filter.specs.declared.words.QueryWords.{QueryWords as AnyWords};
 ghost use Rattle.mesa_engine.specs.mesa_ledger.Ledger.{books_of};

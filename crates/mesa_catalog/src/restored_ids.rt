@@ -1,5 +1,5 @@
 // The ids of the files that a checkpoint names.
-ghost use Rattle.std.specs.Prelude.{◌≡◌, ◌≤◌, ℕ, is_some, nat_le, IfOk, IfSome};
+ghost use Rattle.std.specs.Prelude.{◌≡◌, ◌≤◌, is_some, nat_le, IfOk, IfSome};
 ghost use Rattle.std.specs.List.{AllByRecursion, list_all};
 ghost use Rattle.mesa_image_laws.specs.mesa_image.CheckpointFits.{ids_fit};
 ghost use Rattle.mesa_image_laws.specs.mesa_image.Fitting.{run_of_id};

@@ -1,5 +1,5 @@
 // The catalogue that a checkpoint states. Names, columns, files and totals are moved, not copied.
-ghost use Rattle.std.specs.Prelude.{◌≡◌, ◌≢◌, ◌++◌, ◌≤◌, ℕ, false, flat_map, map, option_map, IfErr, IfOk, IsTrue, OnOk};
+ghost use Rattle.std.specs.Prelude.{◌≡◌, ◌≢◌, ◌++◌, false, flat_map, map, option_map, IfErr, IfOk, IsTrue, OnOk};
 ghost use Rattle.std.specs.List.{AllByRecursion, list_all};
 ghost use Rattle.mesa_image_laws.specs.mesa_image.Checkpoint.{stated, stock_stated};
 ghost use Rattle.mesa_image_laws.specs.mesa_image.CheckpointFits.{checkpoint_fits, counts_fit as counts_are_right, names_differ as all_differ, number_fits as number_is_right, table_fits, tables_fit};

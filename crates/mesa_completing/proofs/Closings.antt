@@ -179,13 +179,3 @@ only_draft None (compact.File file_error.Memory) closing is = absurd cc
 pub closing_read : (closed : Option ℕ) (error : CompactError) → is_read_fault (closing_cause closed error) ≡ true → is_read_fault (cause_of error) ≡ true
 closing_read (Some position) error is = absurd cc
 closing_read None error is = is
-
--- ---- its reply
-
--- It is a refusal.
-pub closing_refuses : (closed : Option ℕ) (error : CompactError) → is_refusal (reply_of (closing_cause closed error)) ≡ true
-closing_refuses (Some position) error = refl
-closing_refuses None compact.Draft = refl
-closing_refuses None (compact.File file_error.Read) = refl
-closing_refuses None (compact.File (file_error.Damaged damage)) = refl
-closing_refuses None (compact.File file_error.Memory) = refl

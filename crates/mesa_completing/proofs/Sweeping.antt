@@ -1,20 +1,44 @@
 -- The files behind a swap.
-use Rattle.std.proofs.Common.{◌≡◌, ⊎_elim, inl, inr, ℕ, List, ◌∷◌, [], length, map, Bool, true, sym, subst, Option, None}
+use Rattle.std.proofs.Common.{◌≡◌, ◌∙◌, ⊎_elim, inl, inr, ℕ, List, ◌∷◌, ◌++◌, [], length, map, Bool, true, false, not, sym, ap, subst, Option, None}
 use Rattle.std.specs.Prelude.{filter}
+use Rattle.std.proofs.lemmas.List.{append_cancel_left}
 use Rattle.std.specs.List.{AllByRecursion}
 use Rattle.mesa_disk.specs.Story.{Story}
 use Rattle.mesa_engine.specs.mesa_ledger.mesa_image_laws.Ids.{named}
 use Rattle.mesa_engine.specs.mesa_ledger.Ledger.{Ledger, holders, ids_held, next_id}
 use Rattle.mesa_engine.specs.mesa_ledger.Recorded.{holds_in}
 use Rattle.mesa_engine.specs.mesa_ledger.Vault.{Origin, IsVault}
+use Rattle.mesa_engine.specs.mesa_ledger.mesa_walk.Turns.{IsTurn, Shown, entry}
 use Rattle.mesa_engine.specs.mesa_ledger.mesa_walk.Walk.{Outset}
 use Rattle.mesa_engine.proofs.mesa_ledger.Filing.{holds_are}
+use Rattle.mesa_history.specs.Replay.{is_skip}
 use Rattle.mesa_model.specs.declared.entries.Entry.{Entry}
+use Rattle.mesa_model.specs.declared.entries.Kind.TheVariants as kind
+use Rattle.mesa_model.specs.declared.entries.Outcome.{Outcome}
+use Rattle.mesa_model.specs.declared.entries.Outcome.TheVariants as outcome
 use Rattle.mesa_trash.specs.declared.trash.Dropped.{Dropped}
 use Rattle.mesa_trash.specs.Holding.{Among, IsHad, ids_of, kept}
 use Rattle.mesa_trash.proofs.Filing.{kept_had}
 use Rattle.mesa_trash.proofs.Waiting.{kept_among, unpicked}
-use Rattle.mesa_completing.specs.Swept.{IsSwept}
+use Rattle.mesa_completing.specs.Swept.{HasStood, IsSwept}
+
+-- ---- turns that stand
+
+module _ (old new : Shown) (session number : ℕ) where
+  -- the outcome of the entry that a turn added, where the turn stands
+  pub stood_as : (k : Outcome) (moment : ℕ) → new.history ≡ old.history ++ entry session number kind.Close k moment ∷ [] → HasStood old new session number → k ≡ outcome.Stands
+  stood_as k moment grew stood =
+      let ends : entry session number kind.Close k moment ∷ [] ≡ entry session number kind.Close outcome.Stands stood.0 ∷ [] = append_cancel_left old.history _ _ (sym grew ∙ stood.1) in
+      let same : entry session number kind.Close k moment ≡ entry session number kind.Close outcome.Stands stood.0 = cc in
+      ap (λ (e : Entry). e.outcome) same
+
+  -- a turn that is skipped doesn't stand
+  pub skipped_stood : IsTurn old new session number kind.Close → old.running ≡ false → HasStood old new session number → ⊥
+  skipped_stood turn failed stood =
+      let no : false ≡ true = sym (ap is_skip (stood_as turn.outcome new.clock turn.grew stood)) ∙ turn.skipped ∙ ap not failed in
+      cc
+
+-- ---- files
 
 passes : (test : Dropped → Bool) (id : ℕ) (ds : List Dropped) → AllByRecursion (λ (d : Dropped). d.id ≡ id → test d ≡ true) (filter test ds)
 passes test id [] = tt

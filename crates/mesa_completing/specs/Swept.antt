@@ -1,12 +1,25 @@
--- What a swap leaves of files.
-use Rattle.std.specs.Prelude.{◌≡◌, ◌⊎◌, ℕ, List, map, Option, None, Some}
+-- When a close of a work or a recast is done, and what it leaves of files.
+use Rattle.std.specs.Prelude.{◌≡◌, ◌⊎◌, ◌++◌, ◌∷◌, [], ℕ, List, map, Option, None, Some, Ok}
 use Rattle.mesa_disk.specs.Image.{Image, file_of}
+use Rattle.mesa_history.specs.Machine.{Claim, claim_checked}
 use Rattle.mesa_image.specs.Catalog.{Catalog}
 use Rattle.mesa_engine.specs.mesa_ledger.mesa_image_laws.Ids.{named}
-use Rattle.mesa_engine.specs.mesa_ledger.Ledger.{Ledger, holders, ids_held}
+use Rattle.mesa_engine.specs.mesa_ledger.Ledger.{Ledger, books_of, holders, ids_held}
 use Rattle.mesa_engine.specs.mesa_ledger.Vault.{IsFiled}
+use Rattle.mesa_engine.specs.mesa_ledger.mesa_walk.Turns.{Shown, entry}
 use Rattle.mesa_model.specs.declared.entries.Entry.{Entry}
+use Rattle.mesa_model.specs.declared.entries.Kind.TheVariants as kind
+use Rattle.mesa_model.specs.declared.entries.Outcome.TheVariants as outcome
+use Rattle.mesa_skeleton.specs.Rows.{no_rows}
 use Rattle.mesa_trash.specs.Holding.{Among, IsHad}
+
+-- The turn that closes a session's command stands: the entry that it added says so.
+abbrev pub HasStood : Shown → Shown → ℕ → ℕ → Type 0
+HasStood old new session number = (moment : ℕ) × (new.history ≡ old.history ++ entry session number kind.Close outcome.Stands moment ∷ [])
+
+-- A claim holds in the turn at a position: the vault is open, and the claim's lease is its table's last one, and hasn't ended.
+abbrev pub ClaimHolds : Ledger → ℕ → Claim → Type 0
+ClaimHolds l position claim = claim_checked (books_of no_rows l).bare (books_of no_rows l).machine position claim ≡ Ok tt
 
 -- Each file that a read finds is wanted: the catalogue names it, or the catalogue does that a held pin copied, or the one that an open query saw at its position. The holds agree with these catalogues.
 pub record IsSwept (told : Option Image) (l : Ledger) (h : List Entry) : Type 0 where

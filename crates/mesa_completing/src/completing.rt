@@ -1,7 +1,7 @@
 // A work's last turn where its merge is finished.
-ghost use Rattle.std.specs.Prelude.{◌≡◌, ◌<◌, ℕ, List, Ok, Some, true, length};
+ghost use Rattle.std.specs.Prelude.{◌≡◌, ◌<◌, ◌++◌, ◌∷◌, [], ℕ, List, Some, true, length};
 ghost use Rattle.mesa_history.specs.Claims.{is_live};
-ghost use Rattle.mesa_history.specs.Machine.{claim_checked, swapped_reply};
+ghost use Rattle.mesa_history.specs.Machine.{swapped_reply};
 ghost use Rattle.mesa_history.specs.Run.{Finished, Renewed};
 ghost use Rattle.mesa_history.specs.Turns.{IsDue};
 ghost use Rattle.mesa_image.specs.Catalog.{stock_at};
@@ -11,17 +11,16 @@ ghost use Rattle.mesa_engine.specs.mesa_metadata.Memory.{with_ledger};
 ghost use Rattle.mesa_model.specs.declared.commands.Command.TheVariants as command;
 ghost use Rattle.mesa_model.specs.declared.commands.WorkWords.{WorkWords};
 ghost use Rattle.mesa_model.specs.declared.entries.Kind.TheVariants as kind;
-ghost use Rattle.mesa_model.specs.declared.replies.Reply.TheVariants as reply;
 ghost use Rattle.mesa_schema.specs.Changes.{Lineage};
 ghost use Rattle.mesa_skeleton.specs.Rows.{Rows, no_rows};
 ghost use Rattle.mesa_swapping.specs.Finished.{HasRange, IsFinished};
-ghost use Rattle.mesa_engine.specs.mesa_ledger.mesa_walk.Causes.{reply_of};
-ghost use Rattle.mesa_engine.specs.mesa_ledger.mesa_walk.Turns.{AnswersDisk, AnswersDraft, SomeRose, Takes};
+ghost use Rattle.mesa_engine.specs.mesa_ledger.mesa_walk.Causes.{outcome_of};
+ghost use Rattle.mesa_engine.specs.mesa_ledger.mesa_walk.Turns.{AnswersDisk, AnswersDraft, SomeRose, Takes, entry};
 ghost use Rattle.mesa_engine.specs.mesa_ledger.mesa_walk.Walk.{run_at};
 ghost use Rattle.mesa_tasks.specs.Tasks.{claim_in};
 ghost use Rattle.mesa_engine.specs.mesa_ledger.Written.{written_at};
 ghost use Rattle.mesa_completing.specs.Merged.{HasNotSwapped, cause_met, unswapped_ledger};
-ghost use Rattle.mesa_completing.specs.Swept.{IsSwept};
+ghost use Rattle.mesa_completing.specs.Swept.{ClaimHolds, HasStood, IsSwept};
 
 use crate::checking::check;
 use crate::readying::{Ready, prepare};
@@ -75,7 +74,7 @@ fn refuse<N: Naming, M: Made, D: Disk<M>, K: Sink>(
     who: Who,
     task: &Task<D::Reader>,
     why: Unswapped,
-) -> Reply
+)
     requires due { (words : WorkWords) × IsDue N.script (run_at N.script (N.start no_rows) engine.old.shown.history) who.session who.command (command.Work words) (Renewed (claim_in task.now)) }
     requires table { task.now.table < TABLES }
     requires why { HasNotSwapped (books_of no_rows engine.old.ledger) (length engine.old.shown.history) (claim_in task.now) why }
@@ -85,11 +84,11 @@ fn refuse<N: Naming, M: Made, D: Disk<M>, K: Sink>(
     ensures disk { AnswersDisk N.script (N.start no_rows) engine.old.shown engine.new.shown ⊥ }
     ensures draft { AnswersDraft N.script (N.start no_rows) engine.old.shown engine.new.shown who.session ⊥ }
     ensures ledger { engine.new.ledger ≡ unswapped_ledger why task.now.table task.now.lease engine.old.ledger }
-    ensures reply { result ≡ reply_of (cause_met why) }
+    ensures outcome { engine.new.shown.history ≡ engine.old.shown.history ++ entry who.session who.command kind.Close (outcome_of (cause_met why)) engine.new.shown.clock ∷ [] }
 {
     let moment = engine.disk.clock();
     let failure = fall(&mut engine.metadata, task.table, task.lease, why);
-    engine.log.fail(who, Kind::Close, moment, failure)
+    engine.log.fail(who, Kind::Close, moment, failure);
 }
 
 // The turn of a work whose claim holds: all memory is taken first, then the record is written with its files, and only then is the range swapped in. Where the store can't be written the vault closes. The lease ends, whatever comes.
@@ -99,10 +98,10 @@ fn swap_in<N: Naming, M: Made, D: Disk<M>, K: Sink>(
     who: Who,
     task: &Task<D::Reader>,
     delta: NewDelta<M>,
-) -> Reply
+)
     requires due { (words : WorkWords) × IsDue N.script (run_at N.script (N.start no_rows) engine.old.shown.history) who.session who.command (command.Work words) (Renewed (claim_in task.now)) }
     requires table { task.now.table < TABLES }
-    requires holds { claim_checked (books_of no_rows engine.old.ledger).bare (books_of no_rows engine.old.ledger).machine (length engine.old.shown.history) (claim_in task.now) ≡ Ok tt }
+    requires holds { ClaimHolds engine.old.ledger (length engine.old.shown.history) (claim_in task.now) }
     requires finished { (was : Lineage) × IsFinished M.bytes M.id_of D.Reader.bytes was (stock_at engine.old.ledger.catalogue task.now.table).lineage task.now delta
         × ((w : Rows) → N.sound w → HasRange D.Reader.bytes was task.now (written_at N.script (N.start w) (N.origin w) engine.old.shown.history task.now.table)) }
     requires told { (w : Rows) → N.sound w → (file : M) → (bytes : List ℕ) × (M.bytes file ≡ Some bytes) }
@@ -111,7 +110,7 @@ fn swap_in<N: Naming, M: Made, D: Disk<M>, K: Sink>(
     ensures turn { Takes N.script (N.start no_rows) engine.old.shown engine.new.shown who.session who.command kind.Close Finished }
     ensures disk { AnswersDisk N.script (N.start no_rows) engine.old.shown engine.new.shown (SomeRose engine.old.faults engine.new.faults) }
     ensures draft { AnswersDraft N.script (N.start no_rows) engine.old.shown engine.new.shown who.session ⊥ }
-    ensures swept { (from to : ℕ) → result ≡ reply.Swapped from to → IsSwept engine.new.told engine.new.ledger engine.new.shown.history }
+    ensures swept { HasStood engine.old.shown engine.new.shown who.session who.command → IsSwept engine.new.told engine.new.ledger engine.new.shown.history }
 {
     let at = engine.log.position();
     let Ready {
@@ -121,7 +120,10 @@ fn swap_in<N: Naming, M: Made, D: Disk<M>, K: Sink>(
         removed,
     } = match prepare(alloc, &mut engine.metadata, at, task, delta) {
         Ok(ready) => ready,
-        Err(AllocError) => return refuse(engine, who, task, Unswapped::Memory),
+        Err(AllocError) => {
+            refuse(engine, who, task, Unswapped::Memory);
+            return;
+        }
     };
     let Swapped {
         entry,
@@ -137,7 +139,6 @@ fn swap_in<N: Naming, M: Made, D: Disk<M>, K: Sink>(
             let reply = range_of(task.work);
             let turn = who.turn(Kind::Close, Outcome::Stands, engine.disk.clock());
             engine.log.tell(turn, at, &reply, b"");
-            reply
         }
         Err(_) => {
             drop(entry);
@@ -146,7 +147,7 @@ fn swap_in<N: Naming, M: Made, D: Disk<M>, K: Sink>(
             let moment = engine.disk.clock();
             engine
                 .log
-                .fail(who, Kind::Close, moment, Failure::Unwritten)
+                .fail(who, Kind::Close, moment, Failure::Unwritten);
         }
     }
 }
@@ -158,7 +159,7 @@ fn close<N: Naming, M: Made, D: Disk<M>, K: Sink>(
     who: Who,
     task: &Task<D::Reader>,
     delta: NewDelta<M>,
-) -> Reply
+)
     requires due { (words : WorkWords) × IsDue N.script (run_at N.script (N.start no_rows) engine.old.shown.history) who.session who.command (command.Work words) (Renewed (claim_in task.now)) }
     requires table { task.now.table < TABLES }
     requires finished { is_live engine.old.ledger.leases task.now.table task.now.lease ≡ true → (was : Lineage) × IsFinished M.bytes M.id_of D.Reader.bytes was (stock_at engine.old.ledger.catalogue task.now.table).lineage task.now delta
@@ -169,14 +170,14 @@ fn close<N: Naming, M: Made, D: Disk<M>, K: Sink>(
     ensures turn { Takes N.script (N.start no_rows) engine.old.shown engine.new.shown who.session who.command kind.Close Finished }
     ensures disk { AnswersDisk N.script (N.start no_rows) engine.old.shown engine.new.shown (SomeRose engine.old.faults engine.new.faults) }
     ensures draft { AnswersDraft N.script (N.start no_rows) engine.old.shown engine.new.shown who.session ⊥ }
-    ensures swept { (from to : ℕ) → result ≡ reply.Swapped from to → IsSwept engine.new.told engine.new.ledger engine.new.shown.history }
+    ensures swept { HasStood engine.old.shown engine.new.shown who.session who.command → ClaimHolds engine.old.ledger (length engine.old.shown.history) (claim_in task.now) → IsSwept engine.new.told engine.new.ledger engine.new.shown.history }
 {
     let at = engine.log.position();
     match check(&engine.metadata, task.table, task.lease, at) {
         Ok(()) => swap_in(alloc, engine, who, task, delta),
         Err(refusal) => {
             drop(delta);
-            refuse(engine, who, task, Unswapped::Refused(refusal))
+            refuse(engine, who, task, Unswapped::Refused(refusal));
         }
     }
 }
@@ -189,7 +190,7 @@ pub fn complete<N: Naming, M: Made, D: Disk<M>, K: Sink>(
     words: &WorkWords,
     task: Task<D::Reader>,
     delta: NewDelta<M>,
-) -> Reply
+)
     requires due { IsDue N.script (run_at N.script (N.start no_rows) engine.old.shown.history) who.session who.command (command.Work words.now) (Renewed (claim_in task)) }
     requires table { task.table < TABLES }
 
@@ -202,15 +203,14 @@ pub fn complete<N: Naming, M: Made, D: Disk<M>, K: Sink>(
     ensures disk { AnswersDisk N.script (N.start no_rows) engine.old.shown engine.new.shown (SomeRose engine.old.faults engine.new.faults) }
     ensures draft { AnswersDraft N.script (N.start no_rows) engine.old.shown engine.new.shown who.session ⊥ }
 
-    // Where the range is swapped in, each file that is there is one that the catalogue, a held pin or an open query names.
-    ensures swept { (from to : ℕ) → result ≡ reply.Swapped from to → IsSwept engine.new.told engine.new.ledger engine.new.shown.history }
+    // Where its claim holds and its turn stands, the range is swapped in: then each file that is there is one that the catalogue, a held pin or an open query names.
+    ensures swept { HasStood engine.old.shown engine.new.shown who.session who.command → ClaimHolds engine.old.ledger (length engine.old.shown.history) (claim_in task) → IsSwept engine.new.told engine.new.ledger engine.new.shown.history }
 {
     if !engine.running() {
         engine.skip(who, Kind::Close);
         give_back(engine, task);
-        return Reply::Refused(Refusal::Memory);
+        return;
     }
-    let reply = close(alloc, engine, who, &task, delta);
+    close(alloc, engine, who, &task, delta);
     give_back(engine, task);
-    reply
 }

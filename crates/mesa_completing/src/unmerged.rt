@@ -1,7 +1,6 @@
 // A work's last turn where its merge failed.
 ghost use Rattle.std.specs.Prelude.{◌≡◌, ◌<◌, ◌==◌, ◌++◌, ◌∷◌, [], true, false, length, Some};
 ghost use Rattle.mesa_fault.specs.Causes.{last};
-ghost use Rattle.mesa_history.specs.Refused.{is_refusal};
 ghost use Rattle.mesa_history.specs.Run.{Finished, Granted};
 ghost use Rattle.mesa_history.specs.Turns.{IsDue};
 ghost use Rattle.mesa_engine.specs.mesa_log.Failure.{cause_in};
@@ -26,7 +25,7 @@ use mesa_disk::{Disk, Made};
 use mesa_engine::{Engine, Failure, Metadata, Naming, Who};
 use mesa_io::Sink;
 use mesa_lease::TABLES;
-use mesa_model::{Kind, Refusal, Reply, WorkWords};
+use mesa_model::{Kind, Refusal, WorkWords};
 use mesa_tasks::{CompactError, Task, retire_task};
 use mesa_works::give_back;
 
@@ -99,7 +98,7 @@ pub fn give_up<N: Naming, M: Made, D: Disk<M>, K: Sink>(
     words: &WorkWords,
     task: Task<D::Reader>,
     error: CompactError,
-) -> Reply
+)
     requires due { IsDue N.script (run_at N.script (N.start no_rows) engine.old.shown.history) who.session who.command (command.Work words.now) (Granted (claim_in task)) }
     requires table { task.table < TABLES }
     requires read { is_read_fault (cause_of error) ≡ true → SomeFailed D.Reader.faults (task_inputs task) }
@@ -115,12 +114,11 @@ pub fn give_up<N: Naming, M: Made, D: Disk<M>, K: Sink>(
     ensures outcome { engine.old.shown.running ≡ true → engine.new.shown.history ≡ engine.old.shown.history ++ entry who.session who.command kind.Close (outcome_of (closing_cause engine.old.ledger.closed error)) engine.new.shown.clock ∷ [] }
     // And that is what it prints: no other damage.
     ensures prints { engine.old.shown.running ≡ true → IsPut (block (entry who.session who.command kind.Close (outcome_of (closing_cause engine.old.ledger.closed error)) engine.new.shown.clock) (Some (told_at (length engine.old.shown.history) (reply_of (closing_cause engine.old.ledger.closed error))))) engine.new.shown.running engine.old.sink engine.new.sink }
-    ensures reply { is_refusal result ≡ true }
 {
     if !engine.running() {
         engine.skip(who, Kind::Close);
         give_back(engine, task);
-        return Reply::Refused(Refusal::Memory);
+        return;
     }
     may_be_told(&error);
     let at = engine.log.position();
@@ -129,5 +127,5 @@ pub fn give_up<N: Naming, M: Made, D: Disk<M>, K: Sink>(
     retire_task(&mut engine.disk, task);
     let moment = engine.disk.clock();
     let failure = fall(&mut engine.metadata, table, lease, &error, at, moment);
-    engine.log.fail(who, Kind::Close, moment, failure)
+    engine.log.fail(who, Kind::Close, moment, failure);
 }

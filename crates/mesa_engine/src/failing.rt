@@ -5,7 +5,6 @@ ghost use Rattle.mesa_metadata.specs.mesa_catalog.mesa_history.Run.{Finished, St
 ghost use Rattle.mesa_metadata.specs.mesa_ledger.Ledger.{books_of};
 ghost use Rattle.mesa_log.specs.Failure.{cause_in};
 ghost use Rattle.mesa_metadata.specs.mesa_ledger.mesa_skeleton.Rows.{Rows, no_rows};
-ghost use Rattle.mesa_metadata.specs.mesa_ledger.mesa_walk.Causes.{reply_of};
 ghost use Rattle.mesa_metadata.specs.mesa_ledger.mesa_walk.Turns.{AnswersDisk, AnswersDraft, Takes};
 ghost use Rattle.mesa_metadata.specs.mesa_ledger.mesa_walk.Walk.{run_at};
 
@@ -14,7 +13,7 @@ use mesa_disk::{Disk, Made};
 use mesa_io::Sink;
 use mesa_log::{Failure, Who};
 use mesa_metadata::Naming;
-use mesa_model::{Kind, Outcome, Reply};
+use mesa_model::{Kind, Outcome};
 
 impl<N: Naming, M: Made, D: Disk<M>, K: Sink> Engine<N, M, D, K> {
     /// A turn of a session once the sink has failed: nothing is done, and the session is cut off.
@@ -33,7 +32,7 @@ impl<N: Naming, M: Made, D: Disk<M>, K: Sink> Engine<N, M, D, K> {
     }
 
     /// A turn that does nothing for its command, and prints why.
-    pub fn fail(&mut self, who: Who, kind: Kind, failure: Failure) -> Reply
+    pub fn fail(&mut self, who: Who, kind: Kind, failure: Failure)
         requires fails { Fails N.script (run_at N.script (N.start no_rows) self.old.shown.history) (books_of no_rows self.old.ledger) (length self.old.shown.history) who.session who.command kind (cause_in failure) }
         requires room { length self.old.shown.history < N.room }
         requires runs { self.old.shown.running ≡ true }
@@ -42,9 +41,8 @@ impl<N: Naming, M: Made, D: Disk<M>, K: Sink> Engine<N, M, D, K> {
         ensures disk { AnswersDisk N.script (N.start no_rows) self.old.shown self.new.shown ⊥ }
         ensures ledger { self.new.ledger ≡ self.old.ledger }
         ensures told { self.new.told ≡ self.old.told }
-        ensures reply { result ≡ reply_of (cause_in failure) }
     {
         let moment = self.disk.clock();
-        self.log.fail(who, kind, moment, failure)
+        self.log.fail(who, kind, moment, failure);
     }
 }

@@ -9,7 +9,7 @@ ghost use Rattle.mesa_metadata.specs.mesa_catalog.mesa_history.Legal.{AllFit, fi
 ghost use Rattle.mesa_metadata.specs.mesa_catalog.mesa_history.Run.{begins};
 ghost use Rattle.mesa_metadata.specs.mesa_ledger.Vault.{outset_of};
 ghost use Rattle.mesa_metadata.specs.Memory.{opened_ledger};
-ghost use Rattle.mesa_metadata.specs.mesa_ledger.mesa_skeleton.Rows.{Rows, no_rows};
+ghost use Rattle.mesa_metadata.specs.mesa_ledger.mesa_skeleton.Rows.{Rows};
 ghost use Rattle.mesa_metadata.specs.mesa_ledger.mesa_walk.Printing.{IsPrinted, IsPrintedButRows};
 ghost use Rattle.mesa_metadata.specs.mesa_ledger.mesa_walk.Turns.{faults_of};
 ghost use Rattle.mesa_metadata.specs.mesa_ledger.mesa_walk.Undamaged.{NoneDamaged};

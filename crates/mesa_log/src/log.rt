@@ -95,19 +95,17 @@ impl<K: Sink> Log<K> {
     }
 
     /// Adds a turn that did nothing for its command, and prints why. There is room for it.
-    pub fn fail(&mut self, who: Who, kind: Kind, moment: u64, failure: Failure) -> Reply
+    pub fn fail(&mut self, who: Who, kind: Kind, moment: u64, failure: Failure)
         requires { vec_len self.old.history < vec_capacity self.old.history }
         ensures items { self.new.history.items ≡ self.old.history.items ++ entry who.session who.command kind (outcome_of (cause_in failure)) moment ∷ [] }
         ensures room { vec_capacity self.old.history ≤ vec_capacity self.new.history }
         ensures told { PrintsBlock K.held K.faults self.old.printer self.new.printer (entry who.session who.command kind (outcome_of (cause_in failure)) moment) (told_at (length self.old.history.items) (reply_of (cause_in failure))) }
         ensures refused { self.new.refused ≡ (self.old.refused || refuses (reply_of (cause_in failure))) }
-        ensures reply { result ≡ reply_of (cause_in failure) }
         ensures short { IsShort (entry who.session who.command kind (outcome_of (cause_in failure)) moment) }
     {
         let turn = who.turn(kind, failure.outcome(), moment);
         let at = self.position();
         let reply = failure.into_reply();
         self.tell(turn, at, &reply, b"");
-        reply
     }
 }

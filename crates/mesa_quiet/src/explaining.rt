@@ -1,5 +1,5 @@
 // A plan that is told.
-ghost use Rattle.std.specs.Prelude.{◌≡◌, ◌<◌, true, false, length, IfErr, IfOk, OnOk, None, Ok};
+ghost use Rattle.std.specs.Prelude.{◌≡◌, ◌<◌, false, length, IfErr, IfOk, Ok};
 ghost use Rattle.mesa_engine.specs.Failing.{is_of_device};
 ghost use Rattle.mesa_history.specs.Machine.{explained};
 ghost use Rattle.mesa_history.specs.Replay.{no_rows as no_heading};
@@ -67,7 +67,7 @@ pub fn explain<N: Naming, M: Made, D: Disk<M>, K: Sink>(
     engine: &mut Engine<N, M, D, K>,
     who: Who,
     words: &ExplainWords,
-) -> Reply
+)
     requires due { IsDue N.script (run_at N.script (N.start no_rows) engine.old.shown.history) who.session who.command (command.Explain words.now) First }
     requires room { length engine.old.shown.history < N.room }
     ensures turn { Takes N.script (N.start no_rows) engine.old.shown engine.new.shown who.session who.command kind.Decide Finished }
@@ -77,7 +77,7 @@ pub fn explain<N: Naming, M: Made, D: Disk<M>, K: Sink>(
 {
     if !engine.running() {
         engine.skip(who, Kind::Decide);
-        return Reply::Refused(Refusal::Memory);
+        return;
     }
     let found = match planned(alloc, &engine.metadata, words) {
         Ok(found) => found,
@@ -87,5 +87,4 @@ pub fn explain<N: Naming, M: Made, D: Disk<M>, K: Sink>(
     let turn = who.turn(Kind::Decide, Outcome::Stands, engine.disk.clock());
     let Told { reply, lines } = found;
     engine.log.tell(turn, at, &reply, &lines);
-    reply
 }

@@ -34,7 +34,7 @@ pub fn pin<N: Naming, M: Made, D: Disk<M>, K: Sink>(
     engine: &mut Engine<N, M, D, K>,
     who: Who,
     asked: VersionWord,
-) -> Reply
+)
     requires due { IsDue N.script (run_at N.script (N.start no_rows) engine.old.shown.history) who.session who.command (command.Pin asked) First }
     requires room { length engine.old.shown.history < N.room }
     ensures turn { Takes N.script (N.start no_rows) engine.old.shown engine.new.shown who.session who.command kind.Decide Finished }
@@ -44,7 +44,7 @@ pub fn pin<N: Naming, M: Made, D: Disk<M>, K: Sink>(
 {
     if !engine.running() {
         engine.skip(who, Kind::Decide);
-        return Reply::Refused(Refusal::Memory);
+        return;
     }
     let version = match version_for(&engine.metadata, asked) {
         Ok(version) => version,
@@ -57,5 +57,4 @@ pub fn pin<N: Naming, M: Made, D: Disk<M>, K: Sink>(
     let turn = who.turn(Kind::Decide, Outcome::Stands, engine.disk.clock());
     let reply = Reply::Pinned { token, version };
     engine.log.tell(turn, at, &reply, b"");
-    reply
 }

@@ -36,7 +36,7 @@ pub fn release<N: Naming, M: Made, D: Disk<M>, K: Sink>(
     engine: &mut Engine<N, M, D, K>,
     who: Who,
     token: u32,
-) -> Reply
+)
     requires due { IsDue N.script (run_at N.script (N.start no_rows) engine.old.shown.history) who.session who.command (command.Release token) First }
     requires room { length engine.old.shown.history < N.room }
     ensures turn { Takes N.script (N.start no_rows) engine.old.shown engine.new.shown who.session who.command kind.Decide Finished }
@@ -46,7 +46,7 @@ pub fn release<N: Naming, M: Made, D: Disk<M>, K: Sink>(
 {
     if !engine.running() {
         engine.skip(who, Kind::Decide);
-        return Reply::Refused(Refusal::Memory);
+        return;
     }
     if let Some(refusal) = unreleased(&engine.metadata, who.session, token) {
         return engine.fail(who, Kind::Decide, Failure::Refused(refusal));
@@ -56,5 +56,4 @@ pub fn release<N: Naming, M: Made, D: Disk<M>, K: Sink>(
     let turn = who.turn(Kind::Decide, Outcome::Stands, engine.disk.clock());
     let reply = Reply::Released { token };
     engine.log.tell(turn, at, &reply, b"");
-    reply
 }

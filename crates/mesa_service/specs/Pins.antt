@@ -1,5 +1,5 @@
 -- Queries whose files are handed out, and what they are answered with.
-use Rattle.std.specs.Prelude.{◌≡◌, ℕ, List, ◌++◌, Bool, true, Option, Result, Ok, Err}
+use Rattle.std.specs.Prelude.{◌≡◌, ℕ, List, ◌++◌, Bool, true, Option, Some, None, Result, Ok, Err}
 use Rattle.mesa_file.specs.declared.damage.Damage.{Damage}
 use Rattle.mesa_schema.specs.declared.rows.Row.{Row}
 use Rattle.mesa_schema.specs.Columns.{Columns}
@@ -10,7 +10,6 @@ use Rattle.mesa_model.specs.declared.commands.Script.{Script}
 use Rattle.mesa_model.specs.declared.entries.Entry.{Entry}
 use Rattle.mesa_model.specs.declared.entries.Kind.TheVariants as kind
 use Rattle.mesa_model.specs.declared.replies.Page.{Page}
-use Rattle.mesa_model.specs.declared.replies.Reply.{Reply}
 use Rattle.mesa_model.specs.Query.{Answer, Heading}
 use Rattle.mesa_script.specs.declared.rendered.Rendered.{Rendered}
 use Rattle.mesa_script.specs.Rows.{rendered}
@@ -63,9 +62,9 @@ pub record Opens (script : Script) (from : Rows → State) (old new : Shown) (se
   pub opened : IsOpenQuery script from new.history session number position tells
 
 -- A query's first turn handed out its files, or the query is over.
-abbrev pub TakesQuery : {R : Type 0} → (R → Option (List ℕ)) → Script → (Rows → State) → (List Entry → KnownPin → Rows → Answer → Type 0) → Shown → Shown → ℕ → ℕ → Result (Pinned R) Reply → Type 0
-TakesQuery bytes script from tells old new session number (Ok p) = Opens script from old new session number p.at (λ past. tells past (known_pin bytes p)) × CanBeAnswered bytes p
-TakesQuery bytes script from tells old new session number (Err r) = Takes script (from no_rows) old new session number kind.Decide Finished
+abbrev pub TakesQuery : {R : Type 0} → (R → Option (List ℕ)) → Script → (Rows → State) → (List Entry → KnownPin → Rows → Answer → Type 0) → Shown → Shown → ℕ → ℕ → Option (Pinned R) → Type 0
+TakesQuery bytes script from tells old new session number (Some p) = Opens script from old new session number p.at (λ past. tells past (known_pin bytes p)) × CanBeAnswered bytes p
+TakesQuery bytes script from tells old new session number None = Takes script (from no_rows) old new session number kind.Decide Finished
 
 -- ---- the answer
 

@@ -1,5 +1,5 @@
 -- The turns of a work and of a recast.
-use Rattle.std.specs.Prelude.{◌≡◌, ℕ, Bool, true, false, None, IsTrue, Result, Ok, Err}
+use Rattle.std.specs.Prelude.{◌≡◌, ℕ, Bool, true, false, Option, None, Some, IsTrue, Result, Ok, Err}
 use Rattle.mesa_skeleton.specs.mesa_schema.Recasts.{Recast}
 use Rattle.mesa_skeleton.specs.mesa_model.declared.replies.Reply.{Reply}
 use Rattle.mesa_span.specs.declared.works.Work.{Work}
@@ -37,9 +37,9 @@ abbrev pub Regroups : Bool → Books → Claim → Recast → Kept → Type 0
 Regroups sound books claim r kept = (s : State) → AreBooksOf sound books s → IsTrue sound → kept_of (recasted s claim r) ≡ kept
 
 -- the stage of a work or a recast after its first turn, or after its renewal, by the task that it gave, if any
-abbrev pub stage_if : {T E : Type 0} → (T → Claim) → (Claim → Stage) → Result T E → Stage
-stage_if claim stage (Ok t) = stage (claim t)
-stage_if claim stage (Err e) = Finished
+abbrev pub stage_if : {T : Type 0} → (T → Claim) → (Claim → Stage) → Option T → Stage
+stage_if claim stage (Some t) = stage (claim t)
+stage_if claim stage None = Finished
 
 -- the stage before the close: the claim was renewed, or, where its files weren't made, only granted
 abbrev pub closing_stage : Bool → Claim → Stage

@@ -1,6 +1,7 @@
 pub mod Claims
 pub mod RecastClaims
 pub mod Grants
+pub mod GrantTurns
 pub mod Renewals
 mod Spares
 pub mod Sound

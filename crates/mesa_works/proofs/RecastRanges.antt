@@ -43,7 +43,7 @@ use Rattle.mesa_swapping.specs.Recasts.{HasItsRange, HasItsRanges}
 use Rattle.mesa_swapping.specs.mesa_compact.Bounded.{AreBounded}
 use Rattle.mesa_swapping.specs.mesa_compact.mesa_merge.Inputs.{AreTold, knowns_of, lifted_parts}
 use Rattle.mesa_swapping.specs.mesa_copy.Copying.{AreRangesBounded, IsRecastBounded}
-use Rattle.mesa_tasks.specs.Inputs.{AreInputsOf, present_parts}
+use Rattle.mesa_tasks.specs.Inputs.{AreInputsTo, present_parts}
 use Rattle.mesa_tasks.specs.Recasts.{AreRangesOf, own, recast_table}
 use Rattle.mesa_tasks.specs.declared.recasting.Recast.{Recast}
 use Rattle.mesa_tasks.specs.declared.recasting.RecastRange.{RecastRange}
@@ -86,11 +86,11 @@ module _ {R : Type 0} (bytes : R → Option (List ℕ)) (faults : R → ℕ) (to
 
   -- ---- each file is the table's
 
-  own_inputs : (u : Stock) (x : RecastRange R) → IsOfRange bytes faults told u x → AreInputsOf bytes u.lineage (own x)
+  own_inputs : (u : Stock) (x : RecastRange R) → IsOfRange bytes faults told u x → AreInputsTo bytes (columns_of u.lineage) (own x)
   own_inputs u x (inl is) =
       let o = is.opened in
-      subst (AreInputsOf bytes u.lineage) (sym (ap option_to_list o.has)) ((o.opened.input, o.opened.lineage ∙ ap (λ (w : Want). w.lineage) o.is), tt)
-  own_inputs u x (inr is) = subst (AreInputsOf bytes u.lineage) (sym (ap option_to_list is.none)) tt
+      subst (AreInputsTo bytes (columns_of u.lineage)) (sym (ap option_to_list o.has)) ((o.opened.input, ap columns_of (o.opened.lineage ∙ ap (λ (w : Want). w.lineage) o.is)), tt)
+  own_inputs u x (inr is) = subst (AreInputsTo bytes (columns_of u.lineage)) (sym (ap option_to_list is.none)) tt
 
   pub ranges_inputs : (u : Stock) (xs : List (RecastRange R)) → AllByRecursion (IsOfRange bytes faults told u) xs → AreRangesOf bytes u.lineage xs
   ranges_inputs u [] are = tt

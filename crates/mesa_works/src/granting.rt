@@ -1,5 +1,5 @@
 // A work's grant.
-ghost use Rattle.std.specs.Prelude.{◌≡◌, ◌≢◌, ◌+◌, ◌-◌, ◌<◌, ◌≤◌, ◌^◌, ℕ, List, true, length, None, Some, Ok, IfOk, IfSome, OnOk};
+ghost use Rattle.std.specs.Prelude.{◌≡◌, ◌≢◌, ◌+◌, ◌-◌, ◌<◌, ◌≤◌, ◌^◌, ℕ, List, true, length, None, Some, Ok, IfSome, OnSome};
 ghost use Rattle.mesa_swapping.specs.mesa_compact.Bounded.{IsBounded};
 ghost use Rattle.mesa_gather.specs.Gathered.{unread_views};
 ghost use Rattle.mesa_history.specs.Machine.{claim_of};
@@ -32,7 +32,7 @@ use mesa_engine::{Engine, Failure, Metadata, Naming, Who};
 use mesa_gather::gather;
 use mesa_io::Sink;
 use mesa_lease::TABLES;
-use mesa_model::{Kind, Outcome, Refusal, Reply, WorkWords};
+use mesa_model::{Kind, Outcome, WorkWords};
 use mesa_tasks::{Task, Unopened};
 
 /// The first turn of a work: its table has a lease from it on, and the files of its range are open; unless the vault has closed, there is no such table, another work has the table, there is nothing to merge, or a file couldn't be opened.
@@ -40,38 +40,41 @@ pub fn grant<N: Naming, M: Made, D: Disk<M>, K: Sink>(
     engine: &mut Engine<N, M, D, K>,
     who: Who,
     words: &WorkWords,
-) -> Result<Task<D::Reader>, Reply>
+) -> Option<Task<D::Reader>>
     requires due { IsDue N.script (run_at N.script (N.start no_rows) engine.old.shown.history) who.session who.command (command.Work words.now) First }
     requires room { length engine.old.shown.history < N.room }
     ensures turn { Takes N.script (N.start no_rows) engine.old.shown engine.new.shown who.session who.command kind.Grant (stage_if claim_in Granted result) }
     ensures disk { AnswersDisk N.script (N.start no_rows) engine.old.shown engine.new.shown (SomeRose engine.old.faults engine.new.faults) }
-    ensures ran { OnOk result (engine.old.shown.running ≡ true) }
+    ensures ran { OnSome result (engine.old.shown.running ≡ true) }
     ensures catalogue { engine.new.ledger.catalogue ≡ engine.old.ledger.catalogue }
-    ensures low { IfOk result (λ t. t.table < TABLES) }
+    ensures low { IfSome result (λ t. t.table < TABLES) }
 
     // Its table is one of those behind the turn, and its range ends before the version that comes next.
-    ensures there { IfOk result (λ t. t.table < length (run_at N.script (N.start no_rows) engine.new.shown.history).state.warehouse.store.tables) }
-    ensures next { IfOk result (λ t. last_of t.work < (run_at N.script (N.start no_rows) engine.new.shown.history).state.warehouse.next) }
-    ensures task { IfOk result (λ t. IsTask D.Reader.bytes (stock_at engine.old.ledger.catalogue t.table).lineage t) }
-    ensures views { IfOk result (λ t. t.views.items ≡ unread_views 0 (length (stock_at engine.old.ledger.catalogue t.table).lineage.views)) }
-    ensures damage { IfOk result (λ t. IfSome t.damage (λ d. d.want ≢ d.found)) }
+    ensures there { IfSome result (λ t. t.table < length (run_at N.script (N.start no_rows) engine.new.shown.history).state.warehouse.store.tables) }
+    ensures next { IfSome result (λ t. last_of t.work < (run_at N.script (N.start no_rows) engine.new.shown.history).state.warehouse.next) }
+    ensures task { IfSome result (λ t. IsTask D.Reader.bytes (stock_at engine.old.ledger.catalogue t.table).lineage t) }
+    ensures views { IfSome result (λ t. t.views.items ≡ unread_views 0 (length (stock_at engine.old.ledger.catalogue t.table).lineage.views)) }
+    ensures damage { IfSome result (λ t. IfSome t.damage (λ d. d.want ≢ d.found)) }
 
     // Each of its files is open once more for each further part of the merge, unless one of them is damaged.
-    ensures spare { IfOk result (HasSpares D.Reader.bytes (words.now.parts - 1)) }
+    ensures spare { IfSome result (HasSpares D.Reader.bytes (words.now.parts - 1)) }
 
     // On a sound store no file was damaged, no sum over them leaves its type, and it has all that was written in its range.
-    ensures whole { (w : Rows) → N.sound w → IfOk result (λ t. t.damage ≡ None) }
-    ensures bounded { (w : Rows) → N.sound w → IfOk result (λ t. IsBounded D.Reader.bytes (stock_at engine.old.ledger.catalogue t.table).lineage t) }
-    ensures range { (w : Rows) → N.sound w → IfOk result (λ t. HasRange D.Reader.bytes (stock_at engine.old.ledger.catalogue t.table).lineage t (written_at N.script (N.start w) (N.origin w) engine.new.shown.history t.table)) }
+    ensures whole { (w : Rows) → N.sound w → IfSome result (λ t. t.damage ≡ None) }
+    ensures bounded { (w : Rows) → N.sound w → IfSome result (λ t. IsBounded D.Reader.bytes (stock_at engine.old.ledger.catalogue t.table).lineage t) }
+    ensures range { (w : Rows) → N.sound w → IfSome result (λ t. HasRange D.Reader.bytes (stock_at engine.old.ledger.catalogue t.table).lineage t (written_at N.script (N.start w) (N.origin w) engine.new.shown.history t.table)) }
 {
     if !engine.running() {
         engine.skip(who, Kind::Grant);
-        return Err(Reply::Refused(Refusal::Memory));
+        return None;
     }
     let at = engine.log.position();
     match claim(&engine.metadata, words.table.as_slice(), at) {
         Ok(claimed) => take(engine, who, claimed, words.parts),
-        Err(failure) => Err(engine.fail(who, Kind::Grant, failure)),
+        Err(failure) => {
+            engine.fail(who, Kind::Grant, failure);
+            None
+        }
     }
 }
 
@@ -81,7 +84,7 @@ fn take<N: Naming, M: Made, D: Disk<M>, K: Sink>(
     who: Who,
     claimed: Claimed,
     parts: u8,
-) -> Result<Task<D::Reader>, Reply>
+) -> Option<Task<D::Reader>>
     requires due { (words : WorkWords) × IsDue N.script (run_at N.script (N.start no_rows) engine.old.shown.history) who.session who.command (command.Work words) First × (claim_of (books_of no_rows engine.old.ledger).bare (books_of no_rows engine.old.ledger).machine (length engine.old.shown.history) words.table ≡ Ok (claim_as engine.old.ledger claimed)) }
     requires there { claimed.table < length engine.old.ledger.catalogue.tables }
     requires low { claimed.table < TABLES }
@@ -93,16 +96,16 @@ fn take<N: Naming, M: Made, D: Disk<M>, K: Sink>(
     ensures turn { Takes N.script (N.start no_rows) engine.old.shown engine.new.shown who.session who.command kind.Grant (stage_if claim_in Granted result) }
     ensures disk { AnswersDisk N.script (N.start no_rows) engine.old.shown engine.new.shown (SomeRose engine.old.faults engine.new.faults) }
     ensures catalogue { engine.new.ledger.catalogue ≡ engine.old.ledger.catalogue }
-    ensures table { IfOk result (λ t. t.table ≡ claimed.table) }
-    ensures there { IfOk result (λ t. t.table < length (run_at N.script (N.start no_rows) engine.new.shown.history).state.warehouse.store.tables) }
-    ensures next { IfOk result (λ t. last_of t.work < (run_at N.script (N.start no_rows) engine.new.shown.history).state.warehouse.next) }
-    ensures task { IfOk result (λ t. IsTask D.Reader.bytes (stock_at engine.old.ledger.catalogue claimed.table).lineage t) }
-    ensures views { IfOk result (λ t. t.views.items ≡ unread_views 0 (length (stock_at engine.old.ledger.catalogue t.table).lineage.views)) }
-    ensures damage { IfOk result (λ t. IfSome t.damage (λ d. d.want ≢ d.found)) }
-    ensures spare { IfOk result (HasSpares D.Reader.bytes (parts - 1)) }
-    ensures whole { (w : Rows) → N.sound w → IfOk result (λ t. t.damage ≡ None) }
-    ensures bounded { (w : Rows) → N.sound w → IfOk result (λ t. IsBounded D.Reader.bytes (stock_at engine.old.ledger.catalogue t.table).lineage t) }
-    ensures range { (w : Rows) → N.sound w → IfOk result (λ t. HasRange D.Reader.bytes (stock_at engine.old.ledger.catalogue t.table).lineage t (written_at N.script (N.start w) (N.origin w) engine.new.shown.history t.table)) }
+    ensures table { IfSome result (λ t. t.table ≡ claimed.table) }
+    ensures there { IfSome result (λ t. t.table < length (run_at N.script (N.start no_rows) engine.new.shown.history).state.warehouse.store.tables) }
+    ensures next { IfSome result (λ t. last_of t.work < (run_at N.script (N.start no_rows) engine.new.shown.history).state.warehouse.next) }
+    ensures task { IfSome result (λ t. IsTask D.Reader.bytes (stock_at engine.old.ledger.catalogue claimed.table).lineage t) }
+    ensures views { IfSome result (λ t. t.views.items ≡ unread_views 0 (length (stock_at engine.old.ledger.catalogue t.table).lineage.views)) }
+    ensures damage { IfSome result (λ t. IfSome t.damage (λ d. d.want ≢ d.found)) }
+    ensures spare { IfSome result (HasSpares D.Reader.bytes (parts - 1)) }
+    ensures whole { (w : Rows) → N.sound w → IfSome result (λ t. t.damage ≡ None) }
+    ensures bounded { (w : Rows) → N.sound w → IfSome result (λ t. IsBounded D.Reader.bytes (stock_at engine.old.ledger.catalogue t.table).lineage t) }
+    ensures range { (w : Rows) → N.sound w → IfSome result (λ t. HasRange D.Reader.bytes (stock_at engine.old.ledger.catalogue t.table).lineage t (written_at N.script (N.start w) (N.origin w) engine.new.shown.history t.table)) }
 {
     let alloc = *engine.log.history.allocator();
     let table = engine.metadata.catalog().table(claimed.table);
@@ -121,13 +124,13 @@ fn take<N: Naming, M: Made, D: Disk<M>, K: Sink>(
             task.lease = lease(&mut engine.metadata, claimed.table, who.session, at);
             let turn = who.turn(Kind::Grant, Outcome::Stands, moment);
             engine.log.pass(turn);
-            Ok(task)
+            Some(task)
         }
         Err(unopened) => {
-            let reply = engine
+            engine
                 .log
                 .fail(who, Kind::Grant, moment, failure_of(unopened));
-            Err(reply)
+            None
         }
     }
 }

@@ -1,5 +1,5 @@
 // A recast's grant.
-ghost use Rattle.std.specs.Prelude.{◌≡◌, ◌≢◌, ◌<◌, ◌≤◌, true, length, None, Ok, IfOk, IfSome, OnOk};
+ghost use Rattle.std.specs.Prelude.{◌≡◌, ◌≢◌, ◌<◌, ◌≤◌, true, length, None, Ok, IfSome, OnSome};
 ghost use Rattle.std.specs.List.{AllByRecursion};
 ghost use Rattle.mesa_gather.specs.Ranges.{HoldsAll};
 ghost use Rattle.mesa_history.specs.Machine.{recast_claim_of};
@@ -31,7 +31,7 @@ use mesa_engine::{Engine, Naming, Who};
 use mesa_gather::gather_recast;
 use mesa_io::Sink;
 use mesa_lease::TABLES;
-use mesa_model::{Kind, Outcome, RecastWords, Refusal, Reply};
+use mesa_model::{Kind, Outcome, RecastWords};
 use mesa_rules::Regrouping;
 use mesa_tasks::Recast;
 
@@ -40,40 +40,43 @@ pub fn grant_recast<N: Naming, M: Made, D: Disk<M>, K: Sink>(
     engine: &mut Engine<N, M, D, K>,
     who: Who,
     words: &RecastWords,
-) -> Result<Recast<D::Reader>, Reply>
+) -> Option<Recast<D::Reader>>
     requires due { IsDue N.script (run_at N.script (N.start no_rows) engine.old.shown.history) who.session who.command (command.Recast words.now) First }
     requires room { length engine.old.shown.history < N.room }
     ensures turn { Takes N.script (N.start no_rows) engine.old.shown engine.new.shown who.session who.command kind.Grant (stage_if claim_of_recast Granted result) }
     ensures disk { AnswersDisk N.script (N.start no_rows) engine.old.shown engine.new.shown (SomeRose engine.old.faults engine.new.faults) }
-    ensures ran { OnOk result (engine.old.shown.running ≡ true) }
+    ensures ran { OnSome result (engine.old.shown.running ≡ true) }
     ensures catalogue { engine.new.ledger.catalogue ≡ engine.old.ledger.catalogue }
-    ensures low { IfOk result (λ t. t.table < TABLES) }
+    ensures low { IfSome result (λ t. t.table < TABLES) }
 
     // Its table is one of those behind the turn, and each range ends before the version that comes next.
-    ensures there { IfOk result (λ t. t.table < length (run_at N.script (N.start no_rows) engine.new.shown.history).state.warehouse.store.tables) }
-    ensures next { IfOk result (λ t. AllByRecursion (λ x. x.to < (run_at N.script (N.start no_rows) engine.new.shown.history).state.warehouse.next) t.ranges.items) }
-    ensures task { IfOk result (IsRecastTask D.Reader.bytes) }
-    ensures lineage { IfOk result (λ t. recast_table t ≡ (stock_at engine.old.ledger.catalogue t.table).lineage) }
-    ensures asked { IfOk result (λ t. recast_in t ≡ recast_asked words.now) }
-    ensures damage { IfOk result (λ t. IfSome t.damage (λ d. d.want ≢ d.found)) }
+    ensures there { IfSome result (λ t. t.table < length (run_at N.script (N.start no_rows) engine.new.shown.history).state.warehouse.store.tables) }
+    ensures next { IfSome result (λ t. AllByRecursion (λ x. x.to < (run_at N.script (N.start no_rows) engine.new.shown.history).state.warehouse.next) t.ranges.items) }
+    ensures task { IfSome result (IsRecastTask D.Reader.bytes) }
+    ensures lineage { IfSome result (λ t. recast_table t ≡ (stock_at engine.old.ledger.catalogue t.table).lineage) }
+    ensures asked { IfSome result (λ t. recast_in t ≡ recast_asked words.now) }
+    ensures damage { IfSome result (λ t. IfSome t.damage (λ d. d.want ≢ d.found)) }
 
     // Unless a file is damaged, each range of the table that has rows is among the task's, with its file open.
-    ensures holds { IfOk result (λ t. t.damage ≡ None → HoldsAll t.ranges.items (stock_at engine.old.ledger.catalogue t.table)) }
+    ensures holds { IfSome result (λ t. t.damage ≡ None → HoldsAll t.ranges.items (stock_at engine.old.ledger.catalogue t.table)) }
 
     // On a sound store no file was damaged, no sum over a range leaves its type, and each range has all that was written in it.
-    ensures whole { (w : Rows) → N.sound w → IfOk result (λ t. t.damage ≡ None) }
-    ensures bounded { (w : Rows) → N.sound w → IfOk result (IsRecastBounded D.Reader.bytes) }
-    ensures ranges { (w : Rows) → N.sound w → IfOk result (λ t. HasItsRanges D.Reader.bytes t (written_at N.script (N.start w) (N.origin w) engine.new.shown.history t.table)) }
+    ensures whole { (w : Rows) → N.sound w → IfSome result (λ t. t.damage ≡ None) }
+    ensures bounded { (w : Rows) → N.sound w → IfSome result (IsRecastBounded D.Reader.bytes) }
+    ensures ranges { (w : Rows) → N.sound w → IfSome result (λ t. HasItsRanges D.Reader.bytes t (written_at N.script (N.start w) (N.origin w) engine.new.shown.history t.table)) }
 {
     if !engine.running() {
         engine.skip(who, Kind::Grant);
-        return Err(Reply::Refused(Refusal::Memory));
+        return None;
     }
     let alloc = *engine.log.history.allocator();
     let at = engine.log.position();
     match claim_recast(alloc, &engine.metadata, words, at) {
         Ok(claimed) => take(engine, who, claimed),
-        Err(failure) => Err(engine.fail(who, Kind::Grant, failure)),
+        Err(failure) => {
+            engine.fail(who, Kind::Grant, failure);
+            None
+        }
     }
 }
 
@@ -82,7 +85,7 @@ fn take<N: Naming, M: Made, D: Disk<M>, K: Sink>(
     engine: &mut Engine<N, M, D, K>,
     who: Who,
     claimed: Regrouping,
-) -> Result<Recast<D::Reader>, Reply>
+) -> Option<Recast<D::Reader>>
     requires due { (words : RecastWords) × IsDue N.script (run_at N.script (N.start no_rows) engine.old.shown.history) who.session who.command (command.Recast words) First × (recast_claim_of (books_of no_rows engine.old.ledger).bare (books_of no_rows engine.old.ledger).machine (length engine.old.shown.history) words ≡ Ok (recast_claim_as engine.old.ledger claimed)) }
     requires there { claimed.table < length engine.old.ledger.catalogue.tables }
     requires low { claimed.table < TABLES }
@@ -94,17 +97,17 @@ fn take<N: Naming, M: Made, D: Disk<M>, K: Sink>(
     ensures turn { Takes N.script (N.start no_rows) engine.old.shown engine.new.shown who.session who.command kind.Grant (stage_if claim_of_recast Granted result) }
     ensures disk { AnswersDisk N.script (N.start no_rows) engine.old.shown engine.new.shown (SomeRose engine.old.faults engine.new.faults) }
     ensures catalogue { engine.new.ledger.catalogue ≡ engine.old.ledger.catalogue }
-    ensures table { IfOk result (λ t. t.table ≡ claimed.table) }
-    ensures there { IfOk result (λ t. t.table < length (run_at N.script (N.start no_rows) engine.new.shown.history).state.warehouse.store.tables) }
-    ensures next { IfOk result (λ t. AllByRecursion (λ x. x.to < (run_at N.script (N.start no_rows) engine.new.shown.history).state.warehouse.next) t.ranges.items) }
-    ensures task { IfOk result (IsRecastTask D.Reader.bytes) }
-    ensures lineage { IfOk result (λ t. recast_table t ≡ (stock_at engine.old.ledger.catalogue claimed.table).lineage) }
-    ensures asked { IfOk result (λ t. recast_in t ≡ record { keys = claimed.names.keys; values = claimed.names.values }) }
-    ensures damage { IfOk result (λ t. IfSome t.damage (λ d. d.want ≢ d.found)) }
-    ensures holds { IfOk result (λ t. t.damage ≡ None → HoldsAll t.ranges.items (stock_at engine.old.ledger.catalogue t.table)) }
-    ensures whole { (w : Rows) → N.sound w → IfOk result (λ t. t.damage ≡ None) }
-    ensures bounded { (w : Rows) → N.sound w → IfOk result (IsRecastBounded D.Reader.bytes) }
-    ensures ranges { (w : Rows) → N.sound w → IfOk result (λ t. HasItsRanges D.Reader.bytes t (written_at N.script (N.start w) (N.origin w) engine.new.shown.history t.table)) }
+    ensures table { IfSome result (λ t. t.table ≡ claimed.table) }
+    ensures there { IfSome result (λ t. t.table < length (run_at N.script (N.start no_rows) engine.new.shown.history).state.warehouse.store.tables) }
+    ensures next { IfSome result (λ t. AllByRecursion (λ x. x.to < (run_at N.script (N.start no_rows) engine.new.shown.history).state.warehouse.next) t.ranges.items) }
+    ensures task { IfSome result (IsRecastTask D.Reader.bytes) }
+    ensures lineage { IfSome result (λ t. recast_table t ≡ (stock_at engine.old.ledger.catalogue claimed.table).lineage) }
+    ensures asked { IfSome result (λ t. recast_in t ≡ record { keys = claimed.names.keys; values = claimed.names.values }) }
+    ensures damage { IfSome result (λ t. IfSome t.damage (λ d. d.want ≢ d.found)) }
+    ensures holds { IfSome result (λ t. t.damage ≡ None → HoldsAll t.ranges.items (stock_at engine.old.ledger.catalogue t.table)) }
+    ensures whole { (w : Rows) → N.sound w → IfSome result (λ t. t.damage ≡ None) }
+    ensures bounded { (w : Rows) → N.sound w → IfSome result (IsRecastBounded D.Reader.bytes) }
+    ensures ranges { (w : Rows) → N.sound w → IfSome result (λ t. HasItsRanges D.Reader.bytes t (written_at N.script (N.start w) (N.origin w) engine.new.shown.history t.table)) }
 {
     let alloc = *engine.log.history.allocator();
     let Regrouping {
@@ -121,13 +124,13 @@ fn take<N: Naming, M: Made, D: Disk<M>, K: Sink>(
             task.lease = lease(&mut engine.metadata, number, who.session, at);
             let turn = who.turn(Kind::Grant, Outcome::Stands, moment);
             engine.log.pass(turn);
-            Ok(task)
+            Some(task)
         }
         Err(unopened) => {
-            let reply = engine
+            engine
                 .log
                 .fail(who, Kind::Grant, moment, failure_of(unopened));
-            Err(reply)
+            None
         }
     }
 }

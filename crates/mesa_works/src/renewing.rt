@@ -1,5 +1,5 @@
 // The renewal of a work and of a recast.
-ghost use Rattle.std.specs.Prelude.{◌≡◌, ◌+◌, ◌<◌, ◌≤◌, ◌^◌, true, length, IfErr, IfOk, OnErr, OnOk, Ok, Err};
+ghost use Rattle.std.specs.Prelude.{◌≡◌, ◌+◌, ◌<◌, ◌≤◌, ◌^◌, true, length, IfErr, IfSome, OnSome, OnErr, OnOk, Ok, Err};
 ghost use Rattle.mesa_history.specs.Legal.{is_work};
 ghost use Rattle.mesa_history.specs.Machine.{Errand};
 ghost use Rattle.mesa_history.specs.Run.{Granted, Renewed};
@@ -55,19 +55,19 @@ fn renew_lease<N: Naming, M: Made, D: Disk<M>, K: Sink>(
     who: Who,
     table: u16,
     lease: u64,
-) -> Result<(), Reply>
+) -> Option<()>
     requires due { (c : Command) × (errand : Errand) × (is_work c ≡ true) × IsDue N.script (run_at N.script (N.start no_rows) engine.old.shown.history) who.session who.command c (Granted (claim_with table lease errand)) }
     requires table { table < TABLES }
     requires room { length engine.old.shown.history < N.room }
     ensures turn { (c : Command) (errand : Errand) → is_work c ≡ true → IsDue N.script (run_at N.script (N.start no_rows) engine.old.shown.history) who.session who.command c (Granted (claim_with table lease errand))
         → Takes N.script (N.start no_rows) engine.old.shown engine.new.shown who.session who.command kind.Renew (stage_if (λ done. claim_with table lease errand) Renewed result) }
     ensures disk { AnswersDisk N.script (N.start no_rows) engine.old.shown engine.new.shown ⊥ }
-    ensures ran { OnOk result (engine.old.shown.running ≡ true) }
+    ensures ran { OnSome result (engine.old.shown.running ≡ true) }
     ensures catalogue { engine.new.ledger.catalogue ≡ engine.old.ledger.catalogue }
 {
     if !engine.running() {
         engine.skip(who, Kind::Renew);
-        return Err(Reply::Refused(Refusal::Memory));
+        return None;
     }
     let at = engine.log.position();
     let claimed = claims(&mut engine.metadata, table, lease, at);
@@ -75,12 +75,12 @@ fn renew_lease<N: Naming, M: Made, D: Disk<M>, K: Sink>(
     match claimed {
         Ok(()) => {
             engine.log.pass(turn);
-            Ok(())
+            Some(())
         }
         Err(refusal) => {
             let reply = Reply::Refused(refusal);
             engine.log.tell(turn, at, &reply, b"");
-            Err(reply)
+            None
         }
     }
 }
@@ -91,21 +91,21 @@ pub fn renew<N: Naming, M: Made, D: Disk<M>, K: Sink>(
     who: Who,
     words: &WorkWords,
     task: Task<D::Reader>,
-) -> Result<Task<D::Reader>, Reply>
+) -> Option<Task<D::Reader>>
     requires due { IsDue N.script (run_at N.script (N.start no_rows) engine.old.shown.history) who.session who.command (command.Work words.now) (Granted (claim_in task)) }
     requires table { task.table < TABLES }
     requires room { length engine.old.shown.history < N.room }
     ensures turn { Takes N.script (N.start no_rows) engine.old.shown engine.new.shown who.session who.command kind.Renew (stage_if claim_in Renewed result) }
     ensures disk { AnswersDisk N.script (N.start no_rows) engine.old.shown engine.new.shown (SomeRose engine.old.faults engine.new.faults) }
-    ensures same { IfOk result (λ t. t ≡ task) }
-    ensures ran { OnOk result (engine.old.shown.running ≡ true) }
+    ensures same { IfSome result (λ t. t ≡ task) }
+    ensures ran { OnSome result (engine.old.shown.running ≡ true) }
     ensures catalogue { engine.new.ledger.catalogue ≡ engine.old.ledger.catalogue }
 {
     match renew_lease(engine, who, task.table, task.lease) {
-        Ok(()) => Ok(task),
-        Err(reply) => {
+        Some(()) => Some(task),
+        None => {
             give_back(engine, task);
-            Err(reply)
+            None
         }
     }
 }
@@ -116,21 +116,21 @@ pub fn renew_recast<N: Naming, M: Made, D: Disk<M>, K: Sink>(
     who: Who,
     words: &RecastWords,
     task: Recast<D::Reader>,
-) -> Result<Recast<D::Reader>, Reply>
+) -> Option<Recast<D::Reader>>
     requires due { IsDue N.script (run_at N.script (N.start no_rows) engine.old.shown.history) who.session who.command (command.Recast words.now) (Granted (claim_of_recast task)) }
     requires table { task.table < TABLES }
     requires room { length engine.old.shown.history < N.room }
     ensures turn { Takes N.script (N.start no_rows) engine.old.shown engine.new.shown who.session who.command kind.Renew (stage_if claim_of_recast Renewed result) }
     ensures disk { AnswersDisk N.script (N.start no_rows) engine.old.shown engine.new.shown (SomeRose engine.old.faults engine.new.faults) }
-    ensures same { IfOk result (λ t. t ≡ task) }
-    ensures ran { OnOk result (engine.old.shown.running ≡ true) }
+    ensures same { IfSome result (λ t. t ≡ task) }
+    ensures ran { OnSome result (engine.old.shown.running ≡ true) }
     ensures catalogue { engine.new.ledger.catalogue ≡ engine.old.ledger.catalogue }
 {
     match renew_lease(engine, who, task.table, task.lease) {
-        Ok(()) => Ok(task),
-        Err(reply) => {
+        Some(()) => Some(task),
+        None => {
             give_back_recast(engine, task);
-            Err(reply)
+            None
         }
     }
 }

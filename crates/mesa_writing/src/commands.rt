@@ -1,5 +1,5 @@
 // The turns of a table, a view, a change of columns and an expiry.
-ghost use Rattle.std.specs.Prelude.{◌≡◌, ◌<◌, length};
+ghost use Rattle.std.specs.Prelude.{◌<◌, length};
 ghost use Rattle.mesa_disk.specs.Story.{Steps};
 ghost use Rattle.mesa_history.specs.Run.{First, Finished};
 ghost use Rattle.mesa_history.specs.Turns.{IsDue};
@@ -15,7 +15,7 @@ use crate::ruling::{rule_alter, rule_expire, rule_table, rule_view};
 use mesa_disk::{Disk, Made};
 use mesa_engine::{Engine, Naming, Who};
 use mesa_io::Sink;
-use mesa_model::{AlterWords, Reply, TableWords, ViewWords};
+use mesa_model::{AlterWords, TableWords, ViewWords};
 use mesa_schema::Words;
 use std::alloc::Global;
 
@@ -25,7 +25,7 @@ pub fn table<N: Naming, M: Made, D: Disk<M>, K: Sink>(
     engine: &mut Engine<N, M, D, K>,
     who: Who,
     words: &TableWords,
-) -> Reply
+)
     requires due { IsDue N.script (run_at N.script (N.start no_rows) engine.old.shown.history) who.session who.command (command.Table words.now) First }
     requires room { length engine.old.shown.history < N.room }
     ensures turn { Takes N.script (N.start no_rows) engine.old.shown engine.new.shown who.session who.command kind.Decide Finished }
@@ -37,7 +37,7 @@ pub fn table<N: Naming, M: Made, D: Disk<M>, K: Sink>(
         engine,
         who,
         |metadata| rule_table(alloc, metadata, words),
-    )
+    );
 }
 
 /// The turn that makes a view of a table.
@@ -46,7 +46,7 @@ pub fn view<N: Naming, M: Made, D: Disk<M>, K: Sink>(
     engine: &mut Engine<N, M, D, K>,
     who: Who,
     words: &ViewWords,
-) -> Reply
+)
     requires due { IsDue N.script (run_at N.script (N.start no_rows) engine.old.shown.history) who.session who.command (command.View words.now) First }
     requires room { length engine.old.shown.history < N.room }
     ensures turn { Takes N.script (N.start no_rows) engine.old.shown engine.new.shown who.session who.command kind.Decide Finished }
@@ -58,7 +58,7 @@ pub fn view<N: Naming, M: Made, D: Disk<M>, K: Sink>(
         engine,
         who,
         |metadata| rule_view(alloc, metadata, words),
-    )
+    );
 }
 
 /// The turn that changes a table's columns.
@@ -67,7 +67,7 @@ pub fn alter<N: Naming, M: Made, D: Disk<M>, K: Sink>(
     engine: &mut Engine<N, M, D, K>,
     who: Who,
     words: &AlterWords,
-) -> Reply
+)
     requires due { IsDue N.script (run_at N.script (N.start no_rows) engine.old.shown.history) who.session who.command (command.Alter words.now) First }
     requires room { length engine.old.shown.history < N.room }
     ensures turn { Takes N.script (N.start no_rows) engine.old.shown engine.new.shown who.session who.command kind.Decide Finished }
@@ -79,7 +79,7 @@ pub fn alter<N: Naming, M: Made, D: Disk<M>, K: Sink>(
         engine,
         who,
         |metadata| rule_alter(alloc, metadata, words),
-    )
+    );
 }
 
 /// The turn that lets the versions below one go, of the table that is named or of all.
@@ -89,7 +89,7 @@ pub fn expire<N: Naming, M: Made, D: Disk<M>, K: Sink>(
     who: Who,
     table: &Option<Words>,
     version: u32,
-) -> Reply
+)
     requires due { IsDue N.script (run_at N.script (N.start no_rows) engine.old.shown.history) who.session who.command (command.Expire table.now version) First }
     requires room { length engine.old.shown.history < N.room }
     ensures turn { Takes N.script (N.start no_rows) engine.old.shown engine.new.shown who.session who.command kind.Decide Finished }
@@ -101,5 +101,5 @@ pub fn expire<N: Naming, M: Made, D: Disk<M>, K: Sink>(
         engine,
         who,
         |metadata| rule_expire(metadata, table, version),
-    )
+    );
 }

@@ -14,7 +14,7 @@ use crate::writing::{Change, write};
 use mesa_disk::{Disk, Made};
 use mesa_engine::{Engine, Failure, Metadata, Naming, Who};
 use mesa_io::Sink;
-use mesa_model::{Kind, Refusal, Reply};
+use mesa_model::Kind;
 use mesa_rules::Ruled;
 use std::alloc::Global;
 
@@ -25,7 +25,7 @@ pub(crate) fn decide<
     D: Disk<M>,
     K: Sink,
     F: FnOnce(&Metadata) -> Result<Ruled, Failure>,
->(alloc: Global, engine: &mut Engine<N, M, D, K>, who: Who, rule: F) -> Reply
+>(alloc: Global, engine: &mut Engine<N, M, D, K>, who: Who, rule: F)
     requires callable { F.IsAlwaysCallable rule }
     requires ruled { IsRuledBy N.script (run_at N.script (N.start no_rows) engine.old.shown.history) who.session who.command (FnOnceReturnsAt F.FnOnce rule) }
     requires room { length engine.old.shown.history < N.room }
@@ -35,7 +35,7 @@ pub(crate) fn decide<
 {
     if !engine.running() {
         engine.skip(who, Kind::Decide);
-        return Reply::Refused(Refusal::Memory);
+        return;
     }
     match rule(&engine.metadata) {
         Ok(Ruled { writes, tells }) => {
@@ -46,7 +46,7 @@ pub(crate) fn decide<
                 adopted,
                 tells,
             };
-            write(alloc, engine, who, change)
+            write(alloc, engine, who, change);
         }
         Err(failure) => engine.fail(who, Kind::Decide, failure),
     }

@@ -124,7 +124,7 @@ fn undrafted<N: Naming, M: Made, D: Disk<M>, K: Sink>(
     engine: &mut Engine<N, M, D, K>,
     who: Who,
     rows: &LoadRows,
-) -> Reply
+)
     requires due { IsDue N.script (run_at N.script (N.start no_rows) engine.old.shown.history) who.session who.command (command.Load rows.now) Looked }
     requires failed { HasFailed (books_of no_rows engine.old.ledger) (command.Load rows.now) (λ w. load_batch w rows.now) Unwritten }
     requires room { length engine.old.shown.history < N.room }
@@ -143,7 +143,7 @@ fn undrafted<N: Naming, M: Made, D: Disk<M>, K: Sink>(
     engine.metadata.close(at);
     engine
         .log
-        .fail(who, Kind::Decide, moment, Failure::Unwritten)
+        .fail(who, Kind::Decide, moment, Failure::Unwritten);
 }
 
 /// The turn that publishes a load's rows, for which files were made by what the catalogue has now; or
@@ -154,7 +154,7 @@ pub fn publish<N: Naming, M: Made, D: Disk<M>, K: Sink>(
     who: Who,
     rows: &LoadRows,
     made: Result<Prepared<M>, LoadError>,
-) -> Reply
+)
     requires due { IsDue N.script (run_at N.script (N.start no_rows) engine.old.shown.history) who.session who.command (command.Load rows.now) Looked }
     requires made { HasPrepared M.bytes M.id_of (sight_of engine.old.ledger.catalogue) rows.now made }
     requires told { (w : Rows) → N.sound w → (file : M) → (bytes : List ℕ) × (M.bytes file ≡ Some bytes) }
@@ -166,12 +166,12 @@ pub fn publish<N: Naming, M: Made, D: Disk<M>, K: Sink>(
 {
     if !engine.running() {
         engine.skip(who, Kind::Decide);
-        return Reply::Refused(Refusal::Memory);
+        return;
     }
     match ready(alloc, &engine.metadata, rows, made) {
         Ok(change) => write(alloc, engine, who, change),
         Err(Unready::Refused(refusal)) => {
-            engine.fail(who, Kind::Decide, Failure::Refused(refusal))
+            engine.fail(who, Kind::Decide, Failure::Refused(refusal));
         }
         Err(Unready::Draft) => undrafted(engine, who, rows),
         Err(Unready::Memory) => engine.fail(who, Kind::Decide, Failure::Memory),

@@ -1,5 +1,5 @@
 // A turn that writes.
-ghost use Rattle.std.specs.Prelude.{◌≡◌, ◌<◌, [], true, length, None, Some, Ok, IsTrue, IfOk, OnErr, OnOk};
+ghost use Rattle.std.specs.Prelude.{◌≡◌, ◌<◌, [], true, length, Some, Ok, IsTrue, IfOk, OnErr, OnOk};
 ghost use Rattle.mesa_disk.specs.Story.{Steps};
 ghost use Rattle.mesa_history.specs.Run.{Finished};
 ghost use Rattle.mesa_engine.specs.mesa_catalog.mesa_image.Fitting.{fits};
@@ -54,7 +54,7 @@ pub fn write<N: Naming, M: Made, D: Disk<M>, K: Sink>(
     engine: &mut Engine<N, M, D, K>,
     who: Who,
     change: Change<M>,
-) -> Reply
+)
     requires change { IsToWrite M.bytes N.script (run_at N.script (N.start no_rows) engine.old.shown.history) engine.old.ledger who.session who.command change }
     requires told { (w : Rows) → N.sound w → AllTell M.bytes change.made.items }
     requires room { length engine.old.shown.history < N.room }
@@ -85,7 +85,7 @@ pub fn write<N: Naming, M: Made, D: Disk<M>, K: Sink>(
             engine.metadata.apply(writes, adopted, end);
             let turn = who.turn(Kind::Decide, Outcome::Stands, engine.disk.clock());
             engine.log.tell(turn, at, &tells, b"");
-            tells
+            drop(tells);
         }
         Err(_) => {
             drop(writes);
@@ -94,7 +94,7 @@ pub fn write<N: Naming, M: Made, D: Disk<M>, K: Sink>(
             let moment = engine.disk.clock();
             engine
                 .log
-                .fail(who, Kind::Decide, moment, Failure::Unwritten)
+                .fail(who, Kind::Decide, moment, Failure::Unwritten);
         }
     }
 }

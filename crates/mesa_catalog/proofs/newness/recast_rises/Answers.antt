@@ -1,4 +1,4 @@
-use Rattle.std.proofs.Common.{◌++◌, List, map, subst}
+use Rattle.std.proofs.Common.{List, map, subst}
 use Rattle.mesa_record.specs.declared.checkpoint.StatedSingle.{StatedSingle}
 use Rattle.mesa_catalog.specs.Named.{RiseTo, recast_base_ids, told_id}
 use Rattle.mesa_catalog.proofs.Ids.{rise_append, some_so}

@@ -1,15 +1,14 @@
-use Rattle.std.proofs.Common.{◌≡◌, refl, sym, subst}
+use Rattle.std.proofs.Common.{◌∙◌, refl, sym, subst}
 use Rattle.mesa_history.specs.Run.{Renewed, Finished}
 use Rattle.mesa_model.specs.declared.commands.Command.TheVariants as command
 use Rattle.mesa_model.specs.declared.entries.Kind.TheVariants as kind
-use Rattle.mesa_model.specs.declared.replies.Refusal.TheVariants as no
-use Rattle.mesa_model.specs.declared.replies.Reply.TheVariants as reply
 use Rattle.mesa_skeleton.specs.Rows.{no_rows}
 use Rattle.mesa_engine.specs.mesa_ledger.mesa_walk.Turns.{AnswersDisk, AnswersDraft, Shown, SomeRose, Takes}
 use Rattle.mesa_engine.proofs.mesa_ledger.mesa_walk.Alike.{due_alike}
 use Rattle.mesa_engine.proofs.mesa_ledger.mesa_walk.Faulting.{disk_also, rose_still}
 use Rattle.mesa_tasks.specs.Tasks.{claim_in}
-use Rattle.mesa_completing.specs.Swept.{IsSwept}
+use Rattle.mesa_completing.specs.Swept.{HasStood, IsSwept}
+use Rattle.mesa_completing.proofs.Sweeping.{skipped_stood}
 use Rattle.mesa_completing.proofs.completing.complete.Goals as goal
 
 pub skip-requires-clause-due : goal.skip-requires-clause-due
@@ -29,22 +28,25 @@ returns-then-not-running g c =
       turn = subst (λ (x : Shown). Takes N.script (N.start no_rows) c.args.engine.now.shown x c.args.who.session c.args.who.command kind.Close Finished) (sym c.give_back.ensures.shown) (c.skip.ensures.turn Finished);
       draft = subst (λ (x : Shown). AnswersDraft N.script (N.start no_rows) c.args.engine.now.shown x c.args.who.session ⊥) (sym c.give_back.ensures.shown) c.skip.ensures.draft;
       disk = subst (λ (x : Shown). AnswersDisk N.script (N.start no_rows) c.args.engine.now.shown x (SomeRose c.args.engine.now.faults c.give_back.new.engine.faults)) (sym c.give_back.ensures.shown) (λ low e grew is. absurd (c.skip.ensures.disk low e grew is));
-      swept = λ from to is. absurd (let never : reply.Refused no.Memory ≡ reply.Swapped from to = is in cc);
+      swept = λ stood holds.
+          let stands = subst (λ (x : Shown). HasStood c.args.engine.now.shown x c.args.who.session c.args.who.command) c.give_back.ensures.shown stood in
+          absurd (skipped_stood c.args.engine.now.shown c.skip.new.self.shown c.args.who.session c.args.who.command (c.skip.ensures.turn Finished).turn (sym c.running.ensures ∙ c.if-not-running.true) stands);
     }
 
 pub returns-clause-disk : goal.returns-clause-disk
 returns-clause-disk g c =
     let N = g.N.Naming in
     let old = c.args.engine.now in
-    let met = c.close-reply.new.engine in
+    let met = c.close.new.engine in
     let now = c.give_back-2.new.engine in
     subst (λ (x : Shown). AnswersDisk N.script (N.start no_rows) old.shown x (SomeRose old.faults now.faults)) (sym c.give_back-2.ensures.shown)
-    (disk_also N.script (N.start no_rows) old.shown met.shown (λ (rose : SomeRose old.faults met.faults). rose_still old.faults met.faults now.faults rose c.give_back-2.ensures.faults) c.close-reply.ensures.disk)
+    (disk_also N.script (N.start no_rows) old.shown met.shown (λ (rose : SomeRose old.faults met.faults). rose_still old.faults met.faults now.faults rose c.give_back-2.ensures.faults) c.close.ensures.disk)
 
 pub returns-clause-swept : goal.returns-clause-swept
-returns-clause-swept g c = λ from to is.
-    let met = c.close-reply.new.engine in
+returns-clause-swept g c = λ stood holds.
+    let met = c.close.new.engine in
     let now = c.give_back-2.new.engine in
     subst (λ (x : Shown). IsSwept now.told now.ledger x.history) (sym c.give_back-2.ensures.shown)
     (subst (λ l. IsSwept now.told l met.shown.history) (sym c.give_back-2.ensures.ledger)
-    (subst (λ t. IsSwept t met.ledger met.shown.history) (sym c.give_back-2.ensures.told) (c.close-reply.ensures.swept from to is)))
+    (subst (λ t. IsSwept t met.ledger met.shown.history) (sym c.give_back-2.ensures.told)
+    (c.close.ensures.swept (subst (λ (x : Shown). HasStood c.args.engine.now.shown x c.args.who.session c.args.who.command) c.give_back-2.ensures.shown stood) holds)))

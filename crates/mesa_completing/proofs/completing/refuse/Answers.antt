@@ -19,7 +19,7 @@ use Rattle.mesa_engine.proofs.mesa_ledger.mesa_walk.Faulting.{disk_never}
 use Rattle.mesa_engine.specs.Engine.{Standing, IsEngine, starts_of}
 use Rattle.mesa_engine.proofs.Drafting.{answers_none}
 use Rattle.mesa_tasks.specs.Tasks.{claim_in}
-use Rattle.mesa_completing.specs.Merged.{HasNotSwapped, unswapped_ledger}
+use Rattle.mesa_completing.specs.Merged.{HasNotSwapped, cause_met, unswapped_ledger}
 use Rattle.mesa_completing.proofs.Refusing.{closed_takes, no_draft, no_fault, unswapped_engine}
 use Rattle.mesa_completing.proofs.completing.refuse.Goals as goal
 
@@ -72,6 +72,14 @@ returns-clause-turn g c =
 pub returns-clause-ledger : goal.returns-clause-ledger
 returns-clause-ledger g c =
     ap (λ (m : Memory). m.ledger) c.fall-failure.ensures.after ∙ ap (λ (x : Standing). unswapped_ledger c.args.why c.args.task.now.table c.args.task.now.lease x.ledger) c.engine.view_is
+
+pub returns-clause-outcome : goal.returns-clause-outcome
+returns-clause-outcome g c =
+    let h = c.engine.inside.log.history.items in
+    let who = c.args.who in
+    let now = (g.D.Disk.story c.engine.inside.disk).moment in
+    subst (λ (x : Standing). c.fail.new.self.history.items ≡ x.shown.history ++ entry who.session who.command kind.Close (outcome_of (cause_met c.args.why)) now ∷ []) c.engine.view_is
+    (c.fail.ensures.items ∙ (λ j. h ++ entry who.session who.command kind.Close (outcome_of (c.fall-failure.ensures.cause j)) (c.clock-moment.ensures j) ∷ []))
 
 pub returns-clause-draft : goal.returns-clause-draft
 returns-clause-draft g c =

@@ -13,8 +13,6 @@ use Rattle.mesa_model.specs.Entry.{IsShort}
 use Rattle.mesa_model.specs.declared.commands.Command.TheVariants as command
 use Rattle.mesa_model.specs.declared.entries.Kind.TheVariants as kind
 use Rattle.mesa_model.specs.declared.entries.Outcome.TheVariants as outcome
-use Rattle.mesa_model.specs.declared.replies.Refusal.TheVariants as no
-use Rattle.mesa_model.specs.declared.replies.Reply.TheVariants as reply
 use Rattle.mesa_history.specs.Replay.{no_rows as no_lines}
 use Rattle.mesa_record.proofs.RecordsBoth.{record_found}
 use Rattle.mesa_script.specs.Rows.{body_of}
@@ -45,8 +43,8 @@ use Rattle.mesa_engine.specs.mesa_ledger.Written.{written_at}
 use Rattle.mesa_completing.proofs.Claims.{due_still}
 use Rattle.mesa_completing.proofs.Refusing.{closed_takes}
 use Rattle.mesa_completing.proofs.SwapEngines.{absent_still, ready_still, swap_prints, swapped_engine, unswapped_engine}
-use Rattle.mesa_completing.specs.Swept.{IsSwept}
-use Rattle.mesa_completing.proofs.Sweeping.{swept}
+use Rattle.mesa_completing.specs.Swept.{HasStood, IsSwept}
+use Rattle.mesa_completing.proofs.Sweeping.{stood_as, swept}
 use Rattle.mesa_completing.proofs.completing.swap_in.Goals as goal
 
 -- ---- before memory is taken
@@ -90,6 +88,16 @@ prepare-requires-clause-due g c κs within =
     let still = due_still (outset_of n no_rows) (n.origin no_rows) i.metadata.ledger (g.D.Disk.story i.disk) (g.K.Sink.held i.log.printer.sink) h (not i.log.printer.broken) i.log.refused (c.engine.invariant.vault no_rows false (λ is. absurd cc))
     c.args.who.session c.args.who.command c.requires.due.0 (length h) claim c.args.task.now.work refl due holds in
     (still.oldest, still.next, still.due, still.later_oldest, still.later_next)
+
+-- ---- there is no memory
+
+pub returns-in-Err-clause-swept : goal.returns-in-Err-clause-swept
+returns-in-Err-clause-swept g c = λ stood.
+    let who = c.args.who in
+    let later = c.refuse.new.engine.shown in
+    let grew = subst (λ (x : Standing). later.history ≡ x.shown.history ++ entry who.session who.command kind.Close outcome.Memory later.clock ∷ []) c.engine.view_is c.refuse.ensures.outcome in
+    let never : outcome.Memory ≡ outcome.Stands = stood_as c.args.engine.now.shown later who.session who.command outcome.Memory later.clock grew stood in
+    absurd cc
 
 -- ---- the device work
 
@@ -347,7 +355,7 @@ returns-in-Ok-write_record g c =
           let counts : Counts (g.D.Disk.story i.disk) new false = record { faults = does.cause.later; reads = omega (arith, calls); rose = λ low is. absurd cc } in
           subst (λ (x : Standing). AnswersDisk N.script (N.start no_rows) x.shown seen (SomeRose x.faults (faults_of new))) c.engine.view_is
           (disk_counted N.script (N.start no_rows) (record { history = h; running = not i.log.printer.broken; clock = (g.D.Disk.story i.disk).moment }) seen (entry session number kind.Close outcome.Stands c.clock.result) grew (g.D.Disk.story i.disk) new refl counts);
-      swept = λ from to is. swept_done g c;
+      swept = λ stood. swept_done g c;
     }
 
 -- ---- it has failed
@@ -507,5 +515,8 @@ returns g c =
       disk = subst (λ (x : Standing). AnswersDisk N.script (N.start no_rows) x.shown seen (SomeRose x.faults (faults_of new))) c.engine.view_is
           (disk_where N.script (N.start no_rows) (record { history = h; running = not i.log.printer.broken; clock = story.moment }) seen (entry session number kind.Close outcome.WriteFault c.clock-moment.result) told.items
           (SomeRose (faults_of story) (faults_of new)) (λ below is. inl c.in-Err-write_record.ensures.cause.failed));
-      swept = λ from to is. absurd (let never : reply.Refused no.WriteFault ≡ reply.Swapped from to = sym c.fail-in-Err-write_record.ensures.reply ∙ is in cc);
+      swept = λ stood.
+          let was : Shown = record { history = h; running = not i.log.printer.broken; clock = story.moment } in
+          let never : outcome.WriteFault ≡ outcome.Stands = stood_as was seen session number outcome.WriteFault c.clock-moment.result told.items (subst (λ (x : Standing). HasStood x.shown seen session number) (sym c.engine.view_is) stood) in
+          absurd cc;
     }

@@ -2,7 +2,6 @@ use Rattle.std.proofs.Common.{◌≡◌, ◌∷◌, ◌++◌, [], length, Option
 use Rattle.std.specs.Prelude.{◌==◌}
 use Rattle.mesa_fault.specs.Causes.{last}
 use Rattle.mesa_history.specs.Counting.{answers_bench}
-use Rattle.mesa_history.specs.Refused.{is_refusal}
 use Rattle.mesa_history.specs.Replay.{closes}
 use Rattle.mesa_history.specs.Run.{Granted, Finished}
 use Rattle.mesa_history.specs.Turns.{IsDue}
@@ -30,7 +29,7 @@ use Rattle.mesa_tasks.specs.Tasks.{claim_in}
 use Rattle.mesa_tasks.specs.declared.merging.CompactError.TheVariants as compact
 use Rattle.mesa_asking.proofs.Closes.{given_counts}
 use Rattle.mesa_completing.specs.Unmerged.{cause_of, closing_cause, closing_ledger}
-use Rattle.mesa_completing.proofs.Closings.{closing_read, closing_refuses, given_up_engine, given_up_takes, only_draft, paid_back}
+use Rattle.mesa_completing.proofs.Closings.{closing_read, given_up_engine, given_up_takes, only_draft, paid_back}
 use Rattle.mesa_completing.proofs.unmerged.give_up.Goals as goal
 
 abbrev closed_of : Ledger → Option ℕ
@@ -139,10 +138,6 @@ returns-clause-draft g c =
     subst (λ (x : Standing). AnswersDraft N.script (N.start no_rows) x.shown new s (c.args.error ≡ compact.Draft)) c.engine.view_is
     (answers_where N.script (N.start no_rows) (record { history = h; running = not i.log.printer.broken; clock = story.moment }) new s e (c.args.error ≡ compact.Draft) c.fail.ensures.items
     (λ low answers. only_draft i.metadata.ledger.closed c.args.error closing (subst (λ k. IsTrue (answers_bench closing (outcome_of k))) c.fall-failure.ensures.cause answers)))
-
-pub returns-clause-reply : goal.returns-clause-reply
-returns-clause-reply g c =
-    ap is_refusal c.fail.ensures.reply ∙ ap (λ k. is_refusal (reply_of k)) c.fall-failure.ensures.cause ∙ closing_refuses c.engine.inside.metadata.ledger.closed c.args.error
 
 pub returns-clause-disk : goal.returns-clause-disk
 returns-clause-disk g c =

@@ -39,13 +39,13 @@ returns-then-not-running-clause-turn g c = c.skip.ensures.turn Finished
 pub planned-requires : goal.planned-requires
 planned-requires g c = (c.engine.invariant.vault no_rows false (λ is. absurd cc)).shaped
 
-due_at : (g : _) (c : goal.After-drop-lines g) → IsDue g.N.Naming.script (run_at g.N.Naming.script (g.N.Naming.start no_rows) c.engine.inside.log.history.items) c.args.who.session c.args.who.command (command.Explain c.args.words.now) First
+due_at : (g : _) (c : goal.After-drop-reply g) → IsDue g.N.Naming.script (run_at g.N.Naming.script (g.N.Naming.start no_rows) c.engine.inside.log.history.items) c.args.who.session c.args.who.command (command.Explain c.args.words.now) First
 due_at g c = subst (λ (s : Standing). IsDue g.N.Naming.script (run_at g.N.Naming.script (g.N.Naming.start no_rows) s.shown.history) c.args.who.session c.args.who.command (command.Explain c.args.words.now) First) (sym c.engine.view_is) c.requires.due
 
-runs : (g : _) (c : goal.After-drop-lines g) → not c.engine.inside.log.printer.broken ≡ true
+runs : (g : _) (c : goal.After-drop-reply g) → not c.engine.inside.log.printer.broken ≡ true
 runs g c = ap (λ (s : Standing). s.shown.running) c.engine.view_is ∙ sym c.running.ensures ∙ c.if-not-running.false
 
-kept : (g : _) (c : goal.After-drop-lines g)
+kept : (g : _) (c : goal.After-drop-reply g)
     → IsEngine g.K.Sink.held g.K.Sink.faults (starts_of g.N.Naming.script g.N.Naming.start g.N.Naming.sound g.N.Naming.origin g.N.Naming.since g.N.Naming.counted g.N.Naming.at_start) g.N.Naming.room g.N.Naming.sink_faults c.engine.inside.metadata (g.D.Disk.story c.engine.inside.disk) c.tell.new.self
 kept g c =
     let N = g.N.Naming in

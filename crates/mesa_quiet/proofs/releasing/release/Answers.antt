@@ -38,13 +38,13 @@ skip-requires-clause-due g c κs within w =
 pub returns-then-not-running-clause-turn : goal.returns-then-not-running-clause-turn
 returns-then-not-running-clause-turn g c = c.skip.ensures.turn Finished
 
-due_at : (g : _) (c : goal.After-tell g) → IsDue g.N.Naming.script (run_at g.N.Naming.script (g.N.Naming.start no_rows) c.engine.inside.log.history.items) c.args.who.session c.args.who.command (command.Release c.args.token) First
+due_at : (g : _) (c : goal.After-drop-reply g) → IsDue g.N.Naming.script (run_at g.N.Naming.script (g.N.Naming.start no_rows) c.engine.inside.log.history.items) c.args.who.session c.args.who.command (command.Release c.args.token) First
 due_at g c = subst (λ (s : Standing). IsDue g.N.Naming.script (run_at g.N.Naming.script (g.N.Naming.start no_rows) s.shown.history) c.args.who.session c.args.who.command (command.Release c.args.token) First) (sym c.engine.view_is) c.requires.due
 
-runs : (g : _) (c : goal.After-tell g) → not c.engine.inside.log.printer.broken ≡ true
+runs : (g : _) (c : goal.After-drop-reply g) → not c.engine.inside.log.printer.broken ≡ true
 runs g c = ap (λ (s : Standing). s.shown.running) c.engine.view_is ∙ sym c.running.ensures ∙ c.if-not-running.false
 
-kept : (g : _) (c : goal.After-tell g)
+kept : (g : _) (c : goal.After-drop-reply g)
     → IsEngine g.K.Sink.held g.K.Sink.faults (starts_of g.N.Naming.script g.N.Naming.start g.N.Naming.sound g.N.Naming.origin g.N.Naming.since g.N.Naming.counted g.N.Naming.at_start) g.N.Naming.room g.N.Naming.sink_faults c.release.new.self (g.D.Disk.story c.engine.inside.disk) c.tell.new.self
 kept g c =
     let N = g.N.Naming in

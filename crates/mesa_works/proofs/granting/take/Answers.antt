@@ -4,7 +4,6 @@ use Rattle.mesa_schema.specs.Changes.{Lineage, epoch_of}
 use Rattle.mesa_span.specs.Ranges.{base_before}
 use Rattle.mesa_span.specs.Work.{next_work}
 use Rattle.mesa_history.specs.Machine.{Claim, Merges, claim_of}
-use Rattle.mesa_history.specs.Replay.{is_skip}
 use Rattle.mesa_history.specs.Run.{First, Granted, Finished}
 use Rattle.mesa_history.specs.Turns.{IsDue}
 use Rattle.mesa_engine.specs.mesa_metadata.mesa_image.Catalog.{Catalog, Delta, Stock, ranges_of, stock_at}
@@ -17,30 +16,27 @@ use Rattle.mesa_engine.specs.mesa_ledger.Ledger.{Ledger, books_of}
 use Rattle.mesa_engine.proofs.mesa_ledger.mesa_image_laws.Plans.{due_work_fits}
 use Rattle.mesa_engine.specs.mesa_ledger.mesa_image_laws.Moves.{first_of, is_base, last_of}
 use Rattle.mesa_engine.specs.mesa_ledger.Vault.{IsVault, Starts, outset_of}
-use Rattle.mesa_engine.proofs.mesa_ledger.Beginning.{vault_at_seen}
 use Rattle.mesa_swapping.specs.mesa_compact.Bounded.{IsBounded}
 use Rattle.mesa_engine.specs.mesa_log.Failure.{cause_in}
 use Rattle.mesa_gather.specs.Gathered.{IsGathered, unread_views}
 use Rattle.mesa_lease.specs.Book.{granted}
-use Rattle.mesa_engine.specs.mesa_metadata.Memory.{Memory, with_leases}
+use Rattle.mesa_engine.specs.mesa_metadata.Memory.{with_leases}
 use Rattle.mesa_gather.specs.mesa_shelf.Meaning.{stock_of}
 use Rattle.mesa_skeleton.specs.Rows.{Rows, no_rows}
 use Rattle.mesa_swapping.specs.Finished.{HasRange}
 use Rattle.mesa_tasks.specs.Tasks.{IsTask}
 use Rattle.mesa_tasks.specs.declared.merging.Task.{Task}
-use Rattle.mesa_engine.specs.mesa_ledger.mesa_walk.Causes.{Unwritten, is_read_fault, outcome_of}
 use Rattle.mesa_engine.specs.mesa_ledger.mesa_walk.Turns.{AnswersDisk, Shown, SomeRose, Takes, entry, faults_of}
-use Rattle.mesa_engine.specs.mesa_ledger.mesa_walk.Walk.{Counts, run_at}
-use Rattle.mesa_engine.specs.mesa_ledger.mesa_walk.Works.{HasNoClaim}
+use Rattle.mesa_engine.specs.mesa_ledger.mesa_walk.Walk.{run_at}
 use Rattle.mesa_engine.proofs.mesa_ledger.mesa_walk.Alike.{due_alike}
-use Rattle.mesa_engine.proofs.mesa_ledger.mesa_walk.Faulting.{disk_caused, disk_counted}
-use Rattle.mesa_engine.specs.Engine.{Standing, IsEngine, starts_of}
+use Rattle.mesa_engine.specs.Engine.{Standing, starts_of}
 use Rattle.mesa_works.specs.Claims.{claim_as}
 use Rattle.mesa_engine.specs.mesa_ledger.Written.{written_at}
 use Rattle.mesa_works.proofs.Bounded.{is_bounded}
 use Rattle.mesa_works.proofs.Claims.{work_ends}
 use Rattle.mesa_works.proofs.Ranges.{has_no_damage, has_range}
-use Rattle.mesa_works.proofs.Grants.{answers, fault_counts, granted_engine, granted_takes, has_no_claim, never_unwritten, next_there, shaped_at, tables_there, ungranted_engine, ungranted_takes, unopened_counts}
+use Rattle.mesa_works.proofs.Grants.{next_there, shaped_at, tables_there, unopened_counts}
+use Rattle.mesa_works.proofs.GrantTurns.{IsGrant, IsNoGrant, is_grant, is_no_grant}
 use Rattle.mesa_works.proofs.Spares.{leased_spares}
 use Rattle.mesa_works.proofs.granting.take.Goals as goal
 
@@ -78,46 +74,37 @@ claim_at g c =
 is_short : (g : _) (c : goal.After-pass g) → IsShort (entry c.args.who.session c.args.who.command kind.Grant outcome.Stands c.clock-moment.result)
 is_short g c = subst IsShort c.turn-turn.ensures.same c.turn-turn.ensures.short
 
-kept : (g : _) (c : goal.After-pass g)
-    → IsEngine g.K.Sink.held g.K.Sink.faults (starts_of g.N.Naming.script g.N.Naming.start g.N.Naming.sound g.N.Naming.origin g.N.Naming.since g.N.Naming.counted g.N.Naming.at_start) g.N.Naming.room g.N.Naming.sink_faults c.lease.new.metadata (g.D.Disk.story c.gather-gathered.new.disk) c.pass.new.self
-kept g c =
+granted_at : (g : _) (c : goal.After-pass g)
+    → IsGrant g.K.Sink.held g.K.Sink.faults (starts g c) g.N.Naming.room g.N.Naming.sink_faults c.engine.inside.metadata c.lease.new.metadata (g.D.Disk.story c.engine.inside.disk) (g.D.Disk.story c.gather-gathered.new.disk)
+    (record { history = c.engine.inside.log.history.items; running = not c.engine.inside.log.printer.broken; clock = (g.D.Disk.story c.engine.inside.disk).moment })
+    (record { history = c.pass.new.self.history.items; running = not c.pass.new.self.printer.broken; clock = (g.D.Disk.story c.gather-gathered.new.disk).moment })
+    c.pass.new.self c.args.who.session c.args.who.command c.position-at.result (claim_as c.engine.inside.metadata.ledger c.args.claimed)
+granted_at g c =
     let N = g.N.Naming in
     let i = c.engine.inside in
     let s = c.args.who.session in
     let number = c.args.who.command in
-    let words = c.requires.due.0 in
+    let asked = command.Work c.requires.due.0 in
     let h = i.log.history.items in
-    let story = g.D.Disk.story i.disk in
-    let new = g.D.Disk.story c.gather-gathered.new.disk in
-    let short = is_short g c in
-    granted_engine g.K.Sink.held g.K.Sink.faults (starts g c) N.room N.sink_faults i.metadata story new i.log c.pass.new.self c.engine.invariant c.gather-gathered.ensures.unmoved s number short.session short.command (command.Work words) refl c.clock-moment.result c.clock-moment.ensures (runs g c) c.position-at.result c.position-at.ensures
-    (λ w. due_alike N.script (N.start no_rows) (N.start w) h s number (command.Work words) First (N.alike w) refl (due_at g c)) c.pass.ensures.room
-    (claim_as i.metadata.ledger c.args.claimed) c.lease.new.metadata (claim_at g c) (fault_counts story new false c.in-Ok.ensures.counted) c.lease.ensures.granted (c.pass.ensures.items ∙ ap (λ x. h ++ x ∷ []) c.turn-turn.ensures.same) c.pass.ensures.printer c.pass.ensures.refused
+    is_grant g.K.Sink.held g.K.Sink.faults (starts g c) N.room N.sink_faults i.metadata (g.D.Disk.story i.disk) (g.D.Disk.story c.gather-gathered.new.disk) i.log c.pass.new.self c.engine.invariant c.gather-gathered.ensures.unmoved s number asked refl c.clock-moment.result c.clock-moment.ensures (runs g c) c.position-at.result c.position-at.ensures
+    (λ w. due_alike N.script (N.start no_rows) (N.start w) h s number asked First (N.alike w) refl (due_at g c)) c.pass.ensures.room
+    (claim_as i.metadata.ledger c.args.claimed) (claim_at g c) c.lease.new.metadata c.lease.ensures.granted c.in-Ok.ensures.counted (is_short g c)
+    (c.pass.ensures.items ∙ ap (λ x. h ++ x ∷ []) c.turn-turn.ensures.same) c.pass.ensures.printer c.pass.ensures.refused
 
 pub invariant_of-engine : goal.invariant_of-engine
-invariant_of-engine g c = kept g c
+invariant_of-engine g c = (granted_at g c).kept
 
 pub returns-in-Ok-clause-turn : goal.returns-in-Ok-clause-turn
 returns-in-Ok-clause-turn g c =
     let N = g.N.Naming in
-    let n = starts g c in
     let i = c.engine.inside in
-    let s = c.args.who.session in
-    let number = c.args.who.command in
-    let l = i.metadata.ledger in
-    let h = i.log.history.items in
-    let claim = claim_as l c.args.claimed in
-    let story = g.D.Disk.story i.disk in
-    let new = g.D.Disk.story c.gather-gathered.new.disk in
-    let short = is_short g c in
+    let who = c.args.who in
     let later = c.pass.new.self in
-    let shown : Shown = record { history = later.history.items; running = not later.printer.broken; clock = new.moment } in
-    let same : claim ≡ record { table = c.in-Ok.task.table; lease = c.lease.result; errand = Merges c.in-Ok.task.work } = λ i. record { table = sym c.in-Ok.ensures.table i; lease = sym c.lease.ensures.number i; errand = Merges (sym c.in-Ok.ensures.work i) } in
-    subst (λ (x : Claim). Takes N.script (N.start no_rows) c.args.engine.now.shown shown s number kind.Grant (Granted x)) same
-    (subst (λ (x : Standing). Takes N.script (N.start no_rows) x.shown shown s number kind.Grant (Granted claim)) c.engine.view_is
-    (granted_takes (outset_of n no_rows) (n.origin no_rows) false l story (g.K.Sink.held i.log.printer.sink) h (not i.log.printer.broken) i.log.refused (c.engine.invariant.vault no_rows false (λ z. absurd cc)) s number short.session short.command (command.Work c.requires.due.0) refl (runs g c) c.position-at.result c.position-at.ensures (due_at g c) new c.gather-gathered.ensures.unmoved story.moment shown refl
-    (vault_at_seen n c.lease.new.metadata.ledger new (g.K.Sink.held later.printer.sink) later.history.items (not later.printer.broken) later.refused new.moment (kept g c).vault)
-    claim (claim_at g c) (c.pass.ensures.items ∙ ap (λ x. h ++ x ∷ []) c.turn-turn.ensures.same ∙ ap (λ x. h ++ entry s number kind.Grant outcome.Stands x ∷ []) c.clock-moment.ensures)))
+    let shown : Shown = record { history = later.history.items; running = not later.printer.broken; clock = (g.D.Disk.story c.gather-gathered.new.disk).moment } in
+    let same : claim_as i.metadata.ledger c.args.claimed ≡ record { table = c.in-Ok.task.table; lease = c.lease.result; errand = Merges c.in-Ok.task.work } =
+    λ i. record { table = sym c.in-Ok.ensures.table i; lease = sym c.lease.ensures.number i; errand = Merges (sym c.in-Ok.ensures.work i) } in
+    subst (λ (x : Claim). Takes N.script (N.start no_rows) c.args.engine.now.shown shown who.session who.command kind.Grant (Granted x)) same
+    (subst (λ (x : Standing). Takes N.script (N.start no_rows) x.shown shown who.session who.command kind.Grant (Granted (claim_as i.metadata.ledger c.args.claimed))) c.engine.view_is (granted_at g c).takes)
 
 -- the ledger behind it
 abbrev leased : (g : _) → goal.After-pass g → Ledger
@@ -125,9 +112,7 @@ leased g c = (with_leases (granted c.args.claimed.table c.position-at.result c.e
 
 vault_behind : (g : _) (c : goal.After-pass g) (w : Rows) (b : Bool) → (IsTrue b → g.N.Naming.sound w)
     → IsVault (outset_of (starts g c) w) (g.N.Naming.origin w) b (leased g c) (g.D.Disk.story c.gather-gathered.new.disk) (g.K.Sink.held c.pass.new.self.printer.sink) c.pass.new.self.history.items (not c.pass.new.self.printer.broken) c.pass.new.self.refused
-vault_behind g c w b sound =
-    let later = c.pass.new.self in
-    subst (λ (m : Memory). IsVault (outset_of (starts g c) w) (g.N.Naming.origin w) b m.ledger (g.D.Disk.story c.gather-gathered.new.disk) (g.K.Sink.held later.printer.sink) later.history.items (not later.printer.broken) later.refused) c.lease.ensures.granted ((kept g c).vault w b sound)
+vault_behind g c w b sound = (granted_at g c).behind w b sound
 
 table_there : (g : _) (c : goal.After-pass g) → c.in-Ok.task.table < length c.engine.inside.metadata.ledger.catalogue.tables
 table_there g c =
@@ -229,91 +214,54 @@ returns-in-Ok-clause-spare g c = leased_spares g.D.Reader.FileReader.bytes (c.ar
 pub returns-in-Ok-clause-disk : goal.returns-in-Ok-clause-disk
 returns-in-Ok-clause-disk g c =
     let N = g.N.Naming in
-    let i = c.engine.inside in
-    let who = c.args.who in
-    let h = i.log.history.items in
-    let story = g.D.Disk.story i.disk in
     let new = g.D.Disk.story c.gather-gathered.new.disk in
     let later = c.pass.new.self in
     let shown : Shown = record { history = later.history.items; running = not later.printer.broken; clock = new.moment } in
-    subst (λ (x : Standing). AnswersDisk N.script (N.start no_rows) x.shown shown (SomeRose x.faults (faults_of new))) c.engine.view_is
-    (disk_counted N.script (N.start no_rows) (record { history = h; running = not i.log.printer.broken; clock = story.moment }) shown (entry who.session who.command kind.Grant outcome.Stands c.clock-moment.result)
-    (c.pass.ensures.items ∙ ap (λ x. h ++ x ∷ []) c.turn-turn.ensures.same) story new refl (fault_counts story new false c.in-Ok.ensures.counted))
+    subst (λ (x : Standing). AnswersDisk N.script (N.start no_rows) x.shown shown (SomeRose x.faults (faults_of new))) c.engine.view_is (granted_at g c).disk
 
 -- ---- it isn't
 
-pub invariant_of-engine-in-Err : goal.invariant_of-engine-in-Err
-invariant_of-engine-in-Err g c =
+ungranted_at : (g : _) (c : goal.After-fail g)
+    → IsNoGrant g.K.Sink.held g.K.Sink.faults (starts_of g.N.Naming.script g.N.Naming.start g.N.Naming.sound g.N.Naming.origin g.N.Naming.since g.N.Naming.counted g.N.Naming.at_start) g.N.Naming.room g.N.Naming.sink_faults c.engine.inside.metadata (g.D.Disk.story c.engine.inside.disk) (g.D.Disk.story c.gather-gathered.new.disk)
+    (record { history = c.engine.inside.log.history.items; running = not c.engine.inside.log.printer.broken; clock = (g.D.Disk.story c.engine.inside.disk).moment })
+    (record { history = c.fail.new.self.history.items; running = not c.fail.new.self.printer.broken; clock = (g.D.Disk.story c.gather-gathered.new.disk).moment })
+    c.fail.new.self c.args.who.session c.args.who.command
+ungranted_at g c =
     let N = g.N.Naming in
     let n : Starts = starts_of N.script N.start N.sound N.origin N.since N.counted N.at_start in
     let i = c.engine.inside in
     let s = c.args.who.session in
     let number = c.args.who.command in
     let words = c.requires.due.0 in
+    let asked = command.Work words in
     let l = i.metadata.ledger in
     let h = i.log.history.items in
-    let at = length h in
     let claim = claim_as l c.args.claimed in
     let story = g.D.Disk.story i.disk in
     let new = g.D.Disk.story c.gather-gathered.new.disk in
-    let later = c.fail-reply.new.self in
-    let cause = cause_in c.failure_of.result in
-    let short = c.fail-reply.ensures.short in
-    let due : IsDue N.script (run_at N.script (N.start no_rows) h) s number (command.Work words) First = subst (λ (x : Standing). IsDue N.script (run_at N.script (N.start no_rows) x.shown.history) s number (command.Work words) First) (sym c.engine.view_is) c.requires.due.1 in
-    let is : claim_of (books_of no_rows l).bare (books_of no_rows l).machine at words.table ≡ Ok claim = subst (λ (x : Standing). claim_of (books_of no_rows x.ledger).bare (books_of no_rows x.ledger).machine (length x.shown.history) words.table ≡ Ok (claim_as x.ledger c.args.claimed)) (sym c.engine.view_is) c.requires.due.2 in
+    let due : IsDue N.script (run_at N.script (N.start no_rows) h) s number asked First = subst (λ (x : Standing). IsDue N.script (run_at N.script (N.start no_rows) x.shown.history) s number asked First) (sym c.engine.view_is) c.requires.due.1 in
+    let is : claim_of (books_of no_rows l).bare (books_of no_rows l).machine (length h) words.table ≡ Ok claim =
+    subst (λ (x : Standing). claim_of (books_of no_rows x.ledger).bare (books_of no_rows x.ledger).machine (length x.shown.history) words.table ≡ Ok (claim_as x.ledger c.args.claimed)) (sym c.engine.view_is) c.requires.due.2 in
     let open' = ap (λ (x : Standing). x.ledger.closed) c.engine.view_is ∙ c.requires.opened in
     let ran : not i.log.printer.broken ≡ true = ap (λ (x : Standing). x.shown.running) c.engine.view_is ∙ c.requires.runs in
-    let has = subst (HasNoClaim (books_of no_rows l) (claim_of (books_of no_rows l).bare (books_of no_rows l).machine at words.table)) (sym c.failure_of.ensures) (has_no_claim l (claim_of (books_of no_rows l).bare (books_of no_rows l).machine at words.table) claim c.in-Err.unopened open' is) in
-    let counts = subst (λ x. Counts story new (is_read_fault x)) (sym c.failure_of.ensures) (unopened_counts (Task g.row.D-Reader.Denot) story new c.in-Err.unopened c.in-Err.ensures.counted) in
-    ungranted_engine g.K.Sink.held g.K.Sink.faults n N.room N.sink_faults i.metadata story new i.log later c.engine.invariant c.gather-gathered.ensures.unmoved s number short.session short.command (command.Work words) refl c.clock-moment.result c.clock-moment.ensures ran at refl
-    (λ w. due_alike N.script (N.start no_rows) (N.start w) h s number (command.Work words) First (N.alike w) refl due) c.fail-reply.ensures.room
-    cause has counts c.fail-reply.ensures.items c.fail-reply.ensures.told c.fail-reply.ensures.refused
+    is_no_grant g.K.Sink.held g.K.Sink.faults n N.room N.sink_faults i.metadata story new i.log c.fail.new.self c.engine.invariant c.gather-gathered.ensures.unmoved s number asked refl c.clock-moment.result c.clock-moment.ensures ran (length h) refl
+    (λ w. due_alike N.script (N.start no_rows) (N.start w) h s number asked First (N.alike w) refl due) c.fail.ensures.room
+    claim is open' c.in-Err.unopened (cause_in c.failure_of.result) c.failure_of.ensures (unopened_counts (Task g.row.D-Reader.Denot) story new c.in-Err.unopened c.in-Err.ensures.counted) c.fail.ensures.short c.fail.ensures.items c.fail.ensures.told c.fail.ensures.refused
+
+pub invariant_of-engine-in-Err : goal.invariant_of-engine-in-Err
+invariant_of-engine-in-Err g c = (ungranted_at g c).kept
 
 pub returns-in-Err-clause-turn : goal.returns-in-Err-clause-turn
 returns-in-Err-clause-turn g c =
     let N = g.N.Naming in
-    let n : Starts = starts_of N.script N.start N.sound N.origin N.since N.counted N.at_start in
-    let i = c.engine.inside in
-    let s = c.args.who.session in
-    let number = c.args.who.command in
-    let words = c.requires.due.0 in
-    let l = i.metadata.ledger in
-    let h = i.log.history.items in
-    let at = length h in
-    let claim = claim_as l c.args.claimed in
-    let story = g.D.Disk.story i.disk in
-    let new = g.D.Disk.story c.gather-gathered.new.disk in
-    let later = c.fail-reply.new.self in
-    let cause = cause_in c.failure_of.result in
-    let short = c.fail-reply.ensures.short in
-    let due : IsDue N.script (run_at N.script (N.start no_rows) h) s number (command.Work words) First = subst (λ (x : Standing). IsDue N.script (run_at N.script (N.start no_rows) x.shown.history) s number (command.Work words) First) (sym c.engine.view_is) c.requires.due.1 in
-    let is : claim_of (books_of no_rows l).bare (books_of no_rows l).machine at words.table ≡ Ok claim = subst (λ (x : Standing). claim_of (books_of no_rows x.ledger).bare (books_of no_rows x.ledger).machine (length x.shown.history) words.table ≡ Ok (claim_as x.ledger c.args.claimed)) (sym c.engine.view_is) c.requires.due.2 in
-    let open' = ap (λ (x : Standing). x.ledger.closed) c.engine.view_is ∙ c.requires.opened in
-    let ran : not i.log.printer.broken ≡ true = ap (λ (x : Standing). x.shown.running) c.engine.view_is ∙ c.requires.runs in
-    let has = subst (HasNoClaim (books_of no_rows l) (claim_of (books_of no_rows l).bare (books_of no_rows l).machine at words.table)) (sym c.failure_of.ensures) (has_no_claim l (claim_of (books_of no_rows l).bare (books_of no_rows l).machine at words.table) claim c.in-Err.unopened open' is) in
-    let counts = subst (λ x. Counts story new (is_read_fault x)) (sym c.failure_of.ensures) (unopened_counts (Task g.row.D-Reader.Denot) story new c.in-Err.unopened c.in-Err.ensures.counted) in
-    let kept =
-    ungranted_engine g.K.Sink.held g.K.Sink.faults n N.room N.sink_faults i.metadata story new i.log later c.engine.invariant c.gather-gathered.ensures.unmoved s number short.session short.command (command.Work words) refl c.clock-moment.result c.clock-moment.ensures ran at refl
-    (λ w. due_alike N.script (N.start no_rows) (N.start w) h s number (command.Work words) First (N.alike w) refl due) c.fail-reply.ensures.room
-    cause has counts c.fail-reply.ensures.items c.fail-reply.ensures.told c.fail-reply.ensures.refused in
-    let shown : Shown = record { history = later.history.items; running = not later.printer.broken; clock = new.moment } in
-    subst (λ (x : Standing). Takes N.script (N.start no_rows) x.shown shown s number kind.Grant Finished) c.engine.view_is
-    (ungranted_takes (outset_of n no_rows) (n.origin no_rows) false l story (g.K.Sink.held i.log.printer.sink) h (not i.log.printer.broken) i.log.refused (c.engine.invariant.vault no_rows false (λ z. absurd cc)) s number short.session short.command (command.Work words) refl ran at refl due new c.gather-gathered.ensures.unmoved story.moment shown refl
-    (vault_at_seen n i.metadata.ledger new (g.K.Sink.held later.printer.sink) later.history.items (not later.printer.broken) later.refused new.moment kept.vault)
-    cause has (ap (λ x. is_skip (outcome_of x)) c.failure_of.ensures ∙ answers c.in-Err.unopened) (c.fail-reply.ensures.items ∙ ap (λ x. h ++ entry s number kind.Grant (outcome_of cause) x ∷ []) c.clock-moment.ensures))
+    let later = c.fail.new.self in
+    let shown : Shown = record { history = later.history.items; running = not later.printer.broken; clock = (g.D.Disk.story c.gather-gathered.new.disk).moment } in
+    subst (λ (x : Standing). Takes N.script (N.start no_rows) x.shown shown c.args.who.session c.args.who.command kind.Grant Finished) c.engine.view_is (ungranted_at g c).takes
 
 pub returns-in-Err-clause-disk : goal.returns-in-Err-clause-disk
 returns-in-Err-clause-disk g c =
     let N = g.N.Naming in
-    let i = c.engine.inside in
-    let who = c.args.who in
-    let h = i.log.history.items in
-    let story = g.D.Disk.story i.disk in
     let new = g.D.Disk.story c.gather-gathered.new.disk in
-    let later = c.fail-reply.new.self in
-    let cause = cause_in c.failure_of.result in
-    let counts = subst (λ x. Counts story new (is_read_fault x)) (sym c.failure_of.ensures) (unopened_counts (Task g.row.D-Reader.Denot) story new c.in-Err.unopened c.in-Err.ensures.counted) in
+    let later = c.fail.new.self in
     let shown : Shown = record { history = later.history.items; running = not later.printer.broken; clock = new.moment } in
-    subst (λ (x : Standing). AnswersDisk N.script (N.start no_rows) x.shown shown (SomeRose x.faults (faults_of new))) c.engine.view_is
-    (disk_caused N.script (N.start no_rows) (record { history = h; running = not i.log.printer.broken; clock = story.moment }) shown (entry who.session who.command kind.Grant (outcome_of cause) c.clock-moment.result)
-    c.fail-reply.ensures.items story new refl cause refl counts (λ low (is : cause ≡ Unwritten). absurd (never_unwritten c.in-Err.unopened (sym c.failure_of.ensures ∙ is))))
+    subst (λ (x : Standing). AnswersDisk N.script (N.start no_rows) x.shown shown (SomeRose x.faults (faults_of new))) c.engine.view_is (ungranted_at g c).disk

@@ -11,22 +11,22 @@ use Rattle.mesa_works.proofs.renewing.renew.Goals as goal
 pub renew_lease-requires-clause-due : goal.renew_lease-requires-clause-due
 renew_lease-requires-clause-due g c κs within = (command.Work c.args.words.now, Merges c.args.task.work, refl, c.requires.due)
 
-pub returns-in-Ok-clause-turn : goal.returns-in-Ok-clause-turn
-returns-in-Ok-clause-turn g c = c.in-Ok.ensures.turn (command.Work c.args.words.now) (Merges c.args.task.work) refl c.requires.due
+pub returns-in-Some-clause-turn : goal.returns-in-Some-clause-turn
+returns-in-Some-clause-turn g c = c.in-Some.ensures.turn (command.Work c.args.words.now) (Merges c.args.task.work) refl c.requires.due
 
-pub returns-in-Err-clause-turn : goal.returns-in-Err-clause-turn
-returns-in-Err-clause-turn g c =
+pub returns-in-None-clause-turn : goal.returns-in-None-clause-turn
+returns-in-None-clause-turn g c =
     let N = g.N.Naming in
     subst (λ (x : Shown). Takes N.script (N.start no_rows) c.args.engine.now.shown x c.args.who.session c.args.who.command kind.Renew Finished) (sym c.give_back.ensures.shown)
-    (c.in-Err.ensures.turn (command.Work c.args.words.now) (Merges c.args.task.work) refl c.requires.due)
+    (c.in-None.ensures.turn (command.Work c.args.words.now) (Merges c.args.task.work) refl c.requires.due)
 
-pub returns-in-Ok-clause-disk : goal.returns-in-Ok-clause-disk
-returns-in-Ok-clause-disk g c =
+pub returns-in-Some-clause-disk : goal.returns-in-Some-clause-disk
+returns-in-Some-clause-disk g c =
     let N = g.N.Naming in
     disk_also N.script (N.start no_rows) c.args.engine.now.shown c.renew_lease.new.engine.shown (λ (no : ⊥). absurd no) c.renew_lease.ensures.disk
 
-pub returns-in-Err-clause-disk : goal.returns-in-Err-clause-disk
-returns-in-Err-clause-disk g c =
+pub returns-in-None-clause-disk : goal.returns-in-None-clause-disk
+returns-in-None-clause-disk g c =
     let N = g.N.Naming in
     subst (λ (x : Shown). AnswersDisk N.script (N.start no_rows) c.args.engine.now.shown x (SomeRose c.args.engine.now.faults c.give_back.new.engine.faults)) (sym c.give_back.ensures.shown)
     (disk_also N.script (N.start no_rows) c.args.engine.now.shown c.renew_lease.new.engine.shown (λ (no : ⊥). absurd no) c.renew_lease.ensures.disk)
