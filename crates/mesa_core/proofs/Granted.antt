@@ -1,6 +1,6 @@
 -- What a work is granted, by the history at the end of its first turn.
-use Rattle.std.proofs.Common.{◌≡◌, ℕ, ◌<◌, List, length, Bool, true, not, sym, ap, subst, ◌∙◌, Option, None, Ok, Err}
-use Rattle.std.specs.Prelude.{IfOk, IfSome, OnOk, Result}
+use Rattle.std.proofs.Common.{◌≡◌, ℕ, ◌<◌, List, length, Bool, true, not, sym, ap, subst, ◌∙◌, Option, None, Some}
+use Rattle.std.specs.Prelude.{IfSome, OnSome}
 use Rattle.mesa_granted.specs.mesa_compact.Bounded.{AreBounded, IsBounded}
 use Rattle.mesa_granted.specs.mesa_gather.Gathered.{unread_views}
 use Rattle.mesa_granted.proofs.Merged.{grant_known}
@@ -32,9 +32,9 @@ use Rattle.mesa_core.specs.Standing.{IsCatalogAfter}
 use Rattle.mesa_core.proofs.Sights.{counted_is, lineage_is}
 
 -- the claim of a work is that of its session
-pub claim_if : {R E : Type 0} (s : State) (number : ℕ) (running : Bool) (place : Place) (r : Result (Task R) E) → OnOk r (running ≡ true) → place ≡ place_then (not running) number (stage_if claim_in Granted r) → HasClaimAt s place.stage → IfOk r (λ t. HasClaim s (claim_in t) t.work)
-claim_if s number running place (Ok t) ran at has = subst (λ (p : Place). HasClaimAt s p.stage) (at ∙ ap (λ b. place_then (not b) number (Granted (claim_in t))) ran) has
-claim_if s number running place (Err e) ran at has = tt
+pub claim_if : {R : Type 0} (s : State) (number : ℕ) (running : Bool) (place : Place) (r : Option (Task R)) → OnSome r (running ≡ true) → place ≡ place_then (not running) number (stage_if claim_in Granted r) → HasClaimAt s place.stage → IfSome r (λ t. HasClaim s (claim_in t) t.work)
+claim_if s number running place (Some t) ran at has = subst (λ (p : Place). HasClaimAt s p.stage) (at ∙ ap (λ b. place_then (not b) number (Granted (claim_in t))) ran) has
+claim_if s number running place None ran at has = tt
 
 module _ {R : Type 0} (read : R → Option (List ℕ)) (script : Script) (start : Rows → State) (origin : Rows → Origin) (sound : Rows → Type 0) (generation : ℕ) (h : List Entry) (c : Catalog) (is : IsCatalogAfter script start generation h c) where
   granted_as : (t : Task R) → t.table < max_tables → t.table < length (store_after script start h).tables → last_of t.work < (run_at script (start no_rows) h).state.warehouse.next
@@ -57,15 +57,15 @@ module _ {R : Type 0} (read : R → Option (List ℕ)) (script : Script) (start 
       }
 
   -- where a work is granted
-  pub granted_if : {E : Type 0} (r : Result (Task R) E) → IfOk r (λ t. t.table < max_tables) → IfOk r (λ t. t.table < length (store_after script start h).tables) → IfOk r (λ t. last_of t.work < (run_at script (start no_rows) h).state.warehouse.next)
-      → IfOk r (λ t. HasClaim (run_at script (start no_rows) h).state (claim_in t) t.work) → IfOk r (λ t. IsTask read (stock_at c t.table).lineage t) → IfOk r (λ t. t.views.items ≡ unread_views 0 (length (stock_at c t.table).lineage.views))
-      → ((w : Rows) → sound w → IfOk r (λ t. t.damage ≡ None)) → ((w : Rows) → sound w → IfOk r (λ t. IsBounded read (stock_at c t.table).lineage t))
-      → ((w : Rows) → sound w → IfOk r (λ t. HasRange read (stock_at c t.table).lineage t (written_at script (start w) (origin w) h t.table)))
-      → IfOk r (λ t. IsGranted read script start origin sound h (known_task read t))
-  granted_if (Ok t) low there next claim task views whole bounded range = granted_as t low there next claim task views whole bounded range
-  granted_if (Err e) low there next claim task views whole bounded range = tt
+  pub granted_if : (r : Option (Task R)) → IfSome r (λ t. t.table < max_tables) → IfSome r (λ t. t.table < length (store_after script start h).tables) → IfSome r (λ t. last_of t.work < (run_at script (start no_rows) h).state.warehouse.next)
+      → IfSome r (λ t. HasClaim (run_at script (start no_rows) h).state (claim_in t) t.work) → IfSome r (λ t. IsTask read (stock_at c t.table).lineage t) → IfSome r (λ t. t.views.items ≡ unread_views 0 (length (stock_at c t.table).lineage.views))
+      → ((w : Rows) → sound w → IfSome r (λ t. t.damage ≡ None)) → ((w : Rows) → sound w → IfSome r (λ t. IsBounded read (stock_at c t.table).lineage t))
+      → ((w : Rows) → sound w → IfSome r (λ t. HasRange read (stock_at c t.table).lineage t (written_at script (start w) (origin w) h t.table)))
+      → IfSome r (λ t. IsGranted read script start origin sound h (known_task read t))
+  granted_if (Some t) low there next claim task views whole bounded range = granted_as t low there next claim task views whole bounded range
+  granted_if None low there next claim task views whole bounded range = tt
 
   -- and what was granted can be merged
-  pub mergeable_if : {E : Type 0} (r : Result (Task R) E) (more : ℕ) → IfOk r (λ t. IsTask read (stock_at c t.table).lineage t) → IfOk r (λ t. IfSome t.damage Differs) → IfOk r (HasSpares read more) → IfOk r (CanBeMerged read)
-  mergeable_if (Ok t) more task damage spare = record { task = (_, task); damage = damage; spare = λ none. spare.each }
-  mergeable_if (Err e) more task damage spare = tt
+  pub mergeable_if : (r : Option (Task R)) (more : ℕ) → IfSome r (λ t. IsTask read (stock_at c t.table).lineage t) → IfSome r (λ t. IfSome t.damage Differs) → IfSome r (HasSpares read more) → IfSome r (CanBeMerged read)
+  mergeable_if (Some t) more task damage spare = record { task = (_, task); damage = damage; spare = λ none. spare.each }
+  mergeable_if None more task damage spare = tt

@@ -1,6 +1,6 @@
 -- What files that are handed out for a query say of its answer, from its first turn to the page that is printed at its close.
-use Rattle.std.proofs.Common.{◌≡◌, ℕ, List, [], ◌∷◌, append-nil, true, false, refl, sym, ap, ◌∙◌, subst, Option, Ok, Err}
-use Rattle.std.specs.Prelude.{IfErr, IfOk, OnErr, OnOk, Result}
+use Rattle.std.proofs.Common.{◌≡◌, ℕ, List, [], ◌∷◌, append-nil, true, false, refl, sym, ap, ◌∙◌, subst, Option, None, Some, Ok, Err}
+use Rattle.std.specs.Prelude.{IfErr, IfNone, IfSome, Result}
 use Rattle.std.specs.List.{AllByRecursion}
 use Rattle.mesa_answer.specs.Answering.{KeepsSums}
 use Rattle.mesa_recasting.specs.mesa_completing.mesa_asking.Closing.{IsPageOf as IsClosedWith, IsSomePageOf, IsToClose, cause_if}
@@ -13,7 +13,6 @@ use Rattle.mesa_granted.specs.mesa_merge.Inputs.{Known, knowns_of}
 use Rattle.mesa_model.specs.declared.commands.Script.{Script}
 use Rattle.mesa_model.specs.declared.entries.Entry.{Entry}
 use Rattle.mesa_model.specs.declared.entries.Kind.TheVariants as kind
-use Rattle.mesa_model.specs.declared.replies.Reply.{Reply}
 use Rattle.mesa_model.specs.Query.{Answer}
 use Rattle.mesa_granted.specs.mesa_query.Files.{inputs_in, owns_in}
 use Rattle.mesa_recasting.specs.mesa_completing.mesa_pinning.Told.{AreOfRelation, parts_known, parts_under}
@@ -120,10 +119,10 @@ module _ {R : Type 0} (bytes : R → Option (List ℕ)) where
   -- ---- the first turn
 
   module _ (script : Script) (from : Rows → State) (sound : Rows → Type 0) (old new : Shown) (session number : ℕ) (words : QueryWords) where
-    pub takes_query : (result : Result (Pinned R) Reply) → IfOk result (λ p. IsOpen script from new.history session number words p.at (λ w answer. IsHeaded p.query p.version answer × (sound w → TellsOf bytes p answer))) → IfOk result (λ p. (s : Columns) × IsPinned bytes s p)
-        → OnOk result (IsTurn old new session number kind.Decide) → IsSeen script (from no_rows) new → OnOk result (old.running ≡ true) → OnErr result (Takes script (from no_rows) old new session number kind.Decide Finished)
+    pub takes_query : (result : Option (Pinned R)) → IfSome result (λ p. IsOpen script from new.history session number words p.at (λ w answer. IsHeaded p.query p.version answer × (sound w → TellsOf bytes p answer))) → IfSome result (λ p. (s : Columns) × IsPinned bytes s p)
+        → IfSome result (λ _. IsTurn old new session number kind.Decide) → IsSeen script (from no_rows) new → IfSome result (λ _. old.running ≡ true) → IfNone result (Takes script (from no_rows) old new session number kind.Decide Finished)
         → TakesQuery bytes script from (λ past. Tells sound) old new session number result
-    takes_query (Ok p) opened pinned turn seen ran over = (
+    takes_query (Some p) opened pinned turn seen ran over = (
       record {
         turn = turn;
         seen = seen;
@@ -138,4 +137,4 @@ module _ {R : Type 0} (bytes : R → Option (List ℕ)) where
       },
       pinned,
     )
-    takes_query (Err r) opened pinned turn seen ran over = over
+    takes_query None opened pinned turn seen ran over = over

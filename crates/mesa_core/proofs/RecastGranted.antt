@@ -1,9 +1,9 @@
 -- What a recast is granted, by the history at the end of its first turn, and what holds of it later.
-use Rattle.std.proofs.Common.{◌≡◌, ◌⊎◌, inl, inr, ℕ, ◌<◌, ◌≤◌, ◌++◌, List, [], ◌∷◌, length, map, refl, sym, ap, subst, arith, ◌∙◌, Option, None}
+use Rattle.std.proofs.Common.{◌≡◌, ℕ, ◌<◌, List, [], ◌∷◌, length, sym, subst, ◌∙◌, Option, None}
 use Rattle.std.specs.List.{AllByRecursion}
 use Rattle.mesa_granted.specs.Known.{AllAreBounded, AllHaveRanges}
 use Rattle.mesa_granted.specs.mesa_service.Recasts.{known_recast}
-use Rattle.mesa_granted.specs.mesa_service.mesa_copy.Copying.{IsRecastBounded, KnownRange, known_range, known_ranges}
+use Rattle.mesa_granted.specs.mesa_service.mesa_copy.Copying.{IsRecastBounded, KnownRange, known_ranges}
 use Rattle.mesa_granted.specs.mesa_swapping.Recasts.{HasItsRanges}
 use Rattle.mesa_history.specs.Run.{State}
 use Rattle.mesa_image.specs.Catalog.{Catalog, stock_at}

@@ -14,13 +14,13 @@ use crate::standing::allocator;
 use mesa_disk::{Disk, Made};
 use mesa_engine::{Naming, Who};
 use mesa_io::Sink;
-use mesa_model::{Command, Reply};
+use mesa_model::Command;
 use mesa_quiet::{explain, pin, release};
 use mesa_recasting::{alter, expire, table, view};
 
 impl<'s, N: Naming, M: Made, D: Disk<M>, K: Sink> Vault<'s, N, M, D, K> {
     /// The one turn of a command that is no load, no query, no work and no recast.
-    pub fn simple(&mut self, who: Who) -> Reply
+    pub fn simple(&mut self, who: Who)
         requires due { Asks N.script (run_at N.script (N.start no_rows) self.old.shown.history) who.session who.command First is_simple }
         requires room { length self.old.shown.history < N.room }
         ensures turn { Takes N.script (N.start no_rows) self.old.shown self.new.shown who.session who.command kind.Decide Finished }

@@ -20,7 +20,6 @@ use mesa_batch::Glance;
 use mesa_disk::{Disk, Made};
 use mesa_engine::{Naming, Who};
 use mesa_io::Sink;
-use mesa_model::Reply;
 use mesa_quiet::look;
 use mesa_recasting::publish;
 use mesa_tasks::{LoadError, Prepared};
@@ -42,7 +41,7 @@ impl<'s, N: Naming, M: Made, D: Disk<M>, K: Sink> Vault<'s, N, M, D, K> {
     }
 
     /// A load's deciding turn: its rows, as they were read by the tables of this moment.
-    pub fn publish(&mut self, who: Who, made: Result<Prepared<M>, LoadError>) -> Reply
+    pub fn publish(&mut self, who: Who, made: Result<Prepared<M>, LoadError>)
         requires due { Asks N.script (run_at N.script (N.start no_rows) self.old.shown.history) who.session who.command Looked is_load }
         requires made { (rows : List AnyWords) → command_at N.script who.session who.command ≡ Some (command.Load rows)
             → HasPrepared M.bytes M.id_of (sight_after N.script (N.start no_rows) (N.origin no_rows).generation self.old.shown.history) rows made }
@@ -55,6 +54,6 @@ impl<'s, N: Naming, M: Made, D: Disk<M>, K: Sink> Vault<'s, N, M, D, K> {
         catalogue(&self.engine);
         let alloc = allocator(&self.engine);
         let rows = rows_of(self.script, who);
-        publish(alloc, &mut self.engine, who, rows, made)
+        publish(alloc, &mut self.engine, who, rows, made);
     }
 }

@@ -1,5 +1,5 @@
 // The turns of a query.
-ghost use Rattle.std.specs.Prelude.{◌≡◌, ◌<◌, ◌++◌, ◌∷◌, [], true, length, IfOk, Some};
+ghost use Rattle.std.specs.Prelude.{◌≡◌, ◌<◌, ◌++◌, ◌∷◌, [], true, length, IfSome, Some};
 ghost use Rattle.mesa_recasting.specs.mesa_completing.mesa_asking.Closing.{closing_entry, closing_text};
 ghost use Rattle.mesa_recasting.specs.mesa_completing.mesa_asking.Opening.{HasItsFiles};
 ghost use Rattle.mesa_core.specs.Handing.{Tells};
@@ -20,20 +20,19 @@ use mesa_delta::FileError;
 use mesa_disk::{Disk, Made};
 use mesa_engine::{Naming, Who};
 use mesa_io::Sink;
-use mesa_model::Reply;
 use mesa_recasting::{close_query, pin_query};
 use mesa_script::Rendered;
 use mesa_tasks::Pinned;
 
 impl<'s, N: Naming, M: Made, D: Disk<M>, K: Sink> Vault<'s, N, M, D, K> {
     /// A query's deciding turn: the files that answer it. They have to come back by `close_query`.
-    pub fn pin_query(&mut self, who: Who) -> Result<Pinned<D::Reader>, Reply>
+    pub fn pin_query(&mut self, who: Who) -> Option<Pinned<D::Reader>>
         requires due { Asks N.script (run_at N.script (N.start no_rows) self.old.shown.history) who.session who.command First is_query }
         requires room { length self.old.shown.history < N.room }
         ensures turn { TakesQuery D.Reader.bytes N.script N.start (λ past. Tells N.sound) self.old.shown self.new.shown who.session who.command result }
         ensures disk { AnswersDisk N.script (N.start no_rows) self.old.shown self.new.shown (SomeRose self.old.faults self.new.faults) }
         // They are those of the plan at the version asked, by the tables that the query saw before the turn.
-        ensures files { (words : QueryWords) → command_at N.script who.session who.command ≡ Some (command.Query words) → IfOk result (HasItsFiles D.Reader.bytes D.Reader.faults self.old.told self.old.ledger who.session words) }
+        ensures files { (words : QueryWords) → command_at N.script who.session who.command ≡ Some (command.Query words) → IfSome result (HasItsFiles D.Reader.bytes D.Reader.faults self.old.told self.old.ledger who.session words) }
     {
         let words = words_of(self.script, who);
         pin_query(&mut self.engine, who, words)

@@ -1,18 +1,18 @@
 // The turns of a recast, and what it does between its renewal and its close.
-ghost use Rattle.std.specs.Prelude.{◌≡◌, ◌⊎◌, ◌<◌, ◌++◌, ◌∷◌, [], ℕ, List, Bool, true, Err, IfErr, IfOk, OnErr, OnOk, None, Some, length};
-ghost use Rattle.mesa_recasting.specs.mesa_completing.Swept.{IsSwept};
+ghost use Rattle.std.specs.Prelude.{◌≡◌, ◌⊎◌, ◌<◌, ◌++◌, ◌∷◌, [], Bool, true, Ok, Err, IfErr, IfOk, IfSome, OnSome, OnOk, None, Some, length};
+ghost use Rattle.mesa_recasting.specs.mesa_completing.Swept.{ClaimHolds, HasStood, IsSwept};
 ghost use Rattle.mesa_recasting.specs.mesa_completing.Unmerged.{closing_cause};
 ghost use Rattle.mesa_core.specs.Handing.{AllAreRested, IsRecastGranted, IsRecastHeld, rested};
 ghost use Rattle.mesa_delta.specs.declared.error.FileError.TheVariants as file_error;
 ghost use Rattle.mesa_granted.specs.mesa_service.Recasts.{CanBeRegrouped, HasRegrouped, known_recast};
 ghost use Rattle.mesa_granted.specs.mesa_service.Works.{WasGranted};
-ghost use Rattle.mesa_history.specs.Refused.{is_refusal};
+ghost use Rattle.mesa_granted.specs.mesa_swapping.Recasts.{stock_of_recast};
+ghost use Rattle.mesa_history.specs.Machine.{still_checked};
 ghost use Rattle.mesa_history.specs.Run.{Finished, First, Granted, Renewed};
 ghost use Rattle.mesa_model.specs.declared.entries.Kind.TheVariants as kind;
-ghost use Rattle.mesa_model.specs.declared.replies.Reply.TheVariants as reply;
-ghost use Rattle.mesa_recasting.specs.Rested.{HasUnpaid, IsLonger};
+ghost use Rattle.mesa_recasting.specs.Rested.{HasUnpaid, IsLonger, MayRest};
 ghost use Rattle.mesa_skeleton.specs.Rows.{no_rows};
-ghost use Rattle.mesa_tasks.specs.Recasts.{IsRecastTask, IsRecasted, IsRecastedSoFar, claim_of_recast};
+ghost use Rattle.mesa_tasks.specs.Recasts.{IsRecastTask, IsRecasted, IsRecastedSoFar, claim_of_recast, recast_in};
 ghost use Rattle.mesa_tasks.specs.declared.merging.CompactError.TheVariants as compact;
 ghost use Rattle.mesa_tasks.specs.declared.recasting.Recasted.{Recasted as AnyRecasted};
 ghost use Rattle.mesa_walk.specs.mesa_output.Output.{block};
@@ -30,7 +30,6 @@ use mesa_disk::{Disk, Made};
 use mesa_engine::{Engine, Naming, Who};
 use mesa_granted::{recasts_are_known, recasts_go_on, tables_go_on};
 use mesa_io::Sink;
-use mesa_model::Reply;
 use mesa_recasting::{grant_recast, recast, renew_recast, rest, tables_become};
 use mesa_tasks::{CompactError, Recast, Recasted};
 
@@ -52,39 +51,34 @@ fn held<N: Naming, M: Made, D: Disk<M>, K: Sink>(
 
 impl<'s, N: Naming, M: Made, D: Disk<M>, K: Sink> Vault<'s, N, M, D, K> {
     /// A recast's first turn: the files of its table's ranges. They have to come back by `renew_recast` or `recast`.
-    pub fn grant_recast(&mut self, who: Who) -> Result<Recast<D::Reader>, Reply>
+    pub fn grant_recast(&mut self, who: Who) -> Option<Recast<D::Reader>>
         requires due { Asks N.script (run_at N.script (N.start no_rows) self.old.shown.history) who.session who.command First is_recast }
         requires room { length self.old.shown.history < N.room }
         ensures turn { Takes N.script (N.start no_rows) self.old.shown self.new.shown who.session who.command kind.Grant (stage_if claim_of_recast Granted result) }
         ensures disk { AnswersDisk N.script (N.start no_rows) self.old.shown self.new.shown (SomeRose self.old.faults self.new.faults) }
-        ensures ran { OnOk result (self.old.shown.running ≡ true) }
-        ensures task { IfOk result (CanBeRegrouped D.Reader.bytes) }
-        ensures granted { IfOk result (λ t. IsRecastGranted D.Reader.bytes N.script N.start N.origin N.sound self.new.shown.history (known_recast D.Reader.bytes t)) }
+        ensures ran { OnSome result (self.old.shown.running ≡ true) }
+        ensures task { IfSome result (CanBeRegrouped D.Reader.bytes) }
+        ensures granted { IfSome result (λ t. IsRecastGranted D.Reader.bytes N.script N.start N.origin N.sound self.new.shown.history (known_recast D.Reader.bytes t)) }
     {
         let words = recast_of(self.script, who);
         let granted = grant_recast(&mut self.engine, who, words);
         catalogue(&self.engine);
-        let task = match granted {
-            Ok(task) => task,
-            Err(reply) => return Err(reply),
+        let Some(task) = granted else {
+            return None;
         };
         recasts_are_known(&task);
-        Ok(task)
+        Some(task)
     }
 
     /// A recast's turn once its ranges are rewritten: its lease holds anew.
-    pub fn renew_recast(
-        &mut self,
-        who: Who,
-        task: Recast<D::Reader>,
-    ) -> Result<Recast<D::Reader>, Reply>
+    pub fn renew_recast(&mut self, who: Who, task: Recast<D::Reader>) -> Option<Recast<D::Reader>>
         requires due { Asks N.script (run_at N.script (N.start no_rows) self.old.shown.history) who.session who.command (Granted (claim_of_recast task)) is_recast }
         requires granted { WasGranted (IsRecastGranted D.Reader.bytes N.script N.start N.origin N.sound) self.old.shown.history (known_recast D.Reader.bytes task) }
         requires room { length self.old.shown.history < N.room }
         ensures turn { Takes N.script (N.start no_rows) self.old.shown self.new.shown who.session who.command kind.Renew (stage_if claim_of_recast Renewed result) }
         ensures disk { AnswersDisk N.script (N.start no_rows) self.old.shown self.new.shown (SomeRose self.old.faults self.new.faults) }
-        ensures ran { OnOk result (self.old.shown.running ≡ true) }
-        ensures same { IfOk result (λ t. t ≡ task) }
+        ensures ran { OnSome result (self.old.shown.running ≡ true) }
+        ensures same { IfSome result (λ t. t ≡ task) }
     {
         let words = recast_of(self.script, who);
         renew_recast(&mut self.engine, who, words, task)
@@ -104,9 +98,13 @@ impl<'s, N: Naming, M: Made, D: Disk<M>, K: Sink> Vault<'s, N, M, D, K> {
         ensures sink { self.new.sink ≡ self.old.sink }
         ensures faults { NoneFell self.old.faults self.new.faults }
 
-        // It never answers damage, and a fault that it answers is unpaid.
+        // It never answers damage. A fault that it answers was counted in the call, and is unpaid.
         ensures sort { IfErr result (λ x. (x.0 ≡ file_error.Read) ⊎ (x.0 ≡ file_error.Memory)) }
+        ensures cause { IfErr result (λ x. x.0 ≡ file_error.Read → SomeRose self.old.faults self.new.faults) }
         ensures unpaid { IfErr result (λ x. x.0 ≡ file_error.Read → HasUnpaid N.script N.start N.counted self.new.shown self.new.faults) }
+
+        // Where further ranges may not be opened, the recast comes back as it was, and the disk isn't called: the sink has failed, the vault has closed, a file of the recast was damaged, or its table has another epoch.
+        ensures stays { (self.old.shown.running ≡ true → MayRest self.old.ledger task → ⊥) → (result ≡ Ok task) × (self.new.faults ≡ self.old.faults) }
 
         // The recast is the one that it was, with further ranges behind, and what is known of it holds.
         ensures longer { IsLonger D.Reader.bytes task (rested result) }
@@ -133,7 +131,7 @@ impl<'s, N: Naming, M: Made, D: Disk<M>, K: Sink> Vault<'s, N, M, D, K> {
         who: Who,
         task: Recast<D::Reader>,
         made: Result<Recasted<M>, CompactError>,
-    ) -> Reply
+    )
         requires due { (early : Bool) × Asks N.script (run_at N.script (N.start no_rows) self.old.shown.history) who.session who.command (closing_stage early (claim_of_recast task)) is_recast }
         requires renewed { OnOk made (Asks N.script (run_at N.script (N.start no_rows) self.old.shown.history) who.session who.command (Renewed (claim_of_recast task)) is_recast) }
         requires granted { WasGranted (IsRecastGranted D.Reader.bytes N.script N.start N.origin N.sound) self.old.shown.history (known_recast D.Reader.bytes task)
@@ -151,15 +149,14 @@ impl<'s, N: Naming, M: Made, D: Disk<M>, K: Sink> Vault<'s, N, M, D, K> {
         // Where its ranges weren't rewritten it ends so, unless the vault has closed, and that is what it prints: no other cause, and no other damage.
         ensures outcome { IfErr made (λ e. self.old.shown.running ≡ true → self.new.shown.history ≡ self.old.shown.history ++ entry who.session who.command kind.Close (outcome_of (closing_cause self.old.ledger.closed e)) self.new.shown.clock ∷ []) }
         ensures prints { IfErr made (λ e. self.old.shown.running ≡ true → IsPut (block (entry who.session who.command kind.Close (outcome_of (closing_cause self.old.ledger.closed e)) self.new.shown.clock) (Some (told_at (length self.old.shown.history) (reply_of (closing_cause self.old.ledger.closed e))))) self.new.shown.running self.old.sink self.new.sink) }
-        ensures reply { OnErr made (is_refusal result ≡ true) }
 
-        // Where the table is recast, each file that is there is one that the catalogue, a held pin or an open query names.
-        ensures swept { (name : List ℕ) (epoch : ℕ) → result ≡ reply.Recast name epoch → IsSwept self.new.told self.new.ledger self.new.shown.history }
+        // Where its ranges are rewritten, its claim holds, the rules allow it still and its turn stands, the table is recast: then each file that is there is one that the catalogue, a held pin or an open query names.
+        ensures swept { OnOk made (HasStood self.old.shown self.new.shown who.session who.command → ClaimHolds self.old.ledger (length self.old.shown.history) (claim_of_recast task) → still_checked (stock_of_recast self.old.ledger task).lineage task.epoch (recast_in task) ≡ Ok tt → IsSwept self.new.told self.new.ledger self.new.shown.history) }
     {
         catalogue(&self.engine);
         let alloc = allocator(&self.engine);
         let words = recast_of(self.script, who);
         held(&self.engine, &task);
-        recast(alloc, &mut self.engine, who, words, task, made)
+        recast(alloc, &mut self.engine, who, words, task, made);
     }
 }

@@ -1,11 +1,10 @@
 // The turns of a work.
-ghost use Rattle.std.specs.Prelude.{◌≡◌, ◌<◌, ◌++◌, ◌∷◌, [], ℕ, true, not, Err, IfErr, IfOk, OnOk, Some, is_ok, length};
-ghost use Rattle.mesa_recasting.specs.mesa_completing.Swept.{IsSwept};
+ghost use Rattle.std.specs.Prelude.{◌≡◌, ◌<◌, ◌++◌, ◌∷◌, [], true, not, Err, IfErr, IfSome, OnSome, OnOk, Some, is_ok, length};
+ghost use Rattle.mesa_recasting.specs.mesa_completing.Swept.{ClaimHolds, HasStood, IsSwept};
 ghost use Rattle.mesa_recasting.specs.mesa_completing.Unmerged.{closing_cause};
 ghost use Rattle.mesa_core.specs.Handing.{IsGranted};
 ghost use Rattle.mesa_history.specs.Run.{Finished, First, Granted, Renewed};
 ghost use Rattle.mesa_model.specs.declared.entries.Kind.TheVariants as kind;
-ghost use Rattle.mesa_model.specs.declared.replies.Reply.TheVariants as reply;
 ghost use Rattle.mesa_granted.specs.mesa_service.Works.{CanBeMerged, HasMerged, WasGranted, known_task};
 ghost use Rattle.mesa_skeleton.specs.Rows.{no_rows};
 ghost use Rattle.mesa_walk.specs.mesa_output.Output.{block};
@@ -24,20 +23,19 @@ use mesa_disk::{Disk, Made};
 use mesa_engine::{Naming, Who};
 use mesa_granted::{bounds_are_known, leases_hold, merges_are_known, ranges_go_on, tables_go_on};
 use mesa_io::Sink;
-use mesa_model::Reply;
 use mesa_recasting::{complete, give_up, grant, renew, tables_become};
 use mesa_tasks::{CompactError, NewDelta, Task};
 
 impl<'s, N: Naming, M: Made, D: Disk<M>, K: Sink> Vault<'s, N, M, D, K> {
     /// A work's first turn: the files that are to be merged. They have to come back by `renew` or `complete`.
-    pub fn grant(&mut self, who: Who) -> Result<Task<D::Reader>, Reply>
+    pub fn grant(&mut self, who: Who) -> Option<Task<D::Reader>>
         requires due { Asks N.script (run_at N.script (N.start no_rows) self.old.shown.history) who.session who.command First is_merge }
         requires room { length self.old.shown.history < N.room }
         ensures turn { Takes N.script (N.start no_rows) self.old.shown self.new.shown who.session who.command kind.Grant (stage_if claim_in Granted result) }
         ensures disk { AnswersDisk N.script (N.start no_rows) self.old.shown self.new.shown (SomeRose self.old.faults self.new.faults) }
-        ensures ran { OnOk result (self.old.shown.running ≡ true) }
-        ensures task { IfOk result (CanBeMerged D.Reader.bytes) }
-        ensures granted { IfOk result (λ t. IsGranted D.Reader.bytes N.script N.start N.origin N.sound self.new.shown.history (known_task D.Reader.bytes t)) }
+        ensures ran { OnSome result (self.old.shown.running ≡ true) }
+        ensures task { IfSome result (CanBeMerged D.Reader.bytes) }
+        ensures granted { IfSome result (λ t. IsGranted D.Reader.bytes N.script N.start N.origin N.sound self.new.shown.history (known_task D.Reader.bytes t)) }
     {
         let words = work_of(self.script, who);
         let granted = grant(&mut self.engine, who, words);
@@ -47,14 +45,14 @@ impl<'s, N: Naming, M: Made, D: Disk<M>, K: Sink> Vault<'s, N, M, D, K> {
     }
 
     /// A work's turn once its files are merged: its lease holds anew.
-    pub fn renew(&mut self, who: Who, task: Task<D::Reader>) -> Result<Task<D::Reader>, Reply>
+    pub fn renew(&mut self, who: Who, task: Task<D::Reader>) -> Option<Task<D::Reader>>
         requires due { Asks N.script (run_at N.script (N.start no_rows) self.old.shown.history) who.session who.command (Granted (claim_in task)) is_merge }
         requires granted { WasGranted (IsGranted D.Reader.bytes N.script N.start N.origin N.sound) self.old.shown.history (known_task D.Reader.bytes task) }
         requires room { length self.old.shown.history < N.room }
         ensures turn { Takes N.script (N.start no_rows) self.old.shown self.new.shown who.session who.command kind.Renew (stage_if claim_in Renewed result) }
         ensures disk { AnswersDisk N.script (N.start no_rows) self.old.shown self.new.shown (SomeRose self.old.faults self.new.faults) }
-        ensures ran { OnOk result (self.old.shown.running ≡ true) }
-        ensures same { IfOk result (λ t. t ≡ task) }
+        ensures ran { OnSome result (self.old.shown.running ≡ true) }
+        ensures same { IfSome result (λ t. t ≡ task) }
     {
         let words = work_of(self.script, who);
         renew(&mut self.engine, who, words, task)
@@ -66,7 +64,7 @@ impl<'s, N: Naming, M: Made, D: Disk<M>, K: Sink> Vault<'s, N, M, D, K> {
         who: Who,
         task: Task<D::Reader>,
         merged: Result<NewDelta<M>, CompactError>,
-    ) -> Reply
+    )
         requires due { Asks N.script (run_at N.script (N.start no_rows) self.old.shown.history) who.session who.command (closing_stage (not (is_ok merged)) (claim_in task)) is_merge }
         requires granted { WasGranted (IsGranted D.Reader.bytes N.script N.start N.origin N.sound) self.old.shown.history (known_task D.Reader.bytes task) }
         requires merged { HasMerged M.bytes M.id_of D.Reader.bytes D.Reader.faults task merged }
@@ -79,8 +77,8 @@ impl<'s, N: Naming, M: Made, D: Disk<M>, K: Sink> Vault<'s, N, M, D, K> {
         ensures outcome { IfErr merged (λ e. self.old.shown.running ≡ true → self.new.shown.history ≡ self.old.shown.history ++ entry who.session who.command kind.Close (outcome_of (closing_cause self.old.ledger.closed e)) self.new.shown.clock ∷ []) }
         ensures prints { IfErr merged (λ e. self.old.shown.running ≡ true → IsPut (block (entry who.session who.command kind.Close (outcome_of (closing_cause self.old.ledger.closed e)) self.new.shown.clock) (Some (told_at (length self.old.shown.history) (reply_of (closing_cause self.old.ledger.closed e))))) self.new.shown.running self.old.sink self.new.sink) }
 
-        // Where the range is swapped in, each file that is there is one that the catalogue, a held pin or an open query names.
-        ensures swept { (from to : ℕ) → result ≡ reply.Swapped from to → IsSwept self.new.told self.new.ledger self.new.shown.history }
+        // Where its files are merged, its claim holds and its turn stands, the range is swapped in: then each file that is there is one that the catalogue, a held pin or an open query names.
+        ensures swept { OnOk merged (HasStood self.old.shown self.new.shown who.session who.command → ClaimHolds self.old.ledger (length self.old.shown.history) (claim_in task) → IsSwept self.new.told self.new.ledger self.new.shown.history) }
     {
         catalogue(&self.engine);
         claims(&self.engine);
@@ -93,11 +91,11 @@ impl<'s, N: Naming, M: Made, D: Disk<M>, K: Sink> Vault<'s, N, M, D, K> {
                 ranges_go_on(&task);
                 tables_go_on();
                 tables_become();
-                complete(alloc, &mut self.engine, who, words, task, delta)
+                complete(alloc, &mut self.engine, who, words, task, delta);
             }
             Err(error) => {
                 bounds_are_known(&task);
-                give_up(&mut self.engine, who, words, task, error)
+                give_up(&mut self.engine, who, words, task, error);
             }
         }
     }

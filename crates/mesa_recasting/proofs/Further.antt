@@ -1,29 +1,28 @@
 -- What further ranges are to a recast.
-use Rattle.std.proofs.Common.{◌≡◌, ◌∙◌, ◌<◌, ◌≤◌, ℕ, suc, ◌+◌, List, [], ◌∷◌, ◌++◌, length, take, refl, sym, ap, subst, arith, Option, Some, true}
-use Rattle.std.specs.Prelude.{slice_get}
+use Rattle.std.proofs.Common.{◌≡◌, ◌∙◌, ◌<◌, ◌≤◌, ℕ, ◌+◌, List, [], ◌++◌, length, take, refl, sym, ap, subst, arith, Option, true}
 use Rattle.std.specs.List.{AllByRecursion}
 use Rattle.std.proofs.lemmas.List.{append-nil, map-append}
 use Rattle.mesa_fault.specs.Causes.{last}
 use Rattle.mesa_disk.specs.Story.{Story, Unmoved}
-use Rattle.mesa_history.specs.Sources.{Written}
+use Rattle.mesa_history.specs.Sources.{Source, Written}
 use Rattle.mesa_schema.specs.Changes.{Lineage, columns_of, epoch_of}
 use Rattle.mesa_schema.specs.Columns.{Columns}
 use Rattle.mesa_schema.specs.Recasts.{Recast}
 use Rattle.mesa_skeleton.specs.Rows.{Rows}
-use Rattle.mesa_tasks.specs.Inputs.{AreInputsOf}
+use Rattle.mesa_tasks.specs.Inputs.{AreInputsTo, IsMergeOf}
 use Rattle.mesa_tasks.specs.Opening.{Counted}
 use Rattle.mesa_tasks.specs.Recasts.{AreRangesOf, AreRewritten, own}
 use Rattle.mesa_tasks.specs.declared.recasting.RecastRange.{RecastRange}
 use Rattle.mesa_tasks.specs.declared.recasting.RecastedRange.{RecastedRange}
 use Rattle.mesa_engine.specs.mesa_ledger.mesa_walk.Turns.{SomeRose, faults_of}
 use Rattle.mesa_engine.specs.mesa_ledger.mesa_walk.Walk.{HasCounted}
-use Rattle.mesa_engine.proofs.mesa_ledger.Lists.{all_joined}
+use Rattle.mesa_engine.proofs.mesa_ledger.Lists.{all_joined, all_so}
 use Rattle.mesa_completing.specs.mesa_copy.Copying.{AreRangesBounded, known_range, known_ranges}
 use Rattle.mesa_completing.specs.mesa_swapping.mesa_compact.Bounded.{AreBounded}
 use Rattle.mesa_completing.specs.mesa_swapping.mesa_compact.mesa_merge.Inputs.{knowns_of}
-use Rattle.mesa_completing.specs.mesa_swapping.Grown.{HasBecome}
-use Rattle.mesa_completing.specs.mesa_swapping.Recasts.{HasItsRange}
-use Rattle.mesa_completing.proofs.mesa_swapping.Becoming.{grown_where_begun, same_columns}
+use Rattle.mesa_completing.specs.mesa_swapping.Grown.{HasSameColumns}
+use Rattle.mesa_completing.specs.mesa_swapping.Recasts.{HasItsRange, sources_at}
+use Rattle.mesa_completing.proofs.mesa_swapping.Rewriting.{same_columns, same_range}
 use Rattle.mesa_completing.proofs.mesa_copy.Rewriting.{rewritten_front}
 use Rattle.mesa_completing.proofs.mesa_works.Grants.{fault_counts}
 use Rattle.mesa_recasting.specs.Rested.{HasFurther}
@@ -34,48 +33,45 @@ use Rattle.mesa_recasting.specs.Rested.{HasFurther}
 pub known_none : {R : Type 0} (bytes : R → Option (List ℕ)) (xs : List (RecastRange R)) → known_ranges bytes xs ≡ known_ranges bytes xs ++ []
 known_none bytes xs = sym (append-nil (known_ranges bytes xs))
 
--- ---- the same lineage
+-- ---- the same columns
 
--- a list with all that another one has, and no more, is that list
-same_all : {A : Type 0} (xs ys : List A) → ((n : ℕ) (x : A) → slice_get xs n ≡ Some x → slice_get ys n ≡ Some x) → length ys ≡ length xs → ys ≡ xs
-same_all [] [] has same = refl
-same_all [] (y ∷ ys) has same = absurd (omega (arith, same))
-same_all (x ∷ xs) [] has same = absurd (omega (arith, same))
-same_all (x ∷ xs) (y ∷ ys) has same =
-    let first : y ≡ x = let is = has 0 x refl in cc in
-    let rest = same_all xs ys (λ n z is. has (suc n) z is) (omega (arith, same)) in
-    λ i. first i ∷ rest i
+same_epoch : (was now : Lineage) → HasSameColumns was now → epoch_of now ≡ epoch_of was
+same_epoch was now same = λ i. same.begins i + length (same.changes i)
 
--- Where neither the epoch nor the number of views is another one, the table is as it was.
-pub same_lineage : (was now : Lineage) → HasBecome was now → epoch_of now ≡ epoch_of was → length now.views ≡ length was.views → now ≡ was
-same_lineage was now become epoch count =
-    let same = same_columns was now epoch become in
-    let grown = grown_where_begun was now same.begins become in
-    let views = same_all was.views now.views (λ n v is. (grown.views n v is).there) count in
-    λ i. record { begins = same.begins i; first = same.first i; changes = same.changes i; views = views i }
+-- a range has its rows, by the columns that the table had as well
+range_was : {R : Type 0} (read : R → Option (List ℕ)) (was now : Lineage) (written : List Written) (x : RecastRange R) → HasSameColumns was now → HasItsRange read now written x → HasItsRange read was written x
+range_was read was now written x same has = record {
+  epochs = subst (λ e. AllByRecursion (λ (s : Source). s.epoch ≤ e) (sources_at x written)) (same_epoch was now same) has.epochs;
+  rows = λ rows merge. has.rows rows (subst (λ (s : Columns). IsMergeOf read s (own x) rows) (sym (same_columns was now same)) merge) ∙ same_range was now (sources_at x written) same;
+}
 
 -- ---- more of them
 
-module _ {R : Type 0} (read : R → Option (List ℕ)) (l : Lineage) (sound : Rows → Type 0) (written : Rows → List Written) (old : List (RecastRange R)) where
-  -- none
-  pub none_further : HasFurther read l sound written old old
-  none_further = record { more = []; behind = sym (append-nil old); of_table = tt; bounded = λ w ok. tt; sourced = λ w ok. tt }
+module _ {R : Type 0} (read : R → Option (List ℕ)) (now : Lineage) (sound : Rows → Type 0) (written : Rows → List Written) (old new : List (RecastRange R)) (further : HasFurther read now sound written old new) where
+  pub further_known : known_ranges read new ≡ known_ranges read old ++ known_ranges read further.more
+  further_known = ap (known_ranges read) further.behind ∙ map-append (known_range read) old further.more
 
-  module _ (new : List (RecastRange R)) (further : HasFurther read l sound written old new) where
-    pub further_known : known_ranges read new ≡ known_ranges read old ++ known_ranges read further.more
-    further_known = ap (known_ranges read) further.behind ∙ map-append (known_range read) old further.more
+  pub further_begun : {M : Type 0} (bytes : M → Option (List ℕ)) (id_of : M → ℕ) (s : Columns) (r : Recast) (ys : List (RecastedRange M)) → AreRewritten bytes id_of read s r old ys → AreRewritten bytes id_of read s r (take (length ys) new) ys
+  further_begun bytes id_of s r ys are = subst (λ xs. AreRewritten bytes id_of read s r (take (length ys) xs) ys) (sym further.behind) (rewritten_front bytes id_of read s r old further.more ys are)
 
-    pub further_begun : {M : Type 0} (bytes : M → Option (List ℕ)) (id_of : M → ℕ) (s : Columns) (r : Recast) (ys : List (RecastedRange M)) → AreRewritten bytes id_of read s r old ys → AreRewritten bytes id_of read s r (take (length ys) new) ys
-    further_begun bytes id_of s r ys are = subst (λ xs. AreRewritten bytes id_of read s r (take (length ys) xs) ys) (sym further.behind) (rewritten_front bytes id_of read s r old further.more ys are)
+  module _ (was : Lineage) (same : HasSameColumns was now) where
+    pub further_of : AreRangesOf read was old → AreRangesOf read was new
+    further_of are =
+        subst (AreRangesOf read was) (sym further.behind)
+        (all_joined (λ (x : RecastRange R). AreInputsTo read (columns_of was) (own x)) old further.more are
+        (subst (λ (s : Columns). AllByRecursion (λ (x : RecastRange R). AreInputsTo read s (own x)) further.more) (same_columns was now same) further.of_table))
 
-    pub further_of : AreRangesOf read l old → AreRangesOf read l new
-    further_of are = subst (AreRangesOf read l) (sym further.behind) (all_joined (λ (x : RecastRange R). AreInputsOf read l (own x)) old further.more are further.of_table)
+    pub further_bounded : (w : Rows) → sound w → AreRangesBounded read (columns_of was) old → AreRangesBounded read (columns_of was) new
+    further_bounded w ok are =
+        subst (AreRangesBounded read (columns_of was)) (sym further.behind)
+        (all_joined (λ (x : RecastRange R). AreBounded (columns_of was) (knowns_of read (own x))) old further.more are
+        (subst (λ (s : Columns). AreRangesBounded read s further.more) (same_columns was now same) (further.bounded w ok)))
 
-    pub further_bounded : (w : Rows) → sound w → AreRangesBounded read (columns_of l) old → AreRangesBounded read (columns_of l) new
-    further_bounded w ok are = subst (AreRangesBounded read (columns_of l)) (sym further.behind) (all_joined (λ (x : RecastRange R). AreBounded (columns_of l) (knowns_of read (own x))) old further.more are (further.bounded w ok))
-
-    pub further_sourced : (w : Rows) → sound w → AllByRecursion (HasItsRange read l (written w)) old → AllByRecursion (HasItsRange read l (written w)) new
-    further_sourced w ok are = subst (AllByRecursion (HasItsRange read l (written w))) (sym further.behind) (all_joined (HasItsRange read l (written w)) old further.more are (further.sourced w ok))
+    pub further_sourced : (w : Rows) → sound w → AllByRecursion (HasItsRange read was (written w)) old → AllByRecursion (HasItsRange read was (written w)) new
+    further_sourced w ok are =
+        subst (AllByRecursion (HasItsRange read was (written w))) (sym further.behind)
+        (all_joined (HasItsRange read was (written w)) old further.more are
+        (all_so (HasItsRange read now (written w)) (HasItsRange read was (written w)) further.more (λ x has. range_was read was now (written w) x same has) (further.sourced w ok)))
 
 -- ---- a fault that was met
 

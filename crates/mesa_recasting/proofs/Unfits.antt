@@ -1,9 +1,9 @@
 -- How the close of a recast that isn't done keeps a vault.
-use Rattle.std.proofs.Common.{◌≡◌, ◌∙◌, ℕ, ◌+◌, ◌<◌, ◌≤◌, ◌^◌, List, [], ◌∷◌, ◌++◌, length, Bool, true, false, ◌||◌, not, refl, sym, ap, subst, arith, Option, Some}
+use Rattle.std.proofs.Common.{◌≡◌, ◌∙◌, ℕ, ◌+◌, ◌<◌, ◌≤◌, ◌^◌, List, [], ◌∷◌, ◌++◌, length, Bool, true, false, ◌||◌, not, refl, sym, ap, subst, arith, Option, Some, Ok, Err}
 use Rattle.std.specs.Prelude.{vec_capacity}
 use Rattle.mesa_disk.specs.Story.{Story}
 use Rattle.mesa_history.specs.Counting.{answers_bench, answers_disk}
-use Rattle.mesa_history.specs.Machine.{Claim, Recasts}
+use Rattle.mesa_history.specs.Machine.{Claim, Recasts, claim_checked, still_checked}
 use Rattle.mesa_schema.specs.Recasts.{Recast as Asked}
 use Rattle.mesa_history.specs.Refused.{is_refusal}
 use Rattle.mesa_history.specs.Run.{Renewed, Finished}
@@ -19,9 +19,12 @@ use Rattle.mesa_engine.specs.mesa_metadata.Memory.{Memory, with_ledger}
 use Rattle.mesa_model.specs.declared.commands.Command.TheVariants as command
 use Rattle.mesa_model.specs.declared.commands.RecastWords.{RecastWords}
 use Rattle.mesa_model.specs.declared.entries.Entry.{Entry}
+use Rattle.mesa_model.specs.Warehouse.{table_at}
 use Rattle.mesa_model.specs.declared.entries.Kind.TheVariants as kind
+use Rattle.mesa_model.specs.declared.entries.Outcome.TheVariants as outcome
 use Rattle.mesa_output.specs.Output.{block}
 use Rattle.mesa_skeleton.specs.Rows.{Rows, no_rows}
+use Rattle.mesa_engine.specs.mesa_ledger.mesa_walk.Books.{Books}
 use Rattle.mesa_engine.specs.mesa_ledger.mesa_walk.Causes.{Cause, outcome_of, reply_of, told_at}
 use Rattle.mesa_engine.specs.mesa_ledger.mesa_walk.Printing.{IsPut}
 use Rattle.mesa_engine.specs.mesa_ledger.mesa_walk.Turns.{Shown, IsSeen, Takes, entry}
@@ -99,3 +102,12 @@ pub no_fault : (closing : Bool) (u : Unfit) → answers_disk closing (outcome_of
 no_fault closing (why.Lost refusal) = refl
 no_fault closing (why.Changed refusal) = refl
 no_fault closing why.Memory = refl
+
+-- ---- where its turn stands
+
+-- Where its turn stands, its claim didn't hold, or the rules didn't allow it any more.
+pub not_done : (books : Books) (at : ℕ) (claim : Claim) (epoch : ℕ) (r : Asked) (u : Unfit) → HasNotRecast books at claim epoch r u → outcome_of (cause_met u) ≡ outcome.Stands
+    → claim_checked books.bare books.machine at claim ≡ Ok tt → still_checked (table_at books.bare.store claim.table).lineage epoch r ≡ Ok tt → ⊥
+not_done books at claim epoch r (why.Lost x) has stands holds still = let is : claim_checked books.bare books.machine at claim ≡ Err x = has in cc
+not_done books at claim epoch r (why.Changed x) has stands holds still = let is : still_checked (table_at books.bare.store claim.table).lineage epoch r ≡ Err x = has.1 in cc
+not_done books at claim epoch r why.Memory has stands holds still = let is : outcome.Memory ≡ outcome.Stands = stands in cc

@@ -1,9 +1,8 @@
 // A recast's last turn.
-ghost use Rattle.std.specs.Prelude.{◌≡◌, ◌⊎◌, ◌<◌, ◌==◌, ◌++◌, ◌∷◌, [], Bool, ℕ, List, Ok, Err, IfErr, IfOk, OnErr, OnOk, Some, true, false, length};
+ghost use Rattle.std.specs.Prelude.{◌≡◌, ◌⊎◌, ◌<◌, ◌==◌, ◌++◌, ◌∷◌, [], Bool, ℕ, List, Ok, Err, IfErr, IfOk, OnOk, Some, true, false, length};
 ghost use Rattle.mesa_fault.specs.Causes.{last};
 ghost use Rattle.mesa_delta.specs.declared.error.FileError.TheVariants as file_error;
 ghost use Rattle.mesa_history.specs.Machine.{claim_checked, still_checked};
-ghost use Rattle.mesa_history.specs.Refused.{is_refusal};
 ghost use Rattle.mesa_history.specs.Run.{Finished, Renewed};
 ghost use Rattle.mesa_history.specs.Turns.{IsDue};
 ghost use Rattle.mesa_engine.specs.mesa_ledger.Ledger.{books_of};
@@ -19,7 +18,6 @@ ghost use Rattle.mesa_engine.specs.mesa_metadata.Memory.{with_ledger};
 ghost use Rattle.mesa_model.specs.declared.commands.Command.TheVariants as command;
 ghost use Rattle.mesa_model.specs.declared.commands.RecastWords.{RecastWords as AnyWords};
 ghost use Rattle.mesa_model.specs.declared.entries.Kind.TheVariants as kind;
-ghost use Rattle.mesa_model.specs.declared.replies.Reply.TheVariants as reply;
 ghost use Rattle.mesa_output.specs.Output.{block};
 ghost use Rattle.mesa_schema.specs.Changes.{epoch_of};
 ghost use Rattle.mesa_skeleton.specs.Rows.{Rows, no_rows};
@@ -27,7 +25,7 @@ ghost use Rattle.mesa_completing.specs.mesa_swapping.Recasts.{HasItsRanges, stoc
 ghost use Rattle.mesa_tasks.specs.GivingBack.{SomeFailed};
 ghost use Rattle.mesa_tasks.specs.Recasts.{IsRecasted, claim_of_recast, recast_in, recast_inputs};
 ghost use Rattle.mesa_tasks.specs.declared.merging.CompactError.TheVariants as compact;
-ghost use Rattle.mesa_completing.specs.Swept.{IsSwept};
+ghost use Rattle.mesa_completing.specs.Swept.{ClaimHolds, HasStood, IsSwept};
 ghost use Rattle.mesa_completing.specs.Unmerged.{MergeDiffered, cause_of, closing_cause, closing_ledger};
 ghost use Rattle.mesa_recasting.specs.Rested.{HasRested, HasUnpaid};
 ghost use Rattle.mesa_recasting.specs.Unfit.{HasNotRecast, cause_met, unfit_ledger};
@@ -40,7 +38,7 @@ use mesa_disk::{Disk, Made};
 use mesa_engine::{Engine, Failure, Metadata, Naming, Who};
 use mesa_io::Sink;
 use mesa_lease::TABLES;
-use mesa_model::{Kind, Outcome, RecastWords, Refusal, Reply};
+use mesa_model::{Kind, Outcome, RecastWords};
 use mesa_store::write_record;
 use mesa_tasks::{CompactError, Recast, Recasted};
 use std::alloc::{AllocError, Global};
@@ -70,7 +68,7 @@ fn refuse<N: Naming, M: Made, D: Disk<M>, K: Sink>(
     who: Who,
     task: &Recast<D::Reader>,
     why: Unfit,
-) -> Reply
+)
     requires due { (words : AnyWords) × IsDue N.script (run_at N.script (N.start no_rows) engine.old.shown.history) who.session who.command (command.Recast words) (Renewed (claim_of_recast task.now)) }
     requires table { task.now.table < TABLES }
     requires why { HasNotRecast (books_of no_rows engine.old.ledger) (length engine.old.shown.history) (claim_of_recast task.now) task.now.epoch (recast_in task.now) why }
@@ -80,11 +78,11 @@ fn refuse<N: Naming, M: Made, D: Disk<M>, K: Sink>(
     ensures disk { AnswersDisk N.script (N.start no_rows) engine.old.shown engine.new.shown ⊥ }
     ensures draft { AnswersDraft N.script (N.start no_rows) engine.old.shown engine.new.shown who.session ⊥ }
     ensures ledger { engine.new.ledger ≡ unfit_ledger why task.now.table task.now.lease engine.old.ledger }
-    ensures reply { result ≡ reply_of (cause_met why) }
+    ensures outcome { engine.new.shown.history ≡ engine.old.shown.history ++ entry who.session who.command kind.Close (outcome_of (cause_met why)) engine.new.shown.clock ∷ [] }
 {
     let moment = engine.disk.clock();
     let failure = fall(&mut engine.metadata, task.table, task.lease, why);
-    engine.log.fail(who, Kind::Close, moment, failure)
+    engine.log.fail(who, Kind::Close, moment, failure);
 }
 
 // The turn of a recast whose claim holds and that may be done still: all memory is taken first, then the record is written with its files, and only then is the table recast. Where the store can't be written the vault closes. The lease ends, whatever comes.
@@ -94,7 +92,7 @@ fn regroup<N: Naming, M: Made, D: Disk<M>, K: Sink>(
     who: Who,
     task: &Recast<D::Reader>,
     made: Recasted<M>,
-) -> Reply
+)
     requires due { (words : AnyWords) × IsDue N.script (run_at N.script (N.start no_rows) engine.old.shown.history) who.session who.command (command.Recast words) (Renewed (claim_of_recast task.now)) }
     requires table { task.now.table < TABLES }
     requires holds { claim_checked (books_of no_rows engine.old.ledger).bare (books_of no_rows engine.old.ledger).machine (length engine.old.shown.history) (claim_of_recast task.now) ≡ Ok tt }
@@ -108,7 +106,7 @@ fn regroup<N: Naming, M: Made, D: Disk<M>, K: Sink>(
     ensures turn { Takes N.script (N.start no_rows) engine.old.shown engine.new.shown who.session who.command kind.Close Finished }
     ensures disk { AnswersDisk N.script (N.start no_rows) engine.old.shown engine.new.shown (SomeRose engine.old.faults engine.new.faults) }
     ensures draft { AnswersDraft N.script (N.start no_rows) engine.old.shown engine.new.shown who.session ⊥ }
-    ensures swept { (name : List ℕ) (epoch : ℕ) → result ≡ reply.Recast name epoch → IsSwept engine.new.told engine.new.ledger engine.new.shown.history }
+    ensures swept { HasStood engine.old.shown engine.new.shown who.session who.command → IsSwept engine.new.told engine.new.ledger engine.new.shown.history }
 {
     let at = engine.log.position();
     let Ready {
@@ -134,7 +132,6 @@ fn regroup<N: Naming, M: Made, D: Disk<M>, K: Sink>(
             engine.metadata.end_lease(task.table, task.lease);
             let turn = who.turn(Kind::Close, Outcome::Stands, engine.disk.clock());
             engine.log.tell(turn, at, &reply, b"");
-            reply
         }
         Err(_) => {
             drop(entry);
@@ -143,7 +140,7 @@ fn regroup<N: Naming, M: Made, D: Disk<M>, K: Sink>(
             let moment = engine.disk.clock();
             engine
                 .log
-                .fail(who, Kind::Close, moment, Failure::Unwritten)
+                .fail(who, Kind::Close, moment, Failure::Unwritten);
         }
     }
 }
@@ -155,7 +152,7 @@ fn close<N: Naming, M: Made, D: Disk<M>, K: Sink>(
     who: Who,
     task: &Recast<D::Reader>,
     made: Recasted<M>,
-) -> Reply
+)
     requires due { (words : AnyWords) × IsDue N.script (run_at N.script (N.start no_rows) engine.old.shown.history) who.session who.command (command.Recast words) (Renewed (claim_of_recast task.now)) }
     requires table { task.now.table < TABLES }
     requires rested { HasRested D.Reader.bytes engine.old.ledger task.now }
@@ -167,14 +164,15 @@ fn close<N: Naming, M: Made, D: Disk<M>, K: Sink>(
     ensures turn { Takes N.script (N.start no_rows) engine.old.shown engine.new.shown who.session who.command kind.Close Finished }
     ensures disk { AnswersDisk N.script (N.start no_rows) engine.old.shown engine.new.shown (SomeRose engine.old.faults engine.new.faults) }
     ensures draft { AnswersDraft N.script (N.start no_rows) engine.old.shown engine.new.shown who.session ⊥ }
-    ensures swept { (name : List ℕ) (epoch : ℕ) → result ≡ reply.Recast name epoch → IsSwept engine.new.told engine.new.ledger engine.new.shown.history }
+    ensures swept { HasStood engine.old.shown engine.new.shown who.session who.command → ClaimHolds engine.old.ledger (length engine.old.shown.history) (claim_of_recast task.now) → still_checked (stock_of_recast engine.old.ledger task.now).lineage task.now.epoch (recast_in task.now) ≡ Ok tt
+        → IsSwept engine.new.told engine.new.ledger engine.new.shown.history }
 {
     let at = engine.log.position();
     match check_recast(&engine.metadata, task, at) {
         Ok(()) => regroup(alloc, engine, who, task, made),
         Err(why) => {
             drop(made);
-            refuse(engine, who, task, why)
+            refuse(engine, who, task, why);
         }
     }
 }
@@ -187,7 +185,7 @@ pub fn recast<N: Naming, M: Made, D: Disk<M>, K: Sink>(
     words: &RecastWords,
     task: Recast<D::Reader>,
     made: Result<Recasted<M>, CompactError>,
-) -> Reply
+)
     requires due { (early : Bool) × IsDue N.script (run_at N.script (N.start no_rows) engine.old.shown.history) who.session who.command (command.Recast words.now) (closing_stage early (claim_of_recast task)) }
     requires table { task.table < TABLES }
 
@@ -213,21 +211,20 @@ pub fn recast<N: Naming, M: Made, D: Disk<M>, K: Sink>(
     ensures ledger { IfErr made (λ e. engine.old.shown.running ≡ true → engine.new.ledger ≡ closing_ledger engine.old.ledger.closed e (engine.old.shown.clock == last) (length engine.old.shown.history) task.table task.lease engine.old.ledger) }
     ensures outcome { IfErr made (λ e. engine.old.shown.running ≡ true → engine.new.shown.history ≡ engine.old.shown.history ++ entry who.session who.command kind.Close (outcome_of (closing_cause engine.old.ledger.closed e)) engine.new.shown.clock ∷ []) }
     ensures prints { IfErr made (λ e. engine.old.shown.running ≡ true → IsPut (block (entry who.session who.command kind.Close (outcome_of (closing_cause engine.old.ledger.closed e)) engine.new.shown.clock) (Some (told_at (length engine.old.shown.history) (reply_of (closing_cause engine.old.ledger.closed e))))) engine.new.shown.running engine.old.sink engine.new.sink) }
-    ensures reply { OnErr made (is_refusal result ≡ true) }
 
-    // Where the table is recast, each file that is there is one that the catalogue, a held pin or an open query names.
-    ensures swept { (name : List ℕ) (epoch : ℕ) → result ≡ reply.Recast name epoch → IsSwept engine.new.told engine.new.ledger engine.new.shown.history }
+    // Where the table is recast, each file that is there is one that the catalogue, a held pin or an open query names: its ranges are rewritten, its claim holds and the rules allow it still, and its turn stands.
+    ensures swept { OnOk made (HasStood engine.old.shown engine.new.shown who.session who.command → ClaimHolds engine.old.ledger (length engine.old.shown.history) (claim_of_recast task) → still_checked (stock_of_recast engine.old.ledger task).lineage task.epoch (recast_in task) ≡ Ok tt
+        → IsSwept engine.new.told engine.new.ledger engine.new.shown.history) }
 {
     if !engine.running() {
         engine.skip(who, Kind::Close);
         give_back_recast(engine, task);
-        return Reply::Refused(Refusal::Memory);
+        return;
     }
     match made {
         Ok(made) => {
-            let reply = close(alloc, engine, who, &task, made);
+            close(alloc, engine, who, &task, made);
             give_back_recast(engine, task);
-            reply
         }
         Err(error) => abandon(engine, who, task, error),
     }

@@ -1,5 +1,5 @@
 // The ranges that came while a table was being rewritten.
-ghost use Rattle.std.specs.Prelude.{◌≡◌, ◌≢◌, ◌⊎◌, ◌↔◌, ◌<◌, true, None, Err, IfErr, IfOk, IfSome, IsTrue, OnOk, length};
+ghost use Rattle.std.specs.Prelude.{◌≡◌, ◌≢◌, ◌⊎◌, ◌↔◌, ◌<◌, true, None, Ok, Err, IfErr, IfOk, IfSome, IsTrue, OnOk, length};
 ghost use Rattle.mesa_completing.specs.mesa_copy.Copying.{IsRecastBounded};
 ghost use Rattle.mesa_delta.specs.declared.error.FileError.TheVariants as file_error;
 ghost use Rattle.mesa_gather.specs.Ranges.{HoldsAll};
@@ -20,9 +20,7 @@ use mesa_disk::{Damage, Disk, Made};
 use mesa_engine::{Engine, Metadata, Naming};
 use mesa_gather::gather_more;
 use mesa_io::Sink;
-use mesa_schema::Evolving;
 use mesa_tasks::{Recast, RecastRange, Unopened};
-use std::sync::Arc;
 
 // Whether further ranges are opened: the vault is open, no file of the recast was damaged, and its table has still the epoch in which it was granted.
 fn may_rest<R>(metadata: &Metadata, task: &Recast<R>) -> bool
@@ -34,17 +32,14 @@ fn may_rest<R>(metadata: &Metadata, task: &Recast<R>) -> bool
         && metadata.catalog().evolving(task.table).epoch() == task.epoch
 }
 
-// Opens the files of the ranges with rows that a table has and that aren't among these yet, up to the first that isn't the recorded one. The inputs of a recast have one lineage, that of its grant: where a view was made since, none is opened, as without memory.
+// Opens the files of the ranges with rows that a table has and that aren't among these yet, up to the first that isn't the recorded one. Views may have come since the recast was granted, but its columns are the same.
 fn open_more<N: Naming, M: Made, D: Disk<M>, K: Sink>(
     engine: &mut Engine<N, M, D, K>,
-    evolving: &Arc<Evolving>,
     number: u16,
     ranges: &mut Vec<RecastRange<D::Reader>>,
 ) -> Result<Option<Damage>, Unopened>
     requires there { number < length engine.old.ledger.catalogue.tables }
     requires opened { engine.old.ledger.closed ≡ None }
-    requires grown { HasBecome evolving.now.value (stock_at engine.old.ledger.catalogue number).lineage }
-    requires epoch { epoch_of (stock_at engine.old.ledger.catalogue number).lineage ≡ epoch_of evolving.now.value }
     ensures shown { engine.new.shown ≡ engine.old.shown }
     ensures ledger { engine.new.ledger ≡ engine.old.ledger }
     ensures told { engine.new.told ≡ engine.old.told }
@@ -52,16 +47,13 @@ fn open_more<N: Naming, M: Made, D: Disk<M>, K: Sink>(
     ensures faults { NoneFell engine.old.faults engine.new.faults }
     ensures rose { result ≡ Err un.Fault → SomeRose engine.old.faults engine.new.faults }
     ensures unpaid { result ≡ Err un.Fault → HasUnpaid N.script N.start N.counted engine.new.shown engine.new.faults }
-    ensures more { HasFurther D.Reader.bytes evolving.now.value N.sound (λ w. written_at N.script (N.start w) (N.origin w) engine.old.shown.history number) ranges.old.items ranges.new.items }
+    ensures more { HasFurther D.Reader.bytes (stock_at engine.old.ledger.catalogue number).lineage N.sound (λ w. written_at N.script (N.start w) (N.origin w) engine.old.shown.history number) ranges.old.items ranges.new.items }
     ensures holds { IfOk result (λ d. d ≡ None → HoldsAll ranges.new.items (stock_at engine.old.ledger.catalogue number)) }
     ensures differs { IfOk result (λ d. IfSome d (λ d. d.want ≢ d.found)) }
     ensures whole { (w : Rows) → N.sound w → IfOk result (λ d. d ≡ None) }
 {
     let alloc = *engine.log.history.allocator();
     let table = engine.metadata.catalog().table(number);
-    if table.evolving.views() != evolving.views() {
-        return Err(Unopened::Memory);
-    }
     gather_more(alloc, &mut engine.disk, table, ranges)
 }
 
@@ -85,6 +77,9 @@ pub fn rest<N: Naming, M: Made, D: Disk<M>, K: Sink>(
     ensures cause { IfErr result (λ e. e ≡ file_error.Read → SomeRose engine.old.faults engine.new.faults) }
     ensures unpaid { IfErr result (λ e. e ≡ file_error.Read → HasUnpaid N.script N.start N.counted engine.new.shown engine.new.faults) }
 
+    // Where further ranges may not be opened, nothing is done: the sink has failed, the vault has closed, a file of the recast was damaged, or its table has another epoch.
+    ensures stays { (engine.old.shown.running ≡ true → MayRest engine.old.ledger task.old → ⊥) → (result ≡ Ok tt) × (task.new ≡ task.old) × (engine.new ≡ engine.old) }
+
     // The recast is the one that it was, with further ranges behind.
     ensures longer { IsLonger D.Reader.bytes task.old task.new }
     ensures begun { (made : AnyRecasted M) → IsRecasted M.bytes M.id_of D.Reader.bytes task.old made → IsRecastedSoFar M.bytes M.id_of D.Reader.bytes task.new made }
@@ -102,7 +97,7 @@ pub fn rest<N: Naming, M: Made, D: Disk<M>, K: Sink>(
     if !engine.running() || !may_rest(&engine.metadata, task) {
         return Ok(());
     }
-    match open_more(engine, &task.evolving, task.table, &mut task.ranges) {
+    match open_more(engine, task.table, &mut task.ranges) {
         Ok(damage) => {
             task.damage = damage;
             Ok(())

@@ -1,7 +1,6 @@
 // A recast's last turn where its ranges weren't rewritten.
 ghost use Rattle.std.specs.Prelude.{◌≡◌, ◌⊎◌, ◌<◌, ◌==◌, ◌++◌, ◌∷◌, [], Bool, true, false, length, Some};
 ghost use Rattle.mesa_fault.specs.Causes.{last};
-ghost use Rattle.mesa_history.specs.Refused.{is_refusal};
 ghost use Rattle.mesa_history.specs.Run.{Finished};
 ghost use Rattle.mesa_history.specs.Turns.{IsDue};
 ghost use Rattle.mesa_model.specs.declared.commands.Command.TheVariants as command;
@@ -27,7 +26,7 @@ use mesa_disk::{Disk, Made};
 use mesa_engine::{Engine, Naming, Who};
 use mesa_io::Sink;
 use mesa_lease::TABLES;
-use mesa_model::{Kind, Reply};
+use mesa_model::Kind;
 use mesa_tasks::{CompactError, Recast, retire_recast};
 
 // The turn that closes a recast whose ranges weren't all rewritten, while the sink hasn't failed: its lease ends, unless the vault has closed. All that it was handed is given back. Takes no memory.
@@ -36,7 +35,7 @@ pub(crate) fn abandon<N: Naming, M: Made, D: Disk<M>, K: Sink>(
     who: Who,
     task: Recast<D::Reader>,
     error: CompactError,
-) -> Reply
+)
     requires due { (words : RecastWords) × (early : Bool) × IsDue N.script (run_at N.script (N.start no_rows) engine.old.shown.history) who.session who.command (command.Recast words) (closing_stage early (claim_of_recast task)) }
     requires table { task.table < TABLES }
     requires read { is_read_fault (cause_of error) ≡ true → SomeFailed D.Reader.faults (recast_inputs task) ⊎ HasUnpaid N.script N.start N.counted engine.old.shown engine.old.faults }
@@ -51,7 +50,6 @@ pub(crate) fn abandon<N: Naming, M: Made, D: Disk<M>, K: Sink>(
     ensures ledger { engine.new.ledger ≡ closing_ledger engine.old.ledger.closed error (engine.old.shown.clock == last) (length engine.old.shown.history) task.table task.lease engine.old.ledger }
     ensures outcome { engine.new.shown.history ≡ engine.old.shown.history ++ entry who.session who.command kind.Close (outcome_of (closing_cause engine.old.ledger.closed error)) engine.new.shown.clock ∷ [] }
     ensures prints { IsPut (block (entry who.session who.command kind.Close (outcome_of (closing_cause engine.old.ledger.closed error)) engine.new.shown.clock) (Some (told_at (length engine.old.shown.history) (reply_of (closing_cause engine.old.ledger.closed error))))) engine.new.shown.running engine.old.sink engine.new.sink }
-    ensures reply { is_refusal result ≡ true }
 {
     may_be_told(&error);
     let at = engine.log.position();
@@ -60,5 +58,5 @@ pub(crate) fn abandon<N: Naming, M: Made, D: Disk<M>, K: Sink>(
     retire_recast(&mut engine.disk, task);
     let moment = engine.disk.clock();
     let failure = fall(&mut engine.metadata, table, lease, &error, at, moment);
-    engine.log.fail(who, Kind::Close, moment, failure)
+    engine.log.fail(who, Kind::Close, moment, failure);
 }

@@ -1,13 +1,21 @@
-use Rattle.std.proofs.Common.{◌≡◌, ◌<◌, length, not, false, refl, sym, subst}
+use Rattle.std.proofs.Common.{◌≡◌, ◌∙◌, ◌<◌, length, not, false, refl, sym, ap, subst}
+use Rattle.mesa_history.specs.Machine.{still_checked}
 use Rattle.mesa_history.specs.Run.{Renewed}
 use Rattle.mesa_history.specs.Turns.{IsDue}
+use Rattle.mesa_model.specs.Warehouse.{Table}
 use Rattle.mesa_model.specs.declared.commands.Command.TheVariants as command
+use Rattle.mesa_engine.specs.mesa_ledger.Ledger.{books_of}
 use Rattle.mesa_engine.specs.mesa_ledger.Vault.{Starts, outset_of}
+use Rattle.mesa_engine.specs.mesa_ledger.mesa_walk.Causes.{outcome_of}
 use Rattle.mesa_engine.specs.mesa_ledger.mesa_walk.Walk.{run_at}
 use Rattle.mesa_engine.specs.Engine.{Standing, starts_of}
 use Rattle.mesa_skeleton.specs.Rows.{no_rows}
 use Rattle.mesa_tasks.specs.Recasts.{claim_of_recast, recast_in}
+use Rattle.mesa_completing.proofs.Sweeping.{stood_as}
+use Rattle.mesa_recasting.specs.Unfit.{HasNotRecast, cause_met}
 use Rattle.mesa_recasting.proofs.Dues.{recast_is_there}
+use Rattle.mesa_recasting.proofs.Regroups.{table_is}
+use Rattle.mesa_recasting.proofs.Unfits.{not_done}
 use Rattle.mesa_recasting.proofs.recasting.close.Goals as goal
 
 pub check_recast-requires-clause-there : goal.check_recast-requires-clause-there
@@ -24,3 +32,20 @@ check_recast-requires-clause-there g c =
 -- nothing is asked of the disk where it isn't done
 pub returns-in-Err-clause-disk : goal.returns-in-Err-clause-disk
 returns-in-Err-clause-disk g c = λ low e grew is. absurd (c.refuse.ensures.disk low e grew is)
+
+-- a refusal that stands is one of the claim, or of the rules
+pub returns-in-Err-clause-swept : goal.returns-in-Err-clause-swept
+returns-in-Err-clause-swept g c stood holds still =
+    let t = c.args.task.now in
+    let i = c.engine.inside in
+    let why = c.in-Err.why in
+    let l = c.args.engine.now.ledger in
+    let at = length c.args.engine.now.shown.history in
+    let claim = claim_of_recast t in
+    let here : HasNotRecast (books_of no_rows i.metadata.ledger) (length i.log.history.items) claim t.epoch (recast_in t) why =
+    subst (λ p. HasNotRecast (books_of no_rows i.metadata.ledger) p claim t.epoch (recast_in t) why) c.position-at.ensures c.in-Err.ensures.refused in
+    let has : HasNotRecast (books_of no_rows l) at claim t.epoch (recast_in t) why =
+    subst (λ (x : Standing). HasNotRecast (books_of no_rows x.ledger) (length x.shown.history) claim t.epoch (recast_in t) why) c.engine.view_is here in
+    let stands = stood_as c.args.engine.now.shown c.refuse.new.engine.shown c.args.who.session c.args.who.command (outcome_of (cause_met why)) _ c.refuse.ensures.outcome stood in
+    let allowed = ap (λ (u : Table). still_checked u.lineage t.epoch (recast_in t)) (table_is l t.table) ∙ still in
+    absurd (not_done (books_of no_rows l) at claim t.epoch (recast_in t) why has stands holds allowed)

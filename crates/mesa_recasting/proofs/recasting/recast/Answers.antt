@@ -1,20 +1,20 @@
-use Rattle.std.proofs.Common.{◌≡◌, inl, true, false, refl, sym, ◌∙◌, ap, subst, Result, Ok, Err}
-use Rattle.std.specs.Prelude.{◌⊎◌, IfErr}
+use Rattle.std.proofs.Common.{◌≡◌, inl, true, false, sym, ◌∙◌, ap, subst, Result, Ok, Err}
+use Rattle.std.specs.Prelude.{◌⊎◌, IfErr, OnOk}
 use Rattle.std.proofs.Math.Logic.{⊎_map}
 use Rattle.mesa_delta.specs.declared.error.FileError.TheVariants as file_error
-use Rattle.mesa_history.specs.Refused.{is_refusal}
 use Rattle.mesa_history.specs.Run.{Finished}
 use Rattle.mesa_model.specs.declared.commands.Command.TheVariants as command
 use Rattle.mesa_model.specs.declared.entries.Kind.TheVariants as kind
 use Rattle.mesa_skeleton.specs.Rows.{no_rows}
 use Rattle.mesa_tasks.specs.Recasts.{claim_of_recast}
 use Rattle.mesa_tasks.specs.declared.merging.CompactError.TheVariants as compact
-use Rattle.mesa_engine.specs.mesa_ledger.mesa_walk.Turns.{AnswersDisk, AnswersDraft, Shown, SomeRose, Takes}
+use Rattle.mesa_engine.specs.mesa_ledger.mesa_walk.Turns.{AnswersDisk, AnswersDraft, IsTurn, Shown, SomeRose, Takes}
 use Rattle.mesa_engine.specs.mesa_ledger.mesa_walk.Works.{closing_stage}
 use Rattle.mesa_engine.proofs.mesa_ledger.mesa_walk.Alike.{due_alike}
 use Rattle.mesa_engine.proofs.mesa_ledger.mesa_walk.Faulting.{disk_also, rose_still}
 use Rattle.mesa_engine.proofs.mesa_ledger.mesa_walk.Working.{close_due}
-use Rattle.mesa_completing.specs.Swept.{IsSwept}
+use Rattle.mesa_completing.specs.Swept.{HasStood, IsSwept}
+use Rattle.mesa_completing.proofs.Sweeping.{skipped_stood}
 use Rattle.mesa_recasting.proofs.Paid.{close_unanswered}
 use Rattle.mesa_recasting.proofs.recasting.recast.Goals as goal
 
@@ -62,43 +62,55 @@ returns-then-not-running-clause-outcome g c = err_each c.args.made _ (λ error o
 pub returns-then-not-running-clause-prints : goal.returns-then-not-running-clause-prints
 returns-then-not-running-clause-prints g c = err_each c.args.made _ (λ error on. absurd (let never : true ≡ false = sym on ∙ sym c.running.ensures ∙ c.if-not-running.true in cc))
 
-pub returns-then-not-running-clause-reply : goal.returns-then-not-running-clause-reply
-returns-then-not-running-clause-reply g c = err_each c.args.made _ (λ error. refl)
+ok_each : {T E : Type 0} (r : Result T E) (P : Type 0) → P → OnOk r P
+ok_each (Ok x) P so = so
+ok_each (Err e) P so = tt
+
+-- a turn that is skipped doesn't stand
+pub returns-then-not-running-clause-swept : goal.returns-then-not-running-clause-swept
+returns-then-not-running-clause-swept g c =
+    let old = c.args.engine.now.shown in
+    let now = c.give_back_recast.new.engine.shown in
+    let took : IsTurn old now c.args.who.session c.args.who.command kind.Close = subst (λ (x : Shown). IsTurn old x c.args.who.session c.args.who.command kind.Close) (sym c.give_back_recast.ensures.shown) (c.skip.ensures.turn Finished).turn in
+    ok_each c.args.made _ (λ stood holds still. absurd (skipped_stood old now c.args.who.session c.args.who.command took (sym c.running.ensures ∙ c.if-not-running.true) stood))
 
 -- ---- its ranges were rewritten
 
-pub close-reply-requires-clause-due : goal.close-reply-requires-clause-due
-close-reply-requires-clause-due g c κs within = (c.args.words.now, rw c.in-Ok.is at c.requires.renewed)
+pub close-requires-clause-due : goal.close-requires-clause-due
+close-requires-clause-due g c κs within = (c.args.words.now, rw c.in-Ok.is at c.requires.renewed)
 
-pub close-reply-requires-clause-rested : goal.close-reply-requires-clause-rested
-close-reply-requires-clause-rested g c κs within = (rw c.in-Ok.is at c.requires.rested) (sym c.running.ensures ∙ c.if-not-running.false)
+pub close-requires-clause-rested : goal.close-requires-clause-rested
+close-requires-clause-rested g c κs within = (rw c.in-Ok.is at c.requires.rested) (sym c.running.ensures ∙ c.if-not-running.false)
 
 pub returns-in-Ok-clause-turn : goal.returns-in-Ok-clause-turn
 returns-in-Ok-clause-turn g c =
     let N = g.N.Naming in
-    subst (λ (x : Shown). Takes N.script (N.start no_rows) c.args.engine.now.shown x c.args.who.session c.args.who.command kind.Close Finished) (sym c.give_back_recast-in-Ok.ensures.shown) c.close-reply.ensures.turn
+    subst (λ (x : Shown). Takes N.script (N.start no_rows) c.args.engine.now.shown x c.args.who.session c.args.who.command kind.Close Finished) (sym c.give_back_recast-in-Ok.ensures.shown) c.close.ensures.turn
 
 pub returns-in-Ok-clause-draft : goal.returns-in-Ok-clause-draft
 returns-in-Ok-clause-draft g c =
     let N = g.N.Naming in
-    subst (λ (x : Shown). AnswersDraft N.script (N.start no_rows) c.args.engine.now.shown x c.args.who.session (c.args.made ≡ Err compact.Draft)) (sym c.give_back_recast-in-Ok.ensures.shown) (λ low e grew is. absurd (c.close-reply.ensures.draft low e grew is))
+    subst (λ (x : Shown). AnswersDraft N.script (N.start no_rows) c.args.engine.now.shown x c.args.who.session (c.args.made ≡ Err compact.Draft)) (sym c.give_back_recast-in-Ok.ensures.shown) (λ low e grew is. absurd (c.close.ensures.draft low e grew is))
 
 pub returns-in-Ok-clause-disk : goal.returns-in-Ok-clause-disk
 returns-in-Ok-clause-disk g c =
     let N = g.N.Naming in
     let old = c.args.engine.now in
-    let met = c.close-reply.new.engine in
+    let met = c.close.new.engine in
     let now = c.give_back_recast-in-Ok.new.engine in
     subst (λ (x : Shown). AnswersDisk N.script (N.start no_rows) old.shown x (SomeRose old.faults now.faults ⊎ (c.args.made ≡ Err (compact.File file_error.Read)))) (sym c.give_back_recast-in-Ok.ensures.shown)
-    (disk_also N.script (N.start no_rows) old.shown met.shown (λ (rose : SomeRose old.faults met.faults). inl (rose_still old.faults met.faults now.faults rose c.give_back_recast-in-Ok.ensures.faults)) c.close-reply.ensures.disk)
+    (disk_also N.script (N.start no_rows) old.shown met.shown (λ (rose : SomeRose old.faults met.faults). inl (rose_still old.faults met.faults now.faults rose c.give_back_recast-in-Ok.ensures.faults)) c.close.ensures.disk)
 
 pub returns-in-Ok-clause-swept : goal.returns-in-Ok-clause-swept
-returns-in-Ok-clause-swept g c = λ name epoch is.
-    let met = c.close-reply.new.engine in
+returns-in-Ok-clause-swept g c =
+    let old = c.args.engine.now.shown in
+    let met = c.close.new.engine in
     let now = c.give_back_recast-in-Ok.new.engine in
+    rw c.in-Ok.is (λ stood holds still.
     subst (λ (x : Shown). IsSwept now.told now.ledger x.history) (sym c.give_back_recast-in-Ok.ensures.shown)
     (subst (λ l. IsSwept now.told l met.shown.history) (sym c.give_back_recast-in-Ok.ensures.ledger)
-    (subst (λ t. IsSwept t met.ledger met.shown.history) (sym c.give_back_recast-in-Ok.ensures.told) (c.close-reply.ensures.swept name epoch is)))
+    (subst (λ t. IsSwept t met.ledger met.shown.history) (sym c.give_back_recast-in-Ok.ensures.told)
+    (c.close.ensures.swept (subst (λ (x : Shown). HasStood old x c.args.who.session c.args.who.command) c.give_back_recast-in-Ok.ensures.shown stood) holds still))))
 
 -- ---- they weren't
 
@@ -125,6 +137,5 @@ returns-in-Err-clause-outcome g c = rw c.in-Err.is (λ on. c.abandon.ensures.out
 pub returns-in-Err-clause-prints : goal.returns-in-Err-clause-prints
 returns-in-Err-clause-prints g c = rw c.in-Err.is (λ on. c.abandon.ensures.prints)
 
--- it refuses, so it recasts nothing
 pub returns-in-Err-clause-swept : goal.returns-in-Err-clause-swept
-returns-in-Err-clause-swept g c = λ name epoch is. absurd (let never : false ≡ true = sym (ap is_refusal is) ∙ c.abandon.ensures.reply in cc)
+returns-in-Err-clause-swept g c = rw c.in-Err.is tt

@@ -19,7 +19,7 @@ use Rattle.mesa_engine.proofs.mesa_ledger.mesa_walk.Faulting.{disk_never}
 use Rattle.mesa_engine.specs.Engine.{Standing, IsEngine, starts_of}
 use Rattle.mesa_engine.proofs.Drafting.{answers_none}
 use Rattle.mesa_tasks.specs.Recasts.{claim_of_recast, recast_in}
-use Rattle.mesa_recasting.specs.Unfit.{HasNotRecast, unfit_ledger}
+use Rattle.mesa_recasting.specs.Unfit.{HasNotRecast, cause_met, unfit_ledger}
 use Rattle.mesa_recasting.proofs.Unfits.{closed_takes, no_draft, no_fault, unfit_engine}
 use Rattle.mesa_recasting.proofs.recasting.refuse.Goals as goal
 
@@ -103,3 +103,11 @@ returns-clause-disk g c =
     subst (λ (x : Standing). AnswersDisk N.script (N.start no_rows) x.shown new ⊥) c.engine.view_is
     (disk_never N.script (N.start no_rows) (record { history = h; running = not i.log.printer.broken; clock = story.moment }) new e c.fail.ensures.items
     (ap (λ k. answers_disk closing (outcome_of k)) c.fall-failure.ensures.cause ∙ no_fault closing c.args.why))
+
+pub returns-clause-outcome : goal.returns-clause-outcome
+returns-clause-outcome g c =
+    let who = c.args.who in
+    let h = c.engine.inside.log.history.items in
+    let now = (g.D.Disk.story c.engine.inside.disk).moment in
+    subst (λ (x : Standing). c.fail.new.self.history.items ≡ x.shown.history ++ entry who.session who.command kind.Close (outcome_of (cause_met c.args.why)) now ∷ []) c.engine.view_is
+    (c.fail.ensures.items ∙ (λ j. h ++ entry who.session who.command kind.Close (outcome_of (c.fall-failure.ensures.cause j)) (c.clock-moment.ensures j) ∷ []))

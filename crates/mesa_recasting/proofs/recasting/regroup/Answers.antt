@@ -13,8 +13,6 @@ use Rattle.mesa_model.specs.Entry.{IsShort}
 use Rattle.mesa_model.specs.declared.commands.Command.TheVariants as command
 use Rattle.mesa_model.specs.declared.entries.Kind.TheVariants as kind
 use Rattle.mesa_model.specs.declared.entries.Outcome.TheVariants as outcome
-use Rattle.mesa_model.specs.declared.replies.Refusal.TheVariants as no
-use Rattle.mesa_model.specs.declared.replies.Reply.TheVariants as reply
 use Rattle.mesa_history.specs.Replay.{no_rows as no_lines}
 use Rattle.mesa_record.proofs.RecordsBoth.{record_found}
 use Rattle.mesa_script.specs.Rows.{body_of}
@@ -43,8 +41,8 @@ use Rattle.mesa_trash.specs.Holding.{kept}
 use Rattle.mesa_completing.proofs.mesa_writing.Loads.{all_tell}
 use Rattle.mesa_completing.proofs.mesa_writing.Written.{IsWhole, IsWorked}
 use Rattle.mesa_engine.specs.mesa_ledger.Written.{written_at}
-use Rattle.mesa_completing.specs.Swept.{IsSwept}
-use Rattle.mesa_completing.proofs.Sweeping.{swept}
+use Rattle.mesa_completing.specs.Swept.{HasStood, IsSwept}
+use Rattle.mesa_completing.proofs.Sweeping.{stood_as, swept}
 use Rattle.mesa_recasting.specs.Rested.{HasRested}
 use Rattle.mesa_recasting.proofs.Checks.{still_allowed}
 use Rattle.mesa_recasting.proofs.Dues.{epoch_still, recast_is_there}
@@ -130,6 +128,18 @@ returns-in-Err-clause-disk g c =
     let N = g.N.Naming in
     let new = c.refuse.new.engine in
     subst (λ (x : Standing). AnswersDisk N.script (N.start no_rows) x.shown new.shown (SomeRose x.faults new.faults)) c.engine.view_is (λ low e grew is. absurd (c.refuse.ensures.disk low e grew is))
+
+-- a turn without memory doesn't stand
+pub returns-in-Err-clause-swept : goal.returns-in-Err-clause-swept
+returns-in-Err-clause-swept g c stood =
+    let i = c.engine.inside in
+    let new = c.refuse.new.engine.shown in
+    let session = c.args.who.session in
+    let number = c.args.who.command in
+    let stands : outcome.Memory ≡ outcome.Stands =
+    stood_as (record { history = i.log.history.items; running = not i.log.printer.broken; clock = (g.D.Disk.story i.disk).moment }) new session number outcome.Memory _ c.refuse.ensures.outcome
+    (subst (λ (x : Standing). HasStood x.shown new session number) (sym c.engine.view_is) stood) in
+    absurd cc
 
 pub returns-in-Err-clause-draft : goal.returns-in-Err-clause-draft
 returns-in-Err-clause-draft g c =
@@ -380,7 +390,7 @@ returns-in-Ok-write_record g c =
           let counts : Counts (g.D.Disk.story i.disk) new false = record { faults = does.cause.later; reads = omega (arith, calls); rose = λ low is. absurd cc } in
           subst (λ (x : Standing). AnswersDisk N.script (N.start no_rows) x.shown seen (SomeRose x.faults (faults_of new))) c.engine.view_is
           (disk_counted N.script (N.start no_rows) (record { history = h; running = not i.log.printer.broken; clock = (g.D.Disk.story i.disk).moment }) seen (entry session number kind.Close outcome.Stands c.clock.result) grew (g.D.Disk.story i.disk) new refl counts);
-      swept = λ name epoch is. swept_done g c;
+      swept = λ stood. swept_done g c;
     }
 
 -- ---- it has failed
@@ -540,5 +550,9 @@ returns g c =
       disk = subst (λ (x : Standing). AnswersDisk N.script (N.start no_rows) x.shown seen (SomeRose x.faults (faults_of new))) c.engine.view_is
           (disk_where N.script (N.start no_rows) (record { history = h; running = not i.log.printer.broken; clock = story.moment }) seen (entry session number kind.Close outcome.WriteFault c.clock-moment.result) told.items
           (SomeRose (faults_of story) (faults_of new)) (λ below is. inl c.in-Err-write_record.ensures.cause.failed));
-      swept = λ name epoch is. absurd (let never : reply.Refused no.WriteFault ≡ reply.Recast name epoch = sym c.fail-in-Err-write_record.ensures.reply ∙ is in cc);
+      swept = λ stood.
+          let stands : outcome.WriteFault ≡ outcome.Stands =
+          stood_as (record { history = h; running = not i.log.printer.broken; clock = story.moment }) seen session number outcome.WriteFault c.clock-moment.result told.items
+          (subst (λ (x : Standing). HasStood x.shown seen session number) (sym c.engine.view_is) stood) in
+          absurd cc;
     }

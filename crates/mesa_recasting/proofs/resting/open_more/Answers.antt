@@ -1,13 +1,12 @@
-use Rattle.std.proofs.Common.{◌≡◌, inl, ◌<◌, ◌≤◌, length, not, true, false, sym, ◌∙◌, ap, subst, arith, None}
+use Rattle.std.proofs.Common.{◌≡◌, inl, ◌<◌, ◌≤◌, length, not, true, false, sym, ◌∙◌, ap, subst, None}
 use Rattle.std.specs.Prelude.{IfOk, IfSome}
 use Rattle.std.specs.List.{AllByRecursion}
-use Rattle.mesa_schema.specs.Changes.{Lineage, epoch_of}
+use Rattle.mesa_schema.specs.Changes.{epoch_of}
 use Rattle.mesa_image.specs.Catalog.{Catalog, Delta, Stock, stock_at}
 use Rattle.mesa_image.specs.Fitting.{deltas_of}
 use Rattle.mesa_gather.specs.Ranges.{HoldsAll, IsDamagedRange, IsOfRange, IsOpenedRange}
 use Rattle.mesa_gather.specs.mesa_shelf.Meaning.{stock_of}
 use Rattle.mesa_skeleton.specs.Rows.{no_rows}
-use Rattle.mesa_tasks.specs.declared.opening.Unopened.TheVariants as un
 use Rattle.mesa_engine.specs.Engine.{Standing, starts_of}
 use Rattle.mesa_engine.specs.mesa_ledger.Vault.{Starts, outset_of}
 use Rattle.mesa_engine.specs.mesa_ledger.Written.{written_at}
@@ -16,11 +15,10 @@ use Rattle.mesa_engine.specs.mesa_ledger.mesa_walk.Walk.{faults_in}
 use Rattle.mesa_engine.proofs.Turning.{unmoved_engine}
 use Rattle.mesa_engine.proofs.Seeing.{ok_also}
 use Rattle.mesa_engine.proofs.mesa_ledger.Lists.{all_so}
-use Rattle.mesa_completing.specs.mesa_swapping.Grown.{HasBecome}
 use Rattle.mesa_completing.proofs.mesa_works.Grants.{shaped_at}
 use Rattle.mesa_completing.proofs.mesa_works.RecastRanges.{none_damaged, ranges_bounded, ranges_inputs, ranges_sourced}
 use Rattle.mesa_recasting.specs.Rested.{HasFurther}
-use Rattle.mesa_recasting.proofs.Further.{counted_rose, none_further, same_lineage, still_unpaid}
+use Rattle.mesa_recasting.proofs.Further.{counted_rose, still_unpaid}
 use Rattle.mesa_recasting.proofs.resting.open_more.Goals as goal
 
 pub gather_more-requires-after_bounds : goal.gather_more-requires-after_bounds
@@ -44,22 +42,6 @@ pub returns-clause-faults : goal.returns-clause-faults
 returns-clause-faults g c =
     let counted = c.gather_more.ensures.counted in
     subst (λ (x : Standing). NoneFell x.faults (faults_of (g.D.Disk.story c.gather_more.new.disk))) c.engine.view_is (record { calls = counted.faults; reads = counted.read_faults })
-
--- ---- a view came
-
-pub returns-then-views-clause-faults : goal.returns-then-views-clause-faults
-returns-then-views-clause-faults g c = record { calls = omega arith; reads = omega arith }
-
-pub returns-then-views-clause-rose : goal.returns-then-views-clause-rose
-returns-then-views-clause-rose g c is = absurd (let no : un.Memory ≡ un.Fault = cc in cc)
-
-pub returns-then-views-clause-unpaid : goal.returns-then-views-clause-unpaid
-returns-then-views-clause-unpaid g c is = absurd (let no : un.Memory ≡ un.Fault = cc in cc)
-
-pub returns-then-views-clause-more : goal.returns-then-views-clause-more
-returns-then-views-clause-more g c =
-    let N = g.N.Naming in
-    none_further g.D.Reader.FileReader.bytes c.args.evolving.now.value N.sound (λ w. written_at N.script (N.start w) (N.origin w) c.args.engine.now.shown.history c.args.number) c.args.ranges.now.items
 
 -- ---- what was opened
 
@@ -88,18 +70,6 @@ returns-clause-unpaid g c is =
     still_unpaid N.counted (faults_in (outset_of n w) i.log.history.items) (g.D.Disk.story i.disk) (g.D.Disk.story c.gather_more.new.disk) c.gather_more.ensures.unmoved (v w false (λ is. absurd cc)).walk.counts
     (rw is at c.gather_more.ensures.counted) below calls reads
 
--- no view came, so the table is as it was
-lineage_is : (g : _) (c : goal.After-gather_more g) → (stock_at c.engine.inside.metadata.ledger.catalogue c.args.number).lineage ≡ c.args.evolving.now.value
-lineage_is g c =
-    let was = c.args.evolving.now.value in
-    let number = c.args.number in
-    let now = (stock_at c.engine.inside.metadata.ledger.catalogue number).lineage in
-    let become = subst (λ (x : Standing). HasBecome was (stock_at x.ledger.catalogue number).lineage) (sym c.engine.view_is) c.requires.grown in
-    let epoch = subst (λ (x : Standing). epoch_of (stock_at x.ledger.catalogue number).lineage ≡ epoch_of was) (sym c.engine.view_is) c.requires.epoch in
-    let held = c.deref.ensures ∙ ap (λ (u : Stock). u.lineage) (stock_is g c) in
-    let count = sym (c.views.ensures ∙ ap (λ (l : Lineage). length l.views) held) ∙ c.if-views.false ∙ c.views-2.ensures ∙ ap (λ (l : Lineage). length l.views) c.deref-2.ensures in
-    same_lineage was now become epoch count
-
 pub returns-clause-more : goal.returns-clause-more
 returns-clause-more g c =
     let N = g.N.Naming in
@@ -114,14 +84,14 @@ returns-clause-more g c =
     let more = c.gather_more.ensures.more _ c.table-table.ensures.held in
     let opened = subst (λ (u : Stock). AllByRecursion (IsOpenedRange read faults story.told u) more.0) (stock_is g c) more.2 in
     let are = all_so (IsOpenedRange read faults story.told now) (IsOfRange read faults story.told now) more.0 (λ x is. inl is) opened in
-    subst (λ (x : Standing). HasFurther read c.args.evolving.now.value N.sound (λ w. written_at N.script (N.start w) (N.origin w) x.shown.history number) c.args.ranges.now.items c.gather_more.new.ranges.items) c.engine.view_is
-    (subst (λ (x : Lineage). HasFurther read x N.sound (λ w. written_at N.script (N.start w) (N.origin w) i.log.history.items number) c.args.ranges.now.items c.gather_more.new.ranges.items) (lineage_is g c) (record {
+    subst (λ (x : Standing). HasFurther read (stock_at x.ledger.catalogue number).lineage N.sound (λ w. written_at N.script (N.start w) (N.origin w) x.shown.history number) c.args.ranges.now.items c.gather_more.new.ranges.items) c.engine.view_is
+    (record {
       more = more.0;
       behind = more.1;
       of_table = ranges_inputs read faults story.told now more.0 are;
       bounded = λ w sound. ranges_bounded (outset_of n w) (n.origin w) l story (g.K.Sink.held i.log.printer.sink) i.log.history.items (not i.log.printer.broken) i.log.refused (c.engine.invariant.vault w true (λ ok. sound)) (was_open g c) read faults number (table_there g c) more.0 are;
       sourced = λ w sound. ranges_sourced (outset_of n w) (n.origin w) l story (g.K.Sink.held i.log.printer.sink) i.log.history.items (not i.log.printer.broken) i.log.refused (c.engine.invariant.vault w true (λ ok. sound)) (was_open g c) read faults number (table_there g c) more.0 are;
-    }))
+    })
 
 pub returns-clause-holds : goal.returns-clause-holds
 returns-clause-holds g c =

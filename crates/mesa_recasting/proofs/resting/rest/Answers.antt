@@ -1,4 +1,5 @@
 use Rattle.std.proofs.Common.{◌≡◌, inl, inr, ◌<◌, length, true, false, refl, sym, ◌∙◌, ap, subst, arith, [], Err}
+use Rattle.mesa_image.specs.Catalog.{stock_at}
 use Rattle.mesa_schema.specs.Changes.{columns_of}
 use Rattle.mesa_skeleton.specs.Rows.{Rows}
 use Rattle.mesa_tasks.specs.Recasts.{recast_in, recast_table}
@@ -7,6 +8,7 @@ use Rattle.mesa_engine.specs.Engine.{Standing}
 use Rattle.mesa_engine.specs.mesa_ledger.Written.{written_at}
 use Rattle.mesa_completing.specs.mesa_copy.Copying.{known_ranges}
 use Rattle.mesa_completing.proofs.mesa_copy.Rewriting.{rewritten_all}
+use Rattle.mesa_completing.proofs.mesa_swapping.Becoming.{same_columns as become_same}
 use Rattle.mesa_recasting.specs.Rested.{MayRest}
 use Rattle.mesa_recasting.proofs.Further.{further_begun, further_bounded, further_known, further_of, further_sourced, known_none}
 use Rattle.mesa_recasting.proofs.resting.rest.Goals as goal
@@ -37,6 +39,9 @@ returns-then-not-running-clause-holds g c on opened whole epoch =
       | then-not-running-via-else-not-running+then-not-may_rest w ↦ let no : true ≡ false = sym (w.may_rest.ensures.1 is) ∙ w.if-not-may_rest.true in cc
     ])
 
+pub returns-then-not-running-clause-stays : goal.returns-then-not-running-clause-stays
+returns-then-not-running-clause-stays g c none = (refl, refl, refl)
+
 pub returns-then-not-running-clause-ranges : goal.returns-then-not-running-clause-ranges
 returns-then-not-running-clause-ranges g c w sound has = has
 
@@ -54,12 +59,20 @@ open_more-requires-clause-there g c κs within = c.requires.there
 pub open_more-requires-clause-opened : goal.open_more-requires-clause-opened
 open_more-requires-clause-opened g c κs within = (subst (λ (x : Standing). MayRest x.ledger c.args.task.now) c.engine.view_is (c.may_rest.ensures.0 c.if-not-may_rest.false)).opened
 
-pub open_more-requires-clause-grown : goal.open_more-requires-clause-grown
-open_more-requires-clause-grown g c κs within = c.requires.grown
+pub returns-in-Ok-clause-stays : goal.returns-in-Ok-clause-stays
+returns-in-Ok-clause-stays g c none =
+    let t = c.args.task.now in
+    absurd (none (sym c.running.ensures ∙ c.if-not-running.false) (subst (λ (x : Standing). MayRest x.ledger t) c.engine.view_is (c.may_rest.ensures.0 c.if-not-may_rest.false)))
 
-pub open_more-requires-clause-epoch : goal.open_more-requires-clause-epoch
-open_more-requires-clause-epoch g c κs within =
-    (subst (λ (x : Standing). MayRest x.ledger c.args.task.now) c.engine.view_is (c.may_rest.ensures.0 c.if-not-may_rest.false)).epoch ∙ c.requires.task.epoch
+pub returns-in-Err-Fault-clause-stays : goal.returns-in-Err-Fault-clause-stays
+returns-in-Err-Fault-clause-stays g c none =
+    let t = c.args.task.now in
+    absurd (none (sym c.running.ensures ∙ c.if-not-running.false) (subst (λ (x : Standing). MayRest x.ledger t) c.engine.view_is (c.may_rest.ensures.0 c.if-not-may_rest.false)))
+
+pub returns-in-Err-Memory-clause-stays : goal.returns-in-Err-Memory-clause-stays
+returns-in-Err-Memory-clause-stays g c none =
+    let t = c.args.task.now in
+    absurd (none (sym c.running.ensures ∙ c.if-not-running.false) (subst (λ (x : Standing). MayRest x.ledger t) c.engine.view_is (c.may_rest.ensures.0 c.if-not-may_rest.false)))
 
 -- ---- all are open, or a file is damaged
 
@@ -68,6 +81,7 @@ returns-in-Ok-clause-longer g c =
     let N = g.N.Naming in
     let read = g.D.Reader.FileReader.bytes in
     let t = c.args.task.now in
+    let now = (stock_at c.args.engine.now.ledger.catalogue t.table).lineage in
     let written = λ (w : Rows). written_at N.script (N.start w) (N.origin w) c.args.engine.now.shown.history t.table in
     record {
       table = refl;
@@ -77,7 +91,7 @@ returns-in-Ok-clause-longer g c =
       keys = refl;
       values = refl;
       more = known_ranges read c.open_more.ensures.more.more;
-      ranges = further_known read (recast_table t) N.sound written t.ranges.items c.open_more.new.ranges.items c.open_more.ensures.more;
+      ranges = further_known read now N.sound written t.ranges.items c.open_more.new.ranges.items c.open_more.ensures.more;
     }
 
 pub returns-in-Ok-clause-begun : goal.returns-in-Ok-clause-begun
@@ -85,32 +99,42 @@ returns-in-Ok-clause-begun g c made are =
     let N = g.N.Naming in
     let read = g.D.Reader.FileReader.bytes in
     let t = c.args.task.now in
+    let now = (stock_at c.args.engine.now.ledger.catalogue t.table).lineage in
     let written = λ (w : Rows). written_at N.script (N.start w) (N.origin w) c.args.engine.now.shown.history t.table in
-    further_begun read (recast_table t) N.sound written t.ranges.items c.open_more.new.ranges.items c.open_more.ensures.more g.M.Made.bytes g.M.Made.id_of (columns_of (recast_table t)) (recast_in t) made.ranges.items are
+    further_begun read now N.sound written t.ranges.items c.open_more.new.ranges.items c.open_more.ensures.more g.M.Made.bytes g.M.Made.id_of (columns_of (recast_table t)) (recast_in t) made.ranges.items are
 
 pub returns-in-Ok-clause-kept : goal.returns-in-Ok-clause-kept
 returns-in-Ok-clause-kept g c =
     let N = g.N.Naming in
     let read = g.D.Reader.FileReader.bytes in
     let t = c.args.task.now in
+    let now = (stock_at c.args.engine.now.ledger.catalogue t.table).lineage in
+    let is = subst (λ (x : Standing). MayRest x.ledger t) c.engine.view_is (c.may_rest.ensures.0 c.if-not-may_rest.false) in
+    let same = become_same (recast_table t) now (is.epoch ∙ c.requires.task.epoch) c.requires.grown in
     let written = λ (w : Rows). written_at N.script (N.start w) (N.origin w) c.args.engine.now.shown.history t.table in
-    record { epoch = c.requires.task.epoch; allowed = c.requires.task.allowed; ranges = further_of read (recast_table t) N.sound written t.ranges.items c.open_more.new.ranges.items c.open_more.ensures.more c.requires.task.ranges }
+    record { epoch = c.requires.task.epoch; allowed = c.requires.task.allowed; ranges = further_of read now N.sound written t.ranges.items c.open_more.new.ranges.items c.open_more.ensures.more (recast_table t) same c.requires.task.ranges }
 
 pub returns-in-Ok-clause-ranges : goal.returns-in-Ok-clause-ranges
 returns-in-Ok-clause-ranges g c w sound has =
     let N = g.N.Naming in
     let read = g.D.Reader.FileReader.bytes in
     let t = c.args.task.now in
+    let now = (stock_at c.args.engine.now.ledger.catalogue t.table).lineage in
+    let is = subst (λ (x : Standing). MayRest x.ledger t) c.engine.view_is (c.may_rest.ensures.0 c.if-not-may_rest.false) in
+    let same = become_same (recast_table t) now (is.epoch ∙ c.requires.task.epoch) c.requires.grown in
     let written = λ (w : Rows). written_at N.script (N.start w) (N.origin w) c.args.engine.now.shown.history t.table in
-    further_sourced read (recast_table t) N.sound written t.ranges.items c.open_more.new.ranges.items c.open_more.ensures.more w sound has
+    further_sourced read now N.sound written t.ranges.items c.open_more.new.ranges.items c.open_more.ensures.more (recast_table t) same w sound has
 
 pub returns-in-Ok-clause-bounded : goal.returns-in-Ok-clause-bounded
 returns-in-Ok-clause-bounded g c w sound are =
     let N = g.N.Naming in
     let read = g.D.Reader.FileReader.bytes in
     let t = c.args.task.now in
+    let now = (stock_at c.args.engine.now.ledger.catalogue t.table).lineage in
+    let is = subst (λ (x : Standing). MayRest x.ledger t) c.engine.view_is (c.may_rest.ensures.0 c.if-not-may_rest.false) in
+    let same = become_same (recast_table t) now (is.epoch ∙ c.requires.task.epoch) c.requires.grown in
     let written = λ (w : Rows). written_at N.script (N.start w) (N.origin w) c.args.engine.now.shown.history t.table in
-    further_bounded read (recast_table t) N.sound written t.ranges.items c.open_more.new.ranges.items c.open_more.ensures.more w sound are
+    further_bounded read now N.sound written t.ranges.items c.open_more.new.ranges.items c.open_more.ensures.more (recast_table t) same w sound are
 
 pub returns-in-Ok-clause-differs : goal.returns-in-Ok-clause-differs
 returns-in-Ok-clause-differs g c = c.in-Ok.ensures.differs
@@ -128,6 +152,7 @@ returns-in-Err-Fault-clause-longer g c =
     let N = g.N.Naming in
     let read = g.D.Reader.FileReader.bytes in
     let t = c.args.task.now in
+    let now = (stock_at c.args.engine.now.ledger.catalogue t.table).lineage in
     let written = λ (w : Rows). written_at N.script (N.start w) (N.origin w) c.args.engine.now.shown.history t.table in
     record {
       table = refl;
@@ -137,7 +162,7 @@ returns-in-Err-Fault-clause-longer g c =
       keys = refl;
       values = refl;
       more = known_ranges read c.open_more.ensures.more.more;
-      ranges = further_known read (recast_table t) N.sound written t.ranges.items c.open_more.new.ranges.items c.open_more.ensures.more;
+      ranges = further_known read now N.sound written t.ranges.items c.open_more.new.ranges.items c.open_more.ensures.more;
     }
 
 pub returns-in-Err-Fault-clause-begun : goal.returns-in-Err-Fault-clause-begun
@@ -145,32 +170,42 @@ returns-in-Err-Fault-clause-begun g c made are =
     let N = g.N.Naming in
     let read = g.D.Reader.FileReader.bytes in
     let t = c.args.task.now in
+    let now = (stock_at c.args.engine.now.ledger.catalogue t.table).lineage in
     let written = λ (w : Rows). written_at N.script (N.start w) (N.origin w) c.args.engine.now.shown.history t.table in
-    further_begun read (recast_table t) N.sound written t.ranges.items c.open_more.new.ranges.items c.open_more.ensures.more g.M.Made.bytes g.M.Made.id_of (columns_of (recast_table t)) (recast_in t) made.ranges.items are
+    further_begun read now N.sound written t.ranges.items c.open_more.new.ranges.items c.open_more.ensures.more g.M.Made.bytes g.M.Made.id_of (columns_of (recast_table t)) (recast_in t) made.ranges.items are
 
 pub returns-in-Err-Fault-clause-kept : goal.returns-in-Err-Fault-clause-kept
 returns-in-Err-Fault-clause-kept g c =
     let N = g.N.Naming in
     let read = g.D.Reader.FileReader.bytes in
     let t = c.args.task.now in
+    let now = (stock_at c.args.engine.now.ledger.catalogue t.table).lineage in
+    let is = subst (λ (x : Standing). MayRest x.ledger t) c.engine.view_is (c.may_rest.ensures.0 c.if-not-may_rest.false) in
+    let same = become_same (recast_table t) now (is.epoch ∙ c.requires.task.epoch) c.requires.grown in
     let written = λ (w : Rows). written_at N.script (N.start w) (N.origin w) c.args.engine.now.shown.history t.table in
-    record { epoch = c.requires.task.epoch; allowed = c.requires.task.allowed; ranges = further_of read (recast_table t) N.sound written t.ranges.items c.open_more.new.ranges.items c.open_more.ensures.more c.requires.task.ranges }
+    record { epoch = c.requires.task.epoch; allowed = c.requires.task.allowed; ranges = further_of read now N.sound written t.ranges.items c.open_more.new.ranges.items c.open_more.ensures.more (recast_table t) same c.requires.task.ranges }
 
 pub returns-in-Err-Fault-clause-ranges : goal.returns-in-Err-Fault-clause-ranges
 returns-in-Err-Fault-clause-ranges g c w sound has =
     let N = g.N.Naming in
     let read = g.D.Reader.FileReader.bytes in
     let t = c.args.task.now in
+    let now = (stock_at c.args.engine.now.ledger.catalogue t.table).lineage in
+    let is = subst (λ (x : Standing). MayRest x.ledger t) c.engine.view_is (c.may_rest.ensures.0 c.if-not-may_rest.false) in
+    let same = become_same (recast_table t) now (is.epoch ∙ c.requires.task.epoch) c.requires.grown in
     let written = λ (w : Rows). written_at N.script (N.start w) (N.origin w) c.args.engine.now.shown.history t.table in
-    further_sourced read (recast_table t) N.sound written t.ranges.items c.open_more.new.ranges.items c.open_more.ensures.more w sound has
+    further_sourced read now N.sound written t.ranges.items c.open_more.new.ranges.items c.open_more.ensures.more (recast_table t) same w sound has
 
 pub returns-in-Err-Fault-clause-bounded : goal.returns-in-Err-Fault-clause-bounded
 returns-in-Err-Fault-clause-bounded g c w sound are =
     let N = g.N.Naming in
     let read = g.D.Reader.FileReader.bytes in
     let t = c.args.task.now in
+    let now = (stock_at c.args.engine.now.ledger.catalogue t.table).lineage in
+    let is = subst (λ (x : Standing). MayRest x.ledger t) c.engine.view_is (c.may_rest.ensures.0 c.if-not-may_rest.false) in
+    let same = become_same (recast_table t) now (is.epoch ∙ c.requires.task.epoch) c.requires.grown in
     let written = λ (w : Rows). written_at N.script (N.start w) (N.origin w) c.args.engine.now.shown.history t.table in
-    further_bounded read (recast_table t) N.sound written t.ranges.items c.open_more.new.ranges.items c.open_more.ensures.more w sound are
+    further_bounded read now N.sound written t.ranges.items c.open_more.new.ranges.items c.open_more.ensures.more (recast_table t) same w sound are
 
 pub returns-in-Err-Fault-clause-sort : goal.returns-in-Err-Fault-clause-sort
 returns-in-Err-Fault-clause-sort g c = inl refl
@@ -191,6 +226,7 @@ returns-in-Err-Memory-clause-longer g c =
     let N = g.N.Naming in
     let read = g.D.Reader.FileReader.bytes in
     let t = c.args.task.now in
+    let now = (stock_at c.args.engine.now.ledger.catalogue t.table).lineage in
     let written = λ (w : Rows). written_at N.script (N.start w) (N.origin w) c.args.engine.now.shown.history t.table in
     record {
       table = refl;
@@ -200,7 +236,7 @@ returns-in-Err-Memory-clause-longer g c =
       keys = refl;
       values = refl;
       more = known_ranges read c.open_more.ensures.more.more;
-      ranges = further_known read (recast_table t) N.sound written t.ranges.items c.open_more.new.ranges.items c.open_more.ensures.more;
+      ranges = further_known read now N.sound written t.ranges.items c.open_more.new.ranges.items c.open_more.ensures.more;
     }
 
 pub returns-in-Err-Memory-clause-begun : goal.returns-in-Err-Memory-clause-begun
@@ -208,32 +244,42 @@ returns-in-Err-Memory-clause-begun g c made are =
     let N = g.N.Naming in
     let read = g.D.Reader.FileReader.bytes in
     let t = c.args.task.now in
+    let now = (stock_at c.args.engine.now.ledger.catalogue t.table).lineage in
     let written = λ (w : Rows). written_at N.script (N.start w) (N.origin w) c.args.engine.now.shown.history t.table in
-    further_begun read (recast_table t) N.sound written t.ranges.items c.open_more.new.ranges.items c.open_more.ensures.more g.M.Made.bytes g.M.Made.id_of (columns_of (recast_table t)) (recast_in t) made.ranges.items are
+    further_begun read now N.sound written t.ranges.items c.open_more.new.ranges.items c.open_more.ensures.more g.M.Made.bytes g.M.Made.id_of (columns_of (recast_table t)) (recast_in t) made.ranges.items are
 
 pub returns-in-Err-Memory-clause-kept : goal.returns-in-Err-Memory-clause-kept
 returns-in-Err-Memory-clause-kept g c =
     let N = g.N.Naming in
     let read = g.D.Reader.FileReader.bytes in
     let t = c.args.task.now in
+    let now = (stock_at c.args.engine.now.ledger.catalogue t.table).lineage in
+    let is = subst (λ (x : Standing). MayRest x.ledger t) c.engine.view_is (c.may_rest.ensures.0 c.if-not-may_rest.false) in
+    let same = become_same (recast_table t) now (is.epoch ∙ c.requires.task.epoch) c.requires.grown in
     let written = λ (w : Rows). written_at N.script (N.start w) (N.origin w) c.args.engine.now.shown.history t.table in
-    record { epoch = c.requires.task.epoch; allowed = c.requires.task.allowed; ranges = further_of read (recast_table t) N.sound written t.ranges.items c.open_more.new.ranges.items c.open_more.ensures.more c.requires.task.ranges }
+    record { epoch = c.requires.task.epoch; allowed = c.requires.task.allowed; ranges = further_of read now N.sound written t.ranges.items c.open_more.new.ranges.items c.open_more.ensures.more (recast_table t) same c.requires.task.ranges }
 
 pub returns-in-Err-Memory-clause-ranges : goal.returns-in-Err-Memory-clause-ranges
 returns-in-Err-Memory-clause-ranges g c w sound has =
     let N = g.N.Naming in
     let read = g.D.Reader.FileReader.bytes in
     let t = c.args.task.now in
+    let now = (stock_at c.args.engine.now.ledger.catalogue t.table).lineage in
+    let is = subst (λ (x : Standing). MayRest x.ledger t) c.engine.view_is (c.may_rest.ensures.0 c.if-not-may_rest.false) in
+    let same = become_same (recast_table t) now (is.epoch ∙ c.requires.task.epoch) c.requires.grown in
     let written = λ (w : Rows). written_at N.script (N.start w) (N.origin w) c.args.engine.now.shown.history t.table in
-    further_sourced read (recast_table t) N.sound written t.ranges.items c.open_more.new.ranges.items c.open_more.ensures.more w sound has
+    further_sourced read now N.sound written t.ranges.items c.open_more.new.ranges.items c.open_more.ensures.more (recast_table t) same w sound has
 
 pub returns-in-Err-Memory-clause-bounded : goal.returns-in-Err-Memory-clause-bounded
 returns-in-Err-Memory-clause-bounded g c w sound are =
     let N = g.N.Naming in
     let read = g.D.Reader.FileReader.bytes in
     let t = c.args.task.now in
+    let now = (stock_at c.args.engine.now.ledger.catalogue t.table).lineage in
+    let is = subst (λ (x : Standing). MayRest x.ledger t) c.engine.view_is (c.may_rest.ensures.0 c.if-not-may_rest.false) in
+    let same = become_same (recast_table t) now (is.epoch ∙ c.requires.task.epoch) c.requires.grown in
     let written = λ (w : Rows). written_at N.script (N.start w) (N.origin w) c.args.engine.now.shown.history t.table in
-    further_bounded read (recast_table t) N.sound written t.ranges.items c.open_more.new.ranges.items c.open_more.ensures.more w sound are
+    further_bounded read now N.sound written t.ranges.items c.open_more.new.ranges.items c.open_more.ensures.more (recast_table t) same w sound are
 
 pub returns-in-Err-Memory-clause-sort : goal.returns-in-Err-Memory-clause-sort
 returns-in-Err-Memory-clause-sort g c = inr refl

@@ -3,7 +3,6 @@ use Rattle.std.specs.Prelude.{◌==◌, ◌⊎◌}
 use Rattle.std.proofs.Math.Logic.{⊎_map}
 use Rattle.mesa_fault.specs.Causes.{last}
 use Rattle.mesa_history.specs.Counting.{answers_bench, answers_disk}
-use Rattle.mesa_history.specs.Refused.{is_refusal}
 use Rattle.mesa_history.specs.Replay.{closes}
 use Rattle.mesa_history.specs.Run.{Finished}
 use Rattle.mesa_history.specs.Turns.{IsDue}
@@ -32,7 +31,7 @@ use Rattle.mesa_tasks.specs.GivingBack.{SomeFailed}
 use Rattle.mesa_tasks.specs.declared.merging.CompactError.TheVariants as compact
 use Rattle.mesa_delta.specs.declared.error.FileError.TheVariants as file_error
 use Rattle.mesa_completing.specs.Unmerged.{cause_of, closing_cause, closing_ledger}
-use Rattle.mesa_completing.proofs.Closings.{closing_refuses, given_up_engine, given_up_takes, only_draft}
+use Rattle.mesa_completing.proofs.Closings.{given_up_engine, given_up_takes, only_draft}
 use Rattle.mesa_engine.proofs.mesa_ledger.mesa_walk.Working.{close_later}
 use Rattle.mesa_recasting.specs.Rested.{HasUnpaid}
 use Rattle.mesa_recasting.proofs.Paid.{close_unanswered, only_read, paid}
@@ -127,10 +126,6 @@ returns-clause-draft g c =
     subst (λ (x : Standing). AnswersDraft N.script (N.start no_rows) x.shown new s (c.args.error ≡ compact.Draft)) c.engine.view_is
     (answers_where N.script (N.start no_rows) (record { history = h; running = not i.log.printer.broken; clock = story.moment }) new s e (c.args.error ≡ compact.Draft) c.fail.ensures.items
     (λ low answers. only_draft i.metadata.ledger.closed c.args.error closing (subst (λ k. IsTrue (answers_bench closing (outcome_of k))) c.fall-failure.ensures.cause answers)))
-
-pub returns-clause-reply : goal.returns-clause-reply
-returns-clause-reply g c =
-    ap is_refusal c.fail.ensures.reply ∙ ap (λ k. is_refusal (reply_of k)) c.fall-failure.ensures.cause ∙ closing_refuses c.engine.inside.metadata.ledger.closed c.args.error
 
 pub returns-clause-disk : goal.returns-clause-disk
 returns-clause-disk g c =

@@ -1,9 +1,9 @@
-use Rattle.std.proofs.Common.{◌≡◌, Err, true, false, not, sym, ap, ◌∙◌, subst}
-use Rattle.std.specs.Prelude.{is_ok}
-use Rattle.mesa_history.specs.Refused.{is_refusal}
+use Rattle.std.proofs.Common.{◌≡◌, Err, true, length, not, sym, ap, ◌∙◌, subst}
+use Rattle.std.specs.Prelude.{OnOk, is_ok}
 use Rattle.mesa_history.specs.Run.{Granted, Renewed}
 use Rattle.mesa_model.specs.declared.commands.Command.TheVariants as command
 use Rattle.mesa_granted.specs.mesa_service.Works.{HasMerged, WasGranted, known_task}
+use Rattle.mesa_recasting.specs.mesa_completing.Swept.{ClaimHolds, HasStood, IsSwept}
 use Rattle.mesa_skeleton.specs.Rows.{no_rows}
 use Rattle.mesa_tasks.specs.Tasks.{claim_in}
 use Rattle.mesa_tasks.specs.declared.merging.CompactError.TheVariants as compact
@@ -92,9 +92,13 @@ returns-in-Err-clause-draft g c =
     subst (λ (s : Stand). AnswersDraft N.script (N.start no_rows) s.shown new c.args.who.session (c.args.merged ≡ Err compact.Draft)) c.self.view_is
     (answers_more N.script (N.start no_rows) c.self.inside.engine.shown new c.args.who.session (λ same. c.in-Err.is ∙ ap Err same) c.give_up.ensures.draft)
 
-pub returns-in-Err-clause-swept : goal.returns-in-Err-clause-swept
-returns-in-Err-clause-swept g c from to is =
-    absurd (let never : true ≡ false = sym c.give_up.ensures.reply ∙ ap is_refusal is in cc)
+pub returns-in-Ok-clause-swept : goal.returns-in-Ok-clause-swept
+returns-in-Ok-clause-swept g c =
+    let who = c.args.who in
+    let claim = claim_in c.args.task in
+    let now = c.complete.new.engine in
+    subst (λ m. OnOk m (HasStood c.args.self.now.shown now.shown who.session who.command → ClaimHolds c.args.self.now.ledger (length c.args.self.now.shown.history) claim → IsSwept now.told now.ledger now.shown.history)) (sym c.in-Ok.is)
+    (subst (λ (s : Stand). HasStood s.shown now.shown who.session who.command → ClaimHolds s.ledger (length s.shown.history) claim → IsSwept now.told now.ledger now.shown.history) c.self.view_is c.complete.ensures.swept)
 
 pub returns-in-Ok-clause-disk : goal.returns-in-Ok-clause-disk
 returns-in-Ok-clause-disk g c =

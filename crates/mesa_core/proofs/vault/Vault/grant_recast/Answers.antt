@@ -23,13 +23,13 @@ grant_recast-granted-requires-clause-due g c κs within =
 pub returns-clause-granted : goal.returns-clause-granted
 returns-clause-granted g c =
     let N = g.N.Naming in
-    let e = c.in-Ok.ensures in
+    let e = c.in-Some.ensures in
     recast_granted_as g.D.Reader.FileReader.bytes N.script N.start N.origin N.sound (N.origin no_rows).generation c.grant_recast-granted.new.engine.shown.history c.self.inside.engine.ledger.catalogue
     (subst (IsCatalogAfter N.script N.start (N.origin no_rows).generation c.grant_recast-granted.new.engine.shown.history) c.grant_recast-granted.ensures.catalogue c.catalogue.ensures)
-    c.in-Ok.task e.low e.there e.next e.lineage e.whole e.bounded e.ranges c.recasts_are_known.ensures.ranges c.recasts_are_known.ensures.bounded
+    c.in-Some.task e.low e.there e.next e.lineage e.whole e.bounded e.ranges c.recasts_are_known.ensures.ranges c.recasts_are_known.ensures.bounded
 
 pub returns-clause-task : goal.returns-clause-task
-returns-clause-task g c = record { task = c.in-Ok.ensures.task; damage = c.in-Ok.ensures.damage }
+returns-clause-task g c = record { task = c.in-Some.ensures.task; damage = c.in-Some.ensures.damage }
 
 pub returns-clause-disk : goal.returns-clause-disk
 returns-clause-disk g c =
@@ -37,8 +37,8 @@ returns-clause-disk g c =
     let now = c.grant_recast-granted.new.engine in
     subst (λ (s : Stand). AnswersDisk N.script (N.start no_rows) s.shown now.shown (SomeRose s.faults now.faults)) c.self.view_is c.grant_recast-granted.ensures.disk
 
-pub returns-in-Err-clause-disk : goal.returns-in-Err-clause-disk
-returns-in-Err-clause-disk g c =
+pub returns-in_default-clause-disk : goal.returns-in_default-clause-disk
+returns-in_default-clause-disk g c =
     let N = g.N.Naming in
     let now = c.grant_recast-granted.new.engine in
     subst (λ (s : Stand). AnswersDisk N.script (N.start no_rows) s.shown now.shown (SomeRose s.faults now.faults)) c.self.view_is c.grant_recast-granted.ensures.disk

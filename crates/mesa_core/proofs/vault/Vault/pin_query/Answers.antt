@@ -1,5 +1,5 @@
 use Rattle.std.proofs.Common.{◌≡◌, ◌∙◌, ap, sym, subst, Some}
-use Rattle.std.specs.Prelude.{IfOk}
+use Rattle.std.specs.Prelude.{IfSome}
 use Rattle.mesa_recasting.specs.mesa_completing.mesa_asking.Opening.{HasItsFiles}
 use Rattle.mesa_filter.specs.declared.words.QueryWords.{QueryWords}
 use Rattle.mesa_history.specs.Legal.{is_query}
@@ -43,6 +43,6 @@ returns g c =
           let both : Some (command.Query c.words_of-words.result.now) ≡ Some (command.Query words) =
           sym c.words_of-words.ensures ∙ ap (λ (script : Script). command_at script who.session who.command) c.self.invariant.script ∙ known in
           let same : c.words_of-words.result.now ≡ words = cc in
-          subst (λ (s : Stand). IfOk c.pin_query.result (HasItsFiles bytes faults s.told s.ledger who.session words)) c.self.view_is
-          (subst (λ (asked : QueryWords). IfOk c.pin_query.result (HasItsFiles bytes faults c.self.inside.engine.told c.self.inside.engine.ledger who.session asked)) same e.files);
+          subst (λ (s : Stand). IfSome c.pin_query.result (HasItsFiles bytes faults s.told s.ledger who.session words)) c.self.view_is
+          (subst (λ (asked : QueryWords). IfSome c.pin_query.result (HasItsFiles bytes faults c.self.inside.engine.told c.self.inside.engine.ledger who.session asked)) same e.files);
     }

@@ -1,17 +1,20 @@
-use Rattle.std.proofs.Common.{◌≡◌, ◌⊎◌, ◌++◌, ◌∷◌, [], length, refl, sym, ap, ◌∙◌, subst, true, Some, Err}
+use Rattle.std.proofs.Common.{◌≡◌, ◌⊎◌, ◌++◌, ◌∷◌, [], length, refl, sym, ap, ◌∙◌, subst, true, Some, Ok, Err}
 use Rattle.std.proofs.lemmas.Result.{on_ok_weaker}
 use Rattle.std.specs.Prelude.{IfErr, OnOk}
 use Rattle.mesa_delta.specs.declared.error.FileError.TheVariants as file_error
 use Rattle.mesa_granted.specs.mesa_service.Recasts.{HasRegrouped, known_recast}
 use Rattle.mesa_granted.specs.mesa_service.Works.{WasGranted}
+use Rattle.mesa_granted.specs.mesa_swapping.Recasts.{stock_of_recast}
+use Rattle.mesa_history.specs.Machine.{still_checked}
 use Rattle.mesa_history.specs.Run.{Renewed}
 use Rattle.mesa_model.specs.declared.commands.Command.TheVariants as command
 use Rattle.mesa_model.specs.declared.entries.Kind.TheVariants as kind
+use Rattle.mesa_recasting.specs.mesa_completing.Swept.{ClaimHolds, HasStood, IsSwept}
 use Rattle.mesa_recasting.specs.mesa_completing.Unmerged.{closing_cause}
 use Rattle.mesa_recasting.specs.Rested.{HasUnpaid}
 use Rattle.mesa_schema.specs.Changes.{epoch_of}
 use Rattle.mesa_skeleton.specs.Rows.{no_rows}
-use Rattle.mesa_tasks.specs.Recasts.{claim_of_recast}
+use Rattle.mesa_tasks.specs.Recasts.{claim_of_recast, recast_in}
 use Rattle.mesa_tasks.specs.declared.merging.CompactError.TheVariants as compact
 use Rattle.mesa_walk.specs.mesa_output.Output.{block}
 use Rattle.mesa_walk.specs.Causes.{outcome_of, reply_of, told_at}
@@ -119,3 +122,11 @@ returns-clause-prints g c =
     let new = c.recast.new.engine in
     subst (λ (s : Stand). IfErr c.args.made (λ e. (s.shown.running ≡ true)
     → IsPut (block (entry who.session who.command kind.Close (outcome_of (closing_cause s.ledger.closed e)) new.shown.clock) (Some (told_at (length s.shown.history) (reply_of (closing_cause s.ledger.closed e))))) new.shown.running s.sink new.sink)) c.self.view_is c.recast.ensures.prints
+
+pub returns-clause-swept : goal.returns-clause-swept
+returns-clause-swept g c =
+    let who = c.args.who in
+    let t = c.args.task in
+    let now = c.recast.new.engine in
+    subst (λ (s : Stand). OnOk c.args.made (HasStood s.shown now.shown who.session who.command → ClaimHolds s.ledger (length s.shown.history) (claim_of_recast t) → still_checked (stock_of_recast s.ledger t).lineage t.epoch (recast_in t) ≡ Ok tt
+    → IsSwept now.told now.ledger now.shown.history)) c.self.view_is c.recast.ensures.swept

@@ -1,11 +1,13 @@
-use Rattle.std.proofs.Common.{◌<◌, inl, sym, ap, ◌∙◌, subst}
+use Rattle.std.proofs.Common.{◌≡◌, ◌<◌, inl, sym, ap, ◌∙◌, subst, true, Ok, Err}
 use Rattle.mesa_granted.specs.mesa_service.Recasts.{known_recast}
 use Rattle.mesa_granted.specs.mesa_service.Works.{WasGranted}
 use Rattle.mesa_granted.specs.mesa_swapping.Grown.{HasBecome}
+use Rattle.mesa_engine.specs.Engine.{Standing}
 use Rattle.mesa_engine.specs.mesa_ledger.Ledger.{Ledger}
 use Rattle.mesa_skeleton.specs.Rows.{no_rows}
 use Rattle.mesa_tasks.specs.Recasts.{recast_table}
-use Rattle.mesa_walk.specs.Turns.{Shown}
+use Rattle.mesa_recasting.specs.Rested.{MayRest}
+use Rattle.mesa_walk.specs.Turns.{Shown, SomeRose}
 use Rattle.mesa_core.specs.Handing.{AllAreRested, IsRecastGranted, IsRecastHeld}
 use Rattle.mesa_core.specs.Vault.{Stand}
 use Rattle.mesa_core.proofs.RecastHeld.{held_longer, rested_known}
@@ -65,3 +67,22 @@ returns-clause-rested g c runs whole =
     (rested_known read now.ledger t c.rest-found.new.task e.longer
     (subst (HasBecome (recast_table t)) (sym (lineage_is N.script N.start (N.origin no_rows).generation now.shown.history now.ledger.catalogue c.catalogue.ensures t.table)) c.held.ensures.become)
     (λ opened same. c.in-Ok.ensures.holds (ap (λ (s : Shown). s.running) (sym e.shown) ∙ runs) opened whole same) c.recasts_are_known.ensures.holds)
+
+-- ---- a fault, and nothing more to open
+
+pub returns-in-Err-clause-cause : goal.returns-in-Err-clause-cause
+returns-in-Err-clause-cause g c is = subst (λ (s : Stand). SomeRose s.faults c.rest-found.new.engine.faults) c.self.view_is (c.in-Err.ensures.cause is)
+
+pub returns-clause-stays : goal.returns-clause-stays
+returns-clause-stays g c none =
+    let never = subst (λ (x : Stand). (x.shown.running ≡ true) → MayRest x.ledger c.args.task → ⊥) (sym c.self.view_is) none in
+    let so = c.rest-found.ensures.stays never in
+    (ap Ok so.1, ap (λ (s : Standing). s.faults) so.2 ∙ ap (λ (s : Stand). s.faults) c.self.view_is)
+
+pub returns-in-Err-clause-stays : goal.returns-in-Err-clause-stays
+returns-in-Err-clause-stays g c none =
+    let never = subst (λ (x : Stand). (x.shown.running ≡ true) → MayRest x.ledger c.args.task → ⊥) (sym c.self.view_is) none in
+    let so = c.rest-found.ensures.stays never in
+    let went = so.0 in
+    let failed = c.in-Err.is in
+    absurd cc
