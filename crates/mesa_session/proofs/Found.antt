@@ -1,6 +1,6 @@
 -- What a session had before its turn, in what the turn finds.
 use Rattle.std.proofs.Common.{◌≡◌, ℕ, ◌<◌, ◌≤◌, ◌==◌, ◌&&◌, true, not, IsTrue, List, [], ◌++◌, length, append_assoc, append-nil, sym, ap, ◌∙◌, subst, arith}
-use Rattle.std.specs.Prelude.{Option, Result, Ok, Err, IfOk, IfErr}
+use Rattle.std.specs.Prelude.{Option, None, Some, Result, IfNone, IfSome}
 use Rattle.std.specs.List.{AllByRecursion}
 use Rattle.std.proofs.lemmas.List.{length-map, map-append}
 use mathlib.Core.List.{IsPrefix}
@@ -14,7 +14,6 @@ use Rattle.mesa_filter.specs.declared.words.QueryWords.{QueryWords}
 use Rattle.mesa_model.specs.declared.commands.Script.{Script}
 use Rattle.mesa_model.specs.declared.entries.Entry.{Entry}
 use Rattle.mesa_model.specs.declared.entries.Kind.TheVariants as kind
-use Rattle.mesa_model.specs.declared.replies.Reply.{Reply}
 use Rattle.mesa_model.specs.Entry.{IsShort, entry_of, history_of, number_of, numbers_of}
 use Rattle.mesa_model.specs.Query.{Answer}
 use Rattle.mesa_model.proofs.Numbers.{history_told}
@@ -109,26 +108,26 @@ granted_later granted t old new more was = record {
 }
 
 -- a task that a turn granted was granted by the end of it
-pub granted_then : {T E K : Type 0} (known : T → K) (granted : List Entry → K → Type 0) (r : Result T E) (h now : List Entry) → h ≡ now → IfOk r (λ t. granted h (known t)) → IfOk r (λ t. WasGranted granted now (known t))
-granted_then known granted (Ok t) h now same is = record { past = h; later = []; whole = append-nil h ∙ same; was = is }
-granted_then known granted (Err e) h now same is = is
+pub granted_then : {T K : Type 0} (known : T → K) (granted : List Entry → K → Type 0) (r : Option T) (h now : List Entry) → h ≡ now → IfSome r (λ t. granted h (known t)) → IfSome r (λ t. WasGranted granted now (known t))
+granted_then known granted (Some t) h now same is = record { past = h; later = []; whole = append-nil h ∙ same; was = is }
+granted_then known granted None h now same is = is
 
 -- ---- a query's first turn
 
 module _ {R : Type 0} (bytes : R → Option (List ℕ)) (script : Script) (from : Rows → State) (tells : List Entry → KnownPin → Rows → Answer → Type 0) (old new : Shown) (session number : ℕ) where
-  pub query_turn : (r : Result (Pinned R) Reply) → TakesQuery bytes script from tells old new session number r → IsTurn old new session number kind.Decide
-  query_turn (Ok p) takes = takes.0.turn
-  query_turn (Err e) takes = takes.turn
+  pub query_turn : (r : Option (Pinned R)) → TakesQuery bytes script from tells old new session number r → IsTurn old new session number kind.Decide
+  query_turn (Some p) takes = takes.0.turn
+  query_turn None takes = takes.turn
 
-  pub query_seen : (r : Result (Pinned R) Reply) → TakesQuery bytes script from tells old new session number r → IsSeen script (from no_rows) new
-  query_seen (Ok p) takes = takes.0.seen
-  query_seen (Err e) takes = takes.seen
+  pub query_seen : (r : Option (Pinned R)) → TakesQuery bytes script from tells old new session number r → IsSeen script (from no_rows) new
+  query_seen (Some p) takes = takes.0.seen
+  query_seen None takes = takes.seen
 
-  pub query_opened : (r : Result (Pinned R) Reply) (now : List Entry) → new.history ≡ now → TakesQuery bytes script from tells old new session number r
-      → IfOk r (λ p. IsOpenQuery script from now session number p.at (λ past. tells past (known_pin bytes p)) × CanBeAnswered bytes p)
-  query_opened (Ok p) now same takes = (subst (λ (h : List Entry). IsOpenQuery script from h session number p.at (λ past. tells past (known_pin bytes p))) same takes.0.opened, takes.1)
-  query_opened (Err e) now same takes = tt
+  pub query_opened : (r : Option (Pinned R)) (now : List Entry) → new.history ≡ now → TakesQuery bytes script from tells old new session number r
+      → IfSome r (λ p. IsOpenQuery script from now session number p.at (λ past. tells past (known_pin bytes p)) × CanBeAnswered bytes p)
+  query_opened (Some p) now same takes = (subst (λ (h : List Entry). IsOpenQuery script from h session number p.at (λ past. tells past (known_pin bytes p))) same takes.0.opened, takes.1)
+  query_opened None now same takes = tt
 
-  pub query_over : (r : Result (Pinned R) Reply) → TakesQuery bytes script from tells old new session number r → IfErr r (λ e. place_of (run_at script (from no_rows) new.history) session ≡ place_then (not old.running) number Finished)
-  query_over (Ok p) takes = tt
-  query_over (Err e) takes = takes.place
+  pub query_over : (r : Option (Pinned R)) → TakesQuery bytes script from tells old new session number r → IfNone r (place_of (run_at script (from no_rows) new.history) session ≡ place_then (not old.running) number Finished)
+  query_over (Some p) takes = tt
+  query_over None takes = takes.place

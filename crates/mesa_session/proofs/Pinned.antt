@@ -1,5 +1,5 @@
 -- A pinned query that was answered: what is known of its files is what was known before, and its page is that of the files as they are now.
-use Rattle.std.proofs.Common.{◌≡◌, ℕ, List, [], ◌∷◌, map, refl, sym, ap, ◌∙◌, subst}
+use Rattle.std.proofs.Common.{◌≡◌, inl, inr, ⊎_elim, ℕ, ◌<◌, List, [], ◌∷◌, map, refl, sym, ap, ◌∙◌, subst}
 use Rattle.std.specs.Prelude.{◌⊎◌, Option, Result, Ok, Err, IfOk, IfErr}
 use Rattle.mesa_file.specs.declared.damage.Damage.{Damage}
 use Rattle.mesa_schema.specs.declared.rows.Row.{Row}
@@ -15,7 +15,9 @@ use Rattle.mesa_delta.specs.declared.error.FileError.{FileError}
 use Rattle.mesa_delta.specs.declared.error.FileError.TheVariants as file
 use Rattle.mesa_compact.specs.mesa_merge.Faults.{SomeRose, faults_of}
 use Rattle.mesa_compact.specs.mesa_merge.Inputs.{Known, AreTold, known_of, knowns_of}
-use Rattle.mesa_tasks.specs.GivingBack.{pinned_inputs}
+use Rattle.mesa_cursor.specs.Cursors.{reader_in}
+use Rattle.mesa_filter.specs.Query.{BuiltQuery}
+use Rattle.mesa_tasks.specs.GivingBack.{SomeFailed, pinned_inputs}
 use Rattle.mesa_tasks.specs.Pins.{relation_rows}
 use Rattle.mesa_tasks.specs.declared.querying.Pinned.{Pinned}
 use Rattle.mesa_tasks.specs.declared.querying.PinnedInput.{PinnedInput}
@@ -25,6 +27,7 @@ use Rattle.mesa_query.specs.Relation.{page_over, parts_pinned, parts_ungrouped, 
 use Rattle.mesa_query.specs.Sums.{IsSumIn}
 use Rattle.mesa_service.specs.Damages.{IsUnread}
 use Rattle.mesa_service.specs.Pins.{IsAnswer, IsAnswerDamage, IsPageOver, heading_in, known_pin}
+use Rattle.mesa_warm.specs.Same.{IsSamePin, readers_in}
 use Rattle.mesa_session.proofs.Damaged.{query_differs, rose_failed}
 
 -- ---- files of which the same is known
@@ -72,7 +75,7 @@ module _ {R : Type 0} (bytes : R → Option (List ℕ)) where
   -- ---- a query before and after its files were read
 
   module _ (old new : Pinned R) (rest' : new ≡ record old { inputs = new.inputs }) (known : knowns new.inputs.items ≡ knowns old.inputs.items) (own : owns_in new.inputs.items ≡ owns_in old.inputs.items) where
-    query : new.query ≡ old.query
+    pub query : new.query ≡ old.query
     query = ap (λ (p : Pinned R). p.query) rest'
 
     view : new.view ≡ old.view
@@ -91,10 +94,10 @@ module _ {R : Type 0} (bytes : R → Option (List ℕ)) where
     parts_stay : (contents : List (List Row)) → parts_pinned new.view new.inputs.items contents ≡ parts_pinned old.view old.inputs.items contents
     parts_stay contents = ap (λ (v : Option ℕ). parts_pinned v new.inputs.items contents) view ∙ same_parts old.view old.inputs.items new.inputs.items contents known own
 
-    ungrouped_stay : (contents : List (List Row)) → parts_ungrouped new.view new.inputs.items contents ≡ parts_ungrouped old.view old.inputs.items contents
+    pub ungrouped_stay : (contents : List (List Row)) → parts_ungrouped new.view new.inputs.items contents ≡ parts_ungrouped old.view old.inputs.items contents
     ungrouped_stay contents = ap (λ (v : Option ℕ). parts_ungrouped v new.inputs.items contents) view ∙ same_ungrouped old.view old.inputs.items new.inputs.items contents known own
 
-    page_stays : (s : Columns) (page : Page) → IsPageOver bytes s old page → IsPageOver bytes s new page
+    pub page_stays : (s : Columns) (page : Page) → IsPageOver bytes s old page → IsPageOver bytes s new page
     page_stays s page over contents told = over contents (subst (λ ks. AreTold ks contents) known told) ∙ sym (λ j. page_over s (query j) (parts_stay contents j))
 
     -- a page that was printed, or not for want of memory
@@ -113,3 +116,27 @@ module _ {R : Type 0} (bytes : R → Option (List ℕ)) where
       never = λ contents told sums. never d refl contents (subst (λ ks. AreTold ks contents) known told) (subst (λ parts. KeepsSums s (rows_of parts)) (ungrouped_stay contents) sums);
     }
     fault_closes faults size s file.Memory failed damaged never = tt
+
+  -- ---- the same query, without its caches
+
+  failed_along : (faults : R → ℕ) (old new : List (PinnedInput R)) → readers_in new ≡ readers_in old → SomeFailed faults (inputs_in old) → SomeFailed faults (inputs_in new)
+  failed_along faults [] new same failed = absurd failed
+  failed_along faults (o ∷ old) [] same failed = absurd (cons_none _ _ (sym same))
+  failed_along faults (o ∷ old) (n ∷ new) same failed = ⊎_elim
+      (λ (one : 0 < faults (reader_in o.input)). inl (subst (λ (r : R). 0 < faults r) (sym (first_same _ _ _ _ same)) one))
+      (λ (more : SomeFailed faults (inputs_in old)). inr (failed_along faults old new (rest_same _ _ _ _ same) more))
+      failed
+
+  module _ (old new : Pinned R) (same : IsSamePin bytes old new) where
+    pub known_along : known_pin bytes new ≡ known_pin bytes old
+    known_along = known_stays old new same.rest same.files.known same.files.own
+
+    pub answer_along : (faults : R → ℕ) (s : Columns) (r : Result Rendered FileError) → IsAnswer bytes faults s old r → IsAnswer bytes faults s new r
+    answer_along faults s (Ok text) is =
+        (is.0, page_stays old new same.rest same.files.known same.files.own s is.0 is.1, is.2 ∙ ap (λ (q : BuiltQuery). rendered (heading_in q) is.0) (sym (query old new same.rest same.files.known same.files.own)))
+    answer_along faults s (Err file.Read) is = failed_along faults old.inputs.items new.inputs.items same.files.readers is
+    answer_along faults s (Err (file.Damaged d)) is = record {
+      differs = is.differs;
+      never = λ contents told sums. is.never contents (subst (λ ks. AreTold ks contents) same.files.known told) (subst (λ parts. KeepsSums s (rows_of parts)) (ungrouped_stay old new same.rest same.files.known same.files.own contents) sums);
+    }
+    answer_along faults s (Err file.Memory) is = tt

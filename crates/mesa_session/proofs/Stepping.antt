@@ -1,6 +1,6 @@
 -- A turn as its calls tell it: what entering finds, what the call makes of it, and what leaving gives.
 use Rattle.std.proofs.Common.{◌≡◌, ℕ, ◌<◌, ◌≤◌, Bool, not, IsTrue, List, [], ◌∷◌, ◌++◌, length, sym, ap, ◌∙◌, subst}
-use Rattle.std.specs.Prelude.{Result, Ok, Err, IfErr}
+use Rattle.std.specs.Prelude.{Option, None, Some, IfNone}
 use Rattle.mesa_turn.specs.History.{name_of, has}
 use Rattle.mesa_turn.specs.Passes.{Known, Finds, IsExact, after, during}
 use Rattle.mesa_model.specs.declared.commands.Command.{Command}
@@ -64,7 +64,7 @@ pub goes_on : {script : Script} {start : State} {p q : Known} {old new : Shown} 
 goes_on {script = script} {start = start} {q = q} {session = session} {number = number} s stage ran takes is = subst (λ (b : Bool). Mine script start q session (place_then (not b) number stage)) (sym is) (step_mine s _ takes.place)
 
 -- the same where the command is over unless something was handed out
-pub ends_unless : {script : Script} {start : State} {p q : Known} {old new : Shown} {session number : ℕ} {k : Kind} (s : Step script start p q old new session number k) {A E : Type 0} (stage : Stage) (ran : Bool) (r : Result A E) → IfErr r (λ e. place_of (run_at script start new.history) session ≡ place_then (not old.running) number stage) → ran ≡ old.running
-    → IfErr r (λ e. Mine script start q session (place_then (not ran) number stage))
-ends_unless s stage ran (Ok a) over is = tt
-ends_unless {script = script} {start = start} {q = q} {session = session} {number = number} s stage ran (Err e) over is = subst (λ (b : Bool). Mine script start q session (place_then (not b) number stage)) (sym is) (step_mine s _ over)
+pub ends_unless : {script : Script} {start : State} {p q : Known} {old new : Shown} {session number : ℕ} {k : Kind} (s : Step script start p q old new session number k) {A : Type 0} (stage : Stage) (ran : Bool) (r : Option A) → IfNone r (place_of (run_at script start new.history) session ≡ place_then (not old.running) number stage) → ran ≡ old.running
+    → IfNone r (Mine script start q session (place_then (not ran) number stage))
+ends_unless s stage ran (Some a) over is = tt
+ends_unless {script = script} {start = start} {q = q} {session = session} {number = number} s stage ran None over is = subst (λ (b : Bool). Mine script start q session (place_then (not b) number stage)) (sym is) (step_mine s _ over)

@@ -112,14 +112,11 @@ fn query<'s, N: Naming + Send, M: Made, D: Disk<M>, K: Sink + Send, R: Wait>(
 {
     let (pass, ran, pinned) = pin_turn(rt, lock, pass, who);
     match pinned {
-        Ok(mut pinned) => {
-            let answer = answered(alloc, &mut pinned);
+        Some(pinned) => {
+            let (pinned, answer) = answered(alloc, pinned);
             close_turn(rt, lock, pass, who, pinned, answer)
         }
-        Err(reply) => {
-            drop(reply);
-            (pass, ran)
-        }
+        None => (pass, ran),
     }
 }
 
@@ -156,12 +153,8 @@ fn work<
     ensures ids { GoOn (N.origin no_rows).run who.session ids.old ids.new }
 {
     let (pass, ran, run, task) = grant_turn(rt, lock, pass, who);
-    let mut task = match task {
-        Ok(task) => task,
-        Err(reply) => {
-            drop(reply);
-            return (pass, ran);
-        }
+    let Some(mut task) = task else {
+        return (pass, ran);
     };
     let mut serials = ids_of(ids.take(), run, who.session);
     let delta = merged(rt, alloc, bench, &mut serials, &mut task);
@@ -172,9 +165,8 @@ fn work<
     }
     let (pass, ran, renewed) = renew_turn(rt, lock, pass, who, task);
     match renewed {
-        Ok(task) => complete_turn(rt, lock, pass, who, task, delta),
-        Err(reply) => {
-            drop(reply);
+        Some(task) => complete_turn(rt, lock, pass, who, task, delta),
+        None => {
             drop(delta);
             (pass, ran)
         }
@@ -214,12 +206,8 @@ fn recast<
     ensures ids { GoOn (N.origin no_rows).run who.session ids.old ids.new }
 {
     let (pass, ran, run, task) = grant_recast_turn(rt, lock, pass, who);
-    let mut task = match task {
-        Ok(task) => task,
-        Err(reply) => {
-            drop(reply);
-            return (pass, ran);
-        }
+    let Some(mut task) = task else {
+        return (pass, ran);
     };
     let mut serials = ids_of(ids.take(), run, who.session);
     let made = regrouped(alloc, bench, &mut serials, &mut task);
@@ -233,13 +221,12 @@ fn recast<
     };
     let (pass, ran, renewed) = renew_recast_turn(rt, lock, pass, who, task);
     match renewed {
-        Ok(task) => {
+        Some(task) => {
             let closed = recast_turn(rt, alloc, lock, pass, who, bench, &mut serials, task, made);
             *ids = Some(serials);
             closed
         }
-        Err(reply) => {
-            drop(reply);
+        None => {
             drop(made);
             *ids = Some(serials);
             (pass, ran)

@@ -34,6 +34,7 @@ use mesa_query::answer;
 use mesa_script::Rendered;
 use mesa_split::{merge_split, sample};
 use mesa_tasks::{CompactError, NewDelta, Pinned, Recast, Recasted, Serials, Task};
+use mesa_warm::Warm;
 use std::alloc::{AllocError, Global};
 use std::thread::Threads;
 
@@ -49,19 +50,60 @@ fn printed(alloc: Global, page: &Page, query: &Query) -> Result<Rendered, FileEr
     }
 }
 
-/// A query's page as it is printed, or why there is none.
+// How many pages of a file a query keeps while it is answered.
+const PAGES: usize = 8;
+
+/// A query beside its page as it is printed, or why there is none. Its files are read through caches, or as they are where there is no memory for those.
 pub(crate) fn answered<R: FileReader>(
     alloc: Global,
-    pinned: &mut Pinned<R>,
-) -> Result<Rendered, FileError>
-    requires { CanBeAnswered R.bytes pinned.old }
-    ensures known { known_pin R.bytes pinned.new ≡ known_pin R.bytes pinned.old }
-    ensures answer { HasAnswered R.bytes R.faults pinned.new result }
+    pinned: Pinned<R>,
+) -> (Pinned<R>, Result<Rendered, FileError>)
+    requires { CanBeAnswered R.bytes pinned }
+    ensures known { known_pin R.bytes result.0 ≡ known_pin R.bytes pinned }
+    ensures answer { HasAnswered R.bytes R.faults result.0 result.1 }
+{
+    match Warm::new(alloc, pinned, PAGES) {
+        Ok(warm) => answered_warm(alloc, warm),
+        Err((_, pinned)) => answered_as_is(alloc, pinned),
+    }
+}
+
+// The same of a query whose files are read through caches.
+fn answered_warm<R: FileReader>(
+    alloc: Global,
+    mut warm: Warm<R>,
+) -> (Pinned<R>, Result<Rendered, FileError>)
+    requires { CanBeAnswered R.bytes warm }
+    ensures known { known_pin R.bytes result.0 ≡ known_pin R.bytes warm }
+    ensures answer { HasAnswered R.bytes R.faults result.0 result.1 }
 {
     reads_back();
-    match answer(alloc, pinned) {
-        Ok(page) => printed(alloc, &page, &pinned.query),
-        Err(error) => Err(error),
+    match warm.answer() {
+        Ok(page) => {
+            let pinned = warm.cool();
+            let text = printed(alloc, &page, &pinned.query);
+            (pinned, text)
+        }
+        Err(error) => (warm.cool(), Err(error)),
+    }
+}
+
+// The same of one whose files are read without any.
+fn answered_as_is<R: FileReader>(
+    alloc: Global,
+    mut pinned: Pinned<R>,
+) -> (Pinned<R>, Result<Rendered, FileError>)
+    requires { CanBeAnswered R.bytes pinned }
+    ensures known { known_pin R.bytes result.0 ≡ known_pin R.bytes pinned }
+    ensures answer { HasAnswered R.bytes R.faults result.0 result.1 }
+{
+    reads_back();
+    match answer(alloc, &mut pinned) {
+        Ok(page) => {
+            let text = printed(alloc, &page, &pinned.query);
+            (pinned, text)
+        }
+        Err(error) => (pinned, Err(error)),
     }
 }
 

@@ -1,5 +1,5 @@
 // One turn of each sort.
-ghost use Rattle.std.specs.Prelude.{◌≡◌, ◌<◌, ◌≤◌, ◌^◌, ℕ, not, true, IfOk, IfErr, OnOk, Some, is_ok, length};
+ghost use Rattle.std.specs.Prelude.{◌≡◌, ◌<◌, ◌≤◌, ◌^◌, ℕ, not, true, IfNone, IfOk, IfSome, OnSome, Some, is_ok, length};
 ghost use Rattle.mesa_history.specs.Legal.{is_query};
 ghost use Rattle.mesa_history.specs.Run.{First, Looked, Granted, Renewed, Finished, command_at};
 ghost use Rattle.mesa_history.specs.Turns.{place_then};
@@ -30,7 +30,6 @@ use mesa_disk::{Bench, Disk, Made};
 use mesa_io::Sink;
 use mesa_ledger::Naming;
 use mesa_log::Who;
-use mesa_model::Reply;
 use mesa_script::Rendered;
 use mesa_tasks::{
     CompactError, LoadError, NewDelta, Pinned, Prepared, Recast, Recasted, Serials, Task,
@@ -88,8 +87,7 @@ pub fn simple_turn<'s, N: Naming + Send, M: Made, D: Disk<M>, K: Sink + Send, R:
     let mut held = lock.enter(rt, pass);
     let vault = held.value();
     let ran = vault.running();
-    let reply = vault.simple(who);
-    drop(reply); // it was printed
+    vault.simple(who);
     (lock.leave(held), ran)
 }
 
@@ -129,8 +127,7 @@ pub fn publish_turn<
     let vault = held.value();
     let ran = vault.running();
     let made = prepared_now(rt, alloc, vault, bench, ids, generation, made, rows);
-    let reply = vault.publish(who, made);
-    drop(reply); // it was printed
+    vault.publish(who, made);
     (lock.leave(held), ran)
 }
 
@@ -140,7 +137,7 @@ pub fn pin_turn<'s, N: Naming + Send, M: Made, D: Disk<M>, K: Sink + Send, R: Wa
     lock: &TurnLock<Vault<'s, N, M, D, K>>,
     pass: Pass,
     who: Who,
-) -> (Pass, bool, Result<Pinned<D::Reader>, Reply>)
+) -> (Pass, bool, Option<Pinned<D::Reader>>)
     requires lock { pass.lock ≡ lock.now }
     requires few { length N.script.sessions ≤ 8 }
     requires room { (0 < pass.room) × (pass.limit ≤ N.room) }
@@ -148,8 +145,8 @@ pub fn pin_turn<'s, N: Naming + Send, M: Made, D: Disk<M>, K: Sink + Send, R: Wa
     requires sort { HasSort N.script who.session who.command is_query }
     ensures took { Took who.session pass result.0 1 }
     ensures holds { Holds N.script (N.start no_rows) result.0 who.session }
-    ensures open { IfOk result.2 (λ p. IsOpenQuery N.script N.start (history_of result.0.seen) who.session who.command p.at (λ past. Tells N.sound (known_pin D.Reader.bytes p)) × CanBeAnswered D.Reader.bytes p) }
-    ensures refused { IfErr result.2 (λ r. Mine N.script (N.start no_rows) result.0 who.session (place_then (not result.1) who.command Finished)) }
+    ensures open { IfSome result.2 (λ p. IsOpenQuery N.script N.start (history_of result.0.seen) who.session who.command p.at (λ past. Tells N.sound (known_pin D.Reader.bytes p)) × CanBeAnswered D.Reader.bytes p) }
+    ensures refused { IfNone result.2 (Mine N.script (N.start no_rows) result.0 who.session (place_then (not result.1) who.command Finished)) }
     ensures answers { Answers N.script (N.start no_rows) who.session pass result.0 0 0 0 }
 {
     let mut held = lock.enter(rt, pass);
@@ -191,7 +188,7 @@ pub fn grant_turn<'s, N: Naming + Send, M: Made, D: Disk<M>, K: Sink + Send, R: 
     lock: &TurnLock<Vault<'s, N, M, D, K>>,
     pass: Pass,
     who: Who,
-) -> (Pass, bool, u32, Result<Task<D::Reader>, Reply>)
+) -> (Pass, bool, u32, Option<Task<D::Reader>>)
     requires lock { pass.lock ≡ lock.now }
     requires few { length N.script.sessions ≤ 8 }
     requires room { (0 < pass.room) × (pass.limit ≤ N.room) }
@@ -199,11 +196,11 @@ pub fn grant_turn<'s, N: Naming + Send, M: Made, D: Disk<M>, K: Sink + Send, R: 
     requires sort { HasSort N.script who.session who.command is_merge }
     ensures took { Took who.session pass result.0 1 }
     ensures mine { Mine N.script (N.start no_rows) result.0 who.session (place_then (not result.1) who.command (stage_if claim_in Granted result.3)) }
-    ensures ran { OnOk result.3 (result.1 ≡ true) }
+    ensures ran { OnSome result.3 (result.1 ≡ true) }
     ensures run { result.2 < 2 ^ 24 }
     ensures number { result.2 ≡ (N.origin no_rows).run }
-    ensures task { IfOk result.3 (CanBeMerged D.Reader.bytes) }
-    ensures granted { IfOk result.3 (λ t. WasGranted (IsGranted D.Reader.bytes N.script N.start N.origin N.sound) (history_of result.0.seen) (known_task D.Reader.bytes t)) }
+    ensures task { IfSome result.3 (CanBeMerged D.Reader.bytes) }
+    ensures granted { IfSome result.3 (λ t. WasGranted (IsGranted D.Reader.bytes N.script N.start N.origin N.sound) (history_of result.0.seen) (known_task D.Reader.bytes t)) }
     ensures answers { Answers N.script (N.start no_rows) who.session pass result.0 0 0 0 }
 {
     let mut held = lock.enter(rt, pass);
@@ -221,7 +218,7 @@ pub fn renew_turn<'s, N: Naming + Send, M: Made, D: Disk<M>, K: Sink + Send, R: 
     pass: Pass,
     who: Who,
     task: Task<D::Reader>,
-) -> (Pass, bool, Result<Task<D::Reader>, Reply>)
+) -> (Pass, bool, Option<Task<D::Reader>>)
     requires lock { pass.lock ≡ lock.now }
     requires few { length N.script.sessions ≤ 8 }
     requires room { (0 < pass.room) × (pass.limit ≤ N.room) }
@@ -230,8 +227,8 @@ pub fn renew_turn<'s, N: Naming + Send, M: Made, D: Disk<M>, K: Sink + Send, R: 
     requires granted { WasGranted (IsGranted D.Reader.bytes N.script N.start N.origin N.sound) (history_of pass.seen) (known_task D.Reader.bytes task) }
     ensures took { Took who.session pass result.0 1 }
     ensures mine { Mine N.script (N.start no_rows) result.0 who.session (place_then (not result.1) who.command (stage_if claim_in Renewed result.2)) }
-    ensures ran { OnOk result.2 (result.1 ≡ true) }
-    ensures same { IfOk result.2 (λ t. t ≡ task) }
+    ensures ran { OnSome result.2 (result.1 ≡ true) }
+    ensures same { IfSome result.2 (λ t. t ≡ task) }
     ensures granted { WasGranted (IsGranted D.Reader.bytes N.script N.start N.origin N.sound) (history_of result.0.seen) (known_task D.Reader.bytes task) }
     ensures answers { Answers N.script (N.start no_rows) who.session pass result.0 0 0 0 }
 {
@@ -265,8 +262,7 @@ pub fn complete_turn<'s, N: Naming + Send, M: Made, D: Disk<M>, K: Sink + Send, 
     let mut held = lock.enter(rt, pass);
     let vault = held.value();
     let ran = vault.running();
-    let reply = vault.complete(who, task, merged);
-    drop(reply); // it was printed
+    vault.complete(who, task, merged);
     (lock.leave(held), ran)
 }
 
@@ -276,7 +272,7 @@ pub fn grant_recast_turn<'s, N: Naming + Send, M: Made, D: Disk<M>, K: Sink + Se
     lock: &TurnLock<Vault<'s, N, M, D, K>>,
     pass: Pass,
     who: Who,
-) -> (Pass, bool, u32, Result<Recast<D::Reader>, Reply>)
+) -> (Pass, bool, u32, Option<Recast<D::Reader>>)
     requires lock { pass.lock ≡ lock.now }
     requires few { length N.script.sessions ≤ 8 }
     requires room { (0 < pass.room) × (pass.limit ≤ N.room) }
@@ -284,11 +280,11 @@ pub fn grant_recast_turn<'s, N: Naming + Send, M: Made, D: Disk<M>, K: Sink + Se
     requires sort { HasSort N.script who.session who.command is_recast }
     ensures took { Took who.session pass result.0 1 }
     ensures mine { Mine N.script (N.start no_rows) result.0 who.session (place_then (not result.1) who.command (stage_if claim_of_recast Granted result.3)) }
-    ensures ran { OnOk result.3 (result.1 ≡ true) }
+    ensures ran { OnSome result.3 (result.1 ≡ true) }
     ensures run { result.2 < 2 ^ 24 }
     ensures number { result.2 ≡ (N.origin no_rows).run }
-    ensures task { IfOk result.3 (CanBeRegrouped D.Reader.bytes) }
-    ensures granted { IfOk result.3 (λ t. WasGranted (IsRecastGranted D.Reader.bytes N.script N.start N.origin N.sound) (history_of result.0.seen) (known_recast D.Reader.bytes t)) }
+    ensures task { IfSome result.3 (CanBeRegrouped D.Reader.bytes) }
+    ensures granted { IfSome result.3 (λ t. WasGranted (IsRecastGranted D.Reader.bytes N.script N.start N.origin N.sound) (history_of result.0.seen) (known_recast D.Reader.bytes t)) }
     ensures answers { Answers N.script (N.start no_rows) who.session pass result.0 0 0 0 }
 {
     let mut held = lock.enter(rt, pass);
@@ -306,7 +302,7 @@ pub fn renew_recast_turn<'s, N: Naming + Send, M: Made, D: Disk<M>, K: Sink + Se
     pass: Pass,
     who: Who,
     task: Recast<D::Reader>,
-) -> (Pass, bool, Result<Recast<D::Reader>, Reply>)
+) -> (Pass, bool, Option<Recast<D::Reader>>)
     requires lock { pass.lock ≡ lock.now }
     requires few { length N.script.sessions ≤ 8 }
     requires room { (0 < pass.room) × (pass.limit ≤ N.room) }
@@ -315,8 +311,8 @@ pub fn renew_recast_turn<'s, N: Naming + Send, M: Made, D: Disk<M>, K: Sink + Se
     requires granted { WasGranted (IsRecastGranted D.Reader.bytes N.script N.start N.origin N.sound) (history_of pass.seen) (known_recast D.Reader.bytes task) }
     ensures took { Took who.session pass result.0 1 }
     ensures mine { Mine N.script (N.start no_rows) result.0 who.session (place_then (not result.1) who.command (stage_if claim_of_recast Renewed result.2)) }
-    ensures ran { OnOk result.2 (result.1 ≡ true) }
-    ensures same { IfOk result.2 (λ t. t ≡ task) }
+    ensures ran { OnSome result.2 (result.1 ≡ true) }
+    ensures same { IfSome result.2 (λ t. t ≡ task) }
     ensures granted { WasGranted (IsRecastGranted D.Reader.bytes N.script N.start N.origin N.sound) (history_of result.0.seen) (known_recast D.Reader.bytes task) }
     ensures answers { Answers N.script (N.start no_rows) who.session pass result.0 0 0 0 }
 {
@@ -356,8 +352,7 @@ pub fn recast_turn<'s, N: Naming + Send, M: Made, D: Disk<M>, K: Sink + Send, R:
     let vault = held.value();
     let ran = vault.running();
     let (task, made) = regrouped_now(alloc, vault, bench, ids, task, made);
-    let reply = vault.recast(who, task, made);
-    drop(reply); // it was printed
+    vault.recast(who, task, made);
     (lock.leave(held), ran)
 }
 
@@ -385,7 +380,6 @@ pub fn abandon_turn<'s, N: Naming + Send, M: Made, D: Disk<M>, K: Sink + Send, R
     let mut held = lock.enter(rt, pass);
     let vault = held.value();
     let ran = vault.running();
-    let reply = vault.recast(who, task, Err(error));
-    drop(reply); // it was printed
+    vault.recast(who, task, Err(error));
     (lock.leave(held), ran)
 }

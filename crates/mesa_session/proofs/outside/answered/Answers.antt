@@ -1,30 +1,15 @@
-use Rattle.std.proofs.Common.{◌≡◌, sym, ap, subst}
-use Rattle.std.specs.Prelude.{IsTrue}
-use Rattle.std.specs.List.{AllByRecursion}
-use Rattle.mesa_key.specs.Spelling.{is_spelling}
-use Rattle.mesa_schema.specs.declared.rows.Row.{Row}
-use Rattle.mesa_filter.specs.Query.{BuiltQuery, group_kinds}
-use Rattle.mesa_tasks.specs.declared.querying.Pinned.{Pinned}
-use Rattle.mesa_session.proofs.Pinned.{fault_closes, page_closes}
-use Rattle.mesa_session.proofs.Spelling.{page_spells}
+use Rattle.std.proofs.Common.{◌∙◌}
+use Rattle.mesa_session.proofs.Pinned.{known_along}
 use Rattle.mesa_session.proofs.outside.answered.Goals as goal
 
-pub printed-requires : goal.printed-requires
-printed-requires g c =
-    let s = c.requires.0 in
-    let was = c.requires.1 in
-    let same : c.answer.new.pinned.query ≡ c.args.pinned.now.query = ap (λ (p : Pinned _). p.query) c.answer.ensures.rest in
-    subst (λ (q : BuiltQuery). AllByRecursion (λ (row : Row). IsTrue (is_spelling (group_kinds q) row.key)) c.in-Ok.page.rows) (sym same)
-    (page_spells c.reads_back.ensures.passes s c.args.pinned.now.query c.in-Ok.page.rows was.query (c.in-Ok.ensures.form s was))
+pub answered_warm-requires-after_bounds : goal.answered_warm-requires-after_bounds
+answered_warm-requires-after_bounds g c = λ κs below. (c.requires.0, c.in-Ok.ensures.same.pinned c.requires.0 c.requires.1)
 
-pub returns-in-Ok-clause-answer : goal.returns-in-Ok-clause-answer
-returns-in-Ok-clause-answer g c =
-    let s = c.requires.0 in
-    let was = c.requires.1 in
-    (s, c.answer.ensures.pinned s was, page_closes g.R.FileReader.bytes c.args.pinned.now c.answer.new.pinned c.answer.ensures.rest c.answer.ensures.known c.answer.ensures.own g.R.FileReader.faults s c.in-Ok.page c.printed.result (c.in-Ok.ensures.page s was) c.printed.ensures.text c.printed.ensures.memory)
+pub answered_as_is-requires-after_bounds : goal.answered_as_is-requires-after_bounds
+answered_as_is-requires-after_bounds g c = λ κs below. (c.requires.0, c.in-Err.ensures.given_back.pinned c.requires.0 c.requires.1)
 
-pub returns-in-Err-clause-answer : goal.returns-in-Err-clause-answer
-returns-in-Err-clause-answer g c =
-    let s = c.requires.0 in
-    let was = c.requires.1 in
-    (s, c.answer.ensures.pinned s was, fault_closes g.R.FileReader.bytes c.args.pinned.now c.answer.new.pinned c.answer.ensures.rest c.answer.ensures.known c.answer.ensures.own g.R.FileReader.faults g.R.FileReader.size s c.in-Err.error c.in-Err.ensures.cause.failed (λ d is. c.in-Err.ensures.damaged d is s was) (λ d is. c.in-Err.ensures.never d is s was))
+pub returns-in-Ok-clause-known : goal.returns-in-Ok-clause-known
+returns-in-Ok-clause-known g c = c.answered_warm.ensures.known ∙ known_along g.R.FileReader.bytes c.args.pinned c.in-Ok.warm c.in-Ok.ensures.same
+
+pub returns-in-Err-clause-known : goal.returns-in-Err-clause-known
+returns-in-Err-clause-known g c = c.answered_as_is.ensures.known ∙ known_along g.R.FileReader.bytes c.args.pinned c.in-Err.pinned c.in-Err.ensures.given_back

@@ -5,6 +5,10 @@ use Rattle.mesa_service.specs.Recasts.{KnownRecast}
 use Rattle.mesa_session.proofs.Regrouped.{claim_known, claim_longer, rest_closes}
 use Rattle.mesa_session.proofs.outside.regrouped_now.Goals as goal
 
+-- what was rewritten before is a front of it
+pub regrouped_more-made-requires-clause-begun : goal.regrouped_more-made-requires-clause-begun
+regrouped_more-made-requires-clause-begun g c κs within = c.in-Ok.ensures.begun c.args.made c.requires.made
+
 pub returns-in-Ok-clause-claim : goal.returns-in-Ok-clause-claim
 returns-in-Ok-clause-claim g c =
     let read = g.D.Reader.FileReader.bytes in

@@ -18,8 +18,8 @@ use Rattle.mesa_session.proofs.Found.{granted_found}
 use Rattle.mesa_session.proofs.Stepping.{Enters, asks, finds_numbers, goes_on, one, room_for, step}
 use Rattle.mesa_session.proofs.turns.abandon_turn.Goals as goal
 
-pub recast-reply-requires-clause-due : goal.recast-reply-requires-clause-due
-recast-reply-requires-clause-due g c κs within =
+pub recast-requires-clause-due : goal.recast-requires-clause-due
+recast-requires-clause-due g c κs within =
     let e : Enters g.N.Naming.script (g.N.Naming.start no_rows) c.args.pass c.args.who.session _ _ c.value-vault.result.now.shown = record {
       few = c.requires.few;
       holds = c.requires.mine.holds;
@@ -33,8 +33,8 @@ recast-reply-requires-clause-due g c κs within =
     } in
     (true, asks e c.args.who.command (Granted (claim_of_recast c.args.task)) is_recast c.requires.mine c.requires.sort)
 
-pub recast-reply-requires-clause-room : goal.recast-reply-requires-clause-room
-recast-reply-requires-clause-room g c κs within =
+pub recast-requires-clause-room : goal.recast-requires-clause-room
+recast-requires-clause-room g c κs within =
     let e : Enters g.N.Naming.script (g.N.Naming.start no_rows) c.args.pass c.args.who.session _ _ c.value-vault.result.now.shown = record {
       few = c.requires.few;
       holds = c.requires.mine.holds;
@@ -61,9 +61,9 @@ leave-requires-clause-one g c κs within =
       numbers = ap (λ (v : Stand). numbers_of v.shown.history) (sym c.value-vault.ensures.value);
       seen = c.running-ran.ensures.seen;
     } in
-    one e c.args.who.command kind.Close c.recast-reply.new.self.shown _ refl c.recast-reply.ensures.turn.turn c.recast-reply.ensures.turn.seen
+    one e c.args.who.command kind.Close c.recast.new.self.shown _ refl c.recast.ensures.turn.turn c.recast.ensures.turn.seen
 
-whole : (g : _) (c : goal.After-leave g) → Step g.N.Naming.script (g.N.Naming.start no_rows) c.args.pass c.leave.result c.value-vault.result.now.shown c.recast-reply.new.self.shown c.args.who.session c.args.who.command kind.Close
+whole : (g : _) (c : goal.After-leave g) → Step g.N.Naming.script (g.N.Naming.start no_rows) c.args.pass c.leave.result c.value-vault.result.now.shown c.recast.new.self.shown c.args.who.session c.args.who.command kind.Close
 whole g c =
     let e : Enters g.N.Naming.script (g.N.Naming.start no_rows) c.args.pass c.args.who.session _ _ c.value-vault.result.now.shown = record {
       few = c.requires.few;
@@ -76,16 +76,16 @@ whole g c =
       numbers = ap (λ (v : Stand). numbers_of v.shown.history) (sym c.value-vault.ensures.value);
       seen = c.running-ran.ensures.seen;
     } in
-    step e c.args.who.command kind.Close c.recast-reply.new.self.shown _ refl c.recast-reply.ensures.turn.turn c.recast-reply.ensures.turn.seen c.leave.result c.leave.ensures.pass c.leave.ensures.exact
+    step e c.args.who.command kind.Close c.recast.new.self.shown _ refl c.recast.ensures.turn.turn c.recast.ensures.turn.seen c.leave.result c.leave.ensures.pass c.leave.ensures.exact
 
 pub returns-clause-took : goal.returns-clause-took
 returns-clause-took g c = step_took (whole g c)
 
 pub returns-clause-mine : goal.returns-clause-mine
-returns-clause-mine g c = goes_on (whole g c) Finished c.running-ran.result c.recast-reply.ensures.turn c.running-ran.ensures.running
+returns-clause-mine g c = goes_on (whole g c) Finished c.running-ran.result c.recast.ensures.turn c.running-ran.ensures.running
 
-pub recast-reply-requires-clause-granted : goal.recast-reply-requires-clause-granted
-recast-reply-requires-clause-granted g c κs within =
+pub recast-requires-clause-granted : goal.recast-requires-clause-granted
+recast-requires-clause-granted g c κs within =
     let e : Enters g.N.Naming.script (g.N.Naming.start no_rows) c.args.pass c.args.who.session _ _ c.value-vault.result.now.shown = record {
       few = c.requires.few;
       holds = c.requires.mine.holds;
@@ -101,7 +101,7 @@ recast-reply-requires-clause-granted g c κs within =
 
 pub returns-clause-answers : goal.returns-clause-answers
 returns-clause-answers g c =
-    step_drafts (whole g c) (◌≡◌ {A = Result _ CompactError} (Err c.args.error) (Err compact.Draft)) (owed_by_error c.args.error) c.recast-reply.ensures.draft (owed_error c.args.error)
+    step_drafts (whole g c) (◌≡◌ {A = Result _ CompactError} (Err c.args.error) (Err compact.Draft)) (owed_by_error c.args.error) c.recast.ensures.draft (owed_error c.args.error)
 
-pub recast-reply-requires-clause-made : goal.recast-reply-requires-clause-made
-recast-reply-requires-clause-made g c κs within = inl c.requires.unmade
+pub recast-requires-clause-made : goal.recast-requires-clause-made
+recast-requires-clause-made g c κs within = inl c.requires.unmade

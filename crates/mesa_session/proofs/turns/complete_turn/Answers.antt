@@ -18,8 +18,8 @@ use Rattle.mesa_session.proofs.Found.{granted_found}
 use Rattle.mesa_session.proofs.Stepping.{Enters, asks, finds_numbers, goes_on, one, room_for, step}
 use Rattle.mesa_session.proofs.turns.complete_turn.Goals as goal
 
-pub complete-reply-requires-clause-due : goal.complete-reply-requires-clause-due
-complete-reply-requires-clause-due g c κs within =
+pub complete-requires-clause-due : goal.complete-requires-clause-due
+complete-requires-clause-due g c κs within =
     let e : Enters g.N.Naming.script (g.N.Naming.start no_rows) c.args.pass c.args.who.session _ _ c.value-vault.result.now.shown = record {
       few = c.requires.few;
       holds = c.requires.mine.holds;
@@ -33,8 +33,8 @@ complete-reply-requires-clause-due g c κs within =
     } in
     asks e c.args.who.command (closing_stage (not (is_ok c.args.merged)) (claim_in c.args.task)) is_merge c.requires.mine c.requires.sort
 
-pub complete-reply-requires-clause-room : goal.complete-reply-requires-clause-room
-complete-reply-requires-clause-room g c κs within =
+pub complete-requires-clause-room : goal.complete-requires-clause-room
+complete-requires-clause-room g c κs within =
     let e : Enters g.N.Naming.script (g.N.Naming.start no_rows) c.args.pass c.args.who.session _ _ c.value-vault.result.now.shown = record {
       few = c.requires.few;
       holds = c.requires.mine.holds;
@@ -61,9 +61,9 @@ leave-requires-clause-one g c κs within =
       numbers = ap (λ (v : Stand). numbers_of v.shown.history) (sym c.value-vault.ensures.value);
       seen = c.running-ran.ensures.seen;
     } in
-    one e c.args.who.command kind.Close c.complete-reply.new.self.shown _ refl c.complete-reply.ensures.turn.turn c.complete-reply.ensures.turn.seen
+    one e c.args.who.command kind.Close c.complete.new.self.shown _ refl c.complete.ensures.turn.turn c.complete.ensures.turn.seen
 
-whole : (g : _) (c : goal.After-leave g) → Step g.N.Naming.script (g.N.Naming.start no_rows) c.args.pass c.leave.result c.value-vault.result.now.shown c.complete-reply.new.self.shown c.args.who.session c.args.who.command kind.Close
+whole : (g : _) (c : goal.After-leave g) → Step g.N.Naming.script (g.N.Naming.start no_rows) c.args.pass c.leave.result c.value-vault.result.now.shown c.complete.new.self.shown c.args.who.session c.args.who.command kind.Close
 whole g c =
     let e : Enters g.N.Naming.script (g.N.Naming.start no_rows) c.args.pass c.args.who.session _ _ c.value-vault.result.now.shown = record {
       few = c.requires.few;
@@ -76,16 +76,16 @@ whole g c =
       numbers = ap (λ (v : Stand). numbers_of v.shown.history) (sym c.value-vault.ensures.value);
       seen = c.running-ran.ensures.seen;
     } in
-    step e c.args.who.command kind.Close c.complete-reply.new.self.shown _ refl c.complete-reply.ensures.turn.turn c.complete-reply.ensures.turn.seen c.leave.result c.leave.ensures.pass c.leave.ensures.exact
+    step e c.args.who.command kind.Close c.complete.new.self.shown _ refl c.complete.ensures.turn.turn c.complete.ensures.turn.seen c.leave.result c.leave.ensures.pass c.leave.ensures.exact
 
 pub returns-clause-took : goal.returns-clause-took
 returns-clause-took g c = step_took (whole g c)
 
 pub returns-clause-mine : goal.returns-clause-mine
-returns-clause-mine g c = goes_on (whole g c) Finished c.running-ran.result c.complete-reply.ensures.turn c.running-ran.ensures.running
+returns-clause-mine g c = goes_on (whole g c) Finished c.running-ran.result c.complete.ensures.turn c.running-ran.ensures.running
 
-pub complete-reply-requires-clause-granted : goal.complete-reply-requires-clause-granted
-complete-reply-requires-clause-granted g c κs within =
+pub complete-requires-clause-granted : goal.complete-requires-clause-granted
+complete-requires-clause-granted g c κs within =
     let e : Enters g.N.Naming.script (g.N.Naming.start no_rows) c.args.pass c.args.who.session _ _ c.value-vault.result.now.shown = record {
       few = c.requires.few;
       holds = c.requires.mine.holds;
@@ -100,4 +100,4 @@ complete-reply-requires-clause-granted g c κs within =
     granted_found c.args.pass _ c.value-vault.result.now.shown.history (finds_numbers e) e.seen.short (IsGranted g.D.Reader.FileReader.bytes g.N.Naming.script g.N.Naming.start g.N.Naming.origin g.N.Naming.sound) _ c.requires.granted
 
 pub returns-clause-answers : goal.returns-clause-answers
-returns-clause-answers g c = step_drafts (whole g c) (c.args.merged ≡ Err compact.Draft) (owed_by_work c.args.merged) c.complete-reply.ensures.draft (owed_merged c.args.merged)
+returns-clause-answers g c = step_drafts (whole g c) (c.args.merged ≡ Err compact.Draft) (owed_by_work c.args.merged) c.complete.ensures.draft (owed_merged c.args.merged)

@@ -17,8 +17,8 @@ use Rattle.mesa_session.proofs.Found.{prepared_found}
 use Rattle.mesa_session.proofs.Stepping.{Enters, asks, finds_numbers, goes_on, one, room_for, step}
 use Rattle.mesa_session.proofs.turns.publish_turn.Goals as goal
 
-pub publish-reply-requires-clause-due : goal.publish-reply-requires-clause-due
-publish-reply-requires-clause-due g c κs within =
+pub publish-requires-clause-due : goal.publish-requires-clause-due
+publish-requires-clause-due g c κs within =
     let e : Enters g.N.Naming.script (g.N.Naming.start no_rows) c.args.pass c.args.who.session _ _ c.value-vault.result.now.shown = record {
       few = c.requires.few;
       holds = c.requires.mine.holds;
@@ -32,8 +32,8 @@ publish-reply-requires-clause-due g c κs within =
     } in
     asks e c.args.who.command Looked is_load c.requires.mine (record { asked = command.Load c.args.rows.now; known = c.requires.known; is = refl })
 
-pub publish-reply-requires-clause-room : goal.publish-reply-requires-clause-room
-publish-reply-requires-clause-room g c κs within =
+pub publish-requires-clause-room : goal.publish-requires-clause-room
+publish-requires-clause-room g c κs within =
     let e : Enters g.N.Naming.script (g.N.Naming.start no_rows) c.args.pass c.args.who.session _ _ c.value-vault.result.now.shown = record {
       few = c.requires.few;
       holds = c.requires.mine.holds;
@@ -60,9 +60,9 @@ leave-requires-clause-one g c κs within =
       numbers = ap (λ (v : Stand). numbers_of v.shown.history) (sym c.value-vault.ensures.value);
       seen = c.running-ran.ensures.seen;
     } in
-    one e c.args.who.command kind.Decide c.publish-reply.new.self.shown _ refl c.publish-reply.ensures.turn.turn c.publish-reply.ensures.turn.seen
+    one e c.args.who.command kind.Decide c.publish.new.self.shown _ refl c.publish.ensures.turn.turn c.publish.ensures.turn.seen
 
-whole : (g : _) (c : goal.After-leave g) → Step g.N.Naming.script (g.N.Naming.start no_rows) c.args.pass c.leave.result c.value-vault.result.now.shown c.publish-reply.new.self.shown c.args.who.session c.args.who.command kind.Decide
+whole : (g : _) (c : goal.After-leave g) → Step g.N.Naming.script (g.N.Naming.start no_rows) c.args.pass c.leave.result c.value-vault.result.now.shown c.publish.new.self.shown c.args.who.session c.args.who.command kind.Decide
 whole g c =
     let e : Enters g.N.Naming.script (g.N.Naming.start no_rows) c.args.pass c.args.who.session _ _ c.value-vault.result.now.shown = record {
       few = c.requires.few;
@@ -75,13 +75,13 @@ whole g c =
       numbers = ap (λ (v : Stand). numbers_of v.shown.history) (sym c.value-vault.ensures.value);
       seen = c.running-ran.ensures.seen;
     } in
-    step e c.args.who.command kind.Decide c.publish-reply.new.self.shown _ refl c.publish-reply.ensures.turn.turn c.publish-reply.ensures.turn.seen c.leave.result c.leave.ensures.pass c.leave.ensures.exact
+    step e c.args.who.command kind.Decide c.publish.new.self.shown _ refl c.publish.ensures.turn.turn c.publish.ensures.turn.seen c.leave.result c.leave.ensures.pass c.leave.ensures.exact
 
 pub returns-clause-took : goal.returns-clause-took
 returns-clause-took g c = step_took (whole g c)
 
 pub returns-clause-mine : goal.returns-clause-mine
-returns-clause-mine g c = goes_on (whole g c) Finished c.running-ran.result c.publish-reply.ensures.turn c.running-ran.ensures.running
+returns-clause-mine g c = goes_on (whole g c) Finished c.running-ran.result c.publish.ensures.turn c.running-ran.ensures.running
 
 pub prepared_now-made-requires-after_bounds : goal.prepared_now-made-requires-after_bounds
 prepared_now-made-requires-after_bounds g c κs within same =
@@ -101,4 +101,4 @@ prepared_now-made-requires-after_bounds g c κs within same =
 pub returns-clause-answers : goal.returns-clause-answers
 returns-clause-answers g c =
     answers_within g.N.Naming.script (g.N.Naming.start no_rows) c.args.who.session c.args.pass c.leave.result _ _ _ (owed_by_load c.prepared_now-made.result) c.prepared_now-made.ensures.later c.prepared_now-made.ensures.owes
-    (step_drafts (whole g c) (c.prepared_now-made.result ≡ Err load.Draft) (owed_by_load c.prepared_now-made.result) c.publish-reply.ensures.draft (owed_made c.prepared_now-made.result))
+    (step_drafts (whole g c) (c.prepared_now-made.result ≡ Err load.Draft) (owed_by_load c.prepared_now-made.result) c.publish.ensures.draft (owed_made c.prepared_now-made.result))

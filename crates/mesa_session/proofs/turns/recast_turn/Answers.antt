@@ -19,8 +19,8 @@ use Rattle.mesa_session.proofs.Closing.{asked_now, took_now}
 use Rattle.mesa_session.proofs.Stepping.{Enters, asks, finds_numbers, goes_on, one, room_for, step}
 use Rattle.mesa_session.proofs.turns.recast_turn.Goals as goal
 
-pub recast-reply-requires-clause-due : goal.recast-reply-requires-clause-due
-recast-reply-requires-clause-due g c κs within =
+pub recast-requires-clause-due : goal.recast-requires-clause-due
+recast-requires-clause-due g c κs within =
     let e : Enters g.N.Naming.script (g.N.Naming.start no_rows) c.args.pass c.args.who.session _ _ c.value-vault.result.now.shown = record {
       few = c.requires.few;
       holds = c.requires.mine.holds;
@@ -40,8 +40,8 @@ recast-reply-requires-clause-due g c κs within =
           (asks e who.command (Renewed (claim_of_recast c.args.task)) is_recast c.requires.mine c.requires.sort),
     )
 
-pub recast-reply-requires-clause-renewed : goal.recast-reply-requires-clause-renewed
-recast-reply-requires-clause-renewed g c κs within =
+pub recast-requires-clause-renewed : goal.recast-requires-clause-renewed
+recast-requires-clause-renewed g c κs within =
     let e : Enters g.N.Naming.script (g.N.Naming.start no_rows) c.args.pass c.args.who.session _ _ c.value-vault.result.now.shown = record {
       few = c.requires.few;
       holds = c.requires.mine.holds;
@@ -60,8 +60,8 @@ recast-reply-requires-clause-renewed g c κs within =
     (asked_now N.script (N.start no_rows) c.value-vault.result.now.shown now.new.vault.shown who.session who.command (claim_of_recast c.args.task) (claim_of_recast now.result.0) now.ensures.shown now.ensures.claim
     (asks e who.command (Renewed (claim_of_recast c.args.task)) is_recast c.requires.mine c.requires.sort))
 
-pub recast-reply-requires-clause-room : goal.recast-reply-requires-clause-room
-recast-reply-requires-clause-room g c κs within =
+pub recast-requires-clause-room : goal.recast-requires-clause-room
+recast-requires-clause-room g c κs within =
     let e : Enters g.N.Naming.script (g.N.Naming.start no_rows) c.args.pass c.args.who.session _ _ c.value-vault.result.now.shown = record {
       few = c.requires.few;
       holds = c.requires.mine.holds;
@@ -88,10 +88,10 @@ leave-requires-clause-one g c κs within =
       numbers = ap (λ (v : Stand). numbers_of v.shown.history) (sym c.value-vault.ensures.value);
       seen = c.running-ran.ensures.seen;
     } in
-    let turn = took_now g.N.Naming.script (g.N.Naming.start no_rows) c.value-vault.result.now.shown c.regrouped_now-task.new.vault.shown c.recast-reply.new.self.shown c.args.who.session c.args.who.command c.regrouped_now-task.ensures.shown c.recast-reply.ensures.turn in
-    one e c.args.who.command kind.Close c.recast-reply.new.self.shown _ refl turn.turn turn.seen
+    let turn = took_now g.N.Naming.script (g.N.Naming.start no_rows) c.value-vault.result.now.shown c.regrouped_now-task.new.vault.shown c.recast.new.self.shown c.args.who.session c.args.who.command c.regrouped_now-task.ensures.shown c.recast.ensures.turn in
+    one e c.args.who.command kind.Close c.recast.new.self.shown _ refl turn.turn turn.seen
 
-whole : (g : _) (c : goal.After-leave g) → Step g.N.Naming.script (g.N.Naming.start no_rows) c.args.pass c.leave.result c.value-vault.result.now.shown c.recast-reply.new.self.shown c.args.who.session c.args.who.command kind.Close
+whole : (g : _) (c : goal.After-leave g) → Step g.N.Naming.script (g.N.Naming.start no_rows) c.args.pass c.leave.result c.value-vault.result.now.shown c.recast.new.self.shown c.args.who.session c.args.who.command kind.Close
 whole g c =
     let e : Enters g.N.Naming.script (g.N.Naming.start no_rows) c.args.pass c.args.who.session _ _ c.value-vault.result.now.shown = record {
       few = c.requires.few;
@@ -104,15 +104,15 @@ whole g c =
       numbers = ap (λ (v : Stand). numbers_of v.shown.history) (sym c.value-vault.ensures.value);
       seen = c.running-ran.ensures.seen;
     } in
-    let turn = took_now g.N.Naming.script (g.N.Naming.start no_rows) c.value-vault.result.now.shown c.regrouped_now-task.new.vault.shown c.recast-reply.new.self.shown c.args.who.session c.args.who.command c.regrouped_now-task.ensures.shown c.recast-reply.ensures.turn in
-    step e c.args.who.command kind.Close c.recast-reply.new.self.shown _ refl turn.turn turn.seen c.leave.result c.leave.ensures.pass c.leave.ensures.exact
+    let turn = took_now g.N.Naming.script (g.N.Naming.start no_rows) c.value-vault.result.now.shown c.regrouped_now-task.new.vault.shown c.recast.new.self.shown c.args.who.session c.args.who.command c.regrouped_now-task.ensures.shown c.recast.ensures.turn in
+    step e c.args.who.command kind.Close c.recast.new.self.shown _ refl turn.turn turn.seen c.leave.result c.leave.ensures.pass c.leave.ensures.exact
 
 pub returns-clause-took : goal.returns-clause-took
 returns-clause-took g c = step_took (whole g c)
 
 pub returns-clause-mine : goal.returns-clause-mine
 returns-clause-mine g c =
-    let turn = took_now g.N.Naming.script (g.N.Naming.start no_rows) c.value-vault.result.now.shown c.regrouped_now-task.new.vault.shown c.recast-reply.new.self.shown c.args.who.session c.args.who.command c.regrouped_now-task.ensures.shown c.recast-reply.ensures.turn in
+    let turn = took_now g.N.Naming.script (g.N.Naming.start no_rows) c.value-vault.result.now.shown c.regrouped_now-task.new.vault.shown c.recast.new.self.shown c.args.who.session c.args.who.command c.regrouped_now-task.ensures.shown c.recast.ensures.turn in
     goes_on (whole g c) Finished c.running-ran.result turn c.running-ran.ensures.running
 
 pub regrouped_now-task-requires-clause-granted : goal.regrouped_now-task-requires-clause-granted
@@ -130,14 +130,14 @@ regrouped_now-task-requires-clause-granted g c κs within =
     } in
     granted_found c.args.pass _ c.value-vault.result.now.shown.history (finds_numbers e) e.seen.short (IsRecastGranted g.D.Reader.FileReader.bytes g.N.Naming.script g.N.Naming.start g.N.Naming.origin g.N.Naming.sound) _ c.requires.granted
 
-pub recast-reply-requires-clause-granted : goal.recast-reply-requires-clause-granted
-recast-reply-requires-clause-granted g c κs within = inr c.regrouped_now-task.ensures.held
+pub recast-requires-clause-granted : goal.recast-requires-clause-granted
+recast-requires-clause-granted g c κs within = inr c.regrouped_now-task.ensures.held
 
 pub returns-clause-answers : goal.returns-clause-answers
 returns-clause-answers g c =
     let made = c.regrouped_now-task.result.1 in
     let draft =
-    subst (λ (s : Shown). AnswersDraft g.N.Naming.script (g.N.Naming.start no_rows) s c.recast-reply.new.self.shown c.args.who.session (made ≡ Err compact.Draft)) c.regrouped_now-task.ensures.shown c.recast-reply.ensures.draft in
+    subst (λ (s : Shown). AnswersDraft g.N.Naming.script (g.N.Naming.start no_rows) s c.recast.new.self.shown c.args.who.session (made ≡ Err compact.Draft)) c.regrouped_now-task.ensures.shown c.recast.ensures.draft in
     answers_within g.N.Naming.script (g.N.Naming.start no_rows) c.args.who.session c.args.pass c.leave.result _ _ 0 (owed_by_work made)
     (λ low. let owes = c.regrouped_now-task.ensures.owes low in omega (arith, owes)) (λ low. let owes = c.regrouped_now-task.ensures.owes low in omega (arith, owes))
     (step_drafts (whole g c) (made ≡ Err compact.Draft) (owed_by_work made) draft (owed_merged made))

@@ -10,8 +10,8 @@ use Rattle.mesa_core.proofs.mesa_passes.Turning.{Step, step_took}
 use Rattle.mesa_session.proofs.Stepping.{Enters, asks, goes_on, one, room_for, step}
 use Rattle.mesa_session.proofs.turns.simple_turn.Goals as goal
 
-pub simple-reply-requires-clause-due : goal.simple-reply-requires-clause-due
-simple-reply-requires-clause-due g c κs within =
+pub simple-requires-clause-due : goal.simple-requires-clause-due
+simple-requires-clause-due g c κs within =
     let e : Enters g.N.Naming.script (g.N.Naming.start no_rows) c.args.pass c.args.who.session _ _ c.value-vault.result.now.shown = record {
       few = c.requires.few;
       holds = c.requires.mine.holds;
@@ -25,8 +25,8 @@ simple-reply-requires-clause-due g c κs within =
     } in
     asks e c.args.who.command First is_simple c.requires.mine c.requires.sort
 
-pub simple-reply-requires-clause-room : goal.simple-reply-requires-clause-room
-simple-reply-requires-clause-room g c κs within =
+pub simple-requires-clause-room : goal.simple-requires-clause-room
+simple-requires-clause-room g c κs within =
     let e : Enters g.N.Naming.script (g.N.Naming.start no_rows) c.args.pass c.args.who.session _ _ c.value-vault.result.now.shown = record {
       few = c.requires.few;
       holds = c.requires.mine.holds;
@@ -53,9 +53,9 @@ leave-requires-clause-one g c κs within =
       numbers = ap (λ (v : Stand). numbers_of v.shown.history) (sym c.value-vault.ensures.value);
       seen = c.running-ran.ensures.seen;
     } in
-    one e c.args.who.command kind.Decide c.simple-reply.new.self.shown _ refl c.simple-reply.ensures.turn.turn c.simple-reply.ensures.turn.seen
+    one e c.args.who.command kind.Decide c.simple.new.self.shown _ refl c.simple.ensures.turn.turn c.simple.ensures.turn.seen
 
-whole : (g : _) (c : goal.After-leave g) → Step g.N.Naming.script (g.N.Naming.start no_rows) c.args.pass c.leave.result c.value-vault.result.now.shown c.simple-reply.new.self.shown c.args.who.session c.args.who.command kind.Decide
+whole : (g : _) (c : goal.After-leave g) → Step g.N.Naming.script (g.N.Naming.start no_rows) c.args.pass c.leave.result c.value-vault.result.now.shown c.simple.new.self.shown c.args.who.session c.args.who.command kind.Decide
 whole g c =
     let e : Enters g.N.Naming.script (g.N.Naming.start no_rows) c.args.pass c.args.who.session _ _ c.value-vault.result.now.shown = record {
       few = c.requires.few;
@@ -68,13 +68,13 @@ whole g c =
       numbers = ap (λ (v : Stand). numbers_of v.shown.history) (sym c.value-vault.ensures.value);
       seen = c.running-ran.ensures.seen;
     } in
-    step e c.args.who.command kind.Decide c.simple-reply.new.self.shown _ refl c.simple-reply.ensures.turn.turn c.simple-reply.ensures.turn.seen c.leave.result c.leave.ensures.pass c.leave.ensures.exact
+    step e c.args.who.command kind.Decide c.simple.new.self.shown _ refl c.simple.ensures.turn.turn c.simple.ensures.turn.seen c.leave.result c.leave.ensures.pass c.leave.ensures.exact
 
 pub returns-clause-took : goal.returns-clause-took
 returns-clause-took g c = step_took (whole g c)
 
 pub returns-clause-mine : goal.returns-clause-mine
-returns-clause-mine g c = goes_on (whole g c) Finished c.running-ran.result c.simple-reply.ensures.turn c.running-ran.ensures.running
+returns-clause-mine g c = goes_on (whole g c) Finished c.running-ran.result c.simple.ensures.turn c.running-ran.ensures.running
 
 pub returns-clause-answers : goal.returns-clause-answers
 returns-clause-answers g c = step_none (whole g c) c.requires.sort.asked c.requires.sort.known (none_simple c.requires.sort.asked kind.Decide c.requires.sort.is)
