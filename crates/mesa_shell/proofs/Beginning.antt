@@ -16,11 +16,11 @@ use Rattle.mesa_skeleton.specs.Rows.{Rows}
 use Rattle.mesa_trash.specs.Filed.{AreFresh}
 use Rattle.mesa_trash.specs.Holding.{Among}
 use Rattle.mesa_walk.specs.Books.{AreBooksOf}
-use Rattle.mesa_image.specs.Catalog.{Stock, Catalog, ranges_of}
-use Rattle.mesa_image.specs.Contents.{kept_of, table_of}
-use Rattle.mesa_image.specs.Sound.{StandsFor}
-use Rattle.mesa_image_laws.specs.Ids.{named}
-use Rattle.mesa_image_laws.proofs.AllSourced.{all_found}
+use Rattle.mesa_catalog.specs.mesa_image.Catalog.{Stock, Catalog, ranges_of}
+use Rattle.mesa_catalog.specs.mesa_image.Contents.{kept_of, table_of}
+use Rattle.mesa_catalog.specs.mesa_image.Sound.{StandsFor}
+use Rattle.mesa_catalog.specs.mesa_image_laws.Ids.{named}
+use Rattle.mesa_catalog.proofs.mesa_image_laws.AllSourced.{all_found}
 use Rattle.mesa_ledger.specs.Ledger.{books_of, first_id, skeleton_of}
 use Rattle.mesa_ledger.specs.Vault.{IsReady, Starts}
 use Rattle.mesa_sessions.specs.mesa_metadata.Memory.{opened_ledger}

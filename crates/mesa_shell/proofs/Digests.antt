@@ -8,7 +8,7 @@ use Rattle.mesa_look.specs.Latest.{HasLookReason}
 use Rattle.mesa_look.specs.declared.error.LookError.{LookError}
 use Rattle.mesa_look.specs.declared.error.LookError.TheVariants as look
 use Rattle.mesa_look.specs.Looked.{IsDigestOf}
-use Rattle.mesa_image.specs.Catalog.{Catalog}
+use Rattle.mesa_catalog.specs.mesa_image.Catalog.{Catalog}
 use Rattle.mesa_telling.specs.mesa_ending.mesa_opening.declared.error.OpenError.{OpenError}
 use Rattle.mesa_telling.specs.mesa_ending.mesa_opening.declared.error.OpenError.TheVariants as open_error
 use Rattle.mesa_telling.specs.mesa_ending.mesa_opening.Opening.{HasReason, IsRead}

@@ -4,7 +4,7 @@ use Rattle.mesa_words.specs.declared.forms.Form.{Form}
 use Rattle.mesa_words.specs.declared.forms.Form.TheVariants as form
 use Rattle.mesa_model.specs.declared.commands.Script.{Script}
 use Rattle.mesa_skeleton.specs.Rows.{Rows}
-use Rattle.mesa_image.specs.Catalog.{Catalog}
+use Rattle.mesa_catalog.specs.mesa_image.Catalog.{Catalog}
 use Rattle.mesa_telling.specs.mesa_ending.mesa_opening.Opening.{IsSoundStart}
 use Rattle.mesa_telling.specs.mesa_ending.Ports.{Ports}
 use Rattle.mesa_telling.specs.mesa_ending.Completing.{AsksFor, Completes, Decides, HasRoomToRun, IsUndamaged, NoneRose, NothingFailed}

@@ -7,13 +7,13 @@ use Rattle.mesa_disk.specs.Image.{Image}
 use Rattle.mesa_disk.specs.Story.{Story, Unmoved}
 use Rattle.mesa_trash.specs.Filed.{FilesAdopted}
 use Rattle.mesa_skeleton.specs.Rows.{Rows}
-use Rattle.mesa_image.specs.Catalog.{Catalog, applied}
-use Rattle.mesa_image.specs.Shape.{IsCatalog}
-use Rattle.mesa_image.specs.Fitting.{max_runs}
-use Rattle.mesa_image_laws.specs.Countable.{AreCounted}
-use Rattle.mesa_image_laws.specs.Ids.{HasOwnIds, named}
-use Rattle.mesa_image_laws.specs.Recordable.{AreRecordable}
-use Rattle.mesa_image_laws.proofs.Wholes.{catalog_whole}
+use Rattle.mesa_catalog.specs.mesa_image.Catalog.{Catalog, applied}
+use Rattle.mesa_catalog.specs.mesa_image.Shape.{IsCatalog}
+use Rattle.mesa_catalog.specs.mesa_image.Fitting.{max_runs}
+use Rattle.mesa_catalog.specs.mesa_image_laws.Countable.{AreCounted}
+use Rattle.mesa_catalog.specs.mesa_image_laws.Ids.{HasOwnIds, named}
+use Rattle.mesa_catalog.specs.mesa_image_laws.Recordable.{AreRecordable}
+use Rattle.mesa_catalog.proofs.mesa_image_laws.Wholes.{catalog_whole}
 use Rattle.mesa_telling.specs.mesa_ending.mesa_opening.declared.error.OpenError.{OpenError}
 use Rattle.mesa_telling.specs.mesa_ending.mesa_opening.declared.error.OpenError.TheVariants as open_error
 use Rattle.mesa_telling.specs.mesa_ending.mesa_opening.Opening.{HasReason, IsHeldAs, IsSoundStart, Keeps, first_id, most_runs, run_record}

@@ -13,10 +13,10 @@ use Rattle.mesa_history.specs.Run.{begins}
 use Rattle.mesa_laws.specs.Printed.{AnswersFromTheFold}
 use Rattle.mesa_laws.proofs.ReachedAnswers.{pages_fold}
 use Rattle.mesa_skeleton.specs.Rows.{Rows}
-use Rattle.mesa_image.specs.Catalog.{Catalog}
-use Rattle.mesa_image.specs.Contents.{kept_of}
-use Rattle.mesa_image.specs.Sound.{StandsFor}
-use Rattle.mesa_image_laws.proofs.Wholes.{catalog_whole}
+use Rattle.mesa_catalog.specs.mesa_image.Catalog.{Catalog}
+use Rattle.mesa_catalog.specs.mesa_image.Contents.{kept_of}
+use Rattle.mesa_catalog.specs.mesa_image.Sound.{StandsFor}
+use Rattle.mesa_catalog.proofs.mesa_image_laws.Wholes.{catalog_whole}
 use Rattle.mesa_telling.specs.mesa_ending.mesa_opening.Opening.{IsSoundStart, Keeps}
 use Rattle.mesa_catalog.specs.declared.begun.Begun.{Begun}
 use Rattle.mesa_telling.specs.mesa_ending.Counting.{HasBenchCounts}

@@ -12,7 +12,7 @@ use Rattle.mesa_script.specs.Script.{script_of}
 use Rattle.mesa_skeleton.specs.Rows.{Rows}
 use Rattle.mesa_walk.specs.Printing.{HasAll, HasAllButRows, IsOutputButRows}
 use Rattle.mesa_walk.specs.mesa_output.Output.{IsOutput}
-use Rattle.mesa_image.specs.Catalog.{Catalog}
+use Rattle.mesa_catalog.specs.mesa_image.Catalog.{Catalog}
 use Rattle.mesa_excerpt.specs.Excerpt.{CutsOut, HasPlainNames}
 use Rattle.mesa_telling.specs.mesa_ending.Ports.{ports}
 use Rattle.mesa_telling.specs.mesa_ending.Exits.{gen_line, memory_line, memory_status}

@@ -4,7 +4,7 @@ use Rattle.std.proofs.lemmas.Bool.{cases_lt}
 use Rattle.mesa_fault.specs.Causes.{last, Rose}
 use Rattle.mesa_disk.specs.Story.{Story, Unmoved}
 use Rattle.mesa_disk.specs.declared.area.Area.{Area}
-use Rattle.mesa_image.specs.Catalog.{Catalog}
+use Rattle.mesa_catalog.specs.mesa_image.Catalog.{Catalog}
 use Rattle.mesa_telling.specs.mesa_ending.mesa_verdict.Faults.{Fault}
 use Rattle.mesa_telling.specs.mesa_ending.mesa_verdict.Verdict.{IsFirstFault}
 use Rattle.mesa_telling.specs.mesa_ending.mesa_opening.declared.error.OpenError.{OpenError}

@@ -6,13 +6,13 @@ use Rattle.mesa_disk.specs.Story.{Story}
 use Rattle.mesa_disk.specs.declared.area.Area.{Area}
 use Rattle.mesa_trash.specs.Filed.{FilesAdopted}
 use Rattle.mesa_skeleton.specs.Rows.{Rows}
-use Rattle.mesa_image.specs.Catalog.{Catalog, applied}
-use Rattle.mesa_image.specs.Contents.{kept_of}
-use Rattle.mesa_image.specs.Shape.{IsCatalog}
-use Rattle.mesa_image.specs.Sound.{StandsFor}
-use Rattle.mesa_image_laws.specs.Countable.{AreCounted}
-use Rattle.mesa_image_laws.specs.Ids.{HasOwnIds, named}
-use Rattle.mesa_image_laws.specs.Recordable.{AreRecordable}
+use Rattle.mesa_catalog.specs.mesa_image.Catalog.{Catalog, applied}
+use Rattle.mesa_catalog.specs.mesa_image.Contents.{kept_of}
+use Rattle.mesa_catalog.specs.mesa_image.Shape.{IsCatalog}
+use Rattle.mesa_catalog.specs.mesa_image.Sound.{StandsFor}
+use Rattle.mesa_catalog.specs.mesa_image_laws.Countable.{AreCounted}
+use Rattle.mesa_catalog.specs.mesa_image_laws.Ids.{HasOwnIds, named}
+use Rattle.mesa_catalog.specs.mesa_image_laws.Recordable.{AreRecordable}
 use Rattle.mesa_telling.specs.mesa_ending.mesa_opening.Opening.{IsHeldAs, IsSoundStart, Keeps, ReadsAs, first_id, most_runs, run_record}
 use Rattle.mesa_ledger.specs.Vault.{IsRead}
 use Rattle.mesa_catalog.specs.declared.begun.Begun.{Begun}

@@ -1,7 +1,7 @@
 -- What a run over a store finds when it begins.
 use Rattle.mesa_skeleton.specs.Rows.{Rows}
-use Rattle.mesa_image.specs.Catalog.{Catalog, stock_at}
-use Rattle.mesa_image_laws.specs.Sourced.{found_written}
+use Rattle.mesa_catalog.specs.mesa_image.Catalog.{Catalog, stock_at}
+use Rattle.mesa_catalog.specs.mesa_image_laws.Sourced.{found_written}
 use Rattle.mesa_catalog.specs.Lookups.{generation_of}
 use Rattle.mesa_ledger.specs.Vault.{Origin}
 

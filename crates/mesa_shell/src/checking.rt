@@ -7,7 +7,7 @@ ghost use Rattle.mesa_telling.specs.mesa_ending.mesa_opening.declared.error.Open
 ghost use Rattle.mesa_telling.specs.mesa_ending.mesa_verdict.Verdict.{IsFirstFault, fault_told};
 ghost use Rattle.mesa_telling.specs.mesa_ending.Ports.{ports};
 ghost use Rattle.mesa_telling.specs.mesa_ending.Unopened.{HasSameCounts};
-ghost use Rattle.mesa_image.specs.Catalog.{Catalog};
+ghost use Rattle.mesa_catalog.specs.mesa_image.Catalog.{Catalog};
 
 use mesa_check::{CheckError, Verdict, check};
 use mesa_disk::{Bench, Disk, Made};

@@ -1,6 +1,6 @@
 // The top call.
 ghost use Rattle.std.specs.Prelude.{◌≡◌, ◌≢◌, ◌≤◌, ℕ, List, Some, length, map};
-ghost use Rattle.mesa_image.specs.Catalog.{Catalog as AnyCatalog};
+ghost use Rattle.mesa_catalog.specs.mesa_image.Catalog.{Catalog as AnyCatalog};
 ghost use Rattle.mesa_model.specs.declared.commands.Script.{Script as AnyScript};
 ghost use Rattle.mesa_skeleton.specs.Rows.{Rows};
 ghost use Rattle.mesa_telling.specs.mesa_ending.Completing.{AsksFor, Completes, Decides, HasRoomToRun, IsUndamaged, NoneRose, NothingFailed};

@@ -2,7 +2,7 @@
 ghost use Rattle.std.specs.Prelude.{◌≡◌, IfOk, length};
 
 use crate::shell::mesa;
-use mesa_dir::{DirBench, DirDisk};
+use mesa_dir::{DirBench, DirDisk, Host};
 use mesa_io::{StdSink, StdSource};
 use mesa_sessions::OpenGate;
 use mesa_telling::{Done, statuses};
@@ -44,10 +44,10 @@ fn words(host: &HostRuntime) -> Result<Vec<String>, AllocError> {
 }
 
 // A bench for each session that a script may have.
-fn benches(
+fn benches<R: Threads + Sync + Copy>(
     alloc: Global,
-    disk: &DirDisk<HostRuntime>,
-) -> Result<Vec<DirBench<HostRuntime>>, AllocError>
+    disk: &DirDisk<Host<R>>,
+) -> Result<Vec<DirBench<Host<R>>>, AllocError>
     ensures { IfOk result (λ all. length all.items ≡ 8) }
 {
     let mut all = Vec::new(alloc);
@@ -60,13 +60,16 @@ fn benches(
 
 // Runs the words over the standard streams and the folder. Nothing that is printed is held back: a
 // block goes out in its turn, and where that fails, the call ends as one whose sink failed.
-fn run_words<R: Threads + Wait + Sync>(rt: &R, host: HostRuntime) -> Result<u8, AllocError> {
+fn run_words<R: Threads + Wait + Sync + Copy + Send>(
+    rt: &R,
+    host: HostRuntime,
+) -> Result<u8, AllocError> {
     let alloc = host.alloc();
     let words = words(&host)?;
     let words = slices(alloc, &words)?;
     let mut source = StdSource::new(host.reader());
     let out = StdSink::new(host.stdout());
-    let disk = DirDisk::open(host, FOLDER)?;
+    let disk = DirDisk::open(Host::new(*rt, host), FOLDER)?;
     let benches = benches(alloc, &disk)?;
     let Done {
         status,
@@ -90,7 +93,7 @@ fn run_words<R: Threads + Wait + Sync>(rt: &R, host: HostRuntime) -> Result<u8, 
 /// The program: takes the words behind its name, reads standard input where they ask for that, and runs or
 /// checks over the store in the folder `mesa-store` of the current one, which is made where it is missing;
 /// it prints to standard output.
-pub fn program<R: Threads + Wait + Sync>(rt: &R, host: HostRuntime) -> ExitCode {
+pub fn program<R: Threads + Wait + Sync + Copy + Send>(rt: &R, host: HostRuntime) -> ExitCode {
     match run_words(rt, host) {
         Ok(status) => ExitCode::from(status),
         Err(AllocError) => ExitCode::from(statuses::NO_MEMORY),

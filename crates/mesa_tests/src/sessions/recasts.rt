@@ -12,7 +12,7 @@ use std::process::Abort;
 /// The number of the first file that run 1 adopts.
 const RUN_1: u64 = 1 << 40;
 
-static CASES: [Case<'static>; 3] = [
+static CASES: [Case<'static>; 4] = [
     // Session 1 rewrites until session 2, whose lease came once its own had ended, has rewritten too. Its file is
     // never adopted.
     Case {
@@ -127,6 +127,36 @@ static CASES: [Case<'static>; 3] = [
          0.2@2 loaded version=0 rows=1\n\
          2.1@4 altered t epoch=1\n\
          1.1@6 refused changed epoch=1\n",
+        files: Some(&[RUN_1]),
+        ..PLAIN
+    },
+    // A view comes under a recast's lease that would lose a column.
+    Case {
+        name: "a recast of a table whose view came meanwhile",
+        script: b"table,t,a int;b int,v sum\n\
+         row,t,1,1,5\n\
+         commit\n\
+         session\n\
+         recast,t,b,v\n\
+         session\n\
+         view,w,t,a,v\n",
+        holds: &[
+            Hold {
+                session: 2,
+                at: Place::Started,
+                until: (1, Place::Merged),
+            },
+            Hold {
+                session: 1,
+                at: Place::Merged,
+                until: (2, Place::Printed),
+            },
+        ],
+        status: 1,
+        text: "0.1@0 table t\n\
+         0.2@2 loaded version=0 rows=1\n\
+         2.1@4 view w\n\
+         1.1@6 refused in_view view=w\n",
         files: Some(&[RUN_1]),
         ..PLAIN
     },

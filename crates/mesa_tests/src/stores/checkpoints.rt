@@ -600,7 +600,7 @@ fn expect_same_answers<R: Abort + Threads + Wait + Sync>(
     moment: u64,
     answers: &str,
 ) {
-    for pick in 0..3u8 {
+    for pick in 0..5u8 {
         let image = disk.image(moment, pick).expect(rt, "memory");
         let checked = call_over(rt, alloc, image, &CHECKED);
         expect_text(rt, "the check of an image", &checked, 0, "sound\n");

@@ -266,7 +266,7 @@ fn expect_moment<R: Abort + Threads + Wait + Sync>(
     moment: u64,
     commands: usize,
 ) {
-    for pick in 0..3u8 {
+    for pick in 0..5u8 {
         let image = disk.image(moment, pick).expect(rt, "memory");
         let checked = call_over(rt, alloc, image, &CHECKED);
         expect_text(rt, "the check of an image", &checked, 0, "sound\n");

@@ -1,6 +1,6 @@
 use Rattle.std.proofs.Common.{◌≡◌, Ok, Err, sym, ◌∙◌, subst}
 use Rattle.std.specs.Prelude.{◌≢◌, IfErr, IfOk}
-use Rattle.mesa_image.specs.Catalog.{Catalog}
+use Rattle.mesa_catalog.specs.mesa_image.Catalog.{Catalog}
 use Rattle.mesa_telling.specs.mesa_ending.mesa_opening.Opening.{HasReason, ReadsAs}
 use Rattle.mesa_telling.specs.mesa_ending.mesa_opening.declared.error.OpenError.TheVariants as open_error
 use Rattle.mesa_telling.specs.mesa_ending.mesa_verdict.Verdict.{IsFirstFault, fault_told}

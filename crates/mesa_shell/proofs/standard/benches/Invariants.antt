@@ -3,4 +3,4 @@ use Rattle.mesa_shell.proofs.standard.benches.Given as goal
 
 -- as many benches as were counted
 abbrev pub invariant-sessions : goal.invariant-sessions
-invariant-sessions l = length l.all.items ≡ l.counter
+invariant-sessions g l = length l.all.items ≡ l.counter
