@@ -5,8 +5,8 @@ syncs on the same folder, and beside sqlite3.
     bench/syncs.py [PROGRAM [BATCHES]]
 
 PROGRAM is the built program, by default crates/mesa_dir_bench/out/mesa_dir_bench; BATCHES is 100 by default. A batch
-takes six syncs: of two files, of the folder after each of two names, and twice of the journal by its data. The bare
-syncs do the same writes and names and nothing else. sqlite3 stores as many bytes a transaction, in WAL mode with full
+takes five syncs: of two files, then of the journal by its data and of the folder's names beside each other, and of the
+journal once more. The bare syncs do the same writes and names and nothing else. sqlite3 stores as many bytes a transaction, in WAL mode with full
 syncing. The three take turns, and the median of five rounds counts."""
 import os
 import pathlib
@@ -15,6 +15,7 @@ import statistics
 import subprocess
 import sys
 import tempfile
+import threading
 import time
 
 ROOT = pathlib.Path(__file__).resolve().parent.parent
@@ -51,9 +52,11 @@ def bare(folder, count):
             os.close(draft)
         for file in (0, 1):
             os.rename(os.path.join(place, f"draft{file}"), os.path.join(place, f"{batch}.{file}"))
-            os.fsync(names)
         os.pwrite(journal, RECORD, batch * len(RECORD))
+        beside = threading.Thread(target=os.fsync, args=(names,))
+        beside.start()
         os.fdatasync(journal)
+        beside.join()
         os.pwrite(journal, b"\1", batch * len(RECORD))
         os.fdatasync(journal)
     seconds = time.perf_counter() - begun
@@ -96,7 +99,7 @@ def main():
     print("| | ms a batch | against bare syncs |")
     print("|---|---|---|")
     print(f"| two files of 2 KB and a record | {ours:.2f} | {ours / syncs:.2f} |")
-    print(f"| six bare syncs | {syncs:.2f} | 1 |")
+    print(f"| five bare syncs | {syncs:.2f} | 1 |")
     print(f"| sqlite3, WAL, full syncing | {sqlite:.2f} | {sqlite / syncs:.2f} |")
 
 
