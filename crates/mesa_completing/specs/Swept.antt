@@ -17,7 +17,7 @@ use Rattle.mesa_trash.specs.Holding.{Among, IsHad}
 abbrev pub HasStood : Shown → Shown → ℕ → ℕ → Type 0
 HasStood old new session number = (moment : ℕ) × (new.history ≡ old.history ++ entry session number kind.Close outcome.Stands moment ∷ [])
 
--- A claim holds in the turn at a position: the vault is open, and the claim's lease is its table's last one, and hasn't ended.
+-- A claim holds in the turn at a position: the vault is open, and the claim's lease is its table's last one, hasn't ended, and holds there.
 abbrev pub ClaimHolds : Ledger → ℕ → Claim → Type 0
 ClaimHolds l position claim = claim_checked (books_of no_rows l).bare (books_of no_rows l).machine position claim ≡ Ok tt
 

@@ -103,7 +103,7 @@ impl<'s, N: Naming, M: Made, D: Disk<M>, K: Sink> Vault<'s, N, M, D, K> {
         ensures cause { IfErr result (λ x. x.0 ≡ file_error.Read → SomeRose self.old.faults self.new.faults) }
         ensures unpaid { IfErr result (λ x. x.0 ≡ file_error.Read → HasUnpaid N.script N.start N.counted self.new.shown self.new.faults) }
 
-        // Where further ranges may not be opened, the recast comes back as it was, and the disk isn't called: the sink has failed, the vault has closed, a file of the recast was damaged, or its table has another epoch.
+        // Where further ranges may not be opened, the recast comes back as it was, and no fault is counted: the sink has failed, the vault has closed, a file of the recast was damaged, or its table has another epoch.
         ensures stays { (self.old.shown.running ≡ true → MayRest self.old.ledger task → ⊥) → (result ≡ Ok task) × (self.new.faults ≡ self.old.faults) }
 
         // The recast is the one that it was, with further ranges behind, and what is known of it holds.
